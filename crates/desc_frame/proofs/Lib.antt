@@ -1,0 +1,3 @@
+pub mod Pieces
+pub mod Composed
+pub mod OneAnswer

@@ -1,0 +1,4 @@
+pub mod Calls
+pub mod Hold
+pub mod Current
+pub mod Stands

@@ -1,0 +1,252 @@
+// One text field: its requests set what is pending, and a commit makes that current where the field holds the seat.
+// What is current is defined by looking back over the calls; here it is kept in two sets of slots.
+ghost use Rattle.std.specs.Prelude.{◌≡◌, ◌≤◌, List, [], ◌∷◌, length, false, Option, None, option_map, IfOk, if◌then◌else◌};
+ghost use Rattle.field_state.specs.Calls.{Call, Enter, Leave, Enable, Disable, Surround, Cause, Content, Rectangle, Commit, initial, is_place};
+ghost use Rattle.field_state.specs.Hold.{answer, holds_after, has_effect, taken, commit_count};
+ghost use Rattle.field_state.specs.Current.{current};
+ghost use Rattle.field_state.specs.Stands.{Stands};
+
+use crate::commit::{Taken, Word};
+use crate::slots::{SURROUNDING_LIMIT, Slots};
+use popup_place::Rect;
+use std::alloc::Global;
+use std::marker::Model;
+use wio_core::NoMemory;
+
+/// One `zwp_text_input_v3`. Contracts speak of the calls on it so far, the newest first.
+#[derive(Drop)]
+pub struct Field {
+    entered: bool,
+    word: Option<Word>,
+    holds: bool,
+    count: u32,
+    pending: Slots,
+    current: Slots,
+}
+
+impl Model for Field {
+    ghost use Rattle.field_state.specs.Stands.{Kept};
+
+    ghost Value = { Kept };
+
+    ghost view = { λ f. record {
+      entered = f.entered;
+      word = f.word;
+      holds = f.holds;
+      count = f.count;
+      pending = f.pending;
+      current = f.current;
+    } };
+}
+
+// A cursor or anchor can stand at this byte of the text.
+fn is_place(text: &str, at: i32) -> bool
+    ensures { result ≡ is_place text.now at }
+{
+    at >= 0 && text.is_char_boundary(at as usize)
+}
+
+// What a commit does, by what it says, whether the field may hold, and whether it holds.
+fn answer(may_hold: bool, word: Option<Word>, holds: bool) -> Taken
+    ensures { result ≡ answer may_hold word holds }
+{
+    match word {
+        Some(Word::Enabled) if may_hold || holds => Taken::Begun,
+        Some(Word::Disabled) if holds => Taken::Ended,
+        None if holds => Taken::Updated,
+        _ => Taken::Nothing,
+    }
+}
+
+// The field holds after a commit with this answer.
+fn holds_after(taken: Taken) -> bool
+    ensures { result ≡ holds_after taken }
+{
+    matches!(taken, Taken::Begun | Taken::Updated)
+}
+
+// Makes current what is pending where the field holds, else what is initial.
+fn show(current: &mut Slots, pending: &Slots, holds: bool)
+    ensures { current.new ≡ (if holds then pending.now else initial) }
+{
+    if holds {
+        current.copy_from(pending);
+    } else {
+        current.clear();
+    }
+}
+
+impl Field {
+    /// A field that isn't entered. Reserves `SURROUNDING_LIMIT` bytes twice; no later call takes memory.
+    pub fn new(alloc: Global) -> Result<Field, NoMemory>
+        ensures { IfOk result (λ field. Stands [] field) }
+    {
+        let pending = Slots::new(alloc)?;
+        let current = Slots::new(alloc)?;
+        Ok(Field {
+            entered: false,
+            word: None,
+            holds: false,
+            count: 0,
+            pending,
+            current,
+        })
+    }
+
+    // Nothing is pending or current any more, and no hold goes on.
+    fn clear(&mut self)
+        ensures { self.new ≡ record {
+          entered = self.old.entered;
+          word = None;
+          holds = false;
+          count = self.old.count;
+          pending = initial;
+          current = initial;
+        } }
+    {
+        self.word = None;
+        self.holds = false;
+        self.pending.clear();
+        self.current.clear();
+    }
+
+    /// `zwp_text_input_v3.enter`: the focus comes to a surface of the field's peer. A hold ends, and all but the count is
+    /// initial.
+    pub fn enter(&mut self)
+        ensures { (calls : List Call) → Stands calls self.old → Stands (Enter ∷ calls) self.new }
+    {
+        self.clear();
+        self.entered = true;
+    }
+
+    /// `zwp_text_input_v3.leave`: the focus goes. A hold ends, and all but the count is initial. Until the next `enter`
+    /// commits are only counted, and no other request has an effect.
+    pub fn leave(&mut self)
+        ensures { (calls : List Call) → Stands calls self.old → Stands (Leave ∷ calls) self.new }
+    {
+        self.clear();
+        self.entered = false;
+    }
+
+    /// `zwp_text_input_v3.enable`: the next commit asks for the seat, and from then on nothing that was set before counts.
+    pub fn enable(&mut self)
+        ensures { (calls : List Call) → Stands calls self.old → Stands (Enable ∷ calls) self.new }
+    {
+        if self.entered {
+            self.word = Some(Word::Enabled);
+            self.pending.clear();
+        }
+    }
+
+    /// `zwp_text_input_v3.disable`: the next commit ends the field's hold, if no `enable` comes before it.
+    pub fn disable(&mut self)
+        ensures { (calls : List Call) → Stands calls self.old → Stands (Disable ∷ calls) self.new }
+    {
+        if self.entered {
+            self.word = Some(Word::Disabled);
+        }
+    }
+
+    /// `zwp_text_input_v3.set_surrounding_text`: the text around the cursor, of at most `SURROUNDING_LIMIT` bytes, and the
+    /// bytes where cursor and anchor stand. False, and no effect, exactly where the field isn't entered, or cursor or anchor
+    /// is negative, past the text's end or inside a character.
+    pub fn set_surrounding(&mut self, text: &str, cursor: i32, anchor: i32) -> bool
+        requires { length text.now ≤ SURROUNDING_LIMIT }
+        ensures stands { (calls : List Call) → Stands calls self.old →
+            Stands (Surround text.now cursor anchor ∷ calls) self.new }
+        ensures effect { (calls : List Call) → Stands calls self.old →
+            result ≡ has_effect calls (Surround text.now cursor anchor) }
+    {
+        let has_effect = self.entered && is_place(text, cursor) && is_place(text, anchor);
+        if has_effect {
+            self.pending.set_surrounding(text, cursor, anchor);
+        }
+        has_effect
+    }
+
+    /// `zwp_text_input_v3.set_text_change_cause`: what changed the text, 0 for the input method and 1 for anything else;
+    /// other numbers are kept as they are. It counts for the next commit alone.
+    pub fn set_cause(&mut self, cause: u32)
+        ensures { (calls : List Call) → Stands calls self.old → Stands (Cause cause ∷ calls) self.new }
+    {
+        if self.entered {
+            self.pending.set_cause(cause);
+        }
+    }
+
+    /// `zwp_text_input_v3.set_content_type`: hint and purpose, any numbers.
+    pub fn set_content(&mut self, hint: u32, purpose: u32)
+        ensures { (calls : List Call) → Stands calls self.old → Stands (Content hint purpose ∷ calls) self.new }
+    {
+        if self.entered {
+            self.pending.set_content(hint, purpose);
+        }
+    }
+
+    /// `zwp_text_input_v3.set_cursor_rectangle`: where the cursor stands, in pixels of the surface. False, and no effect,
+    /// exactly where the field isn't entered or width or height is negative.
+    pub fn set_rect(&mut self, rect: Rect) -> bool
+        ensures stands { (calls : List Call) → Stands calls self.old → Stands (Rectangle rect ∷ calls) self.new }
+        ensures effect { (calls : List Call) → Stands calls self.old → result ≡ has_effect calls (Rectangle rect) }
+    {
+        let has_effect = self.entered && rect.width >= 0 && rect.height >= 0;
+        if has_effect {
+            self.pending.set_rect(rect);
+        }
+        has_effect
+    }
+
+    /// `zwp_text_input_v3.commit`: counts, and where the field then holds the seat makes current what is pending.
+    /// `may_hold` says that no other field holds the seat; where this one holds that is so, and either is taken for it.
+    pub fn commit(&mut self, may_hold: bool) -> Taken
+        ensures stands { (calls : List Call) → Stands calls self.old → Stands (Commit may_hold ∷ calls) self.new }
+        ensures taken { (calls : List Call) → Stands calls self.old → result ≡ taken may_hold calls }
+    {
+        let taken = answer(may_hold, self.word, self.holds);
+        self.holds = holds_after(taken);
+        show(&mut self.current, &self.pending, self.holds);
+        self.word = None;
+        self.pending.set_cause(0);
+        self.count = self.count.wrapping_add(1);
+        taken
+    }
+
+    /// How many commits there were, entered or not, modulo 2^32. `zwp_text_input_v3.done` carries it as its serial.
+    pub fn count(&self) -> u32
+        ensures { (calls : List Call) → Stands calls self.now → result ≡ commit_count calls }
+    {
+        self.count
+    }
+
+    /// The current surrounding text with its cursor and anchor; `None` where none was set or the field doesn't hold.
+    pub fn surrounding(&self) -> Option<(&str, i32, i32)>
+        ensures { (calls : List Call) → Stands calls self.now →
+            option_map (λ s. record { text = s.0.now; cursor = s.1; anchor = s.2 }) result ≡ (current calls).surrounding }
+    {
+        self.current.surrounding()
+    }
+
+    /// The current cause; 0, the input method, where none was set or the field doesn't hold.
+    pub fn cause(&self) -> u32
+        ensures { (calls : List Call) → Stands calls self.now → result ≡ (current calls).cause }
+    {
+        self.current.cause()
+    }
+
+    /// The current hint and purpose; 0 and 0, none and normal, where none were set or the field doesn't hold.
+    pub fn content(&self) -> (u32, u32)
+        ensures { (calls : List Call) → Stands calls self.now → result ≡ (current calls).content }
+    {
+        self.current.content()
+    }
+
+    /// The current cursor rectangle; `None` where none was set or the field doesn't hold.
+    pub fn rect(&self) -> Option<Rect>
+        ensures { (calls : List Call) → Stands calls self.now → result ≡ (current calls).rect }
+    {
+        self.current.rect()
+    }
+}
+
+#[cfg(test)]
+mod tests;

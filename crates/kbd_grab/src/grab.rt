@@ -1,0 +1,249 @@
+ghost use Rattle.std.specs.Prelude.{◌≡◌, ◌∷◌, [], List, None, Some, IfOk, ◌↔◌, IsTrue, true};
+ghost use Rattle.std.specs.FinMap as map;
+ghost use Rattle.kbd_grab.specs.Keys.{Call, key_route, is_down, first_went, fell_since, unless_fell, EachStandsOnce, told_keymap, told_repeat, told_mods, grab_standing};
+ghost use Rattle.kbd_grab.specs.Keys.Call.{Stand, Fall, Key, TellKeymap, TellRepeat, TellMods};
+ghost use Rattle.kbd_grab.specs.Keyboard.{StandsFor, turned};
+
+use crate::down::{Down, KEYS_DOWN, turn};
+use crate::keyboard::{Keymap, Label, Mods, Route};
+use std::alloc::Global;
+use std::marker::Model;
+use wio_core::NoMemory;
+
+/// A keyboard: the grab that stands on it, if any, the keys that are down, and what the shell told last.
+///
+/// In contracts it is a `Keyboard`, a record of these, in which the keys that are down are a finite map to the grab that
+/// stood at their first press. `StandsFor calls keyboard` says that it is what a list of calls, the newest first, makes
+/// of it by looking back. Only `new` takes memory.
+#[derive(Debug, Drop)]
+pub struct Grab {
+    standing: Option<Label>,
+    down: Vec<Down>,
+    keymap: Option<Keymap>,
+    repeat: Option<(i32, i32)>,
+    mods: Option<Mods>,
+}
+
+impl Model for Grab {
+    ghost use Rattle.std.specs.Vec.{vec_capacity};
+    ghost use Rattle.kbd_grab.specs.Keyboard.{Keyboard, keyboard_code};
+    ghost use Rattle.kbd_grab.specs.DownList.{keys_of, IsTidy};
+
+    ghost Value = { Keyboard };
+
+    ghost coded = { keyboard_code };
+
+    ghost view = { λ a. record {
+      standing = a.standing;
+      down = keys_of a.down.items;
+      keymap = a.keymap;
+      repeat = a.repeat;
+      mods = a.mods;
+    } };
+
+    ghost invariant = { λ a. IsTidy a.down.items (vec_capacity a.down) };
+}
+
+impl Grab {
+    /// A keyboard on which no grab stands and no key is down. Takes room for the 64 keys that may be down.
+    pub fn new(alloc: Global) -> Result<Self, NoMemory>
+        ensures { IfOk result (λ grab. StandsFor [] grab) }
+    {
+        Ok(Self {
+            standing: None,
+            down: Vec::with_capacity(alloc, KEYS_DOWN)?,
+            keymap: None,
+            repeat: None,
+            mods: None,
+        })
+    }
+
+    /// The grab `label` stands from now on. Asks that none stands (`standing` tells). Keys that are down stay with whom
+    /// their first press went to.
+    ///
+    /// A label is to stand once. Which labels stood before, the list of calls tells and this type doesn't keep: a label
+    /// that stands again is taken, and has again the keys whose press went to it. So the promise that a key goes nowhere
+    /// once its grab has fallen is for lists of calls in which each grab stands once.
+    pub fn stand(&mut self, label: Label)
+        requires { self.old.standing ≡ None }
+        ensures stands { self.new ≡ record self.old { standing = Some label } }
+        ensures history { (calls : List Call) → StandsFor calls self.old →
+            StandsFor (Stand label ∷ calls) self.new }
+    {
+        self.standing = Some(label);
+    }
+
+    /// The grab that stands, if any, stands no more. Keys whose first press went to it go nowhere until they are up.
+    pub fn fall(&mut self)
+        ensures falls { self.new ≡ record self.old { standing = None } }
+        ensures history { (calls : List Call) → StandsFor calls self.old → StandsFor (Fall ∷ calls) self.new }
+    {
+        self.standing = None;
+    }
+
+    /// A press (`pressed`) or a release of the key with this code: where it goes. After `TooMany` all is as before.
+    pub fn key(&mut self, key: u32, pressed: bool) -> Route
+        ensures route { (calls : List Call) → StandsFor calls self.old →
+            result ≡ key_route calls key pressed }
+        ensures history { (calls : List Call) → StandsFor calls self.old →
+            StandsFor (Key key pressed ∷ calls) self.new }
+
+        // A key that is down goes where its press went, or nowhere where that grab has fallen.
+        ensures follows_its_press { (calls : List Call) → StandsFor calls self.old → EachStandsOnce calls →
+            IsTrue (is_down calls key) →
+            result ≡ unless_fell (fell_since calls key) (first_went calls key) }
+
+        // 64 keys are down, and this press is of another.
+        ensures too_many { (result ≡ Route.TooMany) ↔
+            (IsTrue pressed × (map.len self.old.down ≡ 64) × (map.get self.old.down key ≡ None)) }
+        ensures refused { result ≡ Route.TooMany → self.new ≡ self.old }
+        ensures keys { self.new ≡ record self.old { down = turned self.old key pressed } }
+    {
+        turn(&mut self.down, self.standing, key, pressed)
+    }
+
+    /// The shell told this keymap.
+    pub fn keymap(&mut self, map: Keymap)
+        ensures told { self.new ≡ record self.old { keymap = Some map } }
+        ensures history { (calls : List Call) → StandsFor calls self.old →
+            StandsFor (TellKeymap map ∷ calls) self.new }
+    {
+        self.keymap = Some(map);
+    }
+
+    /// The shell told this repeat: `rate` in keys a second and `delay` in milliseconds, any i32.
+    pub fn repeat(&mut self, rate: i32, delay: i32)
+        ensures told { self.new ≡ record self.old { repeat = Some (rate, delay) } }
+        ensures history { (calls : List Call) → StandsFor calls self.old →
+            StandsFor (TellRepeat rate delay ∷ calls) self.new }
+    {
+        self.repeat = Some((rate, delay));
+    }
+
+    /// The shell told these modifiers.
+    pub fn mods(&mut self, mods: Mods)
+        ensures told { self.new ≡ record self.old { mods = Some mods } }
+        ensures history { (calls : List Call) → StandsFor calls self.old →
+            StandsFor (TellMods mods ∷ calls) self.new }
+    {
+        self.mods = Some(mods);
+    }
+
+    /// The grab that stands, if any.
+    pub fn standing(&self) -> Option<Label>
+        ensures now { result ≡ self.now.standing }
+        ensures history { (calls : List Call) → StandsFor calls self.now → result ≡ grab_standing calls }
+    {
+        self.standing
+    }
+
+    /// The keymap that the shell told last, if it told one.
+    pub fn last_keymap(&self) -> Option<Keymap>
+        ensures now { result ≡ self.now.keymap }
+        ensures history { (calls : List Call) → StandsFor calls self.now → result ≡ told_keymap calls }
+    {
+        self.keymap
+    }
+
+    /// The repeat that the shell told last, if it told one: rate and delay.
+    pub fn last_repeat(&self) -> Option<(i32, i32)>
+        ensures now { result ≡ self.now.repeat }
+        ensures history { (calls : List Call) → StandsFor calls self.now → result ≡ told_repeat calls }
+    {
+        self.repeat
+    }
+
+    /// The modifiers that the shell told last, if it told any.
+    pub fn last_mods(&self) -> Option<Mods>
+        ensures now { result ≡ self.now.mods }
+        ensures history { (calls : List Call) → StandsFor calls self.now → result ≡ told_mods calls }
+    {
+        self.mods
+    }
+}
+
+#[cfg(test)]
+mod tests {
+    use super::*;
+    use std::test::Fail;
+
+    #[test]
+    fn refuses_the_65th_key(rt: HostRuntime) -> Result<(), Fail> {
+        let mut grab = Grab::new(rt.alloc())?;
+        for key in 0..64 {
+            assert_eq!(rt;
+                grab.key(key, true),
+                Route::Pass,
+                "the first press of key {key}"
+            );
+        }
+        assert_eq!(rt; grab.key(64, true), Route::TooMany);
+        assert_eq!(rt;
+            grab.key(63, true),
+            Route::Pass,
+            "a press of a key that is down"
+        );
+        assert_eq!(rt;
+            grab.key(64, false),
+            Route::Pass,
+            "a release of the key that was refused"
+        );
+        assert_eq!(rt; grab.key(64, true), Route::TooMany);
+        assert_eq!(rt; grab.key(7, false), Route::Pass);
+        assert_eq!(rt; grab.key(64, true), Route::Pass);
+        Ok(())
+    }
+
+    #[test]
+    fn keys_follow_their_first_press(rt: HostRuntime) -> Result<(), Fail> {
+        let mut grab = Grab::new(rt.alloc())?;
+        assert_eq!(rt; grab.key(30, true), Route::Pass);
+        grab.stand(5);
+        assert_eq!(rt; grab.standing(), Some(5));
+        assert_eq!(rt; grab.key(31, true), Route::ToGrab(5));
+        assert_eq!(rt;
+            grab.key(30, true),
+            Route::Pass,
+            "pressed before the grab stood"
+        );
+        assert_eq!(rt; grab.key(31, true), Route::ToGrab(5));
+        assert_eq!(rt;
+            grab.key(32, false),
+            Route::Pass,
+            "a release of a key that is up"
+        );
+        grab.fall();
+        grab.stand(9);
+        assert_eq!(rt; grab.key(31, true), Route::Nowhere);
+        assert_eq!(rt; grab.key(31, false), Route::Nowhere);
+        assert_eq!(rt; grab.key(31, true), Route::ToGrab(9), "a first press again");
+        assert_eq!(rt; grab.key(30, false), Route::Pass);
+        Ok(())
+    }
+
+    #[test]
+    fn keeps_what_was_told_last(rt: HostRuntime) -> Result<(), Fail> {
+        let mut grab = Grab::new(rt.alloc())?;
+        assert_eq!(rt; grab.last_keymap(), None);
+        assert_eq!(rt; grab.last_repeat(), None);
+        assert_eq!(rt; grab.last_mods(), None);
+        let map = Keymap {
+            format: 1,
+            token: 7,
+            size: 100,
+        };
+        let mods = Mods {
+            depressed: 1,
+            latched: 2,
+            locked: 4,
+            group: 0,
+        };
+        grab.keymap(map);
+        grab.repeat(25, 600);
+        grab.mods(mods);
+        assert_eq!(rt; grab.last_keymap(), Some(map));
+        assert_eq!(rt; grab.last_repeat(), Some((25, 600)));
+        assert_eq!(rt; grab.last_mods(), Some(mods));
+        Ok(())
+    }
+}

@@ -1,0 +1,4 @@
+pub mod Cells
+pub mod Places
+pub mod Runs
+pub mod Stored

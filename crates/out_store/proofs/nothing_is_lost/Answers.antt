@@ -1,0 +1,5 @@
+use Rattle.out_store.proofs.Runs.{nothing_is_lost}
+use Rattle.out_store.proofs.nothing_is_lost.Goals as goal
+
+pub returns : goal.returns
+returns c = nothing_is_lost

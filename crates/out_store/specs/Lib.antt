@@ -1,0 +1,4 @@
+pub mod Queue
+pub mod Spacing
+pub mod Runs
+pub mod Ring

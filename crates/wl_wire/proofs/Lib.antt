@@ -1,0 +1,5 @@
+pub mod Texts
+pub mod Sizes
+pub mod Gathering
+pub mod Runs
+pub mod Fields

@@ -1,0 +1,5 @@
+use Rattle.wl_wire.proofs.Runs.{longest}
+use Rattle.wl_wire.proofs.laws.messages_are_longest.Goals as goal
+
+pub returns : goal.returns
+returns c = longest
