@@ -1,0 +1,199 @@
+-- Acts that move the focus or take objects keep that the relay stands for the history.
+use Rattle.std.proofs.Common.{◌≡◌, ℕ, ◌≤◌, List, ◌∷◌, length, map, Bool, true, false, Option, Some, None, ap, refl, sym, ◌∙◌}
+use Rattle.std.specs.Prelude.{◌==◌, ◌&&◌, if◌then◌else◌, is_some}
+use Rattle.std.proofs.lemmas.Bool.{eq-eqb, eqb-true}
+use Rattle.relay_model.specs.declared.act.Act.{Act}
+use Rattle.relay_model.specs.declared.act.Act.TheVariants as acts
+use Rattle.relay_model.specs.Objects.{is_at, is_same, is_kind, is_surface_kind, is_field_kind, is_surface, owner, remains, object, alive}
+use Rattle.relay_model.specs.Focus.{focus, last_focus, peer_at, focused_peer, entered, entered_since}
+use Rattle.relay_model.specs.Hold.{holder, kept}
+use Rattle.relay_model.specs.Activation.{serving}
+use Rattle.relay_model.proofs.Histories.{IsHistory}
+use Rattle.relay_model.proofs.ObjectLaws.{object_step, kind_alive, kind_within}
+use Rattle.relay_model.proofs.FocusLaws.{focus_left, focus_step, focus_alive, focus_within}
+use Rattle.relay_model.proofs.HoldLaws.{word_kept, word_refocused, word_unfocused, holder_entered, holder_within, holder_refocused, kept_unfocused, kept_on, kept_out}
+use Rattle.relay_model.proofs.ActivationLaws.{serving_step, serving_alive}
+use Rattle.relay_core.specs.Objects.{not_label, wordless}
+use Rattle.relay_core.specs.Machine.{State, counted, released, refocused, unfocused}
+use Rattle.relay_core.specs.Stands.{Stands}
+use Rattle.relay_core.proofs.Entries.{AllMove, eqb_sym}
+use Rattle.relay_core.proofs.Moving.{stays, drops, touch_none, touch_wordless, entries_touched}
+use Rattle.relay_core.proofs.Releases.{released_acts, released_objects, released_holder, served_released}
+use Rattle.relay_core.proofs.Steady.{notice_ended}
+use Rattle.relay_core.proofs.Steps.{one_more}
+
+-- the focus moves
+
+refocused_moves : (log : List Act) (t : ℕ) → AllMove (acts.Focus t) log wordless (λ _. true)
+refocused_moves log t =
+    λ x l. stays wordless (acts.Focus t) log x (object_step (acts.Focus t) log x l) (touch_wordless (acts.Focus t) log x (word_refocused t log x) refl)
+
+pub focus_focused : (log : List Act) (t : ℕ) → is_surface log t ≡ true → focus (acts.Focus t ∷ log) ≡ Some t
+focus_focused log t e =
+    let there : is_some (object (acts.Focus t ∷ log) t) ≡ true =
+    ap is_some (object_step (acts.Focus t) log t (kind_within is_surface_kind log t e)) ∙ kind_alive is_surface_kind log t e in
+    rw there refl
+
+pub stands_focus : (s : State) (log : List Act) (t : ℕ) → IsHistory log → is_surface log t ≡ true → Stands s log →
+    Stands (refocused (Some t) (released (counted s))) (acts.Focus t ∷ log)
+stands_focus s log t i e h = record {
+  acts_now = released_acts (counted s) ∙ one_more s (acts.Focus t) log h;
+  objects_now = ap (map wordless) (released_objects (counted s) ∙ h.objects_now) ∙ sym (entries_touched (acts.Focus t) log wordless (refocused_moves log t) refl);
+  focus_now = sym (focus_focused log t e);
+  holder_now = released_holder (counted s) ∙ sym (holder_refocused t log i);
+  served_now = served_released (counted s) (acts.Focus t) log h.served_now h.holder_now
+      (serving_step (acts.Focus t) log refl ∙ left log t (serving log) refl)
+      (notice_ended (acts.Focus t) log refl refl refl (holder_refocused t log i)) (λ m rest. refl);
+  built_now = (refl, h.built_now);
+}
+  where
+    left : (log : List Act) (t : ℕ) (o : Option ℕ) → serving log ≡ o → focus_left (acts.Focus t) log o ≡ o
+    left log t None e = refl
+    left log t (Some m) e = let there : is_some (object log m) ≡ true = serving_alive log m e in rw there refl
+
+unfocused_moves : (log : List Act) → AllMove acts.Unfocus log wordless (λ _. true)
+unfocused_moves log =
+    λ x l. stays wordless acts.Unfocus log x (object_step acts.Unfocus log x l) (touch_wordless acts.Unfocus log x (word_unfocused (acts.Unfocus ∷ log) x refl) refl)
+
+pub stands_unfocus : (s : State) (log : List Act) → IsHistory log → Stands s log → Stands (unfocused (counted s)) (acts.Unfocus ∷ log)
+stands_unfocus s log i h = record {
+  acts_now = released_acts (counted s) ∙ one_more s acts.Unfocus log h;
+  objects_now = ap (map wordless) (released_objects (counted s) ∙ h.objects_now) ∙ sym (entries_touched acts.Unfocus log wordless (unfocused_moves log) refl);
+  focus_now = refl;
+  holder_now = released_holder (counted s) ∙ sym (kept_unfocused acts.Unfocus log refl);
+  served_now = served_released (counted s) acts.Unfocus log h.served_now h.holder_now
+      (serving_step acts.Unfocus log refl ∙ left log (serving log) refl)
+      (notice_ended acts.Unfocus log refl refl refl (kept_unfocused acts.Unfocus log refl)) (λ m rest. refl);
+  built_now = (refl, h.built_now);
+}
+  where
+    left : (log : List Act) (o : Option ℕ) → serving log ≡ o → focus_left acts.Unfocus log o ≡ o
+    left log None e = refl
+    left log (Some m) e = let there : is_some (object log m) ≡ true = serving_alive log m e in rw there refl
+
+-- objects go
+
+-- An act that may take objects, and moves the focus only by taking its surface.
+pub record IsTaking (act : Act) : Type 0 where
+  pub last : (log : List Act) → last_focus (act ∷ log) ≡ last_focus log
+  pub since : (log : List Act) (f : ℕ) → entered_since (act ∷ log) f ≡ entered_since log f
+  pub holds : (log : List Act) → holder (act ∷ log) ≡ kept act log (holder log)
+
+-- the act takes what is there under this label
+abbrev pub Takes : Act → List Act → ℕ → Type 0
+Takes act log x = remains act x (object log x) ≡ None
+
+-- and leaves what is there under this one
+abbrev pub Leaves : Act → List Act → ℕ → Type 0
+Leaves act log x = remains act x (object log x) ≡ object log x
+
+left_some : (act : Act) (log : List Act) (x : ℕ) → alive log x ≡ true → Leaves act log x → focus_left act log (Some x) ≡ Some x
+left_some act log x e k = rw (k, e) refl
+
+left_none : (act : Act) (log : List Act) (x : ℕ) → Takes act log x → focus_left act log (Some x) ≡ None
+left_none act log x k = rw k refl
+
+focus_stays_by : (act : Act) (log : List Act) (o : Option ℕ) → focus log ≡ o → ((x : ℕ) → focus log ≡ Some x → Leaves act log x) → focus_left act log o ≡ o
+focus_stays_by act log None e k = refl
+focus_stays_by act log (Some x) e k = left_some act log x (focus_alive log x e) (k x e)
+
+-- the focus stays with a surface that the act leaves
+pub focus_stays : (act : Act) (log : List Act) → IsHistory log → IsTaking act → ((x : ℕ) → focus log ≡ Some x → Leaves act log x) → focus (act ∷ log) ≡ focus log
+focus_stays act log i k e = focus_step act log i (k.last log) ∙ focus_stays_by act log (focus log) refl e
+
+pub focus_taken : (act : Act) (log : List Act) (x : ℕ) → IsHistory log → IsTaking act → focus log ≡ Some x → Takes act log x → focus (act ∷ log) ≡ None
+focus_taken act log x i k e t = focus_step act log i (k.last log) ∙ ap (focus_left act log) e ∙ left_none act log x t
+
+peer_stays_by : (act : Act) (log : List Act) (o : Option ℕ) → focus log ≡ o → ((x : ℕ) → focus log ≡ Some x → Leaves act log x) → peer_at (act ∷ log) o ≡ peer_at log o
+peer_stays_by act log None e k = refl
+peer_stays_by act log (Some x) e k = ap owner (object_step act log x (focus_within log x e) ∙ k x e)
+
+peer_stays : (act : Act) (log : List Act) → IsHistory log → IsTaking act → ((x : ℕ) → focus log ≡ Some x → Leaves act log x) → focused_peer (act ∷ log) ≡ focused_peer log
+peer_stays act log i k e = ap (peer_at (act ∷ log)) (focus_stays act log i k e) ∙ peer_stays_by act log (focus log) refl e
+
+-- a field that the act leaves is entered as before, where the focus stays
+pub entered_stays : (act : Act) (log : List Act) (f : ℕ) → IsHistory log → IsTaking act → ((x : ℕ) → focus log ≡ Some x → Leaves act log x) →
+    f ≤ length log → Leaves act log f → entered (act ∷ log) f ≡ entered log f
+entered_stays act log f i k e l v =
+    let a : object (act ∷ log) f ≡ object log f = object_step act log f l ∙ v in
+    let b : focused_peer (act ∷ log) ≡ focused_peer log = peer_stays act log i k e in
+    ap (λ o. is_kind is_field_kind o && is_same (owner o) (focused_peer (act ∷ log))) a ∙
+    ap (λ p. is_kind is_field_kind (object log f) && is_same (owner (object log f)) p) b
+
+holder_stays_by : (act : Act) (log : List Act) (o : Option ℕ) → IsHistory log → IsTaking act → holder log ≡ o →
+    ((x : ℕ) → focus log ≡ Some x → Leaves act log x) → ((x : ℕ) → holder log ≡ Some x → Leaves act log x) → kept act log o ≡ o
+holder_stays_by act log None i k e f g = refl
+holder_stays_by act log (Some h) i k e f g =
+    kept_on act log h (entered_stays act log h i k f (holder_within log h i e) (g h e) ∙ holder_entered log h i e) (k.since log h)
+
+-- the holder stays where the act leaves it and the focus
+pub holder_stays : (act : Act) (log : List Act) → IsHistory log → IsTaking act → ((x : ℕ) → focus log ≡ Some x → Leaves act log x) →
+    ((x : ℕ) → holder log ≡ Some x → Leaves act log x) → holder (act ∷ log) ≡ holder log
+holder_stays act log i k f g = k.holds log ∙ holder_stays_by act log (holder log) i k refl f g
+
+taken_out : (act : Act) (log : List Act) (h : ℕ) → h ≤ length log → Takes act log h → entered (act ∷ log) h ≡ false
+taken_out act log h l t =
+    let a : object (act ∷ log) h ≡ None = object_step act log h l ∙ t in
+    rw a refl
+
+pub holder_taken : (act : Act) (log : List Act) (h : ℕ) → IsHistory log → IsTaking act → holder log ≡ Some h → Takes act log h → holder (act ∷ log) ≡ None
+holder_taken act log h i k e t =
+    k.holds log ∙ ap (kept act log) e ∙ kept_out act log h (taken_out act log h (holder_within log h i e) t)
+
+serving_stays_by : (act : Act) (log : List Act) (o : Option ℕ) → serving log ≡ o → ((x : ℕ) → serving log ≡ Some x → Leaves act log x) → focus_left act log o ≡ o
+serving_stays_by act log None e k = refl
+serving_stays_by act log (Some m) e k = left_some act log m (serving_alive log m e) (k m e)
+
+pub serving_stays : (act : Act) (log : List Act) → serving (act ∷ log) ≡ focus_left act log (serving log) → ((x : ℕ) → serving log ≡ Some x → Leaves act log x) →
+    serving (act ∷ log) ≡ serving log
+serving_stays act log e k = e ∙ serving_stays_by act log (serving log) refl k
+
+pub serving_taken : (act : Act) (log : List Act) (m : ℕ) → serving (act ∷ log) ≡ focus_left act log (serving log) → serving log ≡ Some m → Takes act log m → serving (act ∷ log) ≡ None
+serving_taken act log m e d t = e ∙ ap (focus_left act log) d ∙ left_none act log m t
+
+-- a drop
+
+drop_taking : (x : ℕ) → IsTaking (acts.Drop x)
+drop_taking x = record { last = λ log. refl; since = λ log f. refl; holds = λ log. refl }
+
+drop_takes : (log : List Act) (x : ℕ) → Takes (acts.Drop x) log x
+drop_takes log x = rw (eq-eqb x x refl) refl
+
+drop_leaves : (log : List Act) (x y : ℕ) → (x == y) ≡ false → Leaves (acts.Drop x) log y
+drop_leaves log x y e = rw e refl
+
+-- an option that isn't x names what the drop of x leaves
+other_left : (log : List Act) (x : ℕ) (o : Option ℕ) → is_at o x ≡ false → (y : ℕ) → o ≡ Some y → Leaves (acts.Drop x) log y
+other_left log x o e y d = drop_leaves log x y (eqb_sym x y ∙ ap (λ v. is_at v x) (sym d) ∙ e)
+
+same_at : (o : Option ℕ) (x : ℕ) → is_at o x ≡ true → o ≡ Some x
+same_at None x e = cc
+same_at (Some y) x e = ap (λ v. Some v) (eqb-true y x e)
+
+-- whether the focus, the holder and the serving method go
+pub drop_focus : (log : List Act) (x : ℕ) (b : Bool) → IsHistory log → is_at (focus log) x ≡ b → focus (acts.Drop x ∷ log) ≡ (if b then None else focus log)
+drop_focus log x true i e = focus_taken (acts.Drop x) log x i (drop_taking x) (same_at (focus log) x e) (drop_takes log x)
+drop_focus log x false i e = focus_stays (acts.Drop x) log i (drop_taking x) (other_left log x (focus log) e)
+
+pub drop_holder : (log : List Act) (x : ℕ) (b c : Bool) → IsHistory log → is_at (focus log) x ≡ b → is_at (holder log) x ≡ c →
+    holder (acts.Drop x ∷ log) ≡ (if b then None else (if c then None else holder log))
+drop_holder log x true c i e k = kept_unfocused (acts.Drop x) log (drop_focus log x true i e)
+drop_holder log x false true i e k = holder_taken (acts.Drop x) log x i (drop_taking x) (same_at (holder log) x k) (drop_takes log x)
+drop_holder log x false false i e k =
+    holder_stays (acts.Drop x) log i (drop_taking x) (other_left log x (focus log) e) (other_left log x (holder log) k)
+
+pub drop_serving : (log : List Act) (x : ℕ) (b : Bool) → is_at (serving log) x ≡ b → serving (acts.Drop x ∷ log) ≡ (if b then None else serving log)
+drop_serving log x true e = serving_taken (acts.Drop x) log x (serving_step (acts.Drop x) log refl) (same_at (serving log) x e) (drop_takes log x)
+drop_serving log x false e = serving_stays (acts.Drop x) log (serving_step (acts.Drop x) log refl) (other_left log x (serving log) e)
+
+-- what the act takes goes from the entries, and where the focus goes, all words
+
+pub drop_moves : (log : List Act) (x : ℕ) → IsHistory log → is_at (focus log) x ≡ false → AllMove (acts.Drop x) log (λ e. e) (not_label x)
+drop_moves log x i e =
+    λ y l. drops (λ e. e) log y x l
+    (λ d. touch_none (acts.Drop x) log y
+    (word_kept (acts.Drop x) log y l (entered_stays (acts.Drop x) log y i (drop_taking x) (other_left log x (focus log) e) l (drop_leaves log x y d)) refl (λ f rest. refl)) refl)
+
+pub drop_moves_words : (log : List Act) (x : ℕ) → focus (acts.Drop x ∷ log) ≡ None → AllMove (acts.Drop x) log wordless (not_label x)
+drop_moves_words log x e =
+    λ y l. drops wordless log y x l (λ d. touch_wordless (acts.Drop x) log y (word_unfocused (acts.Drop x ∷ log) y e) refl)

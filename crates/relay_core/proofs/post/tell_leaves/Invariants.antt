@@ -1,0 +1,11 @@
+use Rattle.std.proofs.Common.{drop}
+use Rattle.relay_model.specs.declared.said.Said.TheVariants.{Leave}
+use Rattle.relay_core.specs.Reached.{Reached}
+use Rattle.relay_core.specs.Machine.{said_to}
+use Rattle.relay_core.proofs.post.tell_leaves.Given as goal
+
+-- what is left to tell leads from here to where all leads from the start
+abbrev pub invariant-loop-object : goal.invariant-loop-object
+invariant-loop-object g l =
+    (z : _) → Reached g.P.Post.may_follow l.post (said_to (Leave l.surface) l.peer (drop l.object-index l.objects)) z
+    → Reached g.P.Post.may_follow l.fn.post (said_to (Leave l.surface) l.peer l.objects) z

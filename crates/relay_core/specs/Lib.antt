@@ -1,0 +1,5 @@
+pub mod Objects
+pub mod Reached
+pub mod Machine
+pub mod Kept
+pub mod Stands

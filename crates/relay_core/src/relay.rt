@@ -1,0 +1,83 @@
+// The relay as its callers see it.
+use crate::machine::Machine;
+use crate::post::Post;
+use relay_model::{Act, Text};
+use serial_count::{Count32, Since};
+use std::alloc::Global;
+use std::marker::Model;
+use wio_core::NoMemory;
+
+/// The broker's state on one seat: which objects live, which surface has the focus, which field holds the seat, which method serves, and what is
+/// pending. It stands for the list of all acts that it took, of which it keeps no copy: an act costs the live objects and what it tells, whatever came before.
+#[derive(Drop)]
+pub struct Relay {
+    machine: Machine,
+}
+
+impl Model for Relay {
+    ghost use Rattle.relay_core.specs.Kept.{Shown, shown};
+
+    ghost Value = { Shown };
+
+    ghost view = { λ r. shown r.machine };
+}
+
+impl Relay {
+    ghost use Rattle.std.specs.Prelude.{◌≡◌, ◌<◌, List, [], ◌∷◌, length, true, IfOk, OnOk};
+    ghost use Rattle.relay_model.specs.declared.act.Act.{Act};
+    ghost use Rattle.relay_model.specs.Told.{told};
+    ghost use Rattle.relay_core.specs.Reached.{Reached};
+    ghost use Rattle.relay_core.specs.Kept.{IsReserved};
+    ghost use Rattle.relay_core.specs.Stands.{StandsFor, is_built};
+
+    /// A relay that took no act.
+    pub fn new(alloc: Global) -> Result<Relay, NoMemory>
+        ensures { IfOk result (λ relay. StandsFor relay []) }
+    {
+        Ok(Relay {
+            machine: Machine {
+                alloc,
+                acts: 0,
+                objects: Vec::new(alloc),
+                focus: None,
+                holder: None,
+                serving: None,
+                string: Text::empty(alloc),
+                active: false,
+                dones: Count32::at(0),
+                since: Since::at(0),
+                spare: None,
+            },
+        })
+    }
+
+    /// How many acts the relay took.
+    pub fn acts(&self) -> u32
+        ensures number { result ≡ self.now.state.acts }
+        ensures length { (log : List Act) → StandsFor self.now log → result ≡ length log }
+    {
+        self.machine.acts
+    }
+
+    /// Makes the room for one act, with a copy of the text that it may tell. The relay stands for what it stood for, also after `NoMemory`.
+    #[tactic(auto, using(crate::proofs::Rooms::has_room))]
+    pub fn reserve(&mut self, act: &Act) -> Result<(), NoMemory>
+        ensures same { self.new.state ≡ self.old.state }
+        ensures stands { (log : List Act) → StandsFor self.old log → StandsFor self.new log }
+        ensures reserved { OnOk result (IsReserved self.new act.now) }
+    {
+        self.machine.reserve(act)
+    }
+
+    /// Takes one act, for which room was made, and tells the post what it tells: one `tell` for each event, in order, and no other. The end of a peer
+    /// needs no room. Takes no memory and can't fail. At most 4,294,967,295 acts are taken.
+    pub fn step<P: Post>(&mut self, act: &Act, post: &mut P)
+        requires reserved { IsReserved self.old act.now }
+        requires number { self.old.state.acts < 4294967295 }
+        requires built { is_built act.now ≡ true }
+        ensures stands { (log : List Act) → StandsFor self.old log → StandsFor self.new (act.now ∷ log) }
+        ensures told { (log : List Act) → StandsFor self.old log → Reached P.may_follow post.old (told act.now log) post.new }
+    {
+        self.machine.turn(act, post);
+    }
+}

@@ -1,0 +1,9 @@
+pub mod Objects
+pub mod Focus
+pub mod Hold
+pub mod Current
+pub mod Activation
+pub mod Batch
+pub mod Idle
+pub mod Told
+pub mod Rows

@@ -1,0 +1,101 @@
+-- The objects of a history of acts, the newest act first: which are alive, of which kind, and whose.
+use Rattle.std.specs.Prelude.{ℕ, ◌+◌, List, [], ◌∷◌, ◌++◌, length, filter, Bool, true, false, ◌==◌, if◌then◌else◌, Option, Some, None, is_some}
+use Rattle.relay_model.specs.declared.act.Act.{Act}
+use Rattle.relay_model.specs.declared.act.Act.TheVariants.{Peer, Gone, Surface, Field, Method, Drop}
+
+-- what an object is
+pub data Kind : Type 0 where
+  PeerKind SurfaceKind FieldKind MethodKind : Kind
+
+-- a live object: its kind, and the peer that it belongs to; a peer is its own
+pub record Object : Type 0 where
+  pub kind : Kind
+  pub peer : ℕ
+
+-- the number of the act that comes next
+abbrev pub next : List Act → ℕ
+next older = length older + 1
+
+-- the option is this number
+abbrev pub is_at : Option ℕ → ℕ → Bool
+is_at None x = false
+is_at (Some y) x = y == x
+
+-- both are there, and the same
+abbrev pub is_same : Option ℕ → Option ℕ → Bool
+is_same None y = false
+is_same (Some x) y = is_at y x
+
+abbrev pub is_field_kind : Kind → Bool
+is_field_kind FieldKind = true
+is_field_kind _ = false
+
+abbrev pub is_surface_kind : Kind → Bool
+is_surface_kind SurfaceKind = true
+is_surface_kind _ = false
+
+abbrev pub is_method_kind : Kind → Bool
+is_method_kind MethodKind = true
+is_method_kind _ = false
+
+abbrev pub is_peer_kind : Kind → Bool
+is_peer_kind PeerKind = true
+is_peer_kind _ = false
+
+-- there is an object, and its kind passes the test
+abbrev pub is_kind : (Kind → Bool) → Option Object → Bool
+is_kind test None = false
+is_kind test (Some object) = test object.kind
+
+-- the peer of an object that is there
+abbrev pub owner : Option Object → Option ℕ
+owner None = None
+owner (Some object) = Some object.peer
+
+-- what the act makes, where it has this number
+abbrev pub made : Act → ℕ → Option Object
+made Peer n = Some (record { kind = PeerKind; peer = n })
+made (Surface p) n = Some (record { kind = SurfaceKind; peer = p })
+made (Field p) n = Some (record { kind = FieldKind; peer = p })
+made (Method p) n = Some (record { kind = MethodKind; peer = p })
+made _ n = None
+
+-- what the act leaves of the object x that was made before it
+abbrev pub remains : Act → ℕ → Option Object → Option Object
+remains (Drop y) x object = (if y == x then None else object)
+remains (Gone p cause) x object = (if is_at (owner object) p then None else object)
+remains _ x object = object
+
+-- the live object x: its act made it, and no act since dropped it or ended its peer
+abbrev pub object : List Act → ℕ → Option Object
+object [] x = None
+object (act ∷ older) x = (if x == next older then made act x else remains act x (object older x))
+
+-- x is alive
+abbrev pub alive : List Act → ℕ → Bool
+alive log x = is_some (object log x)
+
+-- the peer of the live object x
+abbrev pub peer_of : List Act → ℕ → Option ℕ
+peer_of log x = owner (object log x)
+
+abbrev pub is_field : List Act → ℕ → Bool
+is_field log x = is_kind is_field_kind (object log x)
+
+abbrev pub is_surface : List Act → ℕ → Bool
+is_surface log x = is_kind is_surface_kind (object log x)
+
+abbrev pub is_method : List Act → ℕ → Bool
+is_method log x = is_kind is_method_kind (object log x)
+
+abbrev pub is_peer : List Act → ℕ → Bool
+is_peer log x = is_kind is_peer_kind (object log x)
+
+-- the labels of a history, rising
+abbrev pub labels : List Act → List ℕ
+labels [] = []
+labels (act ∷ older) = labels older ++ next older ∷ []
+
+-- the live fields, by rising label
+abbrev pub fields : List Act → List ℕ
+fields log = filter (is_field log) (labels log)

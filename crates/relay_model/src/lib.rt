@@ -1,0 +1,12 @@
+// The acts of a seat, what they tell, and the definitions of both by looking back over a list of acts.
+#![tactic(auto)]
+
+mod act;
+mod rows;
+mod said;
+
+pub use act::{Act, EndCause, Label, Word};
+pub use popup_place::{Rect, Size};
+pub use rows::worked_rows;
+pub use said::{Said, Told};
+pub use wl_wire::Text;

@@ -1,0 +1,21 @@
+// The worked rows, which the definitions compute.
+ghost use Rattle.relay_model.specs.Rows.{OrdinaryPath, SerialBeforeAnyDone, EarlierDone, NewActivation, ResetAtActivation, EmptyBatch, CommitsBeforeTheFocus, SecondField, LateMethod, CursorInsideACharacter, DroppedSurface, FocusAgain, CauseOfOneCommit, SetBeforeEnable, WholeBatch};
+
+/// What the definitions tell of the worked act lists is what was worked out by hand.
+pub fn worked_rows()
+    ensures ordinary_path { OrdinaryPath }
+    ensures serial_before_any_done { SerialBeforeAnyDone }
+    ensures earlier_done { EarlierDone }
+    ensures new_activation { NewActivation }
+    ensures reset_at_activation { ResetAtActivation }
+    ensures empty_batch { EmptyBatch }
+    ensures commits_before_the_focus { CommitsBeforeTheFocus }
+    ensures second_field { SecondField }
+    ensures late_method { LateMethod }
+    ensures cursor_inside_a_character { CursorInsideACharacter }
+    ensures dropped_surface { DroppedSurface }
+    ensures focus_again { FocusAgain }
+    ensures cause_of_one_commit { CauseOfOneCommit }
+    ensures set_before_enable { SetBeforeEnable }
+    ensures whole_batch { WholeBatch }
+{}

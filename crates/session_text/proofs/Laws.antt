@@ -1,0 +1,76 @@
+-- The reading of a line is the inverse of its spelling.
+use Rattle.std.proofs.Common.{◌≡◌, ℕ, Bool, true, false, cond, eqb, List, [], ◌∷◌, length, Option, Some, None, Result, Ok, Err, refl, sym, ap, ◌∙◌, subst}
+use Rattle.std.specs.Prelude.{codes, nat_le, IfOk}
+use Rattle.std.specs.List.{slice_split, join_with_byte}
+use Rattle.std.proofs.lemmas.Bool.{le-leb}
+use Rattle.std.proofs.lemmas.List.Splits.{join_with_byte-slice_split}
+use Rattle.std.proofs.lemmas.Slice.Eq.{bytes_eq-Decides}
+use Rattle.relay_model.specs.declared.act.Act.{Act}
+use Rattle.session_text.specs.declared.line.Form.{Form}
+use Rattle.session_text.specs.declared.line.Form.TheVariants.{Acts}
+use Rattle.session_text.specs.declared.line.Line.{Line}
+use Rattle.session_text.specs.declared.line.Line.TheVariants as lines
+use Rattle.session_text.specs.declared.line.BadLine.{BadLine}
+use Rattle.session_text.specs.Grammar.{line_words, spelling, IsLine}
+use Rattle.session_text.specs.Reading.{◌>>=◌, act_of, is_end, line_of_words, line_of, line_limit, Reads}
+use Rattle.session_text.proofs.SpelledActs.{Parts, none, named, parts, act_complete}
+use Rattle.session_text.proofs.ReadActs.{act_sound}
+
+-- ---- what is spelled is read
+
+line_parts : (form : Form) (line : Line) → IsLine form line → Parts (line_words line)
+line_parts Acts (lines.Act act) h = parts act h
+line_parts Acts lines.End h = named (codes "end") [] 0 none refl
+
+words_read : (form : Form) (line : Line) → IsLine form line → line_of_words form (line_words line) ≡ Some line
+words_read Acts (lines.Act act) h = let found = act_complete act h in rw (found.0, found.1) refl
+words_read Acts lines.End h = refl
+
+pub reads_each : (form : Form) (line : Line) → IsLine form line → line_of form (spelling line) ≡ Some line
+unfolding line_of
+reads_each form line h =
+    let known = line_parts form line h in
+    let within : nat_le (length (spelling line)) line_limit ≡ true = le-leb (length (spelling line)) line_limit known.within in
+    rw within (ap (line_of_words form) known.split ∙ words_read form line h)
+
+-- ---- what is read is spelled so
+
+-- what a test let through
+let_through : {A : Type 0} (b : Bool) (o : Option A) (x : A) → cond b o None ≡ Some x → o ≡ Some x
+let_through true o x e = e
+let_through false o x e = absurd (cc e)
+
+is_end_sound : (ws : List (List ℕ)) → is_end ws ≡ true → ws ≡ codes "end" ∷ []
+is_end_sound [] e = absurd (cc e)
+is_end_sound (k ∷ []) e = ap (λ w. w ∷ []) ((bytes_eq-Decides k (codes "end")).0 e)
+is_end_sound (k ∷ a ∷ ws) e = absurd (cc e)
+
+record IsReadLine (form : Form) (ws : List (List ℕ)) (line : Line) : Type 0 where
+  same : ws ≡ line_words line
+  is_line : IsLine form line
+
+act_line : (ws : List (List ℕ)) (line : Line) (o : Option Act) → act_of ws ≡ o → (o >>= (λ act. Some (lines.Act act))) ≡ Some line → IsReadLine Acts ws line
+act_line ws line None is e = absurd (cc e)
+act_line ws line (Some act) is e =
+    let read = act_sound ws act is in
+    let same : lines.Act act ≡ line = cc in
+    subst (IsReadLine Acts ws) same (record { same = read.same; is_line = read.has_line })
+
+words_sound : (form : Form) (ws : List (List ℕ)) (line : Line) → line_of_words form ws ≡ Some line → IsReadLine form ws line
+words_sound Acts ws line e =
+    elim (is_end ws) as (λ b. is_end ws ≡ b → cond b (Some lines.End) (act_of ws >>= (λ act. Some (lines.Act act))) ≡ Some line → IsReadLine Acts ws line) [
+      | true ↦ λ is f. let same : lines.End ≡ line = cc in subst (IsReadLine Acts ws) same (record { same = is_end_sound ws is; is_line = tt })
+      | false ↦ λ is f. act_line ws line (act_of ws) refl f
+    ] refl e
+
+pub reads_only : (form : Form) (bytes : List ℕ) (line : Line) → line_of form bytes ≡ Some line → (bytes ≡ spelling line) × IsLine form line
+unfolding line_of
+reads_only form bytes line e =
+    let ws = slice_split (λ b. eqb b 32) bytes in
+    let read = words_sound form ws line (let_through (nat_le (length bytes) line_limit) (line_of_words form ws) line e) in
+    (sym (join_with_byte-slice_split 32 bytes) ∙ ap (join_with_byte 32) read.same, read.is_line)
+
+-- what was read is a line of the form
+pub read_is_line : (form : Form) (bytes : List ℕ) (r : Result Line BadLine) → Reads r (line_of form bytes) → IfOk r (IsLine form)
+read_is_line form bytes (Ok line) e = (reads_only form bytes line e).1
+read_is_line form bytes (Err d) e = tt

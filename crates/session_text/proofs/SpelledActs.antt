@@ -1,0 +1,117 @@
+-- Each act that has a line: its words are words of a line, and they are read as that act.
+use Rattle.std.proofs.Common.{◌≡◌, ℕ, ◌+◌, ◌≤◌, true, false, ◌&&◌, List, [], ◌∷◌, length, eqb, Option, Some, refl, arith}
+use Rattle.std.specs.Prelude.{codes, nat_le}
+use Rattle.std.specs.List.{slice_split, join_with_byte}
+use Rattle.std.proofs.lemmas.Bool.{and_parts, leb-true}
+use Rattle.relay_model.specs.declared.act.Act.{Act}
+use Rattle.relay_model.specs.declared.act.Act.TheVariants as acts
+use Rattle.relay_model.specs.declared.act.EndCause.TheVariants as causes
+use Rattle.session_text.specs.Words.{text_limit, cursor_text_limit}
+use Rattle.session_text.specs.Grammar.{act_words, HasLine}
+use Rattle.session_text.specs.Reading.{size, one_word, two_words, three_words, four_words, five_words, six_words, act_of, is_end, line_limit}
+use Rattle.session_text.proofs.Separators.{lacks, AllLack, total, split_join, length-join}
+use Rattle.session_text.proofs.WordKinds.{Kind, numbers, signeds, sizes, states, texts}
+
+-- ---- the words of an act are words of a line
+
+-- words without a space, with so many bytes and spaces at most
+pub record Fits (ws : List (List ℕ)) (n : ℕ) : Type 0 where
+  pub spaceless : AllLack 32 ws
+  pub within : total ws ≤ n
+
+pub none : Fits [] 0
+none = record { spaceless = tt; within = omega arith }
+
+pub more : {A : Type 0} {read : List ℕ → Option A} {spell : A → List ℕ} {Is : A → Type 0} {most : ℕ} → Kind read spell Is most → (x : A) → Is x
+    → (ws : List (List ℕ)) (n : ℕ) → Fits ws n → Fits (spell x ∷ ws) (most + 1 + n)
+more kind x h ws n fits = record {
+  spaceless = (kind.spaceless x h, fits.spaceless);
+  within = let short = kind.short x h in omega (arith, short, fits.within);
+}
+
+-- the words of a line are found in its bytes, of which there are no more than the limit
+pub record Parts (ws : List (List ℕ)) : Type 0 where
+  pub split : slice_split (λ b. eqb b 32) (join_with_byte 32 ws) ≡ ws
+  pub within : length (join_with_byte 32 ws) ≤ line_limit
+
+pub named : (name : List ℕ) (ws : List (List ℕ)) (n : ℕ) → Fits ws n → (lacks 32 name && nat_le (length name + 1 + n) line_limit) ≡ true → Parts (name ∷ ws)
+named name ws n fits test =
+    let (spaceless, small) = and_parts (lacks 32 name) (nat_le (length name + 1 + n) line_limit) test in
+    record {
+      split = split_join name ws spaceless fits.spaceless;
+      within = omega (arith, leb-true (length name + 1 + n) line_limit small, fits.within, length-join (name ∷ ws));
+    }
+
+-- the other words of a line, by their kinds
+with_one : {A : Type 0} {read : List ℕ → Option A} {spell : A → List ℕ} {Is : A → Type 0} {most : ℕ} → Kind read spell Is most
+    → (name : List ℕ) (x : A) → Is x → (lacks 32 name && nat_le (length name + 1 + (most + 1 + 0)) line_limit) ≡ true → Parts (name ∷ spell x ∷ [])
+with_one kind name x h test = named name _ _ (more kind x h _ _ none) test
+
+with_two : {A B : Type 0} {read : List ℕ → Option A} {spell : A → List ℕ} {Is : A → Type 0} {most : ℕ} {read' : List ℕ → Option B} {spell' : B → List ℕ} {Is' : B → Type 0} {most' : ℕ}
+    → Kind read spell Is most → Kind read' spell' Is' most' → (name : List ℕ) (x : A) (y : B) → Is x → Is' y
+    → (lacks 32 name && nat_le (length name + 1 + (most + 1 + (most' + 1 + 0))) line_limit) ≡ true → Parts (name ∷ spell x ∷ spell' y ∷ [])
+with_two kind kind' name x y h h' test = named name _ _ (more kind x h _ _ (more kind' y h' _ _ none)) test
+
+-- each act's words
+pub parts : (act : Act) → HasLine act → Parts (act_words act)
+parts acts.Peer h = named (codes "peer") [] 0 none refl
+parts (acts.Gone p causes.Gone) h = with_one numbers (codes "gone") p h refl
+parts (acts.Surface p) h = with_one numbers (codes "surface") p h refl
+parts (acts.Field p) h = with_one numbers (codes "field") p h refl
+parts (acts.Method p) h = with_one numbers (codes "method") p h refl
+parts (acts.Popup m s) h = with_two numbers numbers (codes "popup") m s h.0 h.1 refl
+parts (acts.Grab m) h = with_one numbers (codes "grab") m h refl
+parts (acts.Drop x) h = with_one numbers (codes "drop") x h refl
+parts (acts.Focus s) h = with_one numbers (codes "focus") s h refl
+parts acts.Unfocus h = named (codes "unfocus") [] 0 none refl
+parts (acts.Area s r) h = named (codes "area") _ _ (more numbers s h.0 _ _ (more signeds r.x h.1.0 _ _ (more signeds r.y h.1.1 _ _ (more sizes r.width h.1.2 _ _ (more sizes r.height h.1.3 _ _ none))))) refl
+parts (acts.Screen z) h = with_two sizes sizes (codes "screen") z.width z.height h.0 h.1 refl
+parts (acts.Enable f) h = with_one numbers (codes "enable") f h refl
+parts (acts.Disable f) h = with_one numbers (codes "disable") f h refl
+parts (acts.Surround f text cursor anchor) h = named (codes "surround") _ _ (more numbers f h.0 _ _ (more (texts cursor_text_limit) text h.1 _ _ (more signeds cursor h.2 _ _ (more signeds anchor h.3 _ _ none)))) refl
+parts (acts.Cause f cause) h = with_two numbers numbers (codes "cause") f cause h.0 h.1 refl
+parts (acts.Content f hint purpose) h = named (codes "content") _ _ (more numbers f h.0 _ _ (more numbers hint h.1 _ _ (more numbers purpose h.2 _ _ none))) refl
+parts (acts.Cursor f r) h = named (codes "rect") _ _ (more numbers f h.0 _ _ (more signeds r.x h.1.0 _ _ (more signeds r.y h.1.1 _ _ (more signeds r.width h.1.2 _ _ (more signeds r.height h.1.3 _ _ none))))) refl
+parts (acts.Commit f) h = with_one numbers (codes "commit") f h refl
+parts (acts.MString m text) h = with_two numbers (texts text_limit) (codes "mstring") m text h.0 h.1 refl
+parts (acts.MPreedit m text begin end) h = named (codes "mpreedit") _ _ (more numbers m h.0 _ _ (more (texts cursor_text_limit) text h.1 _ _ (more signeds begin h.2 _ _ (more signeds end h.3 _ _ none)))) refl
+parts (acts.MDelete m before after) h = named (codes "mdelete") _ _ (more numbers m h.0 _ _ (more numbers before h.1 _ _ (more numbers after h.2 _ _ none))) refl
+parts (acts.MCommit m serial) h = with_two numbers numbers (codes "mcommit") m serial h.0 h.1 refl
+parts (acts.Key time key state) h = named (codes "key") _ _ (more numbers time h.0 _ _ (more numbers key h.1 _ _ (more states state h.2 _ _ none))) refl
+parts (acts.Mods depressed latched locked group) h = named (codes "mods") _ _ (more numbers depressed h.0 _ _ (more numbers latched h.1 _ _ (more numbers locked h.2 _ _ (more numbers group h.3 _ _ none)))) refl
+parts (acts.Keymap format token size) h = named (codes "keymap") _ _ (more numbers format h.0 _ _ (more numbers token h.1 _ _ (more numbers size h.2 _ _ none))) refl
+parts (acts.Repeat rate delay) h = with_two signeds signeds (codes "repeat") rate delay h.0 h.1 refl
+parts _ h = absurd h
+
+-- ---- the words of an act are read as that act
+
+pub act_complete : (act : Act) → HasLine act → (is_end (act_words act) ≡ false) × (act_of (act_words act) ≡ Some act)
+unfolding one_word two_words three_words four_words five_words six_words
+act_complete acts.Peer h = (refl, refl)
+act_complete (acts.Gone p causes.Gone) h = (refl, rw (numbers.complete p h) refl)
+act_complete (acts.Surface p) h = (refl, rw (numbers.complete p h) refl)
+act_complete (acts.Field p) h = (refl, rw (numbers.complete p h) refl)
+act_complete (acts.Method p) h = (refl, rw (numbers.complete p h) refl)
+act_complete (acts.Popup m s) h = (refl, rw (numbers.complete m h.0) (rw (numbers.complete s h.1) refl))
+act_complete (acts.Grab m) h = (refl, rw (numbers.complete m h) refl)
+act_complete (acts.Drop x) h = (refl, rw (numbers.complete x h) refl)
+act_complete (acts.Focus s) h = (refl, rw (numbers.complete s h) refl)
+act_complete acts.Unfocus h = (refl, refl)
+act_complete (acts.Area s r) h = (refl, rw (numbers.complete s h.0) (rw (signeds.complete r.x h.1.0) (rw (signeds.complete r.y h.1.1) (rw (sizes.complete r.width h.1.2) (rw (sizes.complete r.height h.1.3) refl)))))
+act_complete (acts.Screen z) h = (refl, rw (sizes.complete z.width h.0) (rw (sizes.complete z.height h.1) refl))
+act_complete (acts.Enable f) h = (refl, rw (numbers.complete f h) refl)
+act_complete (acts.Disable f) h = (refl, rw (numbers.complete f h) refl)
+act_complete (acts.Surround f text cursor anchor) h = (refl, rw (numbers.complete f h.0, (texts cursor_text_limit).complete text h.1) (rw (signeds.complete cursor h.2) (rw (signeds.complete anchor h.3) refl)))
+act_complete (acts.Cause f cause) h = (refl, rw (numbers.complete f h.0) (rw (numbers.complete cause h.1) refl))
+act_complete (acts.Content f hint purpose) h = (refl, rw (numbers.complete f h.0) (rw (numbers.complete hint h.1) (rw (numbers.complete purpose h.2) refl)))
+act_complete (acts.Cursor f r) h = (refl, rw (numbers.complete f h.0) (rw (signeds.complete r.x h.1.0) (rw (signeds.complete r.y h.1.1) (rw (signeds.complete r.width h.1.2) (rw (signeds.complete r.height h.1.3) refl)))))
+act_complete (acts.Commit f) h = (refl, rw (numbers.complete f h) refl)
+act_complete (acts.MString m text) h = (refl, rw (numbers.complete m h.0, (texts text_limit).complete text h.1) refl)
+act_complete (acts.MPreedit m text begin end) h = (refl, rw (numbers.complete m h.0, (texts cursor_text_limit).complete text h.1) (rw (signeds.complete begin h.2) (rw (signeds.complete end h.3) refl)))
+act_complete (acts.MDelete m before after) h = (refl, rw (numbers.complete m h.0) (rw (numbers.complete before h.1) (rw (numbers.complete after h.2) refl)))
+act_complete (acts.MCommit m serial) h = (refl, rw (numbers.complete m h.0) (rw (numbers.complete serial h.1) refl))
+act_complete (acts.Key time key state) h = (refl, rw (numbers.complete time h.0) (rw (numbers.complete key h.1) (rw (states.complete state h.2) refl)))
+act_complete (acts.Mods depressed latched locked group) h = (refl, rw (numbers.complete depressed h.0) (rw (numbers.complete latched h.1) (rw (numbers.complete locked h.2) (rw (numbers.complete group h.3) refl))))
+act_complete (acts.Keymap format token size) h = (refl, rw (numbers.complete format h.0) (rw (numbers.complete token h.1) (rw (numbers.complete size h.2) refl)))
+act_complete (acts.Repeat rate delay) h = (refl, rw (signeds.complete rate h.0) (rw (signeds.complete delay h.1) refl))
+act_complete _ h = absurd h

@@ -1,0 +1,105 @@
+-- The grammar of act lists: the one spelling of each line, and which lines there are.
+use Rattle.std.specs.Prelude.{ℕ, ◌^◌, ◌<◌, ◌≤◌, List, [], ◌∷◌, codes, IsTrue}
+use Rattle.std.specs.List.{join_with_byte}
+use Rattle.std.specs.Fmt.{decimal, signed_decimal}
+use Rattle.popup_place.specs.declared.geometry.Rect.{Rect}
+use Rattle.relay_model.specs.declared.act.Act.{Act}
+use Rattle.relay_model.specs.declared.act.Act.TheVariants as acts
+use Rattle.relay_model.specs.declared.act.EndCause.TheVariants as causes
+use Rattle.session_text.specs.declared.line.Form.{Form}
+use Rattle.session_text.specs.declared.line.Form.TheVariants.{Acts}
+use Rattle.session_text.specs.declared.line.Line.{Line}
+use Rattle.session_text.specs.declared.line.Line.TheVariants as lines
+use Rattle.session_text.specs.Words.{text_limit, cursor_text_limit, IsTextWithin, fits_i32, is_size, hex_word}
+
+abbrev pub rect_words : Rect → List (List ℕ)
+rect_words rect = signed_decimal rect.x ∷ signed_decimal rect.y ∷ signed_decimal rect.width ∷ signed_decimal rect.height ∷ []
+
+-- the words of an act's line; an act that no line gives has none
+abbrev pub act_words : Act → List (List ℕ)
+act_words acts.Peer = codes "peer" ∷ []
+act_words (acts.Gone p cause) = codes "gone" ∷ decimal p ∷ []
+act_words (acts.Surface p) = codes "surface" ∷ decimal p ∷ []
+act_words (acts.Field p) = codes "field" ∷ decimal p ∷ []
+act_words (acts.Method p) = codes "method" ∷ decimal p ∷ []
+act_words (acts.Popup m s) = codes "popup" ∷ decimal m ∷ decimal s ∷ []
+act_words (acts.Grab m) = codes "grab" ∷ decimal m ∷ []
+act_words (acts.Drop x) = codes "drop" ∷ decimal x ∷ []
+act_words (acts.Focus s) = codes "focus" ∷ decimal s ∷ []
+act_words acts.Unfocus = codes "unfocus" ∷ []
+act_words (acts.Area s rect) = codes "area" ∷ decimal s ∷ rect_words rect
+act_words (acts.Screen size) = codes "screen" ∷ signed_decimal size.width ∷ signed_decimal size.height ∷ []
+act_words (acts.Enable f) = codes "enable" ∷ decimal f ∷ []
+act_words (acts.Disable f) = codes "disable" ∷ decimal f ∷ []
+act_words (acts.Surround f text cursor anchor) =
+    codes "surround" ∷ decimal f ∷ hex_word text ∷ signed_decimal cursor ∷ signed_decimal anchor ∷ []
+act_words (acts.Cause f cause) = codes "cause" ∷ decimal f ∷ decimal cause ∷ []
+act_words (acts.Content f hint purpose) = codes "content" ∷ decimal f ∷ decimal hint ∷ decimal purpose ∷ []
+act_words (acts.Cursor f rect) = codes "rect" ∷ decimal f ∷ rect_words rect
+act_words (acts.Commit f) = codes "commit" ∷ decimal f ∷ []
+act_words (acts.MString m text) = codes "mstring" ∷ decimal m ∷ hex_word text ∷ []
+act_words (acts.MPreedit m text begin end) =
+    codes "mpreedit" ∷ decimal m ∷ hex_word text ∷ signed_decimal begin ∷ signed_decimal end ∷ []
+act_words (acts.MDelete m before after) = codes "mdelete" ∷ decimal m ∷ decimal before ∷ decimal after ∷ []
+act_words (acts.MCommit m serial) = codes "mcommit" ∷ decimal m ∷ decimal serial ∷ []
+act_words (acts.Key time key state) = codes "key" ∷ decimal time ∷ decimal key ∷ decimal state ∷ []
+act_words (acts.Mods depressed latched locked group) =
+    codes "mods" ∷ decimal depressed ∷ decimal latched ∷ decimal locked ∷ decimal group ∷ []
+act_words (acts.Keymap format token size) = codes "keymap" ∷ decimal format ∷ decimal token ∷ decimal size ∷ []
+act_words (acts.Repeat rate delay) = codes "repeat" ∷ signed_decimal rate ∷ signed_decimal delay ∷ []
+act_words _ = []
+
+abbrev pub line_words : Line → List (List ℕ)
+line_words (lines.Act act) = act_words act
+line_words lines.End = codes "end" ∷ []
+
+-- the words of a line, separated by one space
+abbrev pub spelling : Line → List ℕ
+spelling line = join_with_byte 32 (line_words line)
+
+-- each number of the rectangle has 32 bits and a sign
+abbrev pub IsRect : Rect → Type 0
+IsRect rect = IsTrue (fits_i32 rect.x) × IsTrue (fits_i32 rect.y) × IsTrue (fits_i32 rect.width) × IsTrue (fits_i32 rect.height)
+
+-- the same, and the size isn't negative
+abbrev pub IsArea : Rect → Type 0
+IsArea rect = IsTrue (fits_i32 rect.x) × IsTrue (fits_i32 rect.y) × IsTrue (is_size rect.width) × IsTrue (is_size rect.height)
+
+-- The act holds only what a line can give: each number is in its range, each text is one within its limit, and a peer that ends is gone.
+abbrev pub HasLine : Act → Type 0
+HasLine acts.Peer = Unit {0}
+HasLine (acts.Gone p causes.Gone) = p < 2 ^ 32
+HasLine (acts.Surface p) = p < 2 ^ 32
+HasLine (acts.Field p) = p < 2 ^ 32
+HasLine (acts.Method p) = p < 2 ^ 32
+HasLine (acts.Popup m s) = (m < 2 ^ 32) × (s < 2 ^ 32)
+HasLine (acts.Grab m) = m < 2 ^ 32
+HasLine (acts.Drop x) = x < 2 ^ 32
+HasLine (acts.Focus s) = s < 2 ^ 32
+HasLine acts.Unfocus = Unit {0}
+HasLine (acts.Area s rect) = (s < 2 ^ 32) × IsArea rect
+HasLine (acts.Screen size) = IsTrue (is_size size.width) × IsTrue (is_size size.height)
+HasLine (acts.Enable f) = f < 2 ^ 32
+HasLine (acts.Disable f) = f < 2 ^ 32
+HasLine (acts.Surround f text cursor anchor) =
+    (f < 2 ^ 32) × IsTextWithin cursor_text_limit text × IsTrue (fits_i32 cursor) × IsTrue (fits_i32 anchor)
+HasLine (acts.Cause f cause) = (f < 2 ^ 32) × (cause < 2 ^ 32)
+HasLine (acts.Content f hint purpose) = (f < 2 ^ 32) × (hint < 2 ^ 32) × (purpose < 2 ^ 32)
+HasLine (acts.Cursor f rect) = (f < 2 ^ 32) × IsRect rect
+HasLine (acts.Commit f) = f < 2 ^ 32
+HasLine (acts.MString m text) = (m < 2 ^ 32) × IsTextWithin text_limit text
+HasLine (acts.MPreedit m text begin end) =
+    (m < 2 ^ 32) × IsTextWithin cursor_text_limit text × IsTrue (fits_i32 begin) × IsTrue (fits_i32 end)
+HasLine (acts.MDelete m before after) = (m < 2 ^ 32) × (before < 2 ^ 32) × (after < 2 ^ 32)
+HasLine (acts.MCommit m serial) = (m < 2 ^ 32) × (serial < 2 ^ 32)
+HasLine (acts.Key time key state) = (time < 2 ^ 32) × (key < 2 ^ 32) × (state ≤ 1)
+HasLine (acts.Mods depressed latched locked group) =
+    (depressed < 2 ^ 32) × (latched < 2 ^ 32) × (locked < 2 ^ 32) × (group < 2 ^ 32)
+HasLine (acts.Keymap format token size) = (format < 2 ^ 32) × (token < 2 ^ 32) × (size < 2 ^ 32)
+HasLine (acts.Repeat rate delay) = IsTrue (fits_i32 rate) × IsTrue (fits_i32 delay)
+HasLine _ = ⊥
+
+-- the line is one of the form
+abbrev pub IsLine : Form → Line → Type 0
+IsLine Acts (lines.Act act) = HasLine act
+IsLine Acts lines.End = Unit {0}

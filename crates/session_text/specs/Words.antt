@@ -1,0 +1,68 @@
+-- The words of a line: decimal numbers and hex texts, and what each word reads as.
+use Rattle.std.specs.Prelude.{ℕ, ℤ, pos, negsuc, ◌^◌, ◌≤◌, ◌&&◌, Bool, false, nat_lt, nat_le, if◌then◌else◌, List, [], ◌∷◌, length, codes, Option, Some, None, Result, Ok, Err}
+use Rattle.std.specs.Str.{bytes_eq}
+use Rattle.std.specs.Str.Parse.{digits_value, signed_digits_value}
+use Rattle.std.specs.Fmt.{decimal, signed_decimal}
+use Rattle.hex.specs.Hex.{encode_lower, decode_of}
+use Rattle.hex.specs.declared.error.FromHexError.{FromHexError}
+use Rattle.wl_wire.specs.Texts.{IsText, is_text}
+
+-- the most bytes of a text that stands alone in its request (zwp_input_method_v2.commit_string)
+abbrev pub text_limit : ℕ
+text_limit = 4083
+
+-- the most bytes of a text that two numbers follow in its request (zwp_text_input_v3.set_surrounding_text, zwp_input_method_v2.set_preedit_string)
+abbrev pub cursor_text_limit : ℕ
+cursor_text_limit = 4075
+
+-- a text of at most so many bytes
+abbrev pub IsTextWithin : ℕ → List ℕ → Type 0
+IsTextWithin limit text = IsText text × (length text ≤ limit)
+
+-- the number has 32 bits and a sign
+abbrev pub fits_i32 : ℤ → Bool
+fits_i32 (pos n) = nat_lt n (2 ^ 31)
+fits_i32 (negsuc n) = nat_lt n (2 ^ 31)
+
+-- a size: a number of 32 bits and a sign that isn't negative
+abbrev pub is_size : ℤ → Bool
+is_size (pos n) = nat_lt n (2 ^ 31)
+is_size (negsuc n) = false
+
+-- a text as a word: pairs of lower-case hex digits, or a dash for the empty text
+abbrev pub hex_word : List ℕ → List ℕ
+hex_word [] = codes "-"
+hex_word (b ∷ bytes) = encode_lower (b ∷ bytes)
+
+-- the value that the word has, if the test takes it and the word is what is printed of it, with no sign and no zero too many
+abbrev pub printed : {X : Type 0} → (List ℕ → X) → (X → Bool) → (X → List ℕ) → List ℕ → Option X
+printed value test print word = if test (value word) && bytes_eq (print (value word)) word then Some (value word) else None
+
+-- the number below 2 ^ 32 that is written so
+unfoldable pub number_of : List ℕ → Option ℕ
+number_of word = printed (digits_value 10) (λ n. nat_lt n (2 ^ 32)) decimal word
+
+-- the number of 32 bits with a sign that is written so
+unfoldable pub signed_of : List ℕ → Option ℤ
+signed_of word = printed (signed_digits_value 10) fits_i32 signed_decimal word
+
+abbrev pub kept : {A : Type 0} → (A → Bool) → Option A → Option A
+kept test None = None
+kept test (Some x) = (if test x then Some x else None)
+
+-- the size that is written so
+unfoldable pub size_of : List ℕ → Option ℤ
+size_of word = kept is_size (signed_of word)
+
+-- the state of a key that is written so: 0 for released, 1 for pressed
+unfoldable pub state_of : List ℕ → Option ℕ
+state_of word = kept (λ n. nat_le n 1) (number_of word)
+
+abbrev pub decoded : ℕ → List ℕ → Result (List ℕ) FromHexError → Option (List ℕ)
+decoded limit word (Ok bytes) =
+    if nat_lt 0 (length bytes) && is_text bytes && nat_le (length bytes) limit && bytes_eq (encode_lower bytes) word then Some bytes else None
+decoded limit word (Err e) = None
+
+-- the text of at most so many bytes that is written so
+unfoldable pub text_of : ℕ → List ℕ → Option (List ℕ)
+text_of limit word = if bytes_eq word (codes "-") then Some [] else decoded limit word (decode_of word)

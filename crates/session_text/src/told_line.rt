@@ -1,0 +1,205 @@
+// The line that says what a peer is told.
+ghost use Rattle.std.specs.Prelude.{◌≡◌, [], ◌∷◌, ◌++◌, map, codes, IfOk, OnOk, IsTrue, string_bytes};
+ghost use Rattle.std.specs.List.{join_with_byte};
+ghost use Rattle.std.specs.Fmt.{decimal, signed_decimal};
+ghost use Rattle.session_text.specs.Words.{hex_word};
+ghost use Rattle.session_text.specs.Told.{said_words, spaced, told_line};
+ghost use Rattle.wl_wire.specs.Texts.{has_no_zero};
+
+use itoa::Buffer;
+use relay_model::{Label, Said, Told};
+use std::alloc::Global;
+use wio_core::NoMemory;
+use wl_wire::Text;
+
+// The line as a text, without a copy.
+fn finished(line: String) -> Text
+    requires { IsTrue (has_no_zero (string_bytes line)) }
+    ensures { result ≡ string_bytes line }
+{
+    match Text::from_bytes(line.into_bytes()) {
+        Ok(text) => text,
+        Err(_) => unreachable!(),
+    }
+}
+
+// A text as a word.
+fn hex_of(alloc: Global, text: &Text) -> Result<String, NoMemory>
+    ensures value { IfOk result (λ s. string_bytes s ≡ hex_word text.now) }
+    ensures clean { IfOk result (λ s. IsTrue (has_no_zero (string_bytes s))) }
+{
+    let bytes = text.as_bytes();
+    if bytes.is_empty() {
+        Ok(String::from_str(alloc, "-")?)
+    } else {
+        Ok(hex::encode(alloc, bytes)?)
+    }
+}
+
+// Each function below adds words to a line, each after a space.
+
+fn add_word(line: &mut String, word: &str) -> Result<(), NoMemory>
+    requires line_clean { IsTrue (has_no_zero (string_bytes line.old)) }
+    requires word_clean { IsTrue (has_no_zero word.now) }
+    ensures added { OnOk result (string_bytes line.new ≡ string_bytes line.old ++ 32 ∷ word.now) }
+    ensures clean { OnOk result (IsTrue (has_no_zero (string_bytes line.new))) }
+{
+    line.push(' ')?;
+    line.push_str(word)?;
+    Ok(())
+}
+
+// An event's name, and numbers without a sign.
+fn add_numbers(line: &mut String, name: &str, numbers: &[u32]) -> Result<(), NoMemory>
+    requires line_clean { IsTrue (has_no_zero (string_bytes line.old)) }
+    requires name_clean { IsTrue (has_no_zero name.now) }
+    ensures added { OnOk result (string_bytes line.new
+        ≡ string_bytes line.old ++ spaced (name.now ∷ map decimal numbers.now)) }
+    ensures clean { OnOk result (IsTrue (has_no_zero (string_bytes line.new))) }
+{
+    add_word(line, name)?;
+    for number in numbers {
+        add_word(line, Buffer::new().format(*number))?;
+    }
+    Ok(())
+}
+
+// A word, and numbers with a sign.
+fn add_signed(line: &mut String, word: &str, numbers: &[i32]) -> Result<(), NoMemory>
+    requires line_clean { IsTrue (has_no_zero (string_bytes line.old)) }
+    requires word_clean { IsTrue (has_no_zero word.now) }
+    ensures added { OnOk result (string_bytes line.new
+        ≡ string_bytes line.old ++ spaced (word.now ∷ map signed_decimal numbers.now)) }
+    ensures clean { OnOk result (IsTrue (has_no_zero (string_bytes line.new))) }
+{
+    add_word(line, word)?;
+    for number in numbers {
+        add_word(line, Buffer::new().format(*number))?;
+    }
+    Ok(())
+}
+
+// An event's name, a text, and numbers with a sign.
+fn add_text(
+    alloc: Global,
+    line: &mut String,
+    name: &str,
+    text: &Text,
+    numbers: &[i32],
+) -> Result<(), NoMemory>
+    requires line_clean { IsTrue (has_no_zero (string_bytes line.old)) }
+    requires name_clean { IsTrue (has_no_zero name.now) }
+    ensures added { OnOk result (string_bytes line.new
+        ≡ string_bytes line.old ++ spaced (name.now ∷ hex_word text.now ∷ map signed_decimal numbers.now)) }
+    ensures clean { OnOk result (IsTrue (has_no_zero (string_bytes line.new))) }
+{
+    let word = hex_of(alloc, text)?;
+    add_word(line, name)?;
+    add_signed(line, word.as_str(), numbers)
+}
+
+// The place of a popup, whose numbers may be beyond those of 32 bits.
+fn add_place(line: &mut String, popup: Label, x: i64, y: i64) -> Result<(), NoMemory>
+    requires { IsTrue (has_no_zero (string_bytes line.old)) }
+    ensures added { OnOk result (string_bytes line.new
+        ≡ string_bytes line.old ++ spaced (codes "placed" ∷ decimal popup ∷ signed_decimal x ∷ signed_decimal y ∷ [])) }
+    ensures clean { OnOk result (IsTrue (has_no_zero (string_bytes line.new))) }
+{
+    add_numbers(line, "placed", &[popup])?;
+    add_word(line, Buffer::new().format(x))?;
+    add_word(line, Buffer::new().format(y))
+}
+
+// An event's name in its protocol, and its arguments.
+fn add_said(alloc: Global, line: &mut String, event: &Said) -> Result<(), NoMemory>
+    requires { IsTrue (has_no_zero (string_bytes line.old)) }
+    ensures added { OnOk result (string_bytes line.new
+        ≡ string_bytes line.old ++ spaced (said_words event.now)) }
+    ensures clean { OnOk result (IsTrue (has_no_zero (string_bytes line.new))) }
+{
+    match event {
+        Said::Enter { surface } => add_numbers(line, "enter", &[*surface]),
+        Said::Leave { surface } => add_numbers(line, "leave", &[*surface]),
+        Said::Preedit { text, begin, end } => add_text(
+            alloc,
+            line,
+            "preedit_string",
+            text,
+            &[*begin, *end],
+        ),
+        Said::CommitString { text } => add_text(alloc, line, "commit_string", text, &[]),
+        Said::Delete { before, after } => add_numbers(
+            line,
+            "delete_surrounding_text",
+            &[*before, *after],
+        ),
+        Said::FieldDone { serial } => add_numbers(line, "done", &[*serial]),
+        Said::Activate => add_numbers(line, "activate", &[]),
+        Said::Deactivate => add_numbers(line, "deactivate", &[]),
+        Said::Surrounding {
+            text,
+            cursor,
+            anchor,
+        } => add_text(alloc, line, "surrounding_text", text, &[*cursor, *anchor]),
+        Said::ChangeCause { cause } => add_numbers(line, "text_change_cause", &[*cause]),
+        Said::ContentType { hint, purpose } => add_numbers(
+            line,
+            "content_type",
+            &[*hint, *purpose],
+        ),
+        Said::MethodDone => add_numbers(line, "done", &[]),
+        Said::Unavailable => add_numbers(line, "unavailable", &[]),
+        Said::PopupRect {
+            x,
+            y,
+            width,
+            height,
+        } => add_signed(line, "text_input_rectangle", &[*x, *y, *width, *height]),
+        Said::Keymap {
+            format,
+            token,
+            size,
+        } => add_numbers(line, "keymap", &[*format, *token, *size]),
+        Said::Key {
+            serial,
+            time,
+            key,
+            state,
+        } => add_numbers(line, "key", &[*serial, *time, *key, *state]),
+        Said::Mods {
+            serial,
+            depressed,
+            latched,
+            locked,
+            group,
+        } => add_numbers(
+            line,
+            "modifiers",
+            &[*serial, *depressed, *latched, *locked, *group],
+        ),
+        Said::Repeat { rate, delay } => add_signed(line, "repeat_info", &[*rate, *delay]),
+        Said::DeleteId { label } => add_numbers(line, "delete_id", &[*label]),
+        Said::Pass { time, key, state } => add_numbers(line, "pass", &[*time, *key, *state]),
+        Said::Placed { popup, x, y } => add_place(line, *popup, *x, *y),
+    }
+}
+
+// The number of an act, and a label.
+fn front(alloc: Global, number: u32, to: Label) -> Result<String, NoMemory>
+    ensures value { IfOk result (λ line. string_bytes line
+        ≡ join_with_byte 32 (decimal number ∷ decimal to ∷ [])) }
+    ensures clean { IfOk result (λ line. IsTrue (has_no_zero (string_bytes line))) }
+{
+    Ok(format!(in alloc; "{number} {to}")?)
+}
+
+/// Prints what is told by the act of that number: `N LABEL event arguments`, without a line feed. The event has its
+/// name in its protocol, numbers are decimal, objects are their labels, texts are lower-case hex or `-` where they are
+/// empty. What the shell is told has label 0.
+pub fn print_told(alloc: Global, number: u32, told: &Told) -> Result<Text, NoMemory>
+    ensures value { IfOk result (λ line. line ≡ told_line number told.now) }
+{
+    let mut line = front(alloc, number, told.to)?;
+    add_said(alloc, &mut line, &told.event)?;
+    Ok(finished(line))
+}

@@ -1,0 +1,5 @@
+pub mod Splits
+pub mod Inputs
+pub mod Runs
+pub mod Printed
+pub mod Answering

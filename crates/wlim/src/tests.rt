@@ -1,0 +1,187 @@
+// The worked rows, on the top call.
+use crate::run::run_plain;
+use crate::status::Status;
+use std::alloc::Global;
+use std::test::Fail;
+use wio_core::{MemSink, MemSource};
+
+fn word_list(alloc: Global, words: &[&str]) -> Result<Vec<String>, Fail> {
+    let mut list = Vec::new(alloc);
+    for word in words {
+        list.push(String::from_str(alloc, word)?)?;
+    }
+    Ok(list)
+}
+
+// The status of a run, and what it wrote. The input is read in pieces of 16 bytes; the numbered reads and writes fail.
+fn run(
+    alloc: Global,
+    words: &[&str],
+    input: &str,
+    reads: &[u64],
+    writes: &[u64],
+) -> Result<(Status, Vec<u8>), Fail> {
+    let words = word_list(alloc, words)?;
+    let bytes = Vec::from_slice(alloc, input.as_bytes())?;
+    let mut source = MemSource::new(bytes, 16, Vec::from_slice(alloc, reads)?);
+    let mut sink = MemSink::new(alloc, 1000, Vec::from_slice(alloc, writes)?)?;
+    let status = run_plain(alloc, &words, &mut source, &mut sink);
+    Ok((status, Vec::from_slice(alloc, sink.held())?))
+}
+
+// The acts up to the first activation, and what they tell.
+const BEGINNING: &str = "peer\nsurface 1\nfield 1\npeer\nmethod 4\nfocus 2\nenable 3\ncommit 3\n";
+
+const BEGUN: &str = "6 3 enter 2\n8 5 activate\n8 5 content_type 0 0\n8 5 done\n";
+
+// One string after the beginning, and what it tells.
+const STRING: &str = "mstring 5 61\nmcommit 5 1\n";
+
+const RELAYED: &str = "10 3 commit_string 61\n10 3 done 1\n";
+
+fn joined(alloc: Global, parts: &[&str]) -> Result<String, Fail> {
+    let mut text = String::new(alloc);
+    for part in parts {
+        text.push_str(part)?;
+    }
+    Ok(text)
+}
+
+#[test]
+fn what_follows_the_beginning(rt: HostRuntime) -> Result<(), Fail> {
+    let alloc = rt.alloc();
+    for (string, relayed, acts, told) in [
+        // an activation alone; the ordinary path; a serial before any done
+        ("", "", "end\n", "end 8\n"),
+        (STRING, RELAYED, "end\nnonsense", "end 10\n"),
+        ("", "", "mstring 5 61\nmcommit 5 0\nend\n", "end 10\n"),
+        // an earlier done of the same activation; a done of the activation before
+        (
+            STRING,
+            RELAYED,
+            "commit 3\nmstring 5 62\nmcommit 5 1\nend\n",
+            "11 5 content_type 0 0\n11 5 done\n13 3 commit_string 62\n13 3 done 2\nend 13\n",
+        ),
+        (
+            STRING,
+            RELAYED,
+            "enable 3\ncommit 3\nmcommit 5 1\nend\n",
+            "12 5 activate\n12 5 content_type 0 0\n12 5 done\nend 13\n",
+        ),
+        // an empty batch; a second field while the first holds
+        ("", "", "mcommit 5 1\nend\n", "9 3 done 1\nend 9\n"),
+        (
+            "",
+            "",
+            "field 1\nenable 9\ncommit 9\nmcommit 5 1\nend\n",
+            "9 9 enter 2\n12 3 done 1\nend 12\n",
+        ),
+        // the focused surface is dropped; the focus goes and comes again
+        (
+            STRING,
+            RELAYED,
+            "drop 2\nend\n",
+            "11 5 deactivate\n11 5 done\n11 1 delete_id 2\nend 11\n",
+        ),
+        (
+            STRING,
+            RELAYED,
+            "unfocus\nfocus 2\nenable 3\ncommit 3\nmcommit 5 2\nmcommit 5 3\nend\n",
+            "11 3 leave 2\n11 5 deactivate\n11 5 done\n12 3 enter 2\n14 5 activate\n14 5 content_type 0 0\n14 5 done\n16 3 done 2\nend 16\n",
+        ),
+        // the method's peer ends, and the field goes on without one; a second method never serves
+        ("", "", "gone 4\ndisable 3\ncommit 3\nend\n", "end 11\n"),
+        (
+            "",
+            "",
+            "method 4\ndrop 5\nmcommit 9 1\nend\n",
+            "9 9 unavailable\n10 4 delete_id 5\nend 11\n",
+        ),
+    ] {
+        let input = joined(alloc, &[BEGINNING, string, acts])?;
+        let output = joined(alloc, &[BEGUN, relayed, told])?;
+        let (status, text) = run(alloc, &["replay-acts"], input.as_str(), &[], &[])?;
+        assert_eq!(rt; status, Status::Ok, "after {acts}");
+        assert_eq!(rt; text.as_slice(), output.as_bytes(), "after {acts}");
+    }
+    Ok(())
+}
+
+#[test]
+fn other_inputs_give_their_answers(rt: HostRuntime) -> Result<(), Fail> {
+    let alloc = rt.alloc();
+    for (input, output, status) in [
+        // a field is entered; commits are counted while it isn't; a method comes late
+        (
+            "peer\nsurface 1\nfield 1\nfocus 2\nend\n",
+            "4 3 enter 2\nend 4\n",
+            Status::Ok,
+        ),
+        (
+            "peer\nsurface 1\nfield 1\ncommit 3\ncommit 3\npeer\nmethod 6\nfocus 2\nenable 3\ncommit 3\nmcommit 7 1\nend\n",
+            "8 3 enter 2\n10 7 activate\n10 7 content_type 0 0\n10 7 done\n11 3 done 3\nend 11\n",
+            Status::Ok,
+        ),
+        (
+            "peer\nsurface 1\nfield 1\nfocus 2\nenable 3\ncommit 3\npeer\nmethod 7\nmcommit 8 1\nend\n",
+            "4 3 enter 2\n8 8 activate\n8 8 content_type 0 0\n8 8 done\n9 3 done 1\nend 9\n",
+            Status::Ok,
+        ),
+        // truncation, a line outside the grammar, and one that isn't built
+        ("peer\n", "bad line 2\n", Status::BadSession),
+        ("", "bad line 1\n", Status::BadSession),
+        (
+            "peer\nsurface 01\nend\n",
+            "bad line 2\n",
+            Status::BadSession,
+        ),
+        (
+            "peer\nscreen 10 10\nend\n",
+            "not built 2\n",
+            Status::NotBuilt,
+        ),
+    ] {
+        let (answer, text) = run(alloc, &["replay-acts"], input, &[], &[])?;
+        assert_eq!(rt; answer, status, "of {input}");
+        assert_eq!(rt; text.as_slice(), output.as_bytes(), "of {input}");
+    }
+    Ok(())
+}
+
+#[test]
+fn faults_and_words_decide(rt: HostRuntime) -> Result<(), Fail> {
+    let alloc = rt.alloc();
+    let input = joined(alloc, &[BEGINNING, STRING, "end\n"])?;
+    for (words, reads, writes, status) in [
+        (
+            ["replay-acts"].as_slice(),
+            [2].as_slice(),
+            [].as_slice(),
+            Status::ReadFault,
+        ),
+        (
+            ["replay-acts"].as_slice(),
+            [].as_slice(),
+            [1].as_slice(),
+            Status::WriteFault,
+        ),
+        (
+            ["replay", "x"].as_slice(),
+            [].as_slice(),
+            [].as_slice(),
+            Status::BadWords,
+        ),
+        (
+            [].as_slice(),
+            [].as_slice(),
+            [].as_slice(),
+            Status::BadWords,
+        ),
+    ] {
+        let (answer, text) = run(alloc, words, input.as_str(), reads, writes)?;
+        assert_eq!(rt; answer, status);
+        assert!(rt; text.is_empty());
+    }
+    assert_eq!(rt; Status::JournalFull.number(), 7);
+    Ok(())
+}
