@@ -1,0 +1,6 @@
+pub mod Dictionary
+pub mod Finds
+pub mod Places
+pub mod Made
+pub mod Leftmost
+pub mod Readings

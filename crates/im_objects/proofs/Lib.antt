@@ -1,0 +1,4 @@
+pub mod Trees
+pub mod Wholes
+pub mod Histories
+pub mod Refusals

@@ -1,0 +1,5 @@
+use Rattle.wl_proto.proofs.Whole.{written_whole}
+use Rattle.wl_proto.proofs.laws.written_messages_are_whole.Goals as goal
+
+pub returns : goal.returns
+returns c = written_whole

@@ -1,0 +1,9 @@
+pub mod Names
+pub mod Grammar
+pub mod Tables
+pub mod Rows
+pub mod Reading
+pub mod Spelling
+pub mod Spelled
+pub mod Arguments
+pub mod Laws
