@@ -124,7 +124,8 @@ impl Pending {
 
     /// Forgets all pending edits, as a commit of the method and an activation do.
     pub fn reset(&mut self)
-        ensures { (calls : List Call) → self.new ≡ last_edits (Reset ∷ calls) }
+        ensures empty { self.new ≡ last_edits [] }
+        ensures last { (calls : List Call) → self.new ≡ last_edits (Reset ∷ calls) }
     {
         self.before = 0;
         self.after = 0;

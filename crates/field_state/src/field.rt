@@ -1,10 +1,11 @@
 // One text field: its requests set what is pending, and a commit makes that current where the field holds the seat.
 // What is current is defined by looking back over the calls; here it is kept in two sets of slots.
-ghost use Rattle.std.specs.Prelude.{◌≡◌, ◌≤◌, List, [], ◌∷◌, length, false, Option, None, option_map, IfOk, if◌then◌else◌};
+ghost use Rattle.std.specs.Prelude.{◌≡◌, ◌≤◌, List, [], ◌∷◌, length, true, false, Option, None, option_map, IfOk, if◌then◌else◌};
 ghost use Rattle.field_state.specs.Calls.{Call, Enter, Leave, Enable, Disable, Surround, Cause, Content, Rectangle, Commit, initial, is_place};
 ghost use Rattle.field_state.specs.Hold.{answer, holds_after, has_effect, taken, commit_count};
 ghost use Rattle.field_state.specs.Current.{current};
-ghost use Rattle.field_state.specs.Stands.{Stands};
+ghost use Rattle.field_state.specs.Stands.{Stands, pending_of};
+ghost use Rattle.field_state.specs.Changes.{fresh, focused, enabled, disabled, surrounded, caused, typed, placed, taken_of, committed};
 
 use crate::commit::{Taken, Word};
 use crate::slots::{SURROUNDING_LIMIT, Slots};
@@ -79,7 +80,8 @@ fn show(current: &mut Slots, pending: &Slots, holds: bool)
 impl Field {
     /// A field that isn't entered. Reserves `SURROUNDING_LIMIT` bytes twice; no later call takes memory.
     pub fn new(alloc: Global) -> Result<Field, NoMemory>
-        ensures { IfOk result (λ field. Stands [] field) }
+        ensures fresh { IfOk result (λ field. field ≡ fresh) }
+        ensures history { IfOk result (λ field. Stands [] field) }
     {
         let pending = Slots::new(alloc)?;
         let current = Slots::new(alloc)?;
@@ -113,7 +115,8 @@ impl Field {
     /// `zwp_text_input_v3.enter`: the focus comes to a surface of the field's peer. A hold ends, and all but the count is
     /// initial.
     pub fn enter(&mut self)
-        ensures { (calls : List Call) → Stands calls self.old → Stands (Enter ∷ calls) self.new }
+        ensures now { self.new ≡ focused true self.old }
+        ensures stands { (calls : List Call) → Stands calls self.old → Stands (Enter ∷ calls) self.new }
     {
         self.clear();
         self.entered = true;
@@ -122,7 +125,8 @@ impl Field {
     /// `zwp_text_input_v3.leave`: the focus goes. A hold ends, and all but the count is initial. Until the next `enter`
     /// commits are only counted, and no other request has an effect.
     pub fn leave(&mut self)
-        ensures { (calls : List Call) → Stands calls self.old → Stands (Leave ∷ calls) self.new }
+        ensures now { self.new ≡ focused false self.old }
+        ensures stands { (calls : List Call) → Stands calls self.old → Stands (Leave ∷ calls) self.new }
     {
         self.clear();
         self.entered = false;
@@ -130,7 +134,8 @@ impl Field {
 
     /// `zwp_text_input_v3.enable`: the next commit asks for the seat, and from then on nothing that was set before counts.
     pub fn enable(&mut self)
-        ensures { (calls : List Call) → Stands calls self.old → Stands (Enable ∷ calls) self.new }
+        ensures now { self.new ≡ enabled self.old }
+        ensures stands { (calls : List Call) → Stands calls self.old → Stands (Enable ∷ calls) self.new }
     {
         if self.entered {
             self.word = Some(Word::Enabled);
@@ -140,7 +145,8 @@ impl Field {
 
     /// `zwp_text_input_v3.disable`: the next commit ends the field's hold, if no `enable` comes before it.
     pub fn disable(&mut self)
-        ensures { (calls : List Call) → Stands calls self.old → Stands (Disable ∷ calls) self.new }
+        ensures now { self.new ≡ disabled self.old }
+        ensures stands { (calls : List Call) → Stands calls self.old → Stands (Disable ∷ calls) self.new }
     {
         if self.entered {
             self.word = Some(Word::Disabled);
@@ -152,6 +158,7 @@ impl Field {
     /// is negative, past the text's end or inside a character.
     pub fn set_surrounding(&mut self, text: &str, cursor: i32, anchor: i32) -> bool
         requires { length text.now ≤ SURROUNDING_LIMIT }
+        ensures now { self.new ≡ surrounded text.now cursor anchor self.old }
         ensures stands { (calls : List Call) → Stands calls self.old →
             Stands (Surround text.now cursor anchor ∷ calls) self.new }
         ensures effect { (calls : List Call) → Stands calls self.old →
@@ -167,7 +174,8 @@ impl Field {
     /// `zwp_text_input_v3.set_text_change_cause`: what changed the text, 0 for the input method and 1 for anything else;
     /// other numbers are kept as they are. It counts for the next commit alone.
     pub fn set_cause(&mut self, cause: u32)
-        ensures { (calls : List Call) → Stands calls self.old → Stands (Cause cause ∷ calls) self.new }
+        ensures now { self.new ≡ caused cause self.old }
+        ensures stands { (calls : List Call) → Stands calls self.old → Stands (Cause cause ∷ calls) self.new }
     {
         if self.entered {
             self.pending.set_cause(cause);
@@ -176,7 +184,8 @@ impl Field {
 
     /// `zwp_text_input_v3.set_content_type`: hint and purpose, any numbers.
     pub fn set_content(&mut self, hint: u32, purpose: u32)
-        ensures { (calls : List Call) → Stands calls self.old → Stands (Content hint purpose ∷ calls) self.new }
+        ensures now { self.new ≡ typed hint purpose self.old }
+        ensures stands { (calls : List Call) → Stands calls self.old → Stands (Content hint purpose ∷ calls) self.new }
     {
         if self.entered {
             self.pending.set_content(hint, purpose);
@@ -186,6 +195,7 @@ impl Field {
     /// `zwp_text_input_v3.set_cursor_rectangle`: where the cursor stands, in pixels of the surface. False, and no effect,
     /// exactly where the field isn't entered or width or height is negative.
     pub fn set_rect(&mut self, rect: Rect) -> bool
+        ensures now { self.new ≡ placed rect self.old }
         ensures stands { (calls : List Call) → Stands calls self.old → Stands (Rectangle rect ∷ calls) self.new }
         ensures effect { (calls : List Call) → Stands calls self.old → result ≡ has_effect calls (Rectangle rect) }
     {
@@ -199,6 +209,8 @@ impl Field {
     /// `zwp_text_input_v3.commit`: counts, and where the field then holds the seat makes current what is pending.
     /// `may_hold` says that no other field holds the seat; where this one holds that is so, and either is taken for it.
     pub fn commit(&mut self, may_hold: bool) -> Taken
+        ensures now { self.new ≡ committed may_hold self.old }
+        ensures answer { result ≡ taken_of may_hold self.old }
         ensures stands { (calls : List Call) → Stands calls self.old → Stands (Commit may_hold ∷ calls) self.new }
         ensures taken { (calls : List Call) → Stands calls self.old → result ≡ taken may_hold calls }
     {
@@ -211,16 +223,39 @@ impl Field {
         taken
     }
 
+    /// What `commit` would answer now, without a commit.
+    pub fn commit_answer(&self, may_hold: bool) -> Taken
+        ensures now { result ≡ taken_of may_hold self.now }
+        ensures history { (calls : List Call) → Stands calls self.now → result ≡ taken may_hold calls }
+    {
+        answer(may_hold, self.word, self.holds)
+    }
+
+    /// The pending surrounding text with its cursor and anchor: what the next commit makes current, where the field then
+    /// holds.
+    pub fn pending_surrounding(&self) -> Option<(&str, i32, i32)>
+        ensures now { option_map (λ s. record { text = s.0.now; cursor = s.1; anchor = s.2 }) result
+            ≡ self.now.pending.surrounding }
+        ensures history { (calls : List Call) → Stands calls self.now →
+            option_map (λ s. record { text = s.0.now; cursor = s.1; anchor = s.2 }) result
+            ≡ (pending_of calls).surrounding }
+    {
+        self.pending.surrounding()
+    }
+
     /// How many commits there were, entered or not, modulo 2^32. `zwp_text_input_v3.done` carries it as its serial.
     pub fn count(&self) -> u32
-        ensures { (calls : List Call) → Stands calls self.now → result ≡ commit_count calls }
+        ensures now { result ≡ self.now.count }
+        ensures history { (calls : List Call) → Stands calls self.now → result ≡ commit_count calls }
     {
         self.count
     }
 
     /// The current surrounding text with its cursor and anchor; `None` where none was set or the field doesn't hold.
     pub fn surrounding(&self) -> Option<(&str, i32, i32)>
-        ensures { (calls : List Call) → Stands calls self.now →
+        ensures now { option_map (λ s. record { text = s.0.now; cursor = s.1; anchor = s.2 }) result
+            ≡ self.now.current.surrounding }
+        ensures history { (calls : List Call) → Stands calls self.now →
             option_map (λ s. record { text = s.0.now; cursor = s.1; anchor = s.2 }) result ≡ (current calls).surrounding }
     {
         self.current.surrounding()
@@ -228,21 +263,24 @@ impl Field {
 
     /// The current cause; 0, the input method, where none was set or the field doesn't hold.
     pub fn cause(&self) -> u32
-        ensures { (calls : List Call) → Stands calls self.now → result ≡ (current calls).cause }
+        ensures now { result ≡ self.now.current.cause }
+        ensures history { (calls : List Call) → Stands calls self.now → result ≡ (current calls).cause }
     {
         self.current.cause()
     }
 
     /// The current hint and purpose; 0 and 0, none and normal, where none were set or the field doesn't hold.
     pub fn content(&self) -> (u32, u32)
-        ensures { (calls : List Call) → Stands calls self.now → result ≡ (current calls).content }
+        ensures now { result ≡ self.now.current.content }
+        ensures history { (calls : List Call) → Stands calls self.now → result ≡ (current calls).content }
     {
         self.current.content()
     }
 
     /// The current cursor rectangle; `None` where none was set or the field doesn't hold.
     pub fn rect(&self) -> Option<Rect>
-        ensures { (calls : List Call) → Stands calls self.now → result ≡ (current calls).rect }
+        ensures now { result ≡ self.now.current.rect }
+        ensures history { (calls : List Call) → Stands calls self.now → result ≡ (current calls).rect }
     {
         self.current.rect()
     }

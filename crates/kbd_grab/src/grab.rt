@@ -2,7 +2,7 @@ ghost use Rattle.std.specs.Prelude.{◌≡◌, ◌∷◌, [], List, None, Some, 
 ghost use Rattle.std.specs.FinMap as map;
 ghost use Rattle.kbd_grab.specs.Keys.{Call, key_route, is_down, first_went, fell_since, unless_fell, EachStandsOnce, told_keymap, told_repeat, told_mods, grab_standing};
 ghost use Rattle.kbd_grab.specs.Keys.Call.{Stand, Fall, Key, TellKeymap, TellRepeat, TellMods};
-ghost use Rattle.kbd_grab.specs.Keyboard.{StandsFor, turned};
+ghost use Rattle.kbd_grab.specs.Keyboard.{StandsFor, turned, answer_at};
 
 use crate::down::{Down, KEYS_DOWN, turn};
 use crate::keyboard::{Keymap, Label, Mods, Route};
@@ -83,6 +83,7 @@ impl Grab {
 
     /// A press (`pressed`) or a release of the key with this code: where it goes. After `TooMany` all is as before.
     pub fn key(&mut self, key: u32, pressed: bool) -> Route
+        ensures now { result ≡ answer_at (map.get self.old.down key) self.old.standing (map.len self.old.down) pressed }
         ensures route { (calls : List Call) → StandsFor calls self.old →
             result ≡ key_route calls key pressed }
         ensures history { (calls : List Call) → StandsFor calls self.old →

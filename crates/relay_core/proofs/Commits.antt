@@ -1,30 +1,41 @@
--- A field's commit and a method's requests keep that the relay stands for the history.
-use Rattle.std.proofs.Common.{◌≡◌, ℕ, ◌+◌, ◌%◌, ◌^◌, ◌≤◌, List, [], ◌∷◌, length, map, Bool, true, false, Option, Some, None, ap, refl, sym, subst, ◌∙◌, arith, inl, inr}
-use Rattle.std.specs.Prelude.{◌==◌, ◌&&◌, if◌then◌else◌, is_some, is_none}
-use Rattle.std.proofs.lemmas.Bool.{ne_eqb, eq-eqb, cases_eq}
+-- A field's commit keeps that the relay stands for the history.
+use Rattle.std.proofs.Common.{◌≡◌, ℕ, ◌+◌, ◌%◌, ◌^◌, ◌≤◌, List, ◌∷◌, length, map, Bool, true, false, Option, Some, None, ap, refl, sym, subst, ◌∙◌, arith}
+use Rattle.std.specs.Prelude.{◌==◌, ◌&&◌, ◌||◌, if◌then◌else◌, is_some, is_none}
+use Rattle.std.proofs.lemmas.Bool.{eq-eqb, eqb-true, true≢false}
 use Rattle.relay_model.specs.declared.act.Act.{Act}
 use Rattle.relay_model.specs.declared.act.Act.TheVariants as acts
 use Rattle.relay_model.specs.declared.act.Word.{Word}
 use Rattle.relay_model.specs.declared.act.Word.TheVariants.{Enabled, Disabled}
-use Rattle.relay_model.specs.Objects.{is_at}
+use Rattle.relay_model.specs.Objects.{is_at, is_field}
 use Rattle.relay_model.specs.Focus.{entered, entered_since}
-use Rattle.relay_model.specs.Hold.{word, word_past, holder, is_free_for}
-use Rattle.relay_model.specs.Activation.{Notice, Activates, Updates, Deactivates, serving, notice, begun, begun_of, begun_by, begun_for, dones}
-use Rattle.relay_model.specs.Batch.{commits, commit_count, last_string}
+use Rattle.relay_model.specs.Hold.{word, word_past, holder, is_free_for, begins_hold}
+use Rattle.relay_model.specs.Pending.{pending}
+use Rattle.relay_model.specs.Activation.{Notice, Activates, Updates, Deactivates, serving, notice}
+use Rattle.relay_model.specs.Batch.{commits, commit_count}
 use Rattle.relay_model.proofs.Histories.{IsHistory}
 use Rattle.relay_model.proofs.FocusLaws.{object_same, focus_same, entered_same, entered_since_same, and_false}
-use Rattle.relay_model.proofs.HoldLaws.{word_step, commit_steady, kept_same, holder_committed, held_after, word_entered, and_true}
-use Rattle.relay_model.proofs.ActivationLaws.{serving_same, begun_step, dones_step, dones_by, begun_within}
-use Rattle.relay_model.proofs.BatchLaws.{string_step}
-use Rattle.relay_core.specs.Objects.{committed}
-use Rattle.relay_core.specs.Machine.{State, counted, activated, updated, released, held, field_committed}
-use Rattle.relay_core.specs.Stands.{Stands, StandsServed, string_since}
-use Rattle.relay_core.proofs.Entries.{AllMove}
-use Rattle.relay_core.proofs.Moving.{stays, touch_committed, entries_touched, entries_same}
-use Rattle.relay_core.proofs.Finds.{finds_word}
-use Rattle.relay_core.proofs.Served.{ServedIn, LeavesStrings, served_notified, served_none}
-use Rattle.relay_core.proofs.Releases.{released_acts, released_objects, released_focus, released_holder, served_released}
-use Rattle.relay_core.proofs.Steady.{string_steady, mcommit_steady, all_stay, notice_quiet, ended}
+use Rattle.relay_model.proofs.HoldLaws.{word_step, commit_steady, holder_committed, held_after, word_entered}
+use Rattle.relay_model.proofs.ActivationLaws.{serving_same}
+use Rattle.relay_model.proofs.PendingLaws.{pending_step, pending_out}
+use Rattle.relay_model.proofs.StateLaws.{current_committed}
+use Rattle.field_state.specs.Calls as field
+use Rattle.field_state.specs.Hold.{answer, holds_after}
+use Rattle.field_state.specs.Changes as change
+use Rattle.field_state.specs.declared.commit.Taken.{Taken}
+use Rattle.field_state.specs.declared.commit.Taken.TheVariants.{Begun, Updated, Ended, Nothing}
+use Rattle.kbd_grab.specs.Keyboard as keyboard
+use Rattle.relay_core.specs.KeyCalls.{key_calls}
+use Rattle.relay_core.specs.Objects.{find, field_in, committed}
+use Rattle.relay_core.specs.Machine.{State, counted, taken_in, held, field_committed}
+use Rattle.relay_core.specs.Stands.{Stands, word_kept as kept_word, state_kept, current_where, field_kept}
+use Rattle.relay_core.proofs.Calm.{keys_same, commit_calm}
+use Rattle.relay_core.proofs.Entries.{AllMove, eqb_sym}
+use Rattle.relay_core.proofs.KeptFields.{same_parts, pending_same, current_same}
+use Rattle.relay_core.proofs.Moving.{stays, touch_only, entries_touched}
+use Rattle.relay_core.proofs.Finds.{finds_kept}
+use Rattle.relay_core.proofs.Served.{ServedIn, served_notified}
+use Rattle.relay_core.proofs.Releases.{released_acts, released_objects, released_focus, released_holder, released_screen, released_keys, served_released}
+use Rattle.relay_core.proofs.Steady.{ended}
 use Rattle.relay_core.proofs.Steps.{one_more}
 
 -- a commit with a word leaves the rest
@@ -53,26 +64,97 @@ holder_if : (b : Bool) (x y : State) (o : Option ℕ) → x.holder ≡ o → y.h
 holder_if true x y o p q = p
 holder_if false x y o p q = q
 
-held_acts : (f : ℕ) (w : Option Word) (s : State) → (held f w s).acts ≡ s.acts
-held_acts f None s = acts_of (is_at s.holder f) (updated s) s (acts_of (is_some s.serving) _ s refl)
-held_acts f (Some Enabled) s = acts_of (is_free_for s.holder f) (activated (record s { holder = Some f })) s (acts_of (is_some s.serving) _ (record s { holder = Some f }) refl)
-held_acts f (Some Disabled) s = acts_of (is_at s.holder f) (released s) s (released_acts s)
+held_acts : (f : ℕ) (t : Taken) (s : State) → (held f t s).acts ≡ s.acts
+held_acts f Begun s = acts_of (is_some s.serving) _ (record s { holder = Some f }) refl
+held_acts f Updated s = acts_of (is_some s.serving) _ s refl
+held_acts f Ended s = released_acts s
+held_acts f Nothing s = refl
 
-held_objects : (f : ℕ) (w : Option Word) (s : State) → (held f w s).objects ≡ s.objects
-held_objects f None s = objects_of (is_at s.holder f) (updated s) s (objects_of (is_some s.serving) _ s refl)
-held_objects f (Some Enabled) s = objects_of (is_free_for s.holder f) (activated (record s { holder = Some f })) s (objects_of (is_some s.serving) _ (record s { holder = Some f }) refl)
-held_objects f (Some Disabled) s = objects_of (is_at s.holder f) (released s) s (released_objects s)
+held_objects : (f : ℕ) (t : Taken) (s : State) → (held f t s).objects ≡ s.objects
+held_objects f Begun s = objects_of (is_some s.serving) _ (record s { holder = Some f }) refl
+held_objects f Updated s = objects_of (is_some s.serving) _ s refl
+held_objects f Ended s = released_objects s
+held_objects f Nothing s = refl
 
-held_focus : (f : ℕ) (w : Option Word) (s : State) → (held f w s).focus ≡ s.focus
-held_focus f None s = focus_of (is_at s.holder f) (updated s) s (focus_of (is_some s.serving) _ s refl)
-held_focus f (Some Enabled) s = focus_of (is_free_for s.holder f) (activated (record s { holder = Some f })) s (focus_of (is_some s.serving) _ (record s { holder = Some f }) refl)
-held_focus f (Some Disabled) s = focus_of (is_at s.holder f) (released s) s (released_focus s)
+held_focus : (f : ℕ) (t : Taken) (s : State) → (held f t s).focus ≡ s.focus
+held_focus f Begun s = focus_of (is_some s.serving) _ (record s { holder = Some f }) refl
+held_focus f Updated s = focus_of (is_some s.serving) _ s refl
+held_focus f Ended s = released_focus s
+held_focus f Nothing s = refl
 
-held_holder : (f : ℕ) (w : Option Word) (s : State) → (held f w s).holder ≡ held_after f w s.holder
-held_holder f None s = holder_kept (is_at s.holder f) (updated s) s (holder_kept (is_some s.serving) _ s refl)
-held_holder f (Some Enabled) s =
-    holder_of (is_free_for s.holder f) (activated (record s { holder = Some f })) s (Some f) (holder_if (is_some s.serving) _ (record s { holder = Some f }) (Some f) refl refl)
-held_holder f (Some Disabled) s = holder_of (is_at s.holder f) (released s) s None (released_holder s)
+screen_of : (b : Bool) (x y : State) → x.screen ≡ y.screen → (if b then x else y).screen ≡ y.screen
+screen_of true x y e = e
+screen_of false x y e = refl
+
+held_screen : (f : ℕ) (t : Taken) (s : State) → (held f t s).screen ≡ s.screen
+held_screen f Begun s = screen_of (is_some s.serving) _ (record s { holder = Some f }) refl
+held_screen f Updated s = screen_of (is_some s.serving) _ s refl
+held_screen f Ended s = released_screen s
+held_screen f Nothing s = refl
+
+keys_of : (b : Bool) (x y : State) → x.keys ≡ y.keys → (if b then x else y).keys ≡ y.keys
+keys_of true x y e = e
+keys_of false x y e = refl
+
+held_keys : (f : ℕ) (t : Taken) (s : State) → (held f t s).keys ≡ s.keys
+held_keys f Begun s = keys_of (is_some s.serving) _ (record s { holder = Some f }) refl
+held_keys f Updated s = keys_of (is_some s.serving) _ s refl
+held_keys f Ended s = released_keys s
+held_keys f Nothing s = refl
+
+-- the holder after a commit of f that does this
+abbrev holder_by : ℕ → Taken → Option ℕ → Option ℕ
+holder_by f Begun held = Some f
+holder_by f Updated held = held
+holder_by f Ended held = None
+holder_by f Nothing held = held
+
+held_holder : (f : ℕ) (t : Taken) (s : State) → (held f t s).holder ≡ holder_by f t s.holder
+held_holder f Begun s = holder_if (is_some s.serving) _ (record s { holder = Some f }) (Some f) refl refl
+held_holder f Updated s = holder_kept (is_some s.serving) _ s refl
+held_holder f Ended s = released_holder s
+held_holder f Nothing s = refl
+
+-- what the commit of a field with this word does
+abbrev pub does : ℕ → Option Word → Option ℕ → Taken
+does f w held = answer (is_free_for held f) (kept_word w) (is_at held f)
+
+held_free : (o : Option ℕ) (f : ℕ) → is_at o f ≡ true → is_free_for o f ≡ true
+held_free None f e = cc
+held_free (Some x) f e = e
+
+or_same : (a b : Bool) → (b ≡ true → a ≡ true) → (a || b) ≡ a
+or_same true b h = refl
+or_same false true h = absurd (true≢false (sym (h refl)))
+or_same false false h = refl
+
+holder_does_by : (f : ℕ) (w : Option Word) (held : Option ℕ) (b c : Bool) → is_at held f ≡ b → is_free_for held f ≡ c →
+    holder_by f (does f w held) held ≡ held_after f w held
+holder_does_by f None held true c e k = rw e refl
+holder_does_by f None held false c e k = rw e refl
+holder_does_by f (Some Enabled) held true c e k = rw (held_free held f e) refl
+holder_does_by f (Some Enabled) held false true e k = rw k refl
+holder_does_by f (Some Enabled) held false false e k = rw (k, e) refl
+holder_does_by f (Some Disabled) held true c e k = rw e refl
+holder_does_by f (Some Disabled) held false c e k = rw e refl
+
+holder_does : (f : ℕ) (w : Option Word) (held : Option ℕ) → holder_by f (does f w held) held ≡ held_after f w held
+holder_does f w held = holder_does_by f w held (is_at held f) (is_free_for held f) refl refl
+
+-- whether f holds after its commit
+holds_does_by : (f : ℕ) (w : Option Word) (held : Option ℕ) (b c : Bool) → is_at held f ≡ b → is_free_for held f ≡ c →
+    holds_after (does f w held) ≡ is_at (held_after f w held) f
+holds_does_by f None held true c e k = rw e refl
+holds_does_by f None held false c e k = rw e refl
+holds_does_by f (Some Enabled) held true c e k = rw (held_free held f e, eq-eqb f f refl) refl
+holds_does_by f (Some Enabled) held false true e k = rw (k, eq-eqb f f refl) refl
+holds_does_by f (Some Enabled) held false false e k = rw (k, e) refl
+holds_does_by f (Some Disabled) held true c e k = rw e refl
+holds_does_by f (Some Disabled) held false c e k =
+    ap (λ b. holds_after (if b then Ended else Nothing)) e ∙ sym (ap (λ b. is_at (if b then None else held) f) e ∙ e)
+
+holds_does : (f : ℕ) (w : Option Word) (held : Option ℕ) → holds_after (does f w held) ≡ is_at (held_after f w held) f
+holds_does f w held = holds_does_by f w held (is_at held f) (is_free_for held f) refl refl
 
 -- what is said of the hold at a commit with this word
 abbrev pub notice_by : ℕ → Option Word → Option ℕ → Option Notice
@@ -114,40 +196,42 @@ commit_noticed_by log f (Some Disabled) false c i e k l =
 pub commit_noticed : (log : List Act) (f : ℕ) → IsHistory log → notice (acts.Commit f) log ≡ notice_by f (word log f) (holder log)
 commit_noticed log f i = commit_noticed_by log f (word log f) (is_at (holder log) f) (is_free_for (holder log) f) i refl refl refl
 
-update_by : (b : Bool) (s : State) (act : Act) (log : List Act) → ServedIn s log → serving (act ∷ log) ≡ serving log →
-    notice act log ≡ (if b then Some Updates else None) → LeavesStrings act → ServedIn (if b then updated s else s) (act ∷ log)
-update_by true s act log h l q k = served_notified s act log (Some Updates) h l q k
-update_by false s act log h l q k = served_notified s act log None h l q k
+-- what is said of the hold is what the commit does
+abbrev pub noticed : Taken → Option Notice
+noticed Begun = Some Activates
+noticed Updated = Some Updates
+noticed Ended = Some Deactivates
+noticed Nothing = None
 
-activate_by : (b : Bool) (f : ℕ) (s : State) (act : Act) (log : List Act) → ServedIn s log → serving (act ∷ log) ≡ serving log →
-    notice act log ≡ (if b then Some Activates else None) → LeavesStrings act →
-    ServedIn (if b then activated (record s { holder = Some f }) else s) (act ∷ log)
-activate_by true f s act log h l q k = served_notified (record s { holder = Some f }) act log (Some Activates) h l q k
-activate_by false f s act log h l q k = served_notified s act log None h l q k
+noticed_by : (f : ℕ) (w : Option Word) (held : Option ℕ) (b c : Bool) → is_at held f ≡ b → is_free_for held f ≡ c →
+    notice_by f w held ≡ noticed (does f w held)
+noticed_by f None held true c e k = rw e refl
+noticed_by f None held false c e k = rw e refl
+noticed_by f (Some Enabled) held true c e k = rw (held_free held f e) refl
+noticed_by f (Some Enabled) held false true e k = rw k refl
+noticed_by f (Some Enabled) held false false e k = rw (k, e) refl
+noticed_by f (Some Disabled) held true c e k = rw e refl
+noticed_by f (Some Disabled) held false c e k = rw e refl
 
-ended_at : (o : Option ℕ) (f : ℕ) → is_at o f ≡ true → ended o ≡ Some Deactivates
-ended_at None f e = cc
-ended_at (Some h) f e = refl
+pub commit_said : (log : List Act) (f : ℕ) → IsHistory log → notice (acts.Commit f) log ≡ noticed (does f (word log f) (holder log))
+commit_said log f i = commit_noticed log f i ∙ noticed_by f (word log f) (holder log) (is_at (holder log) f) (is_free_for (holder log) f) refl refl
 
-release_by : (b : Bool) (f : ℕ) (s : State) (act : Act) (log : List Act) → is_at (holder log) f ≡ b → s.holder ≡ holder log → ServedIn s log → serving (act ∷ log) ≡ serving log →
-    notice act log ≡ (if b then Some Deactivates else None) → LeavesStrings act → ServedIn (if b then released s else s) (act ∷ log)
-release_by true f s act log e d h l q k = served_released s act log h d l (q ∙ sym (ended_at (holder log) f e)) k
-release_by false f s act log e d h l q k = served_notified s act log None h l q k
+-- a hold is there to end
+pub ends_held : (f : ℕ) (w : Option Word) (held : Option ℕ) (b c : Bool) → is_at held f ≡ b → is_free_for held f ≡ c → does f w held ≡ Ended → ended held ≡ Some Deactivates
+ends_held f w None b c e k d = absurd (free f w (sym d))
+  where
+    free : (f : ℕ) (w : Option Word) → Ended ≡ does f w None → ⊥
+    free f None d = cc
+    free f (Some Enabled) d = cc
+    free f (Some Disabled) d = cc
+ends_held f w (Some h) b c e k d = refl
 
-held_served : (f : ℕ) (w : Option Word) (s : State) (log : List Act) → s.holder ≡ holder log → ServedIn s log → serving (acts.Commit f ∷ log) ≡ serving log →
-    notice (acts.Commit f) log ≡ notice_by f w (holder log) → ServedIn (held f w s) (acts.Commit f ∷ log)
-held_served f None s log d h l q =
-    let b : is_at s.holder f ≡ is_at (holder log) f = ap (λ o. is_at o f) d in
-    let P : Bool → Type 0 = λ c. ServedIn (if c then updated s else s) (acts.Commit f ∷ log) in
-    subst P (sym b) (update_by (is_at (holder log) f) s (acts.Commit f) log h l q (λ m rest. refl))
-held_served f (Some Enabled) s log d h l q =
-    let b : is_free_for s.holder f ≡ is_free_for (holder log) f = ap (λ o. is_free_for o f) d in
-    let P : Bool → Type 0 = λ c. ServedIn (if c then activated (record s { holder = Some f }) else s) (acts.Commit f ∷ log) in
-    subst P (sym b) (activate_by (is_free_for (holder log) f) f s (acts.Commit f) log h l q (λ m rest. refl))
-held_served f (Some Disabled) s log d h l q =
-    let b : is_at s.holder f ≡ is_at (holder log) f = ap (λ o. is_at o f) d in
-    let P : Bool → Type 0 = λ c. ServedIn (if c then released s else s) (acts.Commit f ∷ log) in
-    subst P (sym b) (release_by (is_at (holder log) f) f s (acts.Commit f) log refl d h l q (λ m rest. refl))
+held_served : (f : ℕ) (t : Taken) (s : State) (log : List Act) → s.holder ≡ holder log → ServedIn s log → serving (acts.Commit f ∷ log) ≡ serving log →
+    notice (acts.Commit f) log ≡ noticed t → (t ≡ Ended → ended (holder log) ≡ Some Deactivates) → ServedIn (held f t s) (acts.Commit f ∷ log)
+held_served f Begun s log d h l q k = served_notified (record s { holder = Some f }) (acts.Commit f) log (Some Activates) h l q (λ m rest. refl)
+held_served f Updated s log d h l q k = served_notified s (acts.Commit f) log (Some Updates) h l q (λ m rest. refl)
+held_served f Ended s log d h l q k = served_released s (acts.Commit f) log h d l (q ∙ sym (k refl)) (λ m rest. refl)
+held_served f Nothing s log d h l q k = served_notified s (acts.Commit f) log None h l q (λ m rest. refl)
 
 -- the entries at a commit
 
@@ -155,13 +239,6 @@ if_if : (b c : Bool) (x : Option Word) → (if b then (if c then None else x) el
 if_if true c x = refl
 if_if false true x = refl
 if_if false false x = refl
-
-eqb_sym : (x y : ℕ) → (x == y) ≡ (y == x)
-eqb_sym x y =
-    elim (cases_eq x y) [
-      | inl e ↦ eq-eqb x y e ∙ sym (eq-eqb y x (sym e))
-      | inr n ↦ ne_eqb x y n ∙ sym (ne_eqb y x (λ e. n (sym e)))
-    ]
 
 commit_word : (log : List Act) (f x : ℕ) → IsHistory log → x ≤ length log → word (acts.Commit f ∷ log) x ≡ (if x == f then None else word log x)
 commit_word log f x i l =
@@ -176,126 +253,105 @@ commit_counts : (log : List Act) (f x : ℕ) → commit_count (acts.Commit f ∷
 commit_counts log f x =
     count_if (f == x) (commits log x) ∙ ap (λ b. if b then (commit_count log x + 1) % 2 ^ 32 else commit_count log x) (eqb_sym f x)
 
-commit_moves : (log : List Act) (f : ℕ) → IsHistory log → AllMove (acts.Commit f) log (committed f) (λ _. true)
+-- whether it holds then
+pub commit_holds : (log : List Act) (f : ℕ) → IsHistory log → is_at (holder (acts.Commit f ∷ log)) f ≡ holds_after (does f (word log f) (holder log))
+commit_holds log f i = ap (λ o. is_at o f) (holder_committed log f i) ∙ sym (holds_does f (word log f) (holder log))
+
+-- the field that commits
+pub commit_kept : (log : List Act) (f : ℕ) → IsHistory log → f ≤ length log →
+    change.committed (is_free_for (holder log) f) (field_kept log f) ≡ field_kept (acts.Commit f ∷ log) f
+commit_kept log f i l =
+    let there : entered (acts.Commit f ∷ log) f ≡ entered log f = entered_same (acts.Commit f) log f i (commit_steady f) l in
+    let after : is_at (holder (acts.Commit f ∷ log)) f ≡ holds_after (does f (word log f) (holder log)) = commit_holds log f i in
+    sym (same_parts there
+    (ap kept_word (commit_word log f f i l ∙ ap (λ b. if b then None else word log f) (eq-eqb f f refl))) after
+    (commit_counts log f f ∙ ap (λ b. if b then (commit_count log f + 1) % 2 ^ 32 else commit_count log f) (eq-eqb f f refl))
+    (commit_pending log f i l (entered log f) refl)
+    (commit_current log f i (holds_after (does f (word log f) (holder log))) after))
+  where
+    commit_pending : (log : List Act) (f : ℕ) → IsHistory log → f ≤ length log → (b : Bool) → entered log f ≡ b →
+        state_kept (pending (acts.Commit f ∷ log) f) ≡ record (state_kept (pending log f)) { cause = 0 }
+    commit_pending log f i l true e =
+        ap state_kept (pending_step (acts.Commit f) log f (entered_same (acts.Commit f) log f i (commit_steady f) l) (entered_since_same (acts.Commit f) log f (commit_steady f)) e) ∙
+        ap (λ b. state_kept (if b then record (pending log f) { cause = 0 } else pending log f)) (eq-eqb f f refl)
+    commit_pending log f i l false e =
+        ap state_kept (pending_out (acts.Commit f ∷ log) f (entered_same (acts.Commit f) log f i (commit_steady f) l ∙ e)) ∙
+        sym (ap (λ p. record (state_kept p) { cause = 0 }) (pending_out log f e))
+
+    commit_current : (log : List Act) (f : ℕ) → IsHistory log → (b : Bool) → is_at (holder (acts.Commit f ∷ log)) f ≡ b →
+        current_where (is_at (holder (acts.Commit f ∷ log)) f) (acts.Commit f ∷ log) f ≡ (if b then state_kept (pending log f) else field.initial)
+    commit_current log f i true e =
+        ap (λ b. current_where b (acts.Commit f ∷ log) f) e ∙ ap state_kept (current_committed log f i e)
+    commit_current log f i false e = ap (λ b. current_where b (acts.Commit f ∷ log) f) e
+
+-- another field
+other_holds : (f x : ℕ) (w : Option Word) (held : Option ℕ) → (x == f) ≡ false → (b c : Bool) → is_at held f ≡ b → is_free_for held f ≡ c →
+    is_at (held_after f w held) x ≡ is_at held x
+other_holds f x None held d b c e k = refl
+other_holds f x (Some Enabled) None d b c e k = eqb_sym f x ∙ d
+other_holds f x (Some Enabled) (Some h) d b true e k =
+    rw k (eqb_sym f x ∙ d ∙ sym (ap (λ v. v == x) (eqb-true h f k) ∙ eqb_sym f x ∙ d))
+other_holds f x (Some Enabled) (Some h) d b false e k = rw k refl
+other_holds f x (Some Disabled) None d b c e k = refl
+other_holds f x (Some Disabled) (Some h) d true c e k = rw e (sym (ap (λ v. v == x) (eqb-true h f e) ∙ eqb_sym f x ∙ d))
+other_holds f x (Some Disabled) (Some h) d false c e k = rw e refl
+
+-- what is current of another field that holds
+other_current : (log : List Act) (f x : ℕ) → IsHistory log → (x == f) ≡ false → (b : Bool) → begins_hold (acts.Commit f) log ≡ b →
+    is_at (holder (acts.Commit f ∷ log)) x ≡ is_at (holder log) x →
+    current_where (is_at (holder (acts.Commit f ∷ log)) x) (acts.Commit f ∷ log) x ≡ current_where (is_at (holder log) x) log x
+other_current log f x i d true e h =
+    let new : holder (acts.Commit f ∷ log) ≡ Some f = rw e refl in
+    let out : is_at (holder (acts.Commit f ∷ log)) x ≡ false = ap (λ o. is_at o x) new ∙ eqb_sym f x ∙ d in
+    ap (λ b. current_where b (acts.Commit f ∷ log) x) out ∙ sym (ap (λ b. current_where b log x) (sym h ∙ out))
+other_current log f x i d false e h = current_same (acts.Commit f) log x h (eqb_sym f x ∙ d) e
+
+other_kept : (log : List Act) (f x : ℕ) → IsHistory log → (x == f) ≡ false → x ≤ length log → field_kept log x ≡ field_kept (acts.Commit f ∷ log) x
+other_kept log f x i d l =
+    let there : entered (acts.Commit f ∷ log) x ≡ entered log x = entered_same (acts.Commit f) log x i (commit_steady f) l in
+    let since : entered_since (acts.Commit f ∷ log) x ≡ entered_since log x = entered_since_same (acts.Commit f) log x (commit_steady f) in
+    let holds : is_at (holder (acts.Commit f ∷ log)) x ≡ is_at (holder log) x =
+    ap (λ o. is_at o x) (holder_committed log f i) ∙ other_holds f x (word log f) (holder log) d (is_at (holder log) f) (is_free_for (holder log) f) refl refl in
+    sym (same_parts there
+    (ap kept_word (commit_word log f x i l ∙ ap (λ b. if b then None else word log x) d)) holds
+    (commit_counts log f x ∙ ap (λ b. if b then (commit_count log x + 1) % 2 ^ 32 else commit_count log x) d)
+    (ap state_kept (pending_same (acts.Commit f) log x there since (λ rest. ap (λ b. if b then record rest { cause = 0 } else rest) (eqb_sym f x ∙ d))))
+    (other_current log f x i d (begins_hold (acts.Commit f) log) refl holds))
+
+commit_moves : (log : List Act) (f : ℕ) → IsHistory log → AllMove (acts.Commit f) log (committed f (is_free_for (holder log) f)) (λ _. true)
 commit_moves log f i =
-    λ x l. stays (committed f) (acts.Commit f) log x (object_same (acts.Commit f) log x (commit_steady f) l)
-    (touch_committed (acts.Commit f) log f x (commit_word log f x i l) (commit_counts log f x))
+    λ x l. stays (committed f (is_free_for (holder log) f)) (acts.Commit f) log x (object_same (acts.Commit f) log x (commit_steady f) l)
+    (touch_only f (change.committed (is_free_for (holder log) f)) (acts.Commit f) log x refl
+    (λ d. let P : ℕ → Type 0 = λ y. change.committed (is_free_for (holder log) f) (field_kept log y) ≡ field_kept (acts.Commit f ∷ log) y in
+    subst P (sym (eqb-true x f d)) (commit_kept log f i (let e = eqb-true x f d in omega arith)))
+    (λ d. other_kept log f x i d l))
 
-commit_of : (s : State) (log : List Act) (f : ℕ) (w : Option Word) → IsHistory log → Stands s log → word log f ≡ w →
-    Stands (held f w (record (counted s) { objects = map (committed f) s.objects })) (acts.Commit f ∷ log)
-commit_of s log f w i h e =
-    let r : State = record (counted s) { objects = map (committed f) s.objects } in
+commit_of : (s : State) (log : List Act) (f : ℕ) → IsHistory log → Stands s log →
+    Stands (held f (does f (word log f) (holder log)) (record (counted s) { objects = map (committed f (is_free_for (holder log) f)) s.objects })) (acts.Commit f ∷ log)
+commit_of s log f i h =
+    let t : Taken = does f (word log f) (holder log) in
+    let r : State = record (counted s) { objects = map (committed f (is_free_for (holder log) f)) s.objects } in
     record {
-      acts_now = held_acts f w r ∙ one_more s (acts.Commit f) log h;
-      objects_now = held_objects f w r ∙ ap (map (committed f)) h.objects_now ∙ sym (entries_touched (acts.Commit f) log (committed f) (commit_moves log f i) refl);
-      focus_now = held_focus f w r ∙ h.focus_now ∙ sym (focus_same (acts.Commit f) log i (commit_steady f));
-      holder_now = held_holder f w r ∙ ap (held_after f w) h.holder_now ∙ ap (λ v. held_after f v (holder log)) (sym e) ∙ sym (holder_committed log f i);
-      served_now = held_served f w r log h.holder_now h.served_now (serving_same (acts.Commit f) log refl (commit_steady f))
-          (commit_noticed log f i ∙ ap (λ v. notice_by f v (holder log)) e);
-      built_now = (refl, h.built_now);
+      acts_now = held_acts f t r ∙ one_more s (acts.Commit f) log h;
+      objects_now = held_objects f t r ∙ ap (map (committed f (is_free_for (holder log) f))) h.objects_now ∙
+          sym (entries_touched (acts.Commit f) log (committed f (is_free_for (holder log) f)) (commit_moves log f i) refl);
+      focus_now = held_focus f t r ∙ h.focus_now ∙ sym (focus_same (acts.Commit f) log i (commit_steady f));
+      holder_now = held_holder f t r ∙ ap (holder_by f t) h.holder_now ∙ holder_does f (word log f) (holder log) ∙ sym (holder_committed log f i);
+      served_now = held_served f t r log h.holder_now h.served_now (serving_same (acts.Commit f) log refl (commit_steady f))
+          (commit_said log f i) (ends_held f (word log f) (holder log) (is_at (holder log) f) (is_free_for (holder log) f) refl refl);
+      screen_now = held_screen f t r ∙ h.screen_now;
+      keys_now = subst (λ k. keyboard.StandsFor (key_calls (acts.Commit f ∷ log)) k) (sym (held_keys f t r))
+          (keys_same (acts.Commit f) log s.keys (commit_calm f) refl (λ x o. refl) h.keys_now);
     }
 
-pub stands_commit : (s : State) (log : List Act) (f : ℕ) → IsHistory log → Stands s log → Stands (field_committed f (counted s)) (acts.Commit f ∷ log)
-stands_commit s log f i h =
-    let P : Option Word → Type 0 = λ w. Stands (held f w (record (counted s) { objects = map (committed f) s.objects })) (acts.Commit f ∷ log) in
-    subst P (sym (finds_word s log f h)) (commit_of s log f (word log f) i h refl)
+-- what the commit does is what the machine says
+pub taken_is : (s : State) (log : List Act) (f : ℕ) → is_field log f ≡ true → Stands s log →
+    taken_in (is_free_for (holder log) f) (field_in (find s.objects f)) ≡ does f (word log f) (holder log)
+taken_is s log f e h = ap (taken_in (is_free_for (holder log) f)) (finds_kept s log f h e)
 
--- a method's requests
-
--- the pending string is what the act makes of it
-texted_by : (s : State) (act : Act) (log : List Act) (text : List ℕ) (o : Option ℕ) → serving log ≡ o → ServedIn s log → serving (act ∷ log) ≡ o →
-    notice act log ≡ None → text ≡ string_since (act ∷ log) o (begun_of log o) → StandsServed s.serving text s.active s.dones s.since (act ∷ log)
-texted_by s act log text None e h l q t =
-    let a : s.serving ≡ None = h.serving_now ∙ e in
-    let c : s.active ≡ false = rw e at h.active_now in
-    let d : s.dones ≡ 0 = rw e at h.dones_now in
-    let f : s.since ≡ 0 = rw e at h.since_now in
-    rw (a, t, c, d, f) (served_none act log l)
-texted_by s act log text (Some m) e h l q t =
-    let begins : begun_for (act ∷ log) m ≡ begun_for log m = begun_step act log m l ∙ ap (λ o. begun_by (length log + 1) o (begun_for log m)) q in
-    let told : dones (act ∷ log) m ≡ dones log m = dones_step act log m l ∙ ap (λ o. dones_by o (length log + 1) (dones log m)) q in
-    record {
-      serving_now = h.serving_now ∙ e ∙ sym l;
-      string_now = rw (l, begins) t;
-      active_now = rw (l, begins) (rw e at h.active_now);
-      dones_now = rw (l, told) (rw e at h.dones_now);
-      since_now = rw (l, begins, told) (rw e at h.since_now);
-    }
-
-served_texted : (s : State) (act : Act) (log : List Act) (text : List ℕ) → ServedIn s log → serving (act ∷ log) ≡ serving log →
-    notice act log ≡ None → text ≡ string_since (act ∷ log) (serving log) (begun log) → StandsServed s.serving text s.active s.dones s.since (act ∷ log)
-served_texted s act log text h l q t = texted_by s act log text (serving log) refl h l q t
-
--- the string that is pending after a string of m
-string_at : (b : Bool) (o : List ℕ) → (if b then o else o) ≡ o
-string_at true o = refl
-string_at false o = refl
-
-mstring_text : (log : List Act) (m : ℕ) (text : List ℕ) (o b : Option ℕ) (old : List ℕ) → ((n : ℕ) → b ≡ Some n → n ≤ length log) →
-    old ≡ string_since log o b → (if is_at o m && is_some b then text else old) ≡ string_since (acts.MString m text ∷ log) o b
-mstring_text log m text None b old w e = e
-mstring_text log m text (Some k) None old w e = rw (and_false (k == m)) e
-mstring_text log m text (Some k) (Some n) old w e =
-    rw (and_true (k == m)) (ap (λ r. if k == m then text else r) e ∙ ap (λ c. if c then text else last_string n log k) (eqb_sym k m) ∙
-    sym (string_step (acts.MString m text) log n k (w n refl)))
-
-mcommit_text : (log : List Act) (m serial : ℕ) (o b : Option ℕ) (old : List ℕ) → ((n : ℕ) → b ≡ Some n → n ≤ length log) →
-    old ≡ string_since log o b → (if is_at o m then [] else old) ≡ string_since (acts.MCommit m serial ∷ log) o b
-mcommit_text log m serial None b old w e = e
-mcommit_text log m serial (Some k) None old w e = ap (λ r. if k == m then [] else r) e ∙ string_at (k == m) []
-mcommit_text log m serial (Some k) (Some n) old w e =
-    ap (λ r. if k == m then [] else r) e ∙ ap (λ c. if c then [] else last_string n log k) (eqb_sym k m) ∙
-    sym (string_step (acts.MCommit m serial) log n k (w n refl))
-
-begun_low : (log : List Act) (o : Option ℕ) (n : ℕ) → begun_of log o ≡ Some n → n ≤ length log
-begun_low log None n e = cc
-begun_low log (Some m) n e = begun_within log m n e
-
--- a choice of a string in a record
-chosen : (b : Bool) (text : List ℕ) (s : State) → (if b then record s { string = text } else s) ≡ record s { string = (if b then text else s.string) }
-chosen true text s = refl
-chosen false text s = refl
-
-mstring_of : (s : State) (log : List Act) (m : ℕ) (text : List ℕ) (new : List ℕ) → IsHistory log → Stands s log →
-    new ≡ string_since (acts.MString m text ∷ log) (serving log) (begun log) → Stands (record (counted s) { string = new }) (acts.MString m text ∷ log)
-mstring_of s log m text new i h t = record {
-  acts_now = one_more s (acts.MString m text) log h;
-  objects_now = h.objects_now ∙ sym (entries_same (acts.MString m text) log (all_stay (acts.MString m text) log i (string_steady m text) (λ f rest. refl) (λ x. refl)) refl);
-  focus_now = h.focus_now ∙ sym (focus_same (acts.MString m text) log i (string_steady m text));
-  holder_now = h.holder_now ∙ sym (kept_same (acts.MString m text) log i (string_steady m text));
-  served_now = served_texted s (acts.MString m text) log new h.served_now (serving_same (acts.MString m text) log refl (string_steady m text))
-      (notice_quiet (acts.MString m text) log refl refl refl (kept_same (acts.MString m text) log i (string_steady m text))) t;
-  built_now = (refl, h.built_now);
-}
-
-pub stands_mstring : (s : State) (log : List Act) (m : ℕ) (text : List ℕ) → IsHistory log → Stands s log →
-    Stands (if is_at s.serving m && s.active then record (counted s) { string = text } else counted s) (acts.MString m text ∷ log)
-stands_mstring s log m text i h =
-    let a : s.serving ≡ serving log = h.served_now.serving_now in
-    let c : s.active ≡ is_some (begun log) = h.served_now.active_now in
-    let d : (is_at s.serving m && s.active) ≡ (is_at (serving log) m && is_some (begun log)) = cc in
-    let new : (if is_at s.serving m && s.active then text else s.string) ≡ string_since (acts.MString m text ∷ log) (serving log) (begun log) =
-    ap (λ b. if b then text else s.string) d ∙ mstring_text log m text (serving log) (begun log) s.string (begun_low log (serving log)) h.served_now.string_now in
-    let P : State → Type 0 = λ r. Stands r (acts.MString m text ∷ log) in
-    subst P (sym (chosen (is_at s.serving m && s.active) text (counted s))) (mstring_of s log m text _ i h new)
-
-mcommit_of : (s : State) (log : List Act) (m serial : ℕ) (new : List ℕ) → IsHistory log → Stands s log →
-    new ≡ string_since (acts.MCommit m serial ∷ log) (serving log) (begun log) → Stands (record (counted s) { string = new }) (acts.MCommit m serial ∷ log)
-mcommit_of s log m serial new i h t = record {
-  acts_now = one_more s (acts.MCommit m serial) log h;
-  objects_now = h.objects_now ∙ sym (entries_same (acts.MCommit m serial) log (all_stay (acts.MCommit m serial) log i (mcommit_steady m serial) (λ f rest. refl) (λ x. refl)) refl);
-  focus_now = h.focus_now ∙ sym (focus_same (acts.MCommit m serial) log i (mcommit_steady m serial));
-  holder_now = h.holder_now ∙ sym (kept_same (acts.MCommit m serial) log i (mcommit_steady m serial));
-  served_now = served_texted s (acts.MCommit m serial) log new h.served_now (serving_same (acts.MCommit m serial) log refl (mcommit_steady m serial))
-      (notice_quiet (acts.MCommit m serial) log refl refl refl (kept_same (acts.MCommit m serial) log i (mcommit_steady m serial))) t;
-  built_now = (refl, h.built_now);
-}
-
-pub stands_mcommit : (s : State) (log : List Act) (m serial : ℕ) → IsHistory log → Stands s log →
-    Stands (if is_at s.serving m then record (counted s) { string = [] } else counted s) (acts.MCommit m serial ∷ log)
-stands_mcommit s log m serial i h =
-    let d : is_at s.serving m ≡ is_at (serving log) m = ap (λ o. is_at o m) h.served_now.serving_now in
-    let new : (if is_at s.serving m then [] else s.string) ≡ string_since (acts.MCommit m serial ∷ log) (serving log) (begun log) =
-    ap (λ b. if b then [] else s.string) d ∙ mcommit_text log m serial (serving log) (begun log) s.string (begun_low log (serving log)) h.served_now.string_now in
-    let P : State → Type 0 = λ r. Stands r (acts.MCommit m serial ∷ log) in
-    subst P (sym (chosen (is_at s.serving m) [] (counted s))) (mcommit_of s log m serial _ i h new)
+pub stands_commit : (s : State) (log : List Act) (f : ℕ) → IsHistory log → is_field log f ≡ true → Stands s log → Stands (field_committed f (counted s)) (acts.Commit f ∷ log)
+stands_commit s log f i e h =
+    let M : Option ℕ → Taken → Type 0 =
+    λ o t. Stands (held f t (record (counted s) { objects = map (committed f (is_free_for o f)) s.objects })) (acts.Commit f ∷ log) in
+    subst (λ o. M o (taken_in (is_free_for o f) (field_in (find s.objects f)))) (sym h.holder_now)
+    (subst (M (holder log)) (sym (taken_is s log f e h)) (commit_of s log f i h))

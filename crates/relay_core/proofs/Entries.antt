@@ -5,7 +5,7 @@ use Rattle.std.proofs.lemmas.Bool.{ne_eqb, eq-eqb, cases_eq, eqb-true, true≢fa
 use Rattle.std.proofs.lemmas.List.{map-append}
 use Rattle.std.proofs.lemmas.List.Elements.{filter-append}
 use Rattle.relay_model.specs.declared.act.Act.{Act}
-use Rattle.relay_model.specs.Objects.{Object, object, alive, labels, remains, made}
+use Rattle.relay_model.specs.Objects.{Object, owner, object, alive, labels, remains, made, maker}
 use Rattle.relay_model.proofs.ObjectLaws.{remains_none}
 use Rattle.relay_model.proofs.ActivationLaws.{Each, each_append, each_map}
 use Rattle.relay_core.specs.declared.object.Object.{Object as Kept}
@@ -49,7 +49,7 @@ moved_one true false true e e' t xs ys touch survives p q d l c k = absurd (true
 moved_one true true false e e' t xs ys touch survives p q d l c k = absurd (true≢false (l refl))
 moved_one true false false e e' t xs ys touch survives p q d l c k = rw (← p) k
 
-map_if : (b : Bool) (f : ℕ → Kept) (x : ℕ) (xs : List ℕ) → map f (if b then x ∷ xs else xs) ≡ (if b then f x ∷ map f xs else map f xs)
+pub map_if : (b : Bool) (f : ℕ → Kept) (x : ℕ) (xs : List ℕ) → map f (if b then x ∷ xs else xs) ≡ (if b then f x ∷ map f xs else map f xs)
 map_if true f x xs = refl
 map_if false f x xs = refl
 
@@ -144,7 +144,7 @@ has_push (z ∷ zs) y x = rw (has_push zs y x) (swap (z == x) (x == y) (has zs x
     swap false b c = refl
 
 listed_by : (act : Act) (older : List Act) (x : ℕ) (c : Bool) → (alive older x ≡ true → has (labels older) x ≡ true) →
-    is_some (if c then made act x else remains act x (object older x)) ≡ true → (if c then true else has (labels older) x) ≡ true
+    is_some (if c then made act x (owner (object older (maker act))) else remains act x (object older x)) ≡ true → (if c then true else has (labels older) x) ≡ true
 listed_by act older x true k h = refl
 listed_by act older x false k h = at act x (object older x) (has (labels older) x) k h
   where

@@ -1,32 +1,34 @@
 -- Acts that move the focus or take objects keep that the relay stands for the history.
-use Rattle.std.proofs.Common.{◌≡◌, ℕ, ◌≤◌, List, ◌∷◌, length, map, Bool, true, false, Option, Some, None, ap, refl, sym, ◌∙◌}
+use Rattle.std.proofs.Common.{◌≡◌, ℕ, ◌≤◌, List, ◌∷◌, length, map, Bool, true, false, Option, Some, None, ap, refl, sym, subst, ◌∙◌, ◌⊎◌, inl, inr}
 use Rattle.std.specs.Prelude.{◌==◌, ◌&&◌, if◌then◌else◌, is_some}
 use Rattle.std.proofs.lemmas.Bool.{eq-eqb, eqb-true}
 use Rattle.relay_model.specs.declared.act.Act.{Act}
 use Rattle.relay_model.specs.declared.act.Act.TheVariants as acts
-use Rattle.relay_model.specs.Objects.{is_at, is_same, is_kind, is_surface_kind, is_field_kind, is_surface, owner, remains, object, alive}
+use Rattle.relay_model.specs.Objects.{is_at, is_same, is_kind, is_surface_kind, is_field_kind, is_surface, owner, remains, object, alive, peer_of}
 use Rattle.relay_model.specs.Focus.{focus, last_focus, peer_at, focused_peer, entered, entered_since}
 use Rattle.relay_model.specs.Hold.{holder, kept}
 use Rattle.relay_model.specs.Activation.{serving}
 use Rattle.relay_model.proofs.Histories.{IsHistory}
 use Rattle.relay_model.proofs.ObjectLaws.{object_step, kind_alive, kind_within}
-use Rattle.relay_model.proofs.FocusLaws.{focus_left, focus_step, focus_alive, focus_within}
-use Rattle.relay_model.proofs.HoldLaws.{word_kept, word_refocused, word_unfocused, holder_entered, holder_within, holder_refocused, kept_unfocused, kept_on, kept_out}
+use Rattle.relay_model.proofs.FocusLaws.{focus_left, focus_step, focus_alive, focus_within, unfocused_entered}
+use Rattle.relay_model.proofs.HoldLaws.{word_refocused, word_unfocused, holder_entered, holder_within, holder_refocused, kept_unfocused, kept_on, kept_out}
 use Rattle.relay_model.proofs.ActivationLaws.{serving_step, serving_alive}
-use Rattle.relay_core.specs.Objects.{not_label, wordless}
-use Rattle.relay_core.specs.Machine.{State, counted, released, refocused, unfocused}
+use Rattle.relay_model.proofs.PendingLaws.{pending_out, pending_refocused}
+use Rattle.kbd_grab.specs.Keyboard as keyboard
+use Rattle.relay_core.specs.KeyCalls.{key_calls}
+use Rattle.relay_core.specs.Objects.{find, owner_in, not_label, refocused}
+use Rattle.relay_core.specs.Machine.{State, counted, released, refocused_to, unfocused}
 use Rattle.relay_core.specs.Stands.{Stands}
+use Rattle.relay_core.proofs.Calm.{IsCalm, keys_same, focus_calm, unfocus_calm, drop_calm}
 use Rattle.relay_core.proofs.Entries.{AllMove, eqb_sym}
-use Rattle.relay_core.proofs.Moving.{stays, drops, touch_none, touch_wordless, entries_touched}
-use Rattle.relay_core.proofs.Releases.{released_acts, released_objects, released_holder, served_released}
-use Rattle.relay_core.proofs.Steady.{notice_ended}
+use Rattle.relay_core.proofs.KeptFields.{IsSilent, field_left, field_refocused}
+use Rattle.relay_core.proofs.Moving.{Touches, stays, drops, touch_none, touch_refocused, entries_touched}
+use Rattle.relay_core.proofs.Finds.{finds_owner}
+use Rattle.relay_core.proofs.Releases.{released_acts, released_objects, released_holder, released_screen, released_keys, served_released}
+use Rattle.relay_core.proofs.Steady.{unfocus_silent, drop_silent, notice_ended}
 use Rattle.relay_core.proofs.Steps.{one_more}
 
 -- the focus moves
-
-refocused_moves : (log : List Act) (t : ℕ) → AllMove (acts.Focus t) log wordless (λ _. true)
-refocused_moves log t =
-    λ x l. stays wordless (acts.Focus t) log x (object_step (acts.Focus t) log x l) (touch_wordless (acts.Focus t) log x (word_refocused t log x) refl)
 
 pub focus_focused : (log : List Act) (t : ℕ) → is_surface log t ≡ true → focus (acts.Focus t ∷ log) ≡ Some t
 focus_focused log t e =
@@ -34,37 +36,68 @@ focus_focused log t e =
     ap is_some (object_step (acts.Focus t) log t (kind_within is_surface_kind log t e)) ∙ kind_alive is_surface_kind log t e in
     rw there refl
 
+pub focus_peer : (log : List Act) (t : ℕ) → is_surface log t ≡ true → focused_peer (acts.Focus t ∷ log) ≡ peer_of log t
+focus_peer log t e =
+    ap (peer_at (acts.Focus t ∷ log)) (focus_focused log t e) ∙
+    ap owner (object_step (acts.Focus t) log t (kind_within is_surface_kind log t e))
+
+refocused_moves : (log : List Act) (t : ℕ) → IsHistory log → is_surface log t ≡ true → AllMove (acts.Focus t) log (refocused (peer_of log t)) (λ _. true)
+refocused_moves log t i e =
+    λ x l. stays (refocused (peer_of log t)) (acts.Focus t) log x (object_step (acts.Focus t) log x l)
+    (touch_refocused (peer_of log t) (acts.Focus t) log x refl
+    (λ p o. field_refocused (acts.Focus t) log x (is_at (peer_of log t) p)
+    (ap (λ v. is_kind is_field_kind v && is_same (owner v) (focused_peer (acts.Focus t ∷ log))) (object_step (acts.Focus t) log x l ∙ o) ∙
+    ap (λ q. is_at q p) (focus_peer log t e))
+    (word_refocused t log x) (holder_refocused t log i) refl (pending_refocused t log x l)))
+
 pub stands_focus : (s : State) (log : List Act) (t : ℕ) → IsHistory log → is_surface log t ≡ true → Stands s log →
-    Stands (refocused (Some t) (released (counted s))) (acts.Focus t ∷ log)
+    Stands (refocused_to (Some t) (released (counted s))) (acts.Focus t ∷ log)
 stands_focus s log t i e h = record {
   acts_now = released_acts (counted s) ∙ one_more s (acts.Focus t) log h;
-  objects_now = ap (map wordless) (released_objects (counted s) ∙ h.objects_now) ∙ sym (entries_touched (acts.Focus t) log wordless (refocused_moves log t) refl);
+  objects_now =
+      ap (λ os. map (refocused (owner_in (find os t))) os) (released_objects (counted s)) ∙
+      ap (λ o. map (refocused o) s.objects) (finds_owner s log t h) ∙ ap (map (refocused (peer_of log t))) h.objects_now ∙
+      sym (entries_touched (acts.Focus t) log (refocused (peer_of log t)) (refocused_moves log t i e) refl);
   focus_now = sym (focus_focused log t e);
   holder_now = released_holder (counted s) ∙ sym (holder_refocused t log i);
   served_now = served_released (counted s) (acts.Focus t) log h.served_now h.holder_now
       (serving_step (acts.Focus t) log refl ∙ left log t (serving log) refl)
       (notice_ended (acts.Focus t) log refl refl refl (holder_refocused t log i)) (λ m rest. refl);
-  built_now = (refl, h.built_now);
+  screen_now = released_screen (counted s) ∙ h.screen_now;
+  keys_now = subst (λ k. keyboard.StandsFor (key_calls (acts.Focus t ∷ log)) k) (sym (released_keys (counted s)))
+      (keys_same (acts.Focus t) log s.keys (focus_calm t) refl (λ x o. refl) h.keys_now);
 }
   where
     left : (log : List Act) (t : ℕ) (o : Option ℕ) → serving log ≡ o → focus_left (acts.Focus t) log o ≡ o
     left log t None e = refl
     left log t (Some m) e = let there : is_some (object log m) ≡ true = serving_alive log m e in rw there refl
 
-unfocused_moves : (log : List Act) → AllMove acts.Unfocus log wordless (λ _. true)
+-- an act after which no surface has the focus: what it does to the fields that it leaves
+pub touch_unfocused : (act : Act) (log : List Act) (x : ℕ) → IsSilent act → IsCalm act → focus (act ∷ log) ≡ None → holder (act ∷ log) ≡ None →
+    Touches (refocused None) act log x
+touch_unfocused act log x k c f h =
+    touch_refocused None act log x (c.areas log x)
+    (λ p o. field_refocused act log x false (unfocused_entered (act ∷ log) x f) (word_unfocused (act ∷ log) x f) h (k.counts log x)
+    (pending_out (act ∷ log) x (unfocused_entered (act ∷ log) x f)))
+
+unfocused_moves : (log : List Act) → AllMove acts.Unfocus log (refocused None) (λ _. true)
 unfocused_moves log =
-    λ x l. stays wordless acts.Unfocus log x (object_step acts.Unfocus log x l) (touch_wordless acts.Unfocus log x (word_unfocused (acts.Unfocus ∷ log) x refl) refl)
+    λ x l. stays (refocused None) acts.Unfocus log x (object_step acts.Unfocus log x l)
+    (touch_unfocused acts.Unfocus log x unfocus_silent unfocus_calm refl (kept_unfocused acts.Unfocus log refl))
 
 pub stands_unfocus : (s : State) (log : List Act) → IsHistory log → Stands s log → Stands (unfocused (counted s)) (acts.Unfocus ∷ log)
 stands_unfocus s log i h = record {
   acts_now = released_acts (counted s) ∙ one_more s acts.Unfocus log h;
-  objects_now = ap (map wordless) (released_objects (counted s) ∙ h.objects_now) ∙ sym (entries_touched acts.Unfocus log wordless (unfocused_moves log) refl);
+  objects_now = ap (map (refocused None)) (released_objects (counted s) ∙ h.objects_now) ∙
+      sym (entries_touched acts.Unfocus log (refocused None) (unfocused_moves log) refl);
   focus_now = refl;
   holder_now = released_holder (counted s) ∙ sym (kept_unfocused acts.Unfocus log refl);
   served_now = served_released (counted s) acts.Unfocus log h.served_now h.holder_now
       (serving_step acts.Unfocus log refl ∙ left log (serving log) refl)
       (notice_ended acts.Unfocus log refl refl refl (kept_unfocused acts.Unfocus log refl)) (λ m rest. refl);
-  built_now = (refl, h.built_now);
+  screen_now = released_screen (counted s) ∙ h.screen_now;
+  keys_now = subst (λ k. keyboard.StandsFor (key_calls (acts.Unfocus ∷ log)) k) (sym (released_keys (counted s)))
+      (keys_same acts.Unfocus log s.keys unfocus_calm refl (λ x o. refl) h.keys_now);
 }
   where
     left : (log : List Act) (o : Option ℕ) → serving log ≡ o → focus_left acts.Unfocus log o ≡ o
@@ -186,14 +219,49 @@ pub drop_serving : (log : List Act) (x : ℕ) (b : Bool) → is_at (serving log)
 drop_serving log x true e = serving_taken (acts.Drop x) log x (serving_step (acts.Drop x) log refl) (same_at (serving log) x e) (drop_takes log x)
 drop_serving log x false e = serving_stays (acts.Drop x) log (serving_step (acts.Drop x) log refl) (other_left log x (serving log) e)
 
+-- whether x holds stays where the act leaves the holder, or x is another
+holds_stays : (act : Act) (log : List Act) (x : ℕ) (o : Option ℕ) → IsHistory log → IsTaking act → ((y : ℕ) → focus log ≡ Some y → Leaves act log y) →
+    ((y : ℕ) → holder log ≡ Some y → (y == x) ≡ false ⊎ Leaves act log y) → holder log ≡ o → is_at (holder (act ∷ log)) x ≡ is_at (holder log) x
+holds_stays act log x None i k f g e =
+    let none : holder (act ∷ log) ≡ None = k.holds log ∙ ap (kept act log) e in
+    ap (λ v. is_at v x) (none ∙ sym e)
+holds_stays act log x (Some h) i k f g e =
+    elim (g h e) [
+      | inl d ↦
+          ap (λ v. is_at v x) (k.holds log ∙ ap (kept act log) e) ∙ other_at act log h x d ∙ sym (ap (λ v. is_at v x) e ∙ d)
+      | inr v ↦ ap (λ o. is_at o x) (holder_stays act log i k f (λ y d. subst (Leaves act log) (some_same h y (sym e ∙ d)) v))
+    ]
+  where
+    other_at : (act : Act) (log : List Act) (h x : ℕ) → (h == x) ≡ false → is_at (kept act log (Some h)) x ≡ false
+    other_at act log h x d = other_if (entered (act ∷ log) h && (entered_since (act ∷ log) h == entered_since log h)) h x d
+      where
+        other_if : (b : Bool) (h x : ℕ) → (h == x) ≡ false → is_at (if b then Some h else None) x ≡ false
+        other_if true h x d = d
+        other_if false h x d = refl
+
+    some_same : (h y : ℕ) → Some h ≡ Some y → h ≡ y
+    some_same h y e = cc
+
+-- a field that the act leaves, where the focus stays
+pub touch_taking : (act : Act) (log : List Act) (x : ℕ) → IsHistory log → IsTaking act → IsSilent act → IsCalm act → ((y : ℕ) → focus log ≡ Some y → Leaves act log y) →
+    ((y : ℕ) → holder log ≡ Some y → (y == x) ≡ false ⊎ Leaves act log y) → x ≤ length log → Leaves act log x → Touches (λ e. e) act log x
+touch_taking act log x i k q c f g l v =
+    touch_none act log x (c.areas log x)
+    (field_left act log x q l (entered_stays act log x i k f l v) (k.since log x) (holds_stays act log x (holder log) i k f g refl))
+
 -- what the act takes goes from the entries, and where the focus goes, all words
 
 pub drop_moves : (log : List Act) (x : ℕ) → IsHistory log → is_at (focus log) x ≡ false → AllMove (acts.Drop x) log (λ e. e) (not_label x)
 drop_moves log x i e =
     λ y l. drops (λ e. e) log y x l
-    (λ d. touch_none (acts.Drop x) log y
-    (word_kept (acts.Drop x) log y l (entered_stays (acts.Drop x) log y i (drop_taking x) (other_left log x (focus log) e) l (drop_leaves log x y d)) refl (λ f rest. refl)) refl)
+    (λ d. touch_taking (acts.Drop x) log y i (drop_taking x) (drop_silent x) (drop_calm x) (other_left log x (focus log) e)
+    (λ h k. drop_either log x y h (h == x) refl d) l (drop_leaves log x y d))
+  where
+    drop_either : (log : List Act) (x y h : ℕ) (b : Bool) → (h == x) ≡ b → (x == y) ≡ false → (h == y) ≡ false ⊎ Leaves (acts.Drop x) log h
+    drop_either log x y h true e d = inl (ap (λ v. v == y) (eqb-true h x e) ∙ d)
+    drop_either log x y h false e d = inr (drop_leaves log x h (eqb_sym x h ∙ e))
 
-pub drop_moves_words : (log : List Act) (x : ℕ) → focus (acts.Drop x ∷ log) ≡ None → AllMove (acts.Drop x) log wordless (not_label x)
+pub drop_moves_words : (log : List Act) (x : ℕ) → focus (acts.Drop x ∷ log) ≡ None → AllMove (acts.Drop x) log (refocused None) (not_label x)
 drop_moves_words log x e =
-    λ y l. drops wordless log y x l (λ d. touch_wordless (acts.Drop x) log y (word_unfocused (acts.Drop x ∷ log) y e) refl)
+    λ y l. drops (refocused None) log y x l
+    (λ d. touch_unfocused (acts.Drop x) log y (drop_silent x) (drop_calm x) e (kept_unfocused (acts.Drop x) log e))

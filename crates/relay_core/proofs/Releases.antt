@@ -1,12 +1,14 @@
 -- Where a hold ends: what the relay keeps of the serving method, and of the rest.
-use Rattle.std.proofs.Common.{◌≡◌, ℕ, List, [], ◌∷◌, Bool, true, false, Option, Some, None, ap, refl, sym, ◌∙◌}
+use Rattle.std.proofs.Common.{◌≡◌, ℕ, List, ◌∷◌, Bool, true, false, Option, Some, None, ap, refl, sym, ◌∙◌}
 use Rattle.std.specs.Prelude.{if◌then◌else◌, is_some}
+use Rattle.popup_place.specs.declared.geometry.Size.{Size}
 use Rattle.relay_model.specs.declared.act.Act.{Act}
 use Rattle.relay_model.specs.Hold.{holder}
 use Rattle.relay_model.specs.Activation.{Deactivates, serving, notice}
+use Rattle.kbd_grab.specs.Keyboard.{Keyboard}
 use Rattle.relay_core.specs.declared.object.Object.{Object as Kept}
-use Rattle.relay_core.specs.Machine.{State, deactivated, released, parted}
-use Rattle.relay_core.proofs.Served.{ServedIn, LeavesStrings, served_notified, served_none}
+use Rattle.relay_core.specs.Machine.{State, no_edits, deactivated, released, parted}
+use Rattle.relay_core.proofs.Served.{ServedIn, LeavesEdits, served_notified, served_none}
 use Rattle.relay_core.proofs.Steady.{ended}
 
 acts_if : (b : Bool) (x y : State) (n : ℕ) → x.acts ≡ n → y.acts ≡ n → (if b then x else y).acts ≡ n
@@ -34,6 +36,20 @@ released_objects s = objects_if (is_some s.holder) (deactivated (record s { hold
 pub released_focus : (s : State) → (released s).focus ≡ s.focus
 released_focus s = focus_if (is_some s.holder) (deactivated (record s { holder = None })) s s.focus (focus_if (is_some s.serving) _ _ s.focus refl refl) refl
 
+screen_if : (b : Bool) (x y : State) (z : Size) → x.screen ≡ z → y.screen ≡ z → (if b then x else y).screen ≡ z
+screen_if true x y z p q = p
+screen_if false x y z p q = q
+
+keys_if : (b : Bool) (x y : State) (k : Keyboard) → x.keys ≡ k → y.keys ≡ k → (if b then x else y).keys ≡ k
+keys_if true x y k p q = p
+keys_if false x y k p q = q
+
+pub released_screen : (s : State) → (released s).screen ≡ s.screen
+released_screen s = screen_if (is_some s.holder) (deactivated (record s { holder = None })) s s.screen (screen_if (is_some s.serving) _ _ s.screen refl refl) refl
+
+pub released_keys : (s : State) → (released s).keys ≡ s.keys
+released_keys s = keys_if (is_some s.holder) (deactivated (record s { holder = None })) s s.keys (keys_if (is_some s.serving) _ _ s.keys refl refl) refl
+
 released_holder_by : (s : State) (o : Option ℕ) → s.holder ≡ o → (if is_some o then deactivated (record s { holder = None }) else s).holder ≡ None
 released_holder_by s None e = e
 released_holder_by s (Some h) e = holder_if (is_some s.serving) _ _ None refl refl
@@ -42,23 +58,23 @@ pub released_holder : (s : State) → (released s).holder ≡ None
 released_holder s = released_holder_by s s.holder refl
 
 served_released_by : (s : State) (act : Act) (log : List Act) (o : Option ℕ) → s.holder ≡ o → ServedIn s log → serving (act ∷ log) ≡ serving log →
-    notice act log ≡ ended o → LeavesStrings act → ServedIn (if is_some o then deactivated (record s { holder = None }) else s) (act ∷ log)
+    notice act log ≡ ended o → LeavesEdits act → ServedIn (if is_some o then deactivated (record s { holder = None }) else s) (act ∷ log)
 served_released_by s act log None e h l q k = served_notified s act log None h l q k
 served_released_by s act log (Some x) e h l q k = served_notified (record s { holder = None }) act log (Some Deactivates) h l q k
 
 -- the hold ends, and the same method serves
 pub served_released : (s : State) (act : Act) (log : List Act) → ServedIn s log → s.holder ≡ holder log → serving (act ∷ log) ≡ serving log →
-    notice act log ≡ ended (holder log) → LeavesStrings act → ServedIn (released s) (act ∷ log)
+    notice act log ≡ ended (holder log) → LeavesEdits act → ServedIn (released s) (act ∷ log)
 served_released s act log h e l q k = served_released_by s act log s.holder refl h l (q ∙ ap ended (sym e)) k
 
 -- nobody serves
 abbrev pub IsUnserved : State → Type 0
-IsUnserved s = (s.serving ≡ None) × (s.string ≡ []) × (s.active ≡ false) × (s.dones ≡ 0) × (s.since ≡ 0)
+IsUnserved s = (s.serving ≡ None) × (s.edits ≡ no_edits) × (s.active ≡ false) × (s.dones ≡ 0) × (s.since ≡ 0)
 
 pub served_unserved : (s : State) (act : Act) (log : List Act) → IsUnserved s → serving (act ∷ log) ≡ None → ServedIn s (act ∷ log)
 served_unserved s act log u l =
     let a : s.serving ≡ None = u.0 in
-    let b : s.string ≡ [] = u.1 in
+    let b : s.edits ≡ no_edits = u.1 in
     let c : s.active ≡ false = u.2 in
     let d : s.dones ≡ 0 = u.3 in
     let e : s.since ≡ 0 = u.4 in

@@ -1,33 +1,42 @@
 -- Each act tells what the definitions tell.
-use Rattle.std.proofs.Common.{◌≡◌, ℕ, ◌+◌, List, [], ◌∷◌, ◌++◌, length, map, Bool, true, false, Option, Some, None, ap, refl, sym, ◌∙◌}
-use Rattle.std.specs.Prelude.{◌&&◌, if◌then◌else◌, is_some}
+use Rattle.std.proofs.Common.{◌≡◌, ℕ, ◌+◌, ◌≤◌, List, [], ◌∷◌, ◌++◌, length, map, Bool, true, false, Option, Some, None, ap, refl, sym, ◌∙◌}
+use Rattle.std.specs.Prelude.{if◌then◌else◌, is_some}
 use Rattle.std.proofs.lemmas.Bool.{eqb-true}
 use Rattle.std.proofs.lemmas.List.{append-nil}
 use Rattle.relay_model.specs.declared.act.Act.{Act}
 use Rattle.relay_model.specs.declared.act.Act.TheVariants as acts
 use Rattle.relay_model.specs.declared.act.EndCause.{EndCause}
-use Rattle.relay_model.specs.declared.act.Word.{Word}
-use Rattle.relay_model.specs.declared.act.Word.TheVariants.{Enabled, Disabled}
 use Rattle.relay_model.specs.declared.said.Told.{Told}
 use Rattle.relay_model.specs.declared.said.Said.TheVariants as said
-use Rattle.relay_model.specs.Objects.{is_at, is_same, is_kind, is_field_kind, FieldKind, owner, object}
+use Rattle.relay_model.specs.Objects.{is_at, is_field_kind, is_field}
 use Rattle.relay_model.specs.Focus.{focus, peer_at, focused_peer, entered}
 use Rattle.relay_model.specs.Hold.{word, holder, is_free_for}
-use Rattle.relay_model.specs.Current.{current}
+use Rattle.relay_model.specs.Current.{State as FieldState, Around, current}
 use Rattle.relay_model.specs.Activation.{Activates, Updates, Deactivates, serving, notice}
-use Rattle.relay_model.specs.Told.{to, enter, notice_said, holders_state, state_said, to_method, enters, enters_new, deleted, told_by}
+use Rattle.relay_model.specs.Told.{to, enter, leaves, notice_said, holders_state, state_said, to_method, enters, enters_new, deleted, own, told_by}
 use Rattle.relay_model.proofs.Histories.{IsHistory}
-use Rattle.relay_model.proofs.ObjectLaws.{object_new}
-use Rattle.relay_model.proofs.FocusLaws.{focus_same, focused_peer_same}
-use Rattle.relay_model.proofs.HoldLaws.{kept_same, commit_steady, holder_committed, held_after}
+use Rattle.relay_model.proofs.ObjectLaws.{kind_within}
+use Rattle.relay_model.proofs.FocusLaws.{focus_same}
+use Rattle.relay_model.proofs.HoldLaws.{kept_same, commit_steady}
 use Rattle.relay_model.proofs.ActivationLaws.{serving_same}
-use Rattle.relay_core.specs.Objects.{find, owner_in, word_in}
-use Rattle.relay_core.specs.Machine.{State, counted, owner_at, focused_in, enter_told, method_told, activate_told, update_told, deactivate_told, release_told, part_told, serving_unless, drop_told, gone_told, commit_told}
-use Rattle.relay_core.specs.Stands.{Stands, AllBuilt}
-use Rattle.relay_core.proofs.Finds.{finds_owner, finds_word, owner_at_is, focused_is}
-use Rattle.relay_core.proofs.BuiltLaws.{current_initial}
-use Rattle.relay_core.proofs.Steady.{peer_steady, surface_steady, field_steady, method_steady, enable_steady, disable_steady, string_steady, idle_steady, notice_quiet, ended}
-use Rattle.relay_core.proofs.Commits.{commit_noticed, notice_by}
+use Rattle.relay_model.proofs.StateLaws.{current_kept}
+use Rattle.edit_batch.specs.Calls.{LastEdits}
+use Rattle.field_state.specs.Calls as field
+use Rattle.field_state.specs.Hold.{holds_after}
+use Rattle.field_state.specs.Stands.{Kept as KeptField}
+use Rattle.field_state.specs.Changes as change
+use Rattle.field_state.specs.declared.commit.Taken.{Taken}
+use Rattle.field_state.specs.declared.commit.Taken.TheVariants.{Begun, Updated, Ended, Nothing}
+use Rattle.relay_core.specs.Objects.{find, owner_in, field_in, committed}
+use Rattle.relay_core.specs.Machine.{State, counted, committing, taken_in, owner_at, focused_in, enter_told, method_told, current_of, state_of, holder_state, state_told, activate_told, update_told, deactivate_told, release_told, part_told, serving_unless, drop_told, gone_told, commit_told}
+use Rattle.relay_core.specs.Stands.{Stands, state_kept, current_where, field_kept}
+use Rattle.relay_core.proofs.Finds.{finds_owner, finds_kept, owner_at_is, focused_is, holder_state_is}
+use Rattle.relay_core.proofs.Found.{under, found_committed}
+use Rattle.relay_core.proofs.KeptFields.{IsRequest}
+use Rattle.relay_core.proofs.Steady.{peer_steady, surface_steady, field_steady, method_steady, idle_steady, notice_quiet, ended}
+use Rattle.relay_core.proofs.Steps.{IsPlain, field_entered}
+use Rattle.relay_core.proofs.Commits.{does, noticed, commit_said, commit_holds, commit_kept, taken_is, ends_held}
+use Rattle.relay_core.proofs.Edits.{IsEdit}
 use Rattle.relay_core.proofs.Parts.{drop_serving}
 use Rattle.relay_core.proofs.Ends.{drop_said, gone_said, gone_serving}
 
@@ -46,25 +55,29 @@ method_ended act log h None q = sym (release_none h)
 method_ended act log None (Some m) q = ap (λ n. map (to m) (notice_said (act ∷ log) n)) q
 method_ended act log (Some h) (Some m) q = ap (λ n. map (to m) (notice_said (act ∷ log) n)) q
 
--- the state that is told is that of a field that set nothing
-plain_state : (log : List Act) (h : ℕ) → AllBuilt log → state_said (current log h) ≡ said.ContentType 0 0 ∷ said.MethodDone ∷ []
-plain_state log h b = ap state_said (current_initial log h b)
+-- the state of a field, as it is told
+state_said_to : (m : ℕ) (c : FieldState) → state_told m (state_kept c) ≡ map (to m) (state_said c)
+state_said_to m c = at m c c.surrounding refl
+  where
+    at : (m : ℕ) (c : FieldState) (a : Option Around) → c.surrounding ≡ a → state_told m (state_kept c) ≡ map (to m) (state_said c)
+    at m c None e = rw e refl
+    at m c (Some around) e = rw e refl
 
-method_activated : (act : Act) (log : List Act) (h : ℕ) (o : Option ℕ) → AllBuilt (act ∷ log) → holder (act ∷ log) ≡ Some h → notice act log ≡ Some Activates →
-    to_method act log o ≡ activate_told o
-method_activated act log h None b e q = refl
-method_activated act log h (Some m) b e q =
+method_activated : (act : Act) (log : List Act) (h : ℕ) (o : Option ℕ) (c : field.State) → c ≡ state_kept (current (act ∷ log) h) → holder (act ∷ log) ≡ Some h →
+    notice act log ≡ Some Activates → to_method act log o ≡ activate_told c o
+method_activated act log h None c b e q = refl
+method_activated act log h (Some m) c b e q =
     ap (λ n. map (to m) (notice_said (act ∷ log) n)) q ∙
     ap (λ k. map (to m) (said.Activate ∷ holders_state (act ∷ log) k)) e ∙
-    ap (λ says. map (to m) (said.Activate ∷ says)) (plain_state (act ∷ log) h b)
+    ap (λ says. to m said.Activate ∷ says) (sym (ap (state_told m) b ∙ state_said_to m (current (act ∷ log) h)))
 
-method_updated : (act : Act) (log : List Act) (h : ℕ) (o : Option ℕ) → AllBuilt (act ∷ log) → holder (act ∷ log) ≡ Some h → notice act log ≡ Some Updates →
-    to_method act log o ≡ update_told o
-method_updated act log h None b e q = refl
-method_updated act log h (Some m) b e q =
+method_updated : (act : Act) (log : List Act) (h : ℕ) (o : Option ℕ) (c : field.State) → c ≡ state_kept (current (act ∷ log) h) → holder (act ∷ log) ≡ Some h →
+    notice act log ≡ Some Updates → to_method act log o ≡ update_told c o
+method_updated act log h None c b e q = refl
+method_updated act log h (Some m) c b e q =
     ap (λ n. map (to m) (notice_said (act ∷ log) n)) q ∙
     ap (λ k. map (to m) (holders_state (act ∷ log) k)) e ∙
-    ap (λ says. map (to m) says) (plain_state (act ∷ log) h b)
+    sym (ap (state_told m) b ∙ state_said_to m (current (act ∷ log) h))
 
 method_deactivated : (act : Act) (log : List Act) (o : Option ℕ) → notice act log ≡ Some Deactivates → to_method act log o ≡ deactivate_told o
 method_deactivated act log None q = refl
@@ -81,20 +94,38 @@ says_surface log p i =
     sym (ap (λ ts. ts ++ []) (method_quiet (acts.Surface p) log (serving (acts.Surface p ∷ log))
     (notice_quiet (acts.Surface p) log refl refl refl (kept_same (acts.Surface p) log i (surface_steady p)))))
 
-pub says_enable : (log : List Act) (f : ℕ) → IsHistory log → [] ≡ told_by (acts.Enable f) log
-says_enable log f i =
-    sym (ap (λ ts. ts ++ []) (method_quiet (acts.Enable f) log (serving (acts.Enable f ∷ log))
-    (notice_quiet (acts.Enable f) log refl refl refl (kept_same (acts.Enable f) log i (enable_steady f)))))
+-- an act that tells nothing of its own
+pub record IsQuiet (act : Act) (log : List Act) : Type 0 where
+  pub silent : notice act log ≡ None
+  pub leaving : leaves act log ≡ []
+  pub entering : enters act log ≡ []
+  pub own_none : own act log ≡ []
 
-pub says_disable : (log : List Act) (f : ℕ) → IsHistory log → [] ≡ told_by (acts.Disable f) log
-says_disable log f i =
-    sym (ap (λ ts. ts ++ []) (method_quiet (acts.Disable f) log (serving (acts.Disable f ∷ log))
-    (notice_quiet (acts.Disable f) log refl refl refl (kept_same (acts.Disable f) log i (disable_steady f)))))
+pub says_nothing : (act : Act) (log : List Act) → IsQuiet act log → [] ≡ told_by act log
+says_nothing act log q =
+    let a : to_method act log (serving (act ∷ log)) ≡ [] = method_quiet act log (serving (act ∷ log)) q.silent in
+    sym (ap (λ ts. ts ++ (to_method act log (serving (act ∷ log)) ++ (enters act log ++ own act log))) q.leaving ∙
+    ap (λ ts. ts ++ (enters act log ++ own act log)) a ∙ ap (λ ts. ts ++ own act log) q.entering ∙ q.own_none)
 
-pub says_string : (log : List Act) (m : ℕ) (text : List ℕ) → IsHistory log → [] ≡ told_by (acts.MString m text) log
-says_string log m text i =
-    sym (ap (λ ts. ts ++ []) (method_quiet (acts.MString m text) log (serving (acts.MString m text ∷ log))
-    (notice_quiet (acts.MString m text) log refl refl refl (kept_same (acts.MString m text) log i (string_steady m text)))))
+pub says_request : (act : Act) (log : List Act) (f : ℕ) → IsHistory log → IsRequest act f → IsPlain act log → leaves act log ≡ [] → enters act log ≡ [] →
+    own act log ≡ [] → [] ≡ told_by act log
+says_request act log f i k q a b c =
+    says_nothing act log (record {
+      silent = notice_quiet act log (k.begins log) q.serving_new q.updating (k.holds log ∙ kept_same act log i k.steady);
+      leaving = a;
+      entering = b;
+      own_none = c;
+    })
+
+pub says_edit : (act : Act) (log : List Act) (m : ℕ) (makes : LastEdits → LastEdits) → IsHistory log → IsEdit act m makes → leaves act log ≡ [] → enters act log ≡ [] →
+    own act log ≡ [] → [] ≡ told_by act log
+says_edit act log m makes i k a b c =
+    says_nothing act log (record {
+      silent = notice_quiet act log (k.silent.begins log) (k.serving_new log) (k.updating log) (k.holds log ∙ kept_same act log i k.steady);
+      leaving = a;
+      entering = b;
+      own_none = c;
+    })
 
 pub says_idle : (log : List Act) → IsHistory log → [] ≡ told_by acts.Idle log
 says_idle log i =
@@ -106,13 +137,6 @@ field_by : (s : State) (log : List Act) (p n : ℕ) (o : Option ℕ) (b : Bool) 
     enter_told s p n o ≡ enters_new (acts.Field p ∷ log) n o
 field_by s log p n None b e k = refl
 field_by s log p n (Some t) b e k = ap (λ c. if c then enter t n ∷ [] else []) (e ∙ sym k)
-
-field_entered : (log : List Act) (p : ℕ) → IsHistory log → entered (acts.Field p ∷ log) (length log + 1) ≡ is_at (focused_peer log) p
-field_entered log p i =
-    let there : object (acts.Field p ∷ log) (length log + 1) ≡ Some (record { kind = FieldKind; peer = p }) = object_new (acts.Field p) log in
-    let peer : focused_peer (acts.Field p ∷ log) ≡ focused_peer log = focused_peer_same (acts.Field p) log i (field_steady p) in
-    ap (λ o. is_kind is_field_kind o && is_same (owner o) (focused_peer (acts.Field p ∷ log))) there ∙
-    ap (λ q. is_at q p) peer
 
 pub says_field : (s : State) (log : List Act) (p : ℕ) → IsHistory log → Stands s log →
     enter_told (counted s) p (s.acts + 1) s.focus ≡ told_by (acts.Field p) log
@@ -128,29 +152,32 @@ says_field s log p i h =
 
 -- a method
 
-abbrev method_told_by : Option ℕ → Option ℕ → ℕ → List Told
-method_told_by serves held n = (if is_some serves then to n said.Unavailable ∷ [] else (if is_some held then activate_told (Some n) else []))
+abbrev method_told_by : field.State → Option ℕ → Option ℕ → ℕ → List Told
+method_told_by c serves held n = (if is_some serves then to n said.Unavailable ∷ [] else (if is_some held then activate_told c (Some n) else []))
 
-method_case : (log : List Act) (p : ℕ) (o h : Option ℕ) → IsHistory log → AllBuilt log → serving log ≡ o → holder log ≡ h →
-    method_told_by o h (length log + 1) ≡ to_method (acts.Method p) log (serving (acts.Method p ∷ log)) ++ (if is_some o then to (length log + 1) said.Unavailable ∷ [] else [])
-method_case log p (Some m) h i b e k =
+method_case : (log : List Act) (p : ℕ) (o h : Option ℕ) (c : field.State) → IsHistory log → ((f : ℕ) → holder log ≡ Some f → c ≡ state_kept (current log f)) →
+    serving log ≡ o → holder log ≡ h →
+    method_told_by c o h (length log + 1) ≡ to_method (acts.Method p) log (serving (acts.Method p ∷ log)) ++ (if is_some o then to (length log + 1) said.Unavailable ∷ [] else [])
+method_case log p (Some m) h c i b e k =
     let silent : notice (acts.Method p) log ≡ None = notice_quiet (acts.Method p) log refl (rw e refl) refl (kept_same (acts.Method p) log i (method_steady p)) in
     sym (ap (λ ts. ts ++ to (length log + 1) said.Unavailable ∷ []) (method_quiet (acts.Method p) log (serving (acts.Method p ∷ log)) silent))
-method_case log p None (Some h) i b e k =
+method_case log p None (Some h) c i b e k =
     let same : holder (acts.Method p ∷ log) ≡ holder log = kept_same (acts.Method p) log i (method_steady p) in
     let new : serving (acts.Method p ∷ log) ≡ Some (length log + 1) = rw e refl in
     let said : notice (acts.Method p) log ≡ Some Activates = rw (same, e, k) refl in
     sym (append-nil (to_method (acts.Method p) log (serving (acts.Method p ∷ log))) ∙ ap (to_method (acts.Method p) log) new ∙
-    method_activated (acts.Method p) log h (Some (length log + 1)) (refl, b) (same ∙ k) said)
-method_case log p None None i b e k =
+    method_activated (acts.Method p) log h (Some (length log + 1)) c (b h k ∙ ap state_kept (sym (current_kept (acts.Method p) log h refl refl))) (same ∙ k) said)
+method_case log p None None c i b e k =
     let same : holder (acts.Method p ∷ log) ≡ holder log = kept_same (acts.Method p) log i (method_steady p) in
     let silent : notice (acts.Method p) log ≡ None = rw (same, e, k) refl in
     sym (append-nil (to_method (acts.Method p) log (serving (acts.Method p ∷ log))) ∙ method_quiet (acts.Method p) log (serving (acts.Method p ∷ log)) silent)
 
 pub says_method : (s : State) (log : List Act) (p : ℕ) → IsHistory log → Stands s log → method_told (counted s) ≡ told_by (acts.Method p) log
 says_method s log p i h =
-    ap (λ o. method_told_by o s.holder (s.acts + 1)) h.served_now.serving_now ∙ ap (λ o. method_told_by (serving log) o (s.acts + 1)) h.holder_now ∙
-    ap (λ n. method_told_by (serving log) (holder log) (n + 1)) h.acts_now ∙ method_case log p (serving log) (holder log) i h.built_now refl refl
+    ap (λ o. method_told_by (holder_state s) o s.holder (s.acts + 1)) h.served_now.serving_now ∙
+    ap (λ o. method_told_by (holder_state s) (serving log) o (s.acts + 1)) h.holder_now ∙
+    ap (λ n. method_told_by (holder_state s) (serving log) (holder log) (n + 1)) h.acts_now ∙
+    method_case log p (serving log) (holder log) (holder_state s) i (λ f e. holder_state_is s log f h i e) refl refl
 
 -- a commit
 
@@ -158,38 +185,41 @@ held_at : (o : Option ℕ) (f : ℕ) → is_at o f ≡ true → o ≡ Some f
 held_at None f e = cc
 held_at (Some x) f e = ap (λ v. Some v) (eqb-true x f e)
 
-commit_case : (log : List Act) (f : ℕ) (w : Option Word) (b c : Bool) → IsHistory log → AllBuilt log → word log f ≡ w → is_at (holder log) f ≡ b →
-    is_free_for (holder log) f ≡ c → (s : State) → s.holder ≡ holder log →
-    commit_told f w s ≡ to_method (acts.Commit f) log s.serving
-commit_case log f None true c i a e k l s d =
-    let said : notice (acts.Commit f) log ≡ Some Updates = commit_noticed log f i ∙ ap (λ w. notice_by f w (holder log)) e ∙ rw k refl in
-    let later : holder (acts.Commit f ∷ log) ≡ Some f = holder_committed log f i ∙ ap (λ w. held_after f w (holder log)) e ∙ held_at (holder log) f k in
-    rw (d, k) (sym (method_updated (acts.Commit f) log f s.serving (refl, a) later said))
-commit_case log f None false c i a e k l s d =
-    let silent : notice (acts.Commit f) log ≡ None = commit_noticed log f i ∙ ap (λ w. notice_by f w (holder log)) e ∙ rw k refl in
-    rw (d, k) (sym (method_quiet (acts.Commit f) log s.serving silent))
-commit_case log f (Some Enabled) b true i a e k l s d =
-    let said : notice (acts.Commit f) log ≡ Some Activates = commit_noticed log f i ∙ ap (λ w. notice_by f w (holder log)) e ∙ rw l refl in
-    let later : holder (acts.Commit f ∷ log) ≡ Some f = holder_committed log f i ∙ ap (λ w. held_after f w (holder log)) e ∙ rw l refl in
-    rw (d, l) (sym (method_activated (acts.Commit f) log f s.serving (refl, a) later said))
-commit_case log f (Some Enabled) b false i a e k l s d =
-    let silent : notice (acts.Commit f) log ≡ None = commit_noticed log f i ∙ ap (λ w. notice_by f w (holder log)) e ∙ rw l refl in
-    rw (d, l) (sym (method_quiet (acts.Commit f) log s.serving silent))
-commit_case log f (Some Disabled) true c i a e k l s d =
-    let said : notice (acts.Commit f) log ≡ Some Deactivates = commit_noticed log f i ∙ ap (λ w. notice_by f w (holder log)) e ∙ rw k refl in
-    rw (d, k) (sym (method_deactivated (acts.Commit f) log s.serving said))
-commit_case log f (Some Disabled) false c i a e k l s d =
-    let silent : notice (acts.Commit f) log ≡ None = commit_noticed log f i ∙ ap (λ w. notice_by f w (holder log)) e ∙ rw k refl in
-    rw (d, k) (sym (method_quiet (acts.Commit f) log s.serving silent))
+commit_case : (s : State) (log : List Act) (f : ℕ) (t : Taken) → IsHistory log → notice (acts.Commit f) log ≡ noticed t →
+    is_at (holder (acts.Commit f ∷ log)) f ≡ holds_after t → (holds_after t ≡ true → state_of s f ≡ state_kept (current (acts.Commit f ∷ log) f)) →
+    (t ≡ Ended → ended (holder log) ≡ Some Deactivates) → s.holder ≡ holder log →
+    commit_told f t s ≡ to_method (acts.Commit f) log s.serving
+commit_case s log f Begun i q k c e d =
+    sym (method_activated (acts.Commit f) log f s.serving (state_of s f) (c refl) (held_at (holder (acts.Commit f ∷ log)) f k) q)
+commit_case s log f Updated i q k c e d =
+    sym (method_updated (acts.Commit f) log f s.serving (state_of s f) (c refl) (held_at (holder (acts.Commit f ∷ log)) f k) q)
+commit_case s log f Ended i q k c e d =
+    ap (λ o. release_told o s.serving) d ∙ sym (method_ended (acts.Commit f) log (holder log) s.serving (q ∙ sym (e refl)))
+commit_case s log f Nothing i q k c e d = sym (method_quiet (acts.Commit f) log s.serving q)
 
-pub says_commit : (s : State) (log : List Act) (f : ℕ) → IsHistory log → Stands s log →
-    commit_told f (word_in (find s.objects f)) (counted s) ≡ told_by (acts.Commit f) log
-says_commit s log f i h =
+-- what the field has current after its commit
+committed_state : (s : State) (log : List Act) (f : ℕ) (free : Bool) → IsHistory log → is_field log f ≡ true → f ≤ length log → free ≡ is_free_for (holder log) f →
+    is_at (holder (acts.Commit f ∷ log)) f ≡ true → Stands s log →
+    current_of (field_in (find (map (committed f free) s.objects) f)) ≡ state_kept (current (acts.Commit f ∷ log) f)
+committed_state s log f free i e l d k h =
+    ap current_of (found_committed f free s.objects ∙ ap (under (change.committed free)) (finds_kept s log f h e)) ∙
+    ap (λ b. (change.committed b (field_kept log f)).current) d ∙ ap (λ (v : KeptField). v.current) (commit_kept log f i l) ∙
+    ap (λ b. current_where b (acts.Commit f ∷ log) f) k
+
+pub says_commit : (s : State) (log : List Act) (f : ℕ) → IsHistory log → is_field log f ≡ true → Stands s log →
+    commit_told f (taken_in (is_free_for s.holder f) (field_in (find s.objects f))) (committing f (counted s)) ≡ to_method (acts.Commit f) log (serving (acts.Commit f ∷ log))
+says_commit s log f i e h =
     let same : serving (acts.Commit f ∷ log) ≡ serving log = serving_same (acts.Commit f) log refl (commit_steady f) in
-    ap (λ w. commit_told f w (counted s)) (finds_word s log f h) ∙
-    commit_case log f (word log f) _ _ i h.built_now refl refl refl (counted s) h.holder_now ∙
-    ap (to_method (acts.Commit f) log) (h.served_now.serving_now ∙ sym same) ∙
-    sym (append-nil (to_method (acts.Commit f) log (serving (acts.Commit f ∷ log))))
+    let free : is_free_for s.holder f ≡ is_free_for (holder log) f = ap (λ o. is_free_for o f) h.holder_now in
+    let t : Taken = does f (word log f) (holder log) in
+    let taken : taken_in (is_free_for s.holder f) (field_in (find s.objects f)) ≡ t =
+    ap (λ b. taken_in b (field_in (find s.objects f))) free ∙ taken_is s log f e h in
+    let after : is_at (holder (acts.Commit f ∷ log)) f ≡ holds_after t = commit_holds log f i in
+    ap (λ v. commit_told f v (committing f (counted s))) taken ∙
+    commit_case (committing f (counted s)) log f t i (commit_said log f i) after
+    (λ k. committed_state s log f (is_free_for s.holder f) i e (kind_within is_field_kind log f e) free (after ∙ k) h)
+    (ends_held f (word log f) (holder log) (is_at (holder log) f) (is_free_for (holder log) f) refl refl) h.holder_now ∙
+    ap (to_method (acts.Commit f) log) (h.served_now.serving_now ∙ sym same)
 
 -- a drop and the end of a peer
 

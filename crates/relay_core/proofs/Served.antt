@@ -4,11 +4,11 @@ use Rattle.std.specs.Prelude.{min, nat_le, if◌then◌else◌, is_some}
 use Rattle.std.proofs.lemmas.Bool.{le-leb, lt-leb}
 use Rattle.relay_model.specs.declared.act.Act.{Act}
 use Rattle.relay_model.specs.Activation.{Notice, Activates, Updates, Deactivates, serving, notice, dones, begun_by, begun_for}
-use Rattle.relay_model.specs.Batch.{string_by, last_string}
+use Rattle.relay_model.specs.Batch.{Batch, edits_by, edits_past}
 use Rattle.relay_model.proofs.ActivationLaws.{Each, dones_by, dones_step, begun_step, dones_under, begun_within, dones_beyond, begun_beyond}
-use Rattle.relay_model.proofs.BatchLaws.{string_step, string_new}
-use Rattle.relay_core.specs.Machine.{State, activated, updated, deactivated}
-use Rattle.relay_core.specs.Stands.{StandsServed, count_from, count_since, string_since}
+use Rattle.relay_model.proofs.BatchLaws.{edits_step, edits_new}
+use Rattle.relay_core.specs.Machine.{State, no_edits, activated, updated, deactivated}
+use Rattle.relay_core.specs.Stands.{StandsServed, count_from, count_since, edits_of, edits_since}
 
 length_push : (xs : List ℕ) (x : ℕ) → length (xs ++ x ∷ []) ≡ length xs + 1
 length_push [] x = refl
@@ -40,16 +40,16 @@ notified (Some Updates) s = updated s
 notified (Some Deactivates) s = deactivated s
 
 abbrev pub ServedIn : State → List Act → Type 0
-ServedIn s log = StandsServed s.serving s.string s.active s.dones s.since log
+ServedIn s log = StandsServed s.serving s.edits s.active s.dones s.since log
 
--- an act that leaves pending strings
-abbrev pub LeavesStrings : Act → Type 0
-LeavesStrings act = (m : ℕ) (rest : List ℕ) → string_by act m rest ≡ rest
+-- an act that leaves pending edits
+abbrev pub LeavesEdits : Act → Type 0
+LeavesEdits act = (m : ℕ) (rest : Batch) → edits_by act m rest ≡ rest
 
-string_kept : (act : Act) (log : List Act) (m : ℕ) (o : Option ℕ) → begun_for log m ≡ o → LeavesStrings act →
-    string_since log (Some m) o ≡ string_since (act ∷ log) (Some m) o
-string_kept act log m None e k = refl
-string_kept act log m (Some b) e k = sym (string_step act log b m (begun_within log m b e) ∙ k m (last_string b log m))
+edits_kept : (act : Act) (log : List Act) (m : ℕ) (o : Option ℕ) → begun_for log m ≡ o → LeavesEdits act →
+    edits_since log (Some m) o ≡ edits_since (act ∷ log) (Some m) o
+edits_kept act log m None e k = refl
+edits_kept act log m (Some b) e k = ap edits_of (sym (edits_step act log b m (begun_within log m b e) ∙ k m (edits_past b log m)))
 
 since_more : (n : ℕ) (o : Option ℕ) (ds : List ℕ) (since : ℕ) → ((b : ℕ) → o ≡ Some b → b ≤ n) → since ≡ min (count_since o ds) (2 ^ 32) →
     (if is_some o then min (since + 1) (2 ^ 32) else since) ≡ min (count_since o (ds ++ n ∷ [])) (2 ^ 32)
@@ -65,17 +65,17 @@ dones_more : (count n : ℕ) (ds : List ℕ) → count ≡ length ds % 2 ^ 32 �
 dones_more count n ds e = let k : length (ds ++ n ∷ []) ≡ length ds + 1 = length_push ds n in omega arith
 
 -- nobody serves
-pub served_none : (act : Act) (log : List Act) → serving (act ∷ log) ≡ None → StandsServed None [] false 0 0 (act ∷ log)
+pub served_none : (act : Act) (log : List Act) → serving (act ∷ log) ≡ None → StandsServed None no_edits false 0 0 (act ∷ log)
 served_none act log e = record {
   serving_now = sym e;
-  string_now = rw e refl;
+  edits_now = rw e refl;
   active_now = rw e refl;
   dones_now = rw e refl;
   since_now = rw e refl;
 }
 
 served_by : (s : State) (act : Act) (log : List Act) (m : ℕ) (n : Option Notice) → serving log ≡ Some m → serving (act ∷ log) ≡ Some m →
-    notice act log ≡ n → LeavesStrings act → s.serving ≡ Some m → s.string ≡ string_since log (Some m) (begun_for log m) →
+    notice act log ≡ n → LeavesEdits act → s.serving ≡ Some m → s.edits ≡ edits_since log (Some m) (begun_for log m) →
     s.active ≡ is_some (begun_for log m) → s.dones ≡ length (dones log m) % 2 ^ 32 →
     s.since ≡ min (count_since (begun_for log m) (dones log m)) (2 ^ 32) → ServedIn (notified n s) (act ∷ log)
 served_by s act log m None e l q k a b c d f =
@@ -83,7 +83,7 @@ served_by s act log m None e l q k a b c d f =
     let told : dones (act ∷ log) m ≡ dones log m = dones_step act log m l ∙ ap (λ o. dones_by o (length log + 1) (dones log m)) q in
     record {
       serving_now = a ∙ sym l;
-      string_now = rw (l, begins) (b ∙ string_kept act log m (begun_for log m) refl k);
+      edits_now = rw (l, begins) (b ∙ edits_kept act log m (begun_for log m) refl k);
       active_now = rw (l, begins) c;
       dones_now = rw (l, told) d;
       since_now = rw (l, begins, told) f;
@@ -94,7 +94,7 @@ served_by s act log m (Some Activates) e l q k a b c d f =
     let one : count_from (length log + 1) (dones log m ++ (length log + 1) ∷ []) ≡ 1 = count_from_new (length log) (dones log m) (dones_under log m) in
     rw a record {
       serving_now = sym l;
-      string_now = rw (l, begins, string_new act log m) refl;
+      edits_now = rw (l, begins) (sym (ap edits_of (edits_new act log m)));
       active_now = rw (l, begins) refl;
       dones_now = rw (l, told) (dones_more s.dones (length log + 1) (dones log m) d);
       since_now = rw (l, begins, told, one) refl;
@@ -104,7 +104,7 @@ served_by s act log m (Some Updates) e l q k a b c d f =
     let told : dones (act ∷ log) m ≡ dones log m ++ (length log + 1) ∷ [] = dones_step act log m l ∙ ap (λ o. dones_by o (length log + 1) (dones log m)) q in
     rw (a, c) record {
       serving_now = sym l;
-      string_now = rw (l, begins) (b ∙ string_kept act log m (begun_for log m) refl k);
+      edits_now = rw (l, begins) (b ∙ edits_kept act log m (begun_for log m) refl k);
       active_now = rw (l, begins) refl;
       dones_now = rw (l, told) (dones_more s.dones (length log + 1) (dones log m) d);
       since_now = rw (l, begins, told) (since_more (length log + 1) (begun_for log m) (dones log m) s.since (begun_before log m) f);
@@ -114,34 +114,34 @@ served_by s act log m (Some Deactivates) e l q k a b c d f =
     let told : dones (act ∷ log) m ≡ dones log m ++ (length log + 1) ∷ [] = dones_step act log m l ∙ ap (λ o. dones_by o (length log + 1) (dones log m)) q in
     rw a record {
       serving_now = sym l;
-      string_now = rw (l, begins) refl;
+      edits_now = rw (l, begins) refl;
       active_now = rw (l, begins) refl;
       dones_now = rw (l, told) (dones_more s.dones (length log + 1) (dones log m) d);
       since_now = rw (l, begins) refl;
     }
 
 unserved_by : (s : State) (act : Act) (log : List Act) (n : Option Notice) → serving (act ∷ log) ≡ None → s.serving ≡ None →
-    s.string ≡ [] → s.active ≡ false → s.dones ≡ 0 → s.since ≡ 0 → ServedIn (notified n s) (act ∷ log)
+    s.edits ≡ no_edits → s.active ≡ false → s.dones ≡ 0 → s.since ≡ 0 → ServedIn (notified n s) (act ∷ log)
 unserved_by s act log None l a b c d f = rw (a, b, c, d, f) (served_none act log l)
 unserved_by s act log (Some Activates) l a b c d f = rw (a, b, c, d, f) (served_none act log l)
 unserved_by s act log (Some Updates) l a b c d f = rw (a, b, c, d, f) (served_none act log l)
 unserved_by s act log (Some Deactivates) l a b c d f = rw (a, b, c, d, f) (served_none act log l)
 
 served_of : (s : State) (act : Act) (log : List Act) (o : Option ℕ) (n : Option Notice) → serving log ≡ o → ServedIn s log →
-    serving (act ∷ log) ≡ serving log → notice act log ≡ n → LeavesStrings act → ServedIn (notified n s) (act ∷ log)
+    serving (act ∷ log) ≡ serving log → notice act log ≡ n → LeavesEdits act → ServedIn (notified n s) (act ∷ log)
 served_of s act log None n e h l q k =
-    unserved_by s act log n (l ∙ e) (h.serving_now ∙ e) (rw e at h.string_now) (rw e at h.active_now) (rw e at h.dones_now) (rw e at h.since_now)
+    unserved_by s act log n (l ∙ e) (h.serving_now ∙ e) (rw e at h.edits_now) (rw e at h.active_now) (rw e at h.dones_now) (rw e at h.since_now)
 served_of s act log (Some m) n e h l q k =
-    served_by s act log m n e (l ∙ e) q k (h.serving_now ∙ e) (rw e at h.string_now) (rw e at h.active_now) (rw e at h.dones_now) (rw e at h.since_now)
+    served_by s act log m n e (l ∙ e) q k (h.serving_now ∙ e) (rw e at h.edits_now) (rw e at h.active_now) (rw e at h.dones_now) (rw e at h.since_now)
 
 -- after what the act says of the hold, where the same method serves
 pub served_notified : (s : State) (act : Act) (log : List Act) (n : Option Notice) → ServedIn s log → serving (act ∷ log) ≡ serving log →
-    notice act log ≡ n → LeavesStrings act → ServedIn (notified n s) (act ∷ log)
+    notice act log ≡ n → LeavesEdits act → ServedIn (notified n s) (act ∷ log)
 served_notified s act log n h l q k = served_of s act log (serving log) n refl h l q k
 
 -- a method that the act made serves, and was told nothing yet
 pub served_new : (act : Act) (log : List Act) → serving (act ∷ log) ≡ Some (length log + 1) → notice act log ≡ None →
-    StandsServed (Some (length log + 1)) [] false 0 0 (act ∷ log)
+    StandsServed (Some (length log + 1)) no_edits false 0 0 (act ∷ log)
 served_new act log l q =
     let begins : begun_for (act ∷ log) (length log + 1) ≡ None =
     begun_step act log (length log + 1) l ∙ ap (λ o. begun_by (length log + 1) o (begun_for log (length log + 1))) q ∙
@@ -151,7 +151,7 @@ served_new act log l q =
     dones_beyond log (length log + 1) (omega arith) in
     record {
       serving_now = sym l;
-      string_now = rw (l, begins) refl;
+      edits_now = rw (l, begins) refl;
       active_now = rw (l, begins) refl;
       dones_now = rw (l, told) refl;
       since_now = rw (l, begins) refl;
@@ -159,7 +159,7 @@ served_new act log l q =
 
 -- or was told of its activation
 pub served_activated : (act : Act) (log : List Act) → serving (act ∷ log) ≡ Some (length log + 1) → notice act log ≡ Some Activates →
-    StandsServed (Some (length log + 1)) [] true 1 1 (act ∷ log)
+    StandsServed (Some (length log + 1)) no_edits true 1 1 (act ∷ log)
 served_activated act log l q =
     let begins : begun_for (act ∷ log) (length log + 1) ≡ Some (length log + 1) =
     begun_step act log (length log + 1) l ∙ ap (λ o. begun_by (length log + 1) o (begun_for log (length log + 1))) q in
@@ -168,7 +168,7 @@ served_activated act log l q =
     ap (λ ds. ds ++ (length log + 1) ∷ []) (dones_beyond log (length log + 1) (omega arith)) in
     record {
       serving_now = sym l;
-      string_now = rw (l, begins, string_new act log (length log + 1)) refl;
+      edits_now = rw (l, begins) (sym (ap edits_of (edits_new act log (length log + 1))));
       active_now = rw (l, begins) refl;
       dones_now = rw (l, told) refl;
       since_now = rw (l, begins, told, le-leb (length log + 1) (length log + 1) (omega arith)) refl;

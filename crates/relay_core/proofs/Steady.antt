@@ -1,15 +1,20 @@
 -- Acts that move no focus and take no object, and what they leave.
-use Rattle.std.proofs.Common.{◌≡◌, ℕ, List, ◌∷◌, true, false, Option, Some, None, refl}
+use Rattle.std.proofs.Common.{◌≡◌, ℕ, ℤ, List, ◌∷◌, true, false, Option, Some, None, ap, refl, ◌∙◌}
 use Rattle.std.specs.Prelude.{◌&&◌, if◌then◌else◌, is_some, is_none}
+use Rattle.popup_place.specs.declared.geometry.Rect.{Rect}
+use Rattle.popup_place.specs.declared.geometry.Size.{Size}
 use Rattle.relay_model.specs.declared.act.Act.{Act}
 use Rattle.relay_model.specs.declared.act.Act.TheVariants as acts
-use Rattle.relay_model.specs.Hold.{holder, begins_hold}
+use Rattle.relay_model.specs.declared.act.EndCause.{EndCause}
+use Rattle.relay_model.specs.Objects.{is_at}
+use Rattle.relay_model.specs.Hold.{holder, kept, begins_hold}
+use Rattle.relay_model.specs.Popups.{area}
 use Rattle.relay_model.specs.Activation.{Notice, Deactivates, makes_serving, updates, notice}
-use Rattle.relay_model.specs.Batch.{commit_count}
 use Rattle.relay_model.proofs.Histories.{IsHistory}
 use Rattle.relay_model.proofs.FocusLaws.{IsSteady, object_same, entered_same, entered_since_same}
-use Rattle.relay_model.proofs.HoldLaws.{IsWordless, word_kept}
+use Rattle.relay_model.proofs.HoldLaws.{kept_same}
 use Rattle.relay_core.proofs.Entries.{AllMove}
+use Rattle.relay_core.proofs.KeptFields.{IsSilent, field_left}
 use Rattle.relay_core.proofs.Moving.{stays, touch_none}
 
 pub peer_steady : IsSteady acts.Peer
@@ -24,27 +29,114 @@ field_steady p = record { keeps = λ x o. refl; last = λ log. refl; since = λ 
 pub method_steady : (p : ℕ) → IsSteady (acts.Method p)
 method_steady p = record { keeps = λ x o. refl; last = λ log. refl; since = λ log. refl }
 
-pub enable_steady : (f : ℕ) → IsSteady (acts.Enable f)
-enable_steady f = record { keeps = λ x o. refl; last = λ log. refl; since = λ log. refl }
-
-pub disable_steady : (f : ℕ) → IsSteady (acts.Disable f)
-disable_steady f = record { keeps = λ x o. refl; last = λ log. refl; since = λ log. refl }
-
 pub string_steady : (m : ℕ) (text : List ℕ) → IsSteady (acts.MString m text)
 string_steady m text = record { keeps = λ x o. refl; last = λ log. refl; since = λ log. refl }
+
+pub preedit_steady : (m : ℕ) (text : List ℕ) (begin end : ℤ) → IsSteady (acts.MPreedit m text begin end)
+preedit_steady m text begin end = record { keeps = λ x o. refl; last = λ log. refl; since = λ log. refl }
+
+pub delete_steady : (m before after : ℕ) → IsSteady (acts.MDelete m before after)
+delete_steady m before after = record { keeps = λ x o. refl; last = λ log. refl; since = λ log. refl }
 
 pub mcommit_steady : (m serial : ℕ) → IsSteady (acts.MCommit m serial)
 mcommit_steady m serial = record { keeps = λ x o. refl; last = λ log. refl; since = λ log. refl }
 
+pub popup_steady : (m t : ℕ) → IsSteady (acts.Popup m t)
+popup_steady m t = record { keeps = λ x o. refl; last = λ log. refl; since = λ log. refl }
+
+pub grab_steady : (m : ℕ) → IsSteady (acts.Grab m)
+grab_steady m = record { keeps = λ x o. refl; last = λ log. refl; since = λ log. refl }
+
+pub area_steady : (t : ℕ) (rect : Rect) → IsSteady (acts.Area t rect)
+area_steady t rect = record { keeps = λ x o. refl; last = λ log. refl; since = λ log. refl }
+
+pub screen_steady : (size : Size) → IsSteady (acts.Screen size)
+screen_steady size = record { keeps = λ x o. refl; last = λ log. refl; since = λ log. refl }
+
+pub key_steady : (time key state : ℕ) → IsSteady (acts.Key time key state)
+key_steady time key state = record { keeps = λ x o. refl; last = λ log. refl; since = λ log. refl }
+
+pub mods_steady : (depressed latched locked group : ℕ) → IsSteady (acts.Mods depressed latched locked group)
+mods_steady depressed latched locked group = record { keeps = λ x o. refl; last = λ log. refl; since = λ log. refl }
+
+pub keymap_steady : (format token size : ℕ) → IsSteady (acts.Keymap format token size)
+keymap_steady format token size = record { keeps = λ x o. refl; last = λ log. refl; since = λ log. refl }
+
+pub repeat_steady : (rate delay : ℤ) → IsSteady (acts.Repeat rate delay)
+repeat_steady rate delay = record { keeps = λ x o. refl; last = λ log. refl; since = λ log. refl }
+
 pub idle_steady : IsSteady acts.Idle
 idle_steady = record { keeps = λ x o. refl; last = λ log. refl; since = λ log. refl }
 
+-- acts that say nothing of fields
+
+pub peer_silent : IsSilent acts.Peer
+peer_silent = record { words = λ f rest. refl; sets = λ f rest. refl; counts = λ log f. refl; begins = λ log. refl; commits = λ f. refl }
+
+pub surface_silent : (p : ℕ) → IsSilent (acts.Surface p)
+surface_silent p = record { words = λ f rest. refl; sets = λ f rest. refl; counts = λ log f. refl; begins = λ log. refl; commits = λ f. refl }
+
+pub field_silent : (p : ℕ) → IsSilent (acts.Field p)
+field_silent p = record { words = λ f rest. refl; sets = λ f rest. refl; counts = λ log f. refl; begins = λ log. refl; commits = λ f. refl }
+
+pub method_silent : (p : ℕ) → IsSilent (acts.Method p)
+method_silent p = record { words = λ f rest. refl; sets = λ f rest. refl; counts = λ log f. refl; begins = λ log. refl; commits = λ f. refl }
+
+pub string_silent : (m : ℕ) (text : List ℕ) → IsSilent (acts.MString m text)
+string_silent m text = record { words = λ f rest. refl; sets = λ f rest. refl; counts = λ log f. refl; begins = λ log. refl; commits = λ f. refl }
+
+pub preedit_silent : (m : ℕ) (text : List ℕ) (begin end : ℤ) → IsSilent (acts.MPreedit m text begin end)
+preedit_silent m text begin end = record { words = λ f rest. refl; sets = λ f rest. refl; counts = λ log f. refl; begins = λ log. refl; commits = λ f. refl }
+
+pub delete_silent : (m before after : ℕ) → IsSilent (acts.MDelete m before after)
+delete_silent m before after = record { words = λ f rest. refl; sets = λ f rest. refl; counts = λ log f. refl; begins = λ log. refl; commits = λ f. refl }
+
+pub mcommit_silent : (m serial : ℕ) → IsSilent (acts.MCommit m serial)
+mcommit_silent m serial = record { words = λ f rest. refl; sets = λ f rest. refl; counts = λ log f. refl; begins = λ log. refl; commits = λ f. refl }
+
+pub unfocus_silent : IsSilent acts.Unfocus
+unfocus_silent = record { words = λ f rest. refl; sets = λ f rest. refl; counts = λ log f. refl; begins = λ log. refl; commits = λ f. refl }
+
+pub drop_silent : (x : ℕ) → IsSilent (acts.Drop x)
+drop_silent x = record { words = λ f rest. refl; sets = λ f rest. refl; counts = λ log f. refl; begins = λ log. refl; commits = λ f. refl }
+
+pub gone_silent : (p : ℕ) (cause : EndCause) → IsSilent (acts.Gone p cause)
+gone_silent p cause = record { words = λ f rest. refl; sets = λ f rest. refl; counts = λ log f. refl; begins = λ log. refl; commits = λ f. refl }
+
+pub popup_silent : (m t : ℕ) → IsSilent (acts.Popup m t)
+popup_silent m t = record { words = λ f rest. refl; sets = λ f rest. refl; counts = λ log f. refl; begins = λ log. refl; commits = λ f. refl }
+
+pub grab_silent : (m : ℕ) → IsSilent (acts.Grab m)
+grab_silent m = record { words = λ f rest. refl; sets = λ f rest. refl; counts = λ log f. refl; begins = λ log. refl; commits = λ f. refl }
+
+pub area_silent : (t : ℕ) (rect : Rect) → IsSilent (acts.Area t rect)
+area_silent t rect = record { words = λ f rest. refl; sets = λ f rest. refl; counts = λ log f. refl; begins = λ log. refl; commits = λ f. refl }
+
+pub screen_silent : (size : Size) → IsSilent (acts.Screen size)
+screen_silent size = record { words = λ f rest. refl; sets = λ f rest. refl; counts = λ log f. refl; begins = λ log. refl; commits = λ f. refl }
+
+pub key_silent : (time key state : ℕ) → IsSilent (acts.Key time key state)
+key_silent time key state = record { words = λ f rest. refl; sets = λ f rest. refl; counts = λ log f. refl; begins = λ log. refl; commits = λ f. refl }
+
+pub mods_silent : (depressed latched locked group : ℕ) → IsSilent (acts.Mods depressed latched locked group)
+mods_silent depressed latched locked group = record { words = λ f rest. refl; sets = λ f rest. refl; counts = λ log f. refl; begins = λ log. refl; commits = λ f. refl }
+
+pub keymap_silent : (format token size : ℕ) → IsSilent (acts.Keymap format token size)
+keymap_silent format token size = record { words = λ f rest. refl; sets = λ f rest. refl; counts = λ log f. refl; begins = λ log. refl; commits = λ f. refl }
+
+pub repeat_silent : (rate delay : ℤ) → IsSilent (acts.Repeat rate delay)
+repeat_silent rate delay = record { words = λ f rest. refl; sets = λ f rest. refl; counts = λ log f. refl; begins = λ log. refl; commits = λ f. refl }
+
+pub idle_silent : IsSilent acts.Idle
+idle_silent = record { words = λ f rest. refl; sets = λ f rest. refl; counts = λ log f. refl; begins = λ log. refl; commits = λ f. refl }
+
 -- all entries stay as they were
-pub all_stay : (act : Act) (log : List Act) → IsHistory log → IsSteady act → IsWordless act →
-    ((x : ℕ) → commit_count (act ∷ log) x ≡ commit_count log x) → AllMove act log (λ e. e) (λ _. true)
-all_stay act log i k w n =
+pub all_stay : (act : Act) (log : List Act) → IsHistory log → IsSteady act → IsSilent act → ((x : ℕ) → area (act ∷ log) x ≡ area log x) →
+    holder (act ∷ log) ≡ kept act log (holder log) → AllMove act log (λ e. e) (λ _. true)
+all_stay act log i k q a h =
     λ x l. stays (λ e. e) act log x (object_same act log x k l)
-    (touch_none act log x (word_kept act log x l (entered_same act log x i k l) (entered_since_same act log x k) w) (n x))
+    (touch_none act log x (a x)
+    (field_left act log x q l (entered_same act log x i k l) (entered_since_same act log x k) (ap (λ o. is_at o x) (h ∙ kept_same act log i k))))
 
 no_end : (x : Option ℕ) → (is_some x && is_none x) ≡ false
 no_end None = refl

@@ -2,36 +2,34 @@
 use Rattle.std.proofs.Common.{◌≡◌, ℕ, ◌+◌, ◌%◌, ◌^◌, ◌≤◌, List, [], ◌∷◌, ◌++◌, length, map, Bool, true, false, Option, Some, None, ap, refl, sym, ◌∙◌}
 use Rattle.std.specs.Prelude.{◌&&◌, if◌then◌else◌, filter, is_some, unwrap_or, min}
 use Rattle.std.proofs.lemmas.Bool.{true≢false, eqb-true}
-use Rattle.std.proofs.lemmas.List.{append-nil}
+use Rattle.std.proofs.lemmas.List.{append-nil, map-append}
 use Rattle.std.proofs.lemmas.List.Elements.{filter-append}
 use Rattle.relay_model.specs.declared.act.Act.{Act}
 use Rattle.relay_model.specs.declared.act.Act.TheVariants as acts
 use Rattle.relay_model.specs.declared.said.Told.{Told}
 use Rattle.relay_model.specs.declared.said.Said.{Said}
 use Rattle.relay_model.specs.declared.said.Said.TheVariants as said
-use Rattle.relay_model.specs.Objects as model
-use Rattle.relay_model.specs.Objects.{Object, Kind, PeerKind, SurfaceKind, FieldKind, MethodKind, is_at, is_same, is_kind, is_field_kind, is_surface, is_field, owner, object, alive, peer_of, labels, fields, next, remains}
-use Rattle.relay_model.specs.Focus.{focus, peer_at, focused_peer, entered}
+use Rattle.relay_model.specs.Objects.{Object, Kind, PeerKind, SurfaceKind, FieldKind, MethodKind, PopupKind, GrabKind, is_at, is_same, is_kind, is_field_kind, is_surface, is_field, owner, object, alive, peer_of, labels, fields, remains}
+use Rattle.relay_model.specs.Focus.{focus, focused_peer, entered}
 use Rattle.relay_model.specs.Hold.{holder}
 use Rattle.relay_model.specs.Activation.{serving, notice, begun, begun_of, begun_for, dones, named, is_from}
-use Rattle.relay_model.specs.Batch.{batch, edits_past, group, last_string, last_preedit, deletion_said, preedit_said, string_said, commit_count}
+use Rattle.relay_model.specs.Batch.{Batch, edits_past, group, deletion_said, preedit_said, string_said, commit_count}
 use Rattle.relay_model.specs.Told.{to, leave, enter, each_entered, leaves, to_method, enters, own, to_holder, told_by}
 use Rattle.relay_model.proofs.Histories.{IsHistory}
-use Rattle.relay_model.proofs.ObjectLaws.{object_step, object_new, kind_within}
+use Rattle.relay_model.proofs.ObjectLaws.{object_step, object_new}
 use Rattle.relay_model.proofs.FocusLaws.{entered_field}
 use Rattle.relay_model.proofs.HoldLaws.{holder_entered, holder_refocused, kept_unfocused, kept_same}
 use Rattle.relay_model.proofs.ActivationLaws.{Each, each_map, serving_step, serving_alive}
 use Rattle.relay_model.proofs.FocusLaws.{focus_left}
 use Rattle.relay_core.specs.declared.object.Object.{Object as Kept}
 use Rattle.relay_core.specs.Objects.{find, owner_in, is_field_kind as is_field_kept}
-use Rattle.relay_core.specs.Machine.{State, counted, focused_in, said_to, leaves_of, release_told, is_fresh, group_told, group_of_holder, batch_told}
-use Rattle.relay_core.specs.Stands.{Stands, AllBuilt, entry, entry_of, entries, kind_of, count_from}
+use Rattle.relay_core.specs.Machine.{State, counted, focused_in, said_to, leaves_of, release_told, is_fresh, batch_of, group_told, group_of_holder, batch_told}
+use Rattle.relay_core.specs.Stands.{Stands, edits_of, entry, entry_of, entries, kind_of, count_from}
 use Rattle.relay_core.proofs.Entries.{labels_within, entry_label}
 use Rattle.relay_core.proofs.Finds.{finds_owner, finds_count, focused_is}
-use Rattle.relay_core.proofs.BuiltLaws.{deletion_none, preedit_none}
 use Rattle.relay_core.proofs.Fresh.{fresh_is, fresh_none}
 use Rattle.relay_core.proofs.Steady.{mcommit_steady, notice_quiet, notice_ended, ended}
-use Rattle.relay_core.proofs.Parts.{focus_focused}
+use Rattle.relay_core.proofs.Parts.{focus_focused, focus_peer}
 use Rattle.relay_core.proofs.Saying.{method_quiet, method_ended}
 
 -- what each field of a peer is told
@@ -79,6 +77,8 @@ agrees_of log x peer (Some thing) = at thing.kind log x (is_at peer thing.peer)
     at SurfaceKind log x b = refl
     at FieldKind log x b = refl
     at MethodKind log x b = refl
+    at (PopupKind m t) log x b = refl
+    at (GrabKind m) log x b = refl
 
 -- every entered field is told, where the peer has the focus
 said_entered : (say : Said) (log : List Act) → said_to say (focused_peer log) (entries log) ≡ map (λ f. to f say) (filter (entered log) (fields log))
@@ -116,11 +116,6 @@ focus_fields log t =
     filter_same (is_field (acts.Focus t ∷ log)) (is_field log) (labels log)
     (each_map (λ x. x ≤ length log) (λ x. is_field (acts.Focus t ∷ log) x ≡ is_field log x) (labels log) (labels_within log)
     (λ x w. ap (is_kind is_field_kind) (object_step (acts.Focus t) log x w)))
-
-focus_peer : (log : List Act) (t : ℕ) → is_surface log t ≡ true → focused_peer (acts.Focus t ∷ log) ≡ peer_of log t
-focus_peer log t e =
-    ap (peer_at (acts.Focus t ∷ log)) (focus_focused log t e) ∙
-    ap owner (object_step (acts.Focus t) log t (kind_within model.is_surface_kind log t e))
 
 enters_told : (log : List Act) (t : ℕ) → is_surface log t ≡ true →
     said_to (said.Enter t) (peer_of log t) (entries log) ≡ each_entered enter (acts.Focus t ∷ log) (focus (acts.Focus t ∷ log))
@@ -167,18 +162,20 @@ says_unfocus s log i h =
 
 -- a batch
 
-plain_group : (log : List Act) (m b n : ℕ) → AllBuilt log → begun log ≡ Some b → group (batch log m) n ≡ string_said (last_string b log m) ++ said.FieldDone n ∷ []
-plain_group log m b n a e =
-    ap (λ o. group (edits_past (unwrap_or o 0) log m) n) e ∙
-    ap (λ d. deletion_said d ++ (string_said (last_string b log m) ++ (preedit_said (last_preedit b log m) ++ said.FieldDone n ∷ []))) (deletion_none b log m a) ∙
-    ap (λ p. string_said (last_string b log m) ++ (preedit_said p ++ said.FieldDone n ∷ [])) (preedit_none b log m a)
+group_maps : (h n : ℕ) (b : Batch) → group_told b n h ≡ map (to h) (group b n)
+group_maps h n b =
+    sym (map-append (to h) (deletion_said b.deletion) (string_said b.string ++ (preedit_said b.preedit ++ said.FieldDone n ∷ [])) ∙
+    ap (λ ts. map (to h) (deletion_said b.deletion) ++ ts)
+    (map-append (to h) (string_said b.string) (preedit_said b.preedit ++ said.FieldDone n ∷ []) ∙
+    ap (λ ts. map (to h) (string_said b.string) ++ ts) (map-append (to h) (preedit_said b.preedit) (said.FieldDone n ∷ []))))
 
 holder_group : (s : State) (log : List Act) (m serial b : ℕ) (o : Option ℕ) → IsHistory log → Stands s log → holder log ≡ o → begun log ≡ Some b →
-    s.string ≡ last_string b log m → group_of_holder (counted s) o ≡ to_holder (acts.MCommit m serial) log o
+    s.edits ≡ edits_of (edits_past b log m) → group_of_holder (counted s) o ≡ to_holder (acts.MCommit m serial) log o
 holder_group s log m serial b None i h e k t = refl
 holder_group s log m serial b (Some f) i h e k t =
-    ap (λ n. group_told s.string n f) (finds_count s log f h (entered_field log f (holder_entered log f i e))) ∙
-    ap (λ text. group_told text (commit_count log f) f) t ∙ ap (map (to f)) (sym (plain_group log m b (commit_count log f) h.built_now k))
+    ap (λ n. group_told (batch_of s.edits) n f) (finds_count s log f h (entered_field log f (holder_entered log f i e))) ∙
+    ap (λ edits. group_told (batch_of edits) (commit_count log f) f) t ∙ group_maps f (commit_count log f) (edits_past b log m) ∙
+    ap (λ v. map (to f) (group (edits_past (unwrap_or v 0) log m) (commit_count log f))) (sym k)
 
 if_fresh : (b : Bool) (xs ys : List Told) → xs ≡ ys → (if b then xs else []) ≡ (if b then ys else [])
 if_fresh b xs ys e = ap (λ zs. if b then zs else []) e
@@ -196,7 +193,7 @@ batch_begun s log m serial None i h e k =
 batch_begun s log m serial (Some b) i h e k =
     let count : s.dones ≡ length (dones log m) % 2 ^ 32 = rw e at h.served_now.dones_now in
     let since : s.since ≡ min (count_from b (dones log m)) (2 ^ 32) = rw (e, k) at h.served_now.since_now in
-    let text : s.string ≡ last_string b log m = rw (e, k) at h.served_now.string_now in
+    let text : s.edits ≡ edits_of (edits_past b log m) = rw (e, k) at h.served_now.edits_now in
     let present : begun log ≡ Some b = ap (begun_of log) e ∙ k in
     let test : is_fresh s.dones s.since serial ≡ is_from (Some b) (named log m serial) =
     ap (λ n. is_fresh n s.since serial) count ∙ ap (λ n. is_fresh (length (dones log m) % 2 ^ 32) n serial) since ∙ sym (fresh_is log m b serial) in

@@ -1,9 +1,14 @@
 -- What a relay shows: what it keeps of the acts so far, and what it reserved for the next.
-use Rattle.std.specs.Prelude.{◌≡◌, ℕ, ◌-◌, ◌<◌, List, Option, Some, vec_len, vec_capacity}
+use Rattle.std.specs.Prelude.{◌≡◌, ℕ, ◌-◌, ◌<◌, List, [], Option, Some, None, vec_len, vec_capacity}
 use Rattle.relay_model.specs.declared.act.Act.{Act}
 use Rattle.relay_model.specs.declared.act.Act.TheVariants as acts
+use Rattle.field_state.specs.Stands.{Kept}
+use Rattle.field_state.specs.Changes.{fresh}
 use Rattle.relay_core.specs.declared.machine.Machine.{Machine}
-use Rattle.relay_core.specs.Machine.{State}
+use Rattle.relay_core.specs.declared.spare.Spare.{Spare}
+use Rattle.relay_core.specs.Objects.{find, field_in}
+use Rattle.relay_core.specs.Machine.{State, holder_state, text_around}
+use Rattle.relay_core.specs.Fits.{FitsMessage}
 
 -- what the machine keeps, without what is reserved
 abbrev pub state : Machine → State
@@ -14,32 +19,43 @@ state m =
       focus = m.focus;
       holder = m.holder;
       serving = m.serving;
-      string = m.string;
+      edits = m.pending;
       active = m.active;
       dones = m.dones;
       since = m.since;
+      screen = m.screen;
+      keys = m.keys;
     }
 
 -- a relay as contracts see it
 pub record Shown : Type 0 where
   pub state : State
   pub room : ℕ
-  pub spare : Option (List ℕ)
+  pub spare : Spare
 
 abbrev pub shown : Machine → Shown
 shown m = record { state = state m; room = vec_capacity m.objects - vec_len m.objects; spare = m.spare }
 
--- the copy of the act's text is there
-abbrev pub HasSpare : Option (List ℕ) → Act → Type 0
-HasSpare spare (acts.MString m text) = spare ≡ Some text
-HasSpare spare _ = Unit {0}
+-- the surrounding text that a field has pending
+abbrev pub text_pending : Option Kept → List ℕ
+text_pending None = []
+text_pending (Some kept) = text_around kept.pending.surrounding
+
+-- what is made before the act: copies of the texts that it may tell, and what a new field needs
+abbrev pub HasSpare : State → Spare → Act → Type 0
+HasSpare s spare (acts.Field p) = spare.field ≡ Some fresh
+HasSpare s spare (acts.Method p) = spare.text ≡ text_around (holder_state s).surrounding
+HasSpare s spare (acts.Commit f) = spare.text ≡ text_pending (field_in (find s.objects f))
+HasSpare s spare (acts.MCommit m serial) = (spare.text ≡ s.edits.string) × (spare.preedit ≡ s.edits.preedit.text)
+HasSpare s spare _ = Unit {0}
 
 -- there is room for one more object, which the end of a peer does without
 abbrev pub HasRoom : ℕ → Act → Type 0
 HasRoom room (acts.Gone p cause) = Unit {0}
 HasRoom room _ = 0 < room
 
--- there is room for one more object, and a copy of the act's text; the end of a peer needs neither
+-- all that the act needs is made; the end of a peer needs nothing
 pub record IsReserved (relay : Shown) (act : Act) : Type 0 where
   pub room : HasRoom relay.room act
-  pub spare : HasSpare relay.spare act
+  pub spare : HasSpare relay.state relay.spare act
+  pub fits : FitsMessage act

@@ -1,5 +1,11 @@
+pub mod Fits
 pub mod Objects
 pub mod Reached
+pub mod State
+pub mod Keyboard
+pub mod Popups
 pub mod Machine
+pub mod Groups
 pub mod Kept
+pub mod KeyCalls
 pub mod Stands

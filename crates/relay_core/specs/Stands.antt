@@ -1,26 +1,73 @@
 -- What a relay stands for.
-use Rattle.std.specs.Prelude.{◌≡◌, ℕ, ◌+◌, ◌%◌, ◌^◌, min, List, [], ◌∷◌, length, map, filter, Bool, true, false, if◌then◌else◌, nat_le, Option, Some, None, is_some}
+use Rattle.std.specs.Prelude.{◌≡◌, ℕ, ◌+◌, ◌%◌, ◌^◌, min, List, [], ◌∷◌, length, map, filter, Bool, if◌then◌else◌, nat_le, Option, Some, None, is_some}
 use Rattle.relay_model.specs.declared.act.Act.{Act}
 use Rattle.relay_model.specs.declared.act.Act.TheVariants as acts
+use Rattle.relay_model.specs.declared.act.Word.{Word}
+use Rattle.relay_model.specs.declared.act.Word.TheVariants.{Enabled, Disabled}
 use Rattle.relay_model.specs.Objects as model
-use Rattle.relay_model.specs.Objects.{Object, PeerKind, SurfaceKind, FieldKind, MethodKind, labels, alive}
-use Rattle.relay_model.specs.Focus.{focus}
+use Rattle.relay_model.specs.Objects.{Object, PeerKind, SurfaceKind, FieldKind, MethodKind, PopupKind, GrabKind, is_at, labels, alive}
+use Rattle.relay_model.specs.Focus.{focus, entered}
 use Rattle.relay_model.specs.Hold.{word, holder}
+use Rattle.relay_model.specs.Current.{State as FieldState, Around, current}
+use Rattle.relay_model.specs.Pending.{pending}
 use Rattle.relay_model.specs.Activation.{serving, dones, begun}
-use Rattle.relay_model.specs.Batch.{commit_count, last_string}
+use Rattle.relay_model.specs.Batch.{Batch, commit_count, edits_past}
+use Rattle.relay_model.specs.Keys.{goes}
+use Rattle.relay_model.specs.Popups.{area, screen}
 use Rattle.relay_model.specs.Idle.{history}
+use Rattle.kbd_grab.specs.Keyboard as keyboard
+use Rattle.kbd_grab.specs.declared.keyboard.Route.{Route}
+use Rattle.edit_batch.specs.Calls.{LastEdits}
+use Rattle.field_state.specs.Calls as field
+use Rattle.field_state.specs.Stands.{Kept as KeptField}
+use Rattle.field_state.specs.declared.commit.Word.{Word as KeptWord}
+use Rattle.field_state.specs.declared.commit.Word.TheVariants as kept
 use Rattle.relay_core.specs.declared.object.Object.{Object as Kept}
 use Rattle.relay_core.specs.declared.object.Kind.{Kind}
-use Rattle.relay_core.specs.declared.object.Kind.TheVariants.{Peer, Surface, Field, Method}
-use Rattle.relay_core.specs.Machine.{State}
+use Rattle.relay_core.specs.declared.object.Kind.TheVariants.{Peer, Surface, Field, Method, Popup, Grab}
+use Rattle.relay_core.specs.Machine.{State, no_edits}
 use Rattle.relay_core.specs.Kept.{Shown}
+use Rattle.relay_core.specs.KeyCalls.{key_calls, route_of}
+
+-- a word as a field keeps it
+abbrev pub word_kept : Option Word → Option KeptWord
+word_kept None = None
+word_kept (Some Enabled) = Some kept.Enabled
+word_kept (Some Disabled) = Some kept.Disabled
+
+abbrev pub around_kept : Option Around → Option field.Surrounding
+around_kept None = None
+around_kept (Some around) = Some (record { text = around.text; cursor = around.cursor; anchor = around.anchor })
+
+-- a state as a field keeps it
+abbrev pub state_kept : FieldState → field.State
+state_kept s =
+    record { surrounding = around_kept s.surrounding; cause = s.cause; content = (s.content.hint, s.content.purpose); rect = s.rect }
+
+-- the current state of x, initial where it doesn't hold
+abbrev pub current_where : Bool → List Act → ℕ → field.State
+current_where held log x = (if held then state_kept (current log x) else field.initial)
+
+-- what the field x keeps
+abbrev pub field_kept : List Act → ℕ → KeptField
+field_kept log x =
+    record {
+      entered = entered log x;
+      word = word_kept (word log x);
+      holds = is_at (holder log) x;
+      count = commit_count log x;
+      pending = state_kept (pending log x);
+      current = current_where (is_at (holder log) x) log x;
+    }
 
 -- what the relay keeps of an object's kind
 abbrev pub kind_of : List Act → ℕ → model.Kind → Kind
 kind_of log x PeerKind = Peer
-kind_of log x SurfaceKind = Surface
-kind_of log x FieldKind = Field (word log x) (commit_count log x)
+kind_of log x SurfaceKind = Surface (area log x)
+kind_of log x FieldKind = Field (field_kept log x)
 kind_of log x MethodKind = Method
+kind_of log x (PopupKind m t) = Popup m t
+kind_of log x (GrabKind m) = Grab m
 
 -- what the relay keeps of the object x
 abbrev pub entry_of : List Act → ℕ → Option Object → Kept
@@ -47,38 +94,25 @@ abbrev pub count_since : Option ℕ → List ℕ → ℕ
 count_since None xs = 0
 count_since (Some n) xs = count_from n xs
 
-abbrev pub string_since : List Act → Option ℕ → Option ℕ → List ℕ
-string_since log (Some m) (Some b) = last_string b log m
-string_since log None b = []
-string_since log (Some m) None = []
+-- a batch as pending edits
+abbrev pub edits_of : Batch → LastEdits
+edits_of b =
+    record {
+      deletion = (b.deletion.before, b.deletion.after);
+      string = b.string;
+      preedit = record { text = b.preedit.text; begin = b.preedit.begin; end = b.preedit.end };
+    }
 
--- the acts that are built so far
-abbrev pub is_built : Act → Bool
-is_built (acts.Popup m s) = false
-is_built (acts.Grab m) = false
-is_built (acts.Area s rect) = false
-is_built (acts.Screen size) = false
-is_built (acts.Surround f text cursor anchor) = false
-is_built (acts.Cause f cause) = false
-is_built (acts.Content f hint purpose) = false
-is_built (acts.Cursor f rect) = false
-is_built (acts.MPreedit m text begin end) = false
-is_built (acts.MDelete m before after) = false
-is_built (acts.Key time key state) = false
-is_built (acts.Mods depressed latched locked group) = false
-is_built (acts.Keymap format token size) = false
-is_built (acts.Repeat rate delay) = false
-is_built _ = true
-
--- all acts of the list are built
-abbrev pub AllBuilt : List Act → Type 0
-AllBuilt [] = Unit {0}
-AllBuilt (act ∷ older) = (is_built act ≡ true) × AllBuilt older
+-- the pending edits of the serving method, while an activation is present
+abbrev pub edits_since : List Act → Option ℕ → Option ℕ → LastEdits
+edits_since log (Some m) (Some b) = edits_of (edits_past b log m)
+edits_since log None b = no_edits
+edits_since log (Some m) None = no_edits
 
 -- what the relay keeps of the serving method, each part a definition's value at the end of a history
-pub record StandsServed (method : Option ℕ) (string : List ℕ) (active : Bool) (count since : ℕ) (log : List Act) : Type 0 where
+pub record StandsServed (method : Option ℕ) (edits : LastEdits) (active : Bool) (count since : ℕ) (log : List Act) : Type 0 where
   pub serving_now : method ≡ serving log
-  pub string_now : string ≡ string_since log (serving log) (begun log)
+  pub edits_now : edits ≡ edits_since log (serving log) (begun log)
   pub active_now : active ≡ is_some (begun log)
   pub dones_now : count ≡ length (dones_told log (serving log)) % 2 ^ 32
   pub since_now : since ≡ min (count_since (begun log) (dones_told log (serving log))) (2 ^ 32)
@@ -89,9 +123,15 @@ pub record Stands (relay : State) (log : List Act) : Type 0 where
   pub objects_now : relay.objects ≡ entries log
   pub focus_now : relay.focus ≡ focus log
   pub holder_now : relay.holder ≡ holder log
-  pub served_now : StandsServed relay.serving relay.string relay.active relay.dones relay.since log
-  pub built_now : AllBuilt log
+  pub served_now : StandsServed relay.serving relay.edits relay.active relay.dones relay.since log
+  pub screen_now : relay.screen ≡ screen log
+  pub keys_now : keyboard.StandsFor (key_calls log) relay.keys
 
 -- a relay stands for a list of acts, the newest first: what it keeps is what the definitions say of their history
 abbrev pub StandsFor : Shown → List Act → Type 0
 StandsFor relay log = Stands relay.state (history log)
+
+-- where a key act goes after the acts of a list
+abbrev pub route_told : Act → List Act → Option Route
+route_told (acts.Key time key state) log = Some (route_of (goes (history log) key state))
+route_told _ log = None

@@ -1,12 +1,14 @@
 // Where the relay puts what is told.
-ghost use Rattle.std.specs.Prelude.{◌≡◌, [], ◌∷◌, map};
+ghost use Rattle.std.specs.Prelude.{◌≡◌, [], ◌∷◌, map, option_map};
 ghost use Rattle.relay_model.specs.declared.said.Told.{Told};
-ghost use Rattle.relay_model.specs.Batch.{string_said};
+ghost use Rattle.relay_model.specs.Batch.{deletion_said, string_said, preedit_said};
 ghost use Rattle.relay_model.specs.Told.{to, deleted};
 ghost use Rattle.relay_core.specs.Reached.{Reached};
-ghost use Rattle.relay_core.specs.Machine.{said_to, activate_told, update_told, deactivate_told, group_told};
+ghost use Rattle.relay_core.specs.Groups.{preedit_in, batch_in};
+ghost use Rattle.relay_core.specs.Machine.{said_to, current_of, text_around, around_told, state_told, group_told, activate_told, update_told, deactivate_told};
 
 use crate::object::{Object, is_number};
+use field_state::Field;
 use relay_model::{Label, Said, Text, Told};
 
 /// Takes what is told, one event at a time. Its one meaning is which posts may follow a post that is told something.
@@ -59,19 +61,34 @@ pub fn tell_leaves<P: Post>(objects: &[Object], peer: Option<Label>, surface: La
     }
 }
 
-/// Tells the serving method the state of the holder, and the done that ends it.
-pub fn tell_update<P: Post>(serving: Option<Label>, post: &mut P)
-    ensures { Reached P.may_follow post.old (update_told serving) post.new }
+fn tell_around<P: Post>(method: Label, field: &Field, text: Text, post: &mut P)
+    requires { text ≡ text_around field.now.current.surrounding }
+    ensures { Reached P.may_follow post.old (around_told method field.now.current.surrounding field.now.current.cause) post.new }
 {
-    let Some(method) = serving else {
-        return;
-    };
+    if let Some((_, cursor, anchor)) = field.surrounding() {
+        post.tell(&Told {
+            to: method,
+            event: Said::Surrounding {
+                text,
+                cursor,
+                anchor,
+            },
+        });
+        post.tell(&Told {
+            to: method,
+            event: Said::ChangeCause {
+                cause: field.cause(),
+            },
+        });
+    }
+}
+
+fn tell_content<P: Post>(method: Label, hint: u32, purpose: u32, post: &mut P)
+    ensures { Reached P.may_follow post.old (to method (Said.ContentType hint purpose) ∷ to method Said.MethodDone ∷ []) post.new }
+{
     post.tell(&Told {
         to: method,
-        event: Said::ContentType {
-            hint: 0,
-            purpose: 0,
-        },
+        event: Said::ContentType { hint, purpose },
     });
     post.tell(&Told {
         to: method,
@@ -79,18 +96,53 @@ pub fn tell_update<P: Post>(serving: Option<Label>, post: &mut P)
     });
 }
 
+// Tells the method the state of the field, with a copy of its surrounding text, and the done that ends it.
 #[tactic(auto, using(crate::proofs::Reaches::reached_append))]
-pub fn tell_activate<P: Post>(serving: Option<Label>, post: &mut P)
-    ensures { Reached P.may_follow post.old (activate_told serving) post.new }
+fn tell_state<P: Post>(method: Label, field: Option<&Field>, text: Text, post: &mut P)
+    requires { text ≡ text_around (current_of (option_map (λ f. f.now) field)).surrounding }
+    ensures { Reached P.may_follow post.old (state_told method (current_of (option_map (λ f. f.now) field.entry))) post.new }
 {
-    let Some(method) = serving else {
+    let Some(field) = field else {
+        tell_content(method, 0, 0, post);
         return;
     };
-    post.tell(&Told {
-        to: method,
-        event: Said::Activate,
-    });
-    tell_update(serving, post);
+    tell_around(method, field, text, post);
+    let (hint, purpose) = field.content();
+    tell_content(method, hint, purpose, post);
+}
+
+/// Tells the serving method the state of the holder, with a copy of its surrounding text, and the done that ends it.
+pub fn tell_update<P: Post>(
+    serving: Option<Label>,
+    holder: Option<&Field>,
+    text: Text,
+    post: &mut P,
+)
+    requires { text ≡ text_around (current_of (option_map (λ f. f.now) holder)).surrounding }
+    ensures { Reached P.may_follow post.old (update_told (current_of (option_map (λ f. f.now) holder.entry)) serving) post.new }
+{
+    if let Some(method) = serving {
+        tell_state(method, holder, text, post);
+    }
+}
+
+/// Tells the serving method that a hold begins, and then what `tell_update` tells.
+pub fn tell_activate<P: Post>(
+    serving: Option<Label>,
+    holder: Option<&Field>,
+    text: Text,
+    post: &mut P,
+)
+    requires { text ≡ text_around (current_of (option_map (λ f. f.now) holder)).surrounding }
+    ensures { Reached P.may_follow post.old (activate_told (current_of (option_map (λ f. f.now) holder.entry)) serving) post.new }
+{
+    if let Some(method) = serving {
+        post.tell(&Told {
+            to: method,
+            event: Said::Activate,
+        });
+        tell_state(method, holder, text, post);
+    }
 }
 
 pub fn tell_deactivate<P: Post>(serving: Option<Label>, post: &mut P)
@@ -130,16 +182,51 @@ pub fn tell_deleted<P: Post>(label: Label, peer: Option<Label>, post: &mut P)
     }
 }
 
-/// Tells the holder a batch: its string unless that is empty, and the done with the count of the field's commits.
-#[tactic(auto, using(crate::proofs::Reaches::reached_append))]
-pub fn tell_group<P: Post>(field: Label, string: Text, count: u32, post: &mut P)
-    ensures { Reached P.may_follow post.old (group_told string count field) post.new }
+/// The edits of one batch.
+#[derive(Drop)]
+pub struct Group {
+    pub before: u32,
+    pub after: u32,
+    pub string: Text,
+    pub preedit: Preedit,
+}
+
+/// A preedit with the bytes where its cursor begins and ends.
+#[derive(Drop)]
+pub struct Preedit {
+    pub text: Text,
+    pub begin: i32,
+    pub end: i32,
+}
+
+/// Tells the holder a batch: its deletion, its string and its preedit, each unless it is empty, and the done with the count of the field's commits.
+pub fn tell_group<P: Post>(field: Label, edits: Group, count: u32, post: &mut P)
+    ensures { Reached P.may_follow post.old (group_told (batch_in edits) count field) post.new }
 {
-    tell_string(field, string, post);
+    tell_deletion(field, edits.before, edits.after, post);
+    tell_string(field, edits.string, post);
+    tell_preedit(field, edits.preedit, post);
+    tell_done(field, count, post);
+}
+
+fn tell_done<P: Post>(field: Label, count: u32, post: &mut P)
+    ensures { Reached P.may_follow post.old (to field (Said.FieldDone count) ∷ []) post.new }
+{
     post.tell(&Told {
         to: field,
         event: Said::FieldDone { serial: count },
     });
+}
+
+fn tell_deletion<P: Post>(field: Label, before: u32, after: u32, post: &mut P)
+    ensures { Reached P.may_follow post.old (map (to field) (deletion_said (record { before = before; after = after }))) post.new }
+{
+    if before != 0 || after != 0 {
+        post.tell(&Told {
+            to: field,
+            event: Said::Delete { before, after },
+        });
+    }
 }
 
 fn tell_string<P: Post>(field: Label, string: Text, post: &mut P)
@@ -149,6 +236,21 @@ fn tell_string<P: Post>(field: Label, string: Text, post: &mut P)
         post.tell(&Told {
             to: field,
             event: Said::CommitString { text: string },
+        });
+    }
+}
+
+fn tell_preedit<P: Post>(field: Label, preedit: Preedit, post: &mut P)
+    ensures { Reached P.may_follow post.old (map (to field) (preedit_said (preedit_in preedit))) post.new }
+{
+    if !(preedit.text.is_empty() && preedit.begin == 0 && preedit.end == 0) {
+        post.tell(&Told {
+            to: field,
+            event: Said::Preedit {
+                text: preedit.text,
+                begin: preedit.begin,
+                end: preedit.end,
+            },
         });
     }
 }

@@ -1,7 +1,11 @@
 // The relay as its callers see it.
 use crate::machine::Machine;
+use crate::object::has_popup;
 use crate::post::Post;
-use relay_model::{Act, Text};
+use crate::spare::Spare;
+use edit_batch::Pending;
+use kbd_grab::{Grab, Route};
+use relay_model::{Act, Label, Size};
 use serial_count::{Count32, Since};
 use std::alloc::Global;
 use std::marker::Model;
@@ -16,8 +20,12 @@ pub struct Relay {
 
 impl Model for Relay {
     ghost use Rattle.relay_core.specs.Kept.{Shown, shown};
+    ghost use Rattle.std.specs.Coded.{codes};
+    ghost use Rattle.kbd_grab.specs.Keyboard.{keyboard_code};
 
     ghost Value = { Shown };
+
+    ghost coded = { Prim.hlevel (codes, keyboard_code) };
 
     ghost view = { λ r. shown r.machine };
 }
@@ -25,10 +33,13 @@ impl Model for Relay {
 impl Relay {
     ghost use Rattle.std.specs.Prelude.{◌≡◌, ◌<◌, List, [], ◌∷◌, length, true, IfOk, OnOk};
     ghost use Rattle.relay_model.specs.declared.act.Act.{Act};
+    ghost use Rattle.relay_model.specs.Objects.{has_popup};
+    ghost use Rattle.relay_model.specs.Idle.{history};
     ghost use Rattle.relay_model.specs.Told.{told};
     ghost use Rattle.relay_core.specs.Reached.{Reached};
+    ghost use Rattle.relay_core.specs.Fits.{FitsMessage};
     ghost use Rattle.relay_core.specs.Kept.{IsReserved};
-    ghost use Rattle.relay_core.specs.Stands.{StandsFor, is_built};
+    ghost use Rattle.relay_core.specs.Stands.{StandsFor, route_told};
 
     /// A relay that took no act.
     pub fn new(alloc: Global) -> Result<Relay, NoMemory>
@@ -42,11 +53,16 @@ impl Relay {
                 focus: None,
                 holder: None,
                 serving: None,
-                string: Text::empty(alloc),
+                pending: Pending::new(alloc)?,
                 active: false,
                 dones: Count32::at(0),
                 since: Since::at(0),
-                spare: None,
+                screen: Size {
+                    width: 0,
+                    height: 0,
+                },
+                keys: Grab::new(alloc)?,
+                spare: Spare::new(alloc),
             },
         })
     }
@@ -59,9 +75,11 @@ impl Relay {
         self.machine.acts
     }
 
-    /// Makes the room for one act, with a copy of the text that it may tell. The relay stands for what it stood for, also after `NoMemory`.
+    /// Makes the room for one act, with copies of the texts that it may tell and the place of a field that it may make. Asks that a message can carry the
+    /// act's text. The relay stands for what it stood for, also after `NoMemory`.
     #[tactic(auto, using(crate::proofs::Rooms::has_room))]
     pub fn reserve(&mut self, act: &Act) -> Result<(), NoMemory>
+        requires { FitsMessage act.now }
         ensures same { self.new.state ≡ self.old.state }
         ensures stands { (log : List Act) → StandsFor self.old log → StandsFor self.new log }
         ensures reserved { OnOk result (IsReserved self.new act.now) }
@@ -70,14 +88,22 @@ impl Relay {
     }
 
     /// Takes one act, for which room was made, and tells the post what it tells: one `tell` for each event, in order, and no other. The end of a peer
-    /// needs no room. Takes no memory and can't fail. At most 4,294,967,295 acts are taken.
-    pub fn step<P: Post>(&mut self, act: &Act, post: &mut P)
+    /// needs no room. Takes no memory and can't fail. At most 4,294,967,295 acts are taken. The answer is where a key act went, and none for any other act;
+    /// a press that is refused is idle, and its route says so.
+    pub fn step<P: Post>(&mut self, act: &Act, post: &mut P) -> Option<Route>
         requires reserved { IsReserved self.old act.now }
         requires number { self.old.state.acts < 4294967295 }
-        requires built { is_built act.now ≡ true }
         ensures stands { (log : List Act) → StandsFor self.old log → StandsFor self.new (act.now ∷ log) }
         ensures told { (log : List Act) → StandsFor self.old log → Reached P.may_follow post.old (told act.now log) post.new }
+        ensures route { (log : List Act) → StandsFor self.old log → result ≡ route_told act.now log }
     {
-        self.machine.turn(act, post);
+        self.machine.turn(act, post)
+    }
+
+    /// Whether a live popup has the surface (`zwp_input_method_v2.get_input_popup_surface` would be refused).
+    pub fn has_popup(&self, surface: Label) -> bool
+        ensures { (log : List Act) → StandsFor self.now log → result ≡ has_popup (history log) surface }
+    {
+        has_popup(&self.machine.objects, surface)
     }
 }

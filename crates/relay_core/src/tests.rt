@@ -1,5 +1,8 @@
 // What no clause tells: that memory is found. The events are those that were worked out by hand.
-use crate::{Post, Relay, is_built};
+ghost use Rattle.std.specs.Prelude.{◌≡◌, true};
+ghost use Rattle.relay_core.specs.Fits.{FitsMessage};
+
+use crate::{Post, Relay};
 use relay_model::{Act, Said, Text, Told};
 use std::test::Fail;
 
@@ -37,6 +40,17 @@ impl Post for Script {
     }
 }
 
+// A message can carry the act's text.
+fn fits(act: &Act) -> bool
+    ensures { result ≡ true → FitsMessage act.now }
+{
+    match act {
+        Act::Surround { text, .. } | Act::MPreedit { text, .. } => text.len() <= 4075,
+        Act::MString { text, .. } => text.len() <= 4083,
+        _ => true,
+    }
+}
+
 #[test]
 fn one_string_comes_to_its_field(rt: HostRuntime) -> Result<(), Fail> {
     let mut relay = Relay::new(rt.alloc())?;
@@ -64,9 +78,10 @@ fn one_string_comes_to_its_field(rt: HostRuntime) -> Result<(), Fail> {
         ),
     ];
     for (act, told) in &rows {
-        assert!(rt; is_built(act) && relay.acts() < u32::MAX);
+        assert!(rt; fits(act) && relay.acts() < u32::MAX);
         relay.reserve(act)?;
-        relay.step(act, &mut post);
+        let route = relay.step(act, &mut post);
+        assert!(rt; route.is_none());
         assert!(rt; !post.failed, "after {act:?}");
         assert_eq!(rt; post.told, *told, "after {act:?}");
     }

@@ -4,7 +4,7 @@ use Rattle.std.proofs.lemmas.Bool.{ne_eqb, lt-leb, le-leb}
 use Rattle.relay_model.specs.declared.act.Act.{Act}
 use Rattle.relay_model.specs.declared.act.Act.TheVariants.{Commit, Idle}
 use Rattle.relay_model.specs.Objects.{is_field, is_field_kind}
-use Rattle.relay_model.specs.Batch.{commits, commit_count, string_by, last_string}
+use Rattle.relay_model.specs.Batch.{commits, commit_count, no_batch, edits_by, edits_past}
 use Rattle.relay_model.proofs.Histories.{IsHistory, live}
 use Rattle.relay_model.proofs.ObjectLaws.{kind_within}
 
@@ -20,10 +20,10 @@ commits_beyond (_ ∷ older) f h l = commits_beyond older f h.1 (omega arith)
 pub count_new : (log : List Act) (f : ℕ) → IsHistory log → length log < f → commit_count log f ≡ 0
 count_new log f h l = rw (commits_beyond log f h l) refl
 
--- the pending string after an act, counted from an earlier one
-pub string_step : (act : Act) (log : List Act) (b m : ℕ) → b ≤ length log → last_string b (act ∷ log) m ≡ string_by act m (last_string b log m)
-string_step act log b m h = rw (lt-leb (length log + 1) b (omega arith)) refl
+-- the pending edits after an act, counted from an earlier one
+pub edits_step : (act : Act) (log : List Act) (b m : ℕ) → b ≤ length log → edits_past b (act ∷ log) m ≡ edits_by act m (edits_past b log m)
+edits_step act log b m h = rw (lt-leb (length log + 1) b (omega arith)) refl
 
--- no pending string is older than the act itself
-pub string_new : (act : Act) (log : List Act) (m : ℕ) → last_string (length log + 1) (act ∷ log) m ≡ []
-string_new act log m = rw (le-leb (length log + 1) (length log + 1) (omega arith)) refl
+-- no pending edit is older than the act itself
+pub edits_new : (act : Act) (log : List Act) (m : ℕ) → edits_past (length log + 1) (act ∷ log) m ≡ no_batch
+edits_new act log m = rw (le-leb (length log + 1) (length log + 1) (omega arith)) refl

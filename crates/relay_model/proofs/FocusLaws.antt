@@ -107,7 +107,7 @@ entered_within log f h = kind_within is_field_kind log f (entered_field log f h)
 pub entered_since_within : (log : List Act) (f : ℕ) → f ≤ length log → entered_since log f ≤ length log
 entered_since_within log f h = omega (arith, focus_since_within log)
 
-same_none : (o : Option ℕ) → is_same o None ≡ false
+pub same_none : (o : Option ℕ) → is_same o None ≡ false
 same_none None = refl
 same_none (Some x) = refl
 

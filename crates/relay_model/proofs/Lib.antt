@@ -4,3 +4,6 @@ pub mod FocusLaws
 pub mod HoldLaws
 pub mod ActivationLaws
 pub mod BatchLaws
+pub mod LookingBack
+pub mod PendingLaws
+pub mod StateLaws

@@ -4,7 +4,7 @@ use Rattle.std.specs.Prelude.{◌==◌, if◌then◌else◌, is_some}
 use Rattle.std.proofs.lemmas.Bool.{ne_eqb, eq-eqb, cases_lt, true≢false}
 use Rattle.relay_model.specs.declared.act.Act.{Act}
 use Rattle.relay_model.specs.declared.act.Act.TheVariants.{Drop, Gone}
-use Rattle.relay_model.specs.Objects.{Object, is_kind, Kind, owner, made, remains, object, alive}
+use Rattle.relay_model.specs.Objects.{Object, is_kind, Kind, owner, made, maker, remains, object, alive}
 
 pub if_same : {A : Type 0} (b : Bool) (x : A) → (if b then x else x) ≡ x
 if_same true x = refl
@@ -30,7 +30,8 @@ pub object_step : (act : Act) (log : List Act) (x : ℕ) → x ≤ length log �
 object_step act log x h = rw (ne_eqb x (length log + 1) (λ e. omega arith)) refl
 
 -- the object of the act itself
-pub object_new : (act : Act) (log : List Act) → object (act ∷ log) (length log + 1) ≡ made act (length log + 1)
+pub object_new : (act : Act) (log : List Act) →
+    object (act ∷ log) (length log + 1) ≡ made act (length log + 1) (owner (object log (maker act)))
 object_new act log = rw (eq-eqb (length log + 1) (length log + 1) refl) refl
 
 pub alive_within : (log : List Act) (x : ℕ) → alive log x ≡ true → x ≤ length log

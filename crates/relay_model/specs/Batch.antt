@@ -31,6 +31,9 @@ no_deletion = record { before = 0; after = 0 }
 abbrev pub no_preedit : Preedit
 no_preedit = record { text = []; begin = pos 0; end = pos 0 }
 
+abbrev pub no_batch : Batch
+no_batch = record { deletion = no_deletion; string = []; preedit = no_preedit }
+
 -- what an act makes of the last deletion of m, where rest is what the acts before it say
 abbrev pub deletion_by : Act → ℕ → Deletion → Deletion
 deletion_by (MDelete n before after) m rest = (if n == m then record { before = before; after = after } else rest)
@@ -69,6 +72,11 @@ last_preedit from (act ∷ older) m =
 abbrev pub edits_past : ℕ → List Act → ℕ → Batch
 edits_past from log m =
     record { deletion = last_deletion from log m; string = last_string from log m; preedit = last_preedit from log m }
+
+-- what an act makes of the pending edits of m
+abbrev pub edits_by : Act → ℕ → Batch → Batch
+edits_by act m rest =
+    record { deletion = deletion_by act m rest.deletion; string = string_by act m rest.string; preedit = preedit_by act m rest.preedit }
 
 -- what a commit of m makes one batch: its last edits since its previous commit and since its activation began
 abbrev pub batch : List Act → ℕ → Batch

@@ -3,8 +3,9 @@ use Rattle.std.specs.Prelude.{ℕ, ℤ, pos, negsuc, List, [], ◌∷◌, length
 use Rattle.popup_place.specs.declared.geometry.Rect.{Rect}
 use Rattle.relay_model.specs.declared.act.Act.{Act}
 use Rattle.relay_model.specs.declared.act.Act.TheVariants as acts
-use Rattle.relay_model.specs.Objects.{is_at, is_field, is_surface, is_method, is_peer, alive}
+use Rattle.relay_model.specs.Objects.{is_at, is_field, is_surface, is_method, is_peer, alive, has_popup}
 use Rattle.relay_model.specs.Focus.{focus, entered}
+use Rattle.relay_model.specs.Keys.{is_refused}
 
 -- the offset is that of a character's first byte, or the text's end
 abbrev pub is_boundary : List ℕ → ℕ → Bool
@@ -25,16 +26,20 @@ abbrev pub is_sized : Rect → Bool
 is_sized rect = is_not_negative rect.width && is_not_negative rect.height
 
 -- The act does something: the objects that it names are alive and of its kind, a focus moves the focus, a request of a field other than commit and drop
--- comes while the field is entered, and a surrounding text or a rectangle is one.
+-- comes while the field is entered, a surrounding text or a rectangle is one, the surface of a new popup has none, and a press isn't refused.
 abbrev pub is_live : Act → List Act → Bool
 is_live acts.Peer older = true
 is_live (acts.Gone p cause) older = is_peer older p
 is_live (acts.Surface p) older = is_peer older p
 is_live (acts.Field p) older = is_peer older p
 is_live (acts.Method p) older = is_peer older p
+is_live (acts.Popup m s) older = is_method older m && (is_surface older s && not (has_popup older s))
+is_live (acts.Grab m) older = is_method older m
 is_live (acts.Drop x) older = alive older x && not (is_peer older x)
 is_live (acts.Focus s) older = is_surface older s && not (is_at (focus older) s)
 is_live acts.Unfocus older = not (is_none (focus older))
+is_live (acts.Area s rect) older = is_surface older s
+is_live (acts.Screen size) older = true
 is_live (acts.Enable f) older = entered older f
 is_live (acts.Disable f) older = entered older f
 is_live (acts.Surround f text cursor anchor) older = entered older f && is_place text cursor && is_place text anchor
@@ -46,8 +51,11 @@ is_live (acts.MString m text) older = is_method older m
 is_live (acts.MPreedit m text begin end) older = is_method older m
 is_live (acts.MDelete m before after) older = is_method older m
 is_live (acts.MCommit m serial) older = is_method older m
--- Popups and keys have no definitions yet, and the relay takes no such act.
-is_live _ older = false
+is_live (acts.Key time key state) older = not (is_refused older key state)
+is_live (acts.Mods depressed latched locked group) older = true
+is_live (acts.Keymap format token size) older = true
+is_live (acts.Repeat rate delay) older = true
+is_live acts.Idle older = false
 
 -- the act, or Idle in its place
 abbrev pub cleaned : Act → List Act → Act

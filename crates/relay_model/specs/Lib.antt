@@ -1,9 +1,14 @@
+pub mod Events
 pub mod Objects
 pub mod Focus
 pub mod Hold
 pub mod Current
+pub mod Pending
 pub mod Activation
 pub mod Batch
+pub mod Keys
+pub mod Popups
 pub mod Idle
 pub mod Told
 pub mod Rows
+pub mod KeyRows

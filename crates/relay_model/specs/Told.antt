@@ -1,20 +1,21 @@
 -- What an act tells.
 use Rattle.std.specs.Prelude.{ℕ, List, [], ◌∷◌, ◌++◌, map, filter, if◌then◌else◌, Option, Some, None, is_some}
 use Rattle.relay_model.specs.declared.act.Act.{Act}
-use Rattle.relay_model.specs.declared.act.Act.TheVariants.{Field, Method, Drop, Focus, Unfocus, MCommit}
+use Rattle.relay_model.specs.declared.act.Act.TheVariants.{Field, Method, Popup, Grab, Drop, Focus, Unfocus, Area, Screen, Commit, MCommit, Key, Mods, Keymap, Repeat}
 use Rattle.relay_model.specs.declared.said.Told.{Told}
 use Rattle.relay_model.specs.declared.said.Said.{Said}
 use Rattle.relay_model.specs.declared.said.Said.TheVariants as said
-use Rattle.relay_model.specs.Objects.{next, fields, peer_of}
+use Rattle.relay_model.specs.Objects.{next, is_at, fields, peer_of}
 use Rattle.relay_model.specs.Focus.{focus, entered}
 use Rattle.relay_model.specs.Hold.{holder}
 use Rattle.relay_model.specs.Current.{State, Around, current}
 use Rattle.relay_model.specs.Activation.{Notice, Activates, Updates, Deactivates, serving, notice, fresh}
 use Rattle.relay_model.specs.Batch.{group_of}
+use Rattle.relay_model.specs.Keys as keys
+use Rattle.relay_model.specs.Keys.{Goes, ToGrab, ToShell, Nowhere, Refused, goes, standing, last_keymap, last_repeat, last_mods}
+use Rattle.relay_model.specs.Popups.{popup_told, each_popup}
 use Rattle.relay_model.specs.Idle.{cleaned, history}
-
-abbrev pub to : ℕ → Said → Told
-to label said = record { to = label; event = said }
+pub use Rattle.relay_model.specs.Events.{to}
 
 abbrev pub leave : ℕ → ℕ → Told
 leave surface field = to field (said.Leave surface)
@@ -78,11 +79,49 @@ abbrev pub deleted : ℕ → Option ℕ → List Told
 deleted x None = []
 deleted x (Some p) = to p (said.DeleteId x) ∷ []
 
--- the act's own events: a method beside the one that serves, a fresh batch, the id of a dropped object
+-- a key is told with the number of its act as its serial
+abbrev pub key_told : ℕ → ℕ → ℕ → ℕ → Goes → List Told
+key_told n time key state (ToGrab g) = to g (said.Key n time key state) ∷ []
+key_told n time key state ToShell = to 0 (said.Pass time key state) ∷ []
+key_told n time key state Nowhere = []
+key_told n time key state Refused = []
+
+abbrev pub keymap_said : Option keys.Keymap → List Said
+keymap_said None = []
+keymap_said (Some k) = said.Keymap k.format k.token k.size ∷ []
+
+abbrev pub repeat_said : Option keys.Repeat → List Said
+repeat_said None = []
+repeat_said (Some r) = said.Repeat r.rate r.delay ∷ []
+
+-- modifiers are told with the number of the act as their serial
+abbrev pub mods_said : ℕ → Option keys.Mods → List Said
+mods_said n None = []
+mods_said n (Some m) = said.Mods n m.depressed m.latched m.locked m.group ∷ []
+
+-- what a grab is told that stands from the act n on: the last keymap, repeat and modifiers, as far as there were any
+abbrev pub keyboard_said : ℕ → List Act → List Said
+keyboard_said n log = keymap_said (last_keymap log) ++ (repeat_said (last_repeat log) ++ mods_said n (last_mods log))
+
+abbrev pub to_grab : Option ℕ → Said → List Told
+to_grab None said = []
+to_grab (Some g) said = to g said ∷ []
+
+-- The act's own events: a method beside the one that serves, what a grab is told that stands, the id of a dropped object, a fresh batch, a key, what the
+-- shell says of the keyboard, and of each popup where it is, after a commit of the holder and when the shell places surfaces.
 abbrev pub own : Act → List Act → List Told
 own (Method p) older = (if is_some (serving older) then to (next older) said.Unavailable ∷ [] else [])
-own (MCommit m serial) older = (if fresh (MCommit m serial) older then to_holder (MCommit m serial) older (holder older) else [])
+own (Popup m s) older = popup_told (Popup m s ∷ older) (next older)
+own (Grab m) older = (if is_at (standing (Grab m ∷ older)) (next older) then map (to (next older)) (keyboard_said (next older) older) else [])
 own (Drop x) older = deleted x (peer_of older x)
+own (Area s rect) older = each_popup (Area s rect ∷ older)
+own (Screen size) older = each_popup (Screen size ∷ older)
+own (Commit f) older = (if is_at (holder (Commit f ∷ older)) f then each_popup (Commit f ∷ older) else [])
+own (MCommit m serial) older = (if fresh (MCommit m serial) older then to_holder (MCommit m serial) older (holder older) else [])
+own (Key time key state) older = key_told (next older) time key state (goes older key state)
+own (Mods depressed latched locked group) older = to_grab (standing older) (said.Mods (next older) depressed latched locked group)
+own (Keymap format token size) older = to_grab (standing older) (said.Keymap format token size)
+own (Repeat rate delay) older = to_grab (standing older) (said.Repeat rate delay)
 own _ older = []
 
 -- all that an act tells after a history, in order

@@ -1,5 +1,6 @@
 // The worked rows, which the definitions compute.
 ghost use Rattle.relay_model.specs.Rows.{OrdinaryPath, SerialBeforeAnyDone, EarlierDone, NewActivation, ResetAtActivation, EmptyBatch, CommitsBeforeTheFocus, SecondField, LateMethod, CursorInsideACharacter, DroppedSurface, FocusAgain, CauseOfOneCommit, SetBeforeEnable, WholeBatch};
+ghost use Rattle.relay_model.specs.KeyRows.{Routing, ReleasedAfterTheGrab, GrabsInTurn, Placement, TwoPopups, PopupWithoutSurface, RectangleReset, PopupBesidePopup, TooManyKeys};
 
 /// What the definitions tell of the worked act lists is what was worked out by hand.
 pub fn worked_rows()
@@ -18,4 +19,13 @@ pub fn worked_rows()
     ensures cause_of_one_commit { CauseOfOneCommit }
     ensures set_before_enable { SetBeforeEnable }
     ensures whole_batch { WholeBatch }
+    ensures routing { Routing }
+    ensures released_after_the_grab { ReleasedAfterTheGrab }
+    ensures grabs_in_turn { GrabsInTurn }
+    ensures placement { Placement }
+    ensures two_popups { TwoPopups }
+    ensures popup_without_surface { PopupWithoutSurface }
+    ensures rectangle_reset { RectangleReset }
+    ensures popup_beside_popup { PopupBesidePopup }
+    ensures too_many_keys { TooManyKeys }
 {}

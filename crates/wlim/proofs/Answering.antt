@@ -1,19 +1,22 @@
 -- The answer for some lines, by its first line.
-use Rattle.std.proofs.Common.{◌≡◌, ℕ, ◌+◌, ◌<◌, Bool, true, false, List, [], ◌∷◌, ◌++◌, length, refl, sym, ap, ◌∙◌, append_assoc, append-nil, Option, Some, None}
+use Rattle.std.proofs.Common.{◌≡◌, ℕ, ◌+◌, ◌<◌, Bool, true, false, List, [], ◌∷◌, ◌++◌, length, refl, sym, ap, subst, ◌∙◌, append_assoc, Option, Some, None}
 use Rattle.std.specs.Prelude.{nat_lt, if◌then◌else◌}
 use Rattle.std.proofs.lemmas.Bool.{ltb-true}
 use Rattle.relay_model.specs.declared.act.Act.{Act}
+use Rattle.relay_model.specs.declared.act.Act.TheVariants as acts
 use Rattle.relay_model.specs.Told.{told}
 use Rattle.wlim.specs.Lines.{lines_of}
 use Rattle.wlim.specs.declared.act_list.Verdict.{Verdict}
 use Rattle.wlim.specs.declared.act_list.Verdict.TheVariants as verdict
 use Rattle.wlim.specs.declared.status.Status.TheVariants as status
 use Rattle.wlim.specs.declared.act_list.TheConstants.{ACT_LIMIT}
-use Rattle.relay_core.specs.Stands.{is_built}
+use Rattle.relay_core.specs.Fits.{FitsMessage}
 use Rattle.session_text.specs.declared.line.Form.TheVariants.{Acts}
 use Rattle.session_text.specs.declared.line.Line.{Line}
 use Rattle.session_text.specs.declared.line.Line.TheVariants as line
+use Rattle.session_text.specs.Grammar.{HasLine}
 use Rattle.session_text.specs.Reading.{line_of}
+use Rattle.session_text.proofs.Laws.{reads_only}
 use Rattle.wlim.specs.Transcript.{verdict_of_line, answer_of, Answer, with_front, answer_from, by_verdict, verdict_of, without_end, act_text, bad_line, long_line}
 
 pub front_of_front : (a b : List ℕ) (x : Answer) → with_front a (with_front b x) ≡ with_front (a ++ b) x
@@ -58,18 +61,26 @@ pub starts : (cut : Bool) (input : List ℕ) → with_front [] (answer_from cut 
 unfolding answer_of
 starts cut input = refl
 
-play_act_by : (count : ℕ) (act found : Act) (b c : Bool) → nat_lt count ACT_LIMIT ≡ b → is_built found ≡ c →
-    verdict.Play act ≡ (if b then (if c then verdict.Play found else verdict.NotBuilt) else verdict.Full) → (count < ACT_LIMIT) × (is_built act ≡ true)
-play_act_by count act found true true e k h = (ltb-true count ACT_LIMIT e, let d : act ≡ found = cc in ap is_built d ∙ k)
-play_act_by count act found true false e k h = cc
-play_act_by count act found false c e k h = cc
+-- an act that a line can give fits a message
+line_fits : (act : Act) → HasLine act → FitsMessage act
+line_fits (acts.Surround f text cursor anchor) h = h.1.1
+line_fits (acts.MString m text) h = h.1.1
+line_fits (acts.MPreedit m text begin end) h = h.1.1
+line_fits _ h = tt
 
-play_line_by : (count : ℕ) (act : Act) (o : Option Line) → verdict.Play act ≡ verdict_of_line count o → (count < ACT_LIMIT) × (is_built act ≡ true)
-play_line_by count act None h = cc
-play_line_by count act (Some line.End) h = cc
-play_line_by count act (Some (line.Act found)) h = play_act_by count act found (nat_lt count ACT_LIMIT) (is_built found) refl refl h
+play_act_by : (count : ℕ) (act found : Act) (b : Bool) → nat_lt count ACT_LIMIT ≡ b → FitsMessage found →
+    verdict.Play act ≡ (if b then verdict.Play found else verdict.Full) → (count < ACT_LIMIT) × FitsMessage act
+play_act_by count act found true e k h = (ltb-true count ACT_LIMIT e, let d : found ≡ act = cc in subst FitsMessage d k)
+play_act_by count act found false e k h = cc
 
--- an act that is played is within the limit, and built
-pub played : (count : ℕ) (raw : List ℕ) (act : Act) → verdict.Play act ≡ verdict_of count raw → (count < ACT_LIMIT) × (is_built act ≡ true)
+play_line_by : (count : ℕ) (act : Act) (raw : List ℕ) (o : Option Line) → line_of Acts raw ≡ o → verdict.Play act ≡ verdict_of_line count o →
+    (count < ACT_LIMIT) × FitsMessage act
+play_line_by count act raw None e h = cc
+play_line_by count act raw (Some line.End) e h = cc
+play_line_by count act raw (Some (line.Act found)) e h =
+    play_act_by count act found (nat_lt count ACT_LIMIT) refl (line_fits found (reads_only Acts raw (line.Act found) e).1) h
+
+-- an act that is played is within the limit, and a message can carry it
+pub played : (count : ℕ) (raw : List ℕ) (act : Act) → verdict.Play act ≡ verdict_of count raw → (count < ACT_LIMIT) × FitsMessage act
 unfolding verdict_of
-played count raw act h = play_line_by count act (line_of Acts raw) h
+played count raw act h = play_line_by count act raw (line_of Acts raw) refl h

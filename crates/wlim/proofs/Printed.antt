@@ -1,6 +1,5 @@
 -- What a printing post has after several tells.
-use Rattle.std.proofs.Common.{◌≡◌, ℕ, ◌+◌, List, [], ◌∷◌, ◌++◌, length, false, string_bytes, ap, refl, sym, ◌∙◌, subst}
-use Rattle.std.specs.List.{flat_map}
+use Rattle.std.proofs.Common.{◌≡◌, List, [], ◌∷◌, ◌++◌, false, string_bytes, ap, sym, ◌∙◌}
 use Rattle.std.proofs.lemmas.List.{append-nil, append_assoc}
 use Rattle.relay_model.specs.declared.said.Told.{Told}
 use Rattle.relay_core.specs.Reached.{Reached}

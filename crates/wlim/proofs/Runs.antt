@@ -1,5 +1,5 @@
 -- What a run wrote and answered.
-use Rattle.std.proofs.Common.{◌≡◌, ◌≢◌, ℕ, ◌<◌, ◌≤◌, Bool, true, false, eqb, List, [], length, take, Option, Some, None, refl, sym, ap, ◌∙◌, subst, arith}
+use Rattle.std.proofs.Common.{◌≡◌, ◌≢◌, ℕ, ◌<◌, Bool, true, false, eqb, List, length, take, Option, Some, None, refl, sym, ap, ◌∙◌, subst, arith}
 use Rattle.std.specs.Prelude.{IfSome}
 use Rattle.std.proofs.lemmas.List.{take_all}
 use Rattle.std.specs.Io.KnownBytes.{Appends}
@@ -77,7 +77,6 @@ decides left reads reads' held held' writes writes' status.ReadFault ran r w m =
 decides left reads reads' held held' writes writes' status.WriteFault ran r w m = w (ran.write_fault refl)
 decides left reads reads' held held' writes writes' status.NoMemory ran r w m = m refl
 decides left reads reads' held held' writes writes' status.JournalFull ran r w m = tt
-decides left reads reads' held held' writes writes' status.NotBuilt ran r w m = tt
 decides left reads reads' held held' writes writes' status.InputLong ran r w m = tt
 
 pub other_words : (words : List (List ℕ)) (left held : Option (List ℕ)) → is_command words ≡ false → IfSome left (λ bytes. (status_of words bytes ≡ status.BadWords) × Appends held held (output_of words bytes))

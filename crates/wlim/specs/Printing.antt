@@ -1,5 +1,5 @@
 -- What a printing post has after it is told something.
-use Rattle.std.specs.Prelude.{◌≡◌, ℕ, List, ◌++◌, false, string_bytes}
+use Rattle.std.specs.Prelude.{◌≡◌, ◌++◌, false, string_bytes}
 use Rattle.relay_model.specs.declared.said.Told.{Told}
 use Rattle.wlim.specs.declared.printer.Printer.{Printer}
 use Rattle.wlim.specs.Transcript.{told_text}

@@ -1,5 +1,5 @@
 -- What the whole call answers and writes.
-use Rattle.std.specs.Prelude.{ℕ, ◌≡◌, ◌≢◌, ◌≤◌, Bool, true, false, if◌then◌else◌, List, [], ◌∷◌, length, take, codes, Option, IfSome}
+use Rattle.std.specs.Prelude.{ℕ, ◌≡◌, ◌≢◌, ◌≤◌, Bool, false, if◌then◌else◌, List, [], ◌∷◌, length, take, codes, Option, IfSome}
 use Rattle.std.specs.Str.{bytes_eq}
 use Rattle.std.specs.Io.KnownBytes.{Appends}
 use Rattle.wio_core.specs.Io.{Rose}
@@ -34,7 +34,6 @@ abbrev pub IsDecided : Status → Type 0
 IsDecided status.Ok = Unit {0}
 IsDecided status.BadSession = Unit {0}
 IsDecided status.JournalFull = Unit {0}
-IsDecided status.NotBuilt = Unit {0}
 IsDecided status.InputLong = Unit {0}
 IsDecided _ = ⊥
 

@@ -11,5 +11,4 @@ number_of status.ReadFault = 4
 number_of status.WriteFault = 5
 number_of status.NoMemory = 6
 number_of status.JournalFull = 7
-number_of status.NotBuilt = 10
 number_of status.InputLong = 11

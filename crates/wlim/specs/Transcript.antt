@@ -1,11 +1,10 @@
 -- What is written for the lines of an act list, and the status.
-use Rattle.std.specs.Prelude.{ℕ, ◌+◌, ◌==◌, nat_le, nat_lt, Bool, if◌then◌else◌, List, [], ◌∷◌, ◌++◌, length, codes, Option, Some, None}
+use Rattle.std.specs.Prelude.{ℕ, ◌+◌, nat_lt, Bool, if◌then◌else◌, List, [], ◌∷◌, ◌++◌, length, codes, Option, Some, None}
 use Rattle.std.specs.List.{flat_map}
 use Rattle.std.specs.Fmt.{decimal}
 use Rattle.relay_model.specs.declared.act.Act.{Act}
 use Rattle.relay_model.specs.declared.said.Told.{Told}
 use Rattle.relay_model.specs.Told.{told}
-use Rattle.relay_core.specs.Stands.{is_built}
 use Rattle.session_text.specs.declared.line.Form.TheVariants.{Acts}
 use Rattle.session_text.specs.declared.line.Line.{Line}
 use Rattle.session_text.specs.declared.line.Line.TheVariants as line
@@ -20,7 +19,7 @@ use Rattle.wlim.specs.Lines.{lines_of}
 
 -- an act after so many others
 abbrev pub verdict_of_act : ℕ → Act → Verdict
-verdict_of_act count act = if nat_lt count ACT_LIMIT then (if is_built act then verdict.Play act else verdict.NotBuilt) else verdict.Full
+verdict_of_act count act = if nat_lt count ACT_LIMIT then verdict.Play act else verdict.Full
 
 abbrev pub verdict_of_line : ℕ → Option Line → Verdict
 verdict_of_line count None = verdict.Bad
@@ -56,9 +55,6 @@ bad_line n = codes "bad line " ++ decimal n ++ codes "\n"
 abbrev pub full_line : ℕ → List ℕ
 full_line n = codes "journal full " ++ decimal n ++ codes "\n"
 
-abbrev pub unbuilt_line : ℕ → List ℕ
-unbuilt_line n = codes "not built " ++ decimal n ++ codes "\n"
-
 abbrev pub long_line : List ℕ
 long_line = codes "input too long\n"
 
@@ -71,7 +67,6 @@ abbrev pub by_verdict : ℕ → Verdict → (Act → List ℕ) → (Act → Answ
 by_verdict n verdict.Bad text rest = (bad_line (n + 1), status.BadSession)
 by_verdict n verdict.End text rest = (end_line n, status.Ok)
 by_verdict n verdict.Full text rest = (full_line n, status.JournalFull)
-by_verdict n verdict.NotBuilt text rest = (unbuilt_line (n + 1), status.NotBuilt)
 by_verdict n (verdict.Play act) text rest = with_front (text act) (rest act)
 
 -- the answer for the lines that are left after the acts of a list, the newest first

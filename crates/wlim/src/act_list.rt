@@ -2,14 +2,15 @@
 ghost use Rattle.std.specs.Prelude.{◌≡◌, ◌<◌, ◌≤◌, ◌+◌, ◌∷◌, [], ◌++◌, List, length, IfOk, OnOk, string_bytes, decimal, codes, false, true};
 ghost use Rattle.relay_model.specs.declared.act.Act.{Act};
 ghost use Rattle.relay_model.specs.Told.{told};
-ghost use Rattle.relay_core.specs.Stands.{StandsFor, is_built};
+ghost use Rattle.relay_core.specs.Fits.{FitsMessage};
+ghost use Rattle.relay_core.specs.Stands.{StandsFor};
 ghost use Rattle.wlim.specs.Transcript.{verdict_of, verdict_of_act, answer_of, act_text};
 ghost use Rattle.wlim.specs.Run.{IsDecided};
 
 use crate::lines::take_line;
 use crate::printer::Printer;
 use crate::status::Status;
-use relay_core::{Relay, is_built};
+use relay_core::Relay;
 use relay_model::Act;
 use session_text::{BadLine, Form, Line, read_line};
 use std::alloc::Global;
@@ -27,8 +28,6 @@ pub enum Verdict {
     Bad,
     /// An act past the limit.
     Full,
-    /// An act that isn't built yet.
-    NotBuilt,
     Play(Act),
 }
 
@@ -38,11 +37,7 @@ fn judge_act(act: Act, count: u32) -> Verdict
     if count >= ACT_LIMIT {
         return Verdict::Full;
     }
-    if is_built(&act) {
-        Verdict::Play(act)
-    } else {
-        Verdict::NotBuilt
-    }
+    Verdict::Play(act)
 }
 
 // What a line is, after so many acts.
@@ -69,7 +64,7 @@ fn append(text: &mut String, front: &str, n: u32) -> Result<(), NoMemory>
 // Plays one act, and prints what it tells.
 fn play(relay: &mut Relay, act: &Act, printer: &mut Printer) -> Result<(), NoMemory>
     requires number { relay.old.state.acts < ACT_LIMIT }
-    requires built { is_built act.now ≡ true }
+    requires fits { FitsMessage act.now }
     requires working { printer.old.failed ≡ false }
     ensures stands { (log : List Act) → StandsFor relay.old log → OnOk result (StandsFor relay.new (act.now ∷ log)) }
     ensures printed { (log : List Act) → StandsFor relay.old log
@@ -78,7 +73,7 @@ fn play(relay: &mut Relay, act: &Act, printer: &mut Printer) -> Result<(), NoMem
 {
     relay.reserve(act)?;
     printer.number = relay.acts() + 1;
-    relay.step(act, printer);
+    let _ = relay.step(act, printer);
     if printer.failed {
         return Err(NoMemory);
     }
@@ -114,10 +109,6 @@ fn play_lines(
             Verdict::Full => {
                 append(&mut printer.text, "journal full ", count)?;
                 return Ok(Status::JournalFull);
-            }
-            Verdict::NotBuilt => {
-                append(&mut printer.text, "not built ", count + 1)?;
-                return Ok(Status::NotBuilt);
             }
             Verdict::Play(act) => {
                 play(relay, &act, printer)?;

@@ -19,8 +19,6 @@ pub enum Status {
     NoMemory,
     /// A line's act met a journal that is full.
     JournalFull,
-    /// A line is of a kind that isn't built yet.
-    NotBuilt,
     /// The limit of input bytes was taken, and no line in them decided.
     InputLong,
 }
@@ -38,7 +36,6 @@ impl Status {
             Status::WriteFault => 5,
             Status::NoMemory => 6,
             Status::JournalFull => 7,
-            Status::NotBuilt => 10,
             Status::InputLong => 11,
         }
     }

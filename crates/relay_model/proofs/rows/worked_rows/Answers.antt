@@ -45,3 +45,30 @@ returns-clause-set_before_enable c = refl
 
 pub returns-clause-whole_batch : goal.returns-clause-whole_batch
 returns-clause-whole_batch c = refl
+
+pub returns-clause-routing : goal.returns-clause-routing
+returns-clause-routing c = refl
+
+pub returns-clause-released_after_the_grab : goal.returns-clause-released_after_the_grab
+returns-clause-released_after_the_grab c = refl
+
+pub returns-clause-grabs_in_turn : goal.returns-clause-grabs_in_turn
+returns-clause-grabs_in_turn c = refl
+
+pub returns-clause-placement : goal.returns-clause-placement
+returns-clause-placement c = refl
+
+pub returns-clause-two_popups : goal.returns-clause-two_popups
+returns-clause-two_popups c = refl
+
+pub returns-clause-popup_without_surface : goal.returns-clause-popup_without_surface
+returns-clause-popup_without_surface c = refl
+
+pub returns-clause-rectangle_reset : goal.returns-clause-rectangle_reset
+returns-clause-rectangle_reset c = refl
+
+pub returns-clause-popup_beside_popup : goal.returns-clause-popup_beside_popup
+returns-clause-popup_beside_popup c = refl
+
+pub returns-clause-too_many_keys : goal.returns-clause-too_many_keys
+returns-clause-too_many_keys c = refl

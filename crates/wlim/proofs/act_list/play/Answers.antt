@@ -1,4 +1,4 @@
-use Rattle.std.proofs.Common.{◌≡◌, ◌+◌, ◌++◌, ℕ, length, ap, sym, ◌∙◌, string_bytes}
+use Rattle.std.proofs.Common.{◌≡◌, ◌+◌, ◌++◌, length, ap, ◌∙◌, string_bytes}
 use Rattle.relay_model.specs.Told.{told}
 use Rattle.wlim.specs.Transcript.{act_text}
 use Rattle.wlim.proofs.Printed.{reached_text}

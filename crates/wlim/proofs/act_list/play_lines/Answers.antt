@@ -1,9 +1,7 @@
-use Rattle.std.proofs.Common.{sym, ◌∙◌, ap, refl, rules, ◌≡◌, ◌≤◌, ◌<◌, [], ◌∷◌, arith, true, false, length}
+use Rattle.std.proofs.Common.{sym, ◌∙◌, refl, ◌≡◌, ◌<◌, [], ◌∷◌, arith, length}
 use Rattle.std.specs.Prelude.{string_bytes}
 use Rattle.wlim.specs.declared.act_list.TheConstants.{ACT_LIMIT}
-use Rattle.wlim.specs.declared.act_list.Verdict.TheVariants.{Play}
 use Rattle.wlim.specs.Lines.{lines_of}
-use Rattle.wlim.specs.Transcript.{verdict_of}
 use Rattle.wlim.proofs.Answering.{step, ends_long, ends_bad, starts, front_of_front, played}
 use Rattle.wlim.proofs.act_list.play_lines.Goals as goal
 
@@ -37,14 +35,6 @@ returns-in-Full-clause-answer c =
     let here = step c.args.cut past.0 c.acts-count.result (string_bytes c.loop-raw.printer.text) c.in-Some.raw.now (lines_of c.args.cut c.loop-raw.rest.now)
     (lines_of c.args.cut c.in-Some.more.now) _ _ count past.2 c.in-Some.ensures.line (sym c.in-Full.is ∙ c.in_ok-judge.ensures) in
     rw (c.in_ok-append-in-Full.ensures, count) here
-
-pub returns-in-NotBuilt-clause-answer : goal.returns-in-NotBuilt-clause-answer
-returns-in-NotBuilt-clause-answer c =
-    let past = c.loop-raw.invariant.history in
-    let count : c.acts-count.result ≡ length past.0 = c.acts-count.ensures.length past.0 past.1 in
-    let here = step c.args.cut past.0 c.acts-count.result (string_bytes c.loop-raw.printer.text) c.in-Some.raw.now (lines_of c.args.cut c.loop-raw.rest.now)
-    (lines_of c.args.cut c.in-Some.more.now) _ _ count past.2 c.in-Some.ensures.line (sym c.in-NotBuilt.is ∙ c.in_ok-judge.ensures) in
-    rw (c.in_ok-append-in-NotBuilt.ensures, count) here
 
 pub loop-raw-preserved : goal.loop-raw-preserved
 loop-raw-preserved c =
@@ -110,8 +100,8 @@ pub play-requires-clause-number : goal.play-requires-clause-number
 play-requires-clause-number c =
     rw (sym c.acts-count.ensures.number) (played c.acts-count.result c.in-Some.raw.now c.in-Play.act (sym c.in-Play.is ∙ c.in_ok-judge.ensures)).0
 
-pub play-requires-clause-built : goal.play-requires-clause-built
-play-requires-clause-built c = (played c.acts-count.result c.in-Some.raw.now c.in-Play.act (sym c.in-Play.is ∙ c.in_ok-judge.ensures)).1
+pub play-requires-clause-fits : goal.play-requires-clause-fits
+play-requires-clause-fits c = (played c.acts-count.result c.in-Some.raw.now c.in-Play.act (sym c.in-Play.is ∙ c.in_ok-judge.ensures)).1
 
 pub returns-then-cut-clause-answer : goal.returns-then-cut-clause-answer
 returns-then-cut-clause-answer c =

@@ -1,4 +1,4 @@
-use Rattle.std.proofs.Common.{sym, ◌∙◌}
+use Rattle.std.proofs.Common.{sym}
 use Rattle.std.proofs.lemmas.List.{take_rest}
 use Rattle.wlim.proofs.Splits.{lines_some, lines_none, lines_last}
 use Rattle.wlim.proofs.lines.take_line.Goals as goal

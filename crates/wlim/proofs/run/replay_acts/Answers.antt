@@ -1,4 +1,4 @@
-use Rattle.std.proofs.Common.{sym, ◌∙◌, ap, rules, ◌≡◌, eqb, length, arith}
+use Rattle.std.proofs.Common.{◌∙◌, ap, ◌≡◌, eqb, length, arith}
 use Rattle.std.specs.Prelude.{string_bytes}
 use Rattle.wlim.specs.declared.reading.TheConstants.{INPUT_LIMIT}
 use Rattle.wlim.specs.Transcript.{answer_of}

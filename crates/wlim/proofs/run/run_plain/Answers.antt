@@ -1,5 +1,4 @@
-use Rattle.std.proofs.Common.{sym, ◌∙◌, ap, map}
-use Rattle.std.specs.Prelude.{string_bytes}
+use Rattle.std.proofs.Common.{sym}
 use Rattle.wlim.proofs.Runs.{front_of, decided_of, decides, other_words}
 use Rattle.wlim.proofs.run.run_plain.Goals as goal
 

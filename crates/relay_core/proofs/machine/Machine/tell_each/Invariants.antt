@@ -1,0 +1,12 @@
+use Rattle.std.proofs.Common.{drop}
+use Rattle.std.specs.List.{flat_map}
+use Rattle.relay_core.specs.Kept.{state}
+use Rattle.relay_core.specs.Popups.{popup_told}
+use Rattle.relay_core.specs.Reached.{Reached}
+use Rattle.relay_core.proofs.machine.Machine.tell_each.Given as goal
+
+-- what is left to tell leads from here to where all leads from the start
+abbrev pub invariant-loop-object : goal.invariant-loop-object
+invariant-loop-object g l =
+    (z : _) → Reached g.P.Post.may_follow l.post (flat_map (popup_told (state l.self) l.rect) (drop l.object-index l.objects)) z
+    → Reached g.P.Post.may_follow l.fn.post (flat_map (popup_told (state l.self) l.rect) l.objects) z

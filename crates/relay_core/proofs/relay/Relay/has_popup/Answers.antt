@@ -1,0 +1,12 @@
+use Rattle.std.proofs.Common.{ap, ◌∙◌}
+use Rattle.relay_model.specs.Idle.{history}
+use Rattle.relay_core.specs.Kept.{Shown}
+use Rattle.relay_core.specs.Objects.{has_popup_in}
+use Rattle.relay_core.proofs.Finds.{finds_popup}
+use Rattle.relay_core.proofs.relay.Relay.has_popup.Goals as goal
+
+pub returns : goal.returns
+returns c = λ log h.
+    c.has_popup.ensures ∙
+    ap (λ os. has_popup_in os c.args.surface) (c.deref.ensures.value ∙ ap (λ (k : Shown). k.state.objects) c.self.view_is) ∙
+    finds_popup c.args.self.now.state (history log) c.args.surface h

@@ -1,0 +1,103 @@
+// The relay's part on keys: grabs, and what the shell says of the keyboard.
+ghost use Rattle.std.specs.Prelude.{◌≡◌, ◌<◌, vec_len, vec_capacity};
+ghost use Rattle.relay_model.specs.declared.act.Act.TheVariants as acts;
+ghost use Rattle.relay_core.specs.Reached.{Reached};
+ghost use Rattle.relay_core.specs.Kept.{state};
+ghost use Rattle.relay_core.specs.Machine.{made_by, fallen, grabbed, keyed, route_in, moved, says};
+
+use crate::machine::Machine;
+use crate::object::{Kind, is_number, owner};
+use crate::post::Post;
+use crate::told::{tell_grab, tell_key, tell_keyboard};
+use kbd_grab::{Keymap, Mods, Route};
+use relay_model::{Label, Said};
+
+impl Machine {
+    /// The method made an object.
+    pub fn make_by(&mut self, method: Label, kind: Kind)
+        requires { vec_len self.old.objects < vec_capacity self.old.objects }
+        ensures state { state self.new ≡ made_by method kind (state self.old) }
+        ensures keys { self.new.keys ≡ self.old.keys }
+        ensures serving { self.new.serving ≡ self.old.serving }
+        ensures acts { self.new.acts ≡ self.old.acts }
+    {
+        if let Some(peer) = owner(&self.objects, method) {
+            self.make(peer, kind);
+        }
+    }
+
+    /// A grab stands from its making on, where its method serves and no other stands.
+    pub fn make_grab<P: Post>(&mut self, method: Label, post: &mut P)
+        requires { vec_len self.old.objects < vec_capacity self.old.objects }
+        ensures state { state self.new ≡ grabbed method (state self.old) }
+        ensures told { Reached P.may_follow post.old (says (acts.Grab method) (state self.old)) post.new }
+    {
+        self.make_by(method, Kind::Grab { method });
+        if self.keys.standing().is_none() && is_number(self.serving, method) {
+            self.keys.stand(self.acts);
+            tell_keyboard(self.acts, &self.keys, post);
+        }
+    }
+
+    /// The grab that stands may be gone, or its method.
+    pub fn fall_where(&mut self, gone: bool)
+        ensures { state self.new ≡ fallen gone (state self.old) }
+    {
+        if self.keys.standing().is_some() && gone {
+            self.keys.fall();
+        }
+    }
+
+    /// A press (1) or a release of a key.
+    pub fn turn_key<P: Post>(&mut self, time: u32, key: u32, turned: u32, post: &mut P) -> Route
+        ensures state { state self.new ≡ keyed key turned (state self.old) }
+        ensures route { result ≡ route_in key turned (state self.old) }
+        ensures told { Reached P.may_follow post.old (says (acts.Key time key turned) (state self.old)) post.new }
+    {
+        let route = self.keys.key(key, turned == 1);
+        tell_key(route, self.acts, time, key, turned, post);
+        route
+    }
+
+    pub fn set_mods<P: Post>(&mut self, mods: Mods, post: &mut P)
+        ensures state { state self.new ≡ moved (acts.Mods mods.depressed mods.latched mods.locked mods.group) (state self.old) }
+        ensures told { Reached P.may_follow post.old (says (acts.Mods mods.depressed mods.latched mods.locked mods.group) (state self.old)) post.new }
+    {
+        self.keys.mods(mods);
+        tell_grab(
+            self.keys.standing(),
+            Said::Mods {
+                serial: self.acts,
+                depressed: mods.depressed,
+                latched: mods.latched,
+                locked: mods.locked,
+                group: mods.group,
+            },
+            post,
+        );
+    }
+
+    pub fn set_keymap<P: Post>(&mut self, keymap: Keymap, post: &mut P)
+        ensures state { state self.new ≡ moved (acts.Keymap keymap.format keymap.token keymap.size) (state self.old) }
+        ensures told { Reached P.may_follow post.old (says (acts.Keymap keymap.format keymap.token keymap.size) (state self.old)) post.new }
+    {
+        self.keys.keymap(keymap);
+        tell_grab(
+            self.keys.standing(),
+            Said::Keymap {
+                format: keymap.format,
+                token: keymap.token,
+                size: keymap.size,
+            },
+            post,
+        );
+    }
+
+    pub fn set_repeat<P: Post>(&mut self, rate: i32, delay: i32, post: &mut P)
+        ensures state { state self.new ≡ moved (acts.Repeat rate delay) (state self.old) }
+        ensures told { Reached P.may_follow post.old (says (acts.Repeat rate delay) (state self.old)) post.new }
+    {
+        self.keys.repeat(rate, delay);
+        tell_grab(self.keys.standing(), Said::Repeat { rate, delay }, post);
+    }
+}

@@ -1,0 +1,90 @@
+// What is made before an act.
+ghost use Rattle.std.specs.Prelude.{◌≡◌, ◌-◌, ◌<◌, Some, None, vec_len, vec_capacity, OnOk};
+ghost use Rattle.relay_model.specs.declared.act.Act.{Act};
+ghost use Rattle.relay_core.specs.Objects.{find, field_in};
+ghost use Rattle.relay_core.specs.Kept.{state, HasSpare, text_pending};
+ghost use Rattle.relay_core.specs.Machine.{made, text_around, holder_state};
+
+use crate::machine::Machine;
+use crate::object::{field_at, field_of};
+use field_state::Field;
+use relay_model::{Act, Label};
+use wio_core::NoMemory;
+
+fn surrounding_text(field: &Field) -> &str
+    ensures { result.now ≡ text_around field.now.current.surrounding }
+{
+    match field.surrounding() {
+        Some((text, _, _)) => text,
+        None => "",
+    }
+}
+
+fn pending_text(field: &Field) -> &str
+    ensures { result.now ≡ text_around field.now.pending.surrounding }
+{
+    match field.pending_surrounding() {
+        Some((text, _, _)) => text,
+        None => "",
+    }
+}
+
+impl Machine {
+    fn copy_holder(&mut self) -> Result<(), NoMemory>
+        ensures same { state self.new ≡ state self.old }
+        ensures objects { self.new.objects ≡ self.old.objects }
+        ensures text { OnOk result (self.new.spare.text ≡ text_around (holder_state (state self.old)).surrounding) }
+    {
+        match field_at(&self.objects, self.holder) {
+            Some(field) => self.spare.copy_text(self.alloc, surrounding_text(field)),
+            None => self.spare.copy_text(self.alloc, ""),
+        }
+    }
+
+    fn copy_pending(&mut self, field: Label) -> Result<(), NoMemory>
+        ensures same { state self.new ≡ state self.old }
+        ensures objects { self.new.objects ≡ self.old.objects }
+        ensures text { OnOk result (self.new.spare.text ≡ text_pending (field_in (find (state self.old).objects field))) }
+    {
+        match field_of(&self.objects, field) {
+            Some(field) => self.spare.copy_text(self.alloc, pending_text(field)),
+            None => self.spare.copy_text(self.alloc, ""),
+        }
+    }
+
+    fn copy_edits(&mut self) -> Result<(), NoMemory>
+        ensures same { state self.new ≡ state self.old }
+        ensures objects { self.new.objects ≡ self.old.objects }
+        ensures string { OnOk result (self.new.spare.text ≡ (state self.old).edits.string) }
+        ensures preedit { OnOk result (self.new.spare.preedit ≡ (state self.old).edits.preedit.text) }
+    {
+        let edits = self.pending.edits();
+        self.spare.copy_text(self.alloc, edits.string)?;
+        self.spare.copy_preedit(self.alloc, edits.preedit)
+    }
+
+    // Makes copies of the texts that the act may tell, and the place of a field that it may make.
+    fn spare_for(&mut self, act: &Act) -> Result<(), NoMemory>
+        ensures same { state self.new ≡ state self.old }
+        ensures objects { self.new.objects ≡ self.old.objects }
+        ensures spare { OnOk result (HasSpare (state self.old) self.new.spare act.now) }
+    {
+        match act {
+            Act::Field { .. } => self.spare.make_field(self.alloc),
+            Act::Method { .. } => self.copy_holder(),
+            Act::Commit { field } => self.copy_pending(*field),
+            Act::MCommit { .. } => self.copy_edits(),
+            _ => Ok(()),
+        }
+    }
+
+    /// Makes the room for one act, and what else it needs.
+    pub fn reserve(&mut self, act: &Act) -> Result<(), NoMemory>
+        ensures same { state self.new ≡ state self.old }
+        ensures room { OnOk result (vec_len self.new.objects < vec_capacity self.new.objects) }
+        ensures spare { OnOk result (HasSpare (state self.new) self.new.spare act.now) }
+    {
+        self.objects.reserve(1)?;
+        self.spare_for(act)
+    }
+}
