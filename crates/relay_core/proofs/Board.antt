@@ -9,7 +9,7 @@ use Rattle.relay_model.specs.declared.act.EndCause.{EndCause}
 use Rattle.relay_model.specs.Objects.{is_at}
 use Rattle.relay_model.specs.Focus.{peer_at}
 use Rattle.relay_model.specs.Activation.{serving}
-use Rattle.relay_model.specs.Keys.{standing, is_press, is_down, number_down, is_refused, goes, Refused}
+use Rattle.relay_model.specs.Keys.{standing, is_press, is_down, number_down, is_refused, key_route, Refused}
 use Rattle.relay_model.proofs.Histories.{IsHistory}
 use Rattle.kbd_grab.specs.Keys as board
 use Rattle.kbd_grab.specs.Keys.{Call}
@@ -99,17 +99,17 @@ pub keys_turned : (log : List Act) (keys : Keyboard) (time key state : ℕ) → 
 keys_turned log keys time key state h = turned_stands (key_calls log) keys key (is_press state) h
 
 -- where the relay lets a key go is where the definitions do
-pub route_is : (s : State) (log : List Act) (key state : ℕ) → IsHistory log → Stands s log → route_in key state s ≡ route_of (goes log key state)
+pub route_is : (s : State) (log : List Act) (key state : ℕ) → IsHistory log → Stands s log → route_in key state s ≡ route_of (key_route log key state)
 route_is s log key state i h = answer_is (key_calls log) s.keys key (is_press state) h.keys_now ∙ calls_route log i key state
 
 refused_goes_by : (log : List Act) (key state : ℕ) (a b c : Bool) → is_press state ≡ a → is_down log key ≡ b → nat_lt (number_down log) 64 ≡ c →
-    is_refused log key state ≡ true → goes log key state ≡ Refused
+    is_refused log key state ≡ true → key_route log key state ≡ Refused
 refused_goes_by log key state true false false e k l r = rw (k, e, l) refl
 refused_goes_by log key state true false true e k l r = absurd (true≢false (sym r ∙ rw (e, k, l) refl))
 refused_goes_by log key state true true c e k l r = absurd (true≢false (sym r ∙ rw (e, k) refl))
 refused_goes_by log key state false b c e k l r = absurd (true≢false (sym r ∙ rw e refl))
 
-pub refused_goes : (log : List Act) (key state : ℕ) → is_refused log key state ≡ true → goes log key state ≡ Refused
+pub refused_goes : (log : List Act) (key state : ℕ) → is_refused log key state ≡ true → key_route log key state ≡ Refused
 refused_goes log key state r = refused_goes_by log key state _ _ _ refl refl refl r
 
 -- a press that is refused turns nothing

@@ -4,6 +4,8 @@ use Rattle.popup_place.specs.declared.geometry.Rect.{Rect}
 use Rattle.relay_model.specs.declared.act.Act.{Act}
 use Rattle.relay_model.specs.declared.act.Act.TheVariants as acts
 use Rattle.relay_model.specs.declared.act.EndCause.{EndCause}
+use Rattle.relay_model.specs.declared.fault.Fault.{Fault}
+use Rattle.relay_model.specs.declared.role.Role.{Role}
 use Rattle.relay_model.specs.Focus.{where_alive}
 use Rattle.relay_model.specs.Activation.{serving}
 use Rattle.relay_model.specs.Keys.{stands_on, standing}
@@ -95,6 +97,21 @@ delete_calm m before after = record { areas = λ log x. refl; screens = λ log. 
 
 pub mcommit_calm : (m serial : ℕ) → IsCalm (acts.MCommit m serial)
 mcommit_calm m serial = record { areas = λ log x. refl; screens = λ log. refl; calls = λ log. refl; grabs = λ log. refl }
+
+pub registry_calm : (p : ℕ) (role : Role) → IsCalm (acts.Registry p role)
+registry_calm p role = record { areas = λ log y. refl; screens = λ log. refl; calls = λ log. refl; grabs = λ log. refl }
+
+pub sync_calm : (p : ℕ) → IsCalm (acts.Sync p)
+sync_calm p = record { areas = λ log y. refl; screens = λ log. refl; calls = λ log. refl; grabs = λ log. refl }
+
+pub seat_calm : (p : ℕ) → IsCalm (acts.Seat p)
+seat_calm p = record { areas = λ log y. refl; screens = λ log. refl; calls = λ log. refl; grabs = λ log. refl }
+
+pub thing_calm : (p : ℕ) → IsCalm (acts.Thing p)
+thing_calm p = record { areas = λ log y. refl; screens = λ log. refl; calls = λ log. refl; grabs = λ log. refl }
+
+pub bad_calm : (p : ℕ) (fault : Fault) (x : ℕ) → IsCalm (acts.Bad p fault x)
+bad_calm p fault x = record { areas = λ log y. refl; screens = λ log. refl; calls = λ log. refl; grabs = λ log. refl }
 
 pub idle_calm : IsCalm acts.Idle
 idle_calm = record { areas = λ log x. refl; screens = λ log. refl; calls = λ log. refl; grabs = λ log. refl }

@@ -6,7 +6,7 @@ use Rattle.std.specs.List.{list_any}
 use Rattle.relay_model.specs.declared.act.Act.{Act}
 use Rattle.relay_model.specs.declared.act.Act.TheVariants as acts
 use Rattle.relay_model.specs.Objects as model
-use Rattle.relay_model.specs.Objects.{Object, Kind, PeerKind, SurfaceKind, FieldKind, MethodKind, PopupKind, GrabKind, is_at, is_same, is_kind, owner, object, alive, is_peer, is_field, is_surface, is_method, peer_of, labels, surface_in, kind_surface, surface_of, has_popup}
+use Rattle.relay_model.specs.Objects.{Object, Kind, PeerKind, SurfaceKind, FieldKind, MethodKind, ThingKind, PopupKind, GrabKind, is_at, is_same, is_kind, owner, object, alive, is_peer, is_field, is_surface, is_method, peer_of, labels, surface_in, kind_surface, surface_of, has_popup}
 use Rattle.relay_model.specs.Focus.{focus, peer_at, focused_peer, entered}
 use Rattle.relay_model.specs.Hold.{holder}
 use Rattle.relay_model.specs.Current.{current}
@@ -30,6 +30,7 @@ peer_found log x (Some object) = at object.kind log x
     at SurfaceKind log x = refl
     at FieldKind log x = refl
     at MethodKind log x = refl
+    at ThingKind log x = refl
     at (PopupKind m t) log x = refl
     at (GrabKind m) log x = refl
 
@@ -42,6 +43,7 @@ surface_found log x (Some object) = at object.kind log x
     at SurfaceKind log x = refl
     at FieldKind log x = refl
     at MethodKind log x = refl
+    at ThingKind log x = refl
     at (PopupKind m t) log x = refl
     at (GrabKind m) log x = refl
 
@@ -54,6 +56,7 @@ field_found log x (Some object) = at object.kind log x
     at SurfaceKind log x = refl
     at FieldKind log x = refl
     at MethodKind log x = refl
+    at ThingKind log x = refl
     at (PopupKind m t) log x = refl
     at (GrabKind m) log x = refl
 
@@ -66,6 +69,7 @@ method_found log x (Some object) = at object.kind log x
     at SurfaceKind log x = refl
     at FieldKind log x = refl
     at MethodKind log x = refl
+    at ThingKind log x = refl
     at (PopupKind m t) log x = refl
     at (GrabKind m) log x = refl
 
@@ -127,6 +131,7 @@ field_of_found log f (Some object) e = at object.kind log f e
     at SurfaceKind log f e = cc
     at FieldKind log f e = refl
     at MethodKind log f e = cc
+    at ThingKind log f e = cc
     at (PopupKind m t) log f e = cc
     at (GrabKind m) log f e = cc
 
@@ -171,6 +176,7 @@ popup_entry log t x (Some thing) = at thing.kind log t x
     at SurfaceKind log t x = refl
     at FieldKind log t x = refl
     at MethodKind log t x = refl
+    at ThingKind log t x = refl
     at (PopupKind m s) log t x = refl
     at (GrabKind m) log t x = refl
 
@@ -210,6 +216,12 @@ live_is s log (acts.MString m text) h b = finds_method s log m h
 live_is s log (acts.MPreedit m text begin end) h b = finds_method s log m h
 live_is s log (acts.MDelete m before after) h b = finds_method s log m h
 live_is s log (acts.MCommit m serial) h b = finds_method s log m h
+live_is s log (acts.Registry p role) h b = finds_peer s log p h
+live_is s log (acts.Sync p) h b = finds_peer s log p h
+live_is s log (acts.Seat p) h b = finds_peer s log p h
+live_is s log (acts.Thing p) h b = finds_peer s log p h
+live_is s log (acts.Bad p fault x) h b = finds_peer s log p h
+live_is s log (acts.Took p bytes) h b = refl
 live_is s log acts.Idle h b = refl
 live_is s log (acts.Popup m t) h b =
     let a : is_method_in (find s.objects m) ≡ is_method log m = finds_method s log m h in

@@ -8,7 +8,7 @@ use Rattle.field_state.specs.Hold.{holds_after}
 use Rattle.field_state.specs.declared.commit.Taken.{Taken}
 use Rattle.relay_core.specs.declared.object.Object.{Object}
 use Rattle.relay_core.specs.declared.object.Kind.{Kind}
-use Rattle.relay_core.specs.declared.object.Kind.TheVariants.{Peer, Surface, Field, Method, Popup, Grab}
+use Rattle.relay_core.specs.declared.object.Kind.TheVariants.{Peer, Surface, Field, Method, Popup, Grab, Thing}
 use Rattle.relay_core.specs.Objects.{find, changed, committed, field_of_kind, field_in}
 use Rattle.relay_core.specs.Machine.{current_of, taken_in, text_around}
 use Rattle.relay_core.specs.Kept.{text_pending}
@@ -24,6 +24,7 @@ kind_changed change (Field kept) = refl
 kind_changed change Method = refl
 kind_changed change (Popup m t) = refl
 kind_changed change (Grab m) = refl
+kind_changed change Thing = refl
 
 found_by : (f : ℕ) (may_hold : Bool) (o : Object) (os : List Object) (b : Bool) → (o.label == f) ≡ b →
     field_in (find (map (committed f may_hold) os) f) ≡ under (change.committed may_hold) (field_in (find os f)) →

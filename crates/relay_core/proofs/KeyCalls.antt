@@ -15,7 +15,7 @@ use Rattle.relay_model.specs.declared.act.EndCause.{EndCause}
 use Rattle.relay_model.specs.Focus.{peer_at}
 use Rattle.relay_model.specs.Objects.{is_at, is_same, next, method_of}
 use Rattle.relay_model.specs.Activation.{serving}
-use Rattle.relay_model.specs.Keys.{ToGrab, ToShell, Nowhere, Refused, stands_on, standing, is_press, with_key, is_down, number_down, pressed_keys, first_went, to_standing, as_first, goes, is_refused, last_keymap, last_repeat, last_mods}
+use Rattle.relay_model.specs.Keys.{ToGrab, ToShell, Nowhere, Refused, stands_on, standing, is_press, with_key, is_down, number_down, pressed_keys, first_went, to_standing, as_first, key_route, is_refused, last_keymap, last_repeat, last_mods}
 use Rattle.relay_model.proofs.Histories.{IsHistory, live}
 use Rattle.relay_model.proofs.FocusLaws.{and_false}
 use Rattle.relay_core.specs.KeyCalls.{route_of, calls_of, stand_calls, fall_calls, key_calls, keymap_of, repeat_of, mods_of}
@@ -186,38 +186,44 @@ calls_went (acts.Keymap format token size ∷ older) h key = calls_went older h.
 calls_went (acts.Repeat rate delay ∷ older) h key = calls_went older h.1 key
 calls_went (act ∷ older) h key = unseen (λ cs. board.first_went cs key) _ Fall (key_calls older) refl ∙ calls_went older h.1 key
 
-first_route : (stands went : Option ℕ) → board.as_first stands went ≡ route_of (as_first stands went)
-first_route None None = refl
-first_route (Some h) None = refl
-first_route None (Some g) = refl
-first_route (Some h) (Some g) = at (h == g)
+first_stands : (stands : Option ℕ) (g : ℕ) → board.as_first stands (Some g) ≡ route_of (if is_at stands g then ToGrab g else Nowhere)
+first_stands None g = refl
+first_stands (Some h) g = at (h == g)
   where
     at : (b : Bool) → (if b then routes.ToGrab g else routes.Nowhere) ≡ route_of (if b then ToGrab g else Nowhere)
     at true = refl
     at false = refl
 
+first_shell : (stands : Option ℕ) → board.as_first stands None ≡ routes.Pass
+first_shell None = refl
+first_shell (Some h) = refl
+
+first_route : (log : List Act) (went : Option ℕ) → board.as_first (standing log) went ≡ route_of (as_first log went)
+first_route log None = first_shell (standing log)
+first_route log (Some g) = first_stands (standing log) g
+
 standing_route : (stands : Option ℕ) → board.to_standing stands ≡ route_of (to_standing stands)
 standing_route None = refl
 standing_route (Some g) = refl
 
-route_by : (down pressed room : Bool) (stands went : Option ℕ) →
-    (if down then board.as_first stands went
+route_by : (down pressed room : Bool) (log : List Act) (went : Option ℕ) →
+    (if down then board.as_first (standing log) went
     else (if not pressed then routes.Pass
-    else (if room then board.to_standing stands else routes.TooMany)))
-    ≡ route_of (if down then as_first stands went
+    else (if room then board.to_standing (standing log) else routes.TooMany)))
+    ≡ route_of (if down then as_first log went
     else (if not pressed then ToShell
-    else (if room then to_standing stands else Refused)))
-route_by true pressed room stands went = first_route stands went
-route_by false false room stands went = refl
-route_by false true true stands went = standing_route stands
-route_by false true false stands went = refl
+    else (if room then to_standing (standing log) else Refused)))
+route_by true pressed room log went = first_route log went
+route_by false false room log went = refl
+route_by false true true log went = standing_route (standing log)
+route_by false true false log went = refl
 
 -- the keyboard's route is where the key goes
 pub calls_route : (log : List Act) → IsHistory log → (key state : ℕ) →
-    board.key_route (key_calls log) key (is_press state) ≡ route_of (goes log key state)
+    board.key_route (key_calls log) key (is_press state) ≡ route_of (key_route log key state)
 calls_route log h key state =
     rw (calls_down log h key, calls_standing log, calls_went log h key, calls_number log h)
-    (route_by (is_down log key) (is_press state) (nat_lt (number_down log) 64) (standing log) (first_went log key))
+    (route_by (is_down log key) (is_press state) (nat_lt (number_down log) 64) log (first_went log key))
 
 -- what the shell told last
 

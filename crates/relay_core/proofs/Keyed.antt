@@ -14,7 +14,7 @@ use Rattle.relay_model.specs.Focus.{where_alive}
 use Rattle.relay_model.specs.Hold.{kept, holder}
 use Rattle.relay_model.specs.Activation.{serving, makes_serving, updates, notice}
 use Rattle.relay_model.specs.Keys as keys
-use Rattle.relay_model.specs.Keys.{Goes, ToGrab, ToShell, Nowhere, Refused, standing, is_press, is_refused, goes, last_keymap, last_repeat, last_mods}
+use Rattle.relay_model.specs.Keys.{Goes, ToGrab, ToShell, Nowhere, Refused, standing, is_press, is_refused, key_route, last_keymap, last_repeat, last_mods}
 use Rattle.relay_model.specs.Popups.{area, screen}
 use Rattle.relay_model.specs.Told.{to, to_grab, leaves, enters, own, keymap_said, repeat_said, mods_said, keyboard_said, key_told as key_said, to_method, told_by}
 use Rattle.relay_model.proofs.Histories.{IsHistory}
@@ -311,7 +311,7 @@ pub says_key : (s : State) (log : List Act) (time key state : ℕ) → IsHistory
     key_told (s.acts + 1) time key state (route_in key state (counted s)) ≡ told_by (acts.Key time key state) log
 says_key s log time key state i h =
     ap (λ n. key_told (n + 1) time key state (route_in key state (counted s))) h.acts_now ∙
-    ap (key_told (length log + 1) time key state) (route_is s log key state i h) ∙ key_route_told (length log + 1) time key state (goes log key state) ∙
+    ap (key_told (length log + 1) time key state) (route_is s log key state i h) ∙ key_route_told (length log + 1) time key state (key_route log key state) ∙
     says_own (acts.Key time key state) log (board_quiet (acts.Key time key state) log i (key_board time key state)) refl refl
 
 pub says_refused : (s : State) (log : List Act) (time key state : ℕ) → IsHistory log → is_refused log key state ≡ true → Stands s log →

@@ -1,4 +1,5 @@
 pub mod Areas
+pub mod Asides
 pub mod Board
 pub mod Calm
 pub mod Commits

@@ -6,6 +6,8 @@ use Rattle.popup_place.specs.declared.geometry.Size.{Size}
 use Rattle.relay_model.specs.declared.act.Act.{Act}
 use Rattle.relay_model.specs.declared.act.Act.TheVariants as acts
 use Rattle.relay_model.specs.declared.act.EndCause.{EndCause}
+use Rattle.relay_model.specs.declared.fault.Fault.{Fault}
+use Rattle.relay_model.specs.declared.role.Role.{Role}
 use Rattle.relay_model.specs.Objects.{is_at}
 use Rattle.relay_model.specs.Hold.{holder, kept, begins_hold}
 use Rattle.relay_model.specs.Popups.{area}
@@ -64,6 +66,21 @@ keymap_steady format token size = record { keeps = λ x o. refl; last = λ log. 
 
 pub repeat_steady : (rate delay : ℤ) → IsSteady (acts.Repeat rate delay)
 repeat_steady rate delay = record { keeps = λ x o. refl; last = λ log. refl; since = λ log. refl }
+
+pub registry_steady : (p : ℕ) (role : Role) → IsSteady (acts.Registry p role)
+registry_steady p role = record { keeps = λ y o. refl; last = λ log. refl; since = λ log. refl }
+
+pub sync_steady : (p : ℕ) → IsSteady (acts.Sync p)
+sync_steady p = record { keeps = λ y o. refl; last = λ log. refl; since = λ log. refl }
+
+pub seat_steady : (p : ℕ) → IsSteady (acts.Seat p)
+seat_steady p = record { keeps = λ y o. refl; last = λ log. refl; since = λ log. refl }
+
+pub thing_steady : (p : ℕ) → IsSteady (acts.Thing p)
+thing_steady p = record { keeps = λ y o. refl; last = λ log. refl; since = λ log. refl }
+
+pub bad_steady : (p : ℕ) (fault : Fault) (x : ℕ) → IsSteady (acts.Bad p fault x)
+bad_steady p fault x = record { keeps = λ y o. refl; last = λ log. refl; since = λ log. refl }
 
 pub idle_steady : IsSteady acts.Idle
 idle_steady = record { keeps = λ x o. refl; last = λ log. refl; since = λ log. refl }
@@ -126,6 +143,21 @@ keymap_silent format token size = record { words = λ f rest. refl; sets = λ f 
 
 pub repeat_silent : (rate delay : ℤ) → IsSilent (acts.Repeat rate delay)
 repeat_silent rate delay = record { words = λ f rest. refl; sets = λ f rest. refl; counts = λ log f. refl; begins = λ log. refl; commits = λ f. refl }
+
+pub registry_silent : (p : ℕ) (role : Role) → IsSilent (acts.Registry p role)
+registry_silent p role = record { words = λ f rest. refl; sets = λ f rest. refl; counts = λ log f. refl; begins = λ log. refl; commits = λ f. refl }
+
+pub sync_silent : (p : ℕ) → IsSilent (acts.Sync p)
+sync_silent p = record { words = λ f rest. refl; sets = λ f rest. refl; counts = λ log f. refl; begins = λ log. refl; commits = λ f. refl }
+
+pub seat_silent : (p : ℕ) → IsSilent (acts.Seat p)
+seat_silent p = record { words = λ f rest. refl; sets = λ f rest. refl; counts = λ log f. refl; begins = λ log. refl; commits = λ f. refl }
+
+pub thing_silent : (p : ℕ) → IsSilent (acts.Thing p)
+thing_silent p = record { words = λ f rest. refl; sets = λ f rest. refl; counts = λ log f. refl; begins = λ log. refl; commits = λ f. refl }
+
+pub bad_silent : (p : ℕ) (fault : Fault) (x : ℕ) → IsSilent (acts.Bad p fault x)
+bad_silent p fault x = record { words = λ f rest. refl; sets = λ f rest. refl; counts = λ log f. refl; begins = λ log. refl; commits = λ f. refl }
 
 pub idle_silent : IsSilent acts.Idle
 idle_silent = record { words = λ f rest. refl; sets = λ f rest. refl; counts = λ log f. refl; begins = λ log. refl; commits = λ f. refl }

@@ -21,6 +21,7 @@ use Rattle.relay_core.proofs.Edits.{stands_edit, stands_mcommit, string_edits, p
 use Rattle.relay_core.proofs.Requests.{enable_asks, disable_asks, surround_asks, cause_asks, content_asks, cursor_asks, plain_enable, plain_disable, plain_surround, plain_cause, plain_content, plain_cursor}
 use Rattle.relay_core.proofs.Parts.{stands_focus, stands_unfocus}
 use Rattle.relay_core.proofs.Keyed.{stands_popup, stands_grab, stands_area, stands_screen, stands_key, stands_refused, stands_mods, stands_keymap, stands_repeat, says_grab, says_key, says_refused, says_mods, says_keymap, says_repeat}
+use Rattle.relay_core.proofs.Asides.{registry_aside, sync_aside, seat_aside, thing_aside, bad_aside, stands_thing, stands_aside, says_aside, says_registry, says_sync, says_seat}
 use Rattle.relay_core.proofs.Shown.{live_history, says_popup, says_area, says_screen, says_shown}
 use Rattle.relay_core.proofs.Ends.{stands_drop, stands_gone, and_right}
 use Rattle.relay_core.proofs.Saying.{says_peer, says_surface, says_field, says_method, says_request, says_edit, says_idle, says_commit, says_drop, says_gone}
@@ -60,6 +61,12 @@ stands_moved s log (acts.Key time key state) i l h = stands_key s log time key s
 stands_moved s log (acts.Mods depressed latched locked group) i l h = stands_mods s log depressed latched locked group i h
 stands_moved s log (acts.Keymap format token size) i l h = stands_keymap s log format token size i h
 stands_moved s log (acts.Repeat rate delay) i l h = stands_repeat s log rate delay i h
+stands_moved s log (acts.Registry p role) i l h = stands_thing s log (acts.Registry p role) p i (registry_aside p role) refl h
+stands_moved s log (acts.Sync p) i l h = stands_aside s log (acts.Sync p) i (sync_aside p) refl h
+stands_moved s log (acts.Seat p) i l h = stands_thing s log (acts.Seat p) p i (seat_aside p) refl h
+stands_moved s log (acts.Thing p) i l h = stands_thing s log (acts.Thing p) p i (thing_aside p) refl h
+stands_moved s log (acts.Bad p fault x) i l h = stands_aside s log (acts.Bad p fault x) i (bad_aside p fault x) refl h
+stands_moved s log (acts.Took p bytes) i l h = absurd (true≢false (sym l))
 stands_moved s log acts.Idle i l h = absurd (true≢false (sym l))
 
 stands_by : (s : State) (log : List Act) (act : Act) (c : Bool) → IsHistory log → is_live act log ≡ c → Stands s log →
@@ -107,6 +114,12 @@ stands_after s log (acts.MCommit m serial) i h = stands_other s log (acts.MCommi
 stands_after s log (acts.Mods depressed latched locked group) i h = stands_other s log (acts.Mods depressed latched locked group) i refl h
 stands_after s log (acts.Keymap format token size) i h = stands_other s log (acts.Keymap format token size) i refl h
 stands_after s log (acts.Repeat rate delay) i h = stands_other s log (acts.Repeat rate delay) i refl h
+stands_after s log (acts.Registry p role) i h = stands_other s log (acts.Registry p role) i refl h
+stands_after s log (acts.Sync p) i h = stands_other s log (acts.Sync p) i refl h
+stands_after s log (acts.Seat p) i h = stands_other s log (acts.Seat p) i refl h
+stands_after s log (acts.Thing p) i h = stands_other s log (acts.Thing p) i refl h
+stands_after s log (acts.Bad p fault x) i h = stands_other s log (acts.Bad p fault x) i refl h
+stands_after s log (acts.Took p bytes) i h = stands_other s log (acts.Took p bytes) i refl h
 stands_after s log acts.Idle i h = stands_other s log acts.Idle i refl h
 
 says_live : (s : State) (log : List Act) (act : Act) → IsHistory log → is_live act log ≡ true → Stands s log →
@@ -146,6 +159,12 @@ says_live s log (acts.Key time key state) i l h = says_key s log time key state 
 says_live s log (acts.Mods depressed latched locked group) i l h = says_mods s log depressed latched locked group i h
 says_live s log (acts.Keymap format token size) i l h = says_keymap s log format token size i h
 says_live s log (acts.Repeat rate delay) i l h = says_repeat s log rate delay i h
+says_live s log (acts.Registry p role) i l h = says_registry s log p role i h
+says_live s log (acts.Sync p) i l h = says_sync s log p i h
+says_live s log (acts.Seat p) i l h = says_seat s log p i h
+says_live s log (acts.Thing p) i l h = says_aside (acts.Thing p) log i (thing_aside p)
+says_live s log (acts.Bad p fault x) i l h = says_aside (acts.Bad p fault x) log i (bad_aside p fault x)
+says_live s log (acts.Took p bytes) i l h = absurd (true≢false (sym l))
 says_live s log acts.Idle i l h = absurd (true≢false (sym l))
 
 says_by : (s : State) (log : List Act) (act : Act) (c : Bool) → IsHistory log → is_live act log ≡ c → Stands s log →
@@ -191,4 +210,10 @@ says_told s log (acts.MCommit m serial) i h = says_other s log (acts.MCommit m s
 says_told s log (acts.Mods depressed latched locked group) i h = says_other s log (acts.Mods depressed latched locked group) i refl h
 says_told s log (acts.Keymap format token size) i h = says_other s log (acts.Keymap format token size) i refl h
 says_told s log (acts.Repeat rate delay) i h = says_other s log (acts.Repeat rate delay) i refl h
+says_told s log (acts.Registry p role) i h = says_other s log (acts.Registry p role) i refl h
+says_told s log (acts.Sync p) i h = says_other s log (acts.Sync p) i refl h
+says_told s log (acts.Seat p) i h = says_other s log (acts.Seat p) i refl h
+says_told s log (acts.Thing p) i h = says_other s log (acts.Thing p) i refl h
+says_told s log (acts.Bad p fault x) i h = says_other s log (acts.Bad p fault x) i refl h
+says_told s log (acts.Took p bytes) i h = says_other s log (acts.Took p bytes) i refl h
 says_told s log acts.Idle i h = says_other s log acts.Idle i refl h

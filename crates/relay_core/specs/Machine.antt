@@ -11,7 +11,8 @@ use Rattle.relay_model.specs.Hold.{is_free_for}
 use Rattle.relay_model.specs.Keys.{is_press}
 use Rattle.relay_model.specs.Idle.{is_place, is_sized}
 use Rattle.relay_model.specs.Batch.{Batch, deletion_said, string_said, preedit_said}
-use Rattle.relay_model.specs.Told.{to, to_grab, deleted}
+use Rattle.relay_model.specs.Globals.{globals_told}
+use Rattle.relay_model.specs.Told.{to, to_grab, deleted, synced}
 use Rattle.serial_count.specs.Serial.{is_recent}
 use Rattle.edit_batch.specs.Calls.{LastEdits, last_edits}
 use Rattle.field_state.specs.Calls as field
@@ -23,7 +24,7 @@ use Rattle.kbd_grab.specs.Keyboard.{Keyboard, turned, answer_at}
 use Rattle.kbd_grab.specs.declared.keyboard.Route.{Route}
 use Rattle.relay_core.specs.declared.object.Object.{Object}
 use Rattle.relay_core.specs.declared.object.Kind.{Kind}
-use Rattle.relay_core.specs.declared.object.Kind.TheVariants.{Peer, Surface, Field, Method, Popup, Grab}
+use Rattle.relay_core.specs.declared.object.Kind.TheVariants.{Peer, Surface, Field, Method, Popup, Grab, Thing}
 use Rattle.relay_core.specs.Objects.{find, is_peer_in, is_surface_in, is_field_in, is_method_in, owner_in, field_in, count_in, no_area, has_popup_in, not_label, not_peer, requested, refocused, committed, placed_at}
 use Rattle.relay_core.specs.Keyboard.{keyboard_told, key_told}
 use Rattle.relay_core.specs.Popups.{popups_told, popups_where_holds, new_popup_told}
@@ -58,6 +59,12 @@ is_live_in (acts.Key time key state) s = true
 is_live_in (acts.Mods depressed latched locked group) s = true
 is_live_in (acts.Keymap format token size) s = true
 is_live_in (acts.Repeat rate delay) s = true
+is_live_in (acts.Registry p role) s = is_peer_in (find s.objects p)
+is_live_in (acts.Sync p) s = is_peer_in (find s.objects p)
+is_live_in (acts.Seat p) s = is_peer_in (find s.objects p)
+is_live_in (acts.Thing p) s = is_peer_in (find s.objects p)
+is_live_in (acts.Bad p fault x) s = is_peer_in (find s.objects p)
+is_live_in (acts.Took p bytes) s = false
 is_live_in acts.Idle s = false
 
 -- no pending edit
@@ -228,6 +235,12 @@ moved (acts.MString m text) s = edited m (record s.edits { string = text }) s
 moved (acts.MPreedit m text begin end) s = edited m (record s.edits { preedit = record { text = text; begin = begin; end = end } }) s
 moved (acts.MDelete m before after) s = edited m (record s.edits { deletion = (before, after) }) s
 moved (acts.MCommit m serial) s = (if is_at s.serving m then record s { edits = no_edits } else s)
+moved (acts.Registry p role) s = made p Thing s
+moved (acts.Sync p) s = s
+moved (acts.Seat p) s = made p Thing s
+moved (acts.Thing p) s = made p Thing s
+moved (acts.Bad p fault x) s = s
+moved (acts.Took p bytes) s = s
 moved acts.Idle s = s
 
 -- what an act makes of the relay
@@ -357,6 +370,10 @@ says (acts.Mods depressed latched locked group) s = to_grab s.keys.standing (sai
 says (acts.Keymap format token size) s = to_grab s.keys.standing (said.Keymap format token size)
 says (acts.Repeat rate delay) s = to_grab s.keys.standing (said.Repeat rate delay)
 says (acts.MCommit m serial) s = batch_told m serial s
+says (acts.Registry p role) s = globals_told s.acts role
+says (acts.Sync p) s = synced s.acts p
+says (acts.Seat p) s = to s.acts (said.Capabilities 0) ∷ []
+says (acts.Bad p fault x) s = to p (said.Error x fault) ∷ []
 says acts.Peer s = []
 says (acts.Surface p) s = []
 says (acts.Enable f) s = []
@@ -368,6 +385,8 @@ says (acts.Cursor f rect) s = []
 says (acts.MString m text) s = []
 says (acts.MPreedit m text begin end) s = []
 says (acts.MDelete m before after) s = []
+says (acts.Thing p) s = []
+says (acts.Took p bytes) s = []
 says acts.Idle s = []
 
 -- what an act tells

@@ -9,7 +9,7 @@ use Rattle.field_state.specs.Stands.{Kept}
 use Rattle.field_state.specs.Changes as change
 use Rattle.relay_core.specs.declared.object.Object.{Object}
 use Rattle.relay_core.specs.declared.object.Kind.{Kind}
-use Rattle.relay_core.specs.declared.object.Kind.TheVariants.{Peer, Surface, Field, Method, Popup, Grab}
+use Rattle.relay_core.specs.declared.object.Kind.TheVariants.{Peer, Surface, Field, Method, Popup, Grab, Thing}
 
 -- the object with the label
 abbrev pub find : List Object → ℕ → Option Object
@@ -121,6 +121,7 @@ changed change (Surface area) = Surface area
 changed change Method = Method
 changed change (Popup method surface) = Popup method surface
 changed change (Grab method) = Grab method
+changed change Thing = Thing
 
 -- the act is a request of the field f
 abbrev pub requested : ℕ → Act → Object → Object
@@ -141,6 +142,7 @@ kind_placed rect (Field kept) = Field kept
 kind_placed rect Method = Method
 kind_placed rect (Popup method surface) = Popup method surface
 kind_placed rect (Grab method) = Grab method
+kind_placed rect Thing = Thing
 
 -- the surface t is there on the screen
 abbrev pub placed_at : ℕ → Rect → Object → Object

@@ -5,14 +5,14 @@ use Rattle.relay_model.specs.declared.act.Act.TheVariants as acts
 use Rattle.relay_model.specs.declared.act.Word.{Word}
 use Rattle.relay_model.specs.declared.act.Word.TheVariants.{Enabled, Disabled}
 use Rattle.relay_model.specs.Objects as model
-use Rattle.relay_model.specs.Objects.{Object, PeerKind, SurfaceKind, FieldKind, MethodKind, PopupKind, GrabKind, is_at, labels, alive}
+use Rattle.relay_model.specs.Objects.{Object, PeerKind, SurfaceKind, FieldKind, MethodKind, ThingKind, PopupKind, GrabKind, is_at, labels, alive}
 use Rattle.relay_model.specs.Focus.{focus, entered}
 use Rattle.relay_model.specs.Hold.{word, holder}
 use Rattle.relay_model.specs.Current.{State as FieldState, Around, current}
 use Rattle.relay_model.specs.Pending.{pending}
 use Rattle.relay_model.specs.Activation.{serving, dones, begun}
 use Rattle.relay_model.specs.Batch.{Batch, commit_count, edits_past}
-use Rattle.relay_model.specs.Keys.{goes}
+use Rattle.relay_model.specs.Keys.{key_route}
 use Rattle.relay_model.specs.Popups.{area, screen}
 use Rattle.relay_model.specs.Idle.{history}
 use Rattle.kbd_grab.specs.Keyboard as keyboard
@@ -24,7 +24,7 @@ use Rattle.field_state.specs.declared.commit.Word.{Word as KeptWord}
 use Rattle.field_state.specs.declared.commit.Word.TheVariants as kept
 use Rattle.relay_core.specs.declared.object.Object.{Object as Kept}
 use Rattle.relay_core.specs.declared.object.Kind.{Kind}
-use Rattle.relay_core.specs.declared.object.Kind.TheVariants.{Peer, Surface, Field, Method, Popup, Grab}
+use Rattle.relay_core.specs.declared.object.Kind.TheVariants.{Peer, Surface, Field, Method, Popup, Grab, Thing}
 use Rattle.relay_core.specs.Machine.{State, no_edits}
 use Rattle.relay_core.specs.Kept.{Shown}
 use Rattle.relay_core.specs.KeyCalls.{key_calls, route_of}
@@ -68,6 +68,7 @@ kind_of log x FieldKind = Field (field_kept log x)
 kind_of log x MethodKind = Method
 kind_of log x (PopupKind m t) = Popup m t
 kind_of log x (GrabKind m) = Grab m
+kind_of log x ThingKind = Thing
 
 -- what the relay keeps of the object x
 abbrev pub entry_of : List Act → ℕ → Option Object → Kept
@@ -133,5 +134,5 @@ StandsFor relay log = Stands relay.state (history log)
 
 -- where a key act goes after the acts of a list
 abbrev pub route_told : Act → List Act → Option Route
-route_told (acts.Key time key state) log = Some (route_of (goes (history log) key state))
+route_told (acts.Key time key state) log = Some (route_of (key_route (history log) key state))
 route_told _ log = None

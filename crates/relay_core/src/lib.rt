@@ -6,6 +6,7 @@ mod keyboard;
 mod machine;
 mod methods;
 mod object;
+mod peers;
 mod popups;
 mod post;
 mod relay;

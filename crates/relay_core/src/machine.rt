@@ -13,6 +13,7 @@ use crate::object::{
     Kind, NO_AREA, Object, commit, has_popup, is_method, is_number, is_peer, is_same, is_surface,
     object_of, owner, remove_object, remove_peer, request,
 };
+use crate::peers::{tell_error, tell_synced};
 use crate::post::{Post, tell_deleted, tell_enter};
 use crate::spare::Spare;
 use edit_batch::Pending;
@@ -105,7 +106,12 @@ impl Machine {
             Act::Gone { peer, .. }
             | Act::Surface { peer }
             | Act::Field { peer }
-            | Act::Method { peer } => is_peer(&self.objects, *peer),
+            | Act::Method { peer }
+            | Act::Registry { peer, .. }
+            | Act::Sync { peer }
+            | Act::Seat { peer }
+            | Act::Thing { peer }
+            | Act::Bad { peer, .. } => is_peer(&self.objects, *peer),
             Act::Drop { label } => is_thing(&self.objects, *label),
             Act::Focus { surface } => {
                 is_surface(&self.objects, *surface) && !is_number(self.focus, *surface)
@@ -143,7 +149,7 @@ impl Machine {
             | Act::Mods { .. }
             | Act::Keymap { .. }
             | Act::Repeat { .. } => true,
-            Act::Idle => false,
+            Act::Took { .. } | Act::Idle => false,
         }
     }
 
@@ -282,7 +288,16 @@ impl Machine {
                 post,
             ),
             Act::Repeat { rate, delay } => self.set_repeat(*rate, *delay, post),
-            Act::Idle => {}
+            Act::Registry { peer, role } => self.make_registry(*peer, *role, post),
+            Act::Sync { peer } => tell_synced(self.acts, *peer, post),
+            Act::Seat { peer } => self.make_seat(*peer, post),
+            Act::Thing { peer } => self.make(*peer, Kind::Thing),
+            Act::Bad {
+                peer,
+                fault,
+                object,
+            } => tell_error(*peer, *object, *fault, post),
+            Act::Took { .. } | Act::Idle => {}
         }
         None
     }

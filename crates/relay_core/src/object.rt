@@ -19,6 +19,8 @@ pub enum Kind {
     Method,
     Popup { method: Label, surface: Label },
     Grab { method: Label },
+    /// A registry, a seat or another bound global, of which nothing is asked but whether it lives.
+    Thing,
 }
 
 /// A live object and the peer that it belongs to; a peer is its own.
@@ -178,7 +180,8 @@ impl Object {
             | Kind::Surface { .. }
             | Kind::Method
             | Kind::Popup { .. }
-            | Kind::Grab { .. } => None,
+            | Kind::Grab { .. }
+            | Kind::Thing => None,
         }
     }
 
@@ -187,8 +190,12 @@ impl Object {
     {
         match &self.kind {
             Kind::Surface { area } => *area,
-            Kind::Peer | Kind::Field(_) | Kind::Method | Kind::Popup { .. } | Kind::Grab { .. } =>
-                NO_AREA,
+            Kind::Peer
+            | Kind::Field(_)
+            | Kind::Method
+            | Kind::Popup { .. }
+            | Kind::Grab { .. }
+            | Kind::Thing => NO_AREA,
         }
     }
 
@@ -198,8 +205,12 @@ impl Object {
     {
         match &self.kind {
             Kind::Popup { surface, .. } => Some(*surface),
-            Kind::Peer | Kind::Surface { .. } | Kind::Field(_) | Kind::Method | Kind::Grab { .. } =>
-                None,
+            Kind::Peer
+            | Kind::Surface { .. }
+            | Kind::Field(_)
+            | Kind::Method
+            | Kind::Grab { .. }
+            | Kind::Thing => None,
         }
     }
 

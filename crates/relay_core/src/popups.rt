@@ -68,8 +68,12 @@ impl Machine {
             Kind::Popup { method, surface } => {
                 self.tell_shown(rect, object.label, *method, *surface, post)
             }
-            Kind::Peer | Kind::Surface { .. } | Kind::Field(_) | Kind::Method | Kind::Grab { .. } =>
-                {}
+            Kind::Peer
+            | Kind::Surface { .. }
+            | Kind::Field(_)
+            | Kind::Method
+            | Kind::Grab { .. }
+            | Kind::Thing => {}
         }
     }
 

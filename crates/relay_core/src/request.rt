@@ -48,6 +48,12 @@ pub fn ask(field: &mut Field, act: &Act)
         | Act::Mods { .. }
         | Act::Keymap { .. }
         | Act::Repeat { .. }
+        | Act::Registry { .. }
+        | Act::Sync { .. }
+        | Act::Seat { .. }
+        | Act::Thing { .. }
+        | Act::Bad { .. }
+        | Act::Took { .. }
         | Act::Idle => {}
     }
 }

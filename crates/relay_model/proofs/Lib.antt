@@ -7,3 +7,4 @@ pub mod BatchLaws
 pub mod LookingBack
 pub mod PendingLaws
 pub mod StateLaws
+pub mod PopupLaws

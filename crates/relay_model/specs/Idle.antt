@@ -26,7 +26,8 @@ abbrev pub is_sized : Rect → Bool
 is_sized rect = is_not_negative rect.width && is_not_negative rect.height
 
 -- The act does something: the objects that it names are alive and of its kind, a focus moves the focus, a request of a field other than commit and drop
--- comes while the field is entered, a surrounding text or a rectangle is one, the surface of a new popup has none, and a press isn't refused.
+-- comes while the field is entered, a surrounding text or a rectangle is one, the surface of a new popup has none, and a press isn't refused. What is
+-- taken of a peer's bytes is nothing on the seat, so such an act stands as Idle.
 abbrev pub is_live : Act → List Act → Bool
 is_live acts.Peer older = true
 is_live (acts.Gone p cause) older = is_peer older p
@@ -55,6 +56,12 @@ is_live (acts.Key time key state) older = not (is_refused older key state)
 is_live (acts.Mods depressed latched locked group) older = true
 is_live (acts.Keymap format token size) older = true
 is_live (acts.Repeat rate delay) older = true
+is_live (acts.Registry p role) older = is_peer older p
+is_live (acts.Sync p) older = is_peer older p
+is_live (acts.Seat p) older = is_peer older p
+is_live (acts.Thing p) older = is_peer older p
+is_live (acts.Bad p fault x) older = is_peer older p
+is_live (acts.Took p bytes) older = false
 is_live acts.Idle older = false
 
 -- the act, or Idle in its place

@@ -18,6 +18,10 @@ standing (acts.Grab m ∷ older) =
     (if is_none (standing older) && is_at (serving older) m then Some (next older) else standing older)
 standing (act ∷ older) = stands_on (act ∷ older) (standing older)
 
+-- the grab g stands
+abbrev pub grab_stands : List Act → ℕ → Bool
+grab_stands log g = is_at (standing log) g
+
 -- a key's state is that of a press (wl_keyboard.key_state)
 abbrev pub is_press : ℕ → Bool
 is_press state = state == 1
@@ -63,16 +67,15 @@ to_standing None = ToShell
 to_standing (Some g) = ToGrab g
 
 -- where the first press went, and nowhere where that is a grab that doesn't stand
-abbrev pub as_first : Option ℕ → Option ℕ → Goes
-as_first stands None = ToShell
-as_first None (Some g) = Nowhere
-as_first (Some h) (Some g) = (if h == g then ToGrab g else Nowhere)
+abbrev pub as_first : List Act → Option ℕ → Goes
+as_first log None = ToShell
+as_first log (Some g) = (if grab_stands log g then ToGrab g else Nowhere)
 
 -- where the key goes: a key that is down to where its first press went, a release of another to the shell, a first press to the grab that stands,
 -- and it is refused where 64 keys are down
-abbrev pub goes : List Act → ℕ → ℕ → Goes
-goes log key state =
-    (if is_down log key then as_first (standing log) (first_went log key)
+abbrev pub key_route : List Act → ℕ → ℕ → Goes
+key_route log key state =
+    (if is_down log key then as_first log (first_went log key)
     else (if not (is_press state) then ToShell
     else (if nat_lt (number_down log) 64 then to_standing (standing log) else Refused)))
 

@@ -1,4 +1,6 @@
 pub mod Events
+pub mod Faults
+pub mod Globals
 pub mod Objects
 pub mod Focus
 pub mod Hold
@@ -12,3 +14,4 @@ pub mod Idle
 pub mod Told
 pub mod Rows
 pub mod KeyRows
+pub mod SessionRows

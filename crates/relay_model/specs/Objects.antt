@@ -2,11 +2,12 @@
 use Rattle.std.specs.Prelude.{ℕ, ◌+◌, List, [], ◌∷◌, ◌++◌, length, filter, Bool, true, false, ◌==◌, if◌then◌else◌, Option, Some, None, is_some}
 use Rattle.std.specs.List.{list_any}
 use Rattle.relay_model.specs.declared.act.Act.{Act}
-use Rattle.relay_model.specs.declared.act.Act.TheVariants.{Peer, Gone, Surface, Field, Method, Popup, Grab, Drop}
+use Rattle.relay_model.specs.declared.act.Act.TheVariants.{Peer, Gone, Surface, Field, Method, Popup, Grab, Drop, Registry, Seat, Thing}
 
--- what an object is; a popup is made by a method on a surface, a grab by a method
+-- what an object is; a popup is made by a method on a surface, a grab by a method; a registry, a seat or another bound global is a thing, of which
+-- nothing is asked but whether it is alive
 pub data Kind : Type 0 where
-  PeerKind SurfaceKind FieldKind MethodKind : Kind
+  PeerKind SurfaceKind FieldKind MethodKind ThingKind : Kind
   PopupKind : (method surface : ℕ) → Kind
   GrabKind : (method : ℕ) → Kind
 
@@ -85,7 +86,7 @@ abbrev pub made_for : Kind → Option ℕ → Option Object
 made_for kind None = None
 made_for kind (Some p) = Some (record { kind = kind; peer = p })
 
--- what the act makes, where it has this number, and its maker this peer
+-- what the act makes, where it has this number, and its maker this peer; the callback of a sync is never alive
 abbrev pub made : Act → ℕ → Option ℕ → Option Object
 made Peer n whose = Some (record { kind = PeerKind; peer = n })
 made (Surface p) n whose = Some (record { kind = SurfaceKind; peer = p })
@@ -93,6 +94,9 @@ made (Field p) n whose = Some (record { kind = FieldKind; peer = p })
 made (Method p) n whose = Some (record { kind = MethodKind; peer = p })
 made (Popup m s) n whose = made_for (PopupKind m s) whose
 made (Grab m) n whose = made_for (GrabKind m) whose
+made (Registry p role) n whose = Some (record { kind = ThingKind; peer = p })
+made (Seat p) n whose = Some (record { kind = ThingKind; peer = p })
+made (Thing p) n whose = Some (record { kind = ThingKind; peer = p })
 made _ n whose = None
 
 -- the method that makes the act's object

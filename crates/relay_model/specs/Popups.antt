@@ -1,5 +1,5 @@
 -- The popups that are shown, and where.
-use Rattle.std.specs.Prelude.{ℕ, ℤ, pos, List, [], ◌∷◌, ◌==◌, if◌then◌else◌, Option, Some, None}
+use Rattle.std.specs.Prelude.{ℕ, ℤ, pos, List, [], ◌∷◌, Bool, ◌&&◌, ◌==◌, if◌then◌else◌, Option, Some, None, is_some}
 use Rattle.std.specs.List.{flat_map}
 use Rattle.popup_place.specs.declared.geometry.Rect.{Rect}
 use Rattle.popup_place.specs.declared.geometry.Size.{Size}
@@ -58,6 +58,10 @@ place log s rect = place_of (screen log) (origin log) rect (size_of (area log s)
 abbrev pub ready_surface : List Act → ℕ → Option ℕ
 ready_surface log x = (if is_same (method_of log x) (serving log) then where_alive log (surface_of log x) else None)
 
+-- the popup x is shown: it is ready, and a field holds whose rectangle is set
+abbrev pub popup_shown : List Act → ℕ → Bool
+popup_shown log x = is_some (ready_surface log x) && is_some (cursor log)
+
 -- the popup is told where the cursor rectangle is, and the shell where the popup stands
 abbrev pub place_told : ℕ → Placed → List Told
 place_told x placed =
@@ -70,7 +74,7 @@ told_where log x None rect = []
 told_where log x (Some s) None = []
 told_where log x (Some s) (Some rect) = place_told x (place log s rect)
 
--- what is told of the popup x, which is shown where it is ready and a field holds whose rectangle is set
+-- what is told of the popup x, where it is shown
 abbrev pub popup_told : List Act → ℕ → List Told
 popup_told log x = told_where log x (ready_surface log x) (cursor log)
 

@@ -1,7 +1,7 @@
 -- What an act tells.
 use Rattle.std.specs.Prelude.{ℕ, List, [], ◌∷◌, ◌++◌, map, filter, if◌then◌else◌, Option, Some, None, is_some}
 use Rattle.relay_model.specs.declared.act.Act.{Act}
-use Rattle.relay_model.specs.declared.act.Act.TheVariants.{Field, Method, Popup, Grab, Drop, Focus, Unfocus, Area, Screen, Commit, MCommit, Key, Mods, Keymap, Repeat}
+use Rattle.relay_model.specs.declared.act.Act.TheVariants.{Field, Method, Popup, Grab, Drop, Focus, Unfocus, Area, Screen, Commit, MCommit, Key, Mods, Keymap, Repeat, Registry, Sync, Seat, Bad}
 use Rattle.relay_model.specs.declared.said.Told.{Told}
 use Rattle.relay_model.specs.declared.said.Said.{Said}
 use Rattle.relay_model.specs.declared.said.Said.TheVariants as said
@@ -12,8 +12,9 @@ use Rattle.relay_model.specs.Current.{State, Around, current}
 use Rattle.relay_model.specs.Activation.{Notice, Activates, Updates, Deactivates, serving, notice, fresh}
 use Rattle.relay_model.specs.Batch.{group_of}
 use Rattle.relay_model.specs.Keys as keys
-use Rattle.relay_model.specs.Keys.{Goes, ToGrab, ToShell, Nowhere, Refused, goes, standing, last_keymap, last_repeat, last_mods}
+use Rattle.relay_model.specs.Keys.{Goes, ToGrab, ToShell, Nowhere, Refused, key_route, standing, last_keymap, last_repeat, last_mods}
 use Rattle.relay_model.specs.Popups.{popup_told, each_popup}
+use Rattle.relay_model.specs.Globals.{globals_told}
 use Rattle.relay_model.specs.Idle.{cleaned, history}
 pub use Rattle.relay_model.specs.Events.{to}
 
@@ -107,8 +108,13 @@ abbrev pub to_grab : Option ℕ → Said → List Told
 to_grab None said = []
 to_grab (Some g) said = to g said ∷ []
 
+-- the callback n of a sync is told its value, and its peer that the id is free again
+abbrev pub synced : ℕ → ℕ → List Told
+synced n p = to n (said.CallbackDone 0) ∷ to p (said.DeleteId n) ∷ []
+
 -- The act's own events: a method beside the one that serves, what a grab is told that stands, the id of a dropped object, a fresh batch, a key, what the
--- shell says of the keyboard, and of each popup where it is, after a commit of the holder and when the shell places surfaces.
+-- shell says of the keyboard, and of each popup where it is, after a commit of the holder and when the shell places surfaces; the globals of a new
+-- registry, the answer to a sync, what a new seat has, and the error of a refused message.
 abbrev pub own : Act → List Act → List Told
 own (Method p) older = (if is_some (serving older) then to (next older) said.Unavailable ∷ [] else [])
 own (Popup m s) older = popup_told (Popup m s ∷ older) (next older)
@@ -118,10 +124,14 @@ own (Area s rect) older = each_popup (Area s rect ∷ older)
 own (Screen size) older = each_popup (Screen size ∷ older)
 own (Commit f) older = (if is_at (holder (Commit f ∷ older)) f then each_popup (Commit f ∷ older) else [])
 own (MCommit m serial) older = (if fresh (MCommit m serial) older then to_holder (MCommit m serial) older (holder older) else [])
-own (Key time key state) older = key_told (next older) time key state (goes older key state)
+own (Key time key state) older = key_told (next older) time key state (key_route older key state)
 own (Mods depressed latched locked group) older = to_grab (standing older) (said.Mods (next older) depressed latched locked group)
 own (Keymap format token size) older = to_grab (standing older) (said.Keymap format token size)
 own (Repeat rate delay) older = to_grab (standing older) (said.Repeat rate delay)
+own (Registry p role) older = globals_told (next older) role
+own (Sync p) older = synced (next older) p
+own (Seat p) older = to (next older) (said.Capabilities 0) ∷ []
+own (Bad p fault x) older = to p (said.Error x fault) ∷ []
 own _ older = []
 
 -- all that an act tells after a history, in order

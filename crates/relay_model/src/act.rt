@@ -1,4 +1,6 @@
 // What happens on a seat.
+use crate::fault::Fault;
+use crate::role::Role;
 use popup_place::{Rect, Size};
 use wl_wire::Text;
 
@@ -155,6 +157,34 @@ pub enum Act {
     Repeat {
         rate: i32,
         delay: i32,
+    },
+    /// `wl_display.get_registry`. The role is the peer's.
+    Registry {
+        peer: Label,
+        role: Role,
+    },
+    /// `wl_display.sync`. Its callback is gone when the act is over.
+    Sync {
+        peer: Label,
+    },
+    /// `wl_registry.bind` of `wl_seat`.
+    Seat {
+        peer: Label,
+    },
+    /// `wl_registry.bind` of another global.
+    Thing {
+        peer: Label,
+    },
+    /// A message is refused. The object is the one that the peer is told: its `wl_display`, or the one that the message went to.
+    Bad {
+        peer: Label,
+        fault: Fault,
+        object: Label,
+    },
+    /// So many bytes of what is stored for a peer are taken; also for a peer that ended.
+    Took {
+        peer: Label,
+        bytes: u32,
     },
     /// Nothing happens; the act has its number alone.
     Idle,

@@ -2,11 +2,16 @@
 #![tactic(auto)]
 
 mod act;
+mod fault;
+mod role;
 mod rows;
 mod said;
 
 pub use act::{Act, EndCause, Label, Word};
+pub use fault::Fault;
 pub use popup_place::{Rect, Size};
-pub use rows::worked_rows;
+pub use role::Role;
+pub use rows::{session_rows, worked_rows};
 pub use said::{Said, Told};
+pub use wl_proto::Interface;
 pub use wl_wire::Text;

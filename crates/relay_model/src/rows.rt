@@ -1,6 +1,7 @@
 // The worked rows, which the definitions compute.
 ghost use Rattle.relay_model.specs.Rows.{OrdinaryPath, SerialBeforeAnyDone, EarlierDone, NewActivation, ResetAtActivation, EmptyBatch, CommitsBeforeTheFocus, SecondField, LateMethod, CursorInsideACharacter, DroppedSurface, FocusAgain, CauseOfOneCommit, SetBeforeEnable, WholeBatch};
 ghost use Rattle.relay_model.specs.KeyRows.{Routing, ReleasedAfterTheGrab, GrabsInTurn, Placement, TwoPopups, PopupWithoutSurface, RectangleReset, PopupBesidePopup, TooManyKeys};
+ghost use Rattle.relay_model.specs.SessionRows.{GlobalsOfAnApp, GlobalsOfAMethod, AnsweredSync, BoundSeat, RefusedMessages, DroppedThing, EndedPeer};
 
 /// What the definitions tell of the worked act lists is what was worked out by hand.
 pub fn worked_rows()
@@ -28,4 +29,15 @@ pub fn worked_rows()
     ensures rectangle_reset { RectangleReset }
     ensures popup_beside_popup { PopupBesidePopup }
     ensures too_many_keys { TooManyKeys }
+{}
+
+/// The same of the acts that only sessions have.
+pub fn session_rows()
+    ensures globals_of_an_app { GlobalsOfAnApp }
+    ensures globals_of_a_method { GlobalsOfAMethod }
+    ensures answered_sync { AnsweredSync }
+    ensures bound_seat { BoundSeat }
+    ensures refused_messages { RefusedMessages }
+    ensures dropped_thing { DroppedThing }
+    ensures ended_peer { EndedPeer }
 {}

@@ -1,5 +1,7 @@
 // What a peer is told.
 use crate::act::Label;
+use crate::fault::Fault;
+use wl_proto::Interface;
 use wl_wire::Text;
 
 /// One event, for the object that it is told to.
@@ -88,9 +90,28 @@ pub enum Said {
         rate: i32,
         delay: i32,
     },
+    /// `wl_registry.global`: the peer may bind the interface under this name.
+    Global {
+        name: u32,
+        interface: Interface,
+        version: u32,
+    },
+    /// `wl_callback.done`, the answer to a sync.
+    CallbackDone {
+        value: u32,
+    },
     /// `wl_display.delete_id`: the object's id may be used again.
     DeleteId {
         label: Label,
+    },
+    /// `wl_seat.capabilities`: a mask of the pointer, the keyboard and the touch that the seat has.
+    Capabilities {
+        value: u32,
+    },
+    /// `wl_display.error`: a message was refused. The code and the text are the fault's.
+    Error {
+        object: Label,
+        fault: Fault,
     },
     /// A key that no grab has, told to the shell.
     Pass {

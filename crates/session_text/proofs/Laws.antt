@@ -1,30 +1,47 @@
 -- The reading of a line is the inverse of its spelling.
-use Rattle.std.proofs.Common.{◌≡◌, ℕ, Bool, true, false, cond, eqb, List, [], ◌∷◌, length, Option, Some, None, Result, Ok, Err, refl, sym, ap, ◌∙◌, subst}
+use Rattle.std.proofs.Common.{◌≡◌, ℕ, true, false, cond, eqb, List, [], ◌∷◌, length, Option, Some, None, Result, Ok, Err, refl, sym, ap, ◌∙◌}
 use Rattle.std.specs.Prelude.{codes, nat_le, IfOk}
 use Rattle.std.specs.List.{slice_split, join_with_byte}
 use Rattle.std.proofs.lemmas.Bool.{le-leb}
 use Rattle.std.proofs.lemmas.List.Splits.{join_with_byte-slice_split}
 use Rattle.std.proofs.lemmas.Slice.Eq.{bytes_eq-Decides}
 use Rattle.relay_model.specs.declared.act.Act.{Act}
+use Rattle.session_text.specs.declared.step.ShellStep.{ShellStep}
 use Rattle.session_text.specs.declared.line.Form.{Form}
-use Rattle.session_text.specs.declared.line.Form.TheVariants.{Acts}
+use Rattle.session_text.specs.declared.line.Form.TheVariants.{Acts, Session, Shell}
 use Rattle.session_text.specs.declared.line.Line.{Line}
 use Rattle.session_text.specs.declared.line.Line.TheVariants as lines
 use Rattle.session_text.specs.declared.line.BadLine.{BadLine}
 use Rattle.session_text.specs.Grammar.{line_words, spelling, IsLine}
-use Rattle.session_text.specs.Reading.{◌>>=◌, act_of, is_end, line_of_words, line_of, line_limit, Reads}
-use Rattle.session_text.proofs.SpelledActs.{Parts, none, named, parts, act_complete}
+use Rattle.session_text.specs.Words.{◌>>=◌}
+use Rattle.session_text.specs.SessionReading.{shell_of}
+use Rattle.session_text.specs.Reading.{act_of, is_end, line_of_words, line_of, line_limit, Reads}
+use Rattle.session_text.proofs.Arms.{let_through}
+use Rattle.session_text.proofs.Parts.{Parts, IsRead, none, named, made}
+use Rattle.session_text.proofs.SpelledActs.{parts, act_complete}
 use Rattle.session_text.proofs.ReadActs.{act_sound}
+use Rattle.session_text.proofs.SpelledSteps.{shell_parts, session_parts, header_parts, shell_complete, session_complete, header_complete, end_complete}
+use Rattle.session_text.proofs.ReadSteps.{shell_sound, session_sound}
 
 -- ---- what is spelled is read
 
-line_parts : (form : Form) (line : Line) → IsLine form line → Parts (line_words line)
+pub line_parts : (form : Form) (line : Line) → IsLine form line → Parts (line_words line)
 line_parts Acts (lines.Act act) h = parts act h
 line_parts Acts lines.End h = named (codes "end") [] 0 none refl
+line_parts Session (lines.Header limits) h = header_parts limits h
+line_parts Session (lines.Session line) h = session_parts line h
+line_parts Session lines.End h = named (codes "end") [] 0 none refl
+line_parts Shell (lines.Shell step) h = shell_parts step h
+line_parts _ _ h = absurd h
 
 words_read : (form : Form) (line : Line) → IsLine form line → line_of_words form (line_words line) ≡ Some line
 words_read Acts (lines.Act act) h = let found = act_complete act h in rw (found.0, found.1) refl
 words_read Acts lines.End h = refl
+words_read Session (lines.Header limits) h = header_complete limits h
+words_read Session (lines.Session line) h = session_complete line h
+words_read Session lines.End h = end_complete
+words_read Shell (lines.Shell step) h = rw (shell_complete step h) refl
+words_read _ _ h = absurd h
 
 pub reads_each : (form : Form) (line : Line) → IsLine form line → line_of form (spelling line) ≡ Some line
 unfolding line_of
@@ -35,40 +52,37 @@ reads_each form line h =
 
 -- ---- what is read is spelled so
 
--- what a test let through
-let_through : {A : Type 0} (b : Bool) (o : Option A) (x : A) → cond b o None ≡ Some x → o ≡ Some x
-let_through true o x e = e
-let_through false o x e = absurd (cc e)
-
 is_end_sound : (ws : List (List ℕ)) → is_end ws ≡ true → ws ≡ codes "end" ∷ []
 is_end_sound [] e = absurd (cc e)
 is_end_sound (k ∷ []) e = ap (λ w. w ∷ []) ((bytes_eq-Decides k (codes "end")).0 e)
 is_end_sound (k ∷ a ∷ ws) e = absurd (cc e)
 
-record IsReadLine (form : Form) (ws : List (List ℕ)) (line : Line) : Type 0 where
-  same : ws ≡ line_words line
-  is_line : IsLine form line
+abbrev IsReadLine : Form → List (List ℕ) → Line → Type 0
+IsReadLine form = IsRead line_words (IsLine form)
 
 act_line : (ws : List (List ℕ)) (line : Line) (o : Option Act) → act_of ws ≡ o → (o >>= (λ act. Some (lines.Act act))) ≡ Some line → IsReadLine Acts ws line
 act_line ws line None is e = absurd (cc e)
-act_line ws line (Some act) is e =
-    let read = act_sound ws act is in
-    let same : lines.Act act ≡ line = cc in
-    subst (IsReadLine Acts ws) same (record { same = read.same; is_line = read.has_line })
+act_line ws line (Some act) is e = let read = act_sound ws act is in made ws (lines.Act act) line e read.same read.has_line
+
+shell_line : (ws : List (List ℕ)) (line : Line) (o : Option ShellStep) → shell_of ws ≡ o → (o >>= (λ step. Some (lines.Shell step))) ≡ Some line → IsReadLine Shell ws line
+shell_line ws line None is e = absurd (cc e)
+shell_line ws line (Some step) is e = let read = shell_sound ws step is in made ws (lines.Shell step) line e read.same read.has_line
 
 words_sound : (form : Form) (ws : List (List ℕ)) (line : Line) → line_of_words form ws ≡ Some line → IsReadLine form ws line
 words_sound Acts ws line e =
     elim (is_end ws) as (λ b. is_end ws ≡ b → cond b (Some lines.End) (act_of ws >>= (λ act. Some (lines.Act act))) ≡ Some line → IsReadLine Acts ws line) [
-      | true ↦ λ is f. let same : lines.End ≡ line = cc in subst (IsReadLine Acts ws) same (record { same = is_end_sound ws is; is_line = tt })
+      | true ↦ λ is f. made ws lines.End line f (is_end_sound ws is) tt
       | false ↦ λ is f. act_line ws line (act_of ws) refl f
     ] refl e
+words_sound Session ws line e = session_sound ws line e
+words_sound Shell ws line e = shell_line ws line (shell_of ws) refl e
 
 pub reads_only : (form : Form) (bytes : List ℕ) (line : Line) → line_of form bytes ≡ Some line → (bytes ≡ spelling line) × IsLine form line
 unfolding line_of
 reads_only form bytes line e =
     let ws = slice_split (λ b. eqb b 32) bytes in
     let read = words_sound form ws line (let_through (nat_le (length bytes) line_limit) (line_of_words form ws) line e) in
-    (sym (join_with_byte-slice_split 32 bytes) ∙ ap (join_with_byte 32) read.same, read.is_line)
+    (sym (join_with_byte-slice_split 32 bytes) ∙ ap (join_with_byte 32) read.same, read.has_line)
 
 -- what was read is a line of the form
 pub read_is_line : (form : Form) (bytes : List ℕ) (r : Result Line BadLine) → Reads r (line_of form bytes) → IfOk r (IsLine form)

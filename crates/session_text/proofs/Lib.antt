@@ -1,8 +1,16 @@
 pub mod Numerals
+pub mod Arms
 pub mod Texts
 pub mod Separators
 pub mod WordKinds
+pub mod Parts
 pub mod SpelledActs
 pub mod ReadActs
+pub mod SpelledSteps
+pub mod ReadSteps
 pub mod Laws
+pub mod Asked
+pub mod Printed
+pub mod FaultTexts
 pub mod PrintedLines
+pub mod Transcripts

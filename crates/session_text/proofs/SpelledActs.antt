@@ -1,58 +1,17 @@
 -- Each act that has a line: its words are words of a line, and they are read as that act.
-use Rattle.std.proofs.Common.{◌≡◌, ℕ, ◌+◌, ◌≤◌, true, false, ◌&&◌, List, [], ◌∷◌, length, eqb, Option, Some, refl, arith}
-use Rattle.std.specs.Prelude.{codes, nat_le}
-use Rattle.std.specs.List.{slice_split, join_with_byte}
-use Rattle.std.proofs.lemmas.Bool.{and_parts, leb-true}
+use Rattle.std.proofs.Common.{◌≡◌, false, [], Some, refl}
+use Rattle.std.specs.Prelude.{codes}
 use Rattle.relay_model.specs.declared.act.Act.{Act}
 use Rattle.relay_model.specs.declared.act.Act.TheVariants as acts
 use Rattle.relay_model.specs.declared.act.EndCause.TheVariants as causes
 use Rattle.session_text.specs.Words.{text_limit, cursor_text_limit}
 use Rattle.session_text.specs.Grammar.{act_words, HasLine}
-use Rattle.session_text.specs.Reading.{size, one_word, two_words, three_words, four_words, five_words, six_words, act_of, is_end, line_limit}
-use Rattle.session_text.proofs.Separators.{lacks, AllLack, total, split_join, length-join}
-use Rattle.session_text.proofs.WordKinds.{Kind, numbers, signeds, sizes, states, texts}
+use Rattle.session_text.specs.Reading.{one_word, two_words, three_words, four_words, five_words, six_words, act_of, is_end}
+use Rattle.session_text.proofs.Parts.{Parts, none, more, named, with_one, with_two}
+use Rattle.session_text.proofs.WordKinds.{numbers, signeds, sizes, states, texts}
 
 -- ---- the words of an act are words of a line
 
--- words without a space, with so many bytes and spaces at most
-pub record Fits (ws : List (List ℕ)) (n : ℕ) : Type 0 where
-  pub spaceless : AllLack 32 ws
-  pub within : total ws ≤ n
-
-pub none : Fits [] 0
-none = record { spaceless = tt; within = omega arith }
-
-pub more : {A : Type 0} {read : List ℕ → Option A} {spell : A → List ℕ} {Is : A → Type 0} {most : ℕ} → Kind read spell Is most → (x : A) → Is x
-    → (ws : List (List ℕ)) (n : ℕ) → Fits ws n → Fits (spell x ∷ ws) (most + 1 + n)
-more kind x h ws n fits = record {
-  spaceless = (kind.spaceless x h, fits.spaceless);
-  within = let short = kind.short x h in omega (arith, short, fits.within);
-}
-
--- the words of a line are found in its bytes, of which there are no more than the limit
-pub record Parts (ws : List (List ℕ)) : Type 0 where
-  pub split : slice_split (λ b. eqb b 32) (join_with_byte 32 ws) ≡ ws
-  pub within : length (join_with_byte 32 ws) ≤ line_limit
-
-pub named : (name : List ℕ) (ws : List (List ℕ)) (n : ℕ) → Fits ws n → (lacks 32 name && nat_le (length name + 1 + n) line_limit) ≡ true → Parts (name ∷ ws)
-named name ws n fits test =
-    let (spaceless, small) = and_parts (lacks 32 name) (nat_le (length name + 1 + n) line_limit) test in
-    record {
-      split = split_join name ws spaceless fits.spaceless;
-      within = omega (arith, leb-true (length name + 1 + n) line_limit small, fits.within, length-join (name ∷ ws));
-    }
-
--- the other words of a line, by their kinds
-with_one : {A : Type 0} {read : List ℕ → Option A} {spell : A → List ℕ} {Is : A → Type 0} {most : ℕ} → Kind read spell Is most
-    → (name : List ℕ) (x : A) → Is x → (lacks 32 name && nat_le (length name + 1 + (most + 1 + 0)) line_limit) ≡ true → Parts (name ∷ spell x ∷ [])
-with_one kind name x h test = named name _ _ (more kind x h _ _ none) test
-
-with_two : {A B : Type 0} {read : List ℕ → Option A} {spell : A → List ℕ} {Is : A → Type 0} {most : ℕ} {read' : List ℕ → Option B} {spell' : B → List ℕ} {Is' : B → Type 0} {most' : ℕ}
-    → Kind read spell Is most → Kind read' spell' Is' most' → (name : List ℕ) (x : A) (y : B) → Is x → Is' y
-    → (lacks 32 name && nat_le (length name + 1 + (most + 1 + (most' + 1 + 0))) line_limit) ≡ true → Parts (name ∷ spell x ∷ spell' y ∷ [])
-with_two kind kind' name x y h h' test = named name _ _ (more kind x h _ _ (more kind' y h' _ _ none)) test
-
--- each act's words
 pub parts : (act : Act) → HasLine act → Parts (act_words act)
 parts acts.Peer h = named (codes "peer") [] 0 none refl
 parts (acts.Gone p causes.Gone) h = with_one numbers (codes "gone") p h refl

@@ -1,19 +1,17 @@
--- The grammar of act lists: the one spelling of each line, and which lines there are.
+-- The grammar of act lists, and of every form: the one spelling of each line, and which lines there are.
 use Rattle.std.specs.Prelude.{ℕ, ◌^◌, ◌<◌, ◌≤◌, List, [], ◌∷◌, codes, IsTrue}
 use Rattle.std.specs.List.{join_with_byte}
 use Rattle.std.specs.Fmt.{decimal, signed_decimal}
-use Rattle.popup_place.specs.declared.geometry.Rect.{Rect}
 use Rattle.relay_model.specs.declared.act.Act.{Act}
 use Rattle.relay_model.specs.declared.act.Act.TheVariants as acts
 use Rattle.relay_model.specs.declared.act.EndCause.TheVariants as causes
 use Rattle.session_text.specs.declared.line.Form.{Form}
-use Rattle.session_text.specs.declared.line.Form.TheVariants.{Acts}
+use Rattle.session_text.specs.declared.line.Form.TheVariants.{Acts, Session, Shell}
 use Rattle.session_text.specs.declared.line.Line.{Line}
 use Rattle.session_text.specs.declared.line.Line.TheVariants as lines
-use Rattle.session_text.specs.Words.{text_limit, cursor_text_limit, IsTextWithin, fits_i32, is_size, hex_word}
-
-abbrev pub rect_words : Rect → List (List ℕ)
-rect_words rect = signed_decimal rect.x ∷ signed_decimal rect.y ∷ signed_decimal rect.width ∷ signed_decimal rect.height ∷ []
+use Rattle.session_text.specs.Words.{text_limit, cursor_text_limit, IsTextWithin, IsRect, IsArea, fits_i32, is_size, rect_words, hex_word}
+use Rattle.session_text.specs.Steps.{IsLimits}
+use Rattle.session_text.specs.SessionGrammar.{shell_words, session_words, header_words, HasShellLine, HasSessionLine}
 
 -- the words of an act's line; an act that no line gives has none
 abbrev pub act_words : Act → List (List ℕ)
@@ -50,20 +48,15 @@ act_words (acts.Repeat rate delay) = codes "repeat" ∷ signed_decimal rate ∷ 
 act_words _ = []
 
 abbrev pub line_words : Line → List (List ℕ)
+line_words (lines.Header limits) = header_words limits
 line_words (lines.Act act) = act_words act
+line_words (lines.Session line) = session_words line
+line_words (lines.Shell step) = shell_words step
 line_words lines.End = codes "end" ∷ []
 
 -- the words of a line, separated by one space
 abbrev pub spelling : Line → List ℕ
 spelling line = join_with_byte 32 (line_words line)
-
--- each number of the rectangle has 32 bits and a sign
-abbrev pub IsRect : Rect → Type 0
-IsRect rect = IsTrue (fits_i32 rect.x) × IsTrue (fits_i32 rect.y) × IsTrue (fits_i32 rect.width) × IsTrue (fits_i32 rect.height)
-
--- the same, and the size isn't negative
-abbrev pub IsArea : Rect → Type 0
-IsArea rect = IsTrue (fits_i32 rect.x) × IsTrue (fits_i32 rect.y) × IsTrue (is_size rect.width) × IsTrue (is_size rect.height)
 
 -- The act holds only what a line can give: each number is in its range, each text is one within its limit, and a peer that ends is gone.
 abbrev pub HasLine : Act → Type 0
@@ -103,3 +96,8 @@ HasLine _ = ⊥
 abbrev pub IsLine : Form → Line → Type 0
 IsLine Acts (lines.Act act) = HasLine act
 IsLine Acts lines.End = Unit {0}
+IsLine Session (lines.Header limits) = IsLimits limits
+IsLine Session (lines.Session line) = HasSessionLine line
+IsLine Session lines.End = Unit {0}
+IsLine Shell (lines.Shell step) = HasShellLine step
+IsLine _ _ = ⊥

@@ -1,35 +1,22 @@
 -- What the bytes of a line read as.
-use Rattle.std.specs.Prelude.{◌≡◌, ℕ, ℤ, ◌==◌, nat_le, if◌then◌else◌, Bool, false, List, [], ◌∷◌, length, codes, Option, Some, None, Result, Ok, Err}
+use Rattle.std.specs.Prelude.{◌≡◌, ℕ, ◌==◌, nat_le, if◌then◌else◌, Bool, false, List, [], ◌∷◌, length, codes, Option, Some, None, Result, Ok, Err}
 use Rattle.std.specs.List.{slice_split}
 use Rattle.std.specs.Str.{bytes_eq}
-use Rattle.popup_place.specs.declared.geometry.Rect.{Rect}
-use Rattle.popup_place.specs.declared.geometry.Size.{Size}
 use Rattle.relay_model.specs.declared.act.Act.{Act}
 use Rattle.relay_model.specs.declared.act.Act.TheVariants as acts
 use Rattle.relay_model.specs.declared.act.EndCause.TheVariants as causes
 use Rattle.session_text.specs.declared.line.Form.{Form}
-use Rattle.session_text.specs.declared.line.Form.TheVariants.{Acts}
+use Rattle.session_text.specs.declared.line.Form.TheVariants.{Acts, Session, Shell}
 use Rattle.session_text.specs.declared.line.Line.{Line}
 use Rattle.session_text.specs.declared.line.Line.TheVariants as lines
 use Rattle.session_text.specs.declared.line.BadLine.{BadLine}
 use Rattle.session_text.specs.declared.line.BadLine.TheVariants as bad
-use Rattle.session_text.specs.Words.{text_limit, cursor_text_limit, number_of, signed_of, size_of, state_of, text_of}
+use Rattle.session_text.specs.Words.{◌>>=◌, rect, size, text_limit, cursor_text_limit, number_of, signed_of, size_of, state_of, text_of}
+use Rattle.session_text.specs.SessionReading.{shell_of, session_of}
 
 -- the most bytes of a line, without its line feed
 abbrev pub line_limit : ℕ
 line_limit = 8400
-
--- what the rest makes of the word's value, if it has one
-infixl 10 ◌>>=◌
-abbrev pub ◌>>=◌ : {A B : Type 0} → Option A → (A → Option B) → Option B
-None >>= f = None
-(Some x) >>= f = f x
-
-abbrev pub rect : ℤ → ℤ → ℤ → ℤ → Rect
-rect x y w h = record { x = x; y = y; width = w; height = h }
-
-abbrev pub size : ℤ → ℤ → Size
-size w h = record { width = w; height = h }
 
 unfoldable pub one_word : List ℕ → Option Act
 one_word k =
@@ -119,6 +106,8 @@ is_end _ = false
 -- the line of the words in each form
 abbrev pub line_of_words : Form → List (List ℕ) → Option Line
 line_of_words Acts words = if is_end words then Some lines.End else act_of words >>= (λ act. Some (lines.Act act))
+line_of_words Session words = session_of words
+line_of_words Shell words = shell_of words >>= (λ step. Some (lines.Shell step))
 
 -- the line of the bytes, of which there are no more than the limit
 unfoldable pub line_of : Form → List ℕ → Option Line

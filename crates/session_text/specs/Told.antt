@@ -2,9 +2,11 @@
 use Rattle.std.specs.Prelude.{ℕ, List, [], ◌∷◌, ◌++◌, codes}
 use Rattle.std.specs.List.{join_with_byte}
 use Rattle.std.specs.Fmt.{decimal, signed_decimal}
+use Rattle.wl_proto.specs.Names.{name_of}
 use Rattle.relay_model.specs.declared.said.Told.{Told}
 use Rattle.relay_model.specs.declared.said.Said.{Said}
 use Rattle.relay_model.specs.declared.said.Said.TheVariants as said
+use Rattle.relay_model.specs.Faults.{code_of, text_of}
 use Rattle.session_text.specs.Words.{hex_word}
 
 -- the event's name in its protocol, and its arguments in their order
@@ -30,7 +32,11 @@ said_words (said.Key serial time key state) = codes "key" ∷ decimal serial ∷
 said_words (said.Mods serial depressed latched locked group) =
     codes "modifiers" ∷ decimal serial ∷ decimal depressed ∷ decimal latched ∷ decimal locked ∷ decimal group ∷ []
 said_words (said.Repeat rate delay) = codes "repeat_info" ∷ signed_decimal rate ∷ signed_decimal delay ∷ []
+said_words (said.Global name interface version) = codes "global" ∷ decimal name ∷ name_of interface ∷ decimal version ∷ []
+said_words (said.CallbackDone value) = codes "done" ∷ decimal value ∷ []
 said_words (said.DeleteId label) = codes "delete_id" ∷ decimal label ∷ []
+said_words (said.Capabilities value) = codes "capabilities" ∷ decimal value ∷ []
+said_words (said.Error object fault) = codes "error" ∷ decimal object ∷ decimal (code_of fault) ∷ hex_word (text_of fault) ∷ []
 said_words (said.Pass time key state) = codes "pass" ∷ decimal time ∷ decimal key ∷ decimal state ∷ []
 said_words (said.Placed popup x y) = codes "placed" ∷ decimal popup ∷ signed_decimal x ∷ signed_decimal y ∷ []
 

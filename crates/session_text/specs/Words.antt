@@ -1,11 +1,15 @@
--- The words of a line: decimal numbers and hex texts, and what each word reads as.
-use Rattle.std.specs.Prelude.{ℕ, ℤ, pos, negsuc, ◌^◌, ◌≤◌, ◌&&◌, Bool, false, nat_lt, nat_le, if◌then◌else◌, List, [], ◌∷◌, length, codes, Option, Some, None, Result, Ok, Err}
+-- The words of a line: decimal numbers, hex texts and bytes, and what each word reads as.
+use Rattle.std.specs.Prelude.{ℕ, ℤ, pos, negsuc, ◌^◌, ◌≤◌, ◌&&◌, Bool, false, nat_lt, nat_le, if◌then◌else◌, List, [], ◌∷◌, length, codes, IsTrue, Option, Some, None, Result, Ok, Err}
 use Rattle.std.specs.Str.{bytes_eq}
 use Rattle.std.specs.Str.Parse.{digits_value, signed_digits_value}
 use Rattle.std.specs.Fmt.{decimal, signed_decimal}
 use Rattle.hex.specs.Hex.{encode_lower, decode_of}
 use Rattle.hex.specs.declared.error.FromHexError.{FromHexError}
-use Rattle.wl_wire.specs.Texts.{IsText, is_text}
+use Rattle.popup_place.specs.declared.geometry.Rect.{Rect}
+use Rattle.popup_place.specs.declared.geometry.Size.{Size}
+use Rattle.wl_wire.specs.Texts.{IsBytes, IsText, is_text}
+use Rattle.relay_model.specs.declared.role.Role.{Role}
+use Rattle.relay_model.specs.declared.role.Role.TheVariants.{App, Method}
 
 -- the most bytes of a text that stands alone in its request (zwp_input_method_v2.commit_string)
 abbrev pub text_limit : ℕ
@@ -15,9 +19,24 @@ text_limit = 4083
 abbrev pub cursor_text_limit : ℕ
 cursor_text_limit = 4075
 
+-- the most bytes that one line gives or takes: those of one message
+abbrev pub piece_limit : ℕ
+piece_limit = 4096
+
+-- the greatest limits that a session's header may set
+abbrev pub entry_limit : ℕ
+entry_limit = 1000000
+
+abbrev pub store_limit : ℕ
+store_limit = 1048576
+
 -- a text of at most so many bytes
 abbrev pub IsTextWithin : ℕ → List ℕ → Type 0
 IsTextWithin limit text = IsText text × (length text ≤ limit)
+
+-- from one to so many bytes
+abbrev pub IsBytesWithin : ℕ → List ℕ → Type 0
+IsBytesWithin limit bytes = IsBytes bytes × (1 ≤ length bytes) × (length bytes ≤ limit)
 
 -- the number has 32 bits and a sign
 abbrev pub fits_i32 : ℤ → Bool
@@ -29,7 +48,28 @@ abbrev pub is_size : ℤ → Bool
 is_size (pos n) = nat_lt n (2 ^ 31)
 is_size (negsuc n) = false
 
--- a text as a word: pairs of lower-case hex digits, or a dash for the empty text
+abbrev pub rect : ℤ → ℤ → ℤ → ℤ → Rect
+rect x y w h = record { x = x; y = y; width = w; height = h }
+
+abbrev pub size : ℤ → ℤ → Size
+size w h = record { width = w; height = h }
+
+abbrev pub rect_words : Rect → List (List ℕ)
+rect_words rect = signed_decimal rect.x ∷ signed_decimal rect.y ∷ signed_decimal rect.width ∷ signed_decimal rect.height ∷ []
+
+-- each number of the rectangle has 32 bits and a sign
+abbrev pub IsRect : Rect → Type 0
+IsRect rect = IsTrue (fits_i32 rect.x) × IsTrue (fits_i32 rect.y) × IsTrue (fits_i32 rect.width) × IsTrue (fits_i32 rect.height)
+
+-- the same, and the size isn't negative
+abbrev pub IsArea : Rect → Type 0
+IsArea rect = IsTrue (fits_i32 rect.x) × IsTrue (fits_i32 rect.y) × IsTrue (is_size rect.width) × IsTrue (is_size rect.height)
+
+abbrev pub role_word : Role → List ℕ
+role_word App = codes "app"
+role_word Method = codes "method"
+
+-- a text or bytes as a word: pairs of lower-case hex digits, or a dash where there are none
 abbrev pub hex_word : List ℕ → List ℕ
 hex_word [] = codes "-"
 hex_word (b ∷ bytes) = encode_lower (b ∷ bytes)
@@ -46,6 +86,12 @@ number_of word = printed (digits_value 10) (λ n. nat_lt n (2 ^ 32)) decimal wor
 unfoldable pub signed_of : List ℕ → Option ℤ
 signed_of word = printed (signed_digits_value 10) fits_i32 signed_decimal word
 
+-- what the rest makes of the word's value, if it has one
+infixl 10 ◌>>=◌
+abbrev pub ◌>>=◌ : {A B : Type 0} → Option A → (A → Option B) → Option B
+None >>= f = None
+(Some x) >>= f = f x
+
 abbrev pub kept : {A : Type 0} → (A → Bool) → Option A → Option A
 kept test None = None
 kept test (Some x) = (if test x then Some x else None)
@@ -58,11 +104,23 @@ size_of word = kept is_size (signed_of word)
 unfoldable pub state_of : List ℕ → Option ℕ
 state_of word = kept (λ n. nat_le n 1) (number_of word)
 
+-- the number from 1 to the greatest that is written so
+unfoldable pub count_of : ℕ → List ℕ → Option ℕ
+count_of most word = kept (λ n. nat_le 1 n && nat_le n most) (number_of word)
+
+-- the role that is written so
+unfoldable pub role_of : List ℕ → Option Role
+role_of word = if bytes_eq word (codes "app") then Some App else if bytes_eq word (codes "method") then Some Method else None
+
 abbrev pub decoded : ℕ → List ℕ → Result (List ℕ) FromHexError → Option (List ℕ)
 decoded limit word (Ok bytes) =
-    if nat_lt 0 (length bytes) && is_text bytes && nat_le (length bytes) limit && bytes_eq (encode_lower bytes) word then Some bytes else None
+    if nat_lt 0 (length bytes) && nat_le (length bytes) limit && bytes_eq (encode_lower bytes) word then Some bytes else None
 decoded limit word (Err e) = None
+
+-- the bytes, from one to so many, that are written so
+unfoldable pub bytes_of : ℕ → List ℕ → Option (List ℕ)
+bytes_of limit word = decoded limit word (decode_of word)
 
 -- the text of at most so many bytes that is written so
 unfoldable pub text_of : ℕ → List ℕ → Option (List ℕ)
-text_of limit word = if bytes_eq word (codes "-") then Some [] else decoded limit word (decode_of word)
+text_of limit word = if bytes_eq word (codes "-") then Some [] else kept is_text (bytes_of limit word)

@@ -5,10 +5,16 @@ ghost use Rattle.session_text.specs.declared.line.BadLine.TheVariants.{NoMemory}
 ghost use Rattle.session_text.specs.Grammar.{IsLine};
 ghost use Rattle.session_text.specs.Laws.{ReadsOnlySpellings, ReadsEachSpelling};
 ghost use Rattle.session_text.specs.Reading as reading;
+ghost use Rattle.session_text.specs.Worked.{WorkedLines, OtherLines, WorkedSteps};
 
 use crate::act_line::read_act;
-use relay_model::Act;
+use crate::limits::Limits;
+use crate::session_line::read_session;
+use crate::shell_line::read_shell;
+use crate::step::ShellStep;
+use relay_model::{Act, Role};
 use std::alloc::{AllocError, Global};
+use wl_wire::Bytes;
 
 /// The most bytes of a line, without its line feed. A longer one is in no grammar.
 pub const LINE_LIMIT: usize = 8400;
@@ -18,15 +24,40 @@ pub const LINE_LIMIT: usize = 8400;
 pub enum Form {
     /// An act list: each line is an act, whose objects are named by their labels.
     Acts,
+    /// A session: its header, lines of peers and of the shell, and its end.
+    Session,
+    /// A shell link: lines of the shell alone.
+    Shell,
 }
 
 /// What a line says.
 #[derive(Debug, Drop)]
 pub enum Line {
+    /// The header of a session, which comes first: its limits.
+    Header(Limits),
     /// An act of an act list.
     Act(Act),
-    /// The list ends here.
+    /// A line of a session after its header.
+    Session(SessionLine),
+    /// A line of a shell link.
+    Shell(ShellStep),
+    /// The list or the session ends here.
     End,
+}
+
+/// A line of a session between its header and its end. Peers are numbered from 1 in the order in which they join.
+#[derive(Debug, Drop)]
+pub enum SessionLine {
+    /// A peer joins.
+    Join(Role),
+    /// The peer of that number sends bytes: 1 to 4,096, wherever they cut its messages.
+    Bytes(u32, Bytes),
+    /// The link of the peer of that number ends.
+    Gone(u32),
+    /// The peer of that number takes so many of the bytes that are stored for it, or all where there are fewer: 1 to 4,096.
+    Take(u32, u32),
+    /// The shell says something.
+    Shell(ShellStep),
 }
 
 /// Why bytes give no line.
@@ -61,6 +92,8 @@ fn read_words(alloc: Global, form: Form, words: &[&[u8]]) -> Result<Line, BadLin
     match form {
         Form::Acts if is_end(words) => Ok(Line::End),
         Form::Acts => Ok(Line::Act(read_act(alloc, words)?)),
+        Form::Session => read_session(alloc, words),
+        Form::Shell => Ok(Line::Shell(read_shell(words)?)),
     }
 }
 
@@ -73,7 +106,8 @@ fn words_of(alloc: Global, line: &[u8]) -> Result<Vec<&[u8]>, AllocError>
 /// Reads a line without its line feed. `Grammar` comes exactly where the form has no such line. Words are separated by
 /// one space. Numbers are decimal, in the range of their type, without a leading zero, and only those with a sign may
 /// begin with `-`. A text is pairs of lower-case hex digits, or `-` where it is empty, and they give UTF-8 without a
-/// zero byte: at most 4,083 bytes in `mstring`, 4,075 in `surround` and `mpreedit`.
+/// zero byte: at most 4,083 bytes in `mstring`, 4,075 in `surround` and `mpreedit`. A `bytes` line has 1 to 4,096 bytes
+/// in the same digits, and they may be any. A session's header is a line wherever it stands.
 #[tactic(auto, unfolding(crate::specs::Reading::line_of))]
 pub fn read_line(alloc: Global, form: Form, line: &[u8]) -> Result<Line, BadLine>
     ensures exact { reading.Reads result (reading.line_of form line.now) }
@@ -90,4 +124,11 @@ pub fn read_line(alloc: Global, form: Form, line: &[u8]) -> Result<Line, BadLine
 pub fn one_spelling()
     ensures only { ReadsOnlySpellings }
     ensures each { ReadsEachSpelling }
+{}
+
+/// A law without work: what the definitions read from worked lines, and print of worked steps, is what was worked out by hand.
+pub fn worked_lines()
+    ensures lines { WorkedLines }
+    ensures others { OtherLines }
+    ensures steps { WorkedSteps }
 {}

@@ -2,52 +2,20 @@
 ghost use Rattle.std.specs.Prelude.{◌≡◌, [], ◌∷◌, ◌++◌, map, codes, IfOk, OnOk, IsTrue, string_bytes};
 ghost use Rattle.std.specs.List.{join_with_byte};
 ghost use Rattle.std.specs.Fmt.{decimal, signed_decimal};
+ghost use Rattle.wl_proto.specs.Names.{name_of};
+ghost use Rattle.relay_model.specs.Faults.{code_of, text_of};
 ghost use Rattle.session_text.specs.Words.{hex_word};
 ghost use Rattle.session_text.specs.Told.{said_words, spaced, told_line};
 ghost use Rattle.wl_wire.specs.Texts.{has_no_zero};
 
+use crate::printing::{add_word, finished, hex_of};
 use itoa::Buffer;
-use relay_model::{Label, Said, Told};
+use relay_model::{Fault, Interface, Label, Said, Told};
 use std::alloc::Global;
 use wio_core::NoMemory;
 use wl_wire::Text;
 
-// The line as a text, without a copy.
-fn finished(line: String) -> Text
-    requires { IsTrue (has_no_zero (string_bytes line)) }
-    ensures { result ≡ string_bytes line }
-{
-    match Text::from_bytes(line.into_bytes()) {
-        Ok(text) => text,
-        Err(_) => unreachable!(),
-    }
-}
-
-// A text as a word.
-fn hex_of(alloc: Global, text: &Text) -> Result<String, NoMemory>
-    ensures value { IfOk result (λ s. string_bytes s ≡ hex_word text.now) }
-    ensures clean { IfOk result (λ s. IsTrue (has_no_zero (string_bytes s))) }
-{
-    let bytes = text.as_bytes();
-    if bytes.is_empty() {
-        Ok(String::from_str(alloc, "-")?)
-    } else {
-        Ok(hex::encode(alloc, bytes)?)
-    }
-}
-
 // Each function below adds words to a line, each after a space.
-
-fn add_word(line: &mut String, word: &str) -> Result<(), NoMemory>
-    requires line_clean { IsTrue (has_no_zero (string_bytes line.old)) }
-    requires word_clean { IsTrue (has_no_zero word.now) }
-    ensures added { OnOk result (string_bytes line.new ≡ string_bytes line.old ++ 32 ∷ word.now) }
-    ensures clean { OnOk result (IsTrue (has_no_zero (string_bytes line.new))) }
-{
-    line.push(' ')?;
-    line.push_str(word)?;
-    Ok(())
-}
 
 // An event's name, and numbers without a sign.
 fn add_numbers(line: &mut String, name: &str, numbers: &[u32]) -> Result<(), NoMemory>
@@ -93,7 +61,7 @@ fn add_text(
         ≡ string_bytes line.old ++ spaced (name.now ∷ hex_word text.now ∷ map signed_decimal numbers.now)) }
     ensures clean { OnOk result (IsTrue (has_no_zero (string_bytes line.new))) }
 {
-    let word = hex_of(alloc, text)?;
+    let word = hex_of(alloc, text.as_bytes())?;
     add_word(line, name)?;
     add_signed(line, word.as_str(), numbers)
 }
@@ -108,6 +76,35 @@ fn add_place(line: &mut String, popup: Label, x: i64, y: i64) -> Result<(), NoMe
     add_numbers(line, "placed", &[popup])?;
     add_word(line, Buffer::new().format(x))?;
     add_word(line, Buffer::new().format(y))
+}
+
+// A global, with its interface's name.
+fn add_global(
+    line: &mut String,
+    name: u32,
+    interface: Interface,
+    version: u32,
+) -> Result<(), NoMemory>
+    requires { IsTrue (has_no_zero (string_bytes line.old)) }
+    ensures added { OnOk result (string_bytes line.new
+        ≡ string_bytes line.old ++ spaced (codes "global" ∷ decimal name ∷ name_of interface ∷ decimal version ∷ [])) }
+    ensures clean { OnOk result (IsTrue (has_no_zero (string_bytes line.new))) }
+{
+    add_numbers(line, "global", &[name])?;
+    add_word(line, interface.name())?;
+    add_word(line, Buffer::new().format(version))
+}
+
+// The error of a refused message, with its text.
+fn add_error(alloc: Global, line: &mut String, object: Label, fault: Fault) -> Result<(), NoMemory>
+    requires { IsTrue (has_no_zero (string_bytes line.old)) }
+    ensures added { OnOk result (string_bytes line.new
+        ≡ string_bytes line.old ++ spaced (codes "error" ∷ decimal object ∷ decimal (code_of fault) ∷ hex_word (text_of fault) ∷ [])) }
+    ensures clean { OnOk result (IsTrue (has_no_zero (string_bytes line.new))) }
+{
+    let text = hex::encode(alloc, fault.text().as_bytes())?;
+    add_numbers(line, "error", &[object, fault.code()])?;
+    add_word(line, text.as_str())
 }
 
 // An event's name in its protocol, and its arguments.
@@ -178,7 +175,15 @@ fn add_said(alloc: Global, line: &mut String, event: &Said) -> Result<(), NoMemo
             &[*serial, *depressed, *latched, *locked, *group],
         ),
         Said::Repeat { rate, delay } => add_signed(line, "repeat_info", &[*rate, *delay]),
+        Said::Global {
+            name,
+            interface,
+            version,
+        } => add_global(line, *name, *interface, *version),
+        Said::CallbackDone { value } => add_numbers(line, "done", &[*value]),
         Said::DeleteId { label } => add_numbers(line, "delete_id", &[*label]),
+        Said::Capabilities { value } => add_numbers(line, "capabilities", &[*value]),
+        Said::Error { object, fault } => add_error(alloc, line, *object, *fault),
         Said::Pass { time, key, state } => add_numbers(line, "pass", &[*time, *key, *state]),
         Said::Placed { popup, x, y } => add_place(line, *popup, *x, *y),
     }

@@ -5,18 +5,21 @@ ghost use Rattle.std.specs.Fmt.{signed_decimal};
 ghost use Rattle.hex.specs.declared.error.FromHexError.TheVariants.{OutOfMemory};
 ghost use Rattle.session_text.specs.declared.line.BadLine.TheVariants.{NoMemory, Grammar};
 ghost use Rattle.session_text.specs.Reading.{Reads};
-ghost use Rattle.session_text.specs.Words.{decoded, number_of, signed_of, size_of, state_of, text_of, text_limit, cursor_text_limit};
+ghost use Rattle.session_text.specs.Words.{bytes_of, count_of, cursor_text_limit, decoded, number_of, role_of, signed_of, size_of, state_of, text_limit, text_of};
 
 use crate::line::BadLine;
 use itoa::Buffer;
+use relay_model::Role;
 use std::alloc::Global;
-use wl_wire::Text;
+use wl_wire::{Bytes, Text};
 
 // The most bytes of a text that stands alone in its request: a message has at most 4096 bytes, of which the header, the
 // text's length and its zero byte take 13.
 const TEXT_LIMIT: usize = 4083;
 // The same where two numbers follow the text, which take 8 more.
 const CURSOR_TEXT_LIMIT: usize = 4075;
+// The most bytes that one line gives or takes: those of one message.
+pub const PIECE_LIMIT: usize = 4096;
 
 fn parsed_number(word: &[u8]) -> Option<u32>
     ensures { result ≡ number_of word.now }
@@ -83,18 +86,40 @@ pub fn state(word: &[u8]) -> Result<u32, BadLine>
     Ok(n)
 }
 
-// The bytes as a text, if they are one, and the word is their hex.
-fn checked(alloc: Global, limit: usize, bytes: Vec<u8>, word: &[u8]) -> Result<Text, BadLine>
+// A number from 1 to the greatest.
+#[tactic(auto, unfolding(crate::specs::Words::count_of))]
+pub fn count(most: u32, word: &[u8]) -> Result<u32, BadLine>
+    ensures { Reads result (count_of most word.now) }
+{
+    let n = number(word)?;
+    if n < 1 || n > most {
+        return Err(BadLine::Grammar);
+    }
+    Ok(n)
+}
+
+#[tactic(auto, unfolding(crate::specs::Words::role_of))]
+pub fn role(word: &[u8]) -> Result<Role, BadLine>
+    ensures { Reads result (role_of word.now) }
+{
+    if word == b"app".as_slice() {
+        Ok(Role::App)
+    } else if word == b"method".as_slice() {
+        Ok(Role::Method)
+    } else {
+        Err(BadLine::Grammar)
+    }
+}
+
+// The bytes, if the word is their hex, and they are from one to so many.
+fn checked(alloc: Global, limit: usize, bytes: Vec<u8>, word: &[u8]) -> Result<Bytes, BadLine>
     ensures { Reads result (decoded limit word.now (Ok bytes.items)) }
 {
     let again = hex::encode(alloc, bytes.as_slice())?;
     if bytes.is_empty() || bytes.len() > limit || again.as_bytes() != word {
         return Err(BadLine::Grammar);
     }
-    match Text::from_bytes(bytes) {
-        Ok(text) => Ok(text),
-        Err(_) => Err(BadLine::Grammar),
-    }
+    Ok(Bytes::new(bytes))
 }
 
 // What a failed decoding means.
@@ -108,6 +133,17 @@ fn undecoded(error: hex::FromHexError) -> BadLine
     }
 }
 
+// Bytes, from one to so many.
+#[tactic(auto, unfolding(crate::specs::Words::bytes_of))]
+pub fn bytes_within(alloc: Global, limit: usize, word: &[u8]) -> Result<Bytes, BadLine>
+    ensures { Reads result (bytes_of limit word.now) }
+{
+    match hex::decode(alloc, word) {
+        Ok(bytes) => checked(alloc, limit, bytes, word),
+        Err(error) => Err(undecoded(error)),
+    }
+}
+
 #[tactic(auto, unfolding(crate::specs::Words::text_of))]
 fn text_within(alloc: Global, limit: usize, word: &[u8]) -> Result<Text, BadLine>
     ensures { Reads result (text_of limit word.now) }
@@ -115,9 +151,10 @@ fn text_within(alloc: Global, limit: usize, word: &[u8]) -> Result<Text, BadLine
     if word == b"-".as_slice() {
         return Ok(Text::empty(alloc));
     }
-    match hex::decode(alloc, word) {
-        Ok(bytes) => checked(alloc, limit, bytes, word),
-        Err(error) => Err(undecoded(error)),
+    let bytes = bytes_within(alloc, limit, word)?;
+    match Text::from_bytes(bytes.into_vec()) {
+        Ok(text) => Ok(text),
+        Err(_) => Err(BadLine::Grammar),
     }
 }
 

@@ -77,6 +77,9 @@ play_line_by : (count : ℕ) (act : Act) (raw : List ℕ) (o : Option Line) → 
     (count < ACT_LIMIT) × FitsMessage act
 play_line_by count act raw None e h = cc
 play_line_by count act raw (Some line.End) e h = cc
+play_line_by count act raw (Some (line.Header limits)) e h = cc
+play_line_by count act raw (Some (line.Session found)) e h = cc
+play_line_by count act raw (Some (line.Shell step)) e h = cc
 play_line_by count act raw (Some (line.Act found)) e h =
     play_act_by count act found (nat_lt count ACT_LIMIT) refl (line_fits found (reads_only Acts raw (line.Act found) e).1) h
 

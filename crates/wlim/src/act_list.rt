@@ -48,6 +48,7 @@ fn judge(alloc: Global, raw: &[u8], count: u32) -> Result<Verdict, NoMemory>
     match read_line(alloc, Form::Acts, raw) {
         Ok(Line::End) => Ok(Verdict::End),
         Ok(Line::Act(act)) => Ok(judge_act(act, count)),
+        Ok(Line::Header(_) | Line::Session(_) | Line::Shell(_)) => Ok(Verdict::Bad),
         Err(BadLine::Grammar) => Ok(Verdict::Bad),
         Err(BadLine::NoMemory) => Err(NoMemory),
     }

@@ -53,6 +53,12 @@ route_is_told s log (acts.MCommit m serial) h = refl
 route_is_told s log (acts.Mods depressed latched locked group) h = refl
 route_is_told s log (acts.Keymap format token size) h = refl
 route_is_told s log (acts.Repeat rate delay) h = refl
+route_is_told s log (acts.Registry p role) h = refl
+route_is_told s log (acts.Sync p) h = refl
+route_is_told s log (acts.Seat p) h = refl
+route_is_told s log (acts.Thing p) h = refl
+route_is_told s log (acts.Bad p fault x) h = refl
+route_is_told s log (acts.Took p bytes) h = refl
 route_is_told s log acts.Idle h = refl
 
 pub returns-clause-route : goal.returns-clause-route

@@ -4,7 +4,7 @@ use Rattle.std.proofs.lemmas.Grind.{common_steps}
 use Rattle.std.specs.String.{string_bytes}
 use Rattle.wl_wire.specs.Texts.{has_no_zero}
 use Rattle.session_text.proofs.PrintedLines.{word_clean}
-use Rattle.session_text.proofs.told_line.add_word.Goals as goal
+use Rattle.session_text.proofs.printing.add_word.Goals as goal
 
 pub returns : goal.returns
 returns c =

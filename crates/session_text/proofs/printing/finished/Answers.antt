@@ -1,7 +1,7 @@
 use Rattle.std.proofs.Common.{◌≡◌, ap, ◌∙◌, true}
 use Rattle.wl_wire.specs.Texts.{is_text}
 use Rattle.session_text.proofs.PrintedLines.{is_text-string_bytes}
-use Rattle.session_text.proofs.told_line.finished.Goals as goal
+use Rattle.session_text.proofs.printing.finished.Goals as goal
 
 pub unreachable-requires : goal.unreachable-requires
 unreachable-requires c =

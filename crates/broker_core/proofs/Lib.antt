@@ -1,0 +1,4 @@
+pub mod Owners
+pub mod Peers
+pub mod Settling
+pub mod Queues

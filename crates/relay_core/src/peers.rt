@@ -1,0 +1,90 @@
+// The relay's part on what a peer does beside its surfaces, fields and methods: registries, syncs, bound globals and refused messages.
+ghost use Rattle.std.specs.Prelude.{◌≡◌, ◌<◌, [], ◌∷◌, vec_len, vec_capacity};
+ghost use Rattle.relay_model.specs.Globals.{globals_told};
+ghost use Rattle.relay_model.specs.Told.{to, synced};
+ghost use Rattle.relay_core.specs.Reached.{Reached};
+ghost use Rattle.relay_core.specs.Kept.{state};
+ghost use Rattle.relay_core.specs.Machine.{made};
+
+use crate::machine::Machine;
+use crate::object::Kind;
+use crate::post::{Post, tell_deleted};
+use relay_model::{Fault, Interface, Label, Role, Said, Told};
+
+// Every global has version 1.
+fn tell_global<P: Post>(registry: Label, name: u32, interface: Interface, post: &mut P)
+    ensures { Reached P.may_follow post.old (to registry (Said.Global name interface 1) ∷ []) post.new }
+{
+    post.tell(&Told {
+        to: registry,
+        event: Said::Global {
+            name,
+            interface,
+            version: 1,
+        },
+    });
+}
+
+// Tells a new registry the globals that are offered to the role.
+#[tactic(auto, using(crate::proofs::Reaches::reached_append))]
+fn tell_globals<P: Post>(registry: Label, role: Role, post: &mut P)
+    ensures { Reached P.may_follow post.old (globals_told registry role) post.new }
+{
+    tell_global(registry, 1, Interface::Compositor, post);
+    tell_global(registry, 2, Interface::Seat, post);
+    match role {
+        Role::App => tell_global(registry, 3, Interface::TextInputManager, post),
+        Role::Method => tell_global(registry, 4, Interface::InputMethodManager, post),
+    }
+}
+
+/// Tells the callback of a sync its value, and the peer that its id is free again.
+pub fn tell_synced<P: Post>(callback: Label, peer: Label, post: &mut P)
+    ensures { Reached P.may_follow post.old (synced callback peer) post.new }
+{
+    post.tell(&Told {
+        to: callback,
+        event: Said::CallbackDone { value: 0 },
+    });
+    tell_deleted(callback, Some(peer), post);
+}
+
+// The seat has no pointer, no keyboard and no touch.
+fn tell_capabilities<P: Post>(seat: Label, post: &mut P)
+    ensures { Reached P.may_follow post.old (to seat (Said.Capabilities 0) ∷ []) post.new }
+{
+    post.tell(&Told {
+        to: seat,
+        event: Said::Capabilities { value: 0 },
+    });
+}
+
+/// Tells the peer that a message was refused, and of which object it is an error.
+pub fn tell_error<P: Post>(peer: Label, object: Label, fault: Fault, post: &mut P)
+    ensures { Reached P.may_follow post.old (to peer (Said.Error object fault) ∷ []) post.new }
+{
+    post.tell(&Told {
+        to: peer,
+        event: Said::Error { object, fault },
+    });
+}
+
+impl Machine {
+    pub fn make_registry<P: Post>(&mut self, peer: Label, role: Role, post: &mut P)
+        requires { vec_len self.old.objects < vec_capacity self.old.objects }
+        ensures state { state self.new ≡ made peer Kind.Thing (state self.old) }
+        ensures told { Reached P.may_follow post.old (globals_told (state self.old).acts role) post.new }
+    {
+        tell_globals(self.acts, role, post);
+        self.make(peer, Kind::Thing);
+    }
+
+    pub fn make_seat<P: Post>(&mut self, peer: Label, post: &mut P)
+        requires { vec_len self.old.objects < vec_capacity self.old.objects }
+        ensures state { state self.new ≡ made peer Kind.Thing (state self.old) }
+        ensures told { Reached P.may_follow post.old (to (state self.old).acts (Said.Capabilities 0) ∷ []) post.new }
+    {
+        tell_capabilities(self.acts, post);
+        self.make(peer, Kind::Thing);
+    }
+}

@@ -1,0 +1,24 @@
+-- What a line gives holds what calls ask of it.
+use Rattle.session_text.specs.declared.step.ShellStep.{ShellStep}
+use Rattle.session_text.specs.declared.step.ShellStep.TheVariants as shells
+use Rattle.session_text.specs.declared.line.SessionLine.{SessionLine}
+use Rattle.session_text.specs.declared.line.SessionLine.TheVariants as sessions
+use Rattle.session_text.specs.Steps.{IsShellStep, IsSessionLine}
+use Rattle.session_text.specs.SessionGrammar.{HasShellLine, HasSessionLine}
+
+pub shell_asked : (step : ShellStep) → HasShellLine step → IsShellStep step
+shell_asked (shells.Focus p i) h = tt
+shell_asked shells.Unfocus h = tt
+shell_asked (shells.Area p i r) h = (h.2.2, h.2.3)
+shell_asked (shells.Screen z) h = h
+shell_asked (shells.Key time key state) h = h.2
+shell_asked (shells.Mods depressed latched locked group) h = tt
+shell_asked (shells.Keymap format token size) h = tt
+shell_asked (shells.Repeat rate delay) h = tt
+
+pub line_asked : (line : SessionLine) → HasSessionLine line → IsSessionLine line
+line_asked (sessions.Join role) h = tt
+line_asked (sessions.Bytes p bytes) h = (h.1.1, h.1.2)
+line_asked (sessions.Gone p) h = tt
+line_asked (sessions.Take p n) h = h.1
+line_asked (sessions.Shell step) h = shell_asked step h

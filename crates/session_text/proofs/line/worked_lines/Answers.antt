@@ -1,0 +1,19 @@
+use Rattle.std.proofs.Common.{refl}
+use Rattle.std.specs.Fmt.{digits}
+use Rattle.hex.specs.Hex.{encode_with, decode_pairs}
+use Rattle.session_text.specs.Words.{number_of, signed_of, size_of, count_of, role_of, bytes_of}
+use Rattle.session_text.specs.SessionReading.{one_shell_word, three_shell_words, seven_shell_words, one_session_word, two_session_words, three_session_words, four_session_words, header_of}
+use Rattle.session_text.specs.Reading.{line_of}
+use Rattle.session_text.proofs.line.worked_lines.Goals as goal
+
+pub returns-clause-lines : goal.returns-clause-lines
+unfolding digits encode_with decode_pairs line_of number_of signed_of size_of count_of role_of bytes_of one_shell_word three_shell_words seven_shell_words one_session_word two_session_words three_session_words four_session_words header_of
+returns-clause-lines c = record { header = refl; join = refl; enable = refl; gone = refl; take = refl; focus = refl; area = refl }
+
+pub returns-clause-others : goal.returns-clause-others
+unfolding digits line_of number_of count_of bytes_of one_shell_word three_session_words four_session_words header_of
+returns-clause-others c = record { wide_store = refl; no_bytes = refl; take_of_nothing = refl; end_of_a_link = refl }
+
+pub returns-clause-steps : goal.returns-clause-steps
+unfolding digits encode_with
+returns-clause-steps c = record { commit_string = refl; commit = refl; bad_size = refl; join = refl }

@@ -1,5 +1,0 @@
-use Rattle.session_text.proofs.Separators.{zero, encoded_lacks}
-use Rattle.session_text.proofs.told_line.hex_of.Goals as goal
-
-pub returns-in_ok-encode-clause-clean : goal.returns-in_ok-encode-clause-clean
-returns-in_ok-encode-clause-clean c = rw c.in_ok-encode.ensures (encoded_lacks 0 zero c.as_bytes-bytes.result.now (rw c.as_bytes-bytes.ensures.value c.as_bytes-bytes.ensures.text.1))

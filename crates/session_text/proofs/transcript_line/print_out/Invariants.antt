@@ -1,0 +1,12 @@
+use Rattle.std.proofs.Common.{◌≡◌, ◌++◌, map}
+use Rattle.std.specs.Prelude.{IsTrue, string_bytes, take}
+use Rattle.wl_wire.specs.Texts.{has_no_zero}
+use Rattle.session_text.specs.Told.{spaced}
+use Rattle.session_text.specs.Transcript.{token_word}
+use Rattle.session_text.proofs.transcript_line.print_out.Given as goal
+
+abbrev pub invariant-loop-offset : goal.invariant-loop-offset
+invariant-loop-offset l = record {
+  added : string_bytes l.line ≡ string_bytes l.initial.line ++ spaced (map token_word (take l.offset-index l.tokens));
+  clean : IsTrue (has_no_zero (string_bytes l.line));
+}

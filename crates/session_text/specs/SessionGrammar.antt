@@ -1,0 +1,51 @@
+-- The grammar of sessions and shell links: the one spelling of each line, and which lines there are.
+use Rattle.std.specs.Prelude.{ℕ, ◌^◌, ◌<◌, ◌≤◌, List, [], ◌∷◌, codes, IsTrue}
+use Rattle.std.specs.Fmt.{decimal, signed_decimal}
+use Rattle.session_text.specs.declared.limits.Limits.{Limits}
+use Rattle.session_text.specs.declared.step.ShellStep.{ShellStep}
+use Rattle.session_text.specs.declared.step.ShellStep.TheVariants as shells
+use Rattle.session_text.specs.declared.line.SessionLine.{SessionLine}
+use Rattle.session_text.specs.declared.line.SessionLine.TheVariants as sessions
+use Rattle.session_text.specs.Words.{piece_limit, rect_words, hex_word, role_word, fits_i32, is_size, IsArea, IsBytesWithin}
+use Rattle.session_text.specs.Steps.{IsWithin}
+
+abbrev pub shell_words : ShellStep → List (List ℕ)
+shell_words (shells.Focus p i) = codes "focus" ∷ decimal p ∷ decimal i ∷ []
+shell_words shells.Unfocus = codes "unfocus" ∷ []
+shell_words (shells.Area p i rect) = codes "area" ∷ decimal p ∷ decimal i ∷ rect_words rect
+shell_words (shells.Screen size) = codes "screen" ∷ signed_decimal size.width ∷ signed_decimal size.height ∷ []
+shell_words (shells.Key time key state) = codes "key" ∷ decimal time ∷ decimal key ∷ decimal state ∷ []
+shell_words (shells.Mods depressed latched locked group) =
+    codes "mods" ∷ decimal depressed ∷ decimal latched ∷ decimal locked ∷ decimal group ∷ []
+shell_words (shells.Keymap format token size) = codes "keymap" ∷ decimal format ∷ decimal token ∷ decimal size ∷ []
+shell_words (shells.Repeat rate delay) = codes "repeat" ∷ signed_decimal rate ∷ signed_decimal delay ∷ []
+
+abbrev pub session_words : SessionLine → List (List ℕ)
+session_words (sessions.Join role) = codes "join" ∷ role_word role ∷ []
+session_words (sessions.Bytes p bytes) = codes "bytes" ∷ decimal p ∷ hex_word bytes ∷ []
+session_words (sessions.Gone p) = codes "gone" ∷ decimal p ∷ []
+session_words (sessions.Take p n) = codes "take" ∷ decimal p ∷ decimal n ∷ []
+session_words (sessions.Shell step) = shell_words step
+
+abbrev pub header_words : Limits → List (List ℕ)
+header_words limits = codes "session" ∷ codes "1" ∷ decimal limits.entries ∷ decimal limits.store ∷ []
+
+-- The step holds only what a line can give: each number is in its range.
+abbrev pub HasShellLine : ShellStep → Type 0
+HasShellLine (shells.Focus p i) = (p < 2 ^ 32) × (i < 2 ^ 32)
+HasShellLine shells.Unfocus = Unit {0}
+HasShellLine (shells.Area p i rect) = (p < 2 ^ 32) × (i < 2 ^ 32) × IsArea rect
+HasShellLine (shells.Screen size) = IsTrue (is_size size.width) × IsTrue (is_size size.height)
+HasShellLine (shells.Key time key state) = (time < 2 ^ 32) × (key < 2 ^ 32) × (state ≤ 1)
+HasShellLine (shells.Mods depressed latched locked group) =
+    (depressed < 2 ^ 32) × (latched < 2 ^ 32) × (locked < 2 ^ 32) × (group < 2 ^ 32)
+HasShellLine (shells.Keymap format token size) = (format < 2 ^ 32) × (token < 2 ^ 32) × (size < 2 ^ 32)
+HasShellLine (shells.Repeat rate delay) = IsTrue (fits_i32 rate) × IsTrue (fits_i32 delay)
+
+-- The line holds only what a line can give: each number is in its range, and there are from one to 4,096 bytes.
+abbrev pub HasSessionLine : SessionLine → Type 0
+HasSessionLine (sessions.Join role) = Unit {0}
+HasSessionLine (sessions.Bytes p bytes) = (p < 2 ^ 32) × IsBytesWithin piece_limit bytes
+HasSessionLine (sessions.Gone p) = p < 2 ^ 32
+HasSessionLine (sessions.Take p n) = (p < 2 ^ 32) × IsWithin piece_limit n
+HasSessionLine (sessions.Shell step) = HasShellLine step

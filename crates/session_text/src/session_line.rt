@@ -1,0 +1,96 @@
+// The lines of a session, by the number of a line's words. Those of the shell are read as on a shell link.
+ghost use Rattle.std.specs.Prelude.{map};
+ghost use Rattle.session_text.specs.Reading.{Reads};
+ghost use Rattle.session_text.specs.SessionReading.{header_of, one_session_word, two_session_words, three_session_words, four_session_words, session_of};
+
+use crate::limits::{ENTRY_LIMIT, Limits, STORE_LIMIT};
+use crate::line::{BadLine, Line, SessionLine};
+use crate::shell_line;
+use crate::words::{PIECE_LIMIT, bytes_within, count, number, role};
+use std::alloc::Global;
+
+#[tactic(auto, unfolding(crate::specs::SessionReading::one_session_word))]
+fn read_one(key: &[u8]) -> Result<Line, BadLine>
+    ensures { Reads result (one_session_word key.now) }
+{
+    if key == b"end".as_slice() {
+        Ok(Line::End)
+    } else {
+        let step = shell_line::read_one(key)?;
+        Ok(Line::Session(SessionLine::Shell(step)))
+    }
+}
+
+#[tactic(auto, unfolding(crate::specs::SessionReading::two_session_words))]
+fn read_two(key: &[u8], a: &[u8]) -> Result<Line, BadLine>
+    ensures { Reads result (two_session_words key.now a.now) }
+{
+    if key == b"join".as_slice() {
+        let role = role(a)?;
+        Ok(Line::Session(SessionLine::Join(role)))
+    } else if key == b"gone".as_slice() {
+        let peer = number(a)?;
+        Ok(Line::Session(SessionLine::Gone(peer)))
+    } else {
+        Err(BadLine::Grammar)
+    }
+}
+
+#[tactic(auto, unfolding(crate::specs::SessionReading::three_session_words))]
+fn read_three(alloc: Global, key: &[u8], a: &[u8], b: &[u8]) -> Result<Line, BadLine>
+    ensures { Reads result (three_session_words key.now a.now b.now) }
+{
+    if key == b"bytes".as_slice() {
+        let peer = number(a)?;
+        let bytes = bytes_within(alloc, PIECE_LIMIT, b)?;
+        Ok(Line::Session(SessionLine::Bytes(peer, bytes)))
+    } else if key == b"take".as_slice() {
+        let peer = number(a)?;
+        let taken = count(PIECE_LIMIT as u32, b)?;
+        Ok(Line::Session(SessionLine::Take(peer, taken)))
+    } else {
+        let step = shell_line::read_three(key, a, b)?;
+        Ok(Line::Session(SessionLine::Shell(step)))
+    }
+}
+
+// What follows the name of a header: the form, and the limits.
+#[tactic(auto, unfolding(crate::specs::SessionReading::header_of))]
+fn read_header(form: &[u8], a: &[u8], b: &[u8]) -> Result<Line, BadLine>
+    ensures { Reads result (header_of form.now a.now b.now) }
+{
+    if form != b"1".as_slice() {
+        return Err(BadLine::Grammar);
+    }
+    let entries = count(ENTRY_LIMIT, a)?;
+    let store = count(STORE_LIMIT, b)?;
+    Ok(Line::Header(Limits { entries, store }))
+}
+
+#[tactic(auto, unfolding(crate::specs::SessionReading::four_session_words))]
+fn read_four(key: &[u8], a: &[u8], b: &[u8], c: &[u8]) -> Result<Line, BadLine>
+    ensures { Reads result (four_session_words key.now a.now b.now c.now) }
+{
+    if key == b"session".as_slice() {
+        read_header(a, b, c)
+    } else {
+        let step = shell_line::read_four(key, a, b, c)?;
+        Ok(Line::Session(SessionLine::Shell(step)))
+    }
+}
+
+// The line of a session's words, the first of which names it.
+pub fn read_session(alloc: Global, words: &[&[u8]]) -> Result<Line, BadLine>
+    ensures { Reads result (session_of (map (λ w. w.now) words.now)) }
+{
+    match words {
+        [key] => read_one(key),
+        [key, a] => read_two(key, a),
+        [key, a, b] => read_three(alloc, key, a, b),
+        [key, a, b, c] => read_four(key, a, b, c),
+        _ => {
+            let step = shell_line::read_shell(words)?;
+            Ok(Line::Session(SessionLine::Shell(step)))
+        }
+    }
+}
