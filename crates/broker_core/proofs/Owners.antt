@@ -161,7 +161,7 @@ not_field_for : (kind : Kind) (whose : Option ℕ) (o : Object) → is_field_kin
 not_field_for kind None o k e t = cc
 not_field_for kind (Some p) o k e t = not_field kind p o k e t
 
-field_made : (act : Act) (n : ℕ) (whose : Option ℕ) (o : Object) → made act n whose ≡ Some o → is_field_kind o.kind ≡ true → field_peer act ≡ Some o.peer
+pub field_made : (act : Act) (n : ℕ) (whose : Option ℕ) (o : Object) → made act n whose ≡ Some o → is_field_kind o.kind ≡ true → field_peer act ≡ Some o.peer
 field_made (acts.Field p) n whose o e t = let d : object_of FieldKind p ≡ o = cc in ap (λ (u : Object). Some u.peer) d
 field_made acts.Peer n whose o e t = absurd (not_field PeerKind n o refl e t)
 field_made (acts.Surface p) n whose o e t = absurd (not_field SurfaceKind p o refl e t)

@@ -21,83 +21,101 @@ use Rattle.session_text.specs.declared.step.ShellStep.TheVariants as shell
 use Rattle.broker_core.specs.declared.journal.Entry.{Entry}
 use Rattle.broker_core.specs.declared.journal.Entry.TheVariants as entries
 use Rattle.broker_core.specs.Ids.{Made, Joined, Past, log_of, peer_in, peer_at, object_at}
-use Rattle.broker_core.specs.Requests.{surround, cause, content, cursor, string, preedit, delete, commit, popup, bind, rows}
+use Rattle.broker_core.specs.Requests.{act_of, surround, cause, content, cursor, string, preedit, delete, commit, popup, bind, rows}
 use Rattle.broker_core.specs.Refusals.{request_fault}
 use Rattle.broker_core.specs.Resolve.{Meaning, label_at, of_request, of_reading, of_message, of_peer, surface_at, on_surface, shell_act, means, with_joined, past_of, resolve}
 use Rattle.broker_core.proofs.Owners.{IsThere, there, remains_some}
 
--- only a join is the act of a peer that joins
+-- only a join is the act of a peer that joins, and only a request of one interface makes fields
 
 abbrev pub is_join : Act → Bool
 is_join acts.Peer = true
 is_join _ = false
 
-plain_surround : (x : ℕ) (vs : List Value) → is_join (surround x vs) ≡ false
+abbrev pub makes : Act → Bool
+makes acts.Peer = true
+makes (acts.Field p) = true
+makes _ = false
+
+join_makes : (act : Act) → makes act ≡ false → is_join act ≡ false
+join_makes acts.Peer h = cc
+join_makes _ h = refl
+
+plain_surround : (x : ℕ) (vs : List Value) → makes (surround x vs) ≡ false
 plain_surround x (text t ∷ signed a ∷ signed b ∷ []) = refl
 plain_surround x _ = refl
 
-plain_cause : (x : ℕ) (vs : List Value) → is_join (cause x vs) ≡ false
+plain_cause : (x : ℕ) (vs : List Value) → makes (cause x vs) ≡ false
 plain_cause x (word n ∷ []) = refl
 plain_cause x _ = refl
 
-plain_content : (x : ℕ) (vs : List Value) → is_join (content x vs) ≡ false
+plain_content : (x : ℕ) (vs : List Value) → makes (content x vs) ≡ false
 plain_content x (word a ∷ word b ∷ []) = refl
 plain_content x _ = refl
 
-plain_cursor : (x : ℕ) (vs : List Value) → is_join (cursor x vs) ≡ false
+plain_cursor : (x : ℕ) (vs : List Value) → makes (cursor x vs) ≡ false
 plain_cursor x (signed a ∷ signed b ∷ signed c ∷ signed d ∷ []) = refl
 plain_cursor x _ = refl
 
-plain_string : (x : ℕ) (vs : List Value) → is_join (string x vs) ≡ false
+plain_string : (x : ℕ) (vs : List Value) → makes (string x vs) ≡ false
 plain_string x (text t ∷ []) = refl
 plain_string x _ = refl
 
-plain_preedit : (x : ℕ) (vs : List Value) → is_join (preedit x vs) ≡ false
+plain_preedit : (x : ℕ) (vs : List Value) → makes (preedit x vs) ≡ false
 plain_preedit x (text t ∷ signed a ∷ signed b ∷ []) = refl
 plain_preedit x _ = refl
 
-plain_delete : (x : ℕ) (vs : List Value) → is_join (delete x vs) ≡ false
+plain_delete : (x : ℕ) (vs : List Value) → makes (delete x vs) ≡ false
 plain_delete x (word a ∷ word b ∷ []) = refl
 plain_delete x _ = refl
 
-plain_commit : (x : ℕ) (vs : List Value) → is_join (commit x vs) ≡ false
+plain_commit : (x : ℕ) (vs : List Value) → makes (commit x vs) ≡ false
 plain_commit x (word n ∷ []) = refl
 plain_commit x _ = refl
 
-plain_popup : (at : ℕ → ℕ) (x : ℕ) (vs : List Value) → is_join (popup at x vs) ≡ false
+plain_popup : (at : ℕ → ℕ) (x : ℕ) (vs : List Value) → makes (popup at x vs) ≡ false
 plain_popup at x (word a ∷ word b ∷ []) = refl
 plain_popup at x _ = refl
 
-plain_if : (b : Bool) (p : ℕ) → is_join (if b then acts.Seat p else acts.Thing p) ≡ false
+plain_if : (b : Bool) (p : ℕ) → makes (if b then acts.Seat p else acts.Thing p) ≡ false
 plain_if true p = refl
 plain_if false p = refl
 
-plain_bind : (p : ℕ) (vs : List Value) → is_join (bind p vs) ≡ false
+plain_bind : (p : ℕ) (vs : List Value) → makes (bind p vs) ≡ false
 plain_bind p (word n ∷ vs) = plain_if (n == 2) p
 plain_bind p _ = refl
 
-plain_rows : (p x : ℕ) (role : Role) (at : ℕ → ℕ) (i : Interface) (vs : List Value) → list_any is_join (rows p x role at i vs) ≡ false
-plain_rows p x role at interface.Registry vs = rw (plain_bind p vs) refl
-plain_rows p x role at interface.TextInput vs =
+-- the interface whose requests make fields
+abbrev is_manager : Interface → Bool
+is_manager interface.TextInputManager = true
+is_manager _ = false
+
+pub makes_rows : (p x : ℕ) (role : Role) (at : ℕ → ℕ) (i : Interface) (vs : List Value) → list_any makes (rows p x role at i vs) ≡ is_manager i
+makes_rows p x role at interface.Registry vs = rw (plain_bind p vs) refl
+makes_rows p x role at interface.TextInput vs =
     rw (plain_surround x vs, plain_cause x vs, plain_content x vs, plain_cursor x vs) refl
-plain_rows p x role at interface.InputMethod vs =
+makes_rows p x role at interface.InputMethod vs =
     rw (plain_string x vs, plain_preedit x vs, plain_delete x vs, plain_commit x vs, plain_popup at x vs) refl
-plain_rows p x role at _ vs = refl
+makes_rows p x role at _ vs = refl
 
 plain_first : (a b : Bool) → (a || b) ≡ false → (a ≡ false) × (b ≡ false)
 plain_first true b e = cc
 plain_first false b e = (refl, e)
 
-plain_row : (xs : List Act) (n : ℕ) → list_any is_join xs ≡ false → is_join (unwrap_or (slice_get xs n) acts.Idle) ≡ false
-plain_row [] n e = refl
-plain_row (act ∷ xs) zero e = (plain_first _ _ e).0
-plain_row (act ∷ xs) (suc n) e = plain_row xs n (plain_first (is_join act) _ e).1
+pub plain_row : (test : Act → Bool) (xs : List Act) (n : ℕ) → test acts.Idle ≡ false → list_any test xs ≡ false →
+    test (unwrap_or (slice_get xs n) acts.Idle) ≡ false
+plain_row test [] n i e = i
+plain_row test (act ∷ xs) zero i e = (plain_first _ _ e).0
+plain_row test (act ∷ xs) (suc n) i e = plain_row test xs n i (plain_first (test act) _ e).1
+
+plain_act : (p x : ℕ) (role : Role) (at : ℕ → ℕ) (i : Interface) (opcode : ℕ) (vs : List Value) → is_join (act_of p x role at i opcode vs) ≡ false
+plain_act p x role at interface.TextInputManager opcode vs = plain_row is_join (acts.Drop x ∷ acts.Field p ∷ []) opcode refl refl
+plain_act p x role at i opcode vs =
+    join_makes (act_of p x role at i opcode vs) (plain_row makes (rows p x role at i vs) opcode refl (makes_rows p x role at i vs))
 
 plain_request : (past : Past) (n : ℕ) (peer : Joined) (x : ℕ) (m : Message) (o : Option Fault) → is_join (of_request past n peer x m o).act ≡ false
 plain_request past n peer x m (Some f) = refl
-plain_request past n peer x m None =
-    plain_row (rows peer.label x peer.role (label_at past peer.label) m.interface m.values) m.opcode
-    (plain_rows peer.label x peer.role (label_at past peer.label) m.interface m.values)
+plain_request past n peer x m None = plain_act peer.label x peer.role (label_at past peer.label) m.interface m.opcode m.values
 
 plain_reading : (past : Past) (n : ℕ) (peer : Joined) (x : ℕ) (r : Result Message Refuse) → is_join (of_reading past n peer x r).act ≡ false
 plain_reading past n peer x (Err e) = refl

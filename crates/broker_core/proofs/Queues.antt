@@ -12,7 +12,7 @@ use Rattle.relay_model.specs.Objects.{Object, is_field_kind, is_at, owner, remai
 use Rattle.relay_model.specs.Hold.{holder}
 use Rattle.relay_model.specs.Activation.{fresh}
 use Rattle.relay_model.specs.Batch.{group_of, relayed}
-use Rattle.relay_model.specs.Idle.{is_live, cleaned}
+use Rattle.relay_model.specs.Idle.{is_live}
 use Rattle.relay_model.proofs.Histories.{history_is}
 use Rattle.relay_model.proofs.ObjectLaws.{object_step, kind_within}
 use Rattle.relay_model.proofs.FocusLaws.{and_false}
@@ -21,7 +21,9 @@ use Rattle.broker_core.specs.declared.journal.Entry.TheVariants as entries
 use Rattle.broker_core.specs.Ids.{Joined, log_of, peer_at}
 use Rattle.broker_core.specs.Resolve.{past_of, resolve}
 use Rattle.broker_core.specs.Groups.{Piece}
-use Rattle.broker_core.specs.Settle.{Outgoing, act_at, group_at, fits, with_group, before_group, out_for, is_bad, refused, is_due, due, cause_of, with_end, settled, number_alive, history, is_put_for, is_put, queued}
+use Rattle.broker_core.specs.Out.{Outgoing, act_at, act_now, group_at, fits, with_group, before_group, out_for}
+use Rattle.broker_core.specs.Settle.{is_bad, refused, is_due, due, cause_of, with_end, settled, number_alive, history}
+use Rattle.broker_core.specs.Queued.{relays, is_put_for, is_put, queued}
 use Rattle.broker_core.specs.Law.{maker_of, IsQueued, IsLeftOut, RelayLaw}
 use Rattle.broker_core.proofs.Owners.{IsThere, IsOwned, owned, dead_stays, dead_holds_not, holder_there, maker_is, maker_stays}
 use Rattle.broker_core.proofs.Peers.{IsNumbered, numbered, joined_stays}
@@ -30,14 +32,6 @@ use Rattle.broker_core.proofs.Settling.{IsDue, due_is, due_lives, IsSettled, his
 -- the acts of a journal, as a history
 abbrev pub log_at : List Entry → List Act
 log_at journal = log_of (past_of journal)
-
--- the act of the newest entry, or Idle in its place
-abbrev pub now : Entry → List Entry → Act
-now e older = cleaned (act_at e older) (log_at older)
-
--- a batch is relayed to f
-abbrev pub relays : Entry → List Entry → ℕ → Bool
-relays e older f = fresh (now e older) (log_at older) && is_at (holder (log_at older)) f
 
 -- What stands of a field's batches in a journal that is being settled. All were put; or the last was left out, its field lives, and its peer has to be
 -- ended for that; or it was.
@@ -81,7 +75,7 @@ last_quiet capacity e older f last h k =
     ap (λ xs. xs ++ last ∷ []) (queued_quiet capacity e older f h) ∙ k ∙ sym (relayed_quiet e older f h)
 
 dead_relays_not : (e : Entry) (older : List Entry) (f : ℕ) → object (log_at older) f ≡ None → relays e older f ≡ false
-dead_relays_not e older f h = rw (dead_holds_not (log_at older) f (history_is (resolve older)) h) (and_false (fresh (now e older) (log_at older)))
+dead_relays_not e older f h = rw (dead_holds_not (log_at older) f (history_is (resolve older)) h) (and_false (fresh (act_now e older) (log_at older)))
 
 contains_more : (e : Entry) (journal : List Entry) (x : Entry) → Contains journal x → Contains (e ∷ journal) x
 contains_more e journal x c = (suc c.0, (let l = c.1 in omega arith), c.2)
@@ -90,12 +84,12 @@ over_stays : (capacity : ℕ) (e : Entry) (older : List Entry) (f : ℕ) → IsO
 over_stays capacity e older f o = record {
   last = o.last;
   all_but_last = last_quiet capacity e older f o.last (dead_relays_not e older f o.dead) o.all_but_last;
-  dead = dead_stays (now e older) (log_at older) f o.within o.dead;
+  dead = dead_stays (act_now e older) (log_at older) f o.within o.dead;
   within = (let w = o.within in omega arith);
   number = o.number;
   peer = o.peer;
   joined = joined_stays e (length older + 1) (past_of older).joined o.number o.peer o.joined;
-  made = maker_stays (now e older) (log_at older) f o.within ∙ o.made;
+  made = maker_stays (act_now e older) (log_at older) f o.within ∙ o.made;
   ended = contains_more e older (entries.End o.number Full) o.ended;
 }
 
@@ -139,7 +133,7 @@ waits_or_over capacity journal q f d w true e =
       peer = d.peer;
       joined = d.joined;
       made =
-          maker_stays (now (entries.End q why) journal) log f within ∙ maker_is log f w.field w.kind w.lives ∙ ap Some same;
+          maker_stays (act_now (entries.End q why) journal) log f within ∙ maker_is log f w.field w.kind w.lives ∙ ap Some same;
       ended = (0, omega arith, ap (entries.End q) cause);
     })
 waits_or_over capacity journal q f d w false e =
@@ -226,7 +220,7 @@ not_refused capacity journal q p peer s l e k =
     or_false_left (refused journal q) _ (and_false_right (is_peer (log_at journal) peer.label) _ here (s.nobody q peer e))
 
 -- nor was the message that made a batch
-accepts : (capacity : ℕ) (e : Entry) (older : List Entry) (q p : ℕ) (peer : Joined) → fresh (now e older) (log_at older) ≡ true →
+accepts : (capacity : ℕ) (e : Entry) (older : List Entry) (q p : ℕ) (peer : Joined) → fresh (act_now e older) (log_at older) ≡ true →
     IsSettled capacity older → is_peer (log_at older) p ≡ true →
     peer_at (past_of (e ∷ older)) q ≡ Some peer → peer.label ≡ p → refused (e ∷ older) q ≡ false
 accepts capacity (entries.Join role) older q p peer h s l e k = cc
@@ -252,7 +246,7 @@ put_or_not : (capacity : ℕ) (e : Entry) (older : List Entry) (f : ℕ) (b : Bo
     IsSettled capacity older → queued capacity older f ≡ relayed (log_at older) f → Standing capacity (e ∷ older) f
 put_or_not capacity e older f true p r s h = All_put (rw (r, p, h) refl)
 put_or_not capacity e older f false p r s h =
-    let act : Act = now e older in
+    let act : Act = act_now e older in
     let log : List Act = log_at older in
     let t : (fresh act log ≡ true) × (is_at (holder log) f ≡ true) = both _ _ r in
     let there : IsThere is_field_kind (object log f) = holder_there log f (history_is (resolve older)) t.1 in

@@ -1,5 +1,5 @@
 -- Settling ends one peer after the other, and leaves none that is due.
-use Rattle.std.proofs.Common.{◌≡◌, ℕ, zero, suc, ◌+◌, ◌<◌, ◌≤◌, List, [], ◌∷◌, length, Bool, true, false, cond, Option, Some, None, ap, refl, sym, ◌∙◌, arith}
+use Rattle.std.proofs.Common.{◌≡◌, ℕ, zero, suc, ◌+◌, ◌<◌, ◌≤◌, List, [], ◌∷◌, ◌++◌, length, Bool, true, false, cond, Option, Some, None, ap, refl, sym, ◌∙◌, arith}
 use Rattle.std.specs.Prelude.{◌==◌, ◌&&◌, filter, if◌then◌else◌}
 use Rattle.std.specs.List.{count_by, slice_get}
 use Rattle.std.proofs.lemmas.Bool.{eq-eqb, true≢false}
@@ -7,6 +7,7 @@ use Rattle.std.proofs.lemmas.List.Sums.{length-filter}
 use Rattle.relay_model.specs.declared.act.Act.{Act}
 use Rattle.relay_model.specs.declared.act.Act.TheVariants as acts
 use Rattle.relay_model.specs.declared.act.EndCause.{EndCause}
+use Rattle.relay_model.specs.declared.act.EndCause.TheVariants.{Bad, Full}
 use Rattle.relay_model.specs.Objects.{is_peer_kind, is_kind, owner, remains, object, is_peer}
 use Rattle.relay_model.specs.Idle.{cleaned, history as log_history}
 use Rattle.relay_model.proofs.Histories.{history_is}
@@ -15,7 +16,8 @@ use Rattle.broker_core.specs.declared.journal.Entry.{Entry}
 use Rattle.broker_core.specs.declared.journal.Entry.TheVariants as entries
 use Rattle.broker_core.specs.Ids.{Joined, log_of, peer_in, peer_at}
 use Rattle.broker_core.specs.Resolve.{only, of_peer, past_of, resolve}
-use Rattle.broker_core.specs.Settle.{act_at, is_due, due_from, due, cause_of, with_end, settled, number_alive, settle, history}
+use Rattle.broker_core.specs.Out.{act_at}
+use Rattle.broker_core.specs.Settle.{refused, is_due, due_from, due, cause_of, with_end, settled, number_alive, settle, history, step_of, outer}
 use Rattle.broker_core.proofs.Owners.{own_peer}
 use Rattle.broker_core.proofs.Peers.{still_peer}
 
@@ -283,3 +285,25 @@ settle_next capacity journal q e =
     enough capacity (number_alive journal) (suc (number_alive journal)) journal (omega arith) (omega arith)
     ∙ ap (λ o. settled capacity (number_alive journal) (with_end journal o)) e
     ∙ enough capacity (number_alive journal) (number_alive later) later (omega arith) (omega arith)
+
+-- settling adds no outer step
+
+end_no_step : (q : ℕ) (b : Bool) → step_of (entries.End q (if b then Bad else Full)) ≡ []
+end_no_step q true = refl
+end_no_step q false = refl
+
+outer_end : (journal : List Entry) (o : Option ℕ) → outer (with_end journal o) ≡ outer journal
+outer_end journal None = refl
+outer_end journal (Some q) = ap (λ steps. steps ++ outer journal) (end_no_step q (refused journal q))
+
+pub outer_settled : (capacity fuel : ℕ) (journal : List Entry) → outer (settled capacity fuel journal) ≡ outer journal
+outer_settled capacity zero journal = refl
+outer_settled capacity (suc fuel) journal =
+    outer_settled capacity fuel (with_end journal (due capacity journal)) ∙ outer_end journal (due capacity journal)
+
+-- a journal that is the history of its outer steps stays one
+pub history_stays : (capacity : ℕ) (e : Entry) (journal : List Entry) → step_of e ≡ e ∷ [] → history capacity (outer journal) ≡ journal →
+    history capacity (outer (settle capacity (e ∷ journal))) ≡ settle capacity (e ∷ journal)
+history_stays capacity e journal s h =
+    ap (history capacity) (outer_settled capacity (number_alive (e ∷ journal)) (e ∷ journal) ∙ ap (λ steps. steps ++ outer journal) s)
+    ∙ ap (λ j. settle capacity (e ∷ j)) h

@@ -21,15 +21,19 @@ pub record Piece : Type 0 where
   pub bytes : List ℕ
   pub tokens : List Token
 
+-- no bytes and no tokens
 abbrev pub nothing : Piece
 nothing = record { bytes = []; tokens = [] }
 
+-- a token behind n more bytes
 abbrev pub later : ℕ → Token → Token
 later n t = record t { offset = n + t.offset }
 
+-- one piece behind the other
 abbrev pub followed_by : Piece → Piece → Piece
 followed_by a b = record { bytes = a.bytes ++ b.bytes; tokens = a.tokens ++ map (later (length a.bytes)) b.tokens }
 
+-- the id of what was made, or 0
 abbrev pub id_of : Option Made → ℕ
 id_of None = 0
 id_of (Some m) = m.id
@@ -92,3 +96,8 @@ event_piece made p event (Some m) = (if m.peer == p then message_piece m.id (mes
 abbrev pub group_for : List Made → ℕ → List Told → Piece
 group_for made p [] = nothing
 group_for made p (t ∷ rest) = followed_by (event_piece made p t.event (made_as made t.to)) (group_for made p rest)
+
+-- events for the object with an id
+abbrev pub said_piece : List Made → ℕ → List Said → Piece
+said_piece made id [] = nothing
+said_piece made id (event ∷ rest) = followed_by (message_piece id (message_of made event)) (said_piece made id rest)

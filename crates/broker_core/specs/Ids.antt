@@ -34,6 +34,7 @@ abbrev pub peer_in : List Joined → ℕ → Option Joined
 peer_in joined zero = None
 peer_in joined (suc q) = slice_get joined q
 
+-- the same, of what entries come to
 abbrev pub peer_at : Past → ℕ → Option Joined
 peer_at past q = peer_in past.joined q
 
@@ -42,6 +43,7 @@ abbrev pub named : List Act → List Made → (peer id : ℕ) → Option Made
 named log [] peer id = None
 named log (m ∷ older) peer id = (if (m.peer == peer) && (m.id == id) && alive log m.label then Some m else named log older peer id)
 
+-- the same, of what entries come to
 abbrev pub object_at : Past → (peer id : ℕ) → Option Made
 object_at past peer id = named (log_of past) past.made peer id
 

@@ -1,19 +1,23 @@
 -- The promise, over every list of outer steps.
-use Rattle.std.specs.Prelude.{◌≡◌, ℕ, List, [], ◌∷◌, ◌++◌, ◌==◌, false, if◌then◌else◌, Option, Some, None, ◌⊎◌}
+use Rattle.std.specs.Prelude.{◌≡◌, ℕ, ◌≤◌, length, List, [], ◌∷◌, ◌++◌, ◌==◌, true, false, if◌then◌else◌, Option, Some, None, ◌⊎◌}
 use Rattle.std.specs.List.{Contains}
 use Rattle.relay_model.specs.declared.act.Act.{Act}
 use Rattle.relay_model.specs.declared.act.Act.TheVariants.{Field}
 use Rattle.relay_model.specs.declared.act.EndCause.TheVariants.{Full}
 use Rattle.relay_model.specs.declared.said.Said.{Said}
-use Rattle.relay_model.specs.Objects.{next}
-use Rattle.relay_model.specs.Batch.{relayed}
+use Rattle.relay_model.specs.Objects.{next, peer_of}
+use Rattle.relay_model.specs.Batch.{group_of, relayed}
 use Rattle.relay_model.specs.Idle as idle
 use Rattle.broker_core.specs.declared.journal.Entry.{Entry}
 use Rattle.broker_core.specs.declared.journal.Entry.TheVariants.{End}
-use Rattle.broker_core.specs.Ids.{Joined, peer_at}
+use Rattle.broker_core.specs.Ids.{Made, Joined, log_of, peer_at, made_as}
 use Rattle.broker_core.specs.Resolve.{past_of, resolve}
-use Rattle.broker_core.specs.Settle.{is_due, history, queued}
+use Rattle.broker_core.specs.Groups.{said_piece}
+use Rattle.broker_core.specs.Out.{act_now, group_at, stored, out_for}
+use Rattle.broker_core.specs.Settle.{is_due, history}
+use Rattle.broker_core.specs.Queued.{relays, queued}
 
+-- the peer of the field that the act makes
 abbrev pub field_peer : Act → Option ℕ
 field_peer (Field p) = Some p
 field_peer _ = None
@@ -37,7 +41,7 @@ pub record IsLeftOut (capacity : ℕ) (journal : List Entry) (f : ℕ) : Type 0 
   pub made : maker_of (idle.history (resolve journal)) f ≡ Some peer.label
   pub ended : Contains journal (End number Full)
 
--- after any outer steps
+-- after any steps, legal or not
 abbrev pub RelayLaw : Type 0
 RelayLaw = (capacity : ℕ) (steps : List Entry) (f : ℕ) → IsQueued capacity (history capacity steps) f ⊎ IsLeftOut capacity (history capacity steps) f
 
@@ -46,3 +50,21 @@ abbrev pub NobodyIsDue : Type 0
 NobodyIsDue =
     (capacity : ℕ) (steps : List Entry) (q : ℕ) (peer : Joined) → peer_at (past_of (history capacity steps)) q ≡ Some peer →
     is_due capacity (history capacity steps) q peer ≡ false
+
+-- What the entry of a batch tells the peer of the field f: the batch's group alone, under the id under which the peer made the field. So the group is put
+-- whole, or none of it is.
+pub record IsAlone (e : Entry) (older : List Entry) (f : ℕ) : Type 0 where
+  pub peer : ℕ
+  pub owner : peer_of (log_of (past_of older)) f ≡ Some peer
+  pub field : Made
+  pub made : made_as (past_of (e ∷ older)).made f ≡ Some field
+  pub own : field.peer ≡ peer
+  pub alone : group_at e older peer ≡ said_piece (past_of (e ∷ older)).made field.id (group_of (act_now e older) (log_of (past_of older)) f)
+
+-- so it is with each entry that relays a batch
+abbrev pub WholeGroups : Type 0
+WholeGroups = (e : Entry) (older : List Entry) (f : ℕ) → relays e older f ≡ true → IsAlone e older f
+
+-- no more bytes are stored than the capacity
+abbrev pub StoresHold : Type 0
+StoresHold = (capacity : ℕ) (journal : List Entry) (p : ℕ) → length (stored (out_for capacity journal p)) ≤ capacity

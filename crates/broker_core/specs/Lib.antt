@@ -3,6 +3,16 @@ pub mod Requests
 pub mod Refusals
 pub mod Resolve
 pub mod Groups
+pub mod Events
+pub mod Gathered
+pub mod Out
+pub mod Tables
 pub mod Settle
+pub mod Queued
+pub mod Asked
+pub mod Meant
+pub mod Limits
+pub mod Recorded
 pub mod Law
 pub mod Rows
+pub mod BaseRows

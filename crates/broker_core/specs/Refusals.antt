@@ -35,10 +35,12 @@ is_wrong past p a = not (is_of a.interface (object_at past p a.id))
 abbrev pub is_bad_id : Past → ℕ → ℕ → Bool
 is_bad_id past p id = (id == 0) || nat_lt 4278190079 id || is_some (object_at past p id)
 
+-- the fault, where the test holds
 abbrev pub fault_if : Bool → Fault → Option Fault
 fault_if true f = Some f
 fault_if false f = None
 
+-- an object argument is 0, isn't live, or is of another interface
 abbrev pub argument_fault : Past → ℕ → List Argument → Option Fault
 argument_fault past p arguments = fault_if (list_any (is_wrong past p) arguments) fault.Argument
 
@@ -61,11 +63,13 @@ own_fault past role at interface.InputMethod opcode (word id ∷ word surface �
     (if opcode == 4 then fault_if (has_popup (log_of past) (at surface)) fault.Role else None)
 own_fault _ _ _ _ _ _ = None
 
+-- the first fault of a request that was read: its object arguments, its new id, and what is its own
 abbrev pub request_fault : Past → ℕ → Role → (ℕ → ℕ) → Message → Option Fault
 request_fault past p role at m =
     option_or (argument_fault past p (arguments_of m.interface m.opcode m.values))
     (option_or (new_fault past p (new_of m.interface m.opcode m.values)) (own_fault past role at m.interface m.opcode m.values))
 
+-- no row has the opcode, or the body spells no arguments of the row
 abbrev pub refuse_fault : Refuse → Fault
 refuse_fault refuse.Opcode = fault.Opcode
 refuse_fault refuse.Malformed = fault.Malformed

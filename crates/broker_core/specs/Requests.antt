@@ -13,6 +13,7 @@ pub record Argument : Type 0 where
   pub id : ℕ
   pub interface : Interface
 
+-- an id with an interface
 abbrev pub argument : Interface → ℕ → Argument
 argument i id = record { id = id; interface = i }
 

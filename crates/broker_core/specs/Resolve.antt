@@ -25,6 +25,7 @@ pub record Meaning : Type 0 where
 abbrev pub only : Act → Meaning
 only act = record { act = act; made = [] }
 
+-- the label of an object, or the shell's
 abbrev pub label_of : Option Made → ℕ
 label_of None = 0
 label_of (Some m) = m.label
@@ -42,6 +43,7 @@ abbrev pub made_new : ℕ → ℕ → Option Argument → List Made
 made_new p n None = []
 made_new p n (Some new) = record { peer = p; id = new.id; label = n; interface = new.interface } ∷ []
 
+-- a request that was read, where its fault is known
 abbrev pub of_request : Past → ℕ → Joined → ℕ → Message → Option Fault → Meaning
 of_request past n peer x m (Some f) = refused_for peer.label x f
 of_request past n peer x m None = record {
@@ -49,6 +51,7 @@ of_request past n peer x m None = record {
   made = made_new peer.label n (new_of m.interface m.opcode m.values);
 }
 
+-- what a body reads as
 abbrev pub of_reading : Past → ℕ → Joined → ℕ → Result Message Refuse → Meaning
 of_reading past n peer x (Err r) = refused_for peer.label x (refuse_fault r)
 of_reading past n peer x (Ok m) = of_request past n peer x m (request_fault past peer.label peer.role (label_at past peer.label) m)
@@ -68,14 +71,17 @@ abbrev pub surface_in : Option Made → Option ℕ
 surface_in None = None
 surface_in (Some m) = (if is_of interface.Surface (Some m) then Some m.label else None)
 
+-- the live surface that the id of a peer names, where the peer joined
 abbrev pub surface_at : Past → Option Joined → ℕ → Option ℕ
 surface_at past None id = None
 surface_at past (Some peer) id = surface_in (object_at past peer.label id)
 
+-- an act of that surface, or Idle
 abbrev pub on_surface : Option ℕ → (ℕ → Act) → Act
 on_surface None f = acts.Idle
 on_surface (Some s) f = f s
 
+-- what the shell says; a surface that isn't live makes it Idle
 abbrev pub shell_act : Past → ShellStep → Act
 shell_act past (shell.Focus q id) = on_surface (surface_at past (peer_at past q) id) (λ s. acts.Focus s)
 shell_act past shell.Unfocus = acts.Unfocus
@@ -102,6 +108,7 @@ abbrev pub with_joined : Entry → ℕ → List Joined → List Joined
 with_joined (entries.Join role) n joined = joined ++ record { label = n; role = role } ∷ []
 with_joined _ n joined = joined
 
+-- one more entry, which has the number n
 abbrev pub with_entry : Entry → ℕ → Past → Past
 with_entry e n past =
     let meaning = means e n past in

@@ -1,72 +1,18 @@
--- What is out for each peer, and the ends that follow from a step.
-use Rattle.std.specs.Prelude.{ℕ, zero, suc, ◌+◌, ◌-◌, List, [], ◌∷◌, ◌++◌, length, drop, filter, Bool, true, false, ◌&&◌, ◌||◌, ◌==◌, nat_le, nat_lt, if◌then◌else◌, Option, Some, None}
+-- The ends that follow from a step, and the journal of a list of outer steps.
+use Rattle.std.specs.Prelude.{ℕ, zero, suc, List, [], ◌∷◌, ◌++◌, Bool, true, false, ◌&&◌, ◌||◌, ◌==◌, if◌then◌else◌, Option, Some, None}
 use Rattle.std.specs.List.{count_by}
 use Rattle.relay_model.specs.declared.act.Act.{Act}
 use Rattle.relay_model.specs.declared.act.Act.TheVariants as acts
 use Rattle.relay_model.specs.declared.act.EndCause.{EndCause}
 use Rattle.relay_model.specs.declared.act.EndCause.TheVariants.{Bad, Full}
-use Rattle.relay_model.specs.declared.said.Said.{Said}
-use Rattle.relay_model.specs.Objects.{is_at, is_peer, peer_of}
-use Rattle.relay_model.specs.Hold.{holder}
-use Rattle.relay_model.specs.Activation.{fresh}
-use Rattle.relay_model.specs.Batch.{group_of}
-use Rattle.relay_model.specs.Idle.{cleaned}
-use Rattle.relay_model.specs.Told.{told}
+use Rattle.relay_model.specs.Objects.{is_peer}
 use Rattle.broker_core.specs.declared.journal.Entry.{Entry}
 use Rattle.broker_core.specs.declared.journal.Entry.TheVariants as entries
-use Rattle.broker_core.specs.Ids.{Joined, Past, log_of, peer_at}
-use Rattle.broker_core.specs.Resolve.{past_of, resolve, means}
-use Rattle.broker_core.specs.Groups.{Token, Piece, nothing, followed_by, group_for}
+use Rattle.broker_core.specs.Ids.{Joined, log_of}
+use Rattle.broker_core.specs.Resolve.{past_of}
+use Rattle.broker_core.specs.Out.{act_at, out_for}
 
--- the act of the newest entry
-abbrev pub act_at : Entry → List Entry → Act
-act_at e older = (means e (length older + 1) (past_of older)).act
-
--- what the newest entry tells the peer with the label p
-abbrev pub group_at : Entry → List Entry → ℕ → Piece
-group_at e older p = group_for (past_of (e ∷ older)).made p (told (act_at e older) (resolve older))
-
--- of a peer: all that was put for it, how many bytes of that were taken, and whether a group was left out
-pub record Outgoing : Type 0 where
-  pub put : Piece
-  pub taken : ℕ
-  pub choked : Bool
-
--- the bytes that are stored
-abbrev pub stored : Outgoing → List ℕ
-stored out = drop out.taken out.put.bytes
-
--- the tokens that go with the next n bytes: those whose message begins in them
-abbrev pub tokens_taken : ℕ → Outgoing → List Token
-tokens_taken n out = filter (λ t. nat_le out.taken t.offset && nat_lt t.offset (out.taken + n)) out.put.tokens
-
--- the bytes that are stored and the group are together at most the capacity
-abbrev pub fits : ℕ → Piece → Outgoing → Bool
-fits capacity group out = nat_le ((length out.put.bytes - out.taken) + length group.bytes) capacity
-
--- the group is put whole, or left out
-abbrev pub with_group : ℕ → Piece → Outgoing → Outgoing
-with_group capacity group out =
-    (if fits capacity group out then record out { put = followed_by out.put group } else record out { choked = true })
-
-abbrev pub is_label : Option Joined → ℕ → Bool
-is_label None p = false
-is_label (Some peer) p = peer.label == p
-
--- how many bytes of the peer p the entry takes
-abbrev pub took_at : Entry → Past → ℕ → ℕ
-took_at (entries.Took q bytes) past p = (if is_label (peer_at past q) p then bytes else 0)
-took_at _ past p = 0
-
--- what is out for the peer with the label p, before the group of the newest entry
-abbrev pub before_group : Entry → List Entry → ℕ → Outgoing → Outgoing
-before_group e older p out = record out { taken = out.taken + took_at e (past_of older) p }
-
--- what is out for the peer with the label p
-abbrev pub out_for : ℕ → List Entry → ℕ → Outgoing
-out_for capacity [] p = record { put = nothing; taken = 0; choked = false }
-out_for capacity (e ∷ older) p = with_group capacity (group_at e older p) (before_group e older p (out_for capacity older p))
-
+-- the act is a refused message
 abbrev pub is_bad : Act → Bool
 is_bad (acts.Bad p fault x) = true
 is_bad _ = false
@@ -89,9 +35,11 @@ abbrev pub due_from : ℕ → List Entry → ℕ → List Joined → Option ℕ
 due_from capacity journal q [] = None
 due_from capacity journal q (peer ∷ peers) = (if is_due capacity journal q peer then Some q else due_from capacity journal (suc q) peers)
 
+-- the lowest number of a peer that is due
 abbrev pub due : ℕ → List Entry → Option ℕ
 due capacity journal = due_from capacity journal 1 (past_of journal).joined
 
+-- why a peer that is due is ended
 abbrev pub cause_of : List Entry → ℕ → EndCause
 cause_of journal q = (if refused journal q then Bad else Full)
 
@@ -118,19 +66,13 @@ abbrev pub history : ℕ → List Entry → List Entry
 history capacity [] = []
 history capacity (step ∷ older) = settle capacity (step ∷ history capacity older)
 
-abbrev pub is_put_for : ℕ → Entry → List Entry → Option ℕ → Bool
-is_put_for capacity e older None = false
-is_put_for capacity e older (Some p) = fits capacity (group_at e older p) (before_group e older p (out_for capacity older p))
+-- the step of an entry that no settling appended
+abbrev pub step_of : Entry → List Entry
+step_of (entries.End q Bad) = []
+step_of (entries.End q Full) = []
+step_of e = e ∷ []
 
--- what the newest entry tells the peer of the field f is put
-abbrev pub is_put : ℕ → Entry → List Entry → ℕ → Bool
-is_put capacity e older f = is_put_for capacity e older (peer_of (log_of (past_of older)) f)
-
--- the groups of whole batches that were put for the field f, in order: those of `relayed` whose group was put
-abbrev pub queued : ℕ → List Entry → ℕ → List (List Said)
-queued capacity [] f = []
-queued capacity (e ∷ older) f =
-    let log = log_of (past_of older) in
-    let act = cleaned (act_at e older) log in
-    (if fresh act log && is_at (holder log) f && is_put capacity e older f then queued capacity older f ++ group_of act log f ∷ []
-    else queued capacity older f)
+-- the outer steps of a journal
+abbrev pub outer : List Entry → List Entry
+outer [] = []
+outer (e ∷ older) = step_of e ++ outer older

@@ -145,6 +145,13 @@ impl Table {
         Ok(())
     }
 
+    /// How many objects are live, the display with them: 1 to 257.
+    pub fn len(&self) -> usize
+        ensures { result ≡ map.len self.now.under }
+    {
+        self.objects.len()
+    }
+
     /// The object under the id, its interface and its label, if one is live there.
     pub fn find(&self, id: u32) -> Option<(Interface, Label)>
         ensures now { result ≡ map.get self.now.under id }

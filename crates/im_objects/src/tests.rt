@@ -18,6 +18,7 @@ fn refuses_the_257th_object(rt: HostRuntime) -> Result<(), Fail> {
         assert_eq!(rt; ask(&mut table, id, id), Some(Ok(())), "object {id}");
     }
     assert_eq!(rt; ask(&mut table, 258, 258), Some(Err(MakeRefusal::TooMany)));
+    assert_eq!(rt; table.len(), 257);
     assert_eq!(rt; table.find(258), None);
     assert_eq!(rt; table.find_label(258), None);
     assert!(rt; table.drop_id(100));

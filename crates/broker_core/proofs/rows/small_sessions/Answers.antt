@@ -5,7 +5,7 @@ use Rattle.wl_wire.specs.Reading.{word_at, int_at, text_at as text_behind, strin
 use Rattle.wl_wire.specs.Spelling.{text_bytes}
 use Rattle.wl_proto.specs.Reading.{text_at, request_reading}
 use Rattle.wl_proto.specs.Spelling.{row_bytes}
-use Rattle.broker_core.proofs.rows.worked_rows.Goals as goal
+use Rattle.broker_core.proofs.rows.small_sessions.Goals as goal
 
 pub returns-clause-registry_is_made : goal.returns-clause-registry_is_made
 unfolding request_reading word_at int_at text_at text_behind string_behind string_at is_utf8 chars encode row_bytes text_bytes
@@ -14,10 +14,6 @@ returns-clause-registry_is_made c = refl
 pub returns-clause-globals_are_told : goal.returns-clause-globals_are_told
 unfolding request_reading word_at int_at text_at text_behind string_behind string_at is_utf8 chars encode row_bytes text_bytes
 returns-clause-globals_are_told c = refl
-
-pub returns-clause-base_acts : goal.returns-clause-base_acts
-unfolding request_reading word_at int_at text_at text_behind string_behind string_at is_utf8 chars encode row_bytes text_bytes
-returns-clause-base_acts c = refl
 
 pub returns-clause-nothing_named : goal.returns-clause-nothing_named
 unfolding request_reading word_at int_at text_at text_behind string_behind string_at is_utf8 chars encode row_bytes text_bytes
@@ -43,6 +39,26 @@ pub returns-clause-seat_is_wrong : goal.returns-clause-seat_is_wrong
 unfolding request_reading word_at int_at text_at text_behind string_behind string_at is_utf8 chars encode row_bytes text_bytes
 returns-clause-seat_is_wrong c = refl
 
+pub returns-clause-opcode_is_unknown : goal.returns-clause-opcode_is_unknown
+unfolding request_reading word_at int_at text_at text_behind string_behind string_at is_utf8 chars encode row_bytes text_bytes
+returns-clause-opcode_is_unknown c = refl
+
+pub returns-clause-body_is_malformed : goal.returns-clause-body_is_malformed
+unfolding request_reading word_at int_at text_at text_behind string_behind string_at is_utf8 chars encode row_bytes text_bytes
+returns-clause-body_is_malformed c = refl
+
+pub returns-clause-id_is_the_servers : goal.returns-clause-id_is_the_servers
+unfolding request_reading word_at int_at text_at text_behind string_behind string_at is_utf8 chars encode row_bytes text_bytes
+returns-clause-id_is_the_servers c = refl
+
+pub returns-clause-global_is_not_offered : goal.returns-clause-global_is_not_offered
+unfolding request_reading word_at int_at text_at text_behind string_behind string_at is_utf8 chars encode row_bytes text_bytes
+returns-clause-global_is_not_offered c = refl
+
+pub returns-clause-sync_is_answered : goal.returns-clause-sync_is_answered
+unfolding request_reading word_at int_at text_at text_behind string_behind string_at is_utf8 chars encode row_bytes text_bytes
+returns-clause-sync_is_answered c = refl
+
 pub returns-clause-store_is_full : goal.returns-clause-store_is_full
 unfolding request_reading word_at int_at text_at text_behind string_behind string_at is_utf8 chars encode row_bytes text_bytes
 returns-clause-store_is_full c = refl
@@ -50,23 +66,3 @@ returns-clause-store_is_full c = refl
 pub returns-clause-refused_ends : goal.returns-clause-refused_ends
 unfolding request_reading word_at int_at text_at text_behind string_behind string_at is_utf8 chars encode row_bytes text_bytes
 returns-clause-refused_ends c = refl
-
-pub returns-clause-batch_is_queued : goal.returns-clause-batch_is_queued
-unfolding request_reading word_at int_at text_at text_behind string_behind string_at is_utf8 chars encode row_bytes text_bytes
-returns-clause-batch_is_queued c = refl
-
-pub returns-clause-batch_is_told : goal.returns-clause-batch_is_told
-unfolding request_reading word_at int_at text_at text_behind string_behind string_at is_utf8 chars encode row_bytes text_bytes
-returns-clause-batch_is_told c = refl
-
-pub returns-clause-nobody_ends : goal.returns-clause-nobody_ends
-unfolding request_reading word_at int_at text_at text_behind string_behind string_at is_utf8 chars encode row_bytes text_bytes
-returns-clause-nobody_ends c = refl
-
-pub returns-clause-all_is_out : goal.returns-clause-all_is_out
-unfolding request_reading word_at int_at text_at text_behind string_behind string_at is_utf8 chars encode row_bytes text_bytes
-returns-clause-all_is_out c = refl
-
-pub returns-clause-method_is_told : goal.returns-clause-method_is_told
-unfolding request_reading word_at int_at text_at text_behind string_behind string_at is_utf8 chars encode row_bytes text_bytes
-returns-clause-method_is_told c = refl
