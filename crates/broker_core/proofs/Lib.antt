@@ -17,3 +17,6 @@ pub mod Counts
 pub mod Readings
 pub mod Meanings
 pub mod Tabled
+pub mod Spaced
+pub mod Stored
+pub mod Taken

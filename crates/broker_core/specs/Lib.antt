@@ -16,3 +16,4 @@ pub mod Recorded
 pub mod Law
 pub mod Rows
 pub mod BaseRows
+pub mod Stored

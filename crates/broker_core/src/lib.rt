@@ -11,7 +11,7 @@ mod requests;
 mod rows;
 
 pub use journal::{Entry, Journal, Kept};
-pub use laws::{relay_law, table_law};
+pub use laws::{relay_law, store_law, table_law};
 pub use rows::{base_session, small_sessions};
 
 #[cfg(test)]
