@@ -2,7 +2,7 @@
 use Rattle.std.specs.Prelude.{ℕ, ◌+◌, length, Bool, true, false, not, ◌&&◌, nat_le, if◌then◌else◌, Some}
 use Rattle.wl_proto.specs.Rows.{Message}
 use Rattle.wl_proto.specs.Spelling.{message_len}
-use Rattle.broker_core.specs.Groups.{Token, Piece, nothing, followed_by, message_piece}
+use Rattle.broker_model.specs.Groups.{Piece, nothing, followed_by, message_piece}
 
 -- what is gathered, how many bytes there may be, and whether something was left out
 pub record Gathered : Type 0 where
@@ -18,11 +18,3 @@ empty capacity = record { group = nothing; capacity = capacity; is_over = false 
 abbrev pub with_message : ℕ → Message → Gathered → Gathered
 with_message id m g =
     (if not g.is_over && nat_le (length g.group.bytes + message_len m) g.capacity then record g { group = followed_by g.group (message_piece id (Some m)) } else record g { is_over = true })
-
--- a token as a pair of its offset and its number
-abbrev pub pair_of : Token → ℕ × ℕ
-pair_of t = (t.offset, t.token)
-
--- the token that such a pair is
-abbrev pub token_of_pair : ℕ × ℕ → Token
-token_of_pair pair = record { offset = pair.0; token = pair.1 }

@@ -2,9 +2,10 @@
 ghost use Rattle.std.specs.Prelude.{◌≡◌, ◌+◌, ◌<◌, ◌≤◌, ◌++◌, length, take, map, vec_len, vec_capacity, IfOk, IfSome};
 ghost use Rattle.wl_proto.specs.Rows.{event_message};
 ghost use Rattle.wl_proto.specs.Spelling.{message_len, message_bytes};
-ghost use Rattle.broker_core.specs.Groups.{later, tokens_in};
-ghost use Rattle.broker_core.specs.Events.{first_token};
-ghost use Rattle.broker_core.specs.Gathered.{empty, with_message, pair_of, token_of_pair};
+ghost use Rattle.out_store.specs.Spacing.{IsSpaced};
+ghost use Rattle.broker_model.specs.Groups.{pair_of, token_of_pair, later, tokens_in};
+ghost use Rattle.seat_wire.specs.Events.{first_token};
+ghost use Rattle.broker_core.specs.Gathered.{empty, with_message};
 
 use std::alloc::Global;
 use std::marker::Model;
@@ -29,7 +30,9 @@ pub(crate) struct Gathering {
 
 impl Model for Gathering {
     ghost use Rattle.std.specs.Prelude.{◌*◌, ◌≤◌, take, map, vec_len, vec_capacity};
-    ghost use Rattle.broker_core.specs.Gathered.{Gathered, token_of_pair};
+    ghost use Rattle.broker_model.specs.Groups.{token_of_pair};
+    ghost use Rattle.broker_model.specs.Stored.{AreSpaced};
+    ghost use Rattle.broker_core.specs.Gathered.{Gathered};
 
     ghost Value = { Gathered };
 
@@ -40,7 +43,10 @@ impl Model for Gathering {
     } };
 
     // No message with a token is shorter than 16 bytes, so that there is room for each token.
-    ghost invariant = { λ g. (g.len ≤ vec_len g.bytes) × (16 * vec_len g.tokens ≤ g.len) × (vec_len g.bytes ≤ 16 * vec_capacity g.tokens) };
+    ghost invariant = { λ g. (g.len ≤ vec_len g.bytes)
+        × (16 * vec_len g.tokens ≤ g.len)
+        × (vec_len g.bytes ≤ 16 * vec_capacity g.tokens)
+        × AreSpaced (record { bytes = take g.len g.bytes.items; tokens = map token_of_pair g.tokens.items }) };
 }
 
 // Writes the event behind the first `len` bytes.
@@ -113,6 +119,7 @@ impl Gathering {
     /// The group's tokens by rising offset, each with that of its message's first byte.
     pub(crate) fn tokens(&self) -> &[(usize, u32)]
         ensures tokens { result.now ≡ map pair_of self.now.group.tokens }
+        ensures spaced { IsSpaced 0 result.now (length self.now.group.bytes) }
     {
         &self.tokens
     }

@@ -1,20 +1,19 @@
 // The shared state of all peers of a seat: one journal, and for each peer what is stored for it.
 #![tactic(auto)]
 
-mod acts;
-mod events;
+mod audience;
+mod changes;
+mod directory;
 mod gathering;
-mod journal;
-mod laws;
-mod meaning;
-mod requests;
-mod rows;
+mod live;
+mod player;
+mod reading;
+mod shared;
+mod state;
+mod steps;
+mod taking;
+mod transcript;
 
-pub use journal::{Entry, Journal, Kept};
-pub use laws::{relay_law, store_law, table_law};
-pub use rows::{base_session, small_sessions};
-
-#[cfg(test)]
-mod meaning_tests;
-#[cfg(test)]
-mod tests;
+pub use broker_model::{Entry, Journal, Kept};
+pub use player::{PlayEnd, Player};
+pub use shared::{Applied, JoinRefusal, MOST_PEERS, Refused, Shared, Took};

@@ -8,7 +8,6 @@ use Rattle.relay_model.specs.Told.{told}
 use Rattle.wlim.specs.Lines.{lines_of}
 use Rattle.wlim.specs.declared.act_list.Verdict.{Verdict}
 use Rattle.wlim.specs.declared.act_list.Verdict.TheVariants as verdict
-use Rattle.wlim.specs.declared.status.Status.TheVariants as status
 use Rattle.wlim.specs.declared.act_list.TheConstants.{ACT_LIMIT}
 use Rattle.relay_core.specs.Fits.{FitsMessage}
 use Rattle.session_text.specs.declared.line.Form.TheVariants.{Acts}
@@ -17,18 +16,19 @@ use Rattle.session_text.specs.declared.line.Line.TheVariants as line
 use Rattle.session_text.specs.Grammar.{HasLine}
 use Rattle.session_text.specs.Reading.{line_of}
 use Rattle.session_text.proofs.Laws.{reads_only}
-use Rattle.wlim.specs.Transcript.{verdict_of_line, answer_of, Answer, with_front, answer_from, by_verdict, verdict_of, without_end, act_text, bad_line, long_line}
+use Rattle.wlim.specs.Endings.{Answer, with_front, without_end}
+use Rattle.wlim.specs.Transcript.{verdict_of_line, answer_of, answer_from, by_verdict, verdict_of, act_text}
 
 pub front_of_front : (a b : List ℕ) (x : Answer) → with_front a (with_front b x) ≡ with_front (a ++ b) x
 front_of_front a b x = ap (λ t. (t, x.1)) (sym (append_assoc a b x.0))
 
 -- what a line makes of the answer after it
-abbrev pub by_line : Bool → List Act → Verdict → List (List ℕ) → Answer
-by_line cut log v more =
-    by_verdict (length log) v (λ act. act_text (length log + 1) (told act log)) (λ act. answer_from cut (act ∷ log) more)
+abbrev pub by_line : Bool → List Act → ℕ → Verdict → List (List ℕ) → Answer
+by_line cut log n v more =
+    by_verdict n v (λ act. act_text (length log + 1) (told act log)) (λ act. answer_from cut (act ∷ log) more)
 
 answer_cons : (cut : Bool) (log : List Act) (raw : List ℕ) (lines : List (List ℕ)) →
-    answer_from cut log (raw ∷ lines) ≡ by_line cut log (verdict_of (length log) raw) lines
+    answer_from cut log (raw ∷ lines) ≡ by_line cut log (length log) (verdict_of (length log) raw) lines
 unfolding answer_from
 answer_cons cut log raw lines = refl
 
@@ -38,24 +38,16 @@ answer_nil cut log = refl
 
 -- what a line makes of the whole
 pub step : (cut : Bool) (log : List Act) (n : ℕ) (t raw : List ℕ) (lines more : List (List ℕ)) (v : Verdict) (whole : Answer) → n ≡ length log →
-    with_front t (answer_from cut log lines) ≡ whole → lines ≡ raw ∷ more → v ≡ verdict_of n raw → with_front t (by_line cut log v more) ≡ whole
+    with_front t (answer_from cut log lines) ≡ whole → lines ≡ raw ∷ more → v ≡ verdict_of n raw → with_front t (by_line cut log n v more) ≡ whole
 step cut log n t raw lines more v whole count e split is =
-    ap (λ w. with_front t (by_line cut log w more)) (is ∙ ap (λ m. verdict_of m raw) count) ∙ ap (with_front t) (sym (answer_cons cut log raw more)) ∙
+    ap (λ w. with_front t (by_line cut log n w more)) is ∙ ap (λ m. with_front t (by_line cut log m (verdict_of m raw) more)) count ∙ ap (with_front t) (sym (answer_cons cut log raw more)) ∙
     ap (λ l. with_front t (answer_from cut log l)) (sym split) ∙ e
 
 -- where no line is left
-ends : (cut : Bool) (log : List Act) (n : ℕ) (t : List ℕ) (lines : List (List ℕ)) (whole : Answer) → n ≡ length log →
+pub ends : (cut : Bool) (log : List Act) (n : ℕ) (t : List ℕ) (lines : List (List ℕ)) (whole : Answer) → n ≡ length log →
     with_front t (answer_from cut log lines) ≡ whole → lines ≡ [] → with_front t (without_end cut n) ≡ whole
 ends cut log n t lines whole count e none =
     ap (λ m. with_front t (without_end cut m)) count ∙ ap (with_front t) (sym (answer_nil cut log)) ∙ ap (λ l. with_front t (answer_from cut log l)) (sym none) ∙ e
-
-pub ends_long : (cut : Bool) (log : List Act) (n : ℕ) (t : List ℕ) (lines : List (List ℕ)) (whole : Answer) → n ≡ length log →
-    with_front t (answer_from cut log lines) ≡ whole → lines ≡ [] → cut ≡ true → with_front t (long_line, status.InputLong) ≡ whole
-ends_long cut log n t lines whole count e none long = ap (λ b. with_front t (without_end b n)) (sym long) ∙ ends cut log n t lines whole count e none
-
-pub ends_bad : (cut : Bool) (log : List Act) (n : ℕ) (t : List ℕ) (lines : List (List ℕ)) (whole : Answer) → n ≡ length log →
-    with_front t (answer_from cut log lines) ≡ whole → lines ≡ [] → cut ≡ false → with_front t (bad_line (n + 1), status.BadSession) ≡ whole
-ends_bad cut log n t lines whole count e none short = ap (λ b. with_front t (without_end b n)) (sym short) ∙ ends cut log n t lines whole count e none
 
 pub starts : (cut : Bool) (input : List ℕ) → with_front [] (answer_from cut [] (lines_of cut input)) ≡ answer_of cut input
 unfolding answer_of

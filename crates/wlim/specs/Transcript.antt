@@ -1,7 +1,6 @@
 -- What is written for the lines of an act list, and the status.
-use Rattle.std.specs.Prelude.{ℕ, ◌+◌, nat_lt, Bool, if◌then◌else◌, List, [], ◌∷◌, ◌++◌, length, codes, Option, Some, None}
+use Rattle.std.specs.Prelude.{ℕ, ◌+◌, nat_lt, Bool, if◌then◌else◌, List, [], ◌∷◌, ◌++◌, length, Option, Some, None}
 use Rattle.std.specs.List.{flat_map}
-use Rattle.std.specs.Fmt.{decimal}
 use Rattle.relay_model.specs.declared.act.Act.{Act}
 use Rattle.relay_model.specs.declared.said.Told.{Told}
 use Rattle.relay_model.specs.Told.{told}
@@ -10,12 +9,12 @@ use Rattle.session_text.specs.declared.line.Line.{Line}
 use Rattle.session_text.specs.declared.line.Line.TheVariants as line
 use Rattle.session_text.specs.Reading.{line_of}
 use Rattle.session_text.specs.Told.{told_line}
-use Rattle.wlim.specs.declared.status.Status.{Status}
-use Rattle.wlim.specs.declared.status.Status.TheVariants as status
+use Rattle.wlim.specs.declared.last_line.LastLine.TheVariants as last
 use Rattle.wlim.specs.declared.act_list.Verdict.{Verdict}
 use Rattle.wlim.specs.declared.act_list.Verdict.TheVariants as verdict
 use Rattle.wlim.specs.declared.act_list.TheConstants.{ACT_LIMIT}
 use Rattle.wlim.specs.Lines.{lines_of}
+use Rattle.wlim.specs.Endings.{Answer, with_front, ending, without_end}
 
 -- an act after so many others
 abbrev pub verdict_of_act : ℕ → Act → Verdict
@@ -33,14 +32,6 @@ verdict_of_line count (Some (line.Shell step)) = verdict.Bad
 unfoldable pub verdict_of : ℕ → List ℕ → Verdict
 verdict_of count raw = verdict_of_line count (line_of Acts raw)
 
--- what is written, and the status
-abbrev pub Answer : Type 0
-Answer = List ℕ × Status
-
--- a text before the text of an answer
-abbrev pub with_front : List ℕ → Answer → Answer
-with_front front answer = (front ++ answer.0, answer.1)
-
 -- the line of one event, with its line feed
 abbrev pub told_text : ℕ → Told → List ℕ
 told_text number told = told_line number told ++ 10 ∷ []
@@ -49,27 +40,11 @@ told_text number told = told_line number told ++ 10 ∷ []
 abbrev pub act_text : ℕ → List Told → List ℕ
 act_text number tolds = flat_map (told_text number) tolds
 
-abbrev pub end_line : ℕ → List ℕ
-end_line n = codes "end " ++ decimal n ++ codes "\n"
-
-abbrev pub bad_line : ℕ → List ℕ
-bad_line n = codes "bad line " ++ decimal n ++ codes "\n"
-
-abbrev pub full_line : ℕ → List ℕ
-full_line n = codes "journal full " ++ decimal n ++ codes "\n"
-
-abbrev pub long_line : List ℕ
-long_line = codes "input too long\n"
-
--- where no line is left, after so many acts
-abbrev pub without_end : Bool → ℕ → Answer
-without_end cut n = if cut then (long_line, status.InputLong) else (bad_line (n + 1), status.BadSession)
-
 -- what a line makes of the answer for the lines after it, after so many acts: `text` is what an act tells, `rest` the answer after it
 abbrev pub by_verdict : ℕ → Verdict → (Act → List ℕ) → (Act → Answer) → Answer
-by_verdict n verdict.Bad text rest = (bad_line (n + 1), status.BadSession)
-by_verdict n verdict.End text rest = (end_line n, status.Ok)
-by_verdict n verdict.Full text rest = (full_line n, status.JournalFull)
+by_verdict n verdict.Bad text rest = ending (last.Bad (n + 1))
+by_verdict n verdict.End text rest = ending (last.End n)
+by_verdict n verdict.Full text rest = ending (last.Full n)
 by_verdict n (verdict.Play act) text rest = with_front (text act) (rest act)
 
 -- the answer for the lines that are left after the acts of a list, the newest first

@@ -1,12 +1,13 @@
 // The transcript of an act list.
-ghost use Rattle.std.specs.Prelude.{◌≡◌, ◌<◌, ◌≤◌, ◌+◌, ◌∷◌, [], ◌++◌, List, length, IfOk, OnOk, string_bytes, decimal, codes, false, true};
+ghost use Rattle.std.specs.Prelude.{◌≡◌, ◌<◌, ◌≤◌, ◌+◌, ◌∷◌, [], ◌++◌, List, length, IfOk, OnOk, string_bytes, false};
 ghost use Rattle.relay_model.specs.declared.act.Act.{Act};
 ghost use Rattle.relay_model.specs.Told.{told};
 ghost use Rattle.relay_core.specs.Fits.{FitsMessage};
 ghost use Rattle.relay_core.specs.Stands.{StandsFor};
 ghost use Rattle.wlim.specs.Transcript.{verdict_of, verdict_of_act, answer_of, act_text};
-ghost use Rattle.wlim.specs.Run.{IsDecided};
+ghost use Rattle.wlim.specs.Endings.{IsDecided};
 
+use crate::last_line::{LastLine, close, close_without_end};
 use crate::lines::take_line;
 use crate::printer::Printer;
 use crate::status::Status;
@@ -54,14 +55,6 @@ fn judge(alloc: Global, raw: &[u8], count: u32) -> Result<Verdict, NoMemory>
     }
 }
 
-// Adds a line: a text, a number, and the line feed.
-fn append(text: &mut String, front: &str, n: u32) -> Result<(), NoMemory>
-    ensures { OnOk result (string_bytes text.new ≡ string_bytes text.old ++ (front.now ++ decimal n ++ codes "\n")) }
-{
-    write!(text, "{front}{n}\n")?;
-    Ok(())
-}
-
 // Plays one act, and prints what it tells.
 fn play(relay: &mut Relay, act: &Act, printer: &mut Printer) -> Result<(), NoMemory>
     requires number { relay.old.state.acts < ACT_LIMIT }
@@ -99,31 +92,14 @@ fn play_lines(
     while let Some((raw, more)) = take_line(rest, cut) {
         let count = relay.acts();
         match judge(alloc, raw, count)? {
-            Verdict::Bad => {
-                append(&mut printer.text, "bad line ", count + 1)?;
-                return Ok(Status::BadSession);
-            }
-            Verdict::End => {
-                append(&mut printer.text, "end ", count)?;
-                return Ok(Status::Ok);
-            }
-            Verdict::Full => {
-                append(&mut printer.text, "journal full ", count)?;
-                return Ok(Status::JournalFull);
-            }
-            Verdict::Play(act) => {
-                play(relay, &act, printer)?;
-                rest = more;
-            }
+            Verdict::Bad => return close(&mut printer.text, LastLine::Bad(u64::from(count) + 1)),
+            Verdict::End => return close(&mut printer.text, LastLine::End(count)),
+            Verdict::Full => return close(&mut printer.text, LastLine::Full(count)),
+            Verdict::Play(act) => play(relay, &act, printer)?,
         }
+        rest = more;
     }
-    if cut {
-        printer.text.push_str("input too long\n")?;
-        return Ok(Status::InputLong);
-    }
-    let acts = relay.acts();
-    append(&mut printer.text, "bad line ", acts + 1)?;
-    Ok(Status::BadSession)
+    close_without_end(&mut printer.text, cut, u64::from(relay.acts()))
 }
 
 /// What is written for an act list, and the status.

@@ -2,10 +2,15 @@
 #![tactic(auto)]
 
 mod act_list;
+mod command;
+mod last_line;
 mod lines;
 mod printer;
 mod reading;
 mod run;
+mod session;
+#[cfg(test)]
+mod session_tests;
 mod status;
 #[cfg(test)]
 mod tests;

@@ -2,26 +2,23 @@
 ghost use Rattle.std.specs.Prelude.{◌≡◌, ◌≢◌, ◌≤◌, ◌↔◌, map, IfSome, string_bytes, false};
 ghost use Rattle.std.specs.Io.KnownBytes.{Appends};
 ghost use Rattle.wio_core.specs.Io.{Rose};
-ghost use Rattle.wlim.specs.Run.{is_command, status_of, output_of, GrowsByFront, IsDecided, Ran, replay_answer};
+ghost use Rattle.wlim.specs.Endings.{IsDecided};
+ghost use Rattle.wlim.specs.Run.{is_command, status_of, output_of, answer_by, GrowsByFront, Ran};
 
-use crate::act_list::transcript;
+use crate::command::{Command, answer_to, command_of};
 use crate::reading::{INPUT_LIMIT, ReadError, read_all};
 use crate::status::Status;
 use std::alloc::Global;
 use wio_core::{Failed, NoMemory, Sink, Source, write_all};
 
-fn is_command(words: &[String]) -> bool
-    ensures { result ≡ is_command (map string_bytes words.now) }
-{
-    match words {
-        [word] => word.as_str() == "replay-acts",
-        _ => false,
-    }
-}
-
 // Reads the whole input, and writes its transcript.
-fn replay_acts<S: Source, K: Sink>(alloc: Global, input: &mut S, output: &mut K) -> Status
-    ensures ran { Ran replay_answer (S.left input.old) (S.fault_count input.old) (S.fault_count input.new)
+fn replay<S: Source, K: Sink>(
+    alloc: Global,
+    command: Command,
+    input: &mut S,
+    output: &mut K,
+) -> Status
+    ensures ran { Ran (answer_by command) (S.left input.old) (S.fault_count input.old) (S.fault_count input.new)
         (K.held output.old) (K.held output.new) (K.fault_count output.old) (K.fault_count output.new) result }
     ensures reads_never_fall { S.fault_count input.old ≤ S.fault_count input.new }
     ensures writes_never_fall { K.fault_count output.old ≤ K.fault_count output.new }
@@ -31,7 +28,7 @@ fn replay_acts<S: Source, K: Sink>(alloc: Global, input: &mut S, output: &mut K)
         Err(ReadError::Fault) => return Status::ReadFault,
         Err(ReadError::NoMemory) => return Status::NoMemory,
     };
-    let (text, status) = match transcript(alloc, &bytes, bytes.len() == INPUT_LIMIT) {
+    let (text, status) = match answer_to(alloc, command, &bytes, bytes.len() == INPUT_LIMIT) {
         Ok(answer) => answer,
         Err(NoMemory) => return Status::NoMemory,
     };
@@ -41,8 +38,8 @@ fn replay_acts<S: Source, K: Sink>(alloc: Global, input: &mut S, output: &mut K)
     }
 }
 
-/// Runs the command that the words name over an input and an output. `replay-acts` reads an act list of at most 1,073,741,824 bytes and 100,000 acts, and writes its
-/// transcript. Always returns. What status comes when is the clauses' to say; `NoMemory` alone may come at any time.
+/// Runs the command that the words name over an input and an output: `replay` reads a session, and `replay-acts` an act list of at most 100,000 acts, and each writes
+/// its transcript. At most 1,073,741,824 bytes are read. Always returns. What status comes when is the clauses' to say; `NoMemory` alone may come at any time.
 pub fn run_plain<S: Source, K: Sink>(
     alloc: Global,
     words: &[String],
@@ -71,9 +68,8 @@ pub fn run_plain<S: Source, K: Sink>(
     ensures reads_never_fall { S.fault_count input.old ≤ S.fault_count input.new }
     ensures writes_never_fall { K.fault_count output.old ≤ K.fault_count output.new }
 {
-    if is_command(words) {
-        replay_acts(alloc, input, output)
-    } else {
-        Status::BadWords
+    match command_of(words) {
+        Some(command) => replay(alloc, command, input, output),
+        None => Status::BadWords,
     }
 }

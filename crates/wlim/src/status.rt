@@ -17,7 +17,7 @@ pub enum Status {
     WriteFault,
     /// There was no memory. What was written is a front of the output.
     NoMemory,
-    /// A line's act met a journal that is full.
+    /// A step met a journal that is full for it.
     JournalFull,
     /// The limit of input bytes was taken, and no line in them decided.
     InputLong,

@@ -14,7 +14,7 @@ fn word_list(alloc: Global, words: &[&str]) -> Result<Vec<String>, Fail> {
 }
 
 // The status of a run, and what it wrote. The input is read in pieces of 16 bytes; the numbered reads and writes fail.
-fn run(
+pub(crate) fn run(
     alloc: Global,
     words: &[&str],
     input: &str,
@@ -39,7 +39,7 @@ const STRING: &str = "mstring 5 61\nmcommit 5 1\n";
 
 const RELAYED: &str = "10 3 commit_string 61\n10 3 done 1\n";
 
-fn joined(alloc: Global, parts: &[&str]) -> Result<String, Fail> {
+pub(crate) fn joined(alloc: Global, parts: &[&str]) -> Result<String, Fail> {
     let mut text = String::new(alloc);
     for part in parts {
         text.push_str(part)?;
@@ -217,6 +217,12 @@ fn faults_and_words_decide(rt: HostRuntime) -> Result<(), Fail> {
         ),
         (
             ["replay", "x"].as_slice(),
+            [].as_slice(),
+            [].as_slice(),
+            Status::BadWords,
+        ),
+        (
+            ["replays"].as_slice(),
             [].as_slice(),
             [].as_slice(),
             Status::BadWords,

@@ -3,7 +3,8 @@ use Rattle.relay_model.specs.declared.act.Act.{Act}
 use Rattle.relay_core.specs.Stands.{StandsFor}
 use Rattle.wlim.specs.declared.act_list.TheConstants.{ACT_LIMIT}
 use Rattle.wlim.specs.Lines.{lines_of}
-use Rattle.wlim.specs.Transcript.{answer_from, answer_of, with_front}
+use Rattle.wlim.specs.Endings.{with_front}
+use Rattle.wlim.specs.Transcript.{answer_from, answer_of}
 use Rattle.wlim.proofs.act_list.play_lines.Given as goal
 
 -- the relay stands for the acts so far, and their text before the answer of the lines that are left is the whole answer

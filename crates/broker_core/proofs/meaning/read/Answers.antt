@@ -1,9 +1,0 @@
-use Rattle.std.proofs.Common.{arith}
-use Rattle.wl_proto.specs.Rows.{request_message, request_kinds}
-use Rattle.wl_proto.specs.Reading.{request_reading}
-use Rattle.broker_core.proofs.Readings.{gives}
-use Rattle.broker_core.proofs.meaning.read.Goals as goal
-
-pub returns : goal.returns
-unfolding request_reading
-returns c = gives request_message (request_kinds c.args.interface c.args.opcode) c.args.interface c.args.opcode _ _ _ (λ i. omega (arith, c.type_inv.body i)) c.read_request.ensures

@@ -1,0 +1,30 @@
+use Rattle.std.proofs.Common.{refl, ◌∙◌, ap}
+use Rattle.broker_model.specs.declared.journal.Entry.{Entry}
+use Rattle.broker_model.specs.declared.journal.Entry.TheVariants as entries
+use Rattle.broker_core.specs.Taking.{standing_of}
+use Rattle.broker_core.specs.Broker.{Broker}
+use Rattle.broker_core.proofs.Standings.{alive_there}
+use Rattle.broker_core.proofs.Sharing.{HasPlace, stepped, stays, becomes, has_place, within_plain}
+use Rattle.broker_core.proofs.shared.Shared.bad_size.Goals as goal
+
+pub bad_size-requires-clause-live : goal.bad_size-requires-clause-live
+bad_size-requires-clause-live c =
+    alive_there c.self.inside.state c.args.number c.self.invariant.stands
+    (ap (λ (b : Broker). standing_of b.journal c.args.number) c.self.view_is ∙ c.requires.live)
+
+pub invariant_of-self-2 : goal.invariant_of-self-2
+invariant_of-self-2 c =
+    let e : Entry = entries.BadSize c.args.number c.args.head in
+    let place : HasPlace c.self.inside.limits e c.self.inside.state.journal.entries =
+    has_place c.self.inside.limits e c.args.self.now c.self.inside.state c.self.view_is refl c.requires.place in
+    stays c.self.inside.limits e c.self.inside.state c.settle.new.self c.self.invariant
+    (within_plain c.self.inside.limits e c.self.inside.state tt refl c.self.invariant place)
+    (stepped e c.self.inside.state c.bad_size.new.self c.settle.new.self c.in_ok-bad_size.ensures.capacity c.in_ok-bad_size.ensures.ok c.settle.ensures.stands c.settle.ensures.capacity
+    c.settle.ensures.settled)
+
+pub returns-clause-ok : goal.returns-clause-ok
+returns-clause-ok c =
+    let e : Entry = entries.BadSize c.args.number c.args.head in
+    becomes c.self.inside.limits e c.args.self.now c.self.inside.state c.settle.new.self c.self.view_is c.self.invariant
+    (stepped e c.self.inside.state c.bad_size.new.self c.settle.new.self c.in_ok-bad_size.ensures.capacity c.in_ok-bad_size.ensures.ok c.settle.ensures.stands c.settle.ensures.capacity
+    c.settle.ensures.settled)

@@ -1,0 +1,22 @@
+use Rattle.std.proofs.Common.{◌∙◌, ap}
+use Rattle.relay_model.specs.declared.act.EndCause.TheVariants.{Gone}
+use Rattle.broker_model.specs.declared.journal.Entry.{Entry}
+use Rattle.broker_model.specs.declared.journal.Entry.TheVariants as entries
+use Rattle.broker_core.specs.Taking.{standing_of}
+use Rattle.broker_core.specs.Broker.{Broker}
+use Rattle.broker_core.proofs.Standings.{alive_there}
+use Rattle.broker_core.proofs.Sharing.{stepped, stays, within_gone}
+use Rattle.broker_core.proofs.shared.Shared.gone.Goals as goal
+
+pub end-requires-clause-live : goal.end-requires-clause-live
+end-requires-clause-live c =
+    alive_there c.self.inside.state c.args.number c.self.invariant.stands (ap (λ (b : Broker). standing_of b.journal c.args.number) c.self.view_is ∙ c.requires)
+
+pub invariant_of-self : goal.invariant_of-self
+invariant_of-self c =
+    let e : Entry = entries.End c.args.number Gone in
+    stays c.self.inside.limits e c.self.inside.state c.settle.new.self c.self.invariant
+    (within_gone c.self.inside.limits c.args.number c.self.inside.state c.self.invariant
+    (ap (λ (b : Broker). standing_of b.journal c.args.number) c.self.view_is ∙ c.requires))
+    (stepped e c.self.inside.state c.end.new.self c.settle.new.self c.end.ensures.capacity c.end.ensures.ended c.settle.ensures.stands c.settle.ensures.capacity
+    c.settle.ensures.settled)

@@ -1,0 +1,391 @@
+// The shared state of all peers as its callers see it.
+use crate::state::State;
+use crate::taking::Standing;
+use broker_model::{Journal, Kept};
+use relay_core::Route;
+use relay_model::{EndCause, Role};
+use session_text::{Limits, PeerStep, ShellStep, Step};
+use std::alloc::Global;
+use std::marker::Model;
+use wio_core::NoMemory;
+use wl_wire::Bytes;
+
+/// The most peers that are alive at once.
+pub const MOST_PEERS: u32 = 64;
+
+// The most that a journal weighs.
+const MOST_WEIGHT: u64 = 134_217_728;
+
+// What an entry that isn't an end weighs, without the body of a message.
+const ENTRY_WEIGHT: u64 = 16;
+
+/// Why no peer joined.
+#[derive(Clone, Copy, Debug, PartialEq, Eq)]
+pub enum JoinRefusal {
+    /// `MOST_PEERS` are alive, the number that it says.
+    TooManyPeers(u32),
+    /// The journal is full for a join: so much it holds.
+    JournalFull(Kept),
+    /// There was no memory.
+    NoMemory,
+}
+
+/// Why a step of a peer or of the shell wasn't taken.
+#[derive(Clone, Copy, Debug, PartialEq, Eq)]
+pub enum Refused {
+    /// No peer has the number.
+    NoPeer,
+    /// The peer ended, for this cause.
+    Ended(EndCause),
+    /// The journal is full for the step: so much it holds.
+    JournalFull(Kept),
+    /// There was no memory.
+    NoMemory,
+}
+
+/// What became of a step.
+#[derive(Clone, Copy, Debug, PartialEq, Eq)]
+pub struct Applied {
+    /// The number of its entry in the journal, from 1.
+    pub entry: u32,
+    /// Where a key of the shell went; none for any other step.
+    pub route: Option<Route>,
+}
+
+/// What was taken of what is stored for a peer.
+#[derive(Clone, Copy, Debug, PartialEq, Eq)]
+pub enum Took {
+    /// So many bytes, and so many tokens with them.
+    Bytes(usize, usize),
+    /// Nothing: no peer has the number.
+    NoPeer,
+    /// Nothing: nothing is stored, and the peer ended.
+    Closed,
+    /// Nothing: nothing is stored yet.
+    Empty,
+    /// Nothing: the journal is full for a take. So much it holds.
+    JournalFull(Kept),
+    /// Nothing: there was no memory.
+    NoMemory,
+}
+
+/// The shared state of all peers of a seat: one journal of what happened, and for each peer what is stored for it.
+///
+/// In contracts it is a `Broker`: its limits, and its journal with the newest entry first. All else is what the definitions say of these two. After each
+/// step that is taken, each live peer whose message was refused, or whose store had no room for what the step told it, is ended, the one with the lowest
+/// number first. A call costs what the step tells and the live objects, however long the journal is.
+#[derive(Drop)]
+pub struct Shared {
+    state: State,
+    limits: Limits,
+}
+
+impl Model for Shared {
+    ghost use Rattle.broker_core.specs.Broker.{Broker, IsBroker};
+
+    ghost Value = { Broker };
+
+    ghost view = { λ s. record { limits = s.limits; journal = s.state.journal.entries } };
+
+    ghost invariant = { λ s. IsBroker s.limits s.state };
+}
+
+impl Shared {
+    ghost use Rattle.std.specs.Prelude.{◌≡◌, ◌≤◌, ◌+◌, ◌∷◌, ℕ, List, [], length, true, false, option_map, Option, Some, None, Err, IfSome, IfNone, IfOk, OnOk, OnErr, IsOkUnless};
+    ghost use Rattle.std.specs.List.{count_by};
+    ghost use Rattle.relay_core.specs.Stands.{route_told};
+    ghost use Rattle.relay_model.specs.declared.act.EndCause.TheVariants.{Gone};
+    ghost use Rattle.relay_model.specs.Objects.{is_peer};
+    ghost use Rattle.relay_model.specs.Keys.{number_down};
+    ghost use Rattle.session_text.specs.declared.step.Step.TheVariants as steps;
+    ghost use Rattle.session_text.specs.Steps.{IsLimits, IsStep};
+    ghost use Rattle.broker_model.specs.declared.journal.Entry.{Entry};
+    ghost use Rattle.broker_model.specs.declared.journal.Entry.TheVariants as entries;
+    ghost use Rattle.broker_model.specs.Ids.{Joined, log_of, peer_at, number_live};
+    ghost use Rattle.broker_model.specs.Resolve.{past_of, resolve};
+    ghost use Rattle.broker_model.specs.Out.{act_at, out_for, stored};
+    ghost use Rattle.broker_model.specs.Settle.{history, outer, is_due, number_alive};
+    ghost use Rattle.broker_model.specs.Limits.{is_end, weight_of, number_counted, weight};
+    ghost use Rattle.broker_core.specs.declared.taking.Standing.TheVariants.{Alive};
+    ghost use Rattle.broker_core.specs.Ends.{is_end_of};
+    ghost use Rattle.broker_core.specs.Broker.{with_step, full_for, join_refusal, entry_of, refusal_if_full, refusal, IsSaid, IsAccepted, take_refusal, IfBytes, IfNoBytes, IsBytesUnlessMemory};
+    ghost use Rattle.broker_core.specs.Taking.{out_at, standing_of, IsTaken};
+
+    /// Nobody joined yet, and the journal is empty. Asks for limits in their ranges. `NoMemory` is its one error.
+    pub fn new(alloc: Global, limits: Limits) -> Result<Shared, NoMemory>
+        requires limits { IsLimits limits }
+        ensures { IfOk result (λ shared. shared ≡ record { limits = limits; journal = [] }) }
+    {
+        Ok(Shared {
+            state: State::new(alloc, limits.store as usize)?,
+            limits,
+        })
+    }
+
+    /// How many peers joined, alive or not: 0 to the limit of entries. Their numbers go from 1.
+    pub fn peers(&self) -> u32
+        ensures { result ≡ length (past_of self.now.journal).joined }
+    {
+        self.state.labels.len() as u32
+    }
+
+    /// How many bytes are stored for the peer, alive or ended: 0 to the limit of the store. None where no peer has the number.
+    pub fn stored(&self, peer: u32) -> Option<usize>
+        ensures { result ≡ option_map (λ out. length (stored out)) (out_at self.now.limits.store self.now.journal peer) }
+    {
+        self.state.stored(peer)
+    }
+
+    /// The journal. It is the history of its outer steps: after each of them stand the ends that follow from it, and no others. So no live peer has a refused
+    /// last message or was left out of what it is told. At most `MOST_PEERS` peers are alive, each with at most 256 live objects besides its display, at most
+    /// 64 keys are down, no store holds more than its capacity, and the entries are within the limits. No peer ends twice, and there are no more ends
+    /// than peers that joined and aren't alive.
+    pub fn journal(&self) -> &Journal
+        ensures entries { result.now.entries ≡ self.now.journal }
+        ensures history { history self.now.limits.store (outer self.now.journal) ≡ self.now.journal }
+        ensures nobody_is_due { (number : ℕ) (peer : Joined) → peer_at (past_of self.now.journal) number ≡ Some peer → is_due self.now.limits.store self.now.journal number peer ≡ false }
+        ensures few_peers { number_alive self.now.journal ≤ 64 }
+        ensures counted { number_counted self.now.journal ≤ self.now.limits.entries }
+        ensures light { weight self.now.journal ≤ 134217728 }
+        ensures stores { (label : ℕ) → length (stored (out_for self.now.limits.store self.now.journal label)) ≤ self.now.limits.store }
+        ensures few_objects { (number : ℕ) (peer : Joined) → peer_at (past_of self.now.journal) number ≡ Some peer → is_peer (log_of (past_of self.now.journal)) peer.label ≡ true → number_live (past_of self.now.journal) peer.label ≤ 256 }
+        ensures few_keys { number_down (log_of (past_of self.now.journal)) ≤ 64 }
+        ensures ends { length self.now.journal + number_alive self.now.journal ≤ number_counted self.now.journal + length (past_of self.now.journal).joined }
+        ensures one_end { (number : ℕ) → count_by (is_end_of number) self.now.journal ≤ 1 }
+    {
+        &self.state.journal
+    }
+
+    // How much the journal holds, where it is full for an entry that isn't an end and adds so much to its weight.
+    fn full(&self, added: u64) -> Option<Kept>
+        ensures { (e : Entry) → is_end e ≡ false → weight_of e ≡ added → result ≡ full_for self.now e }
+    {
+        let kept = self.state.journal.kept();
+        if self.limits.entries <= kept.entries || added > MOST_WEIGHT - kept.weight {
+            Some(kept)
+        } else {
+            None
+        }
+    }
+
+    // Why no peer can join, if so.
+    fn join_refusal(&self, role: Role) -> Option<JoinRefusal>
+        ensures { result ≡ join_refusal self.now role }
+    {
+        if self.state.audience.live.len() >= MOST_PEERS as usize {
+            return Some(JoinRefusal::TooManyPeers(MOST_PEERS));
+        }
+        let kept = self.full(ENTRY_WEIGHT)?;
+        Some(JoinRefusal::JournalFull(kept))
+    }
+
+    /// A peer joins. Answers its number: how many joined so far.
+    ///
+    /// `TooManyPeers` comes where `MOST_PEERS` are alive, else `JournalFull` where the journal is full for a join, else `NoMemory` may come. After each all is
+    /// as before.
+    pub fn join(&mut self, role: Role) -> Result<u32, JoinRefusal>
+        ensures refused { IfSome (join_refusal self.old role) (λ why. result ≡ Err why) }
+        ensures accepted { IfNone (join_refusal self.old role) (IsOkUnless result JoinRefusal.NoMemory) }
+        ensures ok { OnOk result (self.new ≡ with_step (entries.Join role) self.old) }
+        ensures number { IfOk result (λ number. number ≡ length (past_of self.new.journal).joined) }
+        ensures err { OnErr result (self.new ≡ self.old) }
+    {
+        if let Some(why) = self.join_refusal(role) {
+            return Err(why);
+        }
+        let Ok(number) = self.state.join(role) else {
+            return Err(JoinRefusal::NoMemory);
+        };
+        self.state.settle();
+        Ok(number)
+    }
+
+    // Where the journal is full for a step that adds so much to its weight.
+    fn refusal_if_full(&self, added: u64) -> Option<Refused>
+        ensures { (e : Entry) → is_end e ≡ false → weight_of e ≡ added → result ≡ refusal_if_full self.now e }
+    {
+        let kept = self.full(added)?;
+        Some(Refused::JournalFull(kept))
+    }
+
+    // Why the step of the peer can't be taken, if so.
+    fn peer_refusal(&self, number: u32, step: &PeerStep) -> Option<Refused>
+        requires { IsStep (steps.Peer number step.now) }
+        ensures { result ≡ refusal self.now (steps.Peer number step.now) }
+    {
+        match self.state.standing(number) {
+            Standing::Nobody => Some(Refused::NoPeer),
+            Standing::Over(cause) => Some(Refused::Ended(cause)),
+            Standing::Alive => match step {
+                PeerStep::Message { body, .. } => {
+                    self.refusal_if_full(ENTRY_WEIGHT + body.as_slice().len() as u64)
+                }
+                PeerStep::BadSize { .. } => self.refusal_if_full(ENTRY_WEIGHT),
+                PeerStep::Gone => None,
+            },
+        }
+    }
+
+    // Why the step can't be taken, if so.
+    fn refusal(&self, step: &Step) -> Option<Refused>
+        requires { IsStep step.now }
+        ensures { result ≡ refusal self.now step.now }
+    {
+        match step {
+            Step::Peer(number, step) => self.peer_refusal(*number, step),
+            Step::Join(_) | Step::Shell(_) | Step::Take(..) => self.refusal_if_full(ENTRY_WEIGHT),
+        }
+    }
+
+    // A whole message of a live peer.
+    fn message(&mut self, number: u32, id: u32, opcode: u16, body: &Bytes) -> Result<(), NoMemory>
+        requires live { standing_of self.old.journal number ≡ Alive }
+        requires short { length body.now ≤ 4088 }
+        requires place { full_for self.old (entries.Message number id opcode body.now) ≡ None }
+        ensures ok { OnOk result (self.new ≡ with_step (entries.Message number id opcode body.now) self.old) }
+        ensures err { OnErr result (self.new ≡ self.old) }
+    {
+        self.state.message(number, id, opcode, body)?;
+        self.state.settle();
+        Ok(())
+    }
+
+    // A header with a bad size of a live peer.
+    fn bad_size(&mut self, number: u32, head: [u8; 8]) -> Result<(), NoMemory>
+        requires live { standing_of self.old.journal number ≡ Alive }
+        requires place { full_for self.old (entries.BadSize number head) ≡ None }
+        ensures ok { OnOk result (self.new ≡ with_step (entries.BadSize number head) self.old) }
+        ensures err { OnErr result (self.new ≡ self.old) }
+    {
+        self.state.bad_size(number, head)?;
+        self.state.settle();
+        Ok(())
+    }
+
+    // The link of a live peer ends.
+    fn gone(&mut self, number: u32)
+        requires { standing_of self.old.journal number ≡ Alive }
+        ensures { self.new ≡ with_step (entries.End number Gone) self.old }
+    {
+        self.state.end(number, EndCause::Gone);
+        self.state.settle();
+    }
+
+    // A step of a peer that can be taken.
+    fn peer_step(&mut self, number: u32, step: &PeerStep) -> Result<(), NoMemory>
+        requires step { IsStep (steps.Peer number step.now) }
+        requires accepted { refusal self.old (steps.Peer number step.now) ≡ None }
+        ensures accepted { IsAccepted (record {}) (steps.Peer number step.now) result }
+        ensures ok { OnOk result (self.new ≡ with_step (entry_of (steps.Peer number step.now)) self.old) }
+        ensures err { OnErr result (self.new ≡ self.old) }
+    {
+        match step {
+            PeerStep::Message { id, opcode, body } => self.message(number, *id, *opcode, body),
+            PeerStep::BadSize { head } => self.bad_size(number, *head),
+            PeerStep::Gone => {
+                self.gone(number);
+                Ok(())
+            }
+        }
+    }
+
+    // Something that the shell says. Answers where a key went.
+    fn shell(&mut self, step: &ShellStep) -> Result<Option<Route>, NoMemory>
+        requires place { full_for self.old (entries.Shell step.now) ≡ None }
+        ensures ok { OnOk result (self.new ≡ with_step (entries.Shell step.now) self.old) }
+        ensures route { IfOk result (λ route. route ≡ route_told (act_at (entries.Shell step.now) self.old.journal) (resolve self.old.journal)) }
+        ensures err { OnErr result (self.new ≡ self.old) }
+    {
+        let route = self.state.shell(step)?;
+        self.state.settle();
+        Ok(route)
+    }
+
+    // A step of a peer or of the shell that can be taken.
+    fn enter(&mut self, step: &Step) -> Result<Option<Route>, NoMemory>
+        requires step { IsStep step.now }
+        requires said { IsSaid step.now }
+        requires accepted { refusal self.old step.now ≡ None }
+        ensures accepted { IsAccepted (record {}) step.now result }
+        ensures ok { OnOk result (self.new ≡ with_step (entry_of step.now) self.old) }
+        ensures route { IfOk result (λ route. route ≡ route_told (act_at (entry_of step.now) self.old.journal) (resolve self.old.journal)) }
+        ensures err { OnErr result (self.new ≡ self.old) }
+    {
+        match step {
+            Step::Peer(number, step) => {
+                self.peer_step(*number, step)?;
+                Ok(None)
+            }
+            Step::Shell(step) => self.shell(step),
+            Step::Join(_) | Step::Take(..) => Err(NoMemory),
+        }
+    }
+
+    /// Takes a step of a peer or of the shell. Asks that it is one of these two, and holds only what a line of a session can give.
+    ///
+    /// For a peer's step `NoPeer` comes where no peer has the number, and `Ended` where the peer ended, with the cause. Else `JournalFull` comes where the
+    /// journal is full for the step, else `NoMemory` may come. After each all is as before. The end of a live peer's link is always taken.
+    pub fn apply(&mut self, step: &Step) -> Result<Applied, Refused>
+        requires step { IsStep step.now }
+        requires said { IsSaid step.now }
+        ensures refused { IfSome (refusal self.old step.now) (λ why. result ≡ Err why) }
+        ensures accepted { IfNone (refusal self.old step.now) (IsAccepted Refused.NoMemory step.now result) }
+        ensures ok { OnOk result (self.new ≡ with_step (entry_of step.now) self.old) }
+        ensures entry { IfOk result (λ applied. applied.entry ≡ length self.old.journal + 1) }
+        ensures route { IfOk result (λ applied. applied.route ≡ route_told (act_at (entry_of step.now) self.old.journal) (resolve self.old.journal)) }
+        ensures err { OnErr result (self.new ≡ self.old) }
+    {
+        if let Some(why) = self.refusal(step) {
+            return Err(why);
+        }
+        let entry = self.state.journal.len() + 1;
+        match self.enter(step) {
+            Ok(route) => Ok(Applied { entry, route }),
+            Err(NoMemory) => Err(Refused::NoMemory),
+        }
+    }
+
+    // Why nothing can be taken of what is stored for the peer, if so.
+    fn take_refusal(&self, peer: u32) -> Option<Took>
+        ensures { result ≡ take_refusal self.now peer }
+    {
+        let Some(stored) = self.state.stored(peer) else {
+            return Some(Took::NoPeer);
+        };
+        if stored == 0 {
+            return match self.state.standing(peer) {
+                Standing::Over(_) => Some(Took::Closed),
+                Standing::Alive | Standing::Nobody => Some(Took::Empty),
+            };
+        }
+        let kept = self.full(ENTRY_WEIGHT)?;
+        Some(Took::JournalFull(kept))
+    }
+
+    /// The first bytes that are stored for the peer, alive or ended, go into the buffer, as many as fit, and the tokens whose messages begin in them beside.
+    /// Asks for a buffer of 1 to 4,096 bytes and for 256 places of tokens.
+    ///
+    /// `NoPeer` comes where no peer has the number. Where nothing is stored, `Closed` comes if the peer ended, and else `Empty`. Where something is,
+    /// `JournalFull` comes if the journal is full for a take, else `NoMemory` may come. After each of these all is as before, the buffers too.
+    pub fn take(&mut self, peer: u32, buf: &mut [u8], tokens: &mut [u32]) -> Took
+        requires piece { length buf.old ≤ 4096 }
+        requires some { 1 ≤ length buf.old }
+        requires places { 256 ≤ length tokens.old }
+        ensures refused { IfSome (take_refusal self.old peer) (λ why. result ≡ why) }
+        ensures accepted { IfNone (take_refusal self.old peer) (IsBytesUnlessMemory result) }
+        ensures bytes { IfSome (out_at self.old.limits.store self.old.journal peer) (λ out. IfBytes result (λ counts. IsTaken out self.old.journal peer buf.old tokens.old counts buf.new tokens.new (entries.Took peer counts.0 ∷ self.old.journal))) }
+        ensures settled { IfBytes result (λ counts. self.new ≡ with_step (entries.Took peer counts.0) self.old) }
+        ensures same { IfNoBytes result (self.new ≡ self.old) }
+        ensures same_bytes { IfNoBytes result (buf.new ≡ buf.old) }
+        ensures same_tokens { IfNoBytes result (tokens.new ≡ tokens.old) }
+    {
+        if let Some(why) = self.take_refusal(peer) {
+            return why;
+        }
+        let Ok((bytes, places)) = self.state.take(peer, buf, tokens) else {
+            return Took::NoMemory;
+        };
+        self.state.settle();
+        Took::Bytes(bytes, places)
+    }
+}

@@ -1,0 +1,202 @@
+// What peers and the shell do, as one entry each.
+ghost use Rattle.std.specs.Prelude.{◌≡◌, ◌≤◌, ◌<◌, ◌+◌, ◌++◌, ◌∷◌, [], ℕ, List, map, take, drop, min, length, Option, Some, None, IsSome, IfSome, IfOk, OnOk, OnErr};
+ghost use Rattle.std.specs.List.{slice_get};
+ghost use Rattle.relay_core.specs.Fits.{FitsMessage};
+ghost use Rattle.relay_core.specs.Kept.{IsReserved};
+ghost use Rattle.relay_core.specs.Stands as relay;
+ghost use Rattle.seat_wire.specs.Asked.{IsNamed};
+ghost use Rattle.seat_wire.specs.Meant.{meant};
+ghost use Rattle.broker_model.specs.declared.journal.Entry.TheVariants as entries;
+ghost use Rattle.broker_model.specs.Resolve.{means, past_of, resolve, surface_at};
+ghost use Rattle.broker_model.specs.Ids.{peer_at};
+ghost use Rattle.broker_model.specs.Out.{act_at};
+ghost use Rattle.broker_core.specs.Lives.{number_of};
+ghost use Rattle.broker_core.specs.Stands.{Stands, CanTake};
+ghost use Rattle.broker_core.specs.Transcribed.{Says};
+
+use crate::directory::Named;
+use crate::live::{Live, place_of};
+use crate::state::State;
+use broker_model::Entry;
+use im_objects::DISPLAY_ID;
+use relay_core::Route;
+use relay_model::{Act, Fault, Label, Role};
+use seat_wire::{Meaning, Sender, meaning_of, shell_act};
+use session_text::ShellStep;
+use wio_core::NoMemory;
+use wl_proto::Interface;
+use wl_wire::Bytes;
+
+impl State {
+    // Room for one more entry with this act, and for an end of each peer that is alive after it. All is as before.
+    pub(crate) fn make_room(&mut self, act: &Act) -> Result<(), NoMemory>
+        requires stands { Stands self.old }
+        requires fits { FitsMessage act.now }
+        ensures stands { Stands self.new }
+        ensures journal { self.new.journal.entries ≡ self.old.journal.entries }
+        ensures live { self.new.audience.live ≡ self.old.audience.live }
+        ensures made { self.new.audience.directory.made ≡ self.old.audience.directory.made }
+        ensures placed { self.new.audience.placed ≡ self.old.audience.placed }
+        ensures labels { self.new.labels ≡ self.old.labels }
+        ensures ended { self.new.ended ≡ self.old.ended }
+        ensures capacity { self.new.capacity ≡ self.old.capacity }
+        ensures transcript { self.new.transcript ≡ self.old.transcript }
+        ensures room { OnOk result (length self.old.audience.live.items + 2 ≤ self.new.journal.room) }
+        ensures place { OnOk result (0 < self.new.audience.directory.room) }
+        ensures reserved { OnOk result (IsReserved self.new.relay act.now) }
+    {
+        self.journal.reserve(self.audience.live.len() + 2)?;
+        self.audience.directory.reserve(1)?;
+        self.relay.reserve(act)
+    }
+
+    /// A peer joins. Answers its number.
+    pub(crate) fn join(&mut self, role: Role) -> Result<u32, NoMemory>
+        requires stands { Stands self.old }
+        requires place { CanTake (entries.Join role) self.old.journal.entries }
+        ensures stands { Stands self.new }
+        ensures capacity { self.new.capacity ≡ self.old.capacity }
+        ensures ok { OnOk result (self.new.journal.entries ≡ entries.Join role ∷ self.old.journal.entries) }
+        ensures number { IfOk result (λ number. number ≡ length (past_of self.new.journal.entries).joined) }
+        ensures err { OnErr result (self.new.journal.entries ≡ self.old.journal.entries) }
+        ensures says { (before : List ℕ) → Says before self.old → Says before self.new }
+    {
+        let label = self.journal.len() + 1;
+        let number = self.labels.len() as u32 + 1;
+        self.make_room(&Act::Peer)?;
+        self.audience.live.reserve(1)?;
+        self.labels.reserve(1)?;
+        self.ended.reserve(1)?;
+        let live = Live::new(self.alloc, self.capacity, number, label, role)?;
+        self.audience.directory.push(Named {
+            peer: label,
+            id: DISPLAY_ID,
+            label,
+            interface: Interface::Display,
+        });
+        let _ = self.audience.live.push(live);
+        let _ = self.labels.push(label);
+        let _ = self.ended.push(None);
+        let _ = self.enter(Entry::Join(role), &Act::Peer);
+        Ok(number)
+    }
+
+    // What the message of the peer at the place comes to.
+    fn meaning(&self, place: usize, id: u32, opcode: u16, body: &[u8]) -> Result<Meaning, NoMemory>
+        requires stands { Stands self.now }
+        requires place { place < length self.now.audience.live.items }
+        ensures { IfSome (slice_get self.now.audience.live.items place) (λ l. IfOk result (λ m. meant l.label (length self.now.journal.entries + 1) m ≡ means (entries.Message l.number id opcode body.now) (length self.now.journal.entries + 1) (past_of self.now.journal.entries))) }
+    {
+        let peer = &self.audience.live[place];
+        let sender = Sender {
+            label: peer.label,
+            role: peer.role,
+            table: &peer.table,
+        };
+        meaning_of(self.alloc, &self.relay, &sender, id, opcode, body)
+    }
+
+    /// A live peer sends a whole message.
+    pub(crate) fn message(
+        &mut self,
+        number: u32,
+        id: u32,
+        opcode: u16,
+        body: &Bytes,
+    ) -> Result<(), NoMemory>
+        requires stands { Stands self.old }
+        requires live { IsSome (number_of number self.old.audience.live.items) }
+        requires short { length body.now ≤ 4088 }
+        requires place { CanTake (entries.Message number id opcode body.now) self.old.journal.entries }
+        ensures stands { Stands self.new }
+        ensures capacity { self.new.capacity ≡ self.old.capacity }
+        ensures ok { OnOk result (self.new.journal.entries ≡ entries.Message number id opcode body.now ∷ self.old.journal.entries) }
+        ensures err { OnErr result (self.new.journal.entries ≡ self.old.journal.entries) }
+        ensures says { (before : List ℕ) → Says before self.old → Says before self.new }
+    {
+        let Some(place) = place_of(&self.audience.live, number) else {
+            return Err(NoMemory);
+        };
+        let entry = Entry::Message {
+            peer: number,
+            id,
+            opcode,
+            body: body.copy(self.alloc)?,
+        };
+        let meaning = self.meaning(place, id, opcode, body.as_slice())?;
+        self.make_room(&meaning.act)?;
+        self.audience
+            .change(place, id, self.journal.len() + 1, &meaning)?;
+        let _ = self.enter(entry, &meaning.act);
+        Ok(())
+    }
+
+    /// A live peer sends the header of a message with a bad size.
+    pub(crate) fn bad_size(&mut self, number: u32, head: [u8; 8]) -> Result<(), NoMemory>
+        requires stands { Stands self.old }
+        requires live { IsSome (number_of number self.old.audience.live.items) }
+        requires place { CanTake (entries.BadSize number head) self.old.journal.entries }
+        ensures stands { Stands self.new }
+        ensures capacity { self.new.capacity ≡ self.old.capacity }
+        ensures ok { OnOk result (self.new.journal.entries ≡ entries.BadSize number head ∷ self.old.journal.entries) }
+        ensures err { OnErr result (self.new.journal.entries ≡ self.old.journal.entries) }
+        ensures says { (before : List ℕ) → Says before self.old → Says before self.new }
+    {
+        let Some(place) = place_of(&self.audience.live, number) else {
+            return Err(NoMemory);
+        };
+        let label = self.audience.live[place].label;
+        let act = Act::Bad {
+            peer: label,
+            fault: Fault::Size,
+            object: label,
+        };
+        self.make_room(&act)?;
+        self.audience.live[place].is_refused = true;
+        let _ = self.enter(Entry::BadSize { peer: number, head }, &act);
+        Ok(())
+    }
+
+    // The label of the live surface that the id of the peer names.
+    fn surface_of(&self, number: u32, id: u32) -> Option<Label>
+        requires stands { Stands self.now }
+        ensures { surface_at (past_of self.now.journal.entries) (peer_at (past_of self.now.journal.entries) number) id ≡ result }
+    {
+        let place = place_of(&self.audience.live, number)?;
+        let (interface, label) = self.audience.live[place].table.find(id)?;
+        if interface.name() == Interface::Surface.name() {
+            Some(label)
+        } else {
+            None
+        }
+    }
+
+    // The label of the surface that the step names, where it names a live one.
+    fn surface(&self, step: &ShellStep) -> Option<Label>
+        requires stands { Stands self.now }
+        ensures { IsNamed (past_of self.now.journal.entries) step.now result }
+    {
+        match step {
+            ShellStep::Focus { peer, id } | ShellStep::Area { peer, id, .. } => {
+                self.surface_of(*peer, *id)
+            }
+            _ => None,
+        }
+    }
+
+    /// The shell says something. Answers where a key went, and nothing for any other step.
+    pub(crate) fn shell(&mut self, step: &ShellStep) -> Result<Option<Route>, NoMemory>
+        requires stands { Stands self.old }
+        requires place { CanTake (entries.Shell step.now) self.old.journal.entries }
+        ensures stands { Stands self.new }
+        ensures capacity { self.new.capacity ≡ self.old.capacity }
+        ensures ok { OnOk result (self.new.journal.entries ≡ entries.Shell step.now ∷ self.old.journal.entries) }
+        ensures route { IfOk result (λ route. route ≡ relay.route_told (act_at (entries.Shell step.now) self.old.journal.entries) (resolve self.old.journal.entries)) }
+        ensures err { OnErr result (self.new.journal.entries ≡ self.old.journal.entries) }
+        ensures says { (before : List ℕ) → Says before self.old → Says before self.new }
+    {
+        let act = shell_act(step, self.surface(step));
+        self.make_room(&act)?;
+        Ok(self.enter(Entry::Shell(*step), &act))
+    }
+}

@@ -1,0 +1,156 @@
+// Who is there, and what is taken of what is stored for each.
+ghost use Rattle.std.specs.Prelude.{◌≡◌, ◌≤◌, ◌<◌, ◌-◌, ℕ, ◌++◌, [], List, length, min, take, drop, set, Option, option_map, IsSome, IsSomeAnd, IfSome, IfNone, IfOk, OnErr};
+ghost use Rattle.std.specs.List.{slice_get};
+ghost use Rattle.out_store.specs.Queue.{Queue, queue, bytes_of, tokens_of};
+ghost use Rattle.broker_model.specs.declared.journal.Entry.TheVariants as entries;
+ghost use Rattle.broker_model.specs.Out.{stored};
+ghost use Rattle.broker_core.specs.declared.taking.Standing.TheVariants.{Alive};
+ghost use Rattle.broker_core.specs.Lives.{number_of};
+ghost use Rattle.broker_core.specs.Stands.{Stands, CanTake, store_of};
+ghost use Rattle.broker_core.specs.Transcribed.{Says};
+ghost use Rattle.broker_core.specs.Taking.{out_at, IsTaken, standing_of};
+
+use crate::live::place_of;
+use crate::state::State;
+use broker_model::Entry;
+use out_store::Store;
+use relay_model::{Act, EndCause};
+use wio_core::NoMemory;
+
+/// Whether a peer is there.
+#[derive(Clone, Copy)]
+pub(crate) enum Standing {
+    Nobody,
+    Alive,
+    Over(EndCause),
+}
+
+impl State {
+    /// Whether the peer with the number joined, and is alive.
+    pub(crate) fn standing(&self, number: u32) -> Standing
+        requires stands { Stands self.now }
+        ensures value { result ≡ standing_of self.now.journal.entries number }
+        ensures alive { result ≡ Alive → IsSome (number_of number self.now.audience.live.items) }
+    {
+        if number == 0 || number as usize > self.labels.len() {
+            return Standing::Nobody;
+        }
+        match &self.ended[number as usize - 1] {
+            Some(ended) => Standing::Over(ended.cause),
+            None => Standing::Alive,
+        }
+    }
+
+    /// How many bytes are stored for the peer, alive or ended; nothing where none joined with the number.
+    pub(crate) fn stored(&self, number: u32) -> Option<usize>
+        requires stands { Stands self.now }
+        ensures value { result ≡ option_map (λ out. length (stored out)) (out_at self.now.capacity self.now.journal.entries number) }
+    {
+        if number == 0 || number as usize > self.labels.len() {
+            return None;
+        }
+        match &self.ended[number as usize - 1] {
+            Some(ended) => match &ended.store {
+                Some(store) => Some(store.len()),
+                None => Some(0),
+            },
+            None => {
+                let place = place_of(&self.audience.live, number)?;
+                Some(self.audience.live[place].store.len())
+            }
+        }
+    }
+
+    /// The first bytes that are stored for the peer, alive or ended, go into the buffer, as many as fit, and the tokens whose messages begin in them beside. Answers
+    /// how many of each.
+    pub(crate) fn take(
+        &mut self,
+        number: u32,
+        buf: &mut [u8],
+        tokens: &mut [u32],
+    ) -> Result<(usize, usize), NoMemory>
+        requires stands { Stands self.old }
+        requires piece { length buf.old ≤ 4096 }
+        requires places { 256 ≤ length tokens.old }
+        requires joined { IsSome (out_at self.old.capacity self.old.journal.entries number) }
+        requires place { CanTake (entries.Took number 0) self.old.journal.entries }
+        ensures stands { Stands self.new }
+        ensures capacity { self.new.capacity ≡ self.old.capacity }
+        ensures ok { IfSome (out_at self.old.capacity self.old.journal.entries number) (λ out. IfOk result (λ counts. IsTaken out self.old.journal.entries number buf.old tokens.old counts buf.new tokens.new self.new.journal.entries)) }
+        ensures err { OnErr result (self.new.journal.entries ≡ self.old.journal.entries) }
+        ensures says { (before : List ℕ) → Says before self.old → Says before self.new }
+        ensures err_bytes { OnErr result (buf.new ≡ buf.old) }
+        ensures err_tokens { OnErr result (tokens.new ≡ tokens.old) }
+    {
+        let peer = self.labels[number as usize - 1];
+        self.make_room(&Act::Took { peer, bytes: 0 })?;
+        let counts = self.take_from(number, buf, tokens);
+        let bytes = counts.0 as u32;
+        let _ = self.enter(
+            Entry::Took {
+                peer: number,
+                bytes,
+            },
+            &Act::Took { peer, bytes },
+        );
+        Ok(counts)
+    }
+
+    // Takes from the peer's store, which is `store` before; an ended peer's is given back once it is empty.
+    fn take_from(&mut self, number: u32, buf: &mut [u8], tokens: &mut [u32]) -> (usize, usize)
+        ghost store: { Queue }
+        requires piece { length buf.old ≤ 4096 }
+        requires places { 256 ≤ length tokens.old }
+        requires number { 0 < number }
+        requires live { IfSome (number_of number self.old.audience.live.items) (λ l. l.store ≡ store) }
+        requires left { IfNone (number_of number self.old.audience.live.items) (IsSomeAnd (slice_get self.old.ended.items (number - 1)) (λ e. IsSomeAnd e (λ was. store_of store.capacity was.store ≡ store))) }
+        ensures count { result.0 ≡ min (length buf.old) (length store.cells) }
+        ensures bytes { buf.new ≡ bytes_of (take result.0 store.cells) ++ drop result.0 buf.old }
+        ensures token_count { result.1 ≡ length (tokens_of (take result.0 store.cells)) }
+        ensures tokens { tokens.new ≡ tokens_of (take result.0 store.cells) ++ drop result.1 tokens.old }
+        ensures live { IfSome (number_of number self.old.audience.live.items) (λ l. (place : ℕ) × (slice_get self.old.audience.live.items place ≡ Some l) × (self.new.audience.live.items ≡ set self.old.audience.live.items place (record l { store = queue (drop result.0 store.cells) store.capacity }))) }
+        ensures ended { IfSome (number_of number self.old.audience.live.items) (λ l. self.new.ended.items ≡ self.old.ended.items) }
+        ensures left { IfNone (number_of number self.old.audience.live.items) (IfSome (slice_get self.old.ended.items (number - 1)) (λ e. IfSome e (λ was. (rest : Option Queue) × (store_of store.capacity rest ≡ queue (drop result.0 store.cells) store.capacity) × IfSome rest (λ stays. ¬ (stays.cells ≡ [])) × (self.new.ended.items ≡ set self.old.ended.items (number - 1) (Some (record { cause = was.cause; store = rest })))))) }
+        ensures others { IfNone (number_of number self.old.audience.live.items) (self.new.audience.live.items ≡ self.old.audience.live.items) }
+        ensures directory { self.new.audience.directory ≡ self.old.audience.directory }
+        ensures placed { self.new.audience.placed ≡ self.old.audience.placed }
+        ensures relay { self.new.relay ≡ self.old.relay }
+        ensures transcript { self.new.transcript ≡ self.old.transcript }
+        ensures journal { self.new.journal ≡ self.old.journal }
+        ensures labels { self.new.labels ≡ self.old.labels }
+        ensures capacity { self.new.capacity ≡ self.old.capacity }
+    {
+        if let Some(place) = place_of(&self.audience.live, number) {
+            return self.audience.live[place].store.take(buf, tokens);
+        }
+        match &mut self.ended[number as usize - 1] {
+            Some(ended) => take_rest(&mut ended.store, buf, tokens),
+            None => (0, 0),
+        }
+    }
+}
+
+// Takes from what stays of a store, which comes to `store` before. Nothing stays once it is empty.
+fn take_rest(rest: &mut Option<Store>, buf: &mut [u8], tokens: &mut [u32]) -> (usize, usize)
+    ghost store: { Queue }
+    requires piece { length buf.old ≤ 4096 }
+    requires places { 256 ≤ length tokens.old }
+    requires rest { store_of store.capacity rest.old ≡ store }
+    ensures count { result.0 ≡ min (length buf.old) (length store.cells) }
+    ensures bytes { buf.new ≡ bytes_of (take result.0 store.cells) ++ drop result.0 buf.old }
+    ensures token_count { result.1 ≡ length (tokens_of (take result.0 store.cells)) }
+    ensures tokens { tokens.new ≡ tokens_of (take result.0 store.cells) ++ drop result.1 tokens.old }
+    ensures rest { store_of store.capacity rest.new ≡ queue (drop result.0 store.cells) store.capacity }
+    ensures given_back { IfSome rest.new (λ stays. ¬ (stays.cells ≡ [])) }
+{
+    match rest {
+        Some(store) => {
+            let counts = store.take(buf, tokens);
+            if store.is_empty() {
+                *rest = None;
+            }
+            counts
+        }
+        None => (0, 0),
+    }
+}

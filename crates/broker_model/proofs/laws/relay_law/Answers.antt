@@ -1,0 +1,20 @@
+use Rattle.broker_model.specs.Settle.{history}
+use Rattle.broker_model.proofs.Settling.{IsSettled, history_settled}
+use Rattle.broker_model.proofs.Queues.{relay_law}
+use Rattle.broker_model.proofs.Quiet.{stores_hold}
+use Rattle.broker_model.proofs.Whole.{whole_groups}
+use Rattle.broker_model.proofs.laws.relay_law.Goals as goal
+
+pub returns-clause-law : goal.returns-clause-law
+returns-clause-law c = relay_law
+
+pub returns-clause-whole_groups : goal.returns-clause-whole_groups
+returns-clause-whole_groups c = whole_groups
+
+pub returns-clause-nobody_is_due : goal.returns-clause-nobody_is_due
+returns-clause-nobody_is_due c = λ capacity steps q peer e.
+    let s : IsSettled capacity (history capacity steps) = history_settled capacity steps in
+    s.nobody q peer e
+
+pub returns-clause-stores_hold : goal.returns-clause-stores_hold
+returns-clause-stores_hold c = stores_hold

@@ -1,0 +1,15 @@
+pub mod Ids
+pub mod Requests
+pub mod Refusals
+pub mod Resolve
+pub mod Groups
+pub mod Out
+pub mod Tables
+pub mod Settle
+pub mod Queued
+pub mod Limits
+pub mod Recorded
+pub mod Law
+pub mod Rows
+pub mod BaseRows
+pub mod Stored

@@ -1,0 +1,39 @@
+// The worked rows, which the definitions compute.
+ghost use Rattle.broker_model.specs.Rows.{RegistryIsMade, GlobalsAreTold, NothingNamed, SizeIsBad, IdIsTaken, IdIsUsedAgain, PointerIsMissing, SeatIsWrong, OpcodeIsUnknown, BodyIsMalformed, IdIsTheServers, GlobalIsNotOffered, SyncIsAnswered, StoreIsFull, RefusedEnds};
+ghost use Rattle.broker_model.specs.BaseRows.{BaseActs, BatchIsQueued, BatchIsTold, NobodyEnds, AllIsOut, MethodIsTold, LastByteFits, OneByteTooMany, TakenMakesRoom, EndsFollow, BatchIsLeftOut, TokenIsPlaced, SurfaceHasARole};
+
+/// What the definitions make of small sessions is what was worked out by hand.
+pub fn small_sessions()
+    ensures registry_is_made { RegistryIsMade }
+    ensures globals_are_told { GlobalsAreTold }
+    ensures nothing_named { NothingNamed }
+    ensures size_is_bad { SizeIsBad }
+    ensures id_is_taken { IdIsTaken }
+    ensures id_is_used_again { IdIsUsedAgain }
+    ensures pointer_is_missing { PointerIsMissing }
+    ensures seat_is_wrong { SeatIsWrong }
+    ensures opcode_is_unknown { OpcodeIsUnknown }
+    ensures body_is_malformed { BodyIsMalformed }
+    ensures id_is_the_servers { IdIsTheServers }
+    ensures global_is_not_offered { GlobalIsNotOffered }
+    ensures sync_is_answered { SyncIsAnswered }
+    ensures store_is_full { StoreIsFull }
+    ensures refused_ends { RefusedEnds }
+{}
+
+/// The same of the base session: an application and an input method, a text that is committed, and one whole batch.
+pub fn base_session()
+    ensures base_acts { BaseActs }
+    ensures batch_is_queued { BatchIsQueued }
+    ensures batch_is_told { BatchIsTold }
+    ensures nobody_ends { NobodyEnds }
+    ensures all_is_out { AllIsOut }
+    ensures method_is_told { MethodIsTold }
+    ensures last_byte_fits { LastByteFits }
+    ensures one_byte_too_many { OneByteTooMany }
+    ensures taken_makes_room { TakenMakesRoom }
+    ensures ends_follow { EndsFollow }
+    ensures batch_is_left_out { BatchIsLeftOut }
+    ensures token_is_placed { TokenIsPlaced }
+    ensures surface_has_a_role { SurfaceHasARole }
+{}

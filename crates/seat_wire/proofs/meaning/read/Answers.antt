@@ -1,0 +1,9 @@
+use Rattle.std.proofs.Common.{arith}
+use Rattle.wl_proto.specs.Rows.{request_message, request_kinds}
+use Rattle.wl_proto.specs.Reading.{request_reading}
+use Rattle.seat_wire.proofs.Readings.{gives}
+use Rattle.seat_wire.proofs.meaning.read.Goals as goal
+
+pub returns : goal.returns
+unfolding request_reading
+returns c = gives request_message (request_kinds c.args.interface c.args.opcode) c.args.interface c.args.opcode _ _ _ (λ i. omega (arith, c.type_inv.body i)) c.read_request.ensures

@@ -1,0 +1,15 @@
+// What a message of a peer comes to on the seat, and what is told as an event of the wire.
+#![tactic(auto)]
+
+mod acts;
+mod events;
+mod meaning;
+mod requests;
+
+pub use acts::shell_act;
+pub use events::{event_of, named, token_of};
+pub use meaning::{Meaning, Sender, meaning_of};
+pub use requests::Argument;
+
+#[cfg(test)]
+mod tests;
