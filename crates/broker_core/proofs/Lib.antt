@@ -1,4 +1,3 @@
-pub mod Gathered
 pub mod MessageLengths
 pub mod Pieces
 pub mod Hearing
@@ -28,10 +27,6 @@ pub mod Entering
 pub mod ReadyEnds
 pub mod ReadySpoken
 pub mod Readies
-pub mod Changing
-pub mod Labelled
-pub mod Numbered
-pub mod Overhearing
 pub mod Reachings
 pub mod ReadyJoins
 pub mod ReadyTakes
@@ -47,7 +42,6 @@ pub mod Refusing
 pub mod Routes
 pub mod Waiting
 pub mod Takes
-pub mod Writing
 pub mod Shown
 pub mod ShellTexts
 pub mod Popups

@@ -5,13 +5,13 @@ use Rattle.std.specs.Global.{Vec}
 use Rattle.relay_model.specs.declared.said.Told.{Told}
 use Rattle.relay_core.specs.Reached.{Reached}
 use Rattle.broker_model.specs.Ids.{Made}
-use Rattle.broker_core.specs.declared.audience.Audience.{Audience}
-use Rattle.broker_core.specs.declared.audience.Placing.{Placing}
-use Rattle.broker_core.specs.declared.live.Live.{Live}
-use Rattle.broker_core.specs.Directed.{Directed}
-use Rattle.broker_core.specs.Lives.{cleared, delivered, listens, has_heard, told_all}
-use Rattle.broker_core.specs.Tells.{IsShort, IsNoted, Tells, placing}
-use Rattle.broker_core.proofs.Overhearing.{nothing_noted}
+use Rattle.seat_audience.specs.declared.audience.Audience.{Audience}
+use Rattle.seat_audience.specs.declared.audience.Placing.{Placing}
+use Rattle.seat_audience.specs.declared.live.Live.{Live}
+use Rattle.seat_audience.specs.Directed.{Directed}
+use Rattle.seat_audience.specs.Lives.{cleared, delivered, listens, has_heard, told_all}
+use Rattle.seat_audience.specs.Tells.{IsShort, IsNoted, Tells, placing}
+use Rattle.seat_audience.proofs.Overhearing.{nothing_noted}
 
 -- the places of popups that are told
 abbrev pub places : List Told → List Placing

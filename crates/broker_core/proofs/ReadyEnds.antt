@@ -18,10 +18,10 @@ use Rattle.broker_model.specs.Resolve.{of_peer, only, past_of, resolve}
 use Rattle.broker_model.specs.Out.{act_at, out_for}
 use Rattle.broker_model.proofs.Settling.{end_act}
 use Rattle.broker_model.proofs.Numbers.{label_within}
-use Rattle.broker_core.specs.declared.live.Live.{Live}
+use Rattle.seat_audience.specs.declared.live.Live.{Live}
 use Rattle.broker_core.specs.declared.state.State.{State}
 use Rattle.broker_core.specs.declared.state.Ended.{Ended}
-use Rattle.broker_core.specs.Lives.{Numbered, is_number, number_of, who}
+use Rattle.seat_audience.specs.Lives.{Numbered, is_number, number_of, who}
 use Rattle.broker_core.specs.Stands.{Holds, IsKept, Stands, AreLeft, IsLive, IsReady, Ready, IsReadyFor, store_of}
 use Rattle.broker_core.proofs.Calls.{calls_other}
 use Rattle.broker_core.proofs.Deaf.{quiet}

@@ -15,7 +15,7 @@ use Rattle.broker_model.specs.Out.{act_at}
 use Rattle.broker_model.specs.Limits.{is_counted, number_counted}
 use Rattle.broker_core.specs.declared.state.Ended.{Ended}
 use Rattle.broker_core.specs.declared.state.State.{State}
-use Rattle.broker_core.specs.Lives.{who}
+use Rattle.seat_audience.specs.Lives.{who}
 use Rattle.broker_core.specs.Stands.{CanTake, Stands, AreLeft, IsReady, Ready, IsReadyFor}
 use Rattle.broker_core.proofs.Deaf.{quiet}
 use Rattle.broker_core.proofs.Lefts.{IsSpoken, left_plain}

@@ -24,10 +24,10 @@ use Rattle.broker_model.specs.Limits.{number_counted}
 use Rattle.broker_model.proofs.Numbers.{label_within}
 use Rattle.broker_model.proofs.Stored.{length_out, take_cells}
 use Rattle.broker_model.proofs.Taken.{bytes_out}
-use Rattle.broker_core.specs.declared.live.Live.{Live}
+use Rattle.seat_audience.specs.declared.live.Live.{Live}
 use Rattle.broker_core.specs.declared.state.State.{State}
 use Rattle.broker_core.specs.declared.state.Ended.{Ended}
-use Rattle.broker_core.specs.Lives.{number_of, who, AreAbove}
+use Rattle.seat_audience.specs.Lives.{number_of, who, AreAbove}
 use Rattle.broker_core.specs.Stands.{Holds, IsKept, Stands, AreLeft, IsLive, IsReady, IsLeft, CanTake, Ready, IsReadyFor, store_of}
 use Rattle.broker_core.proofs.Calls.{calls_other}
 use Rattle.broker_core.proofs.Deaf.{quiet}

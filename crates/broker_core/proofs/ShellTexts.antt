@@ -18,9 +18,10 @@ use Rattle.relay_core.proofs.Board.{refused_goes}
 use Rattle.broker_model.specs.Ids.{Made, made_as}
 use Rattle.broker_model.specs.Groups.{id_of}
 use Rattle.session_text.specs.Transcript.{placed_line}
-use Rattle.broker_core.specs.Lives.{Numbered}
-use Rattle.broker_core.specs.Tells.{placing}
-use Rattle.broker_core.specs.Transcribed.{with_feed, number_at, maker, shell_text, place_text, key_text, passed_text}
+use Rattle.seat_audience.specs.Lives.{Numbered}
+use Rattle.seat_audience.specs.Tells.{placing}
+use Rattle.seat_audience.specs.Written.{with_feed, number_at, maker, place_text, key_text, passed_text}
+use Rattle.broker_core.specs.Transcribed.{shell_text}
 use Rattle.broker_core.proofs.Each.{either_way}
 use Rattle.broker_core.proofs.Reachings.{places}
 use Rattle.broker_core.proofs.Shown.{IsShown, AreShown, IsNoKey, method_shown, all_shown}

@@ -12,13 +12,14 @@ use Rattle.broker_model.specs.Groups.{Piece, nothing, group_for}
 use Rattle.broker_model.specs.Out.{Outgoing, fits, with_group, act_at, group_at, before_group, out_for}
 use Rattle.broker_model.specs.Stored.{AreSpaced}
 use Rattle.broker_model.proofs.Stored.{spaced_out}
-use Rattle.broker_core.specs.declared.live.Live.{Live}
+use Rattle.seat_audience.specs.declared.live.Live.{Live}
 use Rattle.broker_core.specs.declared.state.State.{State}
-use Rattle.broker_core.specs.Gathered.{empty}
-use Rattle.broker_core.specs.Heard.{heard}
-use Rattle.broker_core.specs.Lives.{Numbered, who, cleared, has_heard, has_room, told_all}
+use Rattle.seat_audience.specs.Gathered.{empty}
+use Rattle.seat_audience.specs.Heard.{heard}
+use Rattle.seat_audience.specs.Lives.{Numbered, who, cleared, has_heard, has_room, told_all}
 use Rattle.broker_core.specs.Stands.{Holds, IsReady, IsReadyFor, numbered, is_alive, roster}
-use Rattle.broker_core.specs.Transcribed.{group_text, head_text, out_text, entry_text, journal_text, Says, IsWritten, gathered_text, place_text, passed_text, told_text}
+use Rattle.seat_audience.specs.Written.{group_text, head_text, IsWritten, gathered_text, place_text, passed_text, told_text}
+use Rattle.broker_core.specs.Transcribed.{out_text, entry_text, journal_text, Says}
 use Rattle.broker_core.proofs.Ended.{dead_told}
 use Rattle.broker_core.proofs.Filtered.{all_then}
 use Rattle.broker_core.proofs.Hearing.{IsGathered, gathered_all}
@@ -27,7 +28,7 @@ use Rattle.broker_core.proofs.Reachings.{places}
 use Rattle.broker_core.proofs.Roster.{IsAt, numbered_at}
 use Rattle.broker_core.proofs.ShellTexts.{shell_lines}
 use Rattle.broker_core.proofs.Telling.{IsPut, put_all}
-use Rattle.broker_core.proofs.Writing.{Kept}
+use Rattle.seat_audience.proofs.Writing.{Kept}
 
 -- a live peer's line
 

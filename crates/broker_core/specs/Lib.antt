@@ -1,10 +1,4 @@
-pub mod Gathered
-pub mod Directed
-pub mod Heard
-pub mod Lives
-pub mod Tells
 pub mod Stands
-pub mod Changes
 pub mod Transcribed
 pub mod Played
 pub mod Taking

@@ -18,10 +18,10 @@ use Rattle.broker_model.specs.Settle.{refused}
 use Rattle.broker_model.specs.Tables.{calls_for}
 use Rattle.broker_model.specs.Stored.{cells_out}
 use Rattle.broker_model.specs.Limits.{is_end, number_counted, weight_of, weight}
-use Rattle.broker_core.specs.declared.live.Live.{Live}
+use Rattle.seat_audience.specs.declared.live.Live.{Live}
 use Rattle.broker_core.specs.declared.state.Ended.{Ended}
 use Rattle.broker_core.specs.declared.state.State.{State}
-use Rattle.broker_core.specs.Lives.{Numbered, who}
+use Rattle.seat_audience.specs.Lives.{Numbered, who}
 
 -- why the peer with the number q ended, if it did
 abbrev pub end_of : List Entry → ℕ → Option EndCause

@@ -1,18 +1,14 @@
 // The shared state of all peers of a seat: one journal, and for each peer what is stored for it.
 #![tactic(auto)]
 
-mod audience;
-mod changes;
-mod directory;
-mod gathering;
-mod live;
 mod player;
 mod reading;
 mod shared;
 mod state;
 mod steps;
 mod taking;
-mod transcript;
+#[cfg(test)]
+mod tests;
 
 pub use broker_model::{Entry, Journal, Kept};
 pub use player::{PlayEnd, Player};

@@ -1,6 +1,6 @@
 // A session that is played line by line.
 use crate::reading::{First, behind, first_message, head_of, header_of};
-use crate::shared::MOST_PEERS;
+use crate::shared::{ENTRY_WEIGHT, MOST_PEERS, MOST_WEIGHT};
 use crate::state::State;
 use crate::taking::Standing;
 use broker_model::Kept;
@@ -10,12 +10,6 @@ use std::alloc::{AllocError, AllocFailed, Global};
 use std::marker::Model;
 use wio_core::NoMemory;
 use wl_wire::Bytes;
-
-// The most that a journal weighs.
-const MOST_WEIGHT: u64 = 134_217_728;
-
-// What an entry that isn't an end weighs, without the body of a message.
-const ENTRY_WEIGHT: u64 = 16;
 
 /// Where a session's line couldn't be played to its end. The text is what was written before.
 #[derive(Debug, Drop)]

@@ -14,10 +14,10 @@ use wl_wire::Bytes;
 pub const MOST_PEERS: u32 = 64;
 
 // The most that a journal weighs.
-const MOST_WEIGHT: u64 = 134_217_728;
+pub(crate) const MOST_WEIGHT: u64 = 134_217_728;
 
 // What an entry that isn't an end weighs, without the body of a message.
-const ENTRY_WEIGHT: u64 = 16;
+pub(crate) const ENTRY_WEIGHT: u64 = 16;
 
 /// Why no peer joined.
 #[derive(Clone, Copy, Debug, PartialEq, Eq)]

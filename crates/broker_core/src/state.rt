@@ -9,19 +9,19 @@ ghost use Rattle.broker_model.specs.declared.journal.Entry.TheVariants as entrie
 ghost use Rattle.broker_model.specs.Settle.{settle};
 ghost use Rattle.broker_model.specs.Resolve.{past_of, resolve};
 ghost use Rattle.broker_model.specs.Out.{act_at};
-ghost use Rattle.broker_core.specs.Lives.{cleared, has_heard, told_all, number_of};
-ghost use Rattle.broker_core.specs.Stands.{Stands, IsReadyFor};
-ghost use Rattle.broker_core.specs.Tells.{IsShort, placing};
-ghost use Rattle.broker_core.specs.Transcribed.{Says, IsWritten, told_text};
+ghost use Rattle.seat_audience.specs.Lives.{cleared, has_heard, told_all, number_of};
+ghost use Rattle.broker_core.specs.Stands.{Stands, IsReadyFor, store_of};
+ghost use Rattle.seat_audience.specs.Tells.{IsShort, placing};
+ghost use Rattle.seat_audience.specs.Written.{IsWritten, told_text};
+ghost use Rattle.broker_core.specs.Transcribed.{Says};
 
-use crate::audience::Audience;
-use crate::directory::Directory;
-use crate::live::{clear, deliver, due, kept, take_away};
-use crate::transcript::{no_places, write_head, write_told};
 use broker_model::{Entry, Journal};
 use out_store::Store;
 use relay_core::{Relay, Route};
 use relay_model::{Act, EndCause, Label};
+use seat_audience::{
+    Audience, Directory, clear, deliver, due, no_places, take_away, write_head, write_told,
+};
 use std::alloc::Global;
 use wio_core::NoMemory;
 
@@ -31,6 +31,13 @@ pub(crate) struct Ended {
     pub cause: EndCause,
     /// Nothing once all that was stored is taken.
     pub store: Option<Store>,
+}
+
+// What stays of a store: nothing where it is empty.
+fn kept(store: Store) -> Option<Store>
+    ensures { store_of store.capacity result ≡ store }
+{
+    if store.is_empty() { None } else { Some(store) }
 }
 
 /// All that is kept beside the journal is what the journal comes to: `StandsFor` says how.

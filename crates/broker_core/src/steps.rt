@@ -10,17 +10,16 @@ ghost use Rattle.broker_model.specs.declared.journal.Entry.TheVariants as entrie
 ghost use Rattle.broker_model.specs.Resolve.{means, past_of, resolve, surface_at};
 ghost use Rattle.broker_model.specs.Ids.{peer_at};
 ghost use Rattle.broker_model.specs.Out.{act_at};
-ghost use Rattle.broker_core.specs.Lives.{number_of};
+ghost use Rattle.seat_audience.specs.Lives.{number_of};
 ghost use Rattle.broker_core.specs.Stands.{Stands, CanTake};
 ghost use Rattle.broker_core.specs.Transcribed.{Says};
 
-use crate::directory::Named;
-use crate::live::{Live, place_of};
 use crate::state::State;
 use broker_model::Entry;
 use im_objects::DISPLAY_ID;
 use relay_core::Route;
 use relay_model::{Act, Fault, Label, Role};
+use seat_audience::{Live, Named, place_of};
 use seat_wire::{Meaning, Sender, meaning_of, shell_act};
 use session_text::ShellStep;
 use wio_core::NoMemory;

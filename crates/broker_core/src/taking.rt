@@ -5,16 +5,16 @@ ghost use Rattle.out_store.specs.Queue.{Queue, queue, bytes_of, tokens_of};
 ghost use Rattle.broker_model.specs.declared.journal.Entry.TheVariants as entries;
 ghost use Rattle.broker_model.specs.Out.{stored};
 ghost use Rattle.broker_core.specs.declared.taking.Standing.TheVariants.{Alive};
-ghost use Rattle.broker_core.specs.Lives.{number_of};
+ghost use Rattle.seat_audience.specs.Lives.{number_of};
 ghost use Rattle.broker_core.specs.Stands.{Stands, CanTake, store_of};
 ghost use Rattle.broker_core.specs.Transcribed.{Says};
 ghost use Rattle.broker_core.specs.Taking.{out_at, IsTaken, standing_of};
 
-use crate::live::place_of;
 use crate::state::State;
 use broker_model::Entry;
 use out_store::Store;
 use relay_model::{Act, EndCause};
+use seat_audience::place_of;
 use wio_core::NoMemory;
 
 /// Whether a peer is there.

@@ -3,6 +3,8 @@
 
 mod act_list;
 mod command;
+#[cfg(test)]
+mod fault_tests;
 mod last_line;
 mod lines;
 mod printer;

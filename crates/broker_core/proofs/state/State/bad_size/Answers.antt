@@ -5,7 +5,7 @@ use Rattle.relay_model.specs.declared.act.Act.TheVariants as acts
 use Rattle.relay_model.specs.declared.fault.Fault.TheVariants as faults
 use Rattle.relay_core.specs.Kept.{IsReserved}
 use Rattle.broker_model.specs.declared.journal.Entry.TheVariants as entries
-use Rattle.broker_core.specs.declared.live.Live.{Live}
+use Rattle.seat_audience.specs.declared.live.Live.{Live}
 use Rattle.broker_core.specs.declared.state.State.{State}
 use Rattle.broker_core.specs.Stands.{CanTake}
 use Rattle.broker_core.proofs.Searching.{IsFoundAt, found_at, one_found}

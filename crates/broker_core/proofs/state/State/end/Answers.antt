@@ -3,7 +3,7 @@ use Rattle.std.proofs.lemmas.Grind.{common_steps}
 use Rattle.broker_model.specs.Ids.{peer_at}
 use Rattle.broker_model.specs.Resolve.{past_of}
 use Rattle.broker_model.proofs.Settling.{end_act}
-use Rattle.broker_core.specs.Lives.{number_of}
+use Rattle.seat_audience.specs.Lives.{number_of}
 use Rattle.broker_core.proofs.ReadyEnds.{place_in_joined, ready_end}
 use Rattle.broker_core.proofs.Roster.{at_number, rising}
 use Rattle.broker_core.proofs.state.State.end.Goals as goal

@@ -6,11 +6,12 @@ use Rattle.relay_core.specs.Stands as relay
 use Rattle.broker_model.specs.Resolve.{resolve}
 use Rattle.broker_model.specs.Out.{act_at}
 use Rattle.broker_core.specs.declared.state.State.{State}
-use Rattle.broker_core.specs.Lives.{cleared, has_heard, told_all}
-use Rattle.broker_core.specs.Tells.{IsShort}
-use Rattle.broker_core.specs.Transcribed.{head_text, entry_text, IsWritten, told_text}
+use Rattle.seat_audience.specs.Lives.{cleared, has_heard, told_all}
+use Rattle.seat_audience.specs.Tells.{IsShort}
+use Rattle.seat_audience.specs.Written.{head_text, IsWritten, told_text}
+use Rattle.broker_core.specs.Transcribed.{entry_text}
 use Rattle.broker_core.proofs.Reachings.{places}
-use Rattle.broker_core.proofs.Writing.{both_written}
+use Rattle.seat_audience.proofs.Writing.{both_written}
 use Rattle.broker_core.proofs.Transcripts.{told_lines, says_more}
 use Rattle.broker_core.proofs.Entering.{acts_few, short_told, stands_entered}
 use Rattle.broker_core.proofs.state.State.enter.Goals as goal

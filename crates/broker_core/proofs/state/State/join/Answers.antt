@@ -6,8 +6,8 @@ use Rattle.broker_model.specs.declared.journal.Entry.TheVariants as entries
 use Rattle.broker_model.specs.Ids.{Joined}
 use Rattle.broker_model.specs.Resolve.{past_of}
 use Rattle.broker_core.specs.declared.state.State.{State}
-use Rattle.broker_core.specs.Changes.{IsNewcomer}
-use Rattle.broker_core.specs.Directed.{IsNewest}
+use Rattle.seat_audience.specs.Changes.{IsNewcomer}
+use Rattle.seat_audience.specs.Directed.{IsNewest}
 use Rattle.broker_core.specs.Stands.{CanTake}
 use Rattle.broker_core.proofs.ReadyJoins.{ready_join}
 use Rattle.broker_core.proofs.Unused.{newest}

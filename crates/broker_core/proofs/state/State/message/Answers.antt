@@ -9,11 +9,11 @@ use Rattle.seat_wire.specs.Meant.{meant}
 use Rattle.broker_model.specs.declared.journal.Entry.{Entry}
 use Rattle.broker_model.specs.declared.journal.Entry.TheVariants as entries
 use Rattle.broker_model.specs.Resolve.{means, made_new, past_of}
-use Rattle.broker_core.specs.declared.live.Live.{Live}
+use Rattle.seat_audience.specs.declared.live.Live.{Live}
 use Rattle.broker_core.specs.declared.state.State.{State}
-use Rattle.broker_core.specs.Changes.{IsChanged}
-use Rattle.broker_core.specs.Directed.{IsNewest}
-use Rattle.broker_core.specs.Lives.{number_of}
+use Rattle.seat_audience.specs.Changes.{IsChanged}
+use Rattle.seat_audience.specs.Directed.{IsNewest}
+use Rattle.seat_audience.specs.Lives.{number_of}
 use Rattle.broker_core.specs.Stands.{CanTake, IsLive, Ready}
 use Rattle.broker_core.proofs.Fitting.{act_fits}
 use Rattle.broker_core.proofs.ReadyEnds.{of_number}

@@ -5,14 +5,14 @@ use Rattle.std.specs.Vec.{with_items}
 use Rattle.relay_model.specs.declared.act.Act.{Act}
 use Rattle.relay_model.specs.Told.{told}
 use Rattle.relay_core.specs.Stands as relay
-use Rattle.broker_core.specs.declared.audience.Audience.{Audience}
-use Rattle.broker_core.specs.declared.live.Live.{Live}
-use Rattle.broker_core.specs.Directed.{Directed}
-use Rattle.broker_core.specs.Lives.{cleared, delivered, has_heard}
-use Rattle.broker_core.specs.Tells.{IsShort}
-use Rattle.broker_core.specs.Transcribed.{IsWritten, told_text}
+use Rattle.seat_audience.specs.declared.audience.Audience.{Audience}
+use Rattle.seat_audience.specs.declared.live.Live.{Live}
+use Rattle.seat_audience.specs.Directed.{Directed}
+use Rattle.seat_audience.specs.Lives.{cleared, delivered, has_heard}
+use Rattle.seat_audience.specs.Tells.{IsShort}
+use Rattle.seat_audience.specs.Written.{IsWritten, told_text}
 use Rattle.broker_core.proofs.Reachings.{places, AllTold, all_told, delivered_all}
-use Rattle.broker_core.proofs.Writing.{noted_told}
+use Rattle.seat_audience.proofs.Writing.{noted_told}
 use Rattle.broker_core.proofs.state.State.play.Goals as goal
 
 -- all who are told, with nothing gathered

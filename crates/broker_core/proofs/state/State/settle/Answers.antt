@@ -1,5 +1,5 @@
 use Rattle.std.proofs.Common.{◌≡◌, Some, IsSome, subst, sym, refl, ◌∙◌, ap, arith}
-use Rattle.broker_core.specs.Changes.{first_due}
+use Rattle.seat_audience.specs.Changes.{first_due}
 use Rattle.broker_core.proofs.Dues.{first_there}
 use Rattle.broker_core.proofs.Settles.{next_end, none_due}
 use Rattle.broker_core.proofs.state.State.settle.Goals as goal

@@ -1,7 +1,0 @@
-use Rattle.std.proofs.Common.{arith}
-use Rattle.broker_core.specs.Lives.{cleared}
-use Rattle.relay_core.proofs.Mapped.{set_mapped}
-use Rattle.broker_core.proofs.live.clear.Goals as goal
-
-pub loop-peer-preserved : goal.loop-peer-preserved
-loop-peer-preserved c = rw c.clear.ensures (set_mapped cleared c.args.live.now _ _ _ c.loop-peer.invariant (omega arith))

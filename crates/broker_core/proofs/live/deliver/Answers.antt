@@ -1,7 +1,0 @@
-use Rattle.std.proofs.Common.{arith}
-use Rattle.broker_core.specs.Lives.{delivered}
-use Rattle.relay_core.proofs.Mapped.{set_mapped}
-use Rattle.broker_core.proofs.live.deliver.Goals as goal
-
-pub loop-peer-preserved : goal.loop-peer-preserved
-loop-peer-preserved c = rw c.deliver.ensures (set_mapped delivered c.args.live.now _ _ _ c.loop-peer.invariant (omega arith))

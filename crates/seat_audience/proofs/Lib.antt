@@ -1,0 +1,6 @@
+pub mod Gathered
+pub mod Changing
+pub mod Labelled
+pub mod Numbered
+pub mod Overhearing
+pub mod Writing
