@@ -104,20 +104,22 @@ fn the_first_fault_is_told(rt: HostRuntime) -> Result<(), Fail> {
     Ok(())
 }
 
-// An application with 256 objects: its registry, the five of `FIELD`, and surfaces with the ids from 256 on.
-fn crowded(alloc: Global) -> Result<String, Fail> {
+// An application makes 256 objects, its registry, the five of `FIELD`, and surfaces with the ids from 256 on, and then sends the message.
+fn crowded(alloc: Global, message: &str) -> Result<String, Fail> {
     let mut text = joined(alloc, &[HEADER, REGISTRY, FIELD])?;
     for low in 0..250u8 {
         text.push_str("bytes 1 0300000000000c00")?;
         text.push_str(format!(in alloc; "{low:02x}010000\n")?.as_str())?;
     }
+    text.push_str("bytes 1 ")?;
+    text.push_str(message)?;
+    text.push_str("\nend\n")?;
     Ok(text)
 }
 
 #[test]
 fn one_object_more_is_refused(rt: HostRuntime) -> Result<(), Fail> {
     let alloc = rt.alloc();
-    let crowd = crowded(alloc)?;
     for (message, error) in [
         // a live id, a free one, and a free one for what isn't offered and for what the seat lacks
         ("0300000000000c0006000000", BAD_ID),
@@ -128,7 +130,7 @@ fn one_object_more_is_refused(rt: HostRuntime) -> Result<(), Fail> {
         ),
         ("0400000000000c0008000000", TOO_MANY),
     ] {
-        let input = joined(alloc, &[crowd.as_str(), "bytes 1 ", message, "\nend\n"])?;
+        let input = crowded(alloc, message)?;
         let output = joined(
             alloc,
             &[
