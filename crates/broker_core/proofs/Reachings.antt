@@ -3,7 +3,7 @@ use Rattle.std.proofs.Common.{◌≡◌, List, [], ◌∷◌, ◌++◌, map, Opt
 use Rattle.std.specs.List.{AllByRecursion, flat_map}
 use Rattle.std.specs.Global.{Vec}
 use Rattle.relay_model.specs.declared.said.Told.{Told}
-use Rattle.relay_core.specs.Reached.{Reached}
+use Rattle.seat_objects.specs.Reached.{Reached}
 use Rattle.broker_model.specs.Ids.{Made}
 use Rattle.seat_audience.specs.declared.audience.Audience.{Audience}
 use Rattle.seat_audience.specs.declared.audience.Placing.{Placing}

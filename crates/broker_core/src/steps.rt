@@ -1,7 +1,7 @@
 // What peers and the shell do, as one entry each.
 ghost use Rattle.std.specs.Prelude.{◌≡◌, ◌≤◌, ◌<◌, ◌+◌, ◌++◌, ◌∷◌, [], ℕ, List, map, take, drop, min, length, Option, Some, None, IsSome, IfSome, IfOk, OnOk, OnErr};
 ghost use Rattle.std.specs.List.{slice_get};
-ghost use Rattle.relay_core.specs.Fits.{FitsMessage};
+ghost use Rattle.seat_objects.specs.Fits.{FitsMessage};
 ghost use Rattle.relay_core.specs.Kept.{IsReserved};
 ghost use Rattle.relay_core.specs.Stands as relay;
 ghost use Rattle.seat_wire.specs.Asked.{IsNamed};

@@ -16,7 +16,7 @@ use Rattle.relay_model.proofs.Histories.{IsHistory}
 use Rattle.relay_model.proofs.FocusLaws.{IsSteady, focus_same}
 use Rattle.relay_model.proofs.HoldLaws.{kept_same}
 use Rattle.relay_model.proofs.ActivationLaws.{serving_same}
-use Rattle.relay_core.specs.declared.object.Kind.TheVariants.{Thing}
+use Rattle.seat_objects.specs.declared.object.Kind.TheVariants.{Thing}
 use Rattle.relay_core.specs.Machine.{State, counted, made}
 use Rattle.relay_core.specs.Stands.{Stands, entries}
 use Rattle.relay_core.proofs.Calm.{IsCalm, keys_same, registry_calm, sync_calm, seat_calm, thing_calm, bad_calm}

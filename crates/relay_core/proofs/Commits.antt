@@ -25,7 +25,7 @@ use Rattle.field_state.specs.declared.commit.Taken.{Taken}
 use Rattle.field_state.specs.declared.commit.Taken.TheVariants.{Begun, Updated, Ended, Nothing}
 use Rattle.kbd_grab.specs.Keyboard as keyboard
 use Rattle.relay_core.specs.KeyCalls.{key_calls}
-use Rattle.relay_core.specs.Objects.{find, field_in, committed}
+use Rattle.seat_objects.specs.Objects.{find, field_in, committed}
 use Rattle.relay_core.specs.Machine.{State, counted, taken_in, held, field_committed}
 use Rattle.relay_core.specs.Stands.{Stands, word_kept as kept_word, state_kept, current_where, field_kept}
 use Rattle.relay_core.proofs.Calm.{keys_same, commit_calm}

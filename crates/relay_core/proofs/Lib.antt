@@ -13,11 +13,9 @@ pub mod GrabLaws
 pub mod KeptFields
 pub mod KeyCalls
 pub mod Keyed
-pub mod Mapped
 pub mod Moving
 pub mod Parts
 pub mod Shown
-pub mod Reaches
 pub mod Releases
 pub mod Requests
 pub mod Rooms

@@ -5,10 +5,10 @@ use Rattle.relay_model.specs.declared.act.Act.TheVariants as acts
 use Rattle.field_state.specs.Stands.{Kept}
 use Rattle.field_state.specs.Changes.{fresh}
 use Rattle.relay_core.specs.declared.machine.Machine.{Machine}
-use Rattle.relay_core.specs.declared.spare.Spare.{Spare}
-use Rattle.relay_core.specs.Objects.{find, field_in}
+use Rattle.seat_objects.specs.declared.spare.Spare.{Spare}
+use Rattle.seat_objects.specs.Objects.{find, field_in}
 use Rattle.relay_core.specs.Machine.{State, holder_state, text_around}
-use Rattle.relay_core.specs.Fits.{FitsMessage}
+use Rattle.seat_objects.specs.Fits.{FitsMessage}
 
 -- what the machine keeps, without what is reserved
 abbrev pub state : Machine → State

@@ -1,11 +1,6 @@
-pub mod Fits
-pub mod Objects
-pub mod Reached
 pub mod State
-pub mod Keyboard
 pub mod Popups
 pub mod Machine
-pub mod Groups
 pub mod Kept
 pub mod KeyCalls
 pub mod Stands

@@ -4,31 +4,29 @@ use Rattle.std.specs.FinMap as keyed_map
 use Rattle.relay_model.specs.declared.act.Act.{Act}
 use Rattle.relay_model.specs.declared.act.Act.TheVariants as acts
 use Rattle.relay_model.specs.declared.said.Told.{Told}
-use Rattle.relay_model.specs.declared.said.Said.{Said}
 use Rattle.relay_model.specs.declared.said.Said.TheVariants as said
 use Rattle.relay_model.specs.Objects.{is_at}
 use Rattle.relay_model.specs.Hold.{is_free_for}
 use Rattle.relay_model.specs.Keys.{is_press}
 use Rattle.relay_model.specs.Idle.{is_place, is_sized}
-use Rattle.relay_model.specs.Batch.{Batch, deletion_said, string_said, preedit_said}
+use Rattle.relay_model.specs.Batch.{Batch}
 use Rattle.relay_model.specs.Globals.{globals_told}
 use Rattle.relay_model.specs.Told.{to, to_grab, deleted, synced}
 use Rattle.serial_count.specs.Serial.{is_recent}
 use Rattle.edit_batch.specs.Calls.{LastEdits, last_edits}
-use Rattle.field_state.specs.Calls as field
 use Rattle.field_state.specs.Stands.{Kept}
 use Rattle.field_state.specs.Changes.{fresh, focused, taken_of}
 use Rattle.field_state.specs.declared.commit.Taken.{Taken}
 use Rattle.field_state.specs.declared.commit.Taken.TheVariants.{Begun, Updated, Ended, Nothing}
 use Rattle.kbd_grab.specs.Keyboard.{Keyboard, turned, answer_at}
 use Rattle.kbd_grab.specs.declared.keyboard.Route.{Route}
-use Rattle.relay_core.specs.declared.object.Object.{Object}
-use Rattle.relay_core.specs.declared.object.Kind.{Kind}
-use Rattle.relay_core.specs.declared.object.Kind.TheVariants.{Peer, Surface, Field, Method, Popup, Grab, Thing}
-use Rattle.relay_core.specs.Objects.{find, is_peer_in, is_surface_in, is_field_in, is_method_in, owner_in, field_in, count_in, no_area, has_popup_in, not_label, not_peer, requested, refocused, committed, placed_at}
-use Rattle.relay_core.specs.Keyboard.{keyboard_told, key_told}
+use Rattle.seat_objects.specs.declared.object.Kind.{Kind}
+use Rattle.seat_objects.specs.declared.object.Kind.TheVariants.{Peer, Surface, Field, Method, Popup, Grab, Thing}
+use Rattle.seat_objects.specs.Objects.{find, is_peer_in, is_surface_in, is_field_in, is_method_in, owner_in, field_in, count_in, no_area, has_popup_in, not_label, not_peer, requested, refocused, committed, placed_at}
+use Rattle.seat_objects.specs.Keyboard.{keyboard_told, key_told}
 use Rattle.relay_core.specs.Popups.{popups_told, popups_where_holds, new_popup_told}
 pub use Rattle.relay_core.specs.State.{State, owner_at, focused_in, entered_in, is_thing_in, current_of, state_of, holder_state}
+pub use Rattle.seat_objects.specs.Saying.{said_to, text_around, around_told, state_told, activate_told, update_told, deactivate_told, group_told}
 
 -- the act may do something; a press of a key that is refused does nothing besides
 abbrev pub is_live_in : Act → State → Bool
@@ -247,42 +245,9 @@ moved acts.Idle s = s
 abbrev pub after : Act → State → State
 after act s = (if is_live_in act s then moved act (counted s) else counted s)
 
--- what each field of the peer is told
-abbrev pub said_to : Said → Option ℕ → List Object → List Told
-said_to say peer [] = []
-said_to say peer (o ∷ os) =
-    (if is_field_in (Some o) && is_at peer o.peer then to o.label say ∷ said_to say peer os else said_to say peer os)
-
 abbrev pub leaves_of : State → Option ℕ → List Told
 leaves_of s None = []
 leaves_of s (Some t) = said_to (said.Leave t) (focused_in s) s.objects
-
--- the text of a surrounding text, if it is set
-abbrev pub text_around : Option field.Surrounding → List ℕ
-text_around None = []
-text_around (Some around) = around.text
-
-abbrev pub around_told : ℕ → Option field.Surrounding → ℕ → List Told
-around_told m None cause = []
-around_told m (Some around) cause =
-    to m (said.Surrounding around.text around.cursor around.anchor) ∷ to m (said.ChangeCause cause) ∷ []
-
--- the state, and the done that ends it
-abbrev pub state_told : ℕ → field.State → List Told
-state_told m c =
-    around_told m c.surrounding c.cause ++ (to m (said.ContentType c.content.0 c.content.1) ∷ to m said.MethodDone ∷ [])
-
-abbrev pub activate_told : field.State → Option ℕ → List Told
-activate_told c None = []
-activate_told c (Some m) = to m said.Activate ∷ state_told m c
-
-abbrev pub update_told : field.State → Option ℕ → List Told
-update_told c None = []
-update_told c (Some m) = state_told m c
-
-abbrev pub deactivate_told : Option ℕ → List Told
-deactivate_told None = []
-deactivate_told (Some m) = to m said.Deactivate ∷ to m said.MethodDone ∷ []
 
 -- what is told where a hold ends, by the holder and the method that serves
 abbrev pub release_told : Option ℕ → Option ℕ → List Told
@@ -337,11 +302,6 @@ batch_of e =
       string = e.string;
       preedit = record { text = e.preedit.text; begin = e.preedit.begin; end = e.preedit.end };
     }
-
-abbrev pub group_told : Batch → ℕ → ℕ → List Told
-group_told b count h =
-    map (to h) (deletion_said b.deletion) ++
-    (map (to h) (string_said b.string) ++ (map (to h) (preedit_said b.preedit) ++ to h (said.FieldDone count) ∷ []))
 
 abbrev pub group_of_holder : State → Option ℕ → List Told
 group_of_holder s None = []

@@ -4,10 +4,10 @@ use Rattle.popup_place.specs.declared.geometry.Size.{Size}
 use Rattle.relay_model.specs.Objects.{is_same}
 use Rattle.edit_batch.specs.Calls.{LastEdits}
 use Rattle.field_state.specs.Calls as field
-use Rattle.field_state.specs.Stands.{Kept}
 use Rattle.kbd_grab.specs.Keyboard.{Keyboard}
-use Rattle.relay_core.specs.declared.object.Object.{Object}
-use Rattle.relay_core.specs.Objects.{find, is_peer_in, is_field_in, owner_in, field_in, field_at}
+use Rattle.seat_objects.specs.declared.object.Object.{Object}
+use Rattle.seat_objects.specs.Objects.{find, is_peer_in, is_field_in, owner_in, field_in, field_at}
+pub use Rattle.seat_objects.specs.Saying.{current_of}
 
 -- what the relay keeps
 pub record State : Type 0 where
@@ -38,11 +38,6 @@ entered_in s f = is_field_in (find s.objects f) && is_same (owner_in (find s.obj
 -- an object that may be dropped
 abbrev pub is_thing_in : Option Object → Bool
 is_thing_in o = is_some o && not (is_peer_in o)
-
--- the current state of a field
-abbrev pub current_of : Option Kept → field.State
-current_of None = field.initial
-current_of (Some kept) = kept.current
 
 -- the current state of the field f
 abbrev pub state_of : State → ℕ → field.State

@@ -3,16 +3,18 @@ ghost use Rattle.std.specs.Prelude.{◌≡◌, ◌-◌, ◌<◌, true, Option, S
 ghost use Rattle.relay_model.specs.declared.act.Act.TheVariants as acts;
 ghost use Rattle.relay_model.specs.Hold.{is_free_for};
 ghost use Rattle.field_state.specs.Hold.{holds_after};
-ghost use Rattle.relay_core.specs.Objects.{find, field_in};
-ghost use Rattle.relay_core.specs.Reached.{Reached};
+ghost use Rattle.seat_objects.specs.Objects.{find, field_in};
+ghost use Rattle.seat_objects.specs.Reached.{Reached};
 ghost use Rattle.relay_core.specs.Kept.{state, text_pending};
 ghost use Rattle.relay_core.specs.Machine.{owner_at, activated, updated, deactivated, released, refocused_to, unfocused, parted, gone, taken_in, held, committing, field_committed, leaves_of, text_around, state_of, activate_told, update_told, release_told, part_told, commit_told, says};
 
 use crate::machine::{Machine, owner_at};
-use crate::object::{Object, commit, field_of, is_free, owner, refocus};
-use crate::post::{Post, tell_activate, tell_deactivate, tell_enters, tell_leaves, tell_update};
 use field_state::Taken;
 use relay_model::Label;
+use seat_objects::{
+    Object, Post, commit, field_of, is_free, owner, refocus, tell_activate, tell_deactivate,
+    tell_enters, tell_leaves, tell_update,
+};
 use serial_count::Since;
 
 // What a commit of the field does.
@@ -128,7 +130,7 @@ impl Machine {
         }
     }
 
-    #[tactic(auto, using(crate::proofs::Reaches::reached_append))]
+    #[tactic(auto, using(seat_objects::proofs::Reaches::reached_append))]
     pub fn focus<P: Post>(&mut self, surface: Label, post: &mut P)
         ensures state { state self.new ≡ refocused_to (Some surface) (released (state self.old)) }
         ensures told { Reached P.may_follow post.old (says (acts.Focus surface) (state self.old)) post.new }
@@ -140,7 +142,7 @@ impl Machine {
         self.refocus(Some(surface));
     }
 
-    #[tactic(auto, using(crate::proofs::Reaches::reached_append))]
+    #[tactic(auto, using(seat_objects::proofs::Reaches::reached_append))]
     pub fn unfocus<P: Post>(&mut self, post: &mut P)
         ensures state { state self.new ≡ unfocused (state self.old) }
         ensures told { Reached P.may_follow post.old (says acts.Unfocus (state self.old)) post.new }

@@ -1,16 +1,14 @@
 // The relay's part on keys: grabs, and what the shell says of the keyboard.
 ghost use Rattle.std.specs.Prelude.{◌≡◌, ◌<◌, vec_len, vec_capacity};
 ghost use Rattle.relay_model.specs.declared.act.Act.TheVariants as acts;
-ghost use Rattle.relay_core.specs.Reached.{Reached};
+ghost use Rattle.seat_objects.specs.Reached.{Reached};
 ghost use Rattle.relay_core.specs.Kept.{state};
 ghost use Rattle.relay_core.specs.Machine.{made_by, fallen, grabbed, keyed, route_in, moved, says};
 
 use crate::machine::Machine;
-use crate::object::{Kind, is_number, owner};
-use crate::post::Post;
-use crate::told::{tell_grab, tell_key, tell_keyboard};
 use kbd_grab::{Keymap, Mods, Route};
 use relay_model::{Label, Said};
+use seat_objects::{Kind, Post, is_number, owner, tell_grab, tell_key, tell_keyboard};
 
 impl Machine {
     /// The method made an object.

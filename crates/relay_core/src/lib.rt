@@ -5,18 +5,13 @@ mod holding;
 mod keyboard;
 mod machine;
 mod methods;
-mod object;
 mod peers;
 mod popups;
-mod post;
 mod relay;
-mod request;
 mod reserve;
-mod spare;
 #[cfg(test)]
 mod tests;
-mod told;
 
 pub use kbd_grab::Route;
-pub use post::Post;
 pub use relay::Relay;
+pub use seat_objects::Post;

@@ -3,23 +3,21 @@ ghost use Rattle.std.specs.Prelude.{◌≡◌, ◌&&◌, ◌+◌, ◌-◌, ◌<�
 ghost use Rattle.relay_model.specs.declared.act.Act.{Act};
 ghost use Rattle.relay_model.specs.Idle.{is_place, is_sized};
 ghost use Rattle.field_state.specs.Changes as change;
-ghost use Rattle.relay_core.specs.Fits.{FitsMessage};
-ghost use Rattle.relay_core.specs.Objects.{find, is_field_in};
-ghost use Rattle.relay_core.specs.Reached.{Reached};
+ghost use Rattle.seat_objects.specs.Fits.{FitsMessage};
+ghost use Rattle.seat_objects.specs.Objects.{find, is_field_in};
+ghost use Rattle.seat_objects.specs.Reached.{Reached};
 ghost use Rattle.relay_core.specs.Kept.{state, HasRoom, HasSpare};
 ghost use Rattle.relay_core.specs.Machine.{owner_at, entered_in, is_live_in, is_thing_in, made, new_field, serves, dropped, gone, moved, after, enter_told, drop_told, gone_told, says, tells, route_of};
 
-use crate::object::{
-    Kind, NO_AREA, Object, commit, has_popup, is_method, is_number, is_peer, is_same, is_surface,
-    object_of, owner, remove_object, remove_peer, request,
-};
 use crate::peers::{tell_error, tell_synced};
-use crate::post::{Post, tell_deleted, tell_enter};
-use crate::spare::Spare;
 use edit_batch::Pending;
 use field_state::Field;
 use kbd_grab::{Grab, Keymap, Mods, Route};
 use relay_model::{Act, Label, Rect, Size};
+use seat_objects::{
+    Kind, NO_AREA, Object, Post, Spare, commit, has_popup, is_method, is_number, is_peer, is_same,
+    is_surface, object_of, owner, remove_object, remove_peer, request, tell_deleted, tell_enter,
+};
 use serial_count::{Count32, Since, fresh};
 use std::alloc::Global;
 
@@ -184,7 +182,7 @@ impl Machine {
         }
     }
 
-    #[tactic(auto, using(crate::proofs::Reaches::reached_append))]
+    #[tactic(auto, using(seat_objects::proofs::Reaches::reached_append))]
     fn drop_object<P: Post>(&mut self, label: Label, post: &mut P)
         ensures state { state self.new ≡ dropped label (state self.old) }
         ensures told { Reached P.may_follow post.old (drop_told label (state self.old)) post.new }

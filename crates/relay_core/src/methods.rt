@@ -2,15 +2,14 @@
 ghost use Rattle.std.specs.Prelude.{◌≡◌, ◌&&◌, ◌-◌, ◌<◌, ◌≤◌, Some, None, length, vec_len, vec_capacity};
 ghost use Rattle.relay_model.specs.declared.act.Act.TheVariants as acts;
 ghost use Rattle.relay_model.specs.Objects.{is_at};
-ghost use Rattle.relay_core.specs.Reached.{Reached};
+ghost use Rattle.seat_objects.specs.Reached.{Reached};
 ghost use Rattle.relay_core.specs.Kept.{state};
-ghost use Rattle.relay_core.specs.Groups.{batch_in};
+ghost use Rattle.seat_objects.specs.Groups.{batch_in};
 ghost use Rattle.relay_core.specs.Machine.{served_unless, serving_unless, serves, method_made, gone, moved, after, text_around, holder_state, method_told, batch_of, is_fresh, group_of_holder, batch_told};
 
 use crate::machine::Machine;
-use crate::object::{Kind, count_of, is_number};
-use crate::post::{Group, Post, Preedit, tell_group, tell_unavailable};
 use relay_model::{Label, Text};
+use seat_objects::{Group, Kind, Post, Preedit, count_of, is_number, tell_group, tell_unavailable};
 use serial_count::{Count32, Since, fresh};
 
 // The serial names a done of the present activation.

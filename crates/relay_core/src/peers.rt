@@ -2,14 +2,13 @@
 ghost use Rattle.std.specs.Prelude.{◌≡◌, ◌<◌, [], ◌∷◌, vec_len, vec_capacity};
 ghost use Rattle.relay_model.specs.Globals.{globals_told};
 ghost use Rattle.relay_model.specs.Told.{to, synced};
-ghost use Rattle.relay_core.specs.Reached.{Reached};
+ghost use Rattle.seat_objects.specs.Reached.{Reached};
 ghost use Rattle.relay_core.specs.Kept.{state};
 ghost use Rattle.relay_core.specs.Machine.{made};
 
 use crate::machine::Machine;
-use crate::object::Kind;
-use crate::post::{Post, tell_deleted};
 use relay_model::{Fault, Interface, Label, Role, Said, Told};
+use seat_objects::{Kind, Post, tell_deleted};
 
 // Every global has version 1.
 fn tell_global<P: Post>(registry: Label, name: u32, interface: Interface, post: &mut P)
@@ -26,7 +25,7 @@ fn tell_global<P: Post>(registry: Label, name: u32, interface: Interface, post: 
 }
 
 // Tells a new registry the globals that are offered to the role.
-#[tactic(auto, using(crate::proofs::Reaches::reached_append))]
+#[tactic(auto, using(seat_objects::proofs::Reaches::reached_append))]
 fn tell_globals<P: Post>(registry: Label, role: Role, post: &mut P)
     ensures { Reached P.may_follow post.old (globals_told registry role) post.new }
 {

@@ -2,18 +2,18 @@
 ghost use Rattle.std.specs.Prelude.{◌≡◌, ◌<◌, Option, vec_len, vec_capacity};
 ghost use Rattle.std.specs.List.{flat_map};
 ghost use Rattle.relay_model.specs.declared.act.Act.TheVariants as acts;
-ghost use Rattle.relay_core.specs.declared.object.Kind.TheVariants.{Popup};
-ghost use Rattle.relay_core.specs.Reached.{Reached};
+ghost use Rattle.seat_objects.specs.declared.object.Kind.TheVariants.{Popup};
+ghost use Rattle.seat_objects.specs.Reached.{Reached};
 ghost use Rattle.relay_core.specs.Kept.{state};
 ghost use Rattle.relay_core.specs.Popups.{cursor_in, origin_in, shown_told, popup_told, popups_told, popups_where_holds, new_popup_told};
 ghost use Rattle.relay_core.specs.Machine.{made_by, moved, says};
 
 use crate::machine::Machine;
-use crate::object::{Kind, Object, area_of, field_at, is_number, object_of, place_surface};
-use crate::post::Post;
-use crate::told::tell_place;
 use popup_place::place;
 use relay_model::{Label, Rect, Size};
+use seat_objects::{
+    Kind, Object, Post, area_of, field_at, is_number, object_of, place_surface, tell_place,
+};
 
 impl Machine {
     // The cursor rectangle of the holder, where it is set.
@@ -86,7 +86,7 @@ impl Machine {
         }
     }
 
-    #[tactic(auto, using(crate::proofs::Reaches::reached_append))]
+    #[tactic(auto, using(seat_objects::proofs::Reaches::reached_append))]
     fn tell_each<P: Post>(&self, rect: Rect, objects: &[Object], post: &mut P)
         ensures { Reached P.may_follow post.old (flat_map (popup_told (state self.now) rect) objects.now) post.new }
     {

@@ -1,11 +1,9 @@
 // The relay as its callers see it.
 use crate::machine::Machine;
-use crate::object::has_popup;
-use crate::post::Post;
-use crate::spare::Spare;
 use edit_batch::Pending;
 use kbd_grab::{Grab, Route};
 use relay_model::{Act, Label, Size};
+use seat_objects::{Post, Spare, has_popup};
 use serial_count::{Count32, Since};
 use std::alloc::Global;
 use std::marker::Model;
@@ -36,8 +34,8 @@ impl Relay {
     ghost use Rattle.relay_model.specs.Objects.{has_popup};
     ghost use Rattle.relay_model.specs.Idle.{history};
     ghost use Rattle.relay_model.specs.Told.{told};
-    ghost use Rattle.relay_core.specs.Reached.{Reached};
-    ghost use Rattle.relay_core.specs.Fits.{FitsMessage};
+    ghost use Rattle.seat_objects.specs.Reached.{Reached};
+    ghost use Rattle.seat_objects.specs.Fits.{FitsMessage};
     ghost use Rattle.relay_core.specs.Kept.{IsReserved};
     ghost use Rattle.relay_core.specs.Stands.{StandsFor, route_told};
 

@@ -1,14 +1,14 @@
 // What is made before an act.
 ghost use Rattle.std.specs.Prelude.{◌≡◌, ◌-◌, ◌<◌, Some, None, vec_len, vec_capacity, OnOk};
 ghost use Rattle.relay_model.specs.declared.act.Act.{Act};
-ghost use Rattle.relay_core.specs.Objects.{find, field_in};
+ghost use Rattle.seat_objects.specs.Objects.{find, field_in};
 ghost use Rattle.relay_core.specs.Kept.{state, HasSpare, text_pending};
 ghost use Rattle.relay_core.specs.Machine.{made, text_around, holder_state};
 
 use crate::machine::Machine;
-use crate::object::{field_at, field_of};
 use field_state::Field;
 use relay_model::{Act, Label};
+use seat_objects::{field_at, field_of};
 use wio_core::NoMemory;
 
 fn surrounding_text(field: &Field) -> &str

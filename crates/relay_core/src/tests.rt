@@ -1,6 +1,6 @@
 // What no clause tells: that memory is found. The events are those that were worked out by hand.
 ghost use Rattle.std.specs.Prelude.{◌≡◌, true};
-ghost use Rattle.relay_core.specs.Fits.{FitsMessage};
+ghost use Rattle.seat_objects.specs.Fits.{FitsMessage};
 
 use crate::{Post, Relay};
 use relay_model::{Act, Said, Text, Told};

@@ -9,7 +9,7 @@ use Rattle.wlim.specs.Lines.{lines_of}
 use Rattle.wlim.specs.declared.act_list.Verdict.{Verdict}
 use Rattle.wlim.specs.declared.act_list.Verdict.TheVariants as verdict
 use Rattle.wlim.specs.declared.act_list.TheConstants.{ACT_LIMIT}
-use Rattle.relay_core.specs.Fits.{FitsMessage}
+use Rattle.seat_objects.specs.Fits.{FitsMessage}
 use Rattle.session_text.specs.declared.line.Form.TheVariants.{Acts}
 use Rattle.session_text.specs.declared.line.Line.{Line}
 use Rattle.session_text.specs.declared.line.Line.TheVariants as line

@@ -2,7 +2,7 @@
 ghost use Rattle.std.specs.Prelude.{◌≡◌, ◌<◌, ◌≤◌, ◌+◌, ◌∷◌, [], ◌++◌, List, length, IfOk, OnOk, string_bytes, false};
 ghost use Rattle.relay_model.specs.declared.act.Act.{Act};
 ghost use Rattle.relay_model.specs.Told.{told};
-ghost use Rattle.relay_core.specs.Fits.{FitsMessage};
+ghost use Rattle.seat_objects.specs.Fits.{FitsMessage};
 ghost use Rattle.relay_core.specs.Stands.{StandsFor};
 ghost use Rattle.wlim.specs.Transcript.{verdict_of, verdict_of_act, answer_of, act_text};
 ghost use Rattle.wlim.specs.Endings.{IsDecided};

@@ -1,6 +1,6 @@
 use Rattle.std.proofs.Common.{arith}
 use Rattle.seat_audience.specs.Lives.{cleared}
-use Rattle.relay_core.proofs.Mapped.{set_mapped}
+use Rattle.seat_objects.proofs.Mapped.{set_mapped}
 use Rattle.seat_audience.proofs.live.clear.Goals as goal
 
 pub loop-peer-preserved : goal.loop-peer-preserved

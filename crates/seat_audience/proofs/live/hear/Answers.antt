@@ -1,7 +1,7 @@
 use Rattle.std.proofs.Common.{arith}
 use Rattle.wl_proto.specs.Rows.{event_message}
 use Rattle.seat_audience.specs.Lives.{hears_message}
-use Rattle.relay_core.proofs.Mapped.{set_mapped}
+use Rattle.seat_objects.proofs.Mapped.{set_mapped}
 use Rattle.seat_audience.proofs.live.hear.Goals as goal
 
 pub loop-peer-preserved : goal.loop-peer-preserved

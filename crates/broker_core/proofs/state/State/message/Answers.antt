@@ -3,7 +3,7 @@ use Rattle.std.specs.Prelude.{option_map}
 use Rattle.std.specs.List.{slice_get}
 use Rattle.std.specs.FinMap as map
 use Rattle.std.proofs.lemmas.Option.{same_Some}
-use Rattle.relay_core.specs.Fits.{FitsMessage}
+use Rattle.seat_objects.specs.Fits.{FitsMessage}
 use Rattle.seat_wire.specs.Asked.{asked}
 use Rattle.seat_wire.specs.Meant.{meant}
 use Rattle.broker_model.specs.declared.journal.Entry.{Entry}

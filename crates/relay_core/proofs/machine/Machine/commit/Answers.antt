@@ -1,7 +1,7 @@
 use Rattle.std.proofs.Common.{◌≡◌, ap, sym, ◌∙◌}
 use Rattle.relay_model.specs.Hold.{is_free_for}
 use Rattle.field_state.specs.Hold.{holds_after}
-use Rattle.relay_core.specs.Objects.{find, field_in}
+use Rattle.seat_objects.specs.Objects.{find, field_in}
 use Rattle.relay_core.specs.Machine.{State, taken_in, state_of, text_around}
 use Rattle.relay_core.proofs.Found.{text_committed}
 use Rattle.relay_core.proofs.machine.Machine.commit.Goals as goal

@@ -5,7 +5,7 @@ use Rattle.relay_model.specs.declared.act.Act.{Act}
 use Rattle.relay_model.specs.declared.act.Act.TheVariants as acts
 use Rattle.relay_core.specs.Kept.{Shown, state}
 use Rattle.relay_core.specs.Machine.{State, route_of}
-use Rattle.relay_core.specs.Reached.{Reached}
+use Rattle.seat_objects.specs.Reached.{Reached}
 use Rattle.relay_core.specs.Stands.{Stands, route_told}
 use Rattle.relay_core.proofs.Board.{route_is}
 use Rattle.relay_core.proofs.Turns.{stands_after, says_told}

@@ -1,7 +1,0 @@
-use Rattle.std.proofs.Common.{arith}
-use Rattle.relay_core.specs.Objects.{committed}
-use Rattle.relay_core.proofs.Mapped.{set_mapped}
-use Rattle.relay_core.proofs.object.commit.Goals as goal
-
-pub loop-object-preserved : goal.loop-object-preserved
-loop-object-preserved c = rw c.commit.ensures (set_mapped (committed c.args.field c.args.may_hold) c.args.objects.now _ _ _ c.loop-object.invariant (omega arith))

@@ -1,6 +1,0 @@
-use Rattle.std.proofs.Common.{◌≡◌, map, take, drop, ◌++◌}
-use Rattle.relay_core.specs.Objects.{committed}
-use Rattle.relay_core.proofs.object.commit.Given as goal
-
-abbrev pub invariant-loop-object : goal.invariant-loop-object
-invariant-loop-object l = l.objects ≡ map (committed l.fn.field l.fn.may_hold) (take l.object-index l.fn.objects) ++ drop l.object-index l.fn.objects

@@ -1,0 +1,59 @@
+// What a field's requests set.
+ghost use Rattle.std.specs.Prelude.{◌≡◌};
+ghost use Rattle.seat_objects.specs.Fits.{FitsMessage};
+ghost use Rattle.seat_objects.specs.Objects.{asked};
+
+use field_state::Field;
+use relay_model::Act;
+
+/// The act is a request of this field, other than a commit.
+pub fn ask(field: &mut Field, act: &Act)
+    requires { FitsMessage act.now }
+    ensures { field.new ≡ asked act.now field.old }
+{
+    match act {
+        Act::Enable { .. } => field.enable(),
+        Act::Disable { .. } => field.disable(),
+        Act::Surround {
+            text,
+            cursor,
+            anchor,
+            ..
+        } => {
+            let _ = field.set_surrounding(text.as_str(), *cursor, *anchor);
+        }
+        Act::Cause { cause, .. } => field.set_cause(*cause),
+        Act::Content { hint, purpose, .. } => field.set_content(*hint, *purpose),
+        Act::Cursor { rect, .. } => {
+            let _ = field.set_rect(*rect);
+        }
+        Act::Peer
+        | Act::Gone { .. }
+        | Act::Surface { .. }
+        | Act::Field { .. }
+        | Act::Method { .. }
+        | Act::Popup { .. }
+        | Act::Grab { .. }
+        | Act::Drop { .. }
+        | Act::Focus { .. }
+        | Act::Unfocus
+        | Act::Area { .. }
+        | Act::Screen { .. }
+        | Act::Commit { .. }
+        | Act::MString { .. }
+        | Act::MPreedit { .. }
+        | Act::MDelete { .. }
+        | Act::MCommit { .. }
+        | Act::Key { .. }
+        | Act::Mods { .. }
+        | Act::Keymap { .. }
+        | Act::Repeat { .. }
+        | Act::Registry { .. }
+        | Act::Sync { .. }
+        | Act::Seat { .. }
+        | Act::Thing { .. }
+        | Act::Bad { .. }
+        | Act::Took { .. }
+        | Act::Idle => {}
+    }
+}

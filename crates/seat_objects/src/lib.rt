@@ -1,0 +1,22 @@
+// The live objects of a seat, with what each field keeps, and what they are told.
+#![tactic(auto)]
+
+mod asking;
+mod object;
+mod post;
+mod spare;
+#[cfg(test)]
+mod tests;
+mod told;
+
+pub use object::{
+    Kind, NO_AREA, Object, area_of, commit, count_of, field_at, field_of, has_popup, is_free,
+    is_method, is_number, is_peer, is_same, is_surface, object_of, owner, place_surface, refocus,
+    remove_object, remove_peer, request,
+};
+pub use post::{
+    Group, Post, Preedit, tell_activate, tell_deactivate, tell_deleted, tell_enter, tell_enters,
+    tell_group, tell_leaves, tell_unavailable, tell_update,
+};
+pub use spare::Spare;
+pub use told::{tell_grab, tell_key, tell_keyboard, tell_place};

@@ -1,0 +1,85 @@
+// What is made before an act, so that the act takes no memory.
+ghost use Rattle.std.specs.Prelude.{◌≡◌, [], Some, None, OnOk, IfOk};
+ghost use Rattle.field_state.specs.Changes.{fresh};
+
+use field_state::Field;
+use relay_model::Text;
+use std::alloc::Global;
+use std::mem;
+use wio_core::NoMemory;
+
+/// Copies of the texts that the act may tell, and the place of a field that it may make.
+#[derive(Drop)]
+pub struct Spare {
+    /// A surrounding text, or the string of a batch.
+    pub text: Text,
+    /// The preedit of a batch.
+    pub preedit: Text,
+    /// The field, if one is made.
+    pub field: Option<Field>,
+}
+
+// A copy of a text that some `Text` was copied from, so it is one.
+fn copy(alloc: Global, text: &str) -> Result<Text, NoMemory>
+    ensures { IfOk result (λ t. t ≡ text.now) }
+{
+    let mut bytes = Vec::with_capacity(alloc, text.len())?;
+    bytes.extend_from_slice(text.as_bytes())?;
+    match Text::from_bytes(bytes) {
+        Ok(text) => Ok(text),
+        Err(_) => Err(NoMemory),
+    }
+}
+
+impl Spare {
+    /// Nothing is copied, and no field is made.
+    pub fn new(alloc: Global) -> Spare
+        ensures { result ≡ record { text = []; preedit = []; field = None } }
+    {
+        Spare {
+            text: Text::empty(alloc),
+            preedit: Text::empty(alloc),
+            field: None,
+        }
+    }
+
+    /// Copies a surrounding text, or the string of a batch. `NoMemory` is its one error.
+    pub fn copy_text(&mut self, alloc: Global, text: &str) -> Result<(), NoMemory>
+        ensures { OnOk result (self.new ≡ record self.old { text = text.now }) }
+    {
+        self.text = copy(alloc, text)?;
+        Ok(())
+    }
+
+    /// Copies the preedit of a batch. `NoMemory` is its one error.
+    pub fn copy_preedit(&mut self, alloc: Global, text: &str) -> Result<(), NoMemory>
+        ensures { OnOk result (self.new ≡ record self.old { preedit = text.now }) }
+    {
+        self.preedit = copy(alloc, text)?;
+        Ok(())
+    }
+
+    /// Makes a field, to which nothing happened yet. `NoMemory` is its one error.
+    pub fn make_field(&mut self, alloc: Global) -> Result<(), NoMemory>
+        ensures { OnOk result (self.new ≡ record self.old { field = Some fresh }) }
+    {
+        self.field = Some(Field::new(alloc)?);
+        Ok(())
+    }
+
+    /// Hands the text out; an empty one is in its place.
+    pub fn take_text(&mut self, alloc: Global) -> Text
+        ensures text { result ≡ self.old.text }
+        ensures rest { self.new ≡ record self.old { text = [] } }
+    {
+        mem::replace(&mut self.text, Text::empty(alloc))
+    }
+
+    /// Hands the preedit out; an empty one is in its place.
+    pub fn take_preedit(&mut self, alloc: Global) -> Text
+        ensures text { result ≡ self.old.preedit }
+        ensures rest { self.new ≡ record self.old { preedit = [] } }
+    {
+        mem::replace(&mut self.preedit, Text::empty(alloc))
+    }
+}
