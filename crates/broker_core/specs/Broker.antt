@@ -50,9 +50,13 @@ with_step e b = record b { journal = settle b.limits.store (e ∷ b.journal) }
 abbrev pub kept_in : List Entry → Kept
 kept_in journal = record { entries = number_counted journal; weight = weight journal }
 
--- how much the journal holds, where it is full for the entry
+-- how much a journal with a limit of entries holds, where it is full for the entry
+abbrev pub full_in : ℕ → List Entry → Entry → Option Kept
+full_in limit journal e = (if is_full limit journal e then Some (kept_in journal) else None)
+
+-- the same of the broker's journal
 abbrev pub full_for : Broker → Entry → Option Kept
-full_for b e = (if is_full b.limits.entries b.journal e then Some (kept_in b.journal) else None)
+full_for b e = full_in b.limits.entries b.journal e
 
 -- why no peer can join, if so: 64 are alive, or else the journal is full
 abbrev pub join_refusal : Broker → Role → Option JoinRefusal

@@ -1,6 +1,7 @@
 // The shared state of all peers of a seat: one journal, and for each peer what is stored for it.
 #![tactic(auto)]
 
+mod limits;
 mod player;
 mod reading;
 mod shared;

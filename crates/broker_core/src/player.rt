@@ -1,6 +1,7 @@
 // A session that is played line by line.
+use crate::limits::{ENTRY_WEIGHT, full};
 use crate::reading::{First, behind, first_message, head_of, header_of};
-use crate::shared::{ENTRY_WEIGHT, MOST_PEERS, MOST_WEIGHT};
+use crate::shared::MOST_PEERS;
 use crate::state::State;
 use crate::taking::Standing;
 use broker_model::Kept;
@@ -82,11 +83,9 @@ impl Session {
         requires session { IsSession self.now }
         ensures { (e : Entry) → is_end e ≡ false → weight_of e ≡ added → IsRoom self.now.limits self.now.state.journal.entries e result }
     {
-        let kept = self.state.journal.kept();
-        if self.limits.entries <= kept.entries || added > MOST_WEIGHT - kept.weight {
-            Err(Stop::Full(kept))
-        } else {
-            Ok(())
+        match full(&self.state.journal, self.limits.entries, added) {
+            Some(kept) => Err(Stop::Full(kept)),
+            None => Ok(()),
         }
     }
 

@@ -1,4 +1,5 @@
 // The shared state of all peers as its callers see it.
+use crate::limits::{ENTRY_WEIGHT, full};
 use crate::state::State;
 use crate::taking::Standing;
 use broker_model::{Journal, Kept};
@@ -12,12 +13,6 @@ use wl_wire::Bytes;
 
 /// The most peers that are alive at once.
 pub const MOST_PEERS: u32 = 64;
-
-// The most that a journal weighs.
-pub(crate) const MOST_WEIGHT: u64 = 134_217_728;
-
-// What an entry that isn't an end weighs, without the body of a message.
-pub(crate) const ENTRY_WEIGHT: u64 = 16;
 
 /// Why no peer joined.
 #[derive(Clone, Copy, Debug, PartialEq, Eq)]
@@ -160,12 +155,7 @@ impl Shared {
     fn full(&self, added: u64) -> Option<Kept>
         ensures { (e : Entry) → is_end e ≡ false → weight_of e ≡ added → result ≡ full_for self.now e }
     {
-        let kept = self.state.journal.kept();
-        if self.limits.entries <= kept.entries || added > MOST_WEIGHT - kept.weight {
-            Some(kept)
-        } else {
-            None
-        }
+        full(&self.state.journal, self.limits.entries, added)
     }
 
     // Why no peer can join, if so.
