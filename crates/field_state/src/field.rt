@@ -1,11 +1,11 @@
 // One text field: its requests set what is pending, and a commit makes that current where the field holds the seat.
 // What is current is defined by looking back over the calls; here it is kept in two sets of slots.
 ghost use Rattle.std.specs.Prelude.{◌≡◌, ◌≤◌, List, [], ◌∷◌, length, true, false, Option, None, option_map, IfOk, if◌then◌else◌};
-ghost use Rattle.field_state.specs.Calls.{Call, Enter, Leave, Enable, Disable, Surround, Cause, Content, Rectangle, Commit, initial, is_place};
+ghost use Rattle.field_state.specs.Calls.{Call, Enter, Leave, Enable, Disable, Surround, Cause, Content, Rectangle, Commit, Displace, initial, is_place};
 ghost use Rattle.field_state.specs.Hold.{answer, holds_after, has_effect, taken, commit_count};
 ghost use Rattle.field_state.specs.Current.{current};
 ghost use Rattle.field_state.specs.Stands.{Stands, pending_of};
-ghost use Rattle.field_state.specs.Changes.{fresh, focused, enabled, disabled, surrounded, caused, typed, placed, taken_of, committed};
+ghost use Rattle.field_state.specs.Changes.{fresh, focused, enabled, disabled, surrounded, caused, typed, placed, taken_of, committed, displaced};
 
 use crate::commit::{Taken, Word};
 use crate::slots::{SURROUNDING_LIMIT, Slots};
@@ -47,12 +47,12 @@ fn is_place(text: &str, at: i32) -> bool
     at >= 0 && text.is_char_boundary(at as usize)
 }
 
-// What a commit does, by what it says, whether the field may hold, and whether it holds.
-fn answer(may_hold: bool, word: Option<Word>, holds: bool) -> Taken
-    ensures { result ≡ answer may_hold word holds }
+// What a commit does, by what it says and whether the field holds.
+fn answer(word: Option<Word>, holds: bool) -> Taken
+    ensures { result ≡ answer word holds }
 {
     match word {
-        Some(Word::Enabled) if may_hold || holds => Taken::Begun,
+        Some(Word::Enabled) => Taken::Begun,
         Some(Word::Disabled) if holds => Taken::Ended,
         None if holds => Taken::Updated,
         _ => Taken::Nothing,
@@ -106,10 +106,9 @@ impl Field {
           current = initial;
         } }
     {
+        self.displace();
         self.word = None;
-        self.holds = false;
         self.pending.clear();
-        self.current.clear();
     }
 
     /// `zwp_text_input_v3.enter`: the focus comes to a surface of the field's peer. A hold ends, and all but the count is
@@ -132,7 +131,8 @@ impl Field {
         self.entered = false;
     }
 
-    /// `zwp_text_input_v3.enable`: the next commit asks for the seat, and from then on nothing that was set before counts.
+    /// `zwp_text_input_v3.enable`: the next commit takes the seat, also from another field, and from then on nothing that
+    /// was set before counts.
     pub fn enable(&mut self)
         ensures now { self.new ≡ enabled self.old }
         ensures stands { (calls : List Call) → Stands calls self.old → Stands (Enable ∷ calls) self.new }
@@ -206,15 +206,15 @@ impl Field {
         has_effect
     }
 
-    /// `zwp_text_input_v3.commit`: counts, and where the field then holds the seat makes current what is pending.
-    /// `may_hold` says that no other field holds the seat; where this one holds that is so, and either is taken for it.
-    pub fn commit(&mut self, may_hold: bool) -> Taken
-        ensures now { self.new ≡ committed may_hold self.old }
-        ensures answer { result ≡ taken_of may_hold self.old }
-        ensures stands { (calls : List Call) → Stands calls self.old → Stands (Commit may_hold ∷ calls) self.new }
-        ensures taken { (calls : List Call) → Stands calls self.old → result ≡ taken may_hold calls }
+    /// `zwp_text_input_v3.commit`: counts, and where the field then holds the seat makes current what is pending. `Begun`
+    /// takes the seat from another field that had it, which the caller displaces.
+    pub fn commit(&mut self) -> Taken
+        ensures now { self.new ≡ committed self.old }
+        ensures answer { result ≡ taken_of self.old }
+        ensures stands { (calls : List Call) → Stands calls self.old → Stands (Commit ∷ calls) self.new }
+        ensures taken { (calls : List Call) → Stands calls self.old → result ≡ taken calls }
     {
-        let taken = answer(may_hold, self.word, self.holds);
+        let taken = answer(self.word, self.holds);
         self.holds = holds_after(taken);
         show(&mut self.current, &self.pending, self.holds);
         self.word = None;
@@ -224,11 +224,21 @@ impl Field {
     }
 
     /// What `commit` would answer now, without a commit.
-    pub fn commit_answer(&self, may_hold: bool) -> Taken
-        ensures now { result ≡ taken_of may_hold self.now }
-        ensures history { (calls : List Call) → Stands calls self.now → result ≡ taken may_hold calls }
+    pub fn commit_answer(&self) -> Taken
+        ensures now { result ≡ taken_of self.now }
+        ensures history { (calls : List Call) → Stands calls self.now → result ≡ taken calls }
     {
-        answer(may_hold, self.word, self.holds)
+        answer(self.word, self.holds)
+    }
+
+    /// Another field's commit takes the seat: this field no longer holds, and is told nothing. What it has pending stays,
+    /// with its word and its count. No effect where the field doesn't hold.
+    pub fn displace(&mut self)
+        ensures now { self.new ≡ displaced self.old }
+        ensures stands { (calls : List Call) → Stands calls self.old → Stands (Displace ∷ calls) self.new }
+    {
+        self.holds = false;
+        self.current.clear();
     }
 
     /// The pending surrounding text with its cursor and anchor: what the next commit makes current, where the field then
