@@ -8,7 +8,7 @@ use Rattle.relay_model.specs.declared.act.Word.{Word}
 use Rattle.relay_model.specs.declared.act.Word.TheVariants.{Enabled, Disabled}
 use Rattle.relay_model.specs.Objects.{is_at}
 use Rattle.relay_model.specs.Focus.{focus, entered, entered_since}
-use Rattle.relay_model.specs.Hold.{word_by, word_past, word, is_free_for, kept, holder}
+use Rattle.relay_model.specs.Hold.{word_by, word_past, word, kept, holder}
 use Rattle.relay_model.proofs.Histories.{IsHistory}
 use Rattle.relay_model.proofs.ObjectLaws.{if_same}
 use Rattle.relay_model.proofs.FocusLaws.{IsSteady, entered_same, entered_since_same, entered_within, entered_since_within, unfocused_entered, and_false}
@@ -73,24 +73,22 @@ kept_entered act older (Some g) h e =
 pub commit_steady : (f : ℕ) → IsSteady (Commit f)
 commit_steady f = record { keeps = λ x o. refl; last = λ log. refl; since = λ log. refl }
 
-commit_entered : (a b c d : Bool) (older : List Act) (f h : ℕ) (held : Option ℕ) → IsHistory older → entered older f ≡ a →
+commit_entered : (a b d : Bool) (older : List Act) (f h : ℕ) (held : Option ℕ) → IsHistory older → entered older f ≡ a →
     (kept (Commit f) older held ≡ Some h → entered (Commit f ∷ older) h ≡ true) →
-    (if a && b && c then Some f else (if d then None else kept (Commit f) older held)) ≡ Some h → entered (Commit f ∷ older) h ≡ true
-commit_entered true true true d older f h held i a k e =
+    (if a && b then Some f else (if d then None else kept (Commit f) older held)) ≡ Some h → entered (Commit f ∷ older) h ≡ true
+commit_entered true true d older f h held i a k e =
     let p : f ≡ h = cc in
     rw (← p) (entered_same (Commit f) older f i (commit_steady f) (entered_within older f a) ∙ a)
-commit_entered true true false true older f h held i a k e = cc
-commit_entered true true false false older f h held i a k e = k e
-commit_entered true false c true older f h held i a k e = cc
-commit_entered true false c false older f h held i a k e = k e
-commit_entered false b c true older f h held i a k e = cc
-commit_entered false b c false older f h held i a k e = k e
+commit_entered true false true older f h held i a k e = cc
+commit_entered true false false older f h held i a k e = k e
+commit_entered false b true older f h held i a k e = cc
+commit_entered false b false older f h held i a k e = k e
 
 -- the holder is entered
 pub holder_entered : (log : List Act) (h : ℕ) → IsHistory log → holder log ≡ Some h → entered log h ≡ true
 holder_entered [] h i e = cc
 holder_entered (Commit f ∷ older) h i e =
-    commit_entered _ _ _ _ older f h (holder older) i.1 refl (kept_entered (Commit f) older (holder older) h) e
+    commit_entered _ _ _ older f h (holder older) i.1 refl (kept_entered (Commit f) older (holder older) h) e
 holder_entered (act ∷ older) h i e = kept_entered act older (holder older) h e
 
 pub holder_within : (log : List Act) (h : ℕ) → IsHistory log → holder log ≡ Some h → h ≤ length log
@@ -147,7 +145,7 @@ kept_out act log h e = guard_none_left (entered (act ∷ log) h) (entered_since 
 -- what a commit of f with this word makes of the holder
 abbrev pub held_after : ℕ → Option Word → Option ℕ → Option ℕ
 held_after f None held = held
-held_after f (Some Enabled) held = (if is_free_for held f then Some f else held)
+held_after f (Some Enabled) held = Some f
 held_after f (Some Disabled) held = (if is_at held f then None else held)
 
 word_entered_by : (b : Bool) (x : Option Word) (w : Word) → (if b then x else None) ≡ Some w → b ≡ true
@@ -168,9 +166,8 @@ holder_committed_by log f None i e =
     let same : kept (Commit f) log (holder log) ≡ holder log = kept_same (Commit f) log i (commit_steady f) in
     rw (e, and_false (entered log f), and_false (is_at (holder log) f), same) refl
 holder_committed_by log f (Some Enabled) i e =
-    let same : kept (Commit f) log (holder log) ≡ holder log = kept_same (Commit f) log i (commit_steady f) in
     let here : entered log f ≡ true = word_entered log f Enabled e in
-    rw (e, and_false (is_at (holder log) f), here, same) refl
+    rw (e, here) refl
 holder_committed_by log f (Some Disabled) i e =
     let same : kept (Commit f) log (holder log) ≡ holder log = kept_same (Commit f) log i (commit_steady f) in
     rw (e, and_false (entered log f), and_true (is_at (holder log) f), same) refl

@@ -1,5 +1,5 @@
 -- Laws of popups.
-use Rattle.std.proofs.Common.{◌≡◌, ℕ, List, [], Bool, false, Option, Some, None, refl}
+use Rattle.std.proofs.Common.{◌≡◌, ℕ, List, [], false, Option, Some, None, refl}
 use Rattle.std.specs.Prelude.{◌&&◌, is_some}
 use Rattle.std.proofs.lemmas.Bool.{true≢false}
 use Rattle.popup_place.specs.declared.geometry.Rect.{Rect}

@@ -8,14 +8,14 @@ use Rattle.relay_model.specs.declared.act.Word.{Word}
 use Rattle.relay_model.specs.declared.act.Word.TheVariants.{Enabled, Disabled}
 use Rattle.relay_model.specs.Objects.{is_at}
 use Rattle.relay_model.specs.Focus.{entered, entered_since}
-use Rattle.relay_model.specs.Hold.{word_by, word_past, word, is_enabled, is_free_for, begins_hold, kept, holder, hold_begun}
+use Rattle.relay_model.specs.Hold.{word_by, word_past, word, is_enabled, begins_hold, kept, holder, hold_begun}
 use Rattle.relay_model.specs.Current.{last_enable, last_commit, current}
 use Rattle.relay_model.specs.Pending.{pending, is_commit_of}
 use Rattle.relay_model.proofs.Histories.{IsHistory}
 use Rattle.relay_model.proofs.ObjectLaws.{if_same}
 use Rattle.relay_model.proofs.FocusLaws.{entered_since_same, entered_since_within, and_false}
 use Rattle.relay_model.proofs.HoldLaws.{commit_steady, holder_entered, holder_within, held_after, holder_committed, word_entered}
-use Rattle.relay_model.proofs.LookingBack.{set_between, and_middle, set_above, enable_above, commit_above, commit_within, enable_any, commit_any, commit_other, enabled_past, unsaid, unsaid_enable, hold_begun_within}
+use Rattle.relay_model.proofs.LookingBack.{set_between, set_above, enable_above, commit_above, commit_within, enable_any, commit_any, commit_other, enabled_past, unsaid, unsaid_enable, hold_begun_within}
 use Rattle.relay_model.proofs.PendingLaws.{applies_from, pending_is}
 
 -- The hold: what its holder last enabled before it began is since it was entered, and is its last enable where it said no word since.
@@ -73,11 +73,7 @@ unbegun g older e = rw e refl
 
 -- a commit without the word enable begins no hold
 silent_begins_not : (g : ℕ) (older : List Act) → is_enabled (word older g) ≡ false → begins_hold (Commit g) older ≡ false
-silent_begins_not g older e = rw e (and_middle (entered older g) (is_free_for (holder older) g))
-
--- nor does one while another field holds
-barred_begins_not : (g : ℕ) (older : List Act) → is_free_for (holder older) g ≡ false → begins_hold (Commit g) older ≡ false
-barred_begins_not g older e = rw e (and_false (entered older g && is_enabled (word older g)))
+silent_begins_not g older e = rw e (and_false (entered older g))
 
 -- a commit of another field, which begins no hold
 holding_beside : (g : ℕ) (older : List Act) (f : ℕ) → IsHistory older → begins_hold (Commit g) older ≡ false →
@@ -105,15 +101,11 @@ at_none older g f true q i w k h =
     rw same (holding_committed older f (unbegun f older (silent_begins_not f older (ap is_enabled silent))) none h)
 at_none older g f false q i w k h = holding_beside g older f i (silent_begins_not g older (ap is_enabled w)) q k h
 
-at_enabled : (older : List Act) (g f : ℕ) (b : Bool) → is_free_for (holder older) g ≡ b → IsHistory older → word older g ≡ Some Enabled →
-    (holder older ≡ Some f → Holding older f) → (if b then Some g else holder older) ≡ Some f → Holding (Commit g ∷ older) f
-at_enabled older g f true q i w h e =
+at_enabled : (older : List Act) (g f : ℕ) → word older g ≡ Some Enabled → Some g ≡ Some f → Holding (Commit g ∷ older) f
+at_enabled older g f w e =
     let same : g ≡ f = cc in
     let here : entered older g ≡ true = word_entered older g Enabled w in
-    rw (← same) (holding_begun older g (rw (w, here, q) refl) (word_is older g (Some Enabled) here w))
-at_enabled older g f false q i w h e =
-    let other : (f == g) ≡ false = rw e at q in
-    holding_beside g older f i (barred_begins_not g older q) (other_way f g other) e (h e)
+    rw (← same) (holding_begun older g (rw (w, here) refl) (word_is older g (Some Enabled) here w))
 
 at_disabled : (older : List Act) (g f : ℕ) (b : Bool) → is_at (holder older) g ≡ b → IsHistory older → word older g ≡ Some Disabled →
     (holder older ≡ Some f → Holding older f) → (if b then None else holder older) ≡ Some f → Holding (Commit g ∷ older) f
@@ -125,7 +117,7 @@ at_disabled older g f false q i w h e =
 holding_after : (older : List Act) (g f : ℕ) (w : Option Word) → word older g ≡ w → IsHistory older →
     (holder older ≡ Some f → Holding older f) → held_after g w (holder older) ≡ Some f → Holding (Commit g ∷ older) f
 holding_after older g f None w i h e = at_none older g f (g == f) refl i w e (h e)
-holding_after older g f (Some Enabled) w i h e = at_enabled older g f (is_free_for (holder older) g) refl i w h e
+holding_after older g f (Some Enabled) w i h e = at_enabled older g f w e
 holding_after older g f (Some Disabled) w i h e = at_disabled older g f (is_at (holder older) g) refl i w h e
 
 holding_commit : (older : List Act) (g f : ℕ) → IsHistory older → (holder older ≡ Some f → Holding older f) →

@@ -22,7 +22,7 @@ abbrev pub makes_serving : Act → List Act → Bool
 makes_serving (Method p) older = is_none (serving older)
 makes_serving _ older = false
 
--- a hold begins, or a method comes while a field holds
+-- a hold begins, also one that takes the seat from another field, or a method comes while a field holds
 abbrev pub activates : Act → List Act → Bool
 activates act older = begins_hold act older || (makes_serving act older && is_some (holder (act ∷ older)))
 
@@ -31,7 +31,7 @@ abbrev pub updates : Act → List Act → Bool
 updates (Commit f) older = is_at (holder older) f && is_none (word older f)
 updates _ older = false
 
--- a hold ends without a new one
+-- a hold ends, and none begins
 abbrev pub deactivates : Act → List Act → Bool
 deactivates act older = is_some (holder older) && is_none (holder (act ∷ older))
 

@@ -31,15 +31,10 @@ abbrev pub is_disabled : Option Word → Bool
 is_disabled (Some Disabled) = true
 is_disabled _ = false
 
--- nobody holds, or this field does
-abbrev pub is_free_for : Option ℕ → ℕ → Bool
-is_free_for None f = true
-is_free_for (Some h) f = h == f
-
--- a commit with the word enable of an entered field, while no other field holds
-abbrev pub begins : Act → List Act → Option ℕ → Bool
-begins (Commit f) older held = entered older f && is_enabled (word older f) && is_free_for held f
-begins _ older held = false
+-- the act begins a hold: a commit with the word enable of an entered field, whoever held before
+abbrev pub begins_hold : Act → List Act → Bool
+begins_hold (Commit f) older = entered older f && is_enabled (word older f)
+begins_hold _ older = false
 
 -- a commit of the holder with the word disable
 abbrev pub ends : Act → List Act → Option ℕ → Bool
@@ -58,16 +53,12 @@ kept act older (Some h) =
 
 abbrev pub holder_after : Act → List Act → Option ℕ → Option ℕ
 holder_after act older held =
-    (if begins act older held then committed act else (if ends act older held then None else kept act older held))
+    (if begins_hold act older then committed act else (if ends act older held then None else kept act older held))
 
--- the field that holds the seat
+-- the field that holds the seat: the last that committed an enable, while no commit of its own and no focus ended its hold
 abbrev pub holder : List Act → Option ℕ
 holder [] = None
 holder (act ∷ older) = holder_after act older (holder older)
-
--- the act begins a hold
-abbrev pub begins_hold : Act → List Act → Bool
-begins_hold act older = begins act older (holder older)
 
 -- the last act that began a hold
 abbrev pub hold_begun : List Act → ℕ

@@ -13,5 +13,6 @@ pub mod Popups
 pub mod Idle
 pub mod Told
 pub mod Rows
+pub mod HoldRows
 pub mod KeyRows
 pub mod SessionRows

@@ -207,7 +207,7 @@ CommitsBeforeTheFocus =
     ∷ (to 3 (said.FieldDone 3) ∷ [])
     ∷ [])
 
--- a second field while the first holds
+-- a second field takes the seat from the first, whose batch is stale for it
 abbrev pub SecondField : Type 0
 SecondField =
     told_each []
@@ -234,8 +234,8 @@ SecondField =
     ∷ (to 5 said.Activate ∷ to 5 (said.ContentType 0 0) ∷ to 5 said.MethodDone ∷ [])
     ∷ (to 9 (said.Enter 2) ∷ [])
     ∷ []
+    ∷ (to 5 said.Activate ∷ to 5 (said.ContentType 0 0) ∷ to 5 said.MethodDone ∷ [])
     ∷ []
-    ∷ (to 3 (said.FieldDone 1) ∷ [])
     ∷ [])
 
 -- a method that comes while a field holds

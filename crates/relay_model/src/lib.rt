@@ -11,7 +11,7 @@ pub use act::{Act, EndCause, Label, Word};
 pub use fault::Fault;
 pub use popup_place::{Rect, Size};
 pub use role::Role;
-pub use rows::{session_rows, worked_rows};
+pub use rows::{hold_rows, session_rows, worked_rows};
 pub use said::{Said, Told};
 pub use wl_proto::Interface;
 pub use wl_wire::Text;

@@ -1,5 +1,6 @@
 // The worked rows, which the definitions compute.
 ghost use Rattle.relay_model.specs.Rows.{OrdinaryPath, SerialBeforeAnyDone, EarlierDone, NewActivation, ResetAtActivation, EmptyBatch, CommitsBeforeTheFocus, SecondField, LateMethod, CursorInsideACharacter, DroppedSurface, FocusAgain, CauseOfOneCommit, SetBeforeEnable, WholeBatch};
+ghost use Rattle.relay_model.specs.HoldRows.{DisplacedFieldCommits, DisplacedFieldDisables, DisplacedFieldReturns, DisplacedFieldDropped};
 ghost use Rattle.relay_model.specs.KeyRows.{Routing, ReleasedAfterTheGrab, GrabsInTurn, Placement, TwoPopups, PopupWithoutSurface, RectangleReset, PopupBesidePopup, TooManyKeys};
 ghost use Rattle.relay_model.specs.SessionRows.{GlobalsOfAnApp, GlobalsOfAMethod, AnsweredSync, BoundSeat, RefusedMessages, DroppedThing, EndedPeer};
 
@@ -29,6 +30,15 @@ pub fn worked_rows()
     ensures rectangle_reset { RectangleReset }
     ensures popup_beside_popup { PopupBesidePopup }
     ensures too_many_keys { TooManyKeys }
+{}
+
+/// The same of a field whose seat another field takes. The worked rows above have the first such list, and the holder's own
+/// second enable.
+pub fn hold_rows()
+    ensures displaced_field_commits { DisplacedFieldCommits }
+    ensures displaced_field_disables { DisplacedFieldDisables }
+    ensures displaced_field_returns { DisplacedFieldReturns }
+    ensures displaced_field_dropped { DisplacedFieldDropped }
 {}
 
 /// The same of the acts that only sessions have.
