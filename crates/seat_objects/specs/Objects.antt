@@ -131,9 +131,11 @@ requested f act o = (if o.label == f then record o { kind = changed (asked act) 
 abbrev pub refocused : Option ℕ → Object → Object
 refocused peer o = record o { kind = changed (change.focused (is_at peer o.peer)) o.kind }
 
--- the field f has committed once more
-abbrev pub committed : ℕ → (may_hold : Bool) → Object → Object
-committed f may_hold o = (if o.label == f then record o { kind = changed (change.committed may_hold) o.kind } else o)
+-- the field f has committed once more, and took the seat from another field that may be named
+abbrev pub committed : ℕ → (displaced : Option ℕ) → Object → Object
+committed f displaced o =
+    (if o.label == f then record o { kind = changed change.committed o.kind }
+    else (if is_at displaced o.label then record o { kind = changed change.displaced o.kind } else o))
 
 abbrev pub kind_placed : Rect → Kind → Kind
 kind_placed rect (Surface area) = Surface rect

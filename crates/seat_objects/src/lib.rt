@@ -10,8 +10,8 @@ mod tests;
 mod told;
 
 pub use object::{
-    Kind, NO_AREA, Object, area_of, commit, count_of, field_at, field_of, has_popup, is_free,
-    is_method, is_number, is_peer, is_same, is_surface, object_of, owner, place_surface, refocus,
+    Kind, NO_AREA, Object, area_of, commit, count_of, field_at, field_of, has_popup, is_method,
+    is_number, is_peer, is_same, is_surface, object_of, owner, place_surface, refocus,
     remove_object, remove_peer, request,
 };
 pub use post::{

@@ -1,7 +1,6 @@
 // The live objects, by rising label.
 ghost use Rattle.std.specs.Prelude.{◌≡◌, ◌≤◌, map, filter, option_map, Some};
 ghost use Rattle.relay_model.specs.Objects.{is_at, is_same};
-ghost use Rattle.relay_model.specs.Hold.{is_free_for};
 ghost use Rattle.seat_objects.specs.Fits.{FitsMessage};
 ghost use Rattle.seat_objects.specs.Objects.{find, owner_in, area_in, surface_of_kind, has_popup_in, not_label, not_peer, requested, refocused, committed, placed_at, field_in, field_at, count_in, is_peer_in, is_field_in, is_surface_in, is_method_in};
 
@@ -56,16 +55,6 @@ pub fn is_same(one: Option<Label>, other: Option<Label>) -> bool
     match one {
         Some(label) => is_number(other, label),
         None => false,
-    }
-}
-
-/// No other field holds.
-pub fn is_free(holder: Option<Label>, field: Label) -> bool
-    ensures { result ≡ is_free_for holder field }
-{
-    match holder {
-        Some(there) => there == field,
-        None => true,
     }
 }
 
@@ -267,13 +256,15 @@ impl Object {
         }
     }
 
-    // The field commits.
-    fn commit(&mut self, field: Label, may_hold: bool)
-        ensures { self.new ≡ committed field may_hold self.old }
+    // The field commits, and takes the seat from the displaced one.
+    fn commit(&mut self, field: Label, displaced: Option<Label>)
+        ensures { self.new ≡ committed field displaced self.old }
     {
-        if self.label == field {
-            if let Kind::Field(kept) = &mut self.kind {
-                let _ = kept.commit(may_hold);
+        if let Kind::Field(kept) = &mut self.kind {
+            if self.label == field {
+                let _ = kept.commit();
+            } else if is_number(displaced, self.label) {
+                kept.displace();
             }
         }
     }
@@ -298,12 +289,13 @@ pub fn refocus(objects: &mut [Object], peer: Option<Label>)
     }
 }
 
-/// The field commits.
-pub fn commit(objects: &mut [Object], field: Label, may_hold: bool)
-    ensures { objects.new ≡ map (committed field may_hold) objects.old }
+/// The field commits. Where it takes the seat from another, that one is named, no longer holds, and keeps its pending
+/// requests.
+pub fn commit(objects: &mut [Object], field: Label, displaced: Option<Label>)
+    ensures { objects.new ≡ map (committed field displaced) objects.old }
 {
     for object in objects.iter_mut() {
-        object.commit(field, may_hold);
+        object.commit(field, displaced);
     }
 }
 

@@ -62,7 +62,7 @@ fn focus_comes_and_goes(rt: &impl Abort, objects: &mut [Object]) {
     refocus(objects, Some(1));
     tell_enters(objects, Some(1), 2, &mut post);
     tell_leaves(objects, Some(1), 2, &mut post);
-    commit(objects, 3, true);
+    commit(objects, 3, None);
     assert_eq!(rt; (post.told, post.last), (2, 3));
     assert_eq!(rt; count_of(objects, 3), 1);
     assert!(rt; is_surface(objects, 2) && !is_surface(objects, 3));
