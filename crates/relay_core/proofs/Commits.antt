@@ -1,6 +1,6 @@
 -- A field's commit keeps that the relay stands for the history.
 use Rattle.std.proofs.Common.{◌≡◌, ℕ, ◌+◌, ◌%◌, ◌^◌, ◌≤◌, List, ◌∷◌, length, map, Bool, true, false, Option, Some, None, ap, refl, sym, subst, ◌∙◌, arith}
-use Rattle.std.specs.Prelude.{◌==◌, ◌&&◌, ◌||◌, if◌then◌else◌, is_some, is_none}
+use Rattle.std.specs.Prelude.{◌==◌, ◌&&◌, if◌then◌else◌, is_some, is_none}
 use Rattle.std.proofs.lemmas.Bool.{eq-eqb, eqb-true, true≢false}
 use Rattle.relay_model.specs.declared.act.Act.{Act}
 use Rattle.relay_model.specs.declared.act.Act.TheVariants as acts
@@ -8,7 +8,7 @@ use Rattle.relay_model.specs.declared.act.Word.{Word}
 use Rattle.relay_model.specs.declared.act.Word.TheVariants.{Enabled, Disabled}
 use Rattle.relay_model.specs.Objects.{is_at, is_field}
 use Rattle.relay_model.specs.Focus.{entered, entered_since}
-use Rattle.relay_model.specs.Hold.{word, word_past, holder, is_free_for, begins_hold}
+use Rattle.relay_model.specs.Hold.{word, word_past, holder, begins_hold}
 use Rattle.relay_model.specs.Pending.{pending}
 use Rattle.relay_model.specs.Activation.{Notice, Activates, Updates, Deactivates, serving, notice}
 use Rattle.relay_model.specs.Batch.{commits, commit_count}
@@ -25,13 +25,13 @@ use Rattle.field_state.specs.declared.commit.Taken.{Taken}
 use Rattle.field_state.specs.declared.commit.Taken.TheVariants.{Begun, Updated, Ended, Nothing}
 use Rattle.kbd_grab.specs.Keyboard as keyboard
 use Rattle.relay_core.specs.KeyCalls.{key_calls}
-use Rattle.seat_objects.specs.Objects.{find, field_in, committed}
-use Rattle.relay_core.specs.Machine.{State, counted, taken_in, held, field_committed}
+use Rattle.seat_objects.specs.Objects.{committed}
+use Rattle.relay_core.specs.Machine.{State, counted, taken_in, taken_by, displaced_by, held, field_committed}
 use Rattle.relay_core.specs.Stands.{Stands, word_kept as kept_word, state_kept, current_where, field_kept}
 use Rattle.relay_core.proofs.Calm.{keys_same, commit_calm}
 use Rattle.relay_core.proofs.Entries.{AllMove, eqb_sym}
 use Rattle.relay_core.proofs.KeptFields.{same_parts, pending_same, current_same}
-use Rattle.relay_core.proofs.Moving.{stays, touch_only, entries_touched}
+use Rattle.relay_core.proofs.Moving.{stays, touch_both, entries_touched}
 use Rattle.relay_core.proofs.Finds.{finds_kept}
 use Rattle.relay_core.proofs.Served.{ServedIn, served_notified}
 use Rattle.relay_core.proofs.Releases.{released_acts, released_objects, released_focus, released_holder, released_screen, released_keys, served_released}
@@ -117,70 +117,52 @@ held_holder f Nothing s = refl
 
 -- what the commit of a field with this word does
 abbrev pub does : ℕ → Option Word → Option ℕ → Taken
-does f w held = answer (is_free_for held f) (kept_word w) (is_at held f)
+does f w held = answer (kept_word w) (is_at held f)
 
-held_free : (o : Option ℕ) (f : ℕ) → is_at o f ≡ true → is_free_for o f ≡ true
-held_free None f e = cc
-held_free (Some x) f e = e
-
-or_same : (a b : Bool) → (b ≡ true → a ≡ true) → (a || b) ≡ a
-or_same true b h = refl
-or_same false true h = absurd (true≢false (sym (h refl)))
-or_same false false h = refl
-
-holder_does_by : (f : ℕ) (w : Option Word) (held : Option ℕ) (b c : Bool) → is_at held f ≡ b → is_free_for held f ≡ c →
+holder_does_by : (f : ℕ) (w : Option Word) (held : Option ℕ) (b : Bool) → is_at held f ≡ b →
     holder_by f (does f w held) held ≡ held_after f w held
-holder_does_by f None held true c e k = rw e refl
-holder_does_by f None held false c e k = rw e refl
-holder_does_by f (Some Enabled) held true c e k = rw (held_free held f e) refl
-holder_does_by f (Some Enabled) held false true e k = rw k refl
-holder_does_by f (Some Enabled) held false false e k = rw (k, e) refl
-holder_does_by f (Some Disabled) held true c e k = rw e refl
-holder_does_by f (Some Disabled) held false c e k = rw e refl
+holder_does_by f None held true e = rw e refl
+holder_does_by f None held false e = rw e refl
+holder_does_by f (Some Enabled) held b e = refl
+holder_does_by f (Some Disabled) held true e = rw e refl
+holder_does_by f (Some Disabled) held false e = rw e refl
 
 holder_does : (f : ℕ) (w : Option Word) (held : Option ℕ) → holder_by f (does f w held) held ≡ held_after f w held
-holder_does f w held = holder_does_by f w held (is_at held f) (is_free_for held f) refl refl
+holder_does f w held = holder_does_by f w held (is_at held f) refl
 
 -- whether f holds after its commit
-holds_does_by : (f : ℕ) (w : Option Word) (held : Option ℕ) (b c : Bool) → is_at held f ≡ b → is_free_for held f ≡ c →
+holds_does_by : (f : ℕ) (w : Option Word) (held : Option ℕ) (b : Bool) → is_at held f ≡ b →
     holds_after (does f w held) ≡ is_at (held_after f w held) f
-holds_does_by f None held true c e k = rw e refl
-holds_does_by f None held false c e k = rw e refl
-holds_does_by f (Some Enabled) held true c e k = rw (held_free held f e, eq-eqb f f refl) refl
-holds_does_by f (Some Enabled) held false true e k = rw (k, eq-eqb f f refl) refl
-holds_does_by f (Some Enabled) held false false e k = rw (k, e) refl
-holds_does_by f (Some Disabled) held true c e k = rw e refl
-holds_does_by f (Some Disabled) held false c e k =
+holds_does_by f None held true e = rw e refl
+holds_does_by f None held false e = rw e refl
+holds_does_by f (Some Enabled) held b e = sym (eq-eqb f f refl)
+holds_does_by f (Some Disabled) held true e = rw e refl
+holds_does_by f (Some Disabled) held false e =
     ap (λ b. holds_after (if b then Ended else Nothing)) e ∙ sym (ap (λ b. is_at (if b then None else held) f) e ∙ e)
 
 holds_does : (f : ℕ) (w : Option Word) (held : Option ℕ) → holds_after (does f w held) ≡ is_at (held_after f w held) f
-holds_does f w held = holds_does_by f w held (is_at held f) (is_free_for held f) refl refl
+holds_does f w held = holds_does_by f w held (is_at held f) refl
 
 -- what is said of the hold at a commit with this word
 abbrev pub notice_by : ℕ → Option Word → Option ℕ → Option Notice
 notice_by f None held = (if is_at held f then Some Updates else None)
-notice_by f (Some Enabled) held = (if is_free_for held f then Some Activates else None)
+notice_by f (Some Enabled) held = Some Activates
 notice_by f (Some Disabled) held = (if is_at held f then Some Deactivates else None)
 
 no_end : (x : Option ℕ) → (is_some x && is_none x) ≡ false
 no_end None = refl
 no_end (Some y) = refl
 
-commit_noticed_by : (log : List Act) (f : ℕ) (w : Option Word) (b c : Bool) → IsHistory log → word log f ≡ w → is_at (holder log) f ≡ b → is_free_for (holder log) f ≡ c →
+commit_noticed_by : (log : List Act) (f : ℕ) (w : Option Word) (b : Bool) → IsHistory log → word log f ≡ w → is_at (holder log) f ≡ b →
     notice (acts.Commit f) log ≡ notice_by f w (holder log)
-commit_noticed_by log f None true c i e k l = rw (e, k, and_false (entered log f)) refl
-commit_noticed_by log f None false c i e k l =
+commit_noticed_by log f None true i e k = rw (e, k, and_false (entered log f)) refl
+commit_noticed_by log f None false i e k =
     let later : holder (acts.Commit f ∷ log) ≡ holder log = holder_committed log f i ∙ ap (λ w. held_after f w (holder log)) e in
     rw (later, e, k, and_false (entered log f), no_end (holder log)) refl
-commit_noticed_by log f (Some Enabled) b true i e k l =
+commit_noticed_by log f (Some Enabled) b i e k =
     let here : entered log f ≡ true = word_entered log f Enabled e in
-    rw (e, here, l) refl
-commit_noticed_by log f (Some Enabled) b false i e k l =
-    let here : entered log f ≡ true = word_entered log f Enabled e in
-    let stay : held_after f (Some Enabled) (holder log) ≡ holder log = rw l refl in
-    let later : holder (acts.Commit f ∷ log) ≡ holder log = holder_committed log f i ∙ ap (λ w. held_after f w (holder log)) e ∙ stay in
-    rw (later, e, here, l, and_false (is_at (holder log) f), no_end (holder log)) refl
-commit_noticed_by log f (Some Disabled) true c i e k l =
+    rw (e, here) refl
+commit_noticed_by log f (Some Disabled) true i e k =
     let fall : held_after f (Some Disabled) (holder log) ≡ None = rw k refl in
     let later : holder (acts.Commit f ∷ log) ≡ None = holder_committed log f i ∙ ap (λ w. held_after f w (holder log)) e ∙ fall in
     rw (later, e, k, and_false (entered log f)) (held_some (holder log) f k)
@@ -188,13 +170,13 @@ commit_noticed_by log f (Some Disabled) true c i e k l =
     held_some : (h : Option ℕ) (f : ℕ) → is_at h f ≡ true → (if is_some h && true then Some Deactivates else None) ≡ Some Deactivates
     held_some None f k = cc
     held_some (Some x) f k = refl
-commit_noticed_by log f (Some Disabled) false c i e k l =
+commit_noticed_by log f (Some Disabled) false i e k =
     let stay : held_after f (Some Disabled) (holder log) ≡ holder log = rw k refl in
     let later : holder (acts.Commit f ∷ log) ≡ holder log = holder_committed log f i ∙ ap (λ w. held_after f w (holder log)) e ∙ stay in
     rw (later, e, k, and_false (entered log f), no_end (holder log)) refl
 
 pub commit_noticed : (log : List Act) (f : ℕ) → IsHistory log → notice (acts.Commit f) log ≡ notice_by f (word log f) (holder log)
-commit_noticed log f i = commit_noticed_by log f (word log f) (is_at (holder log) f) (is_free_for (holder log) f) i refl refl refl
+commit_noticed log f i = commit_noticed_by log f (word log f) (is_at (holder log) f) i refl refl
 
 -- what is said of the hold is what the commit does
 abbrev pub noticed : Taken → Option Notice
@@ -203,28 +185,26 @@ noticed Updated = Some Updates
 noticed Ended = Some Deactivates
 noticed Nothing = None
 
-noticed_by : (f : ℕ) (w : Option Word) (held : Option ℕ) (b c : Bool) → is_at held f ≡ b → is_free_for held f ≡ c →
+noticed_by : (f : ℕ) (w : Option Word) (held : Option ℕ) (b : Bool) → is_at held f ≡ b →
     notice_by f w held ≡ noticed (does f w held)
-noticed_by f None held true c e k = rw e refl
-noticed_by f None held false c e k = rw e refl
-noticed_by f (Some Enabled) held true c e k = rw (held_free held f e) refl
-noticed_by f (Some Enabled) held false true e k = rw k refl
-noticed_by f (Some Enabled) held false false e k = rw (k, e) refl
-noticed_by f (Some Disabled) held true c e k = rw e refl
-noticed_by f (Some Disabled) held false c e k = rw e refl
+noticed_by f None held true e = rw e refl
+noticed_by f None held false e = rw e refl
+noticed_by f (Some Enabled) held b e = refl
+noticed_by f (Some Disabled) held true e = rw e refl
+noticed_by f (Some Disabled) held false e = rw e refl
 
 pub commit_said : (log : List Act) (f : ℕ) → IsHistory log → notice (acts.Commit f) log ≡ noticed (does f (word log f) (holder log))
-commit_said log f i = commit_noticed log f i ∙ noticed_by f (word log f) (holder log) (is_at (holder log) f) (is_free_for (holder log) f) refl refl
+commit_said log f i = commit_noticed log f i ∙ noticed_by f (word log f) (holder log) (is_at (holder log) f) refl
 
 -- a hold is there to end
-pub ends_held : (f : ℕ) (w : Option Word) (held : Option ℕ) (b c : Bool) → is_at held f ≡ b → is_free_for held f ≡ c → does f w held ≡ Ended → ended held ≡ Some Deactivates
-ends_held f w None b c e k d = absurd (free f w (sym d))
+pub ends_held : (f : ℕ) (w : Option Word) (held : Option ℕ) → does f w held ≡ Ended → ended held ≡ Some Deactivates
+ends_held f w None d = absurd (free f w (sym d))
   where
     free : (f : ℕ) (w : Option Word) → Ended ≡ does f w None → ⊥
     free f None d = cc
     free f (Some Enabled) d = cc
     free f (Some Disabled) d = cc
-ends_held f w (Some h) b c e k d = refl
+ends_held f w (Some h) d = refl
 
 held_served : (f : ℕ) (t : Taken) (s : State) (log : List Act) → s.holder ≡ holder log → ServedIn s log → serving (acts.Commit f ∷ log) ≡ serving log →
     notice (acts.Commit f) log ≡ noticed t → (t ≡ Ended → ended (holder log) ≡ Some Deactivates) → ServedIn (held f t s) (acts.Commit f ∷ log)
@@ -259,7 +239,7 @@ commit_holds log f i = ap (λ o. is_at o f) (holder_committed log f i) ∙ sym (
 
 -- the field that commits
 pub commit_kept : (log : List Act) (f : ℕ) → IsHistory log → f ≤ length log →
-    change.committed (is_free_for (holder log) f) (field_kept log f) ≡ field_kept (acts.Commit f ∷ log) f
+    change.committed (field_kept log f) ≡ field_kept (acts.Commit f ∷ log) f
 commit_kept log f i l =
     let there : entered (acts.Commit f ∷ log) f ≡ entered log f = entered_same (acts.Commit f) log f i (commit_steady f) l in
     let after : is_at (holder (acts.Commit f ∷ log)) f ≡ holds_after (does f (word log f) (holder log)) = commit_holds log f i in
@@ -285,16 +265,37 @@ commit_kept log f i l =
     commit_current log f i false e = ap (λ b. current_where b (acts.Commit f ∷ log) f) e
 
 -- another field
-other_holds : (f x : ℕ) (w : Option Word) (held : Option ℕ) → (x == f) ≡ false → (b c : Bool) → is_at held f ≡ b → is_free_for held f ≡ c →
+
+-- the field that the commit takes the seat from
+abbrev pub loses : ℕ → Option Word → Option ℕ → Option ℕ
+loses f w held = displaced_by (does f w held) held
+
+loses_by : (w : Option Word) (held : Option ℕ) (f : ℕ) (b : Bool) → is_at held f ≡ b → (w ≡ Some Enabled → ⊥) → loses f w held ≡ None
+loses_by None held f true e n = rw e refl
+loses_by None held f false e n = rw e refl
+loses_by (Some Enabled) held f b e n = absurd (n refl)
+loses_by (Some Disabled) held f true e n = rw e refl
+loses_by (Some Disabled) held f false e n = rw e refl
+
+disabled_holds : (f x : ℕ) (held : Option ℕ) (b : Bool) → is_at held f ≡ b → (x == f) ≡ false → is_at (held_after f (Some Disabled) held) x ≡ is_at held x
+disabled_holds f x None b e d = refl
+disabled_holds f x (Some h) true e d = rw e (sym (ap (λ v. v == x) (eqb-true h f e) ∙ eqb_sym f x ∙ d))
+disabled_holds f x (Some h) false e d = rw e refl
+
+-- it keeps what it had of the seat
+other_holds : (f x : ℕ) (w : Option Word) (held : Option ℕ) → (x == f) ≡ false → is_at (loses f w held) x ≡ false →
     is_at (held_after f w held) x ≡ is_at held x
-other_holds f x None held d b c e k = refl
-other_holds f x (Some Enabled) None d b c e k = eqb_sym f x ∙ d
-other_holds f x (Some Enabled) (Some h) d b true e k =
-    rw k (eqb_sym f x ∙ d ∙ sym (ap (λ v. v == x) (eqb-true h f k) ∙ eqb_sym f x ∙ d))
-other_holds f x (Some Enabled) (Some h) d b false e k = rw k refl
-other_holds f x (Some Disabled) None d b c e k = refl
-other_holds f x (Some Disabled) (Some h) d true c e k = rw e (sym (ap (λ v. v == x) (eqb-true h f e) ∙ eqb_sym f x ∙ d))
-other_holds f x (Some Disabled) (Some h) d false c e k = rw e refl
+other_holds f x None held d k = refl
+other_holds f x (Some Enabled) held d k = eqb_sym f x ∙ d ∙ sym k
+other_holds f x (Some Disabled) held d k = disabled_holds f x held (is_at held f) refl d
+
+-- or the commit takes the seat from it
+other_loses : (f x : ℕ) (w : Option Word) (held : Option ℕ) → (x == f) ≡ false → is_at (loses f w held) x ≡ true →
+    is_at (held_after f w held) x ≡ false
+other_loses f x None held d k = absurd (true≢false (sym k ∙ ap (λ o. is_at o x) (loses_by None held f (is_at held f) refl (λ e. cc))))
+other_loses f x (Some Enabled) held d k = eqb_sym f x ∙ d
+other_loses f x (Some Disabled) held d k =
+    absurd (true≢false (sym k ∙ ap (λ o. is_at o x) (loses_by (Some Disabled) held f (is_at held f) refl (λ e. cc))))
 
 -- what is current of another field that holds
 other_current : (log : List Act) (f x : ℕ) → IsHistory log → (x == f) ≡ false → (b : Bool) → begins_hold (acts.Commit f) log ≡ b →
@@ -306,52 +307,67 @@ other_current log f x i d true e h =
     ap (λ b. current_where b (acts.Commit f ∷ log) x) out ∙ sym (ap (λ b. current_where b log x) (sym h ∙ out))
 other_current log f x i d false e h = current_same (acts.Commit f) log x h (eqb_sym f x ∙ d) e
 
-other_kept : (log : List Act) (f x : ℕ) → IsHistory log → (x == f) ≡ false → x ≤ length log → field_kept log x ≡ field_kept (acts.Commit f ∷ log) x
-other_kept log f x i d l =
+-- of another field only the seat moves
+other_by : (log : List Act) (f x : ℕ) (held : Bool) (c : field.State) → IsHistory log → (x == f) ≡ false → x ≤ length log →
+    is_at (holder (acts.Commit f ∷ log)) x ≡ held → current_where (is_at (holder (acts.Commit f ∷ log)) x) (acts.Commit f ∷ log) x ≡ c →
+    record (field_kept log x) { holds = held; current = c } ≡ field_kept (acts.Commit f ∷ log) x
+other_by log f x held c i d l holds k =
     let there : entered (acts.Commit f ∷ log) x ≡ entered log x = entered_same (acts.Commit f) log x i (commit_steady f) l in
     let since : entered_since (acts.Commit f ∷ log) x ≡ entered_since log x = entered_since_same (acts.Commit f) log x (commit_steady f) in
-    let holds : is_at (holder (acts.Commit f ∷ log)) x ≡ is_at (holder log) x =
-    ap (λ o. is_at o x) (holder_committed log f i) ∙ other_holds f x (word log f) (holder log) d (is_at (holder log) f) (is_free_for (holder log) f) refl refl in
     sym (same_parts there
     (ap kept_word (commit_word log f x i l ∙ ap (λ b. if b then None else word log x) d)) holds
     (commit_counts log f x ∙ ap (λ b. if b then (commit_count log x + 1) % 2 ^ 32 else commit_count log x) d)
     (ap state_kept (pending_same (acts.Commit f) log x there since (λ rest. ap (λ b. if b then record rest { cause = 0 } else rest) (eqb_sym f x ∙ d))))
-    (other_current log f x i d (begins_hold (acts.Commit f) log) refl holds))
+    k)
 
-commit_moves : (log : List Act) (f : ℕ) → IsHistory log → AllMove (acts.Commit f) log (committed f (is_free_for (holder log) f)) (λ _. true)
+other_kept : (log : List Act) (f x : ℕ) → IsHistory log → (x == f) ≡ false → x ≤ length log → is_at (loses f (word log f) (holder log)) x ≡ false →
+    field_kept log x ≡ field_kept (acts.Commit f ∷ log) x
+other_kept log f x i d l k =
+    let holds : is_at (holder (acts.Commit f ∷ log)) x ≡ is_at (holder log) x =
+    ap (λ o. is_at o x) (holder_committed log f i) ∙ other_holds f x (word log f) (holder log) d k in
+    other_by log f x (is_at (holder log) x) (current_where (is_at (holder log) x) log x) i d l holds
+    (other_current log f x i d (begins_hold (acts.Commit f) log) refl holds)
+
+other_displaced : (log : List Act) (f x : ℕ) → IsHistory log → (x == f) ≡ false → x ≤ length log → is_at (loses f (word log f) (holder log)) x ≡ true →
+    change.displaced (field_kept log x) ≡ field_kept (acts.Commit f ∷ log) x
+other_displaced log f x i d l k =
+    let out : is_at (holder (acts.Commit f ∷ log)) x ≡ false =
+    ap (λ o. is_at o x) (holder_committed log f i) ∙ other_loses f x (word log f) (holder log) d k in
+    other_by log f x false field.initial i d l out (ap (λ b. current_where b (acts.Commit f ∷ log) x) out)
+
+commit_moves : (log : List Act) (f : ℕ) → IsHistory log → AllMove (acts.Commit f) log (committed f (loses f (word log f) (holder log))) (λ _. true)
 commit_moves log f i =
-    λ x l. stays (committed f (is_free_for (holder log) f)) (acts.Commit f) log x (object_same (acts.Commit f) log x (commit_steady f) l)
-    (touch_only f (change.committed (is_free_for (holder log) f)) (acts.Commit f) log x refl
-    (λ d. let P : ℕ → Type 0 = λ y. change.committed (is_free_for (holder log) f) (field_kept log y) ≡ field_kept (acts.Commit f ∷ log) y in
+    λ x l. stays (committed f (loses f (word log f) (holder log))) (acts.Commit f) log x (object_same (acts.Commit f) log x (commit_steady f) l)
+    (touch_both f (loses f (word log f) (holder log)) change.committed change.displaced (acts.Commit f) log x refl
+    (λ d. let P : ℕ → Type 0 = λ y. change.committed (field_kept log y) ≡ field_kept (acts.Commit f ∷ log) y in
     subst P (sym (eqb-true x f d)) (commit_kept log f i (let e = eqb-true x f d in omega arith)))
-    (λ d. other_kept log f x i d l))
+    (λ d k. other_displaced log f x i d l k) (λ d k. other_kept log f x i d l k))
 
 commit_of : (s : State) (log : List Act) (f : ℕ) → IsHistory log → Stands s log →
-    Stands (held f (does f (word log f) (holder log)) (record (counted s) { objects = map (committed f (is_free_for (holder log) f)) s.objects })) (acts.Commit f ∷ log)
+    Stands (held f (does f (word log f) (holder log)) (record (counted s) { objects = map (committed f (loses f (word log f) (holder log))) s.objects })) (acts.Commit f ∷ log)
 commit_of s log f i h =
     let t : Taken = does f (word log f) (holder log) in
-    let r : State = record (counted s) { objects = map (committed f (is_free_for (holder log) f)) s.objects } in
+    let r : State = record (counted s) { objects = map (committed f (loses f (word log f) (holder log))) s.objects } in
     record {
       acts_now = held_acts f t r ∙ one_more s (acts.Commit f) log h;
-      objects_now = held_objects f t r ∙ ap (map (committed f (is_free_for (holder log) f))) h.objects_now ∙
-          sym (entries_touched (acts.Commit f) log (committed f (is_free_for (holder log) f)) (commit_moves log f i) refl);
+      objects_now = held_objects f t r ∙ ap (map (committed f (loses f (word log f) (holder log)))) h.objects_now ∙
+          sym (entries_touched (acts.Commit f) log (committed f (loses f (word log f) (holder log))) (commit_moves log f i) refl);
       focus_now = held_focus f t r ∙ h.focus_now ∙ sym (focus_same (acts.Commit f) log i (commit_steady f));
       holder_now = held_holder f t r ∙ ap (holder_by f t) h.holder_now ∙ holder_does f (word log f) (holder log) ∙ sym (holder_committed log f i);
       served_now = held_served f t r log h.holder_now h.served_now (serving_same (acts.Commit f) log refl (commit_steady f))
-          (commit_said log f i) (ends_held f (word log f) (holder log) (is_at (holder log) f) (is_free_for (holder log) f) refl refl);
+          (commit_said log f i) (ends_held f (word log f) (holder log));
       screen_now = held_screen f t r ∙ h.screen_now;
       keys_now = subst (λ k. keyboard.StandsFor (key_calls (acts.Commit f ∷ log)) k) (sym (held_keys f t r))
           (keys_same (acts.Commit f) log s.keys (commit_calm f) refl (λ x o. refl) h.keys_now);
     }
 
 -- what the commit does is what the machine says
-pub taken_is : (s : State) (log : List Act) (f : ℕ) → is_field log f ≡ true → Stands s log →
-    taken_in (is_free_for (holder log) f) (field_in (find s.objects f)) ≡ does f (word log f) (holder log)
-taken_is s log f e h = ap (taken_in (is_free_for (holder log) f)) (finds_kept s log f h e)
+pub taken_is : (s : State) (log : List Act) (f : ℕ) → is_field log f ≡ true → Stands s log → taken_by f s ≡ does f (word log f) (holder log)
+taken_is s log f e h = ap taken_in (finds_kept s log f h e)
 
 pub stands_commit : (s : State) (log : List Act) (f : ℕ) → IsHistory log → is_field log f ≡ true → Stands s log → Stands (field_committed f (counted s)) (acts.Commit f ∷ log)
 stands_commit s log f i e h =
     let M : Option ℕ → Taken → Type 0 =
-    λ o t. Stands (held f t (record (counted s) { objects = map (committed f (is_free_for o f)) s.objects })) (acts.Commit f ∷ log) in
-    subst (λ o. M o (taken_in (is_free_for o f) (field_in (find s.objects f)))) (sym h.holder_now)
+    λ o t. Stands (held f t (record (counted s) { objects = map (committed f (displaced_by t o)) s.objects })) (acts.Commit f ∷ log) in
+    subst (λ o. M o (taken_by f s)) (sym h.holder_now)
     (subst (M (holder log)) (sym (taken_is s log f e h)) (commit_of s log f i h))

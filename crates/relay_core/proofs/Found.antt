@@ -1,6 +1,7 @@
 -- Looking up a field after its commit.
 use Rattle.std.proofs.Common.{◌≡◌, ℕ, List, [], ◌∷◌, map, Bool, true, false, Option, Some, None, ap, refl, sym, ◌∙◌}
 use Rattle.std.specs.Prelude.{◌==◌, if◌then◌else◌}
+use Rattle.relay_model.specs.Objects.{is_at}
 use Rattle.field_state.specs.Stands.{Kept as KeptField}
 use Rattle.field_state.specs.Changes as change
 use Rattle.field_state.specs.Calls as field
@@ -26,29 +27,30 @@ kind_changed change (Popup m t) = refl
 kind_changed change (Grab m) = refl
 kind_changed change Thing = refl
 
-found_by : (f : ℕ) (may_hold : Bool) (o : Object) (os : List Object) (b : Bool) → (o.label == f) ≡ b →
-    field_in (find (map (committed f may_hold) os) f) ≡ under (change.committed may_hold) (field_in (find os f)) →
-    field_in (find (map (committed f may_hold) (o ∷ os)) f) ≡ under (change.committed may_hold) (field_in (find (o ∷ os) f))
-found_by f may_hold o os true e h = rw (e, e) (kind_changed (change.committed may_hold) o.kind)
-found_by f may_hold o os false e h = rw (e, e) h
+found_by : (f : ℕ) (d : Option ℕ) (o : Object) (os : List Object) (b c : Bool) → (o.label == f) ≡ b → is_at d o.label ≡ c →
+    field_in (find (map (committed f d) os) f) ≡ under change.committed (field_in (find os f)) →
+    field_in (find (map (committed f d) (o ∷ os)) f) ≡ under change.committed (field_in (find (o ∷ os) f))
+found_by f d o os true c e k h = rw (e, e) (kind_changed change.committed o.kind)
+found_by f d o os false true e k h = rw (e, k, e) h
+found_by f d o os false false e k h = rw (e, k, e) h
 
 -- the field that committed
-pub found_committed : (f : ℕ) (may_hold : Bool) (os : List Object) →
-    field_in (find (map (committed f may_hold) os) f) ≡ under (change.committed may_hold) (field_in (find os f))
-found_committed f may_hold [] = refl
-found_committed f may_hold (o ∷ os) = found_by f may_hold o os (o.label == f) refl (found_committed f may_hold os)
+pub found_committed : (f : ℕ) (d : Option ℕ) (os : List Object) →
+    field_in (find (map (committed f d) os) f) ≡ under change.committed (field_in (find os f))
+found_committed f d [] = refl
+found_committed f d (o ∷ os) = found_by f d o os (o.label == f) (is_at d o.label) refl refl (found_committed f d os)
 
 -- a commit after which the field holds
 abbrev pub IsHolding : Taken → Type 0
 IsHolding t = holds_after t ≡ true
 
-text_by : (may_hold : Bool) (o : Option KeptField) → IsHolding (taken_in may_hold o) →
-    text_pending o ≡ text_around (current_of (under (change.committed may_hold) o)).surrounding
-text_by may_hold None h = cc
-text_by may_hold (Some kept) h = ap (λ (c : field.State). text_around c.surrounding) (sym (ap (λ b. if b then kept.pending else field.initial) h))
+text_by : (o : Option KeptField) → IsHolding (taken_in o) →
+    text_pending o ≡ text_around (current_of (under change.committed o)).surrounding
+text_by None h = cc
+text_by (Some kept) h = ap (λ (c : field.State). text_around c.surrounding) (sym (ap (λ b. if b then kept.pending else field.initial) h))
 
 -- what was pending is current of it
-pub text_committed : (f : ℕ) (may_hold : Bool) (os : List Object) → IsHolding (taken_in may_hold (field_in (find os f))) →
-    text_pending (field_in (find os f)) ≡ text_around (current_of (field_in (find (map (committed f may_hold) os) f))).surrounding
-text_committed f may_hold os h =
-    text_by may_hold (field_in (find os f)) h ∙ ap (λ o. text_around (current_of o).surrounding) (sym (found_committed f may_hold os))
+pub text_committed : (f : ℕ) (d : Option ℕ) (os : List Object) → IsHolding (taken_in (field_in (find os f))) →
+    text_pending (field_in (find os f)) ≡ text_around (current_of (field_in (find (map (committed f d) os) f))).surrounding
+text_committed f d os h =
+    text_by (field_in (find os f)) h ∙ ap (λ o. text_around (current_of o).surrounding) (sym (found_committed f d os))

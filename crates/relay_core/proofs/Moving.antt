@@ -136,6 +136,29 @@ pub touch_only : (f : ℕ) (change : KeptField → KeptField) (act : Act) (log :
     Touches (λ o. if o.label == f then record o { kind = changed change o.kind } else o) act log x
 touch_only f change act log x a here other = only_by f change act log x (x == f) refl a here other
 
+-- a field is changed, and another that may be named
+both_by : (f : ℕ) (d : Option ℕ) (here there : KeptField → KeptField) (act : Act) (log : List Act) (x : ℕ) (b c : Bool) →
+    (x == f) ≡ b → is_at d x ≡ c → area (act ∷ log) x ≡ area log x →
+    (b ≡ true → here (field_kept log x) ≡ field_kept (act ∷ log) x) →
+    (b ≡ false → c ≡ true → there (field_kept log x) ≡ field_kept (act ∷ log) x) →
+    (b ≡ false → c ≡ false → field_kept log x ≡ field_kept (act ∷ log) x) →
+    Touches (λ o. if o.label == f then record o { kind = changed here o.kind }
+    else (if is_at d o.label then record o { kind = changed there o.kind } else o)) act log x
+both_by f d here there act log x true c e k a one other rest =
+    λ p kind o. rw e (ap (λ t. record { label = x; peer = p; kind = t }) (kinds_changed here log (act ∷ log) x kind a (λ d. one refl)))
+both_by f d here there act log x false true e k a one other rest =
+    λ p kind o. rw (e, k) (ap (λ t. record { label = x; peer = p; kind = t }) (kinds_changed there log (act ∷ log) x kind a (λ d. other refl refl)))
+both_by f d here there act log x false false e k a one other rest =
+    λ p kind o. rw (e, k) (ap (λ t. record { label = x; peer = p; kind = t }) (kinds_same log (act ∷ log) x kind a (rest refl refl)))
+
+pub touch_both : (f : ℕ) (d : Option ℕ) (here there : KeptField → KeptField) (act : Act) (log : List Act) (x : ℕ) → area (act ∷ log) x ≡ area log x →
+    ((x == f) ≡ true → here (field_kept log x) ≡ field_kept (act ∷ log) x) →
+    ((x == f) ≡ false → is_at d x ≡ true → there (field_kept log x) ≡ field_kept (act ∷ log) x) →
+    ((x == f) ≡ false → is_at d x ≡ false → field_kept log x ≡ field_kept (act ∷ log) x) →
+    Touches (λ o. if o.label == f then record o { kind = changed here o.kind }
+    else (if is_at d o.label then record o { kind = changed there o.kind } else o)) act log x
+touch_both f d here there act log x a one other rest = both_by f d here there act log x (x == f) (is_at d x) refl refl a one other rest
+
 -- a surface is placed, and no other
 placed_by : (t : ℕ) (rect : Rect) (act : Act) (log : List Act) (x : ℕ) (b : Bool) → (x == t) ≡ b → area (act ∷ log) x ≡ (if b then rect else area log x) →
     field_kept log x ≡ field_kept (act ∷ log) x → Touches (placed_at t rect) act log x

@@ -10,7 +10,7 @@ use Rattle.relay_model.specs.declared.said.Told.{Told}
 use Rattle.relay_model.specs.declared.said.Said.TheVariants as said
 use Rattle.relay_model.specs.Objects.{is_at, is_field_kind, is_field}
 use Rattle.relay_model.specs.Focus.{focus, peer_at, focused_peer, entered}
-use Rattle.relay_model.specs.Hold.{word, holder, is_free_for}
+use Rattle.relay_model.specs.Hold.{word, holder}
 use Rattle.relay_model.specs.Current.{State as FieldState, Around, current}
 use Rattle.relay_model.specs.Activation.{Activates, Updates, Deactivates, serving, notice}
 use Rattle.relay_model.specs.Told.{to, enter, leaves, notice_said, holders_state, state_said, to_method, enters, enters_new, deleted, own, told_by}
@@ -28,8 +28,8 @@ use Rattle.field_state.specs.Changes as change
 use Rattle.field_state.specs.declared.commit.Taken.{Taken}
 use Rattle.field_state.specs.declared.commit.Taken.TheVariants.{Begun, Updated, Ended, Nothing}
 use Rattle.seat_objects.specs.Objects.{find, owner_in, field_in, committed}
-use Rattle.relay_core.specs.Machine.{State, counted, committing, taken_in, owner_at, focused_in, enter_told, method_told, current_of, state_of, holder_state, state_told, activate_told, update_told, deactivate_told, release_told, part_told, serving_unless, drop_told, gone_told, commit_told}
-use Rattle.relay_core.specs.Stands.{Stands, state_kept, current_where, field_kept}
+use Rattle.relay_core.specs.Machine.{State, counted, committing, taken_by, displaced_by, owner_at, focused_in, enter_told, method_told, current_of, state_of, holder_state, state_told, activate_told, update_told, deactivate_told, release_told, part_told, serving_unless, drop_told, gone_told, commit_told}
+use Rattle.relay_core.specs.Stands.{Stands, state_kept, current_where}
 use Rattle.relay_core.proofs.Finds.{finds_owner, finds_kept, owner_at_is, focused_is, holder_state_is}
 use Rattle.relay_core.proofs.Found.{under, found_committed}
 use Rattle.relay_core.proofs.KeptFields.{IsRequest}
@@ -198,27 +198,23 @@ commit_case s log f Ended i q k c e d =
 commit_case s log f Nothing i q k c e d = sym (method_quiet (acts.Commit f) log s.serving q)
 
 -- what the field has current after its commit
-committed_state : (s : State) (log : List Act) (f : ℕ) (free : Bool) → IsHistory log → is_field log f ≡ true → f ≤ length log → free ≡ is_free_for (holder log) f →
+committed_state : (s : State) (log : List Act) (f : ℕ) (d : Option ℕ) → IsHistory log → is_field log f ≡ true → f ≤ length log →
     is_at (holder (acts.Commit f ∷ log)) f ≡ true → Stands s log →
-    current_of (field_in (find (map (committed f free) s.objects) f)) ≡ state_kept (current (acts.Commit f ∷ log) f)
-committed_state s log f free i e l d k h =
-    ap current_of (found_committed f free s.objects ∙ ap (under (change.committed free)) (finds_kept s log f h e)) ∙
-    ap (λ b. (change.committed b (field_kept log f)).current) d ∙ ap (λ (v : KeptField). v.current) (commit_kept log f i l) ∙
-    ap (λ b. current_where b (acts.Commit f ∷ log) f) k
+    current_of (field_in (find (map (committed f d) s.objects) f)) ≡ state_kept (current (acts.Commit f ∷ log) f)
+committed_state s log f d i e l k h =
+    ap current_of (found_committed f d s.objects ∙ ap (under change.committed) (finds_kept s log f h e)) ∙
+    ap (λ (v : KeptField). v.current) (commit_kept log f i l) ∙ ap (λ b. current_where b (acts.Commit f ∷ log) f) k
 
 pub says_commit : (s : State) (log : List Act) (f : ℕ) → IsHistory log → is_field log f ≡ true → Stands s log →
-    commit_told f (taken_in (is_free_for s.holder f) (field_in (find s.objects f))) (committing f (counted s)) ≡ to_method (acts.Commit f) log (serving (acts.Commit f ∷ log))
+    commit_told f (taken_by f s) (committing f (taken_by f s) (counted s)) ≡ to_method (acts.Commit f) log (serving (acts.Commit f ∷ log))
 says_commit s log f i e h =
     let same : serving (acts.Commit f ∷ log) ≡ serving log = serving_same (acts.Commit f) log refl (commit_steady f) in
-    let free : is_free_for s.holder f ≡ is_free_for (holder log) f = ap (λ o. is_free_for o f) h.holder_now in
     let t : Taken = does f (word log f) (holder log) in
-    let taken : taken_in (is_free_for s.holder f) (field_in (find s.objects f)) ≡ t =
-    ap (λ b. taken_in b (field_in (find s.objects f))) free ∙ taken_is s log f e h in
     let after : is_at (holder (acts.Commit f ∷ log)) f ≡ holds_after t = commit_holds log f i in
-    ap (λ v. commit_told f v (committing f (counted s))) taken ∙
-    commit_case (committing f (counted s)) log f t i (commit_said log f i) after
-    (λ k. committed_state s log f (is_free_for s.holder f) i e (kind_within is_field_kind log f e) free (after ∙ k) h)
-    (ends_held f (word log f) (holder log) (is_at (holder log) f) (is_free_for (holder log) f) refl refl) h.holder_now ∙
+    ap (λ v. commit_told f v (committing f v (counted s))) (taken_is s log f e h) ∙
+    commit_case (committing f t (counted s)) log f t i (commit_said log f i) after
+    (λ k. committed_state s log f (displaced_by t s.holder) i e (kind_within is_field_kind log f e) (after ∙ k) h)
+    (ends_held f (word log f) (holder log)) h.holder_now ∙
     ap (to_method (acts.Commit f) log) (h.served_now.serving_now ∙ sym same)
 
 -- a drop and the end of a peer

@@ -6,7 +6,6 @@ use Rattle.relay_model.specs.declared.act.Act.TheVariants as acts
 use Rattle.relay_model.specs.declared.said.Told.{Told}
 use Rattle.relay_model.specs.declared.said.Said.TheVariants as said
 use Rattle.relay_model.specs.Objects.{is_at}
-use Rattle.relay_model.specs.Hold.{is_free_for}
 use Rattle.relay_model.specs.Keys.{is_press}
 use Rattle.relay_model.specs.Idle.{is_place, is_sized}
 use Rattle.relay_model.specs.Batch.{Batch}
@@ -176,9 +175,20 @@ gone p s =
     (fallen (is_at (owner_at s.objects s.keys.standing) p) (record s { objects = filter (not_peer p) s.objects })))
 
 -- what a commit of the field does, where a field is there
-abbrev pub taken_in : (may_hold : Bool) → Option Kept → Taken
-taken_in may_hold None = Nothing
-taken_in may_hold (Some kept) = taken_of may_hold kept
+abbrev pub taken_in : Option Kept → Taken
+taken_in None = Nothing
+taken_in (Some kept) = taken_of kept
+
+-- what a commit of the field f does
+abbrev pub taken_by : ℕ → State → Taken
+taken_by f s = taken_in (field_in (find s.objects f))
+
+-- the field that had the seat, where the commit begins a hold; it may be the field that commits
+abbrev pub displaced_by : Taken → Option ℕ → Option ℕ
+displaced_by Begun held = held
+displaced_by Updated held = None
+displaced_by Ended held = None
+displaced_by Nothing held = None
 
 -- a commit of f that does this
 abbrev pub held : ℕ → Taken → State → State
@@ -187,12 +197,12 @@ held f Updated s = updated s
 held f Ended s = released s
 held f Nothing s = s
 
--- the field f committed, and what it does is yet to come
-abbrev pub committing : ℕ → State → State
-committing f s = record s { objects = map (committed f (is_free_for s.holder f)) s.objects }
+-- the field f committed, and another is displaced where this begins a hold; what it does besides is yet to come
+abbrev pub committing : ℕ → Taken → State → State
+committing f t s = record s { objects = map (committed f (displaced_by t s.holder)) s.objects }
 
 abbrev pub field_committed : ℕ → State → State
-field_committed f s = held f (taken_in (is_free_for s.holder f) (field_in (find s.objects f))) (committing f s)
+field_committed f s = held f (taken_by f s) (committing f (taken_by f s) s)
 
 -- the act is an edit of the serving method, and what it makes of the pending edits
 abbrev pub edited : ℕ → LastEdits → State → State
@@ -324,7 +334,7 @@ says (acts.Grab m) s = (if stands_now m s then keyboard_told s.acts s.keys else 
 says (acts.Area t rect) s = popups_told (record s { objects = map (placed_at t rect) s.objects })
 says (acts.Screen size) s = popups_told (record s { screen = size })
 says (acts.Commit f) s =
-    commit_told f (taken_in (is_free_for s.holder f) (field_in (find s.objects f))) (committing f s) ++ popups_where_holds f (field_committed f s)
+    commit_told f (taken_by f s) (committing f (taken_by f s) s) ++ popups_where_holds f (field_committed f s)
 says (acts.Key time key state) s = key_told s.acts time key state (route_in key state s)
 says (acts.Mods depressed latched locked group) s = to_grab s.keys.standing (said.Mods s.acts depressed latched locked group)
 says (acts.Keymap format token size) s = to_grab s.keys.standing (said.Keymap format token size)

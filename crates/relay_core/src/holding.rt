@@ -1,29 +1,38 @@
 // The relay's part on the hold: the focus, a field's commits, and what the serving method is told of them.
 ghost use Rattle.std.specs.Prelude.{◌≡◌, ◌-◌, ◌<◌, true, Option, Some, None};
 ghost use Rattle.relay_model.specs.declared.act.Act.TheVariants as acts;
-ghost use Rattle.relay_model.specs.Hold.{is_free_for};
 ghost use Rattle.field_state.specs.Hold.{holds_after};
 ghost use Rattle.seat_objects.specs.Objects.{find, field_in};
 ghost use Rattle.seat_objects.specs.Reached.{Reached};
 ghost use Rattle.relay_core.specs.Kept.{state, text_pending};
-ghost use Rattle.relay_core.specs.Machine.{owner_at, activated, updated, deactivated, released, refocused_to, unfocused, parted, gone, taken_in, held, committing, field_committed, leaves_of, text_around, state_of, activate_told, update_told, release_told, part_told, commit_told, says};
+ghost use Rattle.relay_core.specs.Machine.{owner_at, activated, updated, deactivated, released, refocused_to, unfocused, parted, gone, taken_in, taken_by, displaced_by, held, committing, field_committed, leaves_of, text_around, state_of, activate_told, update_told, release_told, part_told, commit_told, says};
 
 use crate::machine::{Machine, owner_at};
 use field_state::Taken;
 use relay_model::Label;
 use seat_objects::{
-    Object, Post, commit, field_of, is_free, owner, refocus, tell_activate, tell_deactivate,
-    tell_enters, tell_leaves, tell_update,
+    Object, Post, commit, field_of, owner, refocus, tell_activate, tell_deactivate, tell_enters,
+    tell_leaves, tell_update,
 };
 use serial_count::Since;
 
 // What a commit of the field does.
-fn taken(objects: &[Object], field: Label, may_hold: bool) -> Taken
-    ensures { result ≡ taken_in may_hold (field_in (find objects.now field)) }
+fn taken(objects: &[Object], field: Label) -> Taken
+    ensures { result ≡ taken_in (field_in (find objects.now field)) }
 {
     match field_of(objects, field) {
-        Some(field) => field.commit_answer(may_hold),
+        Some(field) => field.commit_answer(),
         None => Taken::Nothing,
+    }
+}
+
+// The field that had the seat, where a commit that does this begins a hold.
+fn displaced(taken: Taken, holder: Option<Label>) -> Option<Label>
+    ensures { result ≡ displaced_by taken holder }
+{
+    match taken {
+        Taken::Begun => holder,
+        Taken::Updated | Taken::Ended | Taken::Nothing => None,
     }
 }
 
@@ -169,21 +178,23 @@ impl Machine {
         }
     }
 
-    fn commit_field(&mut self, field: Label)
-        ensures state { state self.new ≡ committing field (state self.old) }
+    // The field commits, and another loses the seat where this begins a hold.
+    fn commit_field(&mut self, field: Label, taken: Taken)
+        ensures state { state self.new ≡ committing field taken (state self.old) }
         ensures spare { self.new.spare ≡ self.old.spare }
     {
-        let may_hold = is_free(self.holder, field);
-        commit(&mut self.objects, field, may_hold);
+        let other = displaced(taken, self.holder);
+        commit(&mut self.objects, field, other);
     }
 
     pub fn commit<P: Post>(&mut self, field: Label, post: &mut P)
         requires { self.old.spare.text ≡ text_pending (field_in (find (state self.old).objects field)) }
         ensures state { state self.new ≡ field_committed field (state self.old) }
-        ensures told { Reached P.may_follow post.old (commit_told field (taken_in (is_free_for (state self.old).holder field) (field_in (find (state self.old).objects field))) (committing field (state self.old))) post.new }
+        ensures told { let taken = taken_by field (state self.old) in
+            Reached P.may_follow post.old (commit_told field taken (committing field taken (state self.old))) post.new }
     {
-        let taken = taken(&self.objects, field, is_free(self.holder, field));
-        self.commit_field(field);
+        let taken = taken(&self.objects, field);
+        self.commit_field(field, taken);
         self.hold(field, taken, post);
     }
 }
