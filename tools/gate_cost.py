@@ -1,0 +1,167 @@
+#!/usr/bin/env python3
+"""What the gate costs, in minutes of processor time.
+
+  tools/gate_cost.py [CRATE ..]             runs `rt ci --anew` and prints, for each crate, what its proof, its
+                                            tests and its must-fail edits cost, from nothing
+  tools/gate_cost.py --functions CRATE ..   proves each crate anew, function by function, and prints the dearest ten
+
+The first looks at the prover's processes while the gate runs, so a process that lives for less than a fifth of a
+second is missed; the last line has the exact sum of all that ran. Run it on an idle machine.
+"""
+import os
+import re
+import resource
+import subprocess
+import sys
+import time
+
+TICKS = os.sysconf("SC_CLK_TCK")
+KIT = "/opt/rattle"
+INTERVAL = 0.2
+
+
+def processes():
+    """The live prover processes: (pid, start) with arguments and working folder."""
+    for name in os.listdir("/proc"):
+        if not name.isdigit():
+            continue
+        try:
+            with open(f"/proc/{name}/stat") as file:
+                fields = file.read().rpartition(")")[2].split()
+            with open(f"/proc/{name}/cmdline") as file:
+                words = file.read().split("\0")
+            if not words or os.path.basename(words[0]) != "rattle":
+                continue
+            folder = os.readlink(f"/proc/{name}/cwd")
+        except (OSError, ValueError):
+            continue
+        seconds = (int(fields[11]) + int(fields[12])) / TICKS
+        yield (int(name), fields[19]), int(fields[1]), words, folder, seconds
+
+
+def descends(pid, root):
+    """Whether the process stands below the root process."""
+    while pid > 1:
+        if pid == root:
+            return True
+        try:
+            with open(f"/proc/{pid}/stat") as file:
+                pid = int(file.read().rpartition(")")[2].split()[1])
+        except (OSError, ValueError):
+            return False
+    return False
+
+
+def kind_of(words, folder):
+    if os.path.basename(folder).startswith("rt-edit"):
+        return "edits"
+    return "tests" if "--test" in words else "proof"
+
+
+def watch(command):
+    """Runs the command; what each prover process below it cost, by crate and kind."""
+    gate = subprocess.Popen(command)
+    seen = {}
+    while gate.poll() is None:
+        for key, parent, words, folder, seconds in processes():
+            if "--crate-name" not in words:
+                continue
+            if key not in seen and not descends(parent, gate.pid):
+                continue
+            crate = words[words.index("--crate-name") + 1]
+            seen[key] = (crate, kind_of(words, folder), folder, seconds)
+        time.sleep(INTERVAL)
+    return gate.returncode, seen.values()
+
+
+def table(seen):
+    costs = {}
+    edits = set()
+    for crate, kind, folder, seconds in seen:
+        row = costs.setdefault(crate, {"proof": 0.0, "tests": 0.0, "edits": 0.0, "number": 0})
+        row[kind] += seconds / 60
+        if kind == "edits" and folder not in edits:
+            edits.add(folder)
+            row["number"] += 1
+    lines = ["| crate | proof | tests | edits | edits tried | sum |", "|---|---|---|---|---|---|"]
+    total = {"proof": 0.0, "tests": 0.0, "edits": 0.0, "number": 0}
+    for crate, row in sorted(costs.items(), key=lambda item: -sum_of(item[1])):
+        lines.append(line_of(crate, row))
+        for key in total:
+            total[key] += row[key]
+    lines.append(line_of("all", total))
+    return "\n".join(lines)
+
+
+def sum_of(row):
+    return row["proof"] + row["tests"] + row["edits"]
+
+
+def line_of(name, row):
+    minutes = " | ".join(f"{row[kind]:.1f}" for kind in ("proof", "tests", "edits"))
+    return f"| `{name}` | {minutes} | {row['number']} | {sum_of(row):.1f} |"
+
+
+def edges():
+    """What each crate stands on, as crates.txt says."""
+    stands_on = {}
+    with open("crates.txt") as file:
+        for line in file:
+            line = line.split("#")[0].strip()
+            if line:
+                head, _, names = line.partition(":")
+                stands_on[head.split()[0]] = names.split()
+    return stands_on
+
+
+def libraries(crate, stands_on):
+    """The arguments that name the crate's libraries: those of the kit and those of the repository."""
+    words = [f"--extern=std={KIT}/rlibs/std.rlib", "-L", f"dependency={KIT}/rlibs"]
+    for name in stands_on[crate]:
+        folder = f"crates/{name}/out/rlib" if name in stands_on else f"{KIT}/rlibs"
+        words.append(f"--extern={name}={os.path.abspath(folder)}/{name}.rlib")
+    for name in stands_on:
+        folder = os.path.abspath(f"crates/{name}/out/rlib")
+        if name != crate and os.path.isdir(folder):
+            words += ["-L", f"dependency={folder}"]
+    return words
+
+
+def functions(crate, stands_on):
+    """Proves the crate from nothing with one job, and prints its ten dearest functions."""
+    folder = f"crates/{crate}"
+    subprocess.run(["rt", "check"], cwd=folder, check=True, stdout=subprocess.DEVNULL)
+    root = "src/main.rt" if os.path.exists(f"{folder}/src/main.rt") else "src/lib.rt"
+    command = [f"{KIT}/bin/rattle", "check", "--crate-name", crate, root, *libraries(crate, stands_on),
+               "--antt-project", f"{KIT}/rattle/logic/antt-project.json",
+               "--logic-built", f"{KIT}/logic_built", "--links", f"{crate}=", "--jobs", "1", "--progress"]
+    run = subprocess.Popen(command, cwd=folder, stdout=subprocess.PIPE, stderr=subprocess.STDOUT, text=True)
+    before, costs = time.monotonic(), []
+    for line in run.stdout:
+        found = re.match(r"checked (.*), \d+ of \d+", line)
+        now = time.monotonic()
+        if found:
+            costs.append((now - before, found.group(1)))
+            before = now
+    run.wait()
+    print(f"{crate}: the dearest of {len(costs)}, in seconds; each has what was read before it")
+    for seconds, name in sorted(costs, reverse=True)[:10]:
+        print(f"{seconds:8.1f}  {name}")
+
+
+def main(words):
+    os.chdir(os.path.join(os.path.dirname(os.path.abspath(__file__)), ".."))
+    if words[:1] == ["--functions"]:
+        stands_on = edges()
+        for crate in words[1:]:
+            functions(crate, stands_on)
+        return 0
+    status, seen = watch(["rt", "ci", "--anew", *words])
+    print(table(seen))
+    used = resource.getrusage(resource.RUSAGE_CHILDREN)
+    print(f"all that ran: {(used.ru_utime + used.ru_stime) / 60:.1f} minutes of processor time")
+    return status
+
+
+if __name__ == "__main__":
+    sys.exit(main(sys.argv[1:]))
