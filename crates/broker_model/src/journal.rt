@@ -14,7 +14,8 @@ const MOST_WEIGHT: u64 = 134_217_728;
 pub enum Entry {
     /// A peer joined.
     Join(Role),
-    /// A whole message of a peer: the object that it was sent to, its opcode and its arguments' bytes.
+    /// A whole message of a peer: the object that it was sent to, its opcode and its arguments'
+    /// bytes.
     Message {
         peer: u32,
         id: u32,
@@ -99,13 +100,15 @@ impl Entry {
 pub struct Kept {
     /// The entries that aren't ends of peers.
     pub entries: u32,
-    /// What all entries weigh: 16 each and a message the bytes of its body besides; an end weighs nothing. At most 134,217,728.
+    /// What all entries weigh: 16 each and a message the bytes of its body besides; an end weighs
+    /// nothing. At most 134,217,728.
     pub weight: u64,
 }
 
 /// All steps so far. Their numbers go from 1, the oldest.
 ///
-/// In contracts it is its entries, the newest first, and how many more may be put without taking memory. No call but `copy` goes over the entries.
+/// In contracts it is its entries, the newest first, and how many more may be put without taking
+/// memory. No call but `copy` goes over the entries.
 #[derive(Drop)]
 pub struct Journal {
     entries: Vec<Entry>,
@@ -186,7 +189,8 @@ impl Journal {
         self.kept
     }
 
-    /// Whether the entry is one too many for a limit of counted entries, or too heavy. Never so of an end.
+    /// Whether the entry is one too many for a limit of counted entries, or too heavy. Never so of
+    /// an end.
     pub fn is_full(&self, limit: u32, entry: &Entry) -> bool
         ensures { result ≡ is_full limit self.now.entries entry.now }
     {
@@ -194,7 +198,8 @@ impl Journal {
             && (limit <= self.kept.entries || entry.weight() > MOST_WEIGHT - self.kept.weight)
     }
 
-    /// Makes room for so many more entries. `NoMemory` is its one error, after which there is the room that there was.
+    /// Makes room for so many more entries. `NoMemory` is its one error, after which there is the
+    /// room that there was.
     pub fn reserve(&mut self, more: usize) -> Result<(), NoMemory>
         ensures same { self.new.entries ≡ self.old.entries }
         ensures room { OnOk result (more ≤ self.new.room) }
@@ -204,11 +209,13 @@ impl Journal {
         Ok(())
     }
 
-    /// Puts one more entry. Asks that there is room, that the numbers reach, and that an entry that isn't an end isn't too heavy. Takes no memory.
+    /// Puts one more entry. Asks that there is room, that the numbers reach, and that an entry that
+    /// isn't an end isn't too heavy. Takes no memory.
     pub fn push(&mut self, entry: Entry)
         requires room { 0 < self.old.room }
         requires number { length self.old.entries < 4294967295 }
-        requires light { is_end entry ≡ false → weight self.old.entries + weight_of entry ≤ 134217728 }
+        requires light { is_end entry ≡ false →
+            weight self.old.entries + weight_of entry ≤ 134217728 }
         ensures put { self.new.entries ≡ entry ∷ self.old.entries }
         ensures room_left { self.old.room ≤ self.new.room + 1 }
     {

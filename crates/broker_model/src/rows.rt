@@ -1,6 +1,13 @@
 // The worked rows, which the definitions compute.
-ghost use Rattle.broker_model.specs.Rows.{RegistryIsMade, GlobalsAreTold, NothingNamed, SizeIsBad, IdIsTaken, IdIsUsedAgain, PointerIsMissing, SeatIsWrong, OpcodeIsUnknown, BodyIsMalformed, IdIsTheServers, GlobalIsNotOffered, SyncIsAnswered, StoreIsFull, RefusedEnds};
-ghost use Rattle.broker_model.specs.BaseRows.{BaseActs, BatchIsQueued, BatchIsTold, NobodyEnds, AllIsOut, MethodIsTold, LastByteFits, OneByteTooMany, TakenMakesRoom, EndsFollow, BatchIsLeftOut, TokenIsPlaced, SurfaceHasARole};
+ghost use Rattle.broker_model.specs.Rows.{RegistryIsMade, GlobalsAreTold, NothingNamed, SizeIsBad};
+ghost use Rattle.broker_model.specs.Rows.{IdIsTaken, IdIsUsedAgain, PointerIsMissing, SeatIsWrong};
+ghost use Rattle.broker_model.specs.Rows.{OpcodeIsUnknown, BodyIsMalformed, IdIsTheServers};
+ghost use Rattle.broker_model.specs.Rows.{GlobalIsNotOffered, SyncIsAnswered, StoreIsFull};
+ghost use Rattle.broker_model.specs.Rows.{RefusedEnds};
+ghost use Rattle.broker_model.specs.BaseRows.{BaseActs, BatchIsQueued, BatchIsTold, NobodyEnds};
+ghost use Rattle.broker_model.specs.BaseRows.{AllIsOut, MethodIsTold, LastByteFits, OneByteTooMany};
+ghost use Rattle.broker_model.specs.BaseRows.{TakenMakesRoom, EndsFollow, BatchIsLeftOut};
+ghost use Rattle.broker_model.specs.BaseRows.{TokenIsPlaced, SurfaceHasARole};
 
 /// What the definitions make of small sessions is what was worked out by hand.
 pub fn small_sessions()
@@ -21,7 +28,8 @@ pub fn small_sessions()
     ensures refused_ends { RefusedEnds }
 {}
 
-/// The same of the base session: an application and an input method, a text that is committed, and one whole batch.
+/// The same of the base session: an application and an input method, a text that is committed, and
+/// one whole batch.
 pub fn base_session()
     ensures base_acts { BaseActs }
     ensures batch_is_queued { BatchIsQueued }

@@ -1,5 +1,6 @@
--- What is said beside a request or a step of the shell: its surface's label, and whether that has a popup.
-use Rattle.std.specs.Prelude.{◌≡◌, ℕ, Bool, Option}
+-- What is said beside a request or a step of the shell: its surface's label, whether that has a popup, what its text is.
+use Rattle.std.specs.Prelude.{◌≡◌, ℕ, Bool, Option, IsTrue}
+use Rattle.wl_wire.specs.Texts.{has_no_zero}
 use Rattle.wl_proto.specs.declared.request.Request.{Request}
 use Rattle.wl_proto.specs.declared.request.Request.TheVariants as request
 use Rattle.relay_model.specs.Objects.{has_popup}
@@ -23,6 +24,13 @@ SaysPopup past at _ taken = Unit {0}
 abbrev pub IsSurface : (ℕ → ℕ) → Request → ℕ → Type 0
 IsSurface at (request.GetInputPopupSurface id surface) label = at surface ≡ label
 IsSurface at _ label = Unit {0}
+
+-- the text of the request that an act copies has no zero byte
+abbrev pub HasText : Request → Type 0
+HasText (request.SetSurroundingText text cursor anchor) = IsTrue (has_no_zero text.now)
+HasText (request.CommitString text) = IsTrue (has_no_zero text.now)
+HasText (request.SetPreeditString text begin end) = IsTrue (has_no_zero text.now)
+HasText _ = Unit {0}
 
 -- where the step names a surface, it is the label of the surface if that is alive
 abbrev pub IsNamed : Past → ShellStep → Option ℕ → Type 0

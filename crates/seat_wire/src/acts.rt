@@ -6,7 +6,7 @@ ghost use Rattle.broker_model.specs.Ids.{Past};
 ghost use Rattle.broker_model.specs.Requests as requests;
 ghost use Rattle.broker_model.specs.Resolve.{on_surface};
 ghost use Rattle.broker_model.specs.Resolve as resolve;
-ghost use Rattle.seat_wire.specs.Asked.{IsSurface, IsNamed};
+ghost use Rattle.seat_wire.specs.Asked.{HasText, IsSurface, IsNamed};
 
 use relay_model::{Act, Label, Rect, Role};
 use session_text::ShellStep;
@@ -14,17 +14,6 @@ use std::alloc::Global;
 use wio_core::NoMemory;
 use wl_proto::Request;
 use wl_wire::Text;
-
-// A copy of a text that was read as one.
-fn copy_text(alloc: Global, text: &str) -> Result<Text, NoMemory>
-    ensures { IfOk result (λ t. t ≡ text.now) }
-{
-    let bytes = Vec::from_slice(alloc, text.as_bytes())?;
-    match Text::from_bytes(bytes) {
-        Ok(text) => Ok(text),
-        Err(_) => Err(NoMemory),
-    }
-}
 
 // The act of a bind: the seat is the global with the name 2.
 fn bind_act(peer: Label, name: u32) -> Act
@@ -37,8 +26,9 @@ fn bind_act(peer: Label, name: u32) -> Act
     }
 }
 
-/// The act of a request that isn't refused, which the peer with this label and role sent to its object. Where a popup is asked for, `surface` is the label
-/// of its surface; else it says nothing. `NoMemory` comes where there is none for a copy of a text.
+/// The act of a request that isn't refused, which the peer with this label and role sent to its
+/// object. Where a popup is asked for, `surface` is the label of its surface; else it says nothing.
+/// `NoMemory` comes where there is none for a copy of a text.
 pub(crate) fn act_of(
     alloc: Global,
     request: &Request,
@@ -47,7 +37,11 @@ pub(crate) fn act_of(
     role: Role,
     surface: Label,
 ) -> Result<Act, NoMemory>
-    ensures { (at : ℕ → ℕ) → IsSurface at request.now surface → IfOk result (λ act. let m = request_message request.now in act ≡ requests.act_of peer object role at m.interface m.opcode m.values) }
+    requires { HasText request.now }
+    ensures { (at : ℕ → ℕ) → IsSurface at request.now surface →
+        let m = request_message request.now in
+        IfOk result (λ act.
+        act ≡ requests.act_of peer object role at m.interface m.opcode m.values) }
 {
     Ok(match *request {
         Request::Sync { .. } => Act::Sync { peer },
@@ -76,7 +70,7 @@ pub(crate) fn act_of(
             anchor,
         } => Act::Surround {
             field: object,
-            text: copy_text(alloc, text)?,
+            text: Text::of(alloc, text)?,
             cursor,
             anchor,
         },
@@ -106,11 +100,11 @@ pub(crate) fn act_of(
         Request::TextInputCommit => Act::Commit { field: object },
         Request::CommitString { text } => Act::MString {
             method: object,
-            text: copy_text(alloc, text)?,
+            text: Text::of(alloc, text)?,
         },
         Request::SetPreeditString { text, begin, end } => Act::MPreedit {
             method: object,
-            text: copy_text(alloc, text)?,
+            text: Text::of(alloc, text)?,
             begin,
             end,
         },
@@ -150,9 +144,11 @@ fn area_act(surface: Option<Label>, rect: Rect) -> Act
     }
 }
 
-/// The act of a step of the shell. Where the step names a surface, `surface` is its label, or None where none is alive under the id; else it says nothing.
+/// The act of a step of the shell. Where the step names a surface, `surface` is its label, or None
+/// where none is alive under the id; else it says nothing.
 pub fn shell_act(step: &ShellStep, surface: Option<Label>) -> Act
-    ensures { (past : Past) → IsNamed past step.now surface → result ≡ resolve.shell_act past step.now }
+    ensures { (past : Past) → IsNamed past step.now surface →
+        result ≡ resolve.shell_act past step.now }
 {
     match *step {
         ShellStep::Focus { .. } => focus_act(surface),

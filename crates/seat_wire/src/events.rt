@@ -80,7 +80,8 @@ fn plain(offset: i32) -> u32
     if offset < 0 { 0 } else { offset as u32 }
 }
 
-/// The event that says what is told, with this id for the object that `named` finds. None for what the shell is told.
+/// The event that says what is told, with this id for the object that `named` finds. None for what
+/// the shell is told.
 pub fn event_of<'a>(said: &'a Said, id: u32) -> Option<Event<'a>>
     ensures { IsEventOf said.now id result }
 {

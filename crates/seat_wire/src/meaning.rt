@@ -3,11 +3,11 @@ ghost use Rattle.std.specs.Prelude.{◌≡◌, ℕ, [], option_map, IfOk};
 ghost use Rattle.wl_proto.specs.Reading.{Gives, request_reading};
 ghost use Rattle.wl_proto.specs.Rows.{request_message};
 ghost use Rattle.relay_core.specs.Stands.{StandsFor};
-ghost use Rattle.broker_model.specs.Ids.{Past, object_at};
+ghost use Rattle.broker_model.specs.Ids.{Joined, Past, object_at};
 ghost use Rattle.broker_model.specs.Requests.{arguments_of};
 ghost use Rattle.broker_model.specs.Refusals as refusals;
 ghost use Rattle.broker_model.specs.Resolve as resolve;
-ghost use Rattle.seat_wire.specs.Asked.{asked, IsSurface};
+ghost use Rattle.seat_wire.specs.Asked.{asked, HasText, IsSurface};
 ghost use Rattle.seat_wire.specs.Meant.{IsTableOf, meant};
 
 use crate::acts::act_of;
@@ -51,7 +51,8 @@ fn fault_if(test: bool, fault: Fault) -> Option<Fault>
 
 // The argument names no live object of its interface.
 fn is_wrong(table: &Table, argument: Argument) -> bool
-    ensures { (past : Past) (p : ℕ) → IsTableOf past p table.now → result ≡ refusals.is_wrong past p (asked argument) }
+    ensures { (past : Past) (p : ℕ) → IsTableOf past p table.now →
+        result ≡ refusals.is_wrong past p (asked argument) }
 {
     match table.find(argument.id) {
         Some((interface, _)) => !is_interface(interface, argument.interface),
@@ -61,7 +62,9 @@ fn is_wrong(table: &Table, argument: Argument) -> bool
 
 // The object argument is 0, isn't live, or is of another interface.
 fn argument_fault(table: &Table, request: &Request) -> Option<Fault>
-    ensures { (past : Past) (p : ℕ) → IsTableOf past p table.now → let m = request_message request.now in result ≡ refusals.argument_fault past p (arguments_of m.interface m.opcode m.values) }
+    ensures { (past : Past) (p : ℕ) → IsTableOf past p table.now →
+        let m = request_message request.now in
+        result ≡ refusals.argument_fault past p (arguments_of m.interface m.opcode m.values) }
 {
     match object_argument(request) {
         Some(argument) => fault_if(is_wrong(table, argument), Fault::Argument),
@@ -71,14 +74,16 @@ fn argument_fault(table: &Table, request: &Request) -> Option<Fault>
 
 // The id is 0, in the server's range, or live.
 fn is_bad_id(table: &Table, id: u32) -> bool
-    ensures { (past : Past) (p : ℕ) → IsTableOf past p table.now → result ≡ refusals.is_bad_id past p id }
+    ensures { (past : Past) (p : ℕ) → IsTableOf past p table.now →
+        result ≡ refusals.is_bad_id past p id }
 {
     id == 0 || id > LAST_ID || table.find(id).is_some()
 }
 
 // Why the new id is refused.
 fn new_fault(table: &Table, new: Option<Argument>) -> Option<Fault>
-    ensures { (past : Past) (p : ℕ) → IsTableOf past p table.now → result ≡ refusals.new_fault past p (option_map asked new) }
+    ensures { (past : Past) (p : ℕ) → IsTableOf past p table.now →
+        result ≡ refusals.new_fault past p (option_map asked new) }
 {
     let new = new?;
     if is_bad_id(table, new.id) {
@@ -90,7 +95,8 @@ fn new_fault(table: &Table, new: Option<Argument>) -> Option<Fault>
 
 // The label that an id names, or the shell's.
 fn label_at(table: &Table, id: u32) -> Label
-    ensures { (past : Past) (p : ℕ) → IsTableOf past p table.now → result ≡ resolve.label_at past p id }
+    ensures { (past : Past) (p : ℕ) → IsTableOf past p table.now →
+        result ≡ resolve.label_at past p id }
 {
     match table.find(id) {
         Some((_, label)) => label,
@@ -100,7 +106,8 @@ fn label_at(table: &Table, id: u32) -> Label
 
 // Where a popup is asked for, the label of its surface.
 fn surface_of(table: &Table, request: &Request) -> Label
-    ensures { (past : Past) (p : ℕ) → IsTableOf past p table.now → IsSurface (resolve.label_at past p) request.now result }
+    ensures { (past : Past) (p : ℕ) → IsTableOf past p table.now →
+        IsSurface (resolve.label_at past p) request.now result }
 {
     match request {
         Request::GetInputPopupSurface { surface, .. } => label_at(table, *surface),
@@ -143,9 +150,10 @@ fn refused_for(peer: Label, object: Label, fault: Fault) -> Meaning
     }
 }
 
-// The request that the body is, by the rows of the interface.
+// The request that the body is, by the rows of the interface. Its text was read as one.
 fn read<'a>(interface: Interface, opcode: u16, body: &'a [u8]) -> Result<Request<'a>, Refuse>
-    ensures { Gives request_message result (request_reading interface opcode [] body.now) }
+    ensures gives { Gives request_message result (request_reading interface opcode [] body.now) }
+    ensures text { IfOk result HasText }
 {
     let raw = Raw {
         id: 0,
@@ -155,9 +163,15 @@ fn read<'a>(interface: Interface, opcode: u16, body: &'a [u8]) -> Result<Request
     read_request(interface, &raw, &[])
 }
 
-// The first fault of a request: its object argument, its new id, and what is its own. `surface` is what `surface_of` gives.
+// The first fault of a request: its object argument, its new id, and what is its own. `surface` is
+// what `surface_of` gives.
 fn request_fault(relay: &Relay, sender: &Sender, request: &Request, surface: Label) -> Option<Fault>
-    ensures { (past : Past) → let p = sender.now.label in let at = resolve.label_at past p in IsTableOf past p sender.now.table.now → StandsFor relay.now past.acts → IsSurface at request.now surface → result ≡ refusals.request_fault past p sender.now.role at (request_message request.now) }
+    ensures { (past : Past) →
+        let p = sender.now.label in
+        let at = resolve.label_at past p in
+        IsTableOf past p sender.now.table.now → StandsFor relay.now past.acts →
+        IsSurface at request.now surface →
+        result ≡ refusals.request_fault past p sender.now.role at (request_message request.now) }
 {
     let argument = argument_fault(sender.table, request);
     let new = new_fault(sender.table, new_object(request));
@@ -173,7 +187,15 @@ fn request_meaning(
     object: Label,
     request: &Request,
 ) -> Result<Meaning, NoMemory>
-    ensures { (past : Past) (n : ℕ) → let p = sender.now.label in let role = sender.now.role in let m = request_message request.now in IsTableOf past p sender.now.table.now → StandsFor relay.now past.acts → IfOk result (λ meaning. meant p n meaning ≡ resolve.of_request past n (record { label = p; role = role }) object m (refusals.request_fault past p role (resolve.label_at past p) m)) }
+    requires { HasText request.now }
+    ensures { (past : Past) (n : ℕ) →
+        let p = sender.now.label in
+        let role = sender.now.role in
+        let m = request_message request.now in
+        let fault = refusals.request_fault past p role (resolve.label_at past p) m in
+        IsTableOf past p sender.now.table.now → StandsFor relay.now past.acts →
+        IfOk result (λ meaning. meant p n meaning
+        ≡ resolve.of_request past n (record { label = p; role = role }) object m fault) }
 {
     let surface = surface_of(sender.table, request);
     match request_fault(relay, sender, request, surface) {
@@ -185,7 +207,8 @@ fn request_meaning(
     }
 }
 
-/// What a message of a live peer comes to. `NoMemory` comes where there is none for a copy of a text.
+/// What a message of a live peer comes to. `NoMemory` comes where there is none for a copy of a
+/// text.
 pub fn meaning_of(
     alloc: Global,
     relay: &Relay,
@@ -194,7 +217,12 @@ pub fn meaning_of(
     opcode: u16,
     body: &[u8],
 ) -> Result<Meaning, NoMemory>
-    ensures { (past : Past) (n : ℕ) → let p = sender.now.label in IsTableOf past p sender.now.table.now → StandsFor relay.now past.acts → IfOk result (λ meaning. meant p n meaning ≡ resolve.of_message past n (record { label = p; role = sender.now.role }) opcode body.now (object_at past p id)) }
+    ensures { (past : Past) (n : ℕ) →
+        let p = sender.now.label in
+        let peer : Joined = record { label = p; role = sender.now.role } in
+        IsTableOf past p sender.now.table.now → StandsFor relay.now past.acts →
+        IfOk result (λ meaning. meant p n meaning
+        ≡ resolve.of_message past n peer opcode body.now (object_at past p id)) }
 {
     let Some((interface, object)) = sender.table.find(id) else {
         return Ok(refused_for(sender.label, sender.label, Fault::Object));

@@ -19,7 +19,8 @@ pub struct Argument {
 
 /// The argument that names an object, of which no request has two.
 pub(crate) fn object_argument(request: &Request) -> Option<Argument>
-    ensures { let m = request_message request.now in option_to_list (option_map asked result) ≡ arguments_of m.interface m.opcode m.values }
+    ensures { let m = request_message request.now in
+        option_to_list (option_map asked result) ≡ arguments_of m.interface m.opcode m.values }
 {
     match request {
         Request::GetTextInput { seat, .. } | Request::GetInputMethod { seat, .. } => Some(
@@ -50,7 +51,8 @@ fn global_at(name: u32) -> Interface
 
 /// The new id, with the interface of what is made under it.
 pub(crate) fn new_object(request: &Request) -> Option<Argument>
-    ensures { let m = request_message request.now in option_map asked result ≡ new_of m.interface m.opcode m.values }
+    ensures { let m = request_message request.now in
+        option_map asked result ≡ new_of m.interface m.opcode m.values }
 {
     let (id, interface) = match request {
         Request::Sync { callback } => (*callback, Interface::Callback),
@@ -103,10 +105,13 @@ fn is_offered(role: Role, name: u32, text: &str) -> bool
     interface.name() == text
 }
 
-/// The fault of the request alone: a bind of what isn't offered, what the seat lacks, or a popup on a surface that has one. Where a popup is asked for,
-/// `has_popup` says whether a live popup has the surface; else it says nothing.
+/// The fault of the request alone: a bind of what isn't offered, what the seat lacks, or a popup on
+/// a surface that has one. Where a popup is asked for, `has_popup` says whether a live popup has
+/// the surface; else it says nothing.
 pub(crate) fn own_fault(request: &Request, role: Role, has_popup: bool) -> Option<Fault>
-    ensures { (past : Past) (at : ℕ → ℕ) → SaysPopup past at request.now has_popup → let m = request_message request.now in result ≡ refusals.own_fault past role at m.interface m.opcode m.values }
+    ensures { (past : Past) (at : ℕ → ℕ) → SaysPopup past at request.now has_popup →
+        let m = request_message request.now in
+        result ≡ refusals.own_fault past role at m.interface m.opcode m.values }
 {
     match request {
         Request::Bind {

@@ -1,4 +1,5 @@
-// What no clause tells: that memory is found for what a message comes to, and for the text of an act.
+// What no clause tells: that memory is found for what a message comes to, and for the text of an
+// act.
 use crate::acts::act_of;
 use crate::meaning::{Meaning, Sender, meaning_of};
 use crate::requests::Argument;

@@ -1,6 +1,7 @@
 // The acts of an act list, by the number of a line's words.
 ghost use Rattle.std.specs.Prelude.{map};
-ghost use Rattle.session_text.specs.Reading.{one_word, two_words, three_words, four_words, five_words, six_words, act_of, Reads};
+ghost use Rattle.session_text.specs.Reading.{one_word, two_words, three_words, four_words};
+ghost use Rattle.session_text.specs.Reading.{five_words, six_words, act_of, Reads};
 
 use crate::line::BadLine;
 use crate::words::{cursor_text, number, signed, size, state, text};

@@ -1,4 +1,5 @@
-// Lines of text: those of act lists, sessions and shell links are read, and steps and what is told are printed.
+// Lines of text: those of act lists, sessions and shell links are read, and steps and what is told
+// are printed.
 #![tactic(auto)]
 
 mod act_line;
@@ -23,6 +24,6 @@ pub use told_line::print_told;
 pub use transcript_line::{print_ended, print_out, print_pass, print_placed, print_took};
 
 #[cfg(test)]
-mod session_tests;
+mod printing_tests;
 #[cfg(test)]
-mod tests;
+mod reading_tests;

@@ -5,7 +5,7 @@ ghost use Rattle.session_text.specs.declared.line.BadLine.TheVariants.{NoMemory}
 ghost use Rattle.session_text.specs.Grammar.{IsLine};
 ghost use Rattle.session_text.specs.Laws.{ReadsOnlySpellings, ReadsEachSpelling};
 ghost use Rattle.session_text.specs.Reading as reading;
-ghost use Rattle.session_text.specs.Worked.{WorkedLines, OtherLines, WorkedSteps};
+ghost use Rattle.session_text.specs.Worked.{WorkedLines, OtherLines, WorkedSteps, WorkedEvents};
 
 use crate::act_line::read_act;
 use crate::limits::Limits;
@@ -45,7 +45,8 @@ pub enum Line {
     End,
 }
 
-/// A line of a session between its header and its end. Peers are numbered from 1 in the order in which they join.
+/// A line of a session between its header and its end. Peers are numbered from 1 in the order in
+/// which they join.
 #[derive(Debug, Drop)]
 pub enum SessionLine {
     /// A peer joins.
@@ -54,7 +55,8 @@ pub enum SessionLine {
     Bytes(u32, Bytes),
     /// The link of the peer of that number ends.
     Gone(u32),
-    /// The peer of that number takes so many of the bytes that are stored for it, or all where there are fewer: 1 to 4,096.
+    /// The peer of that number takes so many of the bytes that are stored for it, or all where
+    /// there are fewer: 1 to 4,096.
     Take(u32, u32),
     /// The shell says something.
     Shell(ShellStep),
@@ -103,11 +105,12 @@ fn words_of(alloc: Global, line: &[u8]) -> Result<Vec<&[u8]>, AllocError>
     line.split(|b| *b == b' ').collect(alloc)
 }
 
-/// Reads a line without its line feed. `Grammar` comes exactly where the form has no such line. Words are separated by
-/// one space. Numbers are decimal, in the range of their type, without a leading zero, and only those with a sign may
-/// begin with `-`. A text is pairs of lower-case hex digits, or `-` where it is empty, and they give UTF-8 without a
-/// zero byte: at most 4,083 bytes in `mstring`, 4,075 in `surround` and `mpreedit`. A `bytes` line has 1 to 4,096 bytes
-/// in the same digits, and they may be any. A session's header is a line wherever it stands.
+/// Reads a line without its line feed. `Grammar` comes exactly where the form has no such line.
+/// Words are separated by one space. Numbers are decimal, in the range of their type, without a
+/// leading zero, and only those with a sign may begin with `-`. A text is pairs of lower-case hex
+/// digits, or `-` where it is empty, and they give UTF-8 without a zero byte: at most 4,083 bytes
+/// in `mstring`, 4,075 in `surround` and `mpreedit`. A `bytes` line has 1 to 4,096 bytes in the
+/// same digits, and they may be any. A session's header is a line wherever it stands.
 #[tactic(auto, unfolding(crate::specs::Reading::line_of))]
 pub fn read_line(alloc: Global, form: Form, line: &[u8]) -> Result<Line, BadLine>
     ensures exact { reading.Reads result (reading.line_of form line.now) }
@@ -120,15 +123,18 @@ pub fn read_line(alloc: Global, form: Form, line: &[u8]) -> Result<Line, BadLine
     read_words(alloc, form, &words)
 }
 
-/// A law without work: bytes that read as a line are its one spelling, and each line's spelling reads as that line.
+/// A law without work: bytes that read as a line are its one spelling, and each line's spelling
+/// reads as that line.
 pub fn one_spelling()
     ensures only { ReadsOnlySpellings }
     ensures each { ReadsEachSpelling }
 {}
 
-/// A law without work: what the definitions read from worked lines, and print of worked steps, is what was worked out by hand.
+/// A law without work: what the definitions read from worked lines, and print of worked steps and
+/// of each event, is what was worked out by hand.
 pub fn worked_lines()
     ensures lines { WorkedLines }
     ensures others { OtherLines }
     ensures steps { WorkedSteps }
+    ensures events { WorkedEvents }
 {}

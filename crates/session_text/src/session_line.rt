@@ -1,7 +1,10 @@
-// The lines of a session, by the number of a line's words. Those of the shell are read as on a shell link.
+// The lines of a session, by the number of a line's words. Those of the shell are read as on a
+// shell link.
 ghost use Rattle.std.specs.Prelude.{map};
 ghost use Rattle.session_text.specs.Reading.{Reads};
-ghost use Rattle.session_text.specs.SessionReading.{header_of, one_session_word, two_session_words, three_session_words, four_session_words, session_of};
+ghost use Rattle.session_text.specs.SessionReading.{header_of, one_session_word, two_session_words};
+ghost use Rattle.session_text.specs.SessionReading.{three_session_words, four_session_words};
+ghost use Rattle.session_text.specs.SessionReading.{session_of};
 
 use crate::limits::{ENTRY_LIMIT, Limits, STORE_LIMIT};
 use crate::line::{BadLine, Line, SessionLine};

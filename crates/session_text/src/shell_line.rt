@@ -1,7 +1,9 @@
 // The shell's lines, by the number of a line's words.
 ghost use Rattle.std.specs.Prelude.{map};
 ghost use Rattle.session_text.specs.Reading.{Reads};
-ghost use Rattle.session_text.specs.SessionReading.{one_shell_word, three_shell_words, four_shell_words, five_shell_words, seven_shell_words, shell_of};
+ghost use Rattle.session_text.specs.SessionReading.{one_shell_word, three_shell_words};
+ghost use Rattle.session_text.specs.SessionReading.{four_shell_words, five_shell_words};
+ghost use Rattle.session_text.specs.SessionReading.{seven_shell_words, shell_of};
 
 use crate::line::BadLine;
 use crate::step::ShellStep;

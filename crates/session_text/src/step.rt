@@ -20,7 +20,8 @@ pub enum Step {
 /// One step of a peer.
 #[derive(Debug, Drop)]
 pub enum PeerStep {
-    /// A whole message: the object that it is sent to, its opcode and its arguments' bytes, 0 to 4,088 and a multiple of 4.
+    /// A whole message: the object that it is sent to, its opcode and its arguments' bytes, 0 to
+    /// 4,088 and a multiple of 4.
     Message { id: u32, opcode: u16, body: Bytes },
     /// The header of a message whose size is under 8, above 4,096 or no multiple of 4.
     BadSize { head: [u8; 8] },
@@ -61,7 +62,8 @@ pub enum ShellStep {
         locked: u32,
         group: u32,
     },
-    /// The keymap of the seat's keyboard: its format, the token of its descriptor, its size in bytes.
+    /// The keymap of the seat's keyboard: its format, the token of its descriptor, its size in
+    /// bytes.
     Keymap {
         format: u32,
         token: u32,

@@ -5,7 +5,8 @@ ghost use Rattle.session_text.specs.declared.line.Line.TheVariants as lines;
 ghost use Rattle.session_text.specs.declared.line.Form.TheVariants as forms;
 ghost use Rattle.session_text.specs.Words.{piece_limit};
 ghost use Rattle.session_text.specs.Grammar.{IsLine, spelling};
-ghost use Rattle.session_text.specs.Steps.{IsBody, IsPeerStep, IsShellStep, IsStep, IsWithin, message_bytes, peer_line, step_line};
+ghost use Rattle.session_text.specs.Steps.{IsBody, IsPeerStep, IsShellStep, IsStep, IsWithin};
+ghost use Rattle.session_text.specs.Steps.{message_bytes, peer_line, step_line};
 ghost use Rattle.session_text.specs.Laws.{MessagesAreWhole};
 ghost use Rattle.session_text.specs.Reading as reading;
 ghost use Rattle.session_text.specs.Printing.{Prints};
@@ -119,19 +120,22 @@ fn line_of(alloc: Global, step: &Step) -> Result<String, NoMemory>
     }
 }
 
-/// Prints the line of a session that gives the step alone, without a line feed: a message and a bad header as the
-/// `bytes` of its peer. It is read again as that line.
+/// Prints the line of a session that gives the step alone, without a line feed: a message and a bad
+/// header as the `bytes` of its peer. It is read again as that line.
 pub fn print_step(alloc: Global, step: &Step) -> Result<Text, NoMemory>
     requires { IsStep step.now }
     ensures value { IfOk result (λ line. line ≡ spelling (lines.Session (step_line step.now))) }
-    ensures valid { IfOk result (λ line. IsLine forms.Session (lines.Session (step_line step.now))) }
-    ensures read { IfOk result (λ line. reading.line_of forms.Session line ≡ Some (lines.Session (step_line step.now))) }
+    ensures valid { IfOk result (λ line.
+        IsLine forms.Session (lines.Session (step_line step.now))) }
+    ensures read { IfOk result (λ line.
+        reading.line_of forms.Session line ≡ Some (lines.Session (step_line step.now))) }
 {
     let line = line_of(alloc, step)?;
     Ok(finished(line))
 }
 
-/// A law without work: the bytes of a printed message are one whole message, with its id, its opcode and its body.
+/// A law without work: the bytes of a printed message are one whole message, with its id, its
+/// opcode and its body.
 pub fn messages_are_whole()
     ensures { MessagesAreWhole }
 {}

@@ -1,5 +1,6 @@
 // The line that says what a peer is told.
-ghost use Rattle.std.specs.Prelude.{◌≡◌, [], ◌∷◌, ◌++◌, map, codes, IfOk, OnOk, IsTrue, string_bytes};
+ghost use Rattle.std.specs.Prelude.{◌≡◌, [], ◌∷◌, ◌++◌, map, codes, IfOk, OnOk, IsTrue};
+ghost use Rattle.std.specs.Prelude.{string_bytes};
 ghost use Rattle.std.specs.List.{join_with_byte};
 ghost use Rattle.std.specs.Fmt.{decimal, signed_decimal};
 ghost use Rattle.wl_proto.specs.Names.{name_of};
@@ -58,7 +59,8 @@ fn add_text(
     requires line_clean { IsTrue (has_no_zero (string_bytes line.old)) }
     requires name_clean { IsTrue (has_no_zero name.now) }
     ensures added { OnOk result (string_bytes line.new
-        ≡ string_bytes line.old ++ spaced (name.now ∷ hex_word text.now ∷ map signed_decimal numbers.now)) }
+        ≡ string_bytes line.old
+        ++ spaced (name.now ∷ hex_word text.now ∷ map signed_decimal numbers.now)) }
     ensures clean { OnOk result (IsTrue (has_no_zero (string_bytes line.new))) }
 {
     let word = hex_of(alloc, text.as_bytes())?;
@@ -70,7 +72,8 @@ fn add_text(
 fn add_place(line: &mut String, popup: Label, x: i64, y: i64) -> Result<(), NoMemory>
     requires { IsTrue (has_no_zero (string_bytes line.old)) }
     ensures added { OnOk result (string_bytes line.new
-        ≡ string_bytes line.old ++ spaced (codes "placed" ∷ decimal popup ∷ signed_decimal x ∷ signed_decimal y ∷ [])) }
+        ≡ string_bytes line.old
+        ++ spaced (codes "placed" ∷ decimal popup ∷ signed_decimal x ∷ signed_decimal y ∷ [])) }
     ensures clean { OnOk result (IsTrue (has_no_zero (string_bytes line.new))) }
 {
     add_numbers(line, "placed", &[popup])?;
@@ -87,7 +90,8 @@ fn add_global(
 ) -> Result<(), NoMemory>
     requires { IsTrue (has_no_zero (string_bytes line.old)) }
     ensures added { OnOk result (string_bytes line.new
-        ≡ string_bytes line.old ++ spaced (codes "global" ∷ decimal name ∷ name_of interface ∷ decimal version ∷ [])) }
+        ≡ string_bytes line.old
+        ++ spaced (codes "global" ∷ decimal name ∷ name_of interface ∷ decimal version ∷ [])) }
     ensures clean { OnOk result (IsTrue (has_no_zero (string_bytes line.new))) }
 {
     add_numbers(line, "global", &[name])?;
@@ -99,7 +103,8 @@ fn add_global(
 fn add_error(alloc: Global, line: &mut String, object: Label, fault: Fault) -> Result<(), NoMemory>
     requires { IsTrue (has_no_zero (string_bytes line.old)) }
     ensures added { OnOk result (string_bytes line.new
-        ≡ string_bytes line.old ++ spaced (codes "error" ∷ decimal object ∷ decimal (code_of fault) ∷ hex_word (text_of fault) ∷ [])) }
+        ≡ string_bytes line.old ++ spaced (codes "error"
+        ∷ decimal object ∷ decimal (code_of fault) ∷ hex_word (text_of fault) ∷ [])) }
     ensures clean { OnOk result (IsTrue (has_no_zero (string_bytes line.new))) }
 {
     let text = hex::encode(alloc, fault.text().as_bytes())?;
@@ -198,9 +203,9 @@ fn front(alloc: Global, number: u32, to: Label) -> Result<String, NoMemory>
     Ok(format!(in alloc; "{number} {to}")?)
 }
 
-/// Prints what is told by the act of that number: `N LABEL event arguments`, without a line feed. The event has its
-/// name in its protocol, numbers are decimal, objects are their labels, texts are lower-case hex or `-` where they are
-/// empty. What the shell is told has label 0.
+/// Prints what is told by the act of that number: `N LABEL event arguments`, without a line feed.
+/// The event has its name in its protocol, numbers are decimal, objects are their labels, texts are
+/// lower-case hex or `-` where they are empty. What the shell is told has label 0.
 pub fn print_told(alloc: Global, number: u32, told: &Told) -> Result<Text, NoMemory>
     ensures value { IfOk result (λ line. line ≡ told_line number told.now) }
 {

@@ -5,7 +5,9 @@ ghost use Rattle.std.specs.Fmt.{signed_decimal};
 ghost use Rattle.hex.specs.declared.error.FromHexError.TheVariants.{OutOfMemory};
 ghost use Rattle.session_text.specs.declared.line.BadLine.TheVariants.{NoMemory, Grammar};
 ghost use Rattle.session_text.specs.Reading.{Reads};
-ghost use Rattle.session_text.specs.Words.{bytes_of, count_of, cursor_text_limit, decoded, number_of, role_of, signed_of, size_of, state_of, text_limit, text_of};
+ghost use Rattle.session_text.specs.Words.{bytes_of, count_of, cursor_text_limit, decoded};
+ghost use Rattle.session_text.specs.Words.{number_of, role_of, signed_of, size_of, state_of};
+ghost use Rattle.session_text.specs.Words.{text_limit, text_of};
 
 use crate::line::BadLine;
 use itoa::Buffer;
@@ -13,8 +15,8 @@ use relay_model::Role;
 use std::alloc::Global;
 use wl_wire::{Bytes, Text};
 
-// The most bytes of a text that stands alone in its request: a message has at most 4096 bytes, of which the header, the
-// text's length and its zero byte take 13.
+// The most bytes of a text that stands alone in its request: a message has at most 4096 bytes, of
+// which the header, the text's length and its zero byte take 13.
 const TEXT_LIMIT: usize = 4083;
 // The same where two numbers follow the text, which take 8 more.
 const CURSOR_TEXT_LIMIT: usize = 4075;

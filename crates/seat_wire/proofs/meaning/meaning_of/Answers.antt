@@ -14,5 +14,5 @@ returns-in-Ok c = λ past n t s.
     subst (λ (w : Meaning). IfOk c.request_meaning.result (λ (m : declared.Meaning). meant peer.label n m ≡ w))
     (sym
     (message_read past n peer c.args.opcode c.args.body.now (object_at past peer.label c.args.id) c.in-Some.interface c.in-Some.object
-    (request_message c.in-Ok.request) (c.in-Some.ensures.now ∙ t.by_id c.args.id) c.in-Ok.ensures))
+    (request_message c.in-Ok.request) (c.in-Some.ensures.now ∙ t.by_id c.args.id) c.in-Ok.ensures.gives))
     (c.request_meaning.ensures past n t s)
