@@ -9,6 +9,7 @@ use Rattle.session_text.specs.declared.step.Step.TheVariants as steps
 use Rattle.session_text.specs.declared.step.PeerStep.{PeerStep}
 use Rattle.session_text.specs.declared.step.PeerStep.TheVariants as peers
 use Rattle.session_text.specs.Steps.{IsLimits}
+use Rattle.seat_objects.specs.Reached.{Reached}
 use Rattle.broker_model.specs.declared.journal.Entry.{Entry}
 use Rattle.broker_model.specs.declared.journal.Entry.TheVariants as entries
 use Rattle.broker_model.specs.declared.journal.Kept.{Kept}
@@ -26,6 +27,7 @@ use Rattle.broker_core.specs.declared.taking.Standing.{Standing}
 use Rattle.broker_core.specs.declared.taking.Standing.TheVariants.{Nobody, Alive, Over}
 use Rattle.broker_core.specs.Stands.{Stands, end_of}
 use Rattle.broker_core.specs.Taking.{out_at, standing_of}
+use Rattle.broker_core.specs.Watched.{Watched, watched_since}
 
 -- what was allowed, and all that happened, the newest first
 pub record Broker : Type 0 where
@@ -131,3 +133,8 @@ abbrev pub IsBytesUnlessMemory : Took → Type 0
 IsBytesUnlessMemory (took.Bytes bytes tokens) = Unit {0}
 IsBytesUnlessMemory took.NoMemory = Unit {0}
 IsBytesUnlessMemory _ = ⊥
+
+-- who watched meanwhile was told of each entry that the journal has since, in order, and of nothing else
+abbrev pub IsWatched : {W : Type 0} → (W → Watched → W → Type 0) → Broker → W → Broker → W → Type 0
+IsWatched may_follow before watch after watch_after =
+    Reached may_follow watch (watched_since before.limits.store (length before.journal) after.journal) watch_after

@@ -1,7 +1,7 @@
 pub mod Stands
-pub mod Transcribed
+pub mod Watched
+pub mod Telling
 pub mod Played
 pub mod Taking
 pub mod Broker
 pub mod Ends
-pub mod Playing

@@ -2,15 +2,15 @@
 #![tactic(auto)]
 
 mod limits;
-mod player;
-mod reading;
 mod shared;
 mod state;
 mod steps;
 mod taking;
 #[cfg(test)]
 mod tests;
+mod watch;
 
 pub use broker_model::{Entry, Journal, Kept};
-pub use player::{PlayEnd, Player};
 pub use shared::{Applied, JoinRefusal, MOST_PEERS, Refused, Shared, Took};
+pub use taking::Standing;
+pub use watch::Watch;

@@ -2,6 +2,7 @@
 use crate::limits::{ENTRY_WEIGHT, full};
 use crate::state::State;
 use crate::taking::Standing;
+use crate::watch::Watch;
 use broker_model::{Journal, Kept};
 use relay_core::Route;
 use relay_model::{EndCause, Role};
@@ -68,7 +69,7 @@ pub enum Took {
 ///
 /// In contracts it is a `Broker`: its limits, and its journal with the newest entry first. All else is what the definitions say of these two. After each
 /// step that is taken, each live peer whose message was refused, or whose store had no room for what the step told it, is ended, the one with the lowest
-/// number first. A call costs what the step tells and the live objects, however long the journal is.
+/// number first. A call costs what the step tells and the live objects, however long the journal is. Who watches a call is told of each entry that it makes.
 #[derive(Drop)]
 pub struct Shared {
     state: State,
@@ -103,7 +104,7 @@ impl Shared {
     ghost use Rattle.broker_model.specs.Limits.{is_end, weight_of, number_counted, weight};
     ghost use Rattle.broker_core.specs.declared.taking.Standing.TheVariants.{Alive};
     ghost use Rattle.broker_core.specs.Ends.{is_end_of};
-    ghost use Rattle.broker_core.specs.Broker.{with_step, full_for, join_refusal, entry_of, refusal_if_full, refusal, IsSaid, IsAccepted, take_refusal, IfBytes, IfNoBytes, IsBytesUnlessMemory};
+    ghost use Rattle.broker_core.specs.Broker.{with_step, full_for, join_refusal, entry_of, refusal_if_full, refusal, IsSaid, IsAccepted, take_refusal, IfBytes, IfNoBytes, IsBytesUnlessMemory, IsWatched};
     ghost use Rattle.broker_core.specs.Taking.{out_at, standing_of, IsTaken};
 
     /// Nobody joined yet, and the journal is empty. Asks for limits in their ranges. `NoMemory` is its one error.
@@ -129,6 +130,13 @@ impl Shared {
         ensures { result ≡ option_map (λ out. length (stored out)) (out_at self.now.limits.store self.now.journal peer) }
     {
         self.state.stored(peer)
+    }
+
+    /// Whether the peer with the number joined, and is alive.
+    pub fn standing(&self, number: u32) -> Standing
+        ensures { result ≡ standing_of self.now.journal number }
+    {
+        self.state.standing(number)
     }
 
     /// The journal. It is the history of its outer steps: after each of them stand the ends that follow from it, and no others. So no live peer has a refused
@@ -180,13 +188,26 @@ impl Shared {
         ensures number { IfOk result (λ number. number ≡ length (past_of self.new.journal).joined) }
         ensures err { OnErr result (self.new ≡ self.old) }
     {
+        self.join_watched(role, &mut ())
+    }
+
+    /// As `join`; and `watch` is told of the entries that the call makes, of none where no peer
+    /// joins.
+    pub fn join_watched<W: Watch>(&mut self, role: Role, watch: &mut W) -> Result<u32, JoinRefusal>
+        ensures refused { IfSome (join_refusal self.old role) (λ why. result ≡ Err why) }
+        ensures accepted { IfNone (join_refusal self.old role) (IsOkUnless result JoinRefusal.NoMemory) }
+        ensures ok { OnOk result (self.new ≡ with_step (entries.Join role) self.old) }
+        ensures number { IfOk result (λ number. number ≡ length (past_of self.new.journal).joined) }
+        ensures err { OnErr result (self.new ≡ self.old) }
+        ensures watched { IsWatched W.may_follow self.old watch.old self.new watch.new }
+    {
         if let Some(why) = self.join_refusal(role) {
             return Err(why);
         }
-        let Ok(number) = self.state.join(role) else {
+        let Ok(number) = self.state.join(role, watch) else {
             return Err(JoinRefusal::NoMemory);
         };
-        self.state.settle();
+        self.state.settle(watch);
         Ok(number)
     }
 
@@ -228,71 +249,99 @@ impl Shared {
     }
 
     // A whole message of a live peer.
-    fn message(&mut self, number: u32, id: u32, opcode: u16, body: &Bytes) -> Result<(), NoMemory>
+    fn message<W: Watch>(
+        &mut self,
+        number: u32,
+        id: u32,
+        opcode: u16,
+        body: &Bytes,
+        watch: &mut W,
+    ) -> Result<(), NoMemory>
         requires live { standing_of self.old.journal number ≡ Alive }
         requires short { length body.now ≤ 4088 }
         requires place { full_for self.old (entries.Message number id opcode body.now) ≡ None }
         ensures ok { OnOk result (self.new ≡ with_step (entries.Message number id opcode body.now) self.old) }
         ensures err { OnErr result (self.new ≡ self.old) }
+        ensures watched { IsWatched W.may_follow self.old watch.old self.new watch.new }
     {
-        self.state.message(number, id, opcode, body)?;
-        self.state.settle();
+        self.state.message(number, id, opcode, body, watch)?;
+        self.state.settle(watch);
         Ok(())
     }
 
     // A header with a bad size of a live peer.
-    fn bad_size(&mut self, number: u32, head: [u8; 8]) -> Result<(), NoMemory>
+    fn bad_size<W: Watch>(
+        &mut self,
+        number: u32,
+        head: [u8; 8],
+        watch: &mut W,
+    ) -> Result<(), NoMemory>
         requires live { standing_of self.old.journal number ≡ Alive }
         requires place { full_for self.old (entries.BadSize number head) ≡ None }
         ensures ok { OnOk result (self.new ≡ with_step (entries.BadSize number head) self.old) }
         ensures err { OnErr result (self.new ≡ self.old) }
+        ensures watched { IsWatched W.may_follow self.old watch.old self.new watch.new }
     {
-        self.state.bad_size(number, head)?;
-        self.state.settle();
+        self.state.bad_size(number, head, watch)?;
+        self.state.settle(watch);
         Ok(())
     }
 
     // The link of a live peer ends.
-    fn gone(&mut self, number: u32)
+    fn gone<W: Watch>(&mut self, number: u32, watch: &mut W)
         requires { standing_of self.old.journal number ≡ Alive }
-        ensures { self.new ≡ with_step (entries.End number Gone) self.old }
+        ensures ended { self.new ≡ with_step (entries.End number Gone) self.old }
+        ensures watched { IsWatched W.may_follow self.old watch.old self.new watch.new }
     {
-        self.state.end(number, EndCause::Gone);
-        self.state.settle();
+        self.state.end(number, EndCause::Gone, watch);
+        self.state.settle(watch);
     }
 
     // A step of a peer that can be taken.
-    fn peer_step(&mut self, number: u32, step: &PeerStep) -> Result<(), NoMemory>
+    fn peer_step<W: Watch>(
+        &mut self,
+        number: u32,
+        step: &PeerStep,
+        watch: &mut W,
+    ) -> Result<(), NoMemory>
         requires step { IsStep (steps.Peer number step.now) }
         requires accepted { refusal self.old (steps.Peer number step.now) ≡ None }
         ensures accepted { IsAccepted (record {}) (steps.Peer number step.now) result }
         ensures ok { OnOk result (self.new ≡ with_step (entry_of (steps.Peer number step.now)) self.old) }
         ensures err { OnErr result (self.new ≡ self.old) }
+        ensures watched { IsWatched W.may_follow self.old watch.old self.new watch.new }
     {
         match step {
-            PeerStep::Message { id, opcode, body } => self.message(number, *id, *opcode, body),
-            PeerStep::BadSize { head } => self.bad_size(number, *head),
+            PeerStep::Message { id, opcode, body } => {
+                self.message(number, *id, *opcode, body, watch)
+            }
+            PeerStep::BadSize { head } => self.bad_size(number, *head, watch),
             PeerStep::Gone => {
-                self.gone(number);
+                self.gone(number, watch);
                 Ok(())
             }
         }
     }
 
     // Something that the shell says. Answers where a key went.
-    fn shell(&mut self, step: &ShellStep) -> Result<Option<Route>, NoMemory>
+    fn shell<W: Watch>(
+        &mut self,
+        step: &ShellStep,
+        watch: &mut W,
+    ) -> Result<Option<Route>, NoMemory>
         requires place { full_for self.old (entries.Shell step.now) ≡ None }
         ensures ok { OnOk result (self.new ≡ with_step (entries.Shell step.now) self.old) }
         ensures route { IfOk result (λ route. route ≡ route_told (act_at (entries.Shell step.now) self.old.journal) (resolve self.old.journal)) }
         ensures err { OnErr result (self.new ≡ self.old) }
+        ensures watched { IsWatched W.may_follow self.old watch.old self.new watch.new }
     {
-        let route = self.state.shell(step)?;
-        self.state.settle();
+        let route = self.state.shell(step, watch)?;
+        self.state.settle(watch);
         Ok(route)
     }
 
     // A step of a peer or of the shell that can be taken.
-    fn enter(&mut self, step: &Step) -> Result<Option<Route>, NoMemory>
+    fn enter<W: Watch>(&mut self, step: &Step, watch: &mut W) -> Result<Option<Route>, NoMemory>
         requires step { IsStep step.now }
         requires said { IsSaid step.now }
         requires accepted { refusal self.old step.now ≡ None }
@@ -300,13 +349,14 @@ impl Shared {
         ensures ok { OnOk result (self.new ≡ with_step (entry_of step.now) self.old) }
         ensures route { IfOk result (λ route. route ≡ route_told (act_at (entry_of step.now) self.old.journal) (resolve self.old.journal)) }
         ensures err { OnErr result (self.new ≡ self.old) }
+        ensures watched { IsWatched W.may_follow self.old watch.old self.new watch.new }
     {
         match step {
             Step::Peer(number, step) => {
-                self.peer_step(*number, step)?;
+                self.peer_step(*number, step, watch)?;
                 Ok(None)
             }
-            Step::Shell(step) => self.shell(step),
+            Step::Shell(step) => self.shell(step, watch),
             Step::Join(_) | Step::Take(..) => Err(NoMemory),
         }
     }
@@ -325,11 +375,31 @@ impl Shared {
         ensures route { IfOk result (λ applied. applied.route ≡ route_told (act_at (entry_of step.now) self.old.journal) (resolve self.old.journal)) }
         ensures err { OnErr result (self.new ≡ self.old) }
     {
+        self.apply_watched(step, &mut ())
+    }
+
+    /// As `apply`; and `watch` is told of the entries that the call makes, of none where the step
+    /// isn't taken.
+    pub fn apply_watched<W: Watch>(
+        &mut self,
+        step: &Step,
+        watch: &mut W,
+    ) -> Result<Applied, Refused>
+        requires step { IsStep step.now }
+        requires said { IsSaid step.now }
+        ensures refused { IfSome (refusal self.old step.now) (λ why. result ≡ Err why) }
+        ensures accepted { IfNone (refusal self.old step.now) (IsAccepted Refused.NoMemory step.now result) }
+        ensures ok { OnOk result (self.new ≡ with_step (entry_of step.now) self.old) }
+        ensures entry { IfOk result (λ applied. applied.entry ≡ length self.old.journal + 1) }
+        ensures route { IfOk result (λ applied. applied.route ≡ route_told (act_at (entry_of step.now) self.old.journal) (resolve self.old.journal)) }
+        ensures err { OnErr result (self.new ≡ self.old) }
+        ensures watched { IsWatched W.may_follow self.old watch.old self.new watch.new }
+    {
         if let Some(why) = self.refusal(step) {
             return Err(why);
         }
         let entry = self.state.journal.len() + 1;
-        match self.enter(step) {
+        match self.enter(step, watch) {
             Ok(route) => Ok(Applied { entry, route }),
             Err(NoMemory) => Err(Refused::NoMemory),
         }
@@ -369,13 +439,37 @@ impl Shared {
         ensures same_bytes { IfNoBytes result (buf.new ≡ buf.old) }
         ensures same_tokens { IfNoBytes result (tokens.new ≡ tokens.old) }
     {
+        self.take_watched(peer, buf, tokens, &mut ())
+    }
+
+    /// As `take`; and `watch` is told of the entries that the call makes, of none where nothing is
+    /// taken.
+    pub fn take_watched<W: Watch>(
+        &mut self,
+        peer: u32,
+        buf: &mut [u8],
+        tokens: &mut [u32],
+        watch: &mut W,
+    ) -> Took
+        requires piece { length buf.old ≤ 4096 }
+        requires some { 1 ≤ length buf.old }
+        requires places { 256 ≤ length tokens.old }
+        ensures refused { IfSome (take_refusal self.old peer) (λ why. result ≡ why) }
+        ensures accepted { IfNone (take_refusal self.old peer) (IsBytesUnlessMemory result) }
+        ensures bytes { IfSome (out_at self.old.limits.store self.old.journal peer) (λ out. IfBytes result (λ counts. IsTaken out self.old.journal peer buf.old tokens.old counts buf.new tokens.new (entries.Took peer counts.0 ∷ self.old.journal))) }
+        ensures settled { IfBytes result (λ counts. self.new ≡ with_step (entries.Took peer counts.0) self.old) }
+        ensures same { IfNoBytes result (self.new ≡ self.old) }
+        ensures same_bytes { IfNoBytes result (buf.new ≡ buf.old) }
+        ensures same_tokens { IfNoBytes result (tokens.new ≡ tokens.old) }
+        ensures watched { IsWatched W.may_follow self.old watch.old self.new watch.new }
+    {
         if let Some(why) = self.take_refusal(peer) {
             return why;
         }
-        let Ok((bytes, places)) = self.state.take(peer, buf, tokens) else {
+        let Ok((bytes, places)) = self.state.take(peer, buf, tokens, watch) else {
             return Took::NoMemory;
         };
-        self.state.settle();
+        self.state.settle(watch);
         Took::Bytes(bytes, places)
     }
 }

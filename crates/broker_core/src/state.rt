@@ -1,6 +1,6 @@
 // The state of all peers of a seat. It stands for the journal of what happened.
 ghost use Rattle.std.specs.Prelude.{◌≡◌, ◌≤◌, ◌<◌, ◌+◌, ◌∷◌, [], ℕ, List, map, length, Option, Some, None, IsSome, IfSome, IfOk, OnOk, OnErr};
-ghost use Rattle.std.specs.List.{AllByRecursion, flat_map};
+ghost use Rattle.std.specs.List.{AllByRecursion};
 ghost use Rattle.relay_model.specs.declared.act.Act.{Act};
 ghost use Rattle.relay_model.specs.Told.{told};
 ghost use Rattle.relay_core.specs.Kept.{IsReserved};
@@ -9,19 +9,18 @@ ghost use Rattle.broker_model.specs.declared.journal.Entry.TheVariants as entrie
 ghost use Rattle.broker_model.specs.Settle.{settle};
 ghost use Rattle.broker_model.specs.Resolve.{past_of, resolve};
 ghost use Rattle.broker_model.specs.Out.{act_at};
-ghost use Rattle.seat_audience.specs.Lives.{cleared, has_heard, told_all, number_of};
+ghost use Rattle.seat_audience.specs.Lives.{told_all, number_of};
 ghost use Rattle.broker_core.specs.Stands.{Stands, IsReadyFor, store_of};
-ghost use Rattle.seat_audience.specs.Tells.{IsShort, placing};
-ghost use Rattle.seat_audience.specs.Written.{IsWritten, told_text};
-ghost use Rattle.broker_core.specs.Transcribed.{Says};
+ghost use Rattle.seat_objects.specs.Reached.{Reached};
+ghost use Rattle.seat_audience.specs.Tells.{IsShort};
+ghost use Rattle.broker_core.specs.Watched.{told_live, watched, watched_since};
 
+use crate::watch::{Watch, show_groups, speak};
 use broker_model::{Entry, Journal};
 use out_store::Store;
 use relay_core::{Relay, Route};
 use relay_model::{Act, EndCause, Label};
-use seat_audience::{
-    Audience, Directory, clear, deliver, due, no_places, take_away, write_head, write_told,
-};
+use seat_audience::{Audience, Directory, clear, deliver, due, take_away};
 use std::alloc::Global;
 use wio_core::NoMemory;
 
@@ -53,8 +52,6 @@ pub(crate) struct State {
     pub labels: Vec<Label>,
     /// The same: nothing while the peer is alive.
     pub ended: Vec<Option<Ended>>,
-    /// What is written of the transcript since it was begun. None where nobody reads it, or where there was no memory for a line.
-    pub transcript: Option<String>,
 }
 
 impl State {
@@ -72,69 +69,69 @@ impl State {
             audience: Audience {
                 live: Vec::new(alloc),
                 directory: Directory::new(alloc),
-                placed: None,
             },
             labels: Vec::new(alloc),
             ended: Vec::new(alloc),
-            transcript: None,
         })
     }
 
-    // The relay takes the act, for which room was made, and each peer's group is put into its store or left out. What is told is written with the number.
-    fn play(&mut self, number: u32, act: &Act) -> Option<Route>
+    // The relay takes the act, for which room was made, and each peer's group is put into its store or left out. Who watches is told both, as of the entry with the number.
+    fn play<W: Watch>(&mut self, number: u32, act: &Act, watch: &mut W) -> Option<Route>
         requires reserved { IsReserved self.old.relay act.now }
         requires number { self.old.relay.state.acts < 4294967295 }
         ensures relay { (log : List Act) → relay.StandsFor self.old.relay log → relay.StandsFor self.new.relay (act.now ∷ log) }
         ensures route { (log : List Act) → relay.StandsFor self.old.relay log → result ≡ relay.route_told act.now log }
         ensures live { (log : List Act) → relay.StandsFor self.old.relay log → AllByRecursion IsShort (told act.now log) → self.new.audience.live.items ≡ map (told_all self.old.audience.directory.made (told act.now log)) self.old.audience.live.items }
         ensures directory { (log : List Act) → relay.StandsFor self.old.relay log → AllByRecursion IsShort (told act.now log) → self.new.audience.directory ≡ self.old.audience.directory }
-        ensures transcript { (log : List Act) → relay.StandsFor self.old.relay log → AllByRecursion IsShort (told act.now log) → IsWritten (told_text number self.old.audience.directory.made (map (has_heard self.old.audience.directory.made (told act.now log)) (map cleared self.old.audience.live.items)) (flat_map (λ t. placing t.event) (told act.now log)) act.now log) self.old.transcript self.new.transcript }
+        ensures watched { (log : List Act) → relay.StandsFor self.old.relay log →
+            AllByRecursion IsShort (told act.now log) → Reached W.may_follow watch.old
+            (told_live number self.old.audience.directory.made self.old.audience.live.items (told act.now log))
+            watch.new }
         ensures journal { self.new.journal ≡ self.old.journal }
         ensures labels { self.new.labels ≡ self.old.labels }
         ensures ended { self.new.ended ≡ self.old.ended }
         ensures capacity { self.new.capacity ≡ self.old.capacity }
     {
         clear(&mut self.audience.live);
-        self.audience.placed = no_places(&self.transcript, self.alloc);
-        let route = self.relay.step(act, &mut self.audience);
-        write_told(
-            &mut self.transcript,
-            self.alloc,
-            number,
-            &self.audience,
-            act,
-            route,
-        );
+        let route = speak(&mut self.relay, number, act, &mut self.audience, watch);
+        show_groups(number, &self.audience.live, watch);
         deliver(&mut self.audience.live);
         route
     }
 
     // One more entry, for which all is made ready: its act is told. Takes no memory.
-    pub(crate) fn enter(&mut self, entry: Entry, act: &Act) -> Option<Route>
+    pub(crate) fn enter<W: Watch>(
+        &mut self,
+        entry: Entry,
+        act: &Act,
+        watch: &mut W,
+    ) -> Option<Route>
         requires ready { IsReadyFor entry self.old }
         requires act { act.now ≡ act_at entry self.old.journal.entries }
         ensures stands { Stands self.new }
         ensures entered { self.new.journal.entries ≡ entry ∷ self.old.journal.entries }
         ensures capacity { self.new.capacity ≡ self.old.capacity }
         ensures route { result ≡ relay.route_told act.now (resolve self.old.journal.entries) }
-        ensures says { (before : List ℕ) → Says before self.old → Says before self.new }
+        ensures watched { Reached W.may_follow watch.old
+            (watched self.old.capacity entry self.old.journal.entries) watch.new }
     {
         let number = self.journal.len() + 1;
-        write_head(&mut self.transcript, self.alloc, number, &entry);
-        let route = self.play(number, act);
+        watch.entered(number, &entry);
+        let route = self.play(number, act, watch);
         self.journal.push(entry);
         route
     }
 
     /// A live peer ends. Takes no memory.
-    pub(crate) fn end(&mut self, number: u32, cause: EndCause)
+    pub(crate) fn end<W: Watch>(&mut self, number: u32, cause: EndCause, watch: &mut W)
         requires stands { Stands self.old }
         requires live { IsSome (number_of number self.old.audience.live.items) }
         requires few { length self.old.journal.entries < 4294967295 }
         ensures stands { Stands self.new }
         ensures capacity { self.new.capacity ≡ self.old.capacity }
         ensures ended { self.new.journal.entries ≡ entries.End number cause ∷ self.old.journal.entries }
-        ensures says { (before : List ℕ) → Says before self.old → Says before self.new }
+        ensures watched { Reached W.may_follow watch.old
+            (watched self.old.capacity (entries.End number cause) self.old.journal.entries) watch.new }
     {
         let Some(live) = take_away(&mut self.audience.live, number) else {
             return;
@@ -153,20 +150,23 @@ impl State {
                 cause,
             },
             &act,
+            watch,
         );
     }
 
     /// While a live peer has a refused last message or is choked, the one with the lowest number ends. Takes no memory.
-    pub(crate) fn settle(&mut self)
+    pub(crate) fn settle<W: Watch>(&mut self, watch: &mut W)
         requires stands { Stands self.old }
         requires few { length self.old.journal.entries + length self.old.audience.live.items < 4294967295 }
         ensures stands { Stands self.new }
         ensures capacity { self.new.capacity ≡ self.old.capacity }
         ensures settled { self.new.journal.entries ≡ settle self.old.capacity self.old.journal.entries }
-        ensures says { (before : List ℕ) → Says before self.old → Says before self.new }
+        ensures watched { (k : ℕ) (from : W) → k ≤ length self.old.journal.entries →
+            Reached W.may_follow from (watched_since self.old.capacity k self.old.journal.entries) watch.old →
+            Reached W.may_follow from (watched_since self.old.capacity k self.new.journal.entries) watch.new }
     {
         while let Some((number, cause)) = due(&self.audience.live) {
-            self.end(number, cause);
+            self.end(number, cause, watch);
         }
     }
 }

@@ -12,9 +12,11 @@ ghost use Rattle.broker_model.specs.Ids.{peer_at};
 ghost use Rattle.broker_model.specs.Out.{act_at};
 ghost use Rattle.seat_audience.specs.Lives.{number_of};
 ghost use Rattle.broker_core.specs.Stands.{Stands, CanTake};
-ghost use Rattle.broker_core.specs.Transcribed.{Says};
+ghost use Rattle.seat_objects.specs.Reached.{Reached};
+ghost use Rattle.broker_core.specs.Watched.{watched};
 
 use crate::state::State;
+use crate::watch::Watch;
 use broker_model::Entry;
 use im_objects::DISPLAY_ID;
 use relay_core::Route;
@@ -35,11 +37,9 @@ impl State {
         ensures journal { self.new.journal.entries ≡ self.old.journal.entries }
         ensures live { self.new.audience.live ≡ self.old.audience.live }
         ensures made { self.new.audience.directory.made ≡ self.old.audience.directory.made }
-        ensures placed { self.new.audience.placed ≡ self.old.audience.placed }
         ensures labels { self.new.labels ≡ self.old.labels }
         ensures ended { self.new.ended ≡ self.old.ended }
         ensures capacity { self.new.capacity ≡ self.old.capacity }
-        ensures transcript { self.new.transcript ≡ self.old.transcript }
         ensures room { OnOk result (length self.old.audience.live.items + 2 ≤ self.new.journal.room) }
         ensures place { OnOk result (0 < self.new.audience.directory.room) }
         ensures reserved { OnOk result (IsReserved self.new.relay act.now) }
@@ -50,7 +50,7 @@ impl State {
     }
 
     /// A peer joins. Answers its number.
-    pub(crate) fn join(&mut self, role: Role) -> Result<u32, NoMemory>
+    pub(crate) fn join<W: Watch>(&mut self, role: Role, watch: &mut W) -> Result<u32, NoMemory>
         requires stands { Stands self.old }
         requires place { CanTake (entries.Join role) self.old.journal.entries }
         ensures stands { Stands self.new }
@@ -58,7 +58,9 @@ impl State {
         ensures ok { OnOk result (self.new.journal.entries ≡ entries.Join role ∷ self.old.journal.entries) }
         ensures number { IfOk result (λ number. number ≡ length (past_of self.new.journal.entries).joined) }
         ensures err { OnErr result (self.new.journal.entries ≡ self.old.journal.entries) }
-        ensures says { (before : List ℕ) → Says before self.old → Says before self.new }
+        ensures watched { OnOk result (Reached W.may_follow watch.old
+            (watched self.old.capacity (entries.Join role) self.old.journal.entries) watch.new) }
+        ensures unwatched { OnErr result (watch.new ≡ watch.old) }
     {
         let label = self.journal.len() + 1;
         let number = self.labels.len() as u32 + 1;
@@ -76,7 +78,7 @@ impl State {
         let _ = self.audience.live.push(live);
         let _ = self.labels.push(label);
         let _ = self.ended.push(None);
-        let _ = self.enter(Entry::Join(role), &Act::Peer);
+        let _ = self.enter(Entry::Join(role), &Act::Peer, watch);
         Ok(number)
     }
 
@@ -96,12 +98,13 @@ impl State {
     }
 
     /// A live peer sends a whole message.
-    pub(crate) fn message(
+    pub(crate) fn message<W: Watch>(
         &mut self,
         number: u32,
         id: u32,
         opcode: u16,
         body: &Bytes,
+        watch: &mut W,
     ) -> Result<(), NoMemory>
         requires stands { Stands self.old }
         requires live { IsSome (number_of number self.old.audience.live.items) }
@@ -111,7 +114,9 @@ impl State {
         ensures capacity { self.new.capacity ≡ self.old.capacity }
         ensures ok { OnOk result (self.new.journal.entries ≡ entries.Message number id opcode body.now ∷ self.old.journal.entries) }
         ensures err { OnErr result (self.new.journal.entries ≡ self.old.journal.entries) }
-        ensures says { (before : List ℕ) → Says before self.old → Says before self.new }
+        ensures watched { OnOk result (Reached W.may_follow watch.old
+            (watched self.old.capacity (entries.Message number id opcode body.now) self.old.journal.entries) watch.new) }
+        ensures unwatched { OnErr result (watch.new ≡ watch.old) }
     {
         let Some(place) = place_of(&self.audience.live, number) else {
             return Err(NoMemory);
@@ -126,12 +131,17 @@ impl State {
         self.make_room(&meaning.act)?;
         self.audience
             .change(place, id, self.journal.len() + 1, &meaning)?;
-        let _ = self.enter(entry, &meaning.act);
+        let _ = self.enter(entry, &meaning.act, watch);
         Ok(())
     }
 
     /// A live peer sends the header of a message with a bad size.
-    pub(crate) fn bad_size(&mut self, number: u32, head: [u8; 8]) -> Result<(), NoMemory>
+    pub(crate) fn bad_size<W: Watch>(
+        &mut self,
+        number: u32,
+        head: [u8; 8],
+        watch: &mut W,
+    ) -> Result<(), NoMemory>
         requires stands { Stands self.old }
         requires live { IsSome (number_of number self.old.audience.live.items) }
         requires place { CanTake (entries.BadSize number head) self.old.journal.entries }
@@ -139,7 +149,9 @@ impl State {
         ensures capacity { self.new.capacity ≡ self.old.capacity }
         ensures ok { OnOk result (self.new.journal.entries ≡ entries.BadSize number head ∷ self.old.journal.entries) }
         ensures err { OnErr result (self.new.journal.entries ≡ self.old.journal.entries) }
-        ensures says { (before : List ℕ) → Says before self.old → Says before self.new }
+        ensures watched { OnOk result (Reached W.may_follow watch.old
+            (watched self.old.capacity (entries.BadSize number head) self.old.journal.entries) watch.new) }
+        ensures unwatched { OnErr result (watch.new ≡ watch.old) }
     {
         let Some(place) = place_of(&self.audience.live, number) else {
             return Err(NoMemory);
@@ -152,7 +164,7 @@ impl State {
         };
         self.make_room(&act)?;
         self.audience.live[place].is_refused = true;
-        let _ = self.enter(Entry::BadSize { peer: number, head }, &act);
+        let _ = self.enter(Entry::BadSize { peer: number, head }, &act, watch);
         Ok(())
     }
 
@@ -184,7 +196,11 @@ impl State {
     }
 
     /// The shell says something. Answers where a key went, and nothing for any other step.
-    pub(crate) fn shell(&mut self, step: &ShellStep) -> Result<Option<Route>, NoMemory>
+    pub(crate) fn shell<W: Watch>(
+        &mut self,
+        step: &ShellStep,
+        watch: &mut W,
+    ) -> Result<Option<Route>, NoMemory>
         requires stands { Stands self.old }
         requires place { CanTake (entries.Shell step.now) self.old.journal.entries }
         ensures stands { Stands self.new }
@@ -192,10 +208,12 @@ impl State {
         ensures ok { OnOk result (self.new.journal.entries ≡ entries.Shell step.now ∷ self.old.journal.entries) }
         ensures route { IfOk result (λ route. route ≡ relay.route_told (act_at (entries.Shell step.now) self.old.journal.entries) (resolve self.old.journal.entries)) }
         ensures err { OnErr result (self.new.journal.entries ≡ self.old.journal.entries) }
-        ensures says { (before : List ℕ) → Says before self.old → Says before self.new }
+        ensures watched { OnOk result (Reached W.may_follow watch.old
+            (watched self.old.capacity (entries.Shell step.now) self.old.journal.entries) watch.new) }
+        ensures unwatched { OnErr result (watch.new ≡ watch.old) }
     {
         let act = shell_act(step, self.surface(step));
         self.make_room(&act)?;
-        Ok(self.enter(Entry::Shell(*step), &act))
+        Ok(self.enter(Entry::Shell(*step), &act, watch))
     }
 }

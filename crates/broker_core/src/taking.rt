@@ -7,10 +7,12 @@ ghost use Rattle.broker_model.specs.Out.{stored};
 ghost use Rattle.broker_core.specs.declared.taking.Standing.TheVariants.{Alive};
 ghost use Rattle.seat_audience.specs.Lives.{number_of};
 ghost use Rattle.broker_core.specs.Stands.{Stands, CanTake, store_of};
-ghost use Rattle.broker_core.specs.Transcribed.{Says};
+ghost use Rattle.seat_objects.specs.Reached.{Reached};
+ghost use Rattle.broker_core.specs.Watched.{watched};
 ghost use Rattle.broker_core.specs.Taking.{out_at, IsTaken, standing_of};
 
 use crate::state::State;
+use crate::watch::Watch;
 use broker_model::Entry;
 use out_store::Store;
 use relay_model::{Act, EndCause};
@@ -18,10 +20,13 @@ use seat_audience::place_of;
 use wio_core::NoMemory;
 
 /// Whether a peer is there.
-#[derive(Clone, Copy)]
-pub(crate) enum Standing {
+#[derive(Clone, Copy, Debug, PartialEq, Eq)]
+pub enum Standing {
+    /// No peer has the number.
     Nobody,
+    /// It joined, and no end of it is in the journal.
     Alive,
+    /// It ended, for this cause.
     Over(EndCause),
 }
 
@@ -63,11 +68,12 @@ impl State {
 
     /// The first bytes that are stored for the peer, alive or ended, go into the buffer, as many as fit, and the tokens whose messages begin in them beside. Answers
     /// how many of each.
-    pub(crate) fn take(
+    pub(crate) fn take<W: Watch>(
         &mut self,
         number: u32,
         buf: &mut [u8],
         tokens: &mut [u32],
+        watch: &mut W,
     ) -> Result<(usize, usize), NoMemory>
         requires stands { Stands self.old }
         requires piece { length buf.old ≤ 4096 }
@@ -78,7 +84,9 @@ impl State {
         ensures capacity { self.new.capacity ≡ self.old.capacity }
         ensures ok { IfSome (out_at self.old.capacity self.old.journal.entries number) (λ out. IfOk result (λ counts. IsTaken out self.old.journal.entries number buf.old tokens.old counts buf.new tokens.new self.new.journal.entries)) }
         ensures err { OnErr result (self.new.journal.entries ≡ self.old.journal.entries) }
-        ensures says { (before : List ℕ) → Says before self.old → Says before self.new }
+        ensures watched { IfOk result (λ counts. Reached W.may_follow watch.old
+            (watched self.old.capacity (entries.Took number counts.0) self.old.journal.entries) watch.new) }
+        ensures unwatched { OnErr result (watch.new ≡ watch.old) }
         ensures err_bytes { OnErr result (buf.new ≡ buf.old) }
         ensures err_tokens { OnErr result (tokens.new ≡ tokens.old) }
     {
@@ -92,6 +100,7 @@ impl State {
                 bytes,
             },
             &Act::Took { peer, bytes },
+            watch,
         );
         Ok(counts)
     }
@@ -113,9 +122,7 @@ impl State {
         ensures left { IfNone (number_of number self.old.audience.live.items) (IfSome (slice_get self.old.ended.items (number - 1)) (λ e. IfSome e (λ was. (rest : Option Queue) × (store_of store.capacity rest ≡ queue (drop result.0 store.cells) store.capacity) × IfSome rest (λ stays. ¬ (stays.cells ≡ [])) × (self.new.ended.items ≡ set self.old.ended.items (number - 1) (Some (record { cause = was.cause; store = rest })))))) }
         ensures others { IfNone (number_of number self.old.audience.live.items) (self.new.audience.live.items ≡ self.old.audience.live.items) }
         ensures directory { self.new.audience.directory ≡ self.old.audience.directory }
-        ensures placed { self.new.audience.placed ≡ self.old.audience.placed }
         ensures relay { self.new.relay ≡ self.old.relay }
-        ensures transcript { self.new.transcript ≡ self.old.transcript }
         ensures journal { self.new.journal ≡ self.old.journal }
         ensures labels { self.new.labels ≡ self.old.labels }
         ensures capacity { self.new.capacity ≡ self.old.capacity }

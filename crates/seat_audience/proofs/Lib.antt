@@ -3,4 +3,3 @@ pub mod Changing
 pub mod Labelled
 pub mod Numbered
 pub mod Overhearing
-pub mod Writing

@@ -1,21 +1,17 @@
 -- What one thing told is to all who may hear it.
 use Rattle.std.proofs.Common.{◌≡◌, ℕ, Bool, true, false, List, [], ◌∷◌, map, Option, Some, None, refl, sym, ap, ◌∙◌}
 use Rattle.std.specs.Prelude.{◌==◌, if◌then◌else◌}
-use Rattle.std.specs.Global.{Vec}
 use Rattle.std.proofs.lemmas.Bool.{eq-eqb, eqb-true, ne_eqb, true≢false}
-use Rattle.std.proofs.lemmas.List.{append-nil}
 use Rattle.wl_proto.specs.Rows.{Message}
 use Rattle.relay_model.specs.declared.said.Told.{Told}
 use Rattle.broker_model.specs.Ids.{Made, made_as}
 use Rattle.broker_model.specs.Groups.{message_of}
-use Rattle.seat_audience.specs.declared.audience.Placing.{Placing}
 use Rattle.seat_audience.specs.declared.directory.Named.{Named}
 use Rattle.seat_audience.specs.declared.live.Live.{Live}
 use Rattle.seat_audience.specs.Directed.{made_of}
 use Rattle.seat_audience.specs.Gathered.{Gathered, with_message}
 use Rattle.seat_audience.specs.Heard.{with_event, hears_at}
 use Rattle.seat_audience.specs.Lives.{listens, hears_message}
-use Rattle.seat_audience.specs.Tells.{IsNoted}
 
 -- two changes that agree on each
 all_alike : (f g : Live → Live) (live : List Live) → ((l : Live) → f l ≡ g l) → map f live ≡ map g live
@@ -65,8 +61,3 @@ heard_by made t to m live to_whom what =
     hears_alike to m l
     ∙ ap (λ (o : Option Message). record l { gathering = (if to.peer == l.label then with_event to.id o l.gathering else l.gathering) }) (sym what)
     ∙ ap (λ (o : Option Made). record l { gathering = hears_at made l.label t.event o l.gathering }) (sym to_whom))
-
--- where nothing is said of a popup
-pub nothing_noted : (placed : Option (Vec Placing)) → IsNoted [] placed placed
-nothing_noted None = refl
-nothing_noted (Some noted) = sym (append-nil noted.items)

@@ -4,4 +4,3 @@ pub mod Heard
 pub mod Lives
 pub mod Tells
 pub mod Changes
-pub mod Written

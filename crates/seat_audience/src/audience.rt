@@ -10,7 +10,7 @@ ghost use Rattle.seat_wire.specs.Asked.{asked};
 ghost use Rattle.seat_wire.specs.Events.{named};
 ghost use Rattle.seat_audience.specs.Directed.{IsNewest};
 ghost use Rattle.seat_audience.specs.Lives.{listens};
-ghost use Rattle.seat_audience.specs.Tells.{IsShort, IsNoted, Tells, placing};
+ghost use Rattle.seat_audience.specs.Tells.{IsShort, Tells};
 ghost use Rattle.seat_audience.specs.Changes.{IsChangedAt};
 
 use crate::directory::{Directory, Named};
@@ -24,26 +24,13 @@ use wl_proto::event_len;
 // The most bytes of a message.
 const LONGEST: usize = 4096;
 
-/// Where the shell is told to show a popup, in pixels of the screen (`zwp_input_popup_surface_v2`).
-#[derive(Clone, Copy)]
-pub struct Placing {
-    /// The popup.
-    pub popup: Label,
-    /// From the left.
-    pub x: i64,
-    /// From the top.
-    pub y: i64,
-}
-
-/// The live peers by rising number, whose each label is, and the places of popups as far as somebody notes them.
+/// The live peers by rising number, and whose each label is.
 #[derive(Drop)]
 pub struct Audience {
     /// The live peers.
     pub live: Vec<Live>,
     /// Whose each label is.
     pub directory: Directory,
-    /// None where nobody notes places, or where there was no memory for one.
-    pub placed: Option<Vec<Placing>>,
 }
 
 impl Audience {
@@ -64,7 +51,6 @@ impl Audience {
         ensures made { IfSome (slice_get self.old.live.items place) (λ l. OnOk result (self.new.directory.made ≡ made_new l.label label (option_map asked meaning.now.made) ++ self.old.directory.made)) }
         ensures err { OnErr result (self.new.live.items ≡ self.old.live.items) }
         ensures err_made { OnErr result (self.new.directory.made ≡ self.old.directory.made) }
-        ensures placed { self.new.placed ≡ self.old.placed }
     {
         let sender = &mut self.live[place];
         sender.change(id, label, meaning)?;
@@ -97,7 +83,6 @@ impl Audience {
     fn gather(&mut self, told: &Told)
         ensures live { IsShort told.now → self.new.live.items ≡ map (listens self.old.directory.made told.now) self.old.live.items }
         ensures directory { self.new.directory ≡ self.old.directory }
-        ensures placed { self.new.placed ≡ self.old.placed }
     {
         let Some(to) = self.directory.find(told.to) else {
             return;
@@ -110,27 +95,6 @@ impl Audience {
             hear(&mut self.live, &to, &event, token_of(&told.event));
         }
     }
-
-    // Notes where a popup is, if that is told and somebody notes it.
-    fn note(&mut self, said: &Said)
-        ensures noted { IsNoted (placing said.now) self.old.placed self.new.placed }
-        ensures live { self.new.live ≡ self.old.live }
-        ensures directory { self.new.directory ≡ self.old.directory }
-    {
-        let Said::Placed { popup, x, y } = said else {
-            return;
-        };
-        if let Some(placed) = &mut self.placed {
-            let placing = Placing {
-                popup: *popup,
-                x: *x,
-                y: *y,
-            };
-            if placed.push(placing).is_err() {
-                self.placed = None;
-            }
-        }
-    }
 }
 
 impl Post for Audience {
@@ -138,6 +102,5 @@ impl Post for Audience {
 
     fn tell(&mut self, told: &Told) {
         self.gather(told);
-        self.note(&told.event);
     }
 }

@@ -5,15 +5,16 @@ use Rattle.broker_core.specs.Taking.{standing_of}
 use Rattle.broker_core.specs.Broker.{Broker}
 use Rattle.broker_core.proofs.Standings.{alive_there}
 use Rattle.broker_core.proofs.Sharing.{HasPlace, stepped, stays, becomes, has_place, within_plain}
+use Rattle.broker_core.proofs.CallWatched.{call_watched, refused_watched}
 use Rattle.broker_core.proofs.shared.Shared.bad_size.Goals as goal
 
 pub bad_size-requires-clause-live : goal.bad_size-requires-clause-live
-bad_size-requires-clause-live c =
+bad_size-requires-clause-live g c =
     alive_there c.self.inside.state c.args.number c.self.invariant.stands
     (ap (λ (b : Broker). standing_of b.journal c.args.number) c.self.view_is ∙ c.requires.live)
 
 pub invariant_of-self-2 : goal.invariant_of-self-2
-invariant_of-self-2 c =
+invariant_of-self-2 g c =
     let e : Entry = entries.BadSize c.args.number c.args.head in
     let place : HasPlace c.self.inside.limits e c.self.inside.state.journal.entries =
     has_place c.self.inside.limits e c.args.self.now c.self.inside.state c.self.view_is refl c.requires.place in
@@ -23,8 +24,19 @@ invariant_of-self-2 c =
     c.settle.ensures.settled)
 
 pub returns-clause-ok : goal.returns-clause-ok
-returns-clause-ok c =
+returns-clause-ok g c =
     let e : Entry = entries.BadSize c.args.number c.args.head in
     becomes c.self.inside.limits e c.args.self.now c.self.inside.state c.settle.new.self c.self.view_is c.self.invariant
     (stepped e c.self.inside.state c.bad_size.new.self c.settle.new.self c.in_ok-bad_size.ensures.capacity c.in_ok-bad_size.ensures.ok c.settle.ensures.stands c.settle.ensures.capacity
     c.settle.ensures.settled)
+
+pub returns-in_err-bad_size-clause-watched : goal.returns-in_err-bad_size-clause-watched
+returns-in_err-bad_size-clause-watched g c =
+    refused_watched g.W.Watch.may_follow c.self.inside.limits c.args.self.now c.self.inside.state c.bad_size.new.self c.args.watch.now c.bad_size.new.watch
+    c.self.view_is c.in_err-bad_size.ensures.err c.in_err-bad_size.ensures.unwatched
+
+pub returns-clause-watched : goal.returns-clause-watched
+returns-clause-watched g c =
+    call_watched g.W.Watch.may_follow c.self.inside.limits (entries.BadSize c.args.number c.args.head) c.args.self.now
+    c.self.inside.state c.bad_size.new.self c.settle.new.self c.args.watch.now c.bad_size.new.watch c.settle.new.watch
+    c.self.view_is c.self.invariant c.in_ok-bad_size.ensures.capacity c.in_ok-bad_size.ensures.ok c.in_ok-bad_size.ensures.watched c.settle.ensures.watched

@@ -6,21 +6,20 @@ use Rattle.relay_core.specs.Stands as relay
 use Rattle.broker_model.specs.Resolve.{resolve}
 use Rattle.broker_model.specs.Out.{act_at}
 use Rattle.broker_core.specs.declared.state.State.{State}
-use Rattle.seat_audience.specs.Lives.{cleared, has_heard, told_all}
+use Rattle.seat_audience.specs.Lives.{told_all}
 use Rattle.seat_audience.specs.Tells.{IsShort}
-use Rattle.seat_audience.specs.Written.{head_text, IsWritten, told_text}
-use Rattle.broker_core.specs.Transcribed.{entry_text}
-use Rattle.broker_core.proofs.Reachings.{places}
-use Rattle.seat_audience.proofs.Writing.{both_written}
-use Rattle.broker_core.proofs.Transcripts.{told_lines, says_more}
+use Rattle.seat_objects.specs.Reached.{Reached}
+use Rattle.broker_core.specs.Watched.{Watched, told_live}
+use Rattle.broker_core.specs.Watched.Watched.{Entered}
+use Rattle.broker_core.proofs.EntryWatched.{told_is_watched}
 use Rattle.broker_core.proofs.Entering.{acts_few, short_told, stands_entered}
 use Rattle.broker_core.proofs.state.State.enter.Goals as goal
 
 pub play-route-requires-clause-number : goal.play-route-requires-clause-number
-play-route-requires-clause-number c = acts_few c.args.entry c.args.self.now c.requires.ready
+play-route-requires-clause-number g c = acts_few c.args.entry c.args.self.now c.requires.ready
 
 pub returns-clause-stands : goal.returns-clause-stands
-returns-clause-stands c =
+returns-clause-stands g c =
     let s : State = c.args.self.now in
     let act : c.args.act.now ≡ act_at c.args.entry s.journal.entries = c.requires.act in
     let short = short_told c.args.entry s c.requires.ready in
@@ -40,35 +39,24 @@ returns-clause-stands c =
       room = subst (λ j. j.room ≤ c.push.new.self.room + 1) c.play-route.ensures.journal c.push.ensures.room_left;
     })
 
-pub returns-clause-says : goal.returns-clause-says
-returns-clause-says c = λ before h.
+pub returns-clause-watched : goal.returns-clause-watched
+returns-clause-watched g c =
+    let R = g.W.Watch.may_follow in
     let s : State = c.args.self.now in
-    let J = s.journal.entries in
     let e = c.args.entry in
-    let n = length s.journal.entries + 1 in
+    let log = resolve s.journal.entries in
     let made = s.audience.directory.made in
-    let all = told (act_at e J) (resolve J) in
+    let live = s.audience.live.items in
+    let mid = c.entered.new.self in
+    let after = c.play-route.new.watch in
     let act : c.args.act.now ≡ act_at e s.journal.entries = c.requires.act in
-    let shorts = subst (λ (a : Act). AllByRecursion IsShort (told a (resolve s.journal.entries))) (sym act) (short_told e s c.requires.ready) in
-    let after = c.play-route.new.self.transcript in
-    let head : IsWritten (head_text n e) s.transcript c.write_head.new.transcript =
-    subst (λ (m : ℕ). IsWritten (head_text (m + 1) e) s.transcript c.write_head.new.transcript) c.len-number.ensures.number c.write_head.ensures in
-    let rest : IsWritten (told_text n made (map (has_heard made all) (map cleared s.audience.live.items)) (places all) (act_at e J) (resolve J))
-    c.write_head.new.transcript after =
-    subst
-    (λ (a : Act).
-    IsWritten
-    (told_text n made (map (has_heard made (told a (resolve J))) (map cleared s.audience.live.items)) (places (told a (resolve J))) a (resolve J))
-    c.write_head.new.transcript after)
-    act
-    (subst
-    (λ (m : ℕ).
-    IsWritten
-    (told_text (m + 1) made (map (has_heard made (told c.args.act.now (resolve J))) (map cleared s.audience.live.items))
-    (places (told c.args.act.now (resolve J))) c.args.act.now (resolve J))
-    c.write_head.new.transcript after)
-    c.len-number.ensures.number (c.play-route.ensures.transcript (resolve J) c.requires.ready.relayed shorts)) in
-    let all_written : IsWritten (entry_text s.capacity e J) s.transcript after =
-    subst (λ (l : List ℕ). IsWritten l s.transcript after) (told_lines e s c.requires.ready)
-    (both_written (head_text n e) _ s.transcript c.write_head.new.transcript after head rest) in
-    says_more e before s (record c.play-route.new.self { journal = c.push.new.self }) all_written c.play-route.ensures.capacity (c.push.ensures.put ∙ ap (λ j. e ∷ j.entries) c.play-route.ensures.journal) h
+    let shorts = subst (λ (a : Act). AllByRecursion IsShort (told a log)) (sym act) (short_told e s c.requires.ready) in
+    let number = c.len-number.ensures.number in
+    let by_number : Reached R mid (told_live (length s.journal.entries + 1) made live (told (act_at e s.journal.entries) log)) after =
+    subst (λ (m : ℕ). Reached R mid (told_live (m + 1) made live (told (act_at e s.journal.entries) log)) after) number
+    (subst (λ (a : Act). Reached R mid (told_live (c.len-number.result + 1) made live (told a log)) after) act
+    (c.play-route.ensures.watched log c.requires.ready.relayed shorts)) in (
+      mid,
+      subst (λ (m : ℕ). R c.args.watch.now (Entered (m + 1) e) mid) number c.entered.ensures,
+      subst (λ (events : List Watched). Reached R mid events after) (told_is_watched e s c.requires.ready) by_number,
+    )

@@ -14,14 +14,14 @@ use Rattle.broker_core.proofs.Unused.{newest}
 use Rattle.broker_core.proofs.state.State.join.Goals as goal
 
 pub push-requires-clause-newest : goal.push-requires-clause-newest
-push-requires-clause-newest c =
+push-requires-clause-newest g c =
     let s : State = c.make_room.new.self in
     let number : length s.journal.entries ≡ c.len-label.result = ap length c.make_room.ensures.journal ∙ sym c.len-label.ensures.number in
     subst (λ (n : ℕ). IsNewest (n + 1) s.audience.directory.made) number
     (subst (IsNewest (length s.journal.entries + 1)) (sym c.make_room.ensures.stands.made) (newest s.journal.entries))
 
 pub enter-requires-clause-ready : goal.enter-requires-clause-ready
-enter-requires-clause-ready c =
+enter-requires-clause-ready g c =
     let s : State = c.make_room.new.self in
     let J = s.journal.entries in
     let label : c.len-label.result + 1 ≡ length J + 1 =
@@ -37,7 +37,7 @@ enter-requires-clause-ready c =
     let ended : c.push-4.new.self.items ≡ s.ended.items ++ None ∷ [] =
     grind (arith, common_steps, c.push-4.ensures.items, c.push-4.ensures.full, c.in_ok-reserve-3.ensures) in
     let t : State = record s {
-      audience = record { live = c.push-2.new.self; directory = c.push.new.self; placed = s.audience.placed };
+      audience = record { live = c.push-2.new.self; directory = c.push.new.self };
       labels = c.push-3.new.self;
       ended = c.push-4.new.self;
     } in
