@@ -1,0 +1,4 @@
+pub mod Pairs
+pub mod Sights
+pub mod Rule
+pub mod Steps
