@@ -1,2 +1,4 @@
 pub mod Io
+pub mod LineAnswers
+pub mod Lines
 pub mod Memory

@@ -7,10 +7,14 @@ ghost use Rattle.wio_core.specs.Io.{Reads, Rose, StaysQuiet};
 
 use std::alloc::{AllocError, AllocFailed};
 
+mod line_reader;
+mod line_search;
 mod mem_sink;
 mod mem_source;
 mod std_io;
+mod window;
 
+pub use line_reader::{LineReader, LineStop, NextLine};
 pub use mem_sink::MemSink;
 pub use mem_source::MemSource;
 pub use std_io::{StdSink, StdSource};
@@ -107,5 +111,7 @@ pub fn write_all<K: Sink>(sink: &mut K, piece: &[u8]) -> Result<(), Failed>
     Ok(())
 }
 
+#[cfg(test)]
+mod line_tests;
 #[cfg(test)]
 mod tests;

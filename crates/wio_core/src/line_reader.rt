@@ -1,0 +1,199 @@
+// The lines of a source, lent one at a time.
+ghost use Rattle.std.specs.Prelude.{◌≡◌, ◌≢◌, ◌+◌, ◌<◌, ◌≤◌, ◌++◌, ◌∷◌, ℕ, List, [], drop, length, Option, Some, None, IfOk, IfErr, OnOk, IfSome, OnSome};
+ghost use Rattle.wio_core.specs.Io.{Rose, StaysQuiet};
+ghost use Rattle.wio_core.specs.Lines.{LacksFeed, IsOpen, HasLine, TookFrom, Gathers, HasCause};
+
+use crate::line_search::{Front, look};
+use crate::window::{SIZE, Window};
+use crate::{Failed, NoMemory, Source};
+use std::alloc::Global;
+use std::marker::Model;
+
+/// Why no line comes.
+#[derive(Clone, Copy, Debug, PartialEq, Eq)]
+pub enum LineStop {
+    /// The source ended, and every line was given.
+    End,
+    /// 8,401 bytes stand without a line feed.
+    Long,
+    /// The limit's bytes were taken, and no whole line of them is left.
+    Limit,
+    /// A read failed.
+    ReadFault,
+}
+
+/// What a reader of lines answers. A line comes without its line feed, and is lent up to the next call.
+#[derive(Drop)]
+pub enum NextLine<'a> {
+    /// The next line, of at most 8,400 bytes.
+    Line(&'a [u8]),
+    /// The source ended, and every line was given. From then on always.
+    End,
+    /// 8,401 bytes stand without a line feed. From then on always.
+    Long,
+    /// The limit's bytes were taken, and no whole line of them is left. From then on always.
+    Limit,
+    /// A read failed. The reader may not be called again.
+    ReadFault,
+}
+
+impl LineStop {
+    ghost use Rattle.wio_core.specs.LineAnswers.{stop_of};
+
+    /// The answer that gives this reason.
+    fn answer<'a>(self) -> NextLine<'a>
+        ensures { stop_of result ≡ Some self }
+    {
+        match self {
+            LineStop::End => NextLine::End,
+            LineStop::Long => NextLine::Long,
+            LineStop::Limit => NextLine::Limit,
+            LineStop::ReadFault => NextLine::ReadFault,
+        }
+    }
+}
+
+/// How many bytes the next read may take.
+fn most_of(room: Option<u64>) -> usize
+    ensures none { result ≡ 0 → room ≡ Some 0 }
+    ensures within { IfSome room (λ n. result ≤ n) }
+{
+    match room {
+        Some(n) => n.min(SIZE as u64) as usize,
+        None => SIZE,
+    }
+}
+
+/// Reads once for the beginning of a line, or says why not.
+fn read_more<S: Source>(
+    window: &mut Window,
+    room: &mut Option<u64>,
+    source: &mut S,
+) -> Result<(), LineStop>
+    requires { IsOpen window.old }
+    ensures took { (read : List ℕ) × TookFrom (S.given source.old) (S.given source.new) (S.left source.old) (S.left source.new) read × Gathers window.old window.new room.old room.new read }
+    ensures more { OnOk result (length window.old < length window.new) }
+    ensures near { length window.new ≤ 16384 }
+    ensures stop { IfErr result (λ why. HasCause why window.new room.new (S.left source.new)) }
+
+    ensures given_quiet { StaysQuiet (S.given source.old) (S.given source.new) }
+    ensures left_quiet { StaysQuiet (S.left source.old) (S.left source.new) }
+    ensures never_falls { S.fault_count source.old ≤ S.fault_count source.new }
+    ensures cause { result ≡ Err LineStop.ReadFault → Rose (S.fault_count source.old) (S.fault_count source.new) }
+{
+    let most = most_of(*room);
+    if most == 0 {
+        return Err(LineStop::Limit);
+    }
+    match window.read(source, most) {
+        Ok(0) => Err(LineStop::End),
+        Ok(n) => {
+            *room = room.map(|left| left - n as u64);
+            Ok(())
+        }
+        Err(Failed) => Err(LineStop::ReadFault),
+    }
+}
+
+/// Reads while no whole line is held, and says how long the line at the front is, or why none comes.
+fn find_line<S: Source>(
+    window: &mut Window,
+    room: &mut Option<u64>,
+    source: &mut S,
+) -> Result<usize, LineStop>
+    ensures took { (read : List ℕ) × TookFrom (S.given source.old) (S.given source.new) (S.left source.old) (S.left source.new) read × Gathers window.old window.new room.old room.new read }
+    ensures line { IfOk result (λ n. HasLine window.new n) }
+    ensures stop { IfErr result (λ why. HasCause why window.new room.new (S.left source.new)) }
+    ensures near { length window.new ≤ 16384 }
+    ensures waits { ¬ IsOpen window.old → source.new ≡ source.old }
+
+    ensures given_quiet { StaysQuiet (S.given source.old) (S.given source.new) }
+    ensures left_quiet { StaysQuiet (S.left source.old) (S.left source.new) }
+    ensures never_falls { S.fault_count source.old ≤ S.fault_count source.new }
+    ensures cause { result ≡ Err LineStop.ReadFault → Rose (S.fault_count source.old) (S.fault_count source.new) }
+{
+    let mut seen = 0;
+    'reading: loop {
+        match look(window.held(), seen) {
+            Front::Line(n) => return Ok(n),
+            Front::Long => return Err(LineStop::Long),
+            Front::Open => seen = window.held().len(),
+        }
+        read_more(window, room, source)?;
+    }
+}
+
+/// Reads a source by lines. Contracts see the bytes that it took and gave in no line, how many it may still take, and what it
+/// answers from now on, if that is settled.
+#[derive(Drop)]
+pub struct LineReader {
+    window: Window,
+    lent: usize,
+    room: Option<u64>,
+    settled: Option<LineStop>,
+}
+
+impl Model for LineReader {
+    ghost use Rattle.std.specs.Prelude.{◌≤◌, drop, length};
+    ghost use Rattle.wio_core.specs.LineAnswers.{LinesAhead};
+
+    ghost Value = { LinesAhead };
+
+    ghost view = { λ r. record { held = drop r.lent r.window; room = r.room; settled = r.settled } };
+
+    ghost invariant = { λ r. r.lent ≤ length r.window };
+}
+
+impl LineReader {
+    ghost use Rattle.std.specs.Borrow.{sem};
+    ghost use Rattle.std.specs.Io.BufRead.{Rests};
+    ghost use Rattle.wio_core.specs.LineAnswers.{Answers, HasFaultCause};
+    ghost use Rattle.wio_core.specs.contracts.line_reader.LineReader.{the_row};
+
+    /// Takes at most `limit` bytes of its source, or any number, and reserves 16,384 bytes.
+    pub fn new(alloc: Global, limit: Option<u64>) -> Result<LineReader, NoMemory>
+        ensures { IfOk result (λ reader. reader ≡ record { held = []; room = limit; settled = None }) }
+    {
+        Ok(LineReader {
+            window: Window::new(alloc)?,
+            lent: 0,
+            room: limit,
+            settled: None,
+        })
+    }
+
+    /// The next line of the bytes that are held and of those that the source has left. It reads only while no whole line is held,
+    /// and no byte past the limit. (no memory)
+    pub fn next<S: Source>(&mut self, source: &mut S) -> NextLine<'_>
+        requires { self.old.settled ≢ Some LineStop.ReadFault }
+        ensures* answer { sem 𝓛 (Rests the_row self.entry (λ new. Answers self.old new (S.given source.old) (S.given source.new) (S.left source.old) (S.left source.new) result)) }
+        ensures waits { ¬ IsOpen self.old.held → source.new ≡ source.old }
+        ensures reads_nothing { OnSome self.old.settled (source.new ≡ source.old) }
+
+        ensures given_quiet { StaysQuiet (S.given source.old) (S.given source.new) }
+        ensures left_quiet { StaysQuiet (S.left source.old) (S.left source.new) }
+        ensures never_falls { S.fault_count source.old ≤ S.fault_count source.new }
+        ensures cause { HasFaultCause result (S.fault_count source.old) (S.fault_count source.new) }
+    {
+        if let Some(why) = self.settled {
+            return why.answer();
+        }
+        self.window.consume(self.lent);
+        self.lent = 0;
+        match find_line(&mut self.window, &mut self.room, source) {
+            Ok(n) => {
+                self.lent = n + 1;
+                NextLine::Line(&self.window.held()[..n])
+            }
+            Err(why) => {
+                self.settled = Some(why);
+                let rest = self.window.held().len();
+                if why == LineStop::End && rest > 0 {
+                    self.lent = rest;
+                    return NextLine::Line(self.window.held());
+                }
+                why.answer()
+            }
+        }
+    }
+}
