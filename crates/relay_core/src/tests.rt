@@ -4,7 +4,9 @@ ghost use Rattle.seat_objects.specs.Fits.{FitsMessage};
 
 use crate::{Post, Relay};
 use relay_model::{Act, Said, Text, Told};
+use std::process::Abort;
 use std::test::Fail;
+use wio_core::NoMemory;
 
 /// A post that waits for the events of one string's way, in order.
 #[derive(Drop)]
@@ -51,6 +53,52 @@ fn fits(act: &Act) -> bool
     }
 }
 
+// The acts 1 to 8: a method serves, and the field 3 holds the seat.
+fn opening(number: u32) -> Act {
+    match number {
+        1 | 4 => Act::Peer,
+        2 => Act::Surface { peer: 1 },
+        3 => Act::Field { peer: 1 },
+        5 => Act::Method { peer: 4 },
+        6 => Act::Focus { surface: 2 },
+        7 => Act::Enable { field: 3 },
+        _ => Act::Commit { field: 3 },
+    }
+}
+
+fn take(rt: &impl Abort, relay: &mut Relay, act: &Act, post: &mut Script) -> Result<(), NoMemory> {
+    assert!(rt; fits(act) && relay.acts() < u32::MAX);
+    relay.reserve(act)?;
+    let route = relay.step(act, post);
+    assert!(rt; route.is_none() && !post.failed);
+    Ok(())
+}
+
+fn open(rt: &impl Abort, relay: &mut Relay, post: &mut Script) -> Result<(), NoMemory> {
+    for number in 1..=8 {
+        take(rt, relay, &opening(number), post)?;
+    }
+    Ok(())
+}
+
+fn relay_string(
+    rt: &impl Abort,
+    relay: &mut Relay,
+    post: &mut Script,
+    text: Text,
+) -> Result<(), NoMemory> {
+    take(rt, relay, &Act::MString { method: 5, text }, post)?;
+    take(
+        rt,
+        relay,
+        &Act::MCommit {
+            method: 5,
+            serial: 1,
+        },
+        post,
+    )
+}
+
 #[test]
 fn one_string_comes_to_its_field(rt: HostRuntime) -> Result<(), Fail> {
     let mut relay = Relay::new(rt.alloc())?;
@@ -58,33 +106,9 @@ fn one_string_comes_to_its_field(rt: HostRuntime) -> Result<(), Fail> {
         told: 0,
         failed: false,
     };
-    let text = Text::of(rt.alloc(), "a")?;
-    let rows = [
-        (Act::Peer, 0),
-        (Act::Surface { peer: 1 }, 0),
-        (Act::Field { peer: 1 }, 0),
-        (Act::Peer, 0),
-        (Act::Method { peer: 4 }, 0),
-        (Act::Focus { surface: 2 }, 1),
-        (Act::Enable { field: 3 }, 1),
-        (Act::Commit { field: 3 }, 4),
-        (Act::MString { method: 5, text }, 4),
-        (
-            Act::MCommit {
-                method: 5,
-                serial: 1,
-            },
-            6,
-        ),
-    ];
-    for (act, told) in &rows {
-        assert!(rt; fits(act) && relay.acts() < u32::MAX);
-        relay.reserve(act)?;
-        let route = relay.step(act, &mut post);
-        assert!(rt; route.is_none());
-        assert!(rt; !post.failed, "after {act:?}");
-        assert_eq!(rt; post.told, *told, "after {act:?}");
-    }
-    assert_eq!(rt; relay.acts(), 10);
+    open(&rt, &mut relay, &mut post)?;
+    assert!(rt; post.told == 4 && !relay.has_popup(2));
+    relay_string(&rt, &mut relay, &mut post, Text::of(rt.alloc(), "a")?)?;
+    assert_eq!(rt; (post.told, relay.acts()), (6, 10));
     Ok(())
 }
