@@ -8,20 +8,20 @@ use Rattle.wl_proto.specs.Grammar.{Value, word, signed, text, null, token}
 use Rattle.wl_proto.specs.Rows.{Message}
 use Rattle.wl_proto.specs.Spelling.{value_bytes, value_len, values_len, spelling, row_bytes, message_len, message_bytes}
 
-text_length : (t : List ℕ) → length (text_bytes t) ≡ text_len (length t)
+pub text_length : (t : List ℕ) → length (text_bytes t) ≡ text_len (length t)
 unfolding text_bytes
 text_length t =
     let ceros : List ℕ = 0 ∷ 0 ∷ 0 ∷ 0 ∷ [] in
     omega (arith, length-append (word_bytes (length t + 1) ++ t) (zeros (length t)), length-append (word_bytes (length t + 1)) t, length-take (4 - length t % 4) ceros)
 
-value_length : (v : Value) → length (value_bytes v) ≡ value_len v
+pub value_length : (v : Value) → length (value_bytes v) ≡ value_len v
 value_length (word n) = refl
 value_length (signed z) = refl
 value_length (text t) = text_length t
 value_length null = refl
 value_length (token n) = refl
 
-spelling_length : (vs : List Value) → length (spelling vs) ≡ values_len vs
+pub spelling_length : (vs : List Value) → length (spelling vs) ≡ values_len vs
 spelling_length [] = refl
 spelling_length (v ∷ vs) = omega (arith, length-append (value_bytes v) (spelling vs), value_length v, spelling_length vs)
 
