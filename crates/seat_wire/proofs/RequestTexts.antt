@@ -43,7 +43,8 @@ spelled_clean kinds.Descriptor (text t) bytes h = absurd h
 
 all_clean : (ks : List Kind) (vs : List Value) (bytes : List ℕ) → Spelled ks vs bytes → AreClean vs
 all_clean [] [] bytes h = tt
-all_clean (k ∷ ks) (v ∷ vs) bytes (front, rest, one, was, others) = (spelled_clean k v front one, all_clean ks vs rest others)
+all_clean (k ∷ ks) (v ∷ vs) bytes (front, rest, one, was, others) =
+    (spelled_clean k v front one, all_clean ks vs rest others)
 all_clean [] (v ∷ vs) bytes h = absurd h
 all_clean (k ∷ ks) [] bytes h = absurd h
 

@@ -1,4 +1,4 @@
--- What is said beside a request or a step of the shell: its surface's label, whether that has a popup, what its text is.
+-- What is said beside a request or a step of the shell: its surface's label, whether that has a popup, its text.
 use Rattle.std.specs.Prelude.{◌≡◌, ℕ, Bool, Option, IsTrue}
 use Rattle.wl_wire.specs.Texts.{has_no_zero}
 use Rattle.wl_proto.specs.declared.request.Request.{Request}

@@ -28,13 +28,18 @@ IsNoLine form text = line_of form text ≡ None
 
 -- lines of the worked session, and what they say
 pub record WorkedLines : Type 0 where
-  pub header : Says Session (codes "session 1 1000000 65536") (lines.Header (record { entries = 1000000; store = 65536 }))
+  pub header :
+      Says Session (codes "session 1 1000000 65536") (lines.Header (record { entries = 1000000; store = 65536 }))
   pub join : Says Session (codes "join method") (lines.Session (sessions.Join Method))
-  pub enable : Says Session (codes "bytes 1 0700000001000800") (lines.Session (sessions.Bytes 1 (7 ∷ 0 ∷ 0 ∷ 0 ∷ 1 ∷ 0 ∷ 8 ∷ 0 ∷ [])))
+  pub enable :
+      Says Session (codes "bytes 1 0700000001000800")
+      (lines.Session (sessions.Bytes 1 (7 ∷ 0 ∷ 0 ∷ 0 ∷ 1 ∷ 0 ∷ 8 ∷ 0 ∷ [])))
   pub gone : Says Session (codes "gone 2") (lines.Session (sessions.Gone 2))
   pub take : Says Session (codes "take 2 4096") (lines.Session (sessions.Take 2 4096))
   pub focus : Says Session (codes "focus 1 6") (lines.Session (sessions.Shell (shells.Focus 1 6)))
-  pub area : Says Shell (codes "area 1 6 -2 200 30 0") (lines.Shell (shells.Area 1 6 (rect (negsuc 1) (pos 200) (pos 30) (pos 0))))
+  pub area :
+      Says Shell (codes "area 1 6 -2 200 30 0")
+      (lines.Shell (shells.Area 1 6 (rect (negsuc 1) (pos 200) (pos 30) (pos 0))))
 
 -- lines that are none
 pub record OtherLines : Type 0 where
@@ -48,9 +53,13 @@ IsPrintedAs step text = spelling (lines.Session (step_line step)) ≡ text
 
 -- steps of the worked session, and their lines
 pub record WorkedSteps : Type 0 where
-  pub commit_string : IsPrintedAs (steps.Peer 2 (peers.Message 5 0 (2 ∷ 0 ∷ 0 ∷ 0 ∷ 97 ∷ 0 ∷ 0 ∷ 0 ∷ []))) (codes "bytes 2 05000000000010000200000061000000")
+  pub commit_string :
+      IsPrintedAs (steps.Peer 2 (peers.Message 5 0 (2 ∷ 0 ∷ 0 ∷ 0 ∷ 97 ∷ 0 ∷ 0 ∷ 0 ∷ [])))
+      (codes "bytes 2 05000000000010000200000061000000")
   pub commit : IsPrintedAs (steps.Peer 1 (peers.Message 7 7 [])) (codes "bytes 1 0700000007000800")
-  pub bad_size : IsPrintedAs (steps.Peer 1 (peers.BadSize (1 ∷ 0 ∷ 0 ∷ 0 ∷ 0 ∷ 0 ∷ 6 ∷ 0 ∷ []))) (codes "bytes 1 0100000000000600")
+  pub bad_size :
+      IsPrintedAs (steps.Peer 1 (peers.BadSize (1 ∷ 0 ∷ 0 ∷ 0 ∷ 0 ∷ 0 ∷ 6 ∷ 0 ∷ [])))
+      (codes "bytes 1 0100000000000600")
   pub join : IsPrintedAs (steps.Join App) (codes "join app")
 
 -- what the act 6 tells of the object 3 is printed with this after the two numbers
