@@ -6,7 +6,7 @@ use Rattle.broker_model.specs.declared.journal.Entry.{Entry}
 use Rattle.broker_core.specs.declared.state.State.{State}
 use Rattle.broker_core.specs.Broker.{Broker, IsBroker, IsWatched}
 use Rattle.broker_core.specs.Watched.{Watched, watched, watched_since}
-use Rattle.broker_core.proofs.Sharing.{shown}
+use Rattle.broker_core.proofs.SharedAfterStep.{shown}
 use Rattle.broker_core.proofs.WatchedSince.{since_none, reached_more}
 
 -- nothing is watched where the journal has no entry more

@@ -17,12 +17,12 @@ use Rattle.seat_audience.specs.Lives.{Numbered, who, cleared, has_heard, has_roo
 use Rattle.broker_core.specs.declared.state.State.{State}
 use Rattle.broker_core.specs.Stands.{IsReady, IsReadyFor, numbered, is_alive, roster}
 use Rattle.broker_core.specs.Watched.{Watched, shown_by, group_put, gathered_put, told_live, out_put, told_of}
-use Rattle.broker_core.proofs.Ended.{dead_told}
-use Rattle.broker_core.proofs.Filtered.{all_then}
+use Rattle.broker_core.proofs.DeadPeersToldNothing.{dead_told}
+use Rattle.broker_core.proofs.EachElement.{all_then}
 use Rattle.broker_core.proofs.GroupRoom.{room_fits, whole}
-use Rattle.broker_core.proofs.Hearing.{IsGathered, gathered_all}
+use Rattle.broker_core.proofs.GatheredGroup.{IsGathered, gathered_all}
 use Rattle.broker_core.proofs.PopupNumbers.{number_kept}
-use Rattle.broker_core.proofs.Roster.{IsAt, numbered_at}
+use Rattle.broker_core.proofs.RosterAfterEntry.{IsAt, numbered_at}
 use Rattle.broker_core.proofs.ShownAmongLive.{same_shown}
 
 -- for a live peer

@@ -9,8 +9,8 @@ use Rattle.broker_model.specs.Stored.{AreSpaced}
 use Rattle.seat_audience.specs.declared.live.Live.{Live}
 use Rattle.seat_audience.specs.Lives.{cleared, has_heard, has_room, told_all}
 use Rattle.broker_core.specs.Stands.{Holds}
-use Rattle.broker_core.proofs.Hearing.{IsGathered}
-use Rattle.broker_core.proofs.Telling.{IsPut, put_all}
+use Rattle.broker_core.proofs.GatheredGroup.{IsGathered}
+use Rattle.broker_core.proofs.PutGroups.{IsPut, put_all}
 
 -- there is room for what it heard if its group fits
 pub room_fits : (capacity : ℕ) (made : List Made) (told : List Told) (out : Outgoing) (l : Live) → AreSpaced out.put → Holds capacity out l.store →

@@ -14,9 +14,9 @@ use Rattle.broker_model.proofs.Sound.{sound}
 use Rattle.seat_audience.specs.Lives.{Numbered}
 use Rattle.broker_core.specs.Stands.{numbered, is_alive, roster}
 use Rattle.broker_core.specs.Watched.{number_at, maker}
-use Rattle.broker_core.proofs.Each.{each_of}
-use Rattle.broker_core.proofs.Hearers.{owner_lives}
-use Rattle.broker_core.proofs.Readying.{all_more}
+use Rattle.broker_core.proofs.EachElement.{each_of}
+use Rattle.broker_core.proofs.WhoIsTold.{owner_lives}
+use Rattle.broker_core.proofs.LivePeersKept.{all_more}
 use Rattle.relay_model.specs.declared.act.Act.{Act}
 
 -- the peer of each live popup has the same number among these as among those

@@ -1,7 +1,6 @@
 pub mod Stands
 pub mod Watched
 pub mod Telling
-pub mod Played
 pub mod Taking
 pub mod Broker
 pub mod Ends

@@ -105,7 +105,7 @@ impl Shared {
     ghost use Rattle.broker_core.specs.declared.taking.Standing.TheVariants.{Alive};
     ghost use Rattle.broker_core.specs.Ends.{is_end_of};
     ghost use Rattle.broker_core.specs.Broker.{with_step, full_for, join_refusal, entry_of, refusal_if_full, refusal, IsSaid, IsAccepted, take_refusal, IfBytes, IfNoBytes, IsBytesUnlessMemory, IsWatched};
-    ghost use Rattle.broker_core.specs.Taking.{out_at, standing_of, IsTaken};
+    ghost use Rattle.broker_core.specs.Taking.{out_at, standing_of, lives, IsTaken};
 
     /// Nobody joined yet, and the journal is empty. Asks for limits in their ranges. `NoMemory` is its one error.
     pub fn new(alloc: Global, limits: Limits) -> Result<Shared, NoMemory>
@@ -134,7 +134,9 @@ impl Shared {
 
     /// Whether the peer with the number joined, and is alive.
     pub fn standing(&self, number: u32) -> Standing
-        ensures { result ≡ standing_of self.now.journal number }
+        ensures value { result ≡ standing_of self.now.journal number }
+        ensures lives { result ≡ Alive → lives self.now.journal number ≡ true }
+        ensures others { ¬ (result ≡ Alive) → lives self.now.journal number ≡ false }
     {
         self.state.standing(number)
     }
@@ -357,7 +359,7 @@ impl Shared {
                 Ok(None)
             }
             Step::Shell(step) => self.shell(step, watch),
-            Step::Join(_) | Step::Take(..) => Err(NoMemory),
+            Step::Join(_) | Step::Take(..) => unreachable!(),
         }
     }
 

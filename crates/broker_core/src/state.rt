@@ -134,7 +134,7 @@ impl State {
             (watched self.old.capacity (entries.End number cause) self.old.journal.entries) watch.new }
     {
         let Some(live) = take_away(&mut self.audience.live, number) else {
-            return;
+            unreachable!()
         };
         self.ended[number as usize - 1] = Some(Ended {
             cause,

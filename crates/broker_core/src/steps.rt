@@ -119,7 +119,7 @@ impl State {
         ensures unwatched { OnErr result (watch.new ≡ watch.old) }
     {
         let Some(place) = place_of(&self.audience.live, number) else {
-            return Err(NoMemory);
+            unreachable!()
         };
         let entry = Entry::Message {
             peer: number,
@@ -154,7 +154,7 @@ impl State {
         ensures unwatched { OnErr result (watch.new ≡ watch.old) }
     {
         let Some(place) = place_of(&self.audience.live, number) else {
-            return Err(NoMemory);
+            unreachable!()
         };
         let label = self.audience.live[place].label;
         let act = Act::Bad {

@@ -4,8 +4,8 @@ use Rattle.broker_model.specs.declared.journal.Entry.{Entry}
 use Rattle.broker_model.specs.declared.journal.Entry.TheVariants as entries
 use Rattle.broker_core.specs.Taking.{standing_of}
 use Rattle.broker_core.specs.Broker.{Broker}
-use Rattle.broker_core.proofs.Standings.{alive_there}
-use Rattle.broker_core.proofs.Sharing.{stepped, stays, within_gone}
+use Rattle.broker_core.proofs.WhoIsAlive.{alive_there}
+use Rattle.broker_core.proofs.SharedAfterStep.{stepped, stays, within_gone}
 use Rattle.broker_core.proofs.CallWatched.{call_watched}
 use Rattle.broker_core.proofs.shared.Shared.gone.Goals as goal
 

@@ -3,8 +3,8 @@ use Rattle.broker_model.specs.declared.journal.Entry.{Entry}
 use Rattle.broker_model.specs.declared.journal.Entry.TheVariants as entries
 use Rattle.broker_model.specs.Settle.{number_alive}
 use Rattle.broker_core.specs.Broker.{Broker, full_for}
-use Rattle.broker_core.proofs.Refusing.{join_place}
-use Rattle.broker_core.proofs.Sharing.{HasPlace, stepped, stays, has_place, within_join, joined_stays}
+use Rattle.broker_core.proofs.RefusalsTested.{join_place}
+use Rattle.broker_core.proofs.SharedAfterStep.{HasPlace, stepped, stays, has_place, within_join, joined_stays}
 use Rattle.broker_core.proofs.CallWatched.{call_watched, nothing_watched, refused_watched}
 use Rattle.broker_core.proofs.shared.Shared.join_watched.Goals as goal
 

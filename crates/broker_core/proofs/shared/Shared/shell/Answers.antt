@@ -1,7 +1,7 @@
 use Rattle.std.proofs.Common.{refl}
 use Rattle.broker_model.specs.declared.journal.Entry.{Entry}
 use Rattle.broker_model.specs.declared.journal.Entry.TheVariants as entries
-use Rattle.broker_core.proofs.Sharing.{HasPlace, stepped, stays, becomes, has_place, within_plain}
+use Rattle.broker_core.proofs.SharedAfterStep.{HasPlace, stepped, stays, becomes, has_place, within_plain}
 use Rattle.broker_core.proofs.CallWatched.{call_watched, refused_watched}
 use Rattle.broker_core.proofs.shared.Shared.shell.Goals as goal
 

@@ -2,8 +2,8 @@ use Rattle.std.proofs.Common.{◌≡◌, ◌∷◌, None, refl, sym, ◌∙◌, 
 use Rattle.broker_model.specs.declared.journal.Entry.{Entry}
 use Rattle.broker_model.specs.declared.journal.Entry.TheVariants as entries
 use Rattle.broker_core.specs.Broker.{full_for}
-use Rattle.broker_core.proofs.Refusing.{take_place}
-use Rattle.broker_core.proofs.Sharing.{HasPlace, stepped, stays, has_place, within_plain}
+use Rattle.broker_core.proofs.RefusalsTested.{take_place}
+use Rattle.broker_core.proofs.SharedAfterStep.{HasPlace, stepped, stays, has_place, within_plain}
 use Rattle.broker_core.proofs.CallWatched.{call_watched, nothing_watched, refused_watched}
 use Rattle.broker_core.proofs.shared.Shared.take_watched.Goals as goal
 

@@ -12,7 +12,7 @@ use Rattle.seat_objects.specs.Reached.{Reached}
 use Rattle.broker_core.specs.Watched.{Watched, told_live}
 use Rattle.broker_core.specs.Watched.Watched.{Entered}
 use Rattle.broker_core.proofs.EntryWatched.{told_is_watched}
-use Rattle.broker_core.proofs.Entering.{acts_few, short_told, stands_entered}
+use Rattle.broker_core.proofs.ReadyEntryStands.{acts_few, short_told, stands_entered}
 use Rattle.broker_core.proofs.state.State.enter.Goals as goal
 
 pub play-route-requires-clause-number : goal.play-route-requires-clause-number

@@ -9,8 +9,8 @@ use Rattle.broker_core.specs.declared.state.State.{State}
 use Rattle.seat_audience.specs.Changes.{IsNewcomer}
 use Rattle.seat_audience.specs.Directed.{IsNewest}
 use Rattle.broker_core.specs.Stands.{CanTake}
-use Rattle.broker_core.proofs.ReadyJoins.{ready_join}
-use Rattle.broker_core.proofs.Unused.{newest}
+use Rattle.broker_core.proofs.ReadyForJoin.{ready_join}
+use Rattle.broker_core.proofs.NewLabels.{newest}
 use Rattle.broker_core.proofs.state.State.join.Goals as goal
 
 pub push-requires-clause-newest : goal.push-requires-clause-newest

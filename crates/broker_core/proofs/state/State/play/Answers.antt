@@ -12,7 +12,7 @@ use Rattle.seat_audience.specs.declared.live.Live.{Live}
 use Rattle.seat_audience.specs.Lives.{Numbered, who, cleared, delivered, has_heard}
 use Rattle.seat_audience.specs.Tells.{IsShort}
 use Rattle.broker_core.specs.Watched.{shown_by, gathered_put}
-use Rattle.broker_core.proofs.Reachings.{AllTold, all_told, delivered_all}
+use Rattle.broker_core.proofs.AudienceToldAll.{AllTold, all_told, delivered_all}
 use Rattle.broker_core.proofs.EntryWatched.{who_cleared}
 use Rattle.broker_core.proofs.state.State.play.Given.{Over}
 use Rattle.broker_core.proofs.state.State.play.Goals as goal

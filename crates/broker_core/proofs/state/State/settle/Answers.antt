@@ -5,8 +5,7 @@ use Rattle.broker_model.specs.declared.journal.Entry.TheVariants as entries
 use Rattle.seat_audience.specs.Changes.{first_due}
 use Rattle.broker_core.specs.Watched.{watched, watched_since}
 use Rattle.broker_core.proofs.WatchedSince.{reached_more}
-use Rattle.broker_core.proofs.Dues.{first_there}
-use Rattle.broker_core.proofs.Settles.{next_end, none_due}
+use Rattle.broker_core.proofs.FirstDueIsSettled.{first_there, next_end, none_due}
 use Rattle.broker_core.proofs.state.State.settle.Given.{Over}
 use Rattle.broker_core.proofs.state.State.settle.Goals as goal
 

@@ -1,0 +1,91 @@
+-- Nothing is out for a label beyond the journal.
+use Rattle.std.proofs.Common.{◌≡◌, ℕ, ◌+◌, ◌<◌, ◌≤◌, List, [], ◌∷◌, length, Bool, false, if◌then◌else◌, Option, Some, None, refl, ap, ◌∙◌, arith, ◌++◌, true, sym, subst, inl, inr, ◌⊎◌}
+use Rattle.std.proofs.lemmas.Bool.{ne_eqb}
+use Rattle.relay_model.specs.Objects.{is_peer_kind, is_kind, is_peer}
+use Rattle.relay_model.proofs.ObjectLaws.{object_beyond}
+use Rattle.broker_model.specs.declared.journal.Entry.{Entry}
+use Rattle.broker_model.specs.declared.journal.Entry.TheVariants as entries
+use Rattle.broker_model.specs.Ids.{Joined, log_of, peer_at, Made}
+use Rattle.broker_model.specs.Resolve.{past_of, means}
+use Rattle.broker_model.specs.Groups.{nothing}
+use Rattle.broker_model.specs.Out.{Outgoing, group_at, is_label, took_at, before_group, out_for}
+use Rattle.broker_model.proofs.Peers.{length_log}
+use Rattle.broker_model.proofs.Numbers.{label_within}
+use Rattle.broker_model.proofs.Quiet.{quiet_out}
+use Rattle.std.specs.FinMap as map
+use Rattle.im_objects.specs.Objects.{Objects, Stands}
+use Rattle.relay_model.specs.declared.act.Act.{Act}
+use Rattle.broker_model.specs.Tables.{calls_for, live_id}
+use Rattle.broker_model.proofs.Named.{IsIn}
+use Rattle.broker_model.proofs.News.{IsOne, one_entry}
+use Rattle.broker_model.proofs.Sound.{sound}
+use Rattle.broker_model.proofs.Labels.{unmade, found_by_label}
+use Rattle.seat_audience.specs.Directed.{IsNewest, AreFalling}
+
+-- an entry tells nothing to who was no peer before it and does not join by it
+abbrev pub TellsPeersAlone : Type 0
+TellsPeersAlone =
+    (e : Entry) (older : List Entry) (p : ℕ) → is_peer (log_of (past_of older)) p ≡ false → (p ≡ length older + 1 → ⊥) → group_at e older p ≡ nothing
+
+beyond : (older : List Entry) (p : ℕ) → length older < p → is_peer (log_of (past_of older)) p ≡ false
+beyond older p h =
+    let long : length (log_of (past_of older)) ≡ length older = length_log older in
+    ap (is_kind is_peer_kind) (object_beyond (log_of (past_of older)) p (omega arith))
+
+-- no peer that joined has the label
+no_label : (older : List Entry) (q p : ℕ) (o : Option Joined) → peer_at (past_of older) q ≡ o → length older < p → is_label o p ≡ false
+no_label older q p None e h = refl
+no_label older q p (Some peer) e h =
+    let within : peer.label ≤ length older = label_within older q peer e in
+    ne_eqb peer.label p (λ d. omega arith)
+
+none_taken : (e : Entry) (older : List Entry) (p : ℕ) → length older < p → took_at e (past_of older) p ≡ 0
+none_taken (entries.Took q bytes) older p h = ap (λ (b : Bool). if b then bytes else 0) (no_label older q p (peer_at (past_of older) q) refl h)
+none_taken _ older p h = refl
+
+-- nothing was put, and n bytes of it were taken
+abbrev after_taking : ℕ → Outgoing
+after_taking n = record { put = nothing; taken = n; choked = false }
+
+-- so what is out for a peer that joins next is only what its own join tells it
+pub unborn : TellsPeersAlone → (capacity : ℕ) (journal : List Entry) (p : ℕ) → length journal < p →
+    out_for capacity journal p ≡ record { put = nothing; taken = 0; choked = false }
+unborn quiet capacity [] p h = refl
+unborn quiet capacity (e ∷ older) p h =
+    let more : length older < p = omega arith in
+    let none : took_at e (past_of older) p ≡ 0 = none_taken e older p more in
+    quiet_out capacity e older p (quiet e older p (beyond older p more) (λ d. omega arith))
+    ∙ ap (before_group e older p) (unborn quiet capacity older p more)
+    ∙ ap (λ (n : ℕ). after_taking (0 + n)) none
+
+-- The label of an entry to come is new, and labels fall from the newest object on.
+
+-- no live peer's table has it
+pub label_unused : (older : List Entry) (p : ℕ) (table : Objects) → is_peer (log_of (past_of older)) p ≡ true → Stands (calls_for older p) table →
+    map.get table.ids (length older + 1) ≡ None
+label_unused older p table l s =
+    s.ids (length older + 1) ∙ found_by_label older p (length older + 1) l
+    ∙ ap (live_id (log_of (past_of older)) p (length older + 1)) (unmade older (length older + 1) (omega arith))
+
+newest_of : (n : ℕ) (made : List Made) → ((m : Made) → IsIn made m → m.label < n) → IsNewest n made
+newest_of n [] h = tt
+newest_of n (m ∷ made) h = h m (inl refl)
+
+-- it is above all that were made
+pub newest : (older : List Entry) → IsNewest (length older + 1) (past_of older).made
+newest older =
+    newest_of (length older + 1) (past_of older).made
+    (λ m i. (let w : m.label ≤ length older = (sound older m i).within in omega arith))
+
+falls : (log : List Act) (n : ℕ) (act : Act) (new made : List Made) → (new ≡ []) ⊎ IsOne log made n act new → IsNewest n made → AreFalling made →
+    AreFalling (new ++ made)
+falls log n act new made (inl none) w f = subst (λ ms. AreFalling (ms ++ made)) (sym none) f
+falls log n act new made (inr o) w f =
+    subst (λ ms. AreFalling (ms ++ made)) (sym o.is) (subst (λ (k : ℕ). IsNewest k made) (sym o.label) w, f)
+
+-- what was made later has the higher label
+pub falling : (journal : List Entry) → AreFalling (past_of journal).made
+falling [] = tt
+falling (e ∷ older) =
+    falls (log_of (past_of older)) (length older + 1) (means e (length older + 1) (past_of older)).act (means e (length older + 1) (past_of older)).made
+    (past_of older).made (one_entry e older (sound older)) (newest older) (falling older)
