@@ -2,3 +2,4 @@ pub mod Pairs
 pub mod Sights
 pub mod Rule
 pub mod Steps
+pub mod SightsInTests

@@ -66,7 +66,8 @@ module _ {E C : Type 0} where
     pub holder : View E C
     pub at : At s.views who holder
     pub holds : holder.holds ≡ true
-    pub only : (j : ℕ) (v : View E C) → get_elem? s.views j ≡ some v → v.holds ≡ true → (j ≡ who) × (v.seen ≡ h)
+    pub only : (j : ℕ) (v : View E C) → get_elem? s.views j ≡ some v → v.holds ≡ true
+        → (j ≡ who) × (v.seen ≡ h)
 
 module _ {S E C : Type 0} (constant : S → C) (history : S → List (ℕ × E)) (c : C) where
   -- no view holds the lock, and the story at home has this history

@@ -3,8 +3,9 @@ use Rattle.std.specs.Prelude.{◌≡◌, ◌≤◌, ◌<◌, ◌+◌, ◌-◌, �
 use Rattle.atomic_table.specs.Seated.{TableId}
 use Rattle.turn_lock.specs.Pairs.{NoneOf, HasSeen, IsGrown, IsIn, longer, total}
 
--- a seat: the lock that it is of, its number, the story's constant and how much of the history it has seen; of the first
--- seat besides the number that its next split gives away, how many split seats are out and which it has taken in
+-- a seat: the lock that it is of, its number, the story's constant and the beginning of the history that it has seen;
+-- of the first seat besides: the number that its next split gives away, how many split seats are out, and the numbers of
+-- those that it has taken in, the last first
 pub record Sight (E C : Type 0) : Type 0 where
   pub turn : TableId
   pub number : ℕ

@@ -21,8 +21,17 @@ module _ {E C : Type 0} where
   hold v b h = record v { holds = b; seen = h }
 
   abbrev pub newcomer : ℕ → Option C → List (ℕ × E) → View E C
-  newcomer n c h =
-      record { number = n; is_live = true; constant = c; holds = false; seen = h; next = 1; out = 0; taken = []; met = no_meeting }
+  newcomer n c h = record {
+    number = n;
+    is_live = true;
+    constant = c;
+    holds = false;
+    seen = h;
+    next = 1;
+    out = 0;
+    taken = [];
+    met = no_meeting;
+  }
 
   abbrev pub view_after_split : View E C → View E C
   view_after_split v = record v { next = v.next + 1; out = v.out + 1 }
@@ -87,11 +96,14 @@ module _ {S E C : Type 0} where
     pub seen : HasSeen (history story) m.0.number m.0.seen
     pub settled : (k : ℕ) → IsIn k m.0.taken → HasSeen (history story) k m.0.seen
 
-  abbrev pub Takes : (S → C) → (S → List (ℕ × E)) → Step (Option S) → Me (Option S) (View E C) → ℕ → Me (Option S) (View E C) → Type 0
-  Takes constant history step m found n = (found ≡ 0 → Won constant history m n) × (found ≢ 0 → (n.0 ≡ m.0) × (n.1 ≡ m.1))
+  abbrev pub Takes : (S → C) → (S → List (ℕ × E)) → Step (Option S) → Me (Option S) (View E C) → ℕ
+      → Me (Option S) (View E C) → Type 0
+  Takes constant history step m found n =
+      (found ≡ 0 → Won constant history m n) × (found ≢ 0 → (n.0 ≡ m.0) × (n.1 ≡ m.1))
 
   -- the seat has then seen the history of the story in its hands
-  abbrev pub Grows : (S → List (ℕ × E)) → Step (Option S) → Me (Option S) (View E C) → ℕ → Me (Option S) (View E C) → Type 0
+  abbrev pub Grows : (S → List (ℕ × E)) → Step (Option S) → Me (Option S) (View E C) → ℕ
+      → Me (Option S) (View E C) → Type 0
   Grows history step m found n =
       (x : S) → m.1 ≡ (0, Some x) ∷ [] → (n.1 ≡ m.1) × (n.0 ≡ hold m.0 true (history x))
 

@@ -1,5 +1,5 @@
-//! A turn lock and its seats may be used from many threads: these functions are proved for every story that may move
-//! between threads.
+//! A turn lock and its seats may be used from many threads: these functions are proved for every
+//! story that may move between threads.
 
 use crate::seat::Seat;
 use crate::story::Story;

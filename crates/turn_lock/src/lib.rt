@@ -1,6 +1,7 @@
-//! A lock for any value whose calls stand in a history. Each user of the lock has a seat with a number of its own. A
-//! turn plays one call at the history of that moment, which begins with all that the seat had seen before; and the first
-//! seat, once it has taken all others in, knows the whole history.
+//! A lock for any value whose calls stand in a history. Each user of the lock has a seat with a
+//! number of its own. A turn plays one call at the history of that moment, which begins with all
+//! that the seat had seen before; and the first seat, once it has taken all others in, knows the
+//! whole history.
 #![tactic(auto)]
 
 mod crossing;
@@ -14,3 +15,6 @@ pub use crossing::{may_be_shared, may_cross};
 pub use seat::Seat;
 pub use story::Story;
 pub use turn::Turn;
+
+#[cfg(test)]
+mod tests;

@@ -11,8 +11,9 @@ pub(crate) type Inner<S> = atomic_table::Seat<
     View<<S as Story>::Entry, <S as Story>::Constant>,
 >;
 
-/// A user's place at a turn lock: its number, and what it has seen of the history. One thread at a time has it. The
-/// seat of number 0 came with the lock; it alone splits off others and takes them in.
+/// A user's place at a turn lock: its number, and what it has seen of the history. One thread at a
+/// time has it. The seat of number 0 came with the lock; it alone splits off others and takes them
+/// in. Contracts see it as a `Sight`.
 #[derive(Drop)]
 pub struct Seat<S: Story> {
     pub(crate) inner: Inner<S>,

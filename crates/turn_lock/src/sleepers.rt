@@ -1,4 +1,5 @@
-//! Where threads sleep that found the lock taken. No contract speaks of it: that none sleeps for good is tested.
+//! Where threads sleep that found the lock taken. No contract speaks of it: that none sleeps for
+//! good is tested.
 
 use std::sync::Wait;
 use std::sync::atomic::{AtomicU64, Ordering};
@@ -21,12 +22,14 @@ impl Sleepers {
         self.wanted.store(1, Ordering::SeqCst);
     }
 
-    /// Sleeps until it is woken, or not at all if nobody is announced any more. May return for no reason.
+    /// Sleeps until it is woken, or not at all if nobody is announced any more. May return for no
+    /// reason.
     pub(crate) fn sleep<R: Wait>(&self, rt: &R) {
         self.wanted.park(rt, 1);
     }
 
-    /// Wakes one thread if any may be asleep. The load keeps a turn that nobody waits for from writing.
+    /// Wakes one thread if any may be asleep. The load keeps a turn that nobody waits for from
+    /// writing.
     pub(crate) fn wake_one(&self) {
         if self.wanted.load(Ordering::SeqCst) != 0 && self.wanted.swap(0, Ordering::SeqCst) != 0 {
             self.wanted.wake_one();

@@ -3,6 +3,9 @@ ghost use Rattle.std.specs.Prelude.{◌≡◌, ◌⊎◌, ◌++◌, ◌∷◌, [
 
 /// A value whose calls stand in a history: the list of the pairs that its plays made, each with the
 /// number of the seat that asked for it and an entry. A turn lock lets one thread at a time play it.
+/// It has three meanings for contracts: its constant, which no play changes; its history; and the
+/// rule of a play, `plays`, between the constant, the history and the call before, and the history,
+/// the call and the reply after.
 pub trait Story {
     /// What no play changes.
     type Constant;
@@ -22,8 +25,8 @@ pub trait Story {
 
     ghost number: { Self.Call → ℕ };
 
-    ghost plays: { Self.Constant → List (ℕ × Self.Entry) → Self.Call → List (ℕ × Self.Entry) → Self.Call →
-        Self.Reply → Type 0 };
+    ghost plays: { Self.Constant → List (ℕ × Self.Entry) → Self.Call →
+        List (ℕ × Self.Entry) → Self.Call → Self.Reply → Type 0 };
 
     /// Plays a call: the history stays, or is longer by one pair with the call's number.
     fn play(&mut self, call: &mut Self::Call) -> Self::Reply

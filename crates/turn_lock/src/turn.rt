@@ -1,7 +1,8 @@
 //! The lock.
 ghost use Rattle.std.specs.Prelude.{◌≡◌, ◌+◌, ◌<◌, ◌^◌, ◌∷◌, [], length, true, false, Some, IfOk};
 ghost use Rattle.turn_lock.specs.Pairs.{NoneOf, total};
-ghost use Rattle.turn_lock.specs.Sights.{IsLegal, IsMeeting, IsTallied, fresh_seat, after_split, split_off, met_with, having_seen};
+ghost use Rattle.turn_lock.specs.Sights.{IsLegal, IsMeeting, IsTallied};
+ghost use Rattle.turn_lock.specs.Sights.{fresh_seat, after_split, split_off, met_with, having_seen};
 ghost use Rattle.turn_lock.specs.Steps.{hold, GrownIf, Won, Played, Tallied, AtRest, Ready};
 
 use crate::seat::{Inner, Seat};
@@ -27,7 +28,8 @@ const LENGTH: usize = 1;
 // The slot with the story.
 const STORY: usize = 0;
 
-/// A lock around a story. Contracts see which lock it is: a seat `s` is of the lock `t` where `s.turn ≡ t`.
+/// A lock around a story. Contracts see which lock it is: a seat is of the lock `t` where its
+/// `turn` is `t`.
 #[derive(Drop)]
 pub struct Turn<S: Story> {
     table: Table<Option<S>, View<S::Entry, S::Constant>, Snapshot<S>, Law<S>, Global>,
@@ -42,16 +44,19 @@ impl<S: Story> Model for Turn<S> {
 
     ghost view = { λ t. t.table.shared.table_id };
 
-    ghost invariant = { λ t. (t.table.shared.table_id.words ≡ 2) × (t.table.shared.table_id.slots ≡ 1) };
+    ghost invariant = { λ t. (t.table.shared.table_id.words ≡ 2) ×
+        (t.table.shared.table_id.slots ≡ 1) };
 }
 
 impl<S: Story> Turn<S> {
-    /// A lock around `story`, whose history is empty, and the seat of number 0. `NoMemory` drops the story.
+    /// A lock around `story`, whose history is empty, and the seat of number 0. `NoMemory` drops the
+    /// story.
     pub fn new(alloc: Global, story: S) -> Result<(Turn<S>, Seat<S>), NoMemory>
     where
         S: Drop,
         requires { S.history story ≡ [] }
-        ensures { IfOk result (λ made. made.1 ≡ fresh_seat made.0 0 (Some (S.constant story)) []) }
+        ensures { IfOk result (λ made.
+            made.1 ≡ fresh_seat made.0 0 (Some (S.constant story)) []) }
     {
         let about = Snapshot::of(&story);
         let mut slots = Vec::new(alloc);
@@ -72,7 +77,8 @@ impl<S: Story> Turn<S> {
         }
     }
 
-    /// Splits a seat off the first one. It gets the next number, and has seen what the first has. (no memory)
+    /// Splits a seat off the first one. It gets the next number, and has seen what the first has.
+    /// (no memory)
     pub fn split(&self, seat: &mut Seat<S>) -> Seat<S>
         requires own { seat.old.turn ≡ self.now }
         requires first { seat.old.number ≡ 0 }
@@ -80,6 +86,7 @@ impl<S: Story> Turn<S> {
         ensures left { seat.new ≡ after_split seat.old }
         ensures right { result ≡ split_off seat.old }
         ensures fresh { NoneOf result.number result.seen }
+        ensures tallied { IsTallied seat.new }
     {
         let inner = self.table.shared.split_seat::<Meet>(&mut seat.inner);
         seat.made += 1;
@@ -107,12 +114,14 @@ impl<S: Story> Turn<S> {
         self.table.shared.load::<Learn>(&mut seat.inner, LENGTH);
     }
 
-    /// Waits for the lock, plays the call and frees the lock. (Wait: it promises what it does if it returns.)
+    /// Waits for the lock, plays the call and frees the lock. (Wait: it promises what it does if it
+    /// returns.)
     pub fn turn<R: Wait>(&self, rt: &R, seat: &mut Seat<S>, call: &mut S::Call) -> S::Reply
         requires own { seat.old.turn ≡ self.now }
         requires number { S.number call.old ≡ seat.old.number }
         ensures seat { seat.new ≡ having_seen seat.old seat.new.seen }
         ensures legal { IsLegal S.plays seat.old call.old seat.new.seen call.new result }
+        ensures fits { length seat.new.seen < 2 ^ 64 }
         ensures tallied { seat.new.number ≡ 0 → IsTallied seat.new }
     {
         self.take(rt, &mut seat.inner);
@@ -121,7 +130,8 @@ impl<S: Story> Turn<S> {
         reply
     }
 
-    /// Ends the lock with its first seat, when all others have been taken in, and gives the story back. (no memory)
+    /// Ends the lock with its first seat, when all others have been taken in, and gives the story
+    /// back. (no memory)
     pub fn close(self, seat: Seat<S>) -> S
         requires own { seat.turn ≡ self }
         requires first { seat.number ≡ 0 }
@@ -188,7 +198,8 @@ impl<S: Story> Turn<S> {
         true
     }
 
-    // The lock is looked at again after the announcement: who frees it later than that wakes a thread.
+    // The lock is looked at again after the announcement: who frees it later than that wakes a
+    // thread.
     fn sleep<R: Wait>(&self, rt: &R) {
         self.sleepers.announce();
         if self.table.shared.peek(LOCK) != 0 {
@@ -196,11 +207,13 @@ impl<S: Story> Turn<S> {
         }
     }
 
-    // Plays the story where it lies in the seat's hands, and says whether its history is longer by it.
+    // Plays the story where it lies in the seat's hands, and says whether its history is longer by
+    // it.
     fn play_held(&self, seat: &mut Inner<S>, call: &mut S::Call) -> (S::Reply, bool)
         requires own { seat.old.table_id ≡ self.now }
         requires held { (x : S) × (seat.old.me.1 ≡ (0, Some x) ∷ []) }
-        ensures same { (seat.new.table_id ≡ seat.old.table_id) × (seat.new.id ≡ seat.old.id) × (seat.new.me.0 ≡ seat.old.me.0) }
+        ensures same { (seat.new.table_id ≡ seat.old.table_id) × (seat.new.id ≡ seat.old.id) ×
+            (seat.new.me.0 ≡ seat.old.me.0) }
         ensures played { (x : S) × (y : S) × (seat.old.me.1 ≡ (0, Some x) ∷ []) ×
             (seat.new.me.1 ≡ (0, Some y) ∷ []) ×
             Played S.constant S.history S.number S.plays x call.old y call.new result.0 result.1 }
@@ -226,7 +239,8 @@ impl<S: Story> Turn<S> {
     // Gives the story and the lock back, and wakes a thread that waits.
     fn free(&self, seat: &mut Inner<S>, grew: bool)
         requires own { seat.old.table_id ≡ self.now }
-        requires ready { (x : S) × Ready S.history seat.old.me x grew × (seat.old.me.0.constant ≡ Some (S.constant x)) }
+        requires ready { (x : S) × Ready S.history seat.old.me x grew ×
+            (seat.old.me.0.constant ≡ Some (S.constant x)) }
         ensures same { (seat.new.table_id ≡ seat.old.table_id) × (seat.new.id ≡ seat.old.id) }
         ensures freed { (x : S) → seat.old.me.1 ≡ (0, Some x) ∷ [] →
             seat.new.me ≡ (hold seat.old.me.0 false (S.history x), []) }
@@ -240,7 +254,8 @@ impl<S: Story> Turn<S> {
 
 // A play, and whether the history is longer by it.
 fn play_story<S: Story>(story: &mut S, call: &mut S::Call) -> (S::Reply, bool)
-    ensures { Played S.constant S.history S.number S.plays story.old call.old story.new call.new result.0 result.1 }
+    ensures { Played S.constant S.history S.number S.plays
+        story.old call.old story.new call.new result.0 result.1 }
 {
     let before = story.length();
     let reply = story.play(call);

@@ -18,3 +18,8 @@ pub returns-clause-fresh : goal.returns-clause-fresh
 returns-clause-fresh g c =
     let t = c.seat.invariant.tallied (ap (λ s. s.number) c.seat.view_is ∙ c.requires.first) c.seat.inside.inner.table_id in
     subst (λ m. NoneOf m.0.number m.0.seen) (sym c.split_seat-inner.ensures.4) (t.fresh c.seat.inside.inner.me.0.next (omega arith))
+
+pub returns-clause-tallied : goal.returns-clause-tallied
+returns-clause-tallied g c =
+    (idle-split _ _ _ _ c.seat.invariant c.split_seat-inner.ensures.2).tallied
+    (ap (λ m. m.0.number) c.split_seat-inner.ensures.2 ∙ (ap (λ s. s.number) c.seat.view_is ∙ c.requires.first)) _

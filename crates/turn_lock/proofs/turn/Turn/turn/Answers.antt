@@ -1,4 +1,4 @@
-use Rattle.std.proofs.Common.{rules, ◌≡◌, ◌∙◌, ap, sym, subst}
+use Rattle.std.proofs.Common.{arith, length, rules, ◌≡◌, ◌∙◌, ap, sym, subst}
 use Rattle.turn_lock.specs.Sights.{IsLegal}
 use Rattle.turn_lock.specs.Steps.{Played}
 use Rattle.turn_lock.proofs.TurnIsLegal.{legal}
@@ -16,3 +16,9 @@ returns-clause-legal g c =
 
 pub returns-clause-tallied : goal.returns-clause-tallied
 returns-clause-tallied g c zero = c.free.ensures.tallied zero _
+
+pub returns-clause-fits : goal.returns-clause-fits
+returns-clause-fits g c =
+    let p = c.play_held-reply.ensures.played in
+    let e = ap (λ m. length m.0.seen) (c.free.ensures.freed p.1 p.3) in
+    let few = p.4.fits in omega arith
