@@ -1,0 +1,3 @@
+pub mod SetupPlaces
+pub mod WordsInTurn
+pub mod BytesOfAMessage
