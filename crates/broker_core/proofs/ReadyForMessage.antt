@@ -27,7 +27,7 @@ use Rattle.im_objects.specs.Calls.{Call}
 use Rattle.im_objects.specs.Objects as table
 use Rattle.relay_model.specs.declared.act.Act.TheVariants as acts
 use Rattle.relay_model.specs.declared.fault.Fault.TheVariants as faults
-use Rattle.session_text.specs.declared.step.ShellStep.{ShellStep}
+use Rattle.seat_steps.specs.declared.step.ShellStep.{ShellStep}
 use Rattle.seat_wire.specs.declared.meaning.Meaning as declared
 use Rattle.seat_wire.specs.Asked.{asked}
 use Rattle.seat_wire.specs.Meant.{meant}

@@ -23,7 +23,7 @@ use relay_core::Route;
 use relay_model::{Act, Fault, Label, Role};
 use seat_audience::{Live, Named, place_of};
 use seat_wire::{Meaning, Sender, meaning_of, shell_act};
-use session_text::ShellStep;
+use seat_steps::ShellStep;
 use wio_core::NoMemory;
 use wl_proto::Interface;
 use wl_wire::Bytes;

@@ -1,6 +1,6 @@
 // What happened, step by step.
 use relay_model::{EndCause, Role};
-use session_text::ShellStep;
+use seat_steps::ShellStep;
 use std::alloc::Global;
 use std::marker::Model;
 use wio_core::NoMemory;

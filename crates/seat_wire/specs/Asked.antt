@@ -4,8 +4,8 @@ use Rattle.wl_wire.specs.Texts.{has_no_zero}
 use Rattle.wl_proto.specs.declared.request.Request.{Request}
 use Rattle.wl_proto.specs.declared.request.Request.TheVariants as request
 use Rattle.relay_model.specs.Objects.{has_popup}
-use Rattle.session_text.specs.declared.step.ShellStep.{ShellStep}
-use Rattle.session_text.specs.declared.step.ShellStep.TheVariants as shell
+use Rattle.seat_steps.specs.declared.step.ShellStep.{ShellStep}
+use Rattle.seat_steps.specs.declared.step.ShellStep.TheVariants as shell
 use Rattle.seat_wire.specs.declared.requests.Argument as declared
 use Rattle.broker_model.specs.Ids.{Past, log_of, peer_at}
 use Rattle.broker_model.specs.Requests.{Argument, argument}

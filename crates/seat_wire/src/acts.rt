@@ -9,7 +9,7 @@ ghost use Rattle.broker_model.specs.Resolve as resolve;
 ghost use Rattle.seat_wire.specs.Asked.{HasText, IsSurface, IsNamed};
 
 use relay_model::{Act, Label, Rect, Role};
-use session_text::ShellStep;
+use seat_steps::ShellStep;
 use std::alloc::Global;
 use wio_core::NoMemory;
 use wl_proto::Request;

@@ -1,9 +1,10 @@
 -- What a line gives holds what calls ask of it.
-use Rattle.session_text.specs.declared.step.ShellStep.{ShellStep}
-use Rattle.session_text.specs.declared.step.ShellStep.TheVariants as shells
+use Rattle.seat_steps.specs.declared.step.ShellStep.{ShellStep}
+use Rattle.seat_steps.specs.declared.step.ShellStep.TheVariants as shells
 use Rattle.session_text.specs.declared.line.SessionLine.{SessionLine}
 use Rattle.session_text.specs.declared.line.SessionLine.TheVariants as sessions
-use Rattle.session_text.specs.Steps.{IsShellStep, IsSessionLine}
+use Rattle.seat_steps.specs.Ranges.{IsShellStep}
+use Rattle.session_text.specs.Steps.{IsSessionLine}
 use Rattle.session_text.specs.SessionGrammar.{HasShellLine, HasSessionLine}
 
 pub shell_asked : (step : ShellStep) → HasShellLine step → IsShellStep step

@@ -4,7 +4,8 @@ use Rattle.std.proofs.lemmas.Nat.{from_le_bytes-to_le_bytes_4}
 use Rattle.wl_wire.specs.Messages.{size_of, IsMessage, id_of, opcode_of, body_of}
 use Rattle.wl_wire.specs.Texts.{has_no_zero}
 use Rattle.session_text.specs.declared.line.SessionLine.{SessionLine}
-use Rattle.session_text.specs.Steps.{IsBody, message_bytes}
+use Rattle.seat_steps.specs.Ranges.{IsBody}
+use Rattle.session_text.specs.Steps.{message_bytes}
 use Rattle.session_text.specs.Printing.{Prints}
 use Rattle.session_text.proofs.SpelledSteps.{session_parts}
 

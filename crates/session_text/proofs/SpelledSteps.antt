@@ -2,14 +2,15 @@
 use Rattle.std.proofs.Common.{◌≡◌, [], ◌∷◌, Some, refl, ap, arith}
 use Rattle.std.specs.Prelude.{codes}
 use Rattle.std.specs.Fmt.{decimal}
-use Rattle.session_text.specs.declared.limits.Limits.{Limits}
-use Rattle.session_text.specs.declared.step.ShellStep.{ShellStep}
-use Rattle.session_text.specs.declared.step.ShellStep.TheVariants as shells
+use Rattle.seat_steps.specs.declared.limits.Limits.{Limits}
+use Rattle.seat_steps.specs.declared.step.ShellStep.{ShellStep}
+use Rattle.seat_steps.specs.declared.step.ShellStep.TheVariants as shells
 use Rattle.session_text.specs.declared.line.Line.TheVariants as lines
 use Rattle.session_text.specs.declared.line.SessionLine.{SessionLine}
 use Rattle.session_text.specs.declared.line.SessionLine.TheVariants as sessions
-use Rattle.session_text.specs.Words.{piece_limit, entry_limit, store_limit, count_of}
-use Rattle.session_text.specs.Steps.{IsWithin, IsLimits}
+use Rattle.seat_steps.specs.Ranges.{piece_limit, entry_limit, store_limit}
+use Rattle.session_text.specs.Words.{count_of}
+use Rattle.seat_steps.specs.Ranges.{IsWithin, IsLimits}
 use Rattle.session_text.specs.SessionGrammar.{shell_words, session_words, header_words, HasShellLine, HasSessionLine}
 use Rattle.session_text.specs.SessionReading.{one_shell_word, three_shell_words, four_shell_words, five_shell_words, seven_shell_words, shell_of, in_session, one_session_word, two_session_words, three_session_words, four_session_words, header_of, session_of}
 use Rattle.session_text.proofs.Parts.{Parts, none, more, named, with_one, with_two}

@@ -5,7 +5,8 @@ use Rattle.session_text.specs.declared.line.Form.{Form}
 use Rattle.session_text.specs.declared.line.Line.{Line}
 use Rattle.session_text.specs.Grammar.{spelling, IsLine}
 use Rattle.session_text.specs.Reading.{line_of}
-use Rattle.session_text.specs.Steps.{IsBody, message_bytes}
+use Rattle.seat_steps.specs.Ranges.{IsBody}
+use Rattle.session_text.specs.Steps.{message_bytes}
 
 -- bytes that read as a line are its spelling, and it is a line of the form
 abbrev pub ReadsOnlySpellings : Type 0

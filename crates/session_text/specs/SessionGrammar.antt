@@ -1,13 +1,14 @@
 -- The grammar of sessions and shell links: the one spelling of each line, and which lines there are.
 use Rattle.std.specs.Prelude.{ℕ, ◌^◌, ◌<◌, ◌≤◌, List, [], ◌∷◌, codes, IsTrue}
 use Rattle.std.specs.Fmt.{decimal, signed_decimal}
-use Rattle.session_text.specs.declared.limits.Limits.{Limits}
-use Rattle.session_text.specs.declared.step.ShellStep.{ShellStep}
-use Rattle.session_text.specs.declared.step.ShellStep.TheVariants as shells
+use Rattle.seat_steps.specs.declared.limits.Limits.{Limits}
+use Rattle.seat_steps.specs.declared.step.ShellStep.{ShellStep}
+use Rattle.seat_steps.specs.declared.step.ShellStep.TheVariants as shells
 use Rattle.session_text.specs.declared.line.SessionLine.{SessionLine}
 use Rattle.session_text.specs.declared.line.SessionLine.TheVariants as sessions
-use Rattle.session_text.specs.Words.{piece_limit, rect_words, hex_word, role_word, fits_i32, is_size, IsArea, IsBytesWithin}
-use Rattle.session_text.specs.Steps.{IsWithin}
+use Rattle.seat_steps.specs.Ranges.{piece_limit, is_size}
+use Rattle.session_text.specs.Words.{rect_words, hex_word, role_word, fits_i32, IsArea, IsBytesWithin}
+use Rattle.seat_steps.specs.Ranges.{IsWithin}
 
 abbrev pub shell_words : ShellStep → List (List ℕ)
 shell_words (shells.Focus p i) = codes "focus" ∷ decimal p ∷ decimal i ∷ []

@@ -8,6 +8,7 @@ use Rattle.hex.specs.declared.error.FromHexError.{FromHexError}
 use Rattle.popup_place.specs.declared.geometry.Rect.{Rect}
 use Rattle.popup_place.specs.declared.geometry.Size.{Size}
 use Rattle.wl_wire.specs.Texts.{IsBytes, IsText, is_text}
+use Rattle.seat_steps.specs.Ranges.{is_size}
 use Rattle.relay_model.specs.declared.role.Role.{Role}
 use Rattle.relay_model.specs.declared.role.Role.TheVariants.{App, Method}
 
@@ -18,17 +19,6 @@ text_limit = 4083
 -- the most bytes of a text that two numbers follow in its request (zwp_text_input_v3.set_surrounding_text, zwp_input_method_v2.set_preedit_string)
 abbrev pub cursor_text_limit : ℕ
 cursor_text_limit = 4075
-
--- the most bytes that one line gives or takes: those of one message
-abbrev pub piece_limit : ℕ
-piece_limit = 4096
-
--- the greatest limits that a session's header may set
-abbrev pub entry_limit : ℕ
-entry_limit = 1000000
-
-abbrev pub store_limit : ℕ
-store_limit = 1048576
 
 -- a text of at most so many bytes
 abbrev pub IsTextWithin : ℕ → List ℕ → Type 0
@@ -42,11 +32,6 @@ IsBytesWithin limit bytes = IsBytes bytes × (1 ≤ length bytes) × (length byt
 abbrev pub fits_i32 : ℤ → Bool
 fits_i32 (pos n) = nat_lt n (2 ^ 31)
 fits_i32 (negsuc n) = nat_lt n (2 ^ 31)
-
--- a size: a number of 32 bits and a sign that isn't negative
-abbrev pub is_size : ℤ → Bool
-is_size (pos n) = nat_lt n (2 ^ 31)
-is_size (negsuc n) = false
 
 abbrev pub rect : ℤ → ℤ → ℤ → ℤ → Rect
 rect x y w h = record { x = x; y = y; width = w; height = h }

@@ -10,10 +10,10 @@ use Rattle.relay_model.specs.declared.fault.Fault.TheVariants.{Size}
 use Rattle.relay_model.specs.declared.role.Role.TheVariants.{App, Method}
 use Rattle.relay_model.specs.declared.said.Said.{Said}
 use Rattle.relay_model.specs.declared.said.Said.TheVariants as said
-use Rattle.session_text.specs.declared.step.Step.{Step}
-use Rattle.session_text.specs.declared.step.Step.TheVariants as steps
-use Rattle.session_text.specs.declared.step.PeerStep.TheVariants as peers
-use Rattle.session_text.specs.declared.step.ShellStep.TheVariants as shells
+use Rattle.seat_steps.specs.declared.step.Step.{Step}
+use Rattle.seat_steps.specs.declared.step.Step.TheVariants as steps
+use Rattle.seat_steps.specs.declared.step.PeerStep.TheVariants as peers
+use Rattle.seat_steps.specs.declared.step.ShellStep.TheVariants as shells
 use Rattle.session_text.specs.Words.{rect}
 use Rattle.session_text.specs.Steps.{step_line}
 use Rattle.session_text.specs.Grammar.{spelling}

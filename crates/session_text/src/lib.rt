@@ -3,22 +3,18 @@
 #![tactic(auto)]
 
 mod act_line;
-mod limits;
 mod line;
 mod printing;
 mod session_line;
 mod shell_line;
-mod step;
 mod step_line;
 mod told_line;
 mod transcript_line;
 mod words;
 
-pub use limits::{ENTRY_LIMIT, Limits, STORE_LIMIT};
 pub use line::{
     BadLine, Form, LINE_LIMIT, Line, SessionLine, one_spelling, read_line, worked_lines,
 };
-pub use step::{PeerStep, ShellStep, Step};
 pub use step_line::{messages_are_whole, print_step};
 pub use told_line::print_told;
 pub use transcript_line::{print_ended, print_out, print_pass, print_placed, print_took};

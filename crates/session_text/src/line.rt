@@ -8,11 +8,10 @@ ghost use Rattle.session_text.specs.Reading as reading;
 ghost use Rattle.session_text.specs.Worked.{WorkedLines, OtherLines, WorkedSteps, WorkedEvents};
 
 use crate::act_line::read_act;
-use crate::limits::Limits;
 use crate::session_line::read_session;
 use crate::shell_line::read_shell;
-use crate::step::ShellStep;
 use relay_model::{Act, Role};
+use seat_steps::{Limits, ShellStep};
 use std::alloc::{AllocError, Global};
 use wl_wire::Bytes;
 

@@ -6,10 +6,10 @@ ghost use Rattle.session_text.specs.SessionReading.{header_of, one_session_word,
 ghost use Rattle.session_text.specs.SessionReading.{three_session_words, four_session_words};
 ghost use Rattle.session_text.specs.SessionReading.{session_of};
 
-use crate::limits::{ENTRY_LIMIT, Limits, STORE_LIMIT};
 use crate::line::{BadLine, Line, SessionLine};
 use crate::shell_line;
 use crate::words::{PIECE_LIMIT, bytes_within, count, number, role};
+use seat_steps::{ENTRY_LIMIT, Limits, STORE_LIMIT};
 use std::alloc::Global;
 
 #[tactic(auto, unfolding(crate::specs::SessionReading::one_session_word))]

@@ -6,9 +6,9 @@ ghost use Rattle.session_text.specs.SessionReading.{four_shell_words, five_shell
 ghost use Rattle.session_text.specs.SessionReading.{seven_shell_words, shell_of};
 
 use crate::line::BadLine;
-use crate::step::ShellStep;
 use crate::words::{number, signed, size, state};
 use relay_model::{Rect, Size};
+use seat_steps::ShellStep;
 
 #[tactic(auto, unfolding(crate::specs::SessionReading::one_shell_word))]
 pub fn read_one(key: &[u8]) -> Result<ShellStep, BadLine>

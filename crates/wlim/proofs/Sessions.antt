@@ -1,13 +1,14 @@
 -- The answer for some lines of a session, by its first line.
 use Rattle.std.proofs.Common.{◌≡◌, ℕ, ◌+◌, Bool, true, false, List, [], ◌∷◌, Option, Some, None, refl, sym, ap, subst, ◌∙◌}
 use Rattle.std.specs.Prelude.{if◌then◌else◌}
-use Rattle.session_text.specs.declared.limits.Limits.{Limits}
+use Rattle.seat_steps.specs.declared.limits.Limits.{Limits}
 use Rattle.session_text.specs.declared.line.Form.TheVariants.{Session}
 use Rattle.session_text.specs.declared.line.Line.{Line}
 use Rattle.session_text.specs.declared.line.Line.TheVariants as line
 use Rattle.session_text.specs.declared.line.SessionLine.{SessionLine}
 use Rattle.session_text.specs.Reading.{line_of}
-use Rattle.session_text.specs.Steps.{IsLimits, IsSessionLine}
+use Rattle.seat_steps.specs.Ranges.{IsLimits}
+use Rattle.session_text.specs.Steps.{IsSessionLine}
 use Rattle.session_text.proofs.Laws.{reads_only}
 use Rattle.session_text.proofs.Asked.{line_asked}
 use Rattle.broker_model.specs.Limits.{number_counted}

@@ -1,6 +1,6 @@
 -- What is written for the lines of a session, and the status.
 use Rattle.std.specs.Prelude.{ℕ, ◌+◌, Bool, if◌then◌else◌, List, [], ◌∷◌, length, Option, Some, None}
-use Rattle.session_text.specs.declared.limits.Limits.{Limits}
+use Rattle.seat_steps.specs.declared.limits.Limits.{Limits}
 use Rattle.session_text.specs.declared.line.Form.TheVariants.{Session}
 use Rattle.session_text.specs.declared.line.Line.{Line}
 use Rattle.session_text.specs.declared.line.Line.TheVariants as line

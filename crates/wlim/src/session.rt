@@ -1,6 +1,7 @@
 // The transcript of a session.
 ghost use Rattle.std.specs.Prelude.{◌≡◌, [], false, None, IfOk, string_bytes};
-ghost use Rattle.session_text.specs.Steps.{IsLimits, IsSessionLine};
+ghost use Rattle.seat_steps.specs.Ranges.{IsLimits};
+ghost use Rattle.session_text.specs.Steps.{IsSessionLine};
 ghost use Rattle.broker_core.specs.Played.{line_played};
 ghost use Rattle.broker_core.specs.Transcribed.{journal_text};
 ghost use Rattle.wlim.specs.Endings.{IsDecided};
@@ -11,7 +12,8 @@ use crate::last_line::{LastLine, close, close_without_end};
 use crate::lines::take_line;
 use crate::status::Status;
 use broker_core::{PlayEnd, Player};
-use session_text::{BadLine, Form, Limits, Line, SessionLine, read_line};
+use seat_steps::Limits;
+use session_text::{BadLine, Form, Line, SessionLine, read_line};
 use std::alloc::Global;
 use wio_core::NoMemory;
 
