@@ -13,7 +13,7 @@ use Rattle.wl_proto.specs.declared.request.Request.{Request}
 use Rattle.wl_proto.specs.declared.request.Request.TheVariants as request
 use Rattle.wl_proto.specs.Grammar.{Value, word, signed, text, null, token}
 use Rattle.wl_proto.specs.Rows.{request_message}
-use Rattle.wl_proto.specs.Spelled.{IsSpelled, Spelled, IsRead, Answers}
+use Rattle.wl_proto.specs.Spelled.{IsSpelled, Spelled, Answers}
 use Rattle.seat_wire.specs.Asked.{HasText}
 
 -- a text has no zero byte
