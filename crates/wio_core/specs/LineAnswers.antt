@@ -7,7 +7,8 @@ use Rattle.wio_core.specs.declared.line_reader.LineStop.TheVariants as stop
 use Rattle.wio_core.specs.declared.line_reader.NextLine.{NextLine}
 use Rattle.wio_core.specs.declared.line_reader.NextLine.TheVariants as answer
 
--- what a reader of lines holds, how many bytes it may still take, if there is a limit, and what it answers from now on, if that is settled
+-- what a reader of lines holds, how many bytes it may still take, where that has a limit, and what it answers
+-- from now on, where that is settled
 pub record LinesAhead : Type 0 where
   pub held : List ℕ
   pub room : Option ℕ
@@ -48,15 +49,20 @@ stop_of answer.Long = Some stop.Long
 stop_of answer.Limit = Some stop.Limit
 stop_of answer.ReadFault = Some stop.ReadFault
 
--- a reader that goes on took these bytes, which reach at most 16,384 bytes past the first byte held, and answered for them
-pub record GoesOn (before after : LinesAhead) (given_before given_after left_before left_after : Option (List ℕ)) (result : NextLine) (read : List ℕ) : Type 0 where
+-- a reader that goes on took these bytes, at most 16,384 with those that it held, and answered for them
+pub record GoesOn
+    (before after : LinesAhead)
+    (given_before given_after left_before left_after : Option (List ℕ))
+    (result : NextLine)
+    (read : List ℕ) : Type 0 where
   pub took : TookFrom given_before given_after left_before left_after read
   pub gathers : Gathers before.held (before.held ++ read) before.room after.room read
   pub near : length before.held + length read ≤ 16384
   pub tells : Tells result (before.held ++ read) after left_after
 
 -- one call: a reader whose answer is settled stays as it was and gives it again
-abbrev pub Answers : LinesAhead → LinesAhead → Option (List ℕ) → Option (List ℕ) → Option (List ℕ) → Option (List ℕ) → NextLine → Type 0
+abbrev pub Answers : (before after : LinesAhead) (given_before given_after left_before left_after : Option (List ℕ))
+    → NextLine → Type 0
 Answers before after given_before given_after left_before left_after result =
     MatchOption before.settled
     ((read : List ℕ) × GoesOn before after given_before given_after left_before left_after result read)

@@ -44,7 +44,7 @@ pub record TookFrom (given_before given_after left_before left_after : Option (L
   pub given : Appends given_before given_after bytes
   pub left : Consumes left_before left_after bytes
 
--- the bytes that were read stand behind those held, and take as much from what may still be taken, where that has a limit
+-- the bytes that were read stand behind those held, and leave as many fewer that may be taken, where that has a limit
 pub record Gathers (held_before held_after : List ℕ) (room_before room_after : Option ℕ) (bytes : List ℕ) : Type 0 where
   pub held : held_after ≡ held_before ++ bytes
   pub room : room_after ≡ option_map (λ n. n - length bytes) room_before

@@ -22,7 +22,8 @@ pub enum LineStop {
     ReadFault,
 }
 
-/// What a reader of lines answers. A line comes without its line feed, and is lent up to the next call.
+/// What a reader of lines answers. A line comes without its line feed, and is lent up to the next
+/// call.
 #[derive(Drop)]
 pub enum NextLine<'a> {
     /// The next line, of at most 8,400 bytes.
@@ -71,7 +72,10 @@ fn read_more<S: Source>(
     source: &mut S,
 ) -> Result<(), LineStop>
     requires { IsOpen window.old }
-    ensures took { (read : List ℕ) × TookFrom (S.given source.old) (S.given source.new) (S.left source.old) (S.left source.new) read × Gathers window.old window.new room.old room.new read }
+    ensures took { (read : List ℕ)
+        × TookFrom (S.given source.old) (S.given source.new)
+        (S.left source.old) (S.left source.new) read
+        × Gathers window.old window.new room.old room.new read }
     ensures more { OnOk result (length window.old < length window.new) }
     ensures near { length window.new ≤ 16384 }
     ensures stop { IfErr result (λ why. HasCause why window.new room.new (S.left source.new)) }
@@ -79,7 +83,8 @@ fn read_more<S: Source>(
     ensures given_quiet { StaysQuiet (S.given source.old) (S.given source.new) }
     ensures left_quiet { StaysQuiet (S.left source.old) (S.left source.new) }
     ensures never_falls { S.fault_count source.old ≤ S.fault_count source.new }
-    ensures cause { result ≡ Err LineStop.ReadFault → Rose (S.fault_count source.old) (S.fault_count source.new) }
+    ensures cause { result ≡ Err LineStop.ReadFault
+        → Rose (S.fault_count source.old) (S.fault_count source.new) }
 {
     let most = most_of(*room);
     if most == 0 {
@@ -95,13 +100,17 @@ fn read_more<S: Source>(
     }
 }
 
-/// Reads while no whole line is held, and says how long the line at the front is, or why none comes.
+/// Reads while no whole line is held, and says how long the line at the front is, or why none
+/// comes.
 fn find_line<S: Source>(
     window: &mut Window,
     room: &mut Option<u64>,
     source: &mut S,
 ) -> Result<usize, LineStop>
-    ensures took { (read : List ℕ) × TookFrom (S.given source.old) (S.given source.new) (S.left source.old) (S.left source.new) read × Gathers window.old window.new room.old room.new read }
+    ensures took { (read : List ℕ)
+        × TookFrom (S.given source.old) (S.given source.new)
+        (S.left source.old) (S.left source.new) read
+        × Gathers window.old window.new room.old room.new read }
     ensures line { IfOk result (λ n. HasLine window.new n) }
     ensures stop { IfErr result (λ why. HasCause why window.new room.new (S.left source.new)) }
     ensures near { length window.new ≤ 16384 }
@@ -110,7 +119,8 @@ fn find_line<S: Source>(
     ensures given_quiet { StaysQuiet (S.given source.old) (S.given source.new) }
     ensures left_quiet { StaysQuiet (S.left source.old) (S.left source.new) }
     ensures never_falls { S.fault_count source.old ≤ S.fault_count source.new }
-    ensures cause { result ≡ Err LineStop.ReadFault → Rose (S.fault_count source.old) (S.fault_count source.new) }
+    ensures cause { result ≡ Err LineStop.ReadFault
+        → Rose (S.fault_count source.old) (S.fault_count source.new) }
 {
     let mut seen = 0;
     'reading: loop {
@@ -123,8 +133,8 @@ fn find_line<S: Source>(
     }
 }
 
-/// Reads a source by lines. Contracts see the bytes that it took and gave in no line, how many it may still take, and what it
-/// answers from now on, if that is settled.
+/// Reads a source by lines. Contracts see the bytes that it took and gave in no line, how many it
+/// may still take, and what it answers from now on, if that is settled.
 #[derive(Drop)]
 pub struct LineReader {
     window: Window,
@@ -139,7 +149,11 @@ impl Model for LineReader {
 
     ghost Value = { LinesAhead };
 
-    ghost view = { λ r. record { held = drop r.lent r.window; room = r.room; settled = r.settled } };
+    ghost view = { λ r. record {
+      held = drop r.lent r.window;
+      room = r.room;
+      settled = r.settled;
+    } };
 
     ghost invariant = { λ r. r.lent ≤ length r.window };
 }
@@ -152,7 +166,8 @@ impl LineReader {
 
     /// Takes at most `limit` bytes of its source, or any number, and reserves 16,384 bytes.
     pub fn new(alloc: Global, limit: Option<u64>) -> Result<LineReader, NoMemory>
-        ensures { IfOk result (λ reader. reader ≡ record { held = []; room = limit; settled = None }) }
+        ensures { IfOk result (λ reader. reader
+            ≡ record { held = []; room = limit; settled = None }) }
     {
         Ok(LineReader {
             window: Window::new(alloc)?,
@@ -162,11 +177,13 @@ impl LineReader {
         })
     }
 
-    /// The next line of the bytes that are held and of those that the source has left. It reads only while no whole line is held,
-    /// and no byte past the limit. (no memory)
+    /// The next line of the bytes that are held and of those that the source has left. It reads while
+    /// no whole line is held, and no byte past the limit. (no memory)
     pub fn next<S: Source>(&mut self, source: &mut S) -> NextLine<'_>
         requires { self.old.settled ≢ Some LineStop.ReadFault }
-        ensures* answer { sem 𝓛 (Rests the_row self.entry (λ new. Answers self.old new (S.given source.old) (S.given source.new) (S.left source.old) (S.left source.new) result)) }
+        ensures* answer { sem 𝓛 (Rests the_row self.entry (λ new. Answers self.old new
+            (S.given source.old) (S.given source.new)
+            (S.left source.old) (S.left source.new) result)) }
         ensures waits { ¬ IsOpen self.old.held → source.new ≡ source.old }
         ensures reads_nothing { OnSome self.old.settled (source.new ≡ source.old) }
 

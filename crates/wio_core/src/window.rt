@@ -65,13 +65,16 @@ impl Window {
     pub(crate) fn read<S: Source>(&mut self, source: &mut S, most: usize) -> Result<usize, Failed>
         requires room { length self.old < 16384 }
         requires some { 0 < most }
-        ensures moved { IfOk result (λ n. (read : List ℕ) × TookFrom (S.given source.old) (S.given source.new) (S.left source.old) (S.left source.new) read
+        ensures moved { IfOk result (λ n. (read : List ℕ)
+            × TookFrom (S.given source.old) (S.given source.new)
+            (S.left source.old) (S.left source.new) read
             × (self.new ≡ self.old ++ read) × (length read ≡ n)) }
         ensures within { IfOk result (λ n. n ≤ most) }
         ensures near { length self.new ≤ 16384 }
         ensures end { IfOk result (λ n. n ≡ 0 → IsAtEnd (S.left source.new)) }
 
-        ensures took_nothing { OnErr result (TookFrom (S.given source.old) (S.given source.new) (S.left source.old) (S.left source.new) []) }
+        ensures took_nothing { OnErr result (TookFrom (S.given source.old) (S.given source.new)
+            (S.left source.old) (S.left source.new) []) }
         ensures stays { OnErr result (self.new ≡ self.old) }
 
         ensures given_quiet { StaysQuiet (S.given source.old) (S.given source.new) }
@@ -87,7 +90,8 @@ impl Window {
     }
 }
 
-/// Moves what stands from `start` to `end` to the front, if no room is behind it. Each byte is moved at most once.
+/// Moves what stands from `start` to `end` to the front, if no room is behind it. A byte is moved
+/// at most once: when the room is full again, it stands in a line that is whole or too long.
 fn make_room(buffer: &mut Vec<u8>, start: &mut usize, end: &mut usize)
     requires size { vec_len buffer.old ≡ 16384 }
     requires order { start.old ≤ end.old }
@@ -96,7 +100,8 @@ fn make_room(buffer: &mut Vec<u8>, start: &mut usize, end: &mut usize)
     ensures size { vec_len buffer.new ≡ 16384 }
     ensures order { start.new ≤ end.new }
     ensures room { end.new < 16384 }
-    ensures same { slice_range buffer.new.items start.new end.new ≡ slice_range buffer.old.items start.old end.old }
+    ensures same { slice_range buffer.new.items start.new end.new
+        ≡ slice_range buffer.old.items start.old end.old }
 {
     if *end == SIZE {
         buffer.copy_within(*start..SIZE, 0);

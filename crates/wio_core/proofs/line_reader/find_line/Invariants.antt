@@ -9,7 +9,8 @@ invariant-reading g l = record {
   within : l.seen ≤ length l.window;
   lacks : LacksFeed (take l.seen l.window);
   took : (read : List ℕ)
-      × TookFrom (g.S.Source.given l.initial.source) (g.S.Source.given l.source) (g.S.Source.left l.initial.source) (g.S.Source.left l.source) read
+      × TookFrom (g.S.Source.given l.initial.source) (g.S.Source.given l.source) (g.S.Source.left l.initial.source)
+      (g.S.Source.left l.source) read
       × Gathers l.initial.window l.window l.initial.room l.room read;
   waits : ¬ IsOpen l.initial.window → (l.source ≡ l.initial.source) × (l.window ≡ l.initial.window);
   given_quiet : StaysQuiet (g.S.Source.given l.initial.source) (g.S.Source.given l.source);

@@ -14,7 +14,11 @@ returns-else-seen-n-le-LONGEST c =
 
 pub returns-then-bytes-le-LONGEST : goal.returns-then-bytes-le-LONGEST
 returns-then-bytes-le-LONGEST c =
-    record { few = c.if-bytes-le-LONGEST.true; lacks = lacks_all _ _ c.requires.within c.requires.lacks (rw take_rest at c.in-None.ensures) }
+    record {
+      few = c.if-bytes-le-LONGEST.true;
+      lacks = lacks_all _ _ c.requires.within c.requires.lacks (rw take_rest
+          at c.in-None.ensures);
+    }
 
 pub returns-else-bytes-le-LONGEST : goal.returns-else-bytes-le-LONGEST
 returns-else-bytes-le-LONGEST c =

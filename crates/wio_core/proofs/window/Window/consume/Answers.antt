@@ -6,5 +6,7 @@ pub returns-else-self : goal.returns-else-self
 returns-else-self c =
     let w = c.self.inside in
     let i = c.self.invariant in
-    let same : length c.args.self.now ≡ w.end - w.start = sym (ap length c.self.view_is) ∙ length-part w.buffer.items w.start w.end (omega (arith, i.0, i.2)) in
-    part_without_front w.buffer.items w.start w.end c.args.n (omega (arith, same, c.requires, i.1)) ∙ ap (λ l. drop c.args.n l) c.self.view_is
+    let same : length c.args.self.now ≡ w.end - w.start = sym (ap length c.self.view_is)
+    ∙ length-part w.buffer.items w.start w.end (omega (arith, i.0, i.2)) in
+    part_without_front w.buffer.items w.start w.end c.args.n (omega (arith, same, c.requires, i.1))
+    ∙ ap (λ l. drop c.args.n l) c.self.view_is

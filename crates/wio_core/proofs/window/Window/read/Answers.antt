@@ -14,10 +14,18 @@ returns-in_err-n-clause-stays g c =
     let told = c.make_room.ensures in
     let within : room.end ≤ length room.buffer.items = omega (arith, told.size, told.room) in
     let order : room.end ≤ c.min-end.result = omega (arith, told.room, c.min-end.ensures, c.saturating_add.ensures) in
-    let size : c.min-end.result ≤ length room.buffer.items = omega (arith, told.size, room.buffer.ok.0, c.min-end.ensures) in
-    let len : length c.read.new.buf ≡ c.min-end.result - room.end = c.read.auto.buf ∙ ap (λ l. length (slice_range l room.end c.min-end.result)) c.deref_mut.ensures.value ∙ length-part room.buffer.items room.end c.min-end.result size in
+    let size : c.min-end.result ≤ length room.buffer.items = omega (
+      arith,
+      told.size,
+      room.buffer.ok.0,
+      c.min-end.ensures,
+    ) in
+    let len : length c.read.new.buf ≡ c.min-end.result - room.end = c.read.auto.buf
+    ∙ ap (λ l. length (slice_range l room.end c.min-end.result)) c.deref_mut.ensures.value
+    ∙ length-part room.buffer.items room.end c.min-end.result size in
     always_on_err c.from_residual.result (rw c.deref_mut.ensures.value (
-    ap (λ l. slice_range l room.start room.end) (with_items_is room.buffer _ (length-with_read _ _ _ _ len order size ∙ sym room.buffer.ok.0)) ∙
+    ap (λ l. slice_range l room.start room.end) (with_items_is room.buffer _ (length-with_read _ _ _ _ len order size
+    ∙ sym room.buffer.ok.0)) ∙
     part_as_before _ _ _ _ told.order within ∙ told.same ∙ c.self.view_is))
 
 pub returns-clause-moved : goal.returns-clause-moved
@@ -28,12 +36,21 @@ returns-clause-moved g c =
     let told = c.make_room.ensures in
     let within : room.end ≤ length room.buffer.items = omega (arith, told.size, told.room) in
     let order : room.end ≤ c.min-end.result = omega (arith, told.room, c.min-end.ensures, c.saturating_add.ensures) in
-    let size : c.min-end.result ≤ length room.buffer.items = omega (arith, told.size, room.buffer.ok.0, c.min-end.ensures) in
-    let len : length c.read.new.buf ≡ c.min-end.result - room.end = c.read.auto.buf ∙ ap (λ l. length (slice_range l room.end c.min-end.result)) c.deref_mut.ensures.value ∙ length-part room.buffer.items room.end c.min-end.result size in (
+    let size : c.min-end.result ≤ length room.buffer.items = omega (
+      arith,
+      told.size,
+      room.buffer.ok.0,
+      c.min-end.ensures,
+    ) in
+    let len : length c.read.new.buf ≡ c.min-end.result - room.end = c.read.auto.buf
+    ∙ ap (λ l. length (slice_range l room.end c.min-end.result)) c.deref_mut.ensures.value
+    ∙ length-part room.buffer.items room.end c.min-end.result size in (
       take n c.read.new.buf,
       record { given = m.given; left = m.left },
       rw c.deref_mut.ensures.value (
-          ap (λ l. slice_range l room.start (room.end + n)) (with_items_is room.buffer _ (length-with_read _ _ _ _ len order size ∙ sym room.buffer.ok.0)) ∙
-          part_with_read _ _ _ _ _ _ told.order within m.within ∙ ap (λ l. l ++ take n c.read.new.buf) (told.same ∙ c.self.view_is)),
+          ap (λ l. slice_range l room.start (room.end + n)) (with_items_is room.buffer _ (length-with_read _ _ _ _ len
+          order size ∙ sym room.buffer.ok.0)) ∙
+          part_with_read _ _ _ _ _ _ told.order within m.within ∙ ap (λ l. l ++ take n c.read.new.buf) (told.same
+          ∙ c.self.view_is)),
       length-take-le n c.read.new.buf m.within,
     )
