@@ -1,0 +1,4 @@
+pub mod SinceLaws
+pub mod PrintedEntries
+pub mod ReachedPrintings
+pub mod PrintedLines

@@ -1,0 +1,18 @@
+use Rattle.std.proofs.Common.{ℕ, List, refl, subst}
+use Rattle.std.specs.Prelude.{string_bytes}
+use Rattle.session_text.specs.Transcript.{out_line}
+use Rattle.broker_core.specs.Watched.{Watched}
+use Rattle.broker_core.specs.Watched.Watched.{Put}
+use Rattle.seat_printer.specs.Transcribed.{with_feed}
+use Rattle.seat_printer.specs.Printed.{Printing, MayPrint}
+use Rattle.seat_printer.proofs.PrintedLines.{printing, text_printed}
+use Rattle.seat_printer.proofs.printer.PrinterWatch.put.Goals as goal
+
+pub returns : goal.returns
+returns c =
+    let event : Watched = Put c.args.number c.args.peer c.args.bytes.now c.args.tokens.now in
+    let line : List ℕ = out_line c.args.number c.args.peer c.args.bytes.now c.args.tokens.now in
+    subst (λ (p : Printing). MayPrint p event (printing (string_bytes c.add_line.new.text) (string_bytes c.self.inside.shell) c.is_err-self-inside.result)) c.self.view_is
+    (text_printed event (with_feed line) (string_bytes c.self.inside.text) (string_bytes c.add_line.new.text) (string_bytes c.self.inside.shell)
+    c.self.inside.is_short c.is_err-self-inside.result c.add_line.result c.if-self.false c.is_err-self-inside.ensures.value refl
+    (c.add_line.ensures.ok line c.print_out-line.ensures.value) c.add_line.ensures.err)

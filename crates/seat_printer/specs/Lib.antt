@@ -1,0 +1,2 @@
+pub mod Transcribed
+pub mod Printed

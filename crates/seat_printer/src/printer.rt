@@ -1,0 +1,208 @@
+// Prints what it watches, as long as there is memory for it.
+ghost use Rattle.std.specs.Prelude.{◌≡◌, ◌++◌, [], ℕ, List, false, IfSome, IfNone, IfOk, OnOk, OnErr, string_bytes};
+ghost use Rattle.broker_model.specs.declared.journal.Entry.{Entry};
+ghost use Rattle.seat_objects.specs.Reached.{Reached};
+ghost use Rattle.broker_core.specs.Watched.{watched_since};
+ghost use Rattle.seat_printer.specs.Transcribed.{with_feed, head_text, text_since};
+ghost use Rattle.seat_printer.specs.Printed.{MayPrint, blank, closed, IsFront};
+
+use broker_core::{Entry, Watch};
+use session_text::{print_ended, print_out, print_pass, print_placed, print_took};
+use std::alloc::Global;
+use std::marker::Model;
+use wio_core::NoMemory;
+use wl_wire::Text;
+
+// The line goes behind the text, with its line feed, or nothing does.
+fn add_line(text: &mut String, line: Result<Text, NoMemory>) -> Result<(), NoMemory>
+    ensures ok { (bytes : List ℕ) → IfOk line (λ l. l ≡ bytes) →
+        OnOk result (string_bytes text.new ≡ string_bytes text.old ++ with_feed bytes) }
+    ensures err { OnErr result (string_bytes text.new ≡ string_bytes text.old) }
+{
+    let line = line?;
+    text.reserve(line.len() + 1)?;
+    text.push_str(line.as_str())?;
+    text.push('\n')?;
+    Ok(())
+}
+
+// Who ended, or what was taken, goes behind the text.
+fn add_head(text: &mut String, alloc: Global, number: u32, entry: &Entry) -> Result<(), NoMemory>
+    ensures { OnOk result (string_bytes text.new ≡ string_bytes text.old ++ head_text number entry.now) }
+{
+    match entry {
+        Entry::End { peer, cause } => add_line(text, print_ended(alloc, number, *peer, *cause)),
+        Entry::Took { peer, bytes } => add_line(text, print_took(alloc, number, *peer, *bytes)),
+        _ => Ok(()),
+    }
+}
+
+// What the shell was told goes behind the text, and none is left.
+fn move_behind(text: &mut String, shell: &mut String) -> Result<(), NoMemory>
+    ensures text { OnOk result (string_bytes text.new ≡ string_bytes text.old ++ string_bytes shell.old) }
+    ensures shell { OnOk result (string_bytes shell.new ≡ []) }
+    ensures err { OnErr result (string_bytes text.new ≡ string_bytes text.old) }
+{
+    text.push_str(shell.as_str())?;
+    shell.clear();
+    Ok(())
+}
+
+// What the shell was told of the entry before, and who ended or what was taken, go behind the text.
+fn begin_entry(
+    text: &mut String,
+    shell: &mut String,
+    alloc: Global,
+    number: u32,
+    entry: &Entry,
+) -> Result<(), NoMemory>
+    ensures text { OnOk result
+        (string_bytes text.new ≡ string_bytes text.old ++ (string_bytes shell.old ++ head_text number entry.now)) }
+    ensures shell { OnOk result (string_bytes shell.new ≡ []) }
+    ensures err { OnErr result (string_bytes text.new ≡ string_bytes text.old) }
+{
+    add_head(shell, alloc, number, entry)?;
+    move_behind(text, shell)
+}
+
+/// Prints the transcript of a journal that it watches: for each entry who ended or what was taken,
+/// the groups that were put, and what the shell is told.
+///
+/// In contracts it is a `Printing`: the text, what the shell was told of the newest entry, and
+/// whether it is short. It is short from the line on for which it found no memory: its text ends
+/// before that line, and stays.
+#[derive(Drop)]
+pub struct Printer {
+    alloc: Global,
+    text: String,
+    // What the shell was told of the newest entry, whose lines stand behind those of its groups.
+    shell: String,
+    is_short: bool,
+}
+
+impl Model for Printer {
+    ghost use Rattle.std.specs.Prelude.{string_bytes};
+    ghost use Rattle.seat_printer.specs.Printed.{Printing};
+
+    ghost Value = { Printing };
+
+    ghost view = { λ p. record {
+      text = string_bytes p.text;
+      shell = string_bytes p.shell;
+      is_short = p.is_short;
+    } };
+}
+
+impl Printer {
+    /// Nothing is printed yet. Takes no memory.
+    pub fn new(alloc: Global) -> Printer
+        ensures { result ≡ blank }
+    {
+        Printer {
+            alloc,
+            text: String::new(alloc),
+            shell: String::new(alloc),
+            is_short: false,
+        }
+    }
+
+    /// What the shell was told of the newest entry goes behind its groups, so that the text has
+    /// whole entries alone; a printer may be short after it. Of who was blank before the entries
+    /// behind the first k, the text is then that of these entries, or if it is short a front of it.
+    pub fn close(&mut self)
+        ensures closed { self.new.is_short ≡ false → self.new ≡ closed self.old }
+        ensures text { (capacity k : ℕ) (journal : List Entry) →
+            Reached MayPrint blank (watched_since capacity k journal) self.old →
+            self.new.is_short ≡ false → self.new.text ≡ text_since capacity k journal }
+        ensures front { (capacity k : ℕ) (journal : List Entry) →
+            Reached MayPrint blank (watched_since capacity k journal) self.old →
+            IsFront self.new.text (text_since capacity k journal) }
+    {
+        if self.is_short {
+            return;
+        }
+        self.is_short = move_behind(&mut self.text, &mut self.shell).is_err();
+    }
+
+    /// Whether there was no memory for a line.
+    pub fn is_short(&self) -> bool
+        ensures { result ≡ self.now.is_short }
+    {
+        self.is_short
+    }
+
+    /// The text so far.
+    pub fn text(&self) -> &str
+        ensures { result.now ≡ self.now.text }
+    {
+        self.text.as_str()
+    }
+
+    /// Begins anew, in the same memory.
+    pub fn clear(&mut self)
+        ensures { self.new ≡ blank }
+    {
+        self.text.clear();
+        self.shell.clear();
+        self.is_short = false;
+    }
+
+    /// The text with what the shell was told of the newest entry, none where it is short: of who was
+    /// blank before the entries behind the first k, the text of these entries.
+    pub fn finish(self) -> Option<String>
+        ensures text { (capacity k : ℕ) (journal : List Entry) →
+            Reached MayPrint blank (watched_since capacity k journal) self →
+            IfSome result (λ text. string_bytes text ≡ text_since capacity k journal) }
+    {
+        let mut printer = self;
+        printer.close();
+        if printer.is_short {
+            return None;
+        }
+        let Printer {
+            alloc: _,
+            text,
+            shell: _,
+            is_short: _,
+        } = printer;
+        Some(text)
+    }
+}
+
+impl Watch for Printer {
+    ghost use Rattle.seat_printer.specs.Printed.{MayPrint};
+
+    ghost may_follow = { MayPrint };
+
+    fn entered(&mut self, number: u32, entry: &Entry) {
+        if self.is_short {
+            return;
+        }
+        let (text, shell) = (&mut self.text, &mut self.shell);
+        self.is_short = begin_entry(text, shell, self.alloc, number, entry).is_err();
+    }
+
+    fn placed(&mut self, number: u32, peer: u32, id: u32, x: i64, y: i64) {
+        if self.is_short {
+            return;
+        }
+        let line = print_placed(self.alloc, number, peer, id, x, y);
+        self.is_short = add_line(&mut self.shell, line).is_err();
+    }
+
+    fn passed(&mut self, number: u32, time: u32, key: u32, state: u32) {
+        if self.is_short {
+            return;
+        }
+        let line = print_pass(self.alloc, number, time, key, state);
+        self.is_short = add_line(&mut self.shell, line).is_err();
+    }
+
+    fn put(&mut self, number: u32, peer: u32, bytes: &[u8], tokens: &[(usize, u32)]) {
+        if self.is_short {
+            return;
+        }
+        let line = print_out(self.alloc, number, peer, bytes, tokens);
+        self.is_short = add_line(&mut self.text, line).is_err();
+    }
+}
