@@ -1,5 +1,5 @@
 -- A printer that puts a line behind its text, or behind what the shell was told, or finds no memory for it, may follow.
-use Rattle.std.proofs.Common.{◌≡◌, List, ℕ, ◌++◌, Bool, true, false, ap, refl, sym, subst, ◌∙◌}
+use Rattle.std.proofs.Common.{◌≡◌, List, ℕ, ◌++◌, Bool, false, ap, refl, sym, subst, ◌∙◌}
 use Rattle.std.specs.Prelude.{Result, Ok, Err, is_err, OnOk, OnErr}
 use Rattle.broker_core.specs.Watched.{Watched}
 use Rattle.seat_printer.specs.Printed.{Printing, printed, MayPrint}
