@@ -68,13 +68,19 @@ fn what_follows_the_beginning(rt: HostRuntime) -> Result<(), Fail> {
             "enable 3\ncommit 3\nmcommit 5 1\nend\n",
             "12 5 activate\n12 5 content_type 0 0\n12 5 done\nend 13\n",
         ),
-        // an empty batch; a second field while the first holds
+        // an empty batch; a second field takes the seat, from then on the batches for it are relayed, and none for the first
         ("", "", "mcommit 5 1\nend\n", "9 3 done 1\nend 9\n"),
         (
             "",
             "",
             "field 1\nenable 9\ncommit 9\nmcommit 5 1\nend\n",
-            "9 9 enter 2\n12 3 done 1\nend 12\n",
+            "9 9 enter 2\n11 5 activate\n11 5 content_type 0 0\n11 5 done\nend 12\n",
+        ),
+        (
+            "",
+            "",
+            "field 1\nenable 9\ncommit 9\ncommit 3\nmcommit 5 2\nend\n",
+            "9 9 enter 2\n11 5 activate\n11 5 content_type 0 0\n11 5 done\n13 9 done 1\nend 13\n",
         ),
         // the focused surface is dropped; the focus goes and comes again
         (
