@@ -10,15 +10,18 @@ use Rattle.turn_lock.proofs.PairsOfNumbers.{none-front, none-back, none-nil, non
 use Rattle.turn_lock.proofs.TotalsOfPairs.{total-few, total-all}
 use Rattle.turn_lock.proofs.ViewsAfterChange.{same-place, count-two}
 
-module _ {E C : Type 0} (c : C) (h : List (ℕ × E)) (vs : List (View E C)) (id : ℕ) (v : View E C) (at : At vs id v) (zero : v.number ≡ 0) (p : People c h vs) where
+module _ {E C : Type 0} (c : C) (h : List (ℕ × E)) (vs : List (View E C)) (id : ℕ) (v : View E C) (at : At vs id v)
+    (zero : v.number ≡ 0) (p : People c h vs) where
   -- with no seat out the first is alone
   alone : v.out ≡ 0 → (j : ℕ) (u : View E C) → At vs j u → v ≡ u
   alone none_out j u a = dite (ℕ_discrete id j) (λ e. same-place vs id j v u e at.0 a.0)
-      (λ apart. let two = count-two vs id j v u at a apart in let t = (p.first id v at zero).tally in absurd (omega arith))
+      (λ apart. let two = count-two vs id j v u at a apart in let t = (p.first id v at zero).tally in
+      absurd (omega arith))
 
   settled : v.out ≡ 0 → (n : ℕ) → n < p.next → HasSeen h n v.seen
   settled none_out n small = ⊎_elim
-      (λ (o : IsLive vs n). subst (λ k. HasSeen h k v.seen) (ap (λ (x : View E C). x.number) (alone none_out o.0 o.1 o.2) ∙ o.3) (p.seen id v at))
+      (λ (o : IsLive vs n). subst (λ k. HasSeen h k v.seen)
+      (ap (λ (x : View E C). x.number) (alone none_out o.0 o.1 o.2) ∙ o.3) (p.seen id v at))
       (λ (t : IsIn n v.taken). (p.taken id v at n t).settled)
       ((p.first id v at zero).owned n small)
 
@@ -40,14 +43,16 @@ module _ {E C : Type 0} (c : C) (h : List (ℕ × E)) (vs : List (View E C)) (id
   absent : v.out ≡ 0 → (n : ℕ) → (IsIn n (0 ∷ v.taken) → ⊥) → NoneOf n v.seen
   absent none_out n stray = subst (NoneOf n) (all-seen none_out) (dite (dec_le (n + 1) p.next)
       (λ small. absurd (⊎_elim
-      (λ (o : IsLive vs n). stray (inl (sym zero ∙ (ap (λ (x : View E C). x.number) (alone none_out o.0 o.1 o.2) ∙ o.3))))
+      (λ (o : IsLive vs n). stray (inl (sym zero ∙ (ap (λ (x : View E C). x.number) (alone none_out o.0 o.1 o.2)
+      ∙ o.3))))
       (λ (t : IsIn n v.taken). stray (inr t))
       ((p.first id v at zero).owned n (omega arith))))
       (λ big. p.made n (omega arith)))
 
   pub is-tallied : length h < 2 ^ 64 → Tallied v
   is-tallied fits _ turn = let s = p.seen id v at in record {
-    fresh = λ n big. let d = (p.first id v at zero).drawn in none-front n v.seen s.0 (subst (NoneOf n) s.1 (p.made n (omega arith)));
+    fresh = λ n big. let d = (p.first id v at zero).drawn in
+        none-front n v.seen s.0 (subst (NoneOf n) s.1 (p.made n (omega arith)));
     apart = apart;
     few =
         let t = total-few (0 ∷ v.taken) v.seen once in

@@ -8,3 +8,4 @@ mod FirstSeatKnows
 mod StepsKeepRule
 mod SeatsBetweenCalls
 mod TurnIsLegal
+pub mod OwnPairsAfterCalls

@@ -24,7 +24,8 @@ module _ {E : Type 0} where
   pub own-append : (n : ℕ) (xs ys : List (ℕ × E)) → own n (xs ++ ys) ≡ own n xs ++ own n ys
   own-append n [] ys = refl
   own-append n (x ∷ xs) ys = dite (ℕ_discrete x.0 n)
-      (λ e. own-here n x (xs ++ ys) e ∙ (ap (λ z. x.1 ∷ z) (own-append n xs ys) ∙ ap (λ z. z ++ own n ys) (sym (own-here n x xs e))))
+      (λ e. own-here n x (xs ++ ys) e ∙ (ap (λ z. x.1 ∷ z) (own-append n xs ys) ∙ ap (λ z. z ++ own n ys)
+      (sym (own-here n x xs e))))
       (λ e. own-else n x (xs ++ ys) e ∙ (own-append n xs ys ∙ ap (λ z. z ++ own n ys) (sym (own-else n x xs e))))
 
   pub none-append : (n : ℕ) (xs ys : List (ℕ × E)) → NoneOf n xs → NoneOf n ys → NoneOf n (xs ++ ys)
@@ -52,7 +53,8 @@ module _ {E : Type 0} where
       (s.0 ++ more, ap (λ z. z ++ more) s.1 ∙ append_assoc seen s.0 more, none-append n s.0 more s.2 free)
 
   -- of two beginnings of one history the shorter begins the longer
-  beginnings : (a ra b rb : List (ℕ × E)) → a ++ ra ≡ b ++ rb → length a ≤ length b → (mid : List (ℕ × E)) × (b ≡ a ++ mid) × (ra ≡ mid ++ rb)
+  beginnings : (a ra b rb : List (ℕ × E)) → a ++ ra ≡ b ++ rb → length a ≤ length b
+      → (mid : List (ℕ × E)) × (b ≡ a ++ mid) × (ra ≡ mid ++ rb)
   beginnings [] ra b rb e le = (b, refl, e)
   beginnings (x ∷ a) ra [] rb e le = absurd (omega arith)
   beginnings (x ∷ a) ra (y ∷ b) rb e le =
@@ -61,11 +63,13 @@ module _ {E : Type 0} where
       let q = beginnings a ra b rb tail (omega arith) in (q.0, (λ i. same i ∷ q.1 i), q.2)
 
   -- what is so past one beginning is so past a longer one
-  pub has-longer : (h a b rest : List (ℕ × E)) (n : ℕ) → HasSeen h n a → h ≡ b ++ rest → length a ≤ length b → HasSeen h n b
+  pub has-longer : (h a b rest : List (ℕ × E)) (n : ℕ) → HasSeen h n a → h ≡ b ++ rest → length a ≤ length b
+      → HasSeen h n b
   has-longer h a b rest n s e le =
       let q = beginnings a s.0 b rest (sym s.1 ∙ e) le in (rest, e, none-back n q.0 rest (subst (NoneOf n) q.2 s.2))
 
-  pub has-between : (h a b rest : List (ℕ × E)) (n : ℕ) → HasSeen h n a → h ≡ b ++ rest → length a ≤ length b → HasSeen b n a
+  pub has-between : (h a b rest : List (ℕ × E)) (n : ℕ) → HasSeen h n a → h ≡ b ++ rest → length a ≤ length b
+      → HasSeen b n a
   has-between h a b rest n s e le =
       let q = beginnings a s.0 b rest (sym s.1 ∙ e) le in (q.0, q.1, none-front n q.0 rest (subst (NoneOf n) q.2 s.2))
 
@@ -74,13 +78,15 @@ module _ {E : Type 0} where
   own-seen h seen n s =
       ap (own n) s.1 ∙ (own-append n seen s.0 ∙ (ap (λ z. own n seen ++ z) s.2 ∙ append-nil (own n seen)))
 
-  longer_by : (P : List (ℕ × E) → Type 0) (xs ys : List (ℕ × E)) → (length xs < length ys → P ys) → (length ys ≤ length xs → P xs)
+  longer_by : (P : List (ℕ × E) → Type 0) (xs ys : List (ℕ × E)) → (length xs < length ys → P ys)
+      → (length ys ≤ length xs → P xs)
       → (b : Bool) → nat_lt (length xs) (length ys) ≡ b → P (cond b ys xs)
   longer_by P xs ys up down true e = up (ltb-true (length xs) (length ys) e)
   longer_by P xs ys up down false e = down (ltb-false (length xs) (length ys) e)
 
   -- the longer of two lists has what each has where it is the longer
-  pub longer-cases : (P : List (ℕ × E) → Type 0) (xs ys : List (ℕ × E)) → (length xs < length ys → P ys) → (length ys ≤ length xs → P xs)
+  pub longer-cases : (P : List (ℕ × E) → Type 0) (xs ys : List (ℕ × E)) → (length xs < length ys → P ys)
+      → (length ys ≤ length xs → P xs)
       → P (longer xs ys)
   longer-cases P xs ys up down = longer_by P xs ys up down (nat_lt (length xs) (length ys)) refl
 

@@ -20,7 +20,8 @@ module _ {E C : Type 0} where
   }
 
   -- the history h became h', and the stepping seat has then seen l
-  pub people-step : (c : C) (h h' l : List (ℕ × E)) (vs : List (View E C)) (id : ℕ) (v : View E C) (b : Bool) → At vs id v
+  pub people-step : (c : C) (h h' l : List (ℕ × E)) (vs : List (View E C)) (id : ℕ) (v : View E C) (b : Bool)
+      → At vs id v
       → ((n : ℕ) → n ≢ v.number → NoneOf n h → NoneOf n h')
       → ((n : ℕ) (x : List (ℕ × E)) → n ≢ v.number → HasSeen h n x → HasSeen h' n x)
       → ((n : ℕ) → HasSeen h n v.seen → HasSeen h' n l)
@@ -33,10 +34,16 @@ module _ {E C : Type 0} where
             (λ j u other a. grow u.number u.seen (λ e. other (p.apart j id u v a at e)) (p.seen j u a));
         told = each-live (λ j u. u.constant ≡ Some c) vs id w (λ _. p.told id v at) (λ j u _ a. p.told j u a);
         below = each-live (λ j u. u.number < p.next) vs id w (λ _. p.below id v at) (λ j u _ a. p.below j u a);
-        apart = λ i j x y a a' e. let z = before i x a in let z' = before j y a' in p.apart i j z.0 z'.0 z.1 z'.1 (z.2 ∙ (e ∙ sym z'.2));
+        apart = λ i j x y a a' e. let z = before i x a in let z' = before j y a' in
+            p.apart i j z.0 z'.0 z.1 z'.1 (z.2 ∙ (e ∙ sym z'.2));
         made = λ n big. let small = p.below id v at in free n (λ e. omega arith) (p.made n big);
         taken = each-live (λ j u. (n : ℕ) → IsIn n u.taken → IsTaken p.next h' (set vs id w) u n) vs id w
-            (λ _ n i. let t = p.taken id v at n i in record { settled = keep n t.settled; gone = λ o. t.gone (number-before vs id v w n at refl o); below = t.below })
+            (λ _ n i. let t = p.taken id v at n i in record {
+              settled = keep n t.settled;
+              gone =
+                  λ o. t.gone (number-before vs id v w n at refl o);
+              below = t.below;
+            })
             (λ j u _ a n i. let t = p.taken j u a n i in record {
               settled = grow n u.seen (λ e. t.gone (id, v, at, sym e)) t.settled;
               gone = λ o. t.gone (number-before vs id v w n at refl o);

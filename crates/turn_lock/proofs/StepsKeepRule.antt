@@ -38,11 +38,13 @@ module _ {S E C : Type 0} (constant : S → C) (history : S → List (ℕ × E))
   not-holder : (h : List (ℕ × E)) (s : State (Option S) (View E C)) (k : IsHeld h s) (i : ℕ) (x : View E C)
       → get_elem? s.views i ≡ some x → x.holds ≡ false → k.who ≢ i
   not-holder h s k i x there off e =
-      let same : k.holder ≡ x = same-place s.views k.who i k.holder x e k.at.0 there in let on : k.holder.holds ≡ true = k.holds in absurd (cc)
+      let same : k.holder ≡ x = same-place s.views k.who i k.holder x e k.at.0 there in
+      let on : k.holder.holds ≡ true = k.holds in absurd (cc)
 
   won : (id : ℕ) (me : M) (s : State (Option S) (View E C)) (r : Rule s) (f : IsFree constant history c r.h s)
       → AtRest me → get_elem? s.views id ≡ some me.0
-      → (w : View E C) × (a : Act (Option S)) × Valid s.homes me.1 a × Rule (stepped s 0 1 id me.1 w a) × Won constant history me (w, carried_after me.1 a)
+      → (w : View E C) × (a : Act (Option S)) × Valid s.homes me.1 a × Rule (stepped s 0 1 id me.1 w a)
+      × Won constant history me (w, carried_after me.1 a)
   won id me s r f idle at =
       let x = f.story in
       let w : View E C = hold me.0 true (history x) in
@@ -82,13 +84,20 @@ module _ {S E C : Type 0} (constant : S → C) (history : S → List (ℕ × E))
   missed : (id : ℕ) (me : M) (s : State (Option S) (View E C)) → Rule s → get_elem? s.views id ≡ some me.0
       → Rule (stepped s 0 (get_or s.words 0 0) id me.1 me.0 keeps)
   missed id me s r at =
-      subst Rule (λ i. record { words = sym (set-get_or s.words 0 0) i; homes = s.homes; views = sym (set_again s.views id me.0 at) i }) r
+      subst Rule (λ i. record {
+        words = sym (set-get_or s.words 0 0) i;
+        homes = s.homes;
+        views =
+            sym (set_again s.views id me.0 at) i;
+      }) r
 
   pub allows-take : (slots id : ℕ) (me : M) → AtRest me
       → Allows Rule slots id me 0 (λ n. either (eqb n 0) 1 n) (Takes constant history (step slots 0 0 1 none) me)
   allows-take slots id me idle s r wide at small =
       let n : ℕ = get_or s.words 0 0 in
-      let P : ℕ → ℕ → Type 0 = λ m after. (w : View E C) × (a : Act (Option S)) × Valid s.homes me.1 a × Rule (stepped s 0 after id me.1 w a) × Takes constant history (step slots 0 0 1 none) me m (w, carried_after me.1 a) in
+      let P : ℕ → ℕ → Type 0 = λ m after. (w : View E C) × (a : Act (Option S)) × Valid s.homes me.1 a × Rule
+      (stepped s 0 after id me.1 w a) × Takes constant history (step slots 0 0 1 none) me m
+      (w, carried_after me.1 a) in
       dite (ℕ_discrete n 0)
       (λ hit. subst (λ m. P m (either (eqb m 0) 1 m)) (sym hit) (⊎_elim
       (λ f. let k = won id me s r f idle at in (k.0, k.1, k.2, k.3, ((λ _. k.4), λ other. absurd (other refl))))
@@ -96,7 +105,8 @@ module _ {S E C : Type 0} (constant : S → C) (history : S → List (ℕ × E))
       (λ miss. subst (λ b. P n (either b 1 n)) (sym (ne_eqb n 0 miss))
       (me.0, keeps, tt, missed id me s r at, ((λ hit. absurd (miss hit)), λ _. (refl, refl))))
 
-  pub allows-grow : (slots id : ℕ) (me : M) (x : S) (e : E) → me.1 ≡ (0, Some x) ∷ [] → me.0.holds ≡ true → me.0.is_live ≡ true
+  pub allows-grow : (slots id : ℕ) (me : M) (x : S) (e : E) → me.1 ≡ (0, Some x) ∷ [] → me.0.holds ≡ true
+      → me.0.is_live ≡ true
       → history x ≡ me.0.seen ++ (me.0.number, e) ∷ [] → length (history x) < 2 ^ 64
       → Allows Rule slots id me 1 (λ n. (n + 1) % 2 ^ 64) (Grows history (step slots 1 1 0 none) me)
   allows-grow slots id me x e hand on live is fits s r wide at small = ⊎_elim
@@ -119,8 +129,10 @@ module _ {S E C : Type 0} (constant : S → C) (history : S → List (ℕ × E))
           two = length-set s.words 1 q ∙ two;
           count = get_or-set_same s.words 1 q 0 (omega arith) ∙ whole;
           people = people-step c r.h (history x) (history x) s.views id me.0 true (at, live)
-              (λ n other free. subst (NoneOf n) more (none-append n r.h pair free (none-pair n me.0.number e (λ same. other (sym same)))))
-              (λ n y other k. subst (λ z. HasSeen z n y) more (has-more r.h pair y n (none-pair n me.0.number e (λ same. other (sym same))) k))
+              (λ n other free. subst (NoneOf n) more (none-append n r.h pair free
+              (none-pair n me.0.number e (λ same. other (sym same)))))
+              (λ n y other k. subst (λ z. HasSeen z n y) more
+              (has-more r.h pair y n (none-pair n me.0.number e (λ same. other (sym same))) k))
               (λ n _. has-all (history x) n) r.people;
           lock = inr record {
             word = get_or-set_other s.words 1 0 q 0 (λ e. omega arith) ∙ k.word;
@@ -148,7 +160,8 @@ module _ {S E C : Type 0} (constant : S → C) (history : S → List (ℕ × E))
       let was = r.people.told id me.0 (at, live) in
       let mine = k.only id me.0 at on in
       let same : constant x ≡ c = cc in
-      let people = people-step c r.h r.h me.0.seen s.views id me.0 false (at, live) (λ n _ k. k) (λ n y _ k. k) (λ n k. k) r.people in
+      let people = people-step c r.h r.h me.0.seen s.views id me.0 false (at, live) (λ n _ k. k) (λ n y _ k. k)
+      (λ n k. k) r.people in
       let long : length r.h ≡ length (history x) = ap length (sym mine.1 ∙ sym all) in (
         w,
         gives,
@@ -168,19 +181,36 @@ module _ {S E C : Type 0} (constant : S → C) (history : S → List (ℕ × E))
                 (λ j v other there. not-true v.holds (λ too. other ((k.only j v there too).0 ∙ sym mine.0)));
           };
         },
-        (ap rest hand, refl, λ zero. is-tallied c r.h (set s.views id w) id w (set-found s.views id me.0 w at, live) zero people (omega arith) zero),
+        (
+          ap rest hand,
+          refl,
+          λ zero. is-tallied c r.h (set s.views id w) id w
+              (set-found s.views id me.0 w at, live) zero people (omega arith) zero,
+        ),
       ))
       r.lock
 
   pub allows-learn : (slots id : ℕ) (me : M) → me.0.number ≡ 0 → me.0.is_live ≡ true
       → Allows Rule slots id me 1 (λ n. n) (Learns (step slots 1 0 0 none) me)
-  allows-learn slots id me zero live s r wide at small = let there : At s.views id me.0 = (at, live) in let count = r.count in (
-    me.0,
-    keeps,
-    tt,
-    subst Rule (λ i. record { words = sym (set-get_or s.words 1 0) i; homes = s.homes; views = sym (set_again s.views id me.0 at) i }) r,
-    (refl, refl, (r.people.first id me.0 there zero).met, is-tallied c r.h s.views id me.0 there zero r.people (omega arith)),
-  )
+  allows-learn slots id me zero live s r wide at small = let there : At s.views id me.0 = (at, live) in let count =
+      r.count in (
+        me.0,
+        keeps,
+        tt,
+        subst Rule (λ i. record {
+          words = sym (set-get_or s.words 1 0) i;
+          homes = s.homes;
+          views =
+              sym (set_again s.views id me.0 at) i;
+        }) r,
+        (
+          refl,
+          refl,
+          (r.people.first id me.0 there zero).met,
+          is-tallied c r.h s.views id me.0 there zero r.people
+              (omega arith),
+        ),
+      )
 
   pub allows-split : (id : ℕ) (v : View E C) → v.number ≡ 0 → v.is_live ≡ true → v.holds ≡ false
       → Splits Rule id v (view_after_split v) (view_split_off v)
@@ -207,15 +237,21 @@ module _ {S E C : Type 0} (constant : S → C) (history : S → List (ℕ × E))
               home = k.home;
               who = k.who;
               holder = k.holder;
-              at = (at_longer vs (one ∷ []) k.who k.holder (set-kept s.views id k.who w k.holder (not-holder r.h s k id v at off) k.at.0), k.at.1);
+              at = (
+                at_longer vs (one ∷ []) k.who k.holder
+                    (set-kept s.views id k.who w k.holder (not-holder r.h s k id v at off) k.at.0),
+                k.at.1,
+              );
               holds = k.holds;
               only = each-end (λ j u. u.holds ≡ true → (j ≡ k.who) × (u.seen ≡ r.h)) vs one (λ on. absurd (cc))
-                  (each-set (λ j u. u.holds ≡ true → (j ≡ k.who) × (u.seen ≡ r.h)) s.views id w (λ on. absurd (cc)) (λ j u _ there. k.only j u there));
+                  (each-set (λ j u. u.holds ≡ true → (j ≡ k.who) × (u.seen ≡ r.h)) s.views id w (λ on. absurd (cc))
+                  (λ j u _ there. k.only j u there));
             })
             r.lock;
       }
 
-  pub allows-meet : (id : ℕ) (v : View E C) (other : ℕ) (w : View E C) → v.number ≡ 0 → v.is_live ≡ true → v.holds ≡ false
+  pub allows-meet : (id : ℕ) (v : View E C) (other : ℕ) (w : View E C) → v.number ≡ 0 → v.is_live ≡ true
+      → v.holds ≡ false
       → w.is_live ≡ true → w.holds ≡ false → Joins Rule id v other w (view_met_with v w) spent
   allows-meet id v other w zero live off live' off' s r at two there' =
       let m : View E C = view_met_with v w in
@@ -233,7 +269,8 @@ module _ {S E C : Type 0} (constant : S → C) (history : S → List (ℕ × E))
               is = f.is;
               same = f.same;
               none_holds = each-set (λ j u. u.holds ≡ false) vs other spent refl
-                  (λ j u _. each-set (λ j u. u.holds ≡ false) s.views id m off (λ j u _ found. f.none_holds j u found) j u);
+                  (λ j u _. each-set (λ j u. u.holds ≡ false) s.views id m off
+                  (λ j u _ found. f.none_holds j u found) j u);
             })
             (λ k. inr record {
               word = k.word;
@@ -247,13 +284,15 @@ module _ {S E C : Type 0} (constant : S → C) (history : S → List (ℕ × E))
               );
               holds = k.holds;
               only = each-set (λ j u. u.holds ≡ true → (j ≡ k.who) × (u.seen ≡ r.h)) vs other spent (λ on. absurd (cc))
-                  (λ j u _. each-set (λ j u. u.holds ≡ true → (j ≡ k.who) × (u.seen ≡ r.h)) s.views id m (λ on. absurd (cc))
+                  (λ j u _. each-set (λ j u. u.holds ≡ true → (j ≡ k.who) × (u.seen ≡ r.h)) s.views id m
+                  (λ on. absurd (cc))
                   (λ j u _ found. k.only j u found) j u);
             })
             r.lock;
       }
 
-  pub opens : (x : S) → constant x ≡ c → history x ≡ [] → Rule (opening (0 ∷ 0 ∷ []) (Some x ∷ []) (newcomer 0 (Some c) []))
+  pub opens : (x : S) → constant x ≡ c → history x ≡ []
+      → Rule (opening (0 ∷ 0 ∷ []) (Some x ∷ []) (newcomer 0 (Some c) []))
   opens x same empty = record {
     h = [];
     two = refl;
@@ -275,7 +314,8 @@ module _ {S E C : Type 0} (constant : S → C) (history : S → List (ℕ × E))
     pub constant_is : v.constant ≡ Some (constant story)
     pub seen : history story ≡ v.seen
 
-  pub closes : (id : ℕ) (v : View E C) (ws : List ℕ) (xs : List (Option S)) → v.is_live ≡ true → v.holds ≡ false → v.number ≡ 0
+  pub closes : (id : ℕ) (v : View E C) (ws : List ℕ) (xs : List (Option S)) → v.is_live ≡ true → v.holds ≡ false
+      → v.number ≡ 0
       → v.out ≡ 0 → Final (Seen Rule id v) ws xs → Closed v xs
   closes id v ws xs live off zero none_out (s, seen, same, long, values) =
       let r = seen.0 in

@@ -23,19 +23,22 @@ module _ {E C : Type 0} where
   each-live P vs id w mine others j u a = each-set (λ i z. z.is_live ≡ true → P i z) vs id w mine
       (λ i z other there live. others i z other (there, live)) j u a.0 a.1
 
-  pub set-found : (vs : List (View E C)) (i : ℕ) (v w : View E C) → get_elem? vs i ≡ some v → get_elem? (set vs i w) i ≡ some w
+  pub set-found : (vs : List (View E C)) (i : ℕ) (v w : View E C) → get_elem? vs i ≡ some v
+      → get_elem? (set vs i w) i ≡ some w
   set-found [] i v w e = absurd (some-ne-none v (sym e))
   set-found (x ∷ xs) zero v w e = refl
   set-found (x ∷ xs) (suc i) v w e = set-found xs i v w e
 
-  pub set-kept : (vs : List (View E C)) (i j : ℕ) (w u : View E C) → j ≢ i → get_elem? vs j ≡ some u → get_elem? (set vs i w) j ≡ some u
+  pub set-kept : (vs : List (View E C)) (i j : ℕ) (w u : View E C) → j ≢ i → get_elem? vs j ≡ some u
+      → get_elem? (set vs i w) j ≡ some u
   set-kept [] i j w u n e = e
   set-kept (x ∷ xs) zero zero w u n e = absurd (n refl)
   set-kept (x ∷ xs) zero (suc j) w u n e = e
   set-kept (x ∷ xs) (suc i) zero w u n e = e
   set-kept (x ∷ xs) (suc i) (suc j) w u n e = set-kept xs i j w u (λ k. n (ap suc k)) e
 
-  pub same-place : (vs : List (View E C)) (i j : ℕ) (v w : View E C) → i ≡ j → get_elem? vs i ≡ some v → get_elem? vs j ≡ some w → v ≡ w
+  pub same-place : (vs : List (View E C)) (i j : ℕ) (v w : View E C) → i ≡ j → get_elem? vs i ≡ some v
+      → get_elem? vs j ≡ some w → v ≡ w
   same-place vs i j v w e a b = some-injective v w (sym a ∙ subst (λ k. get_elem? vs k ≡ some w) (sym e) b)
 
   pub at-end : (vs : List (View E C)) (w : View E C) (j : ℕ) (u : View E C) → get_elem? (vs ++ w ∷ []) j ≡ some u
@@ -55,7 +58,8 @@ module _ {E C : Type 0} where
   pub live-end : (P : ℕ → View E C → Type 0) (vs : List (View E C)) (w : View E C) → P (length vs) w
       → ((j : ℕ) (u : View E C) → At vs j u → P j u) → (j : ℕ) (u : View E C) → At (vs ++ w ∷ []) j u → P j u
   live-end P vs w mine others j u a =
-      each-end (λ i z. z.is_live ≡ true → P i z) vs w (λ _. mine) (λ i z there live. others i z (there, live)) j u a.0 a.1
+      each-end (λ i z. z.is_live ≡ true → P i z) vs w (λ _. mine)
+      (λ i z there live. others i z (there, live)) j u a.0 a.1
 
   -- a view that is live after the change was live at that place, with its number
   pub live-before : (vs : List (View E C)) (id : ℕ) (v w : View E C) → At vs id v → w.number ≡ v.number
@@ -68,16 +72,24 @@ module _ {E C : Type 0} where
   number-before vs id v w n at same o = let z = live-before vs id v w at same o.0 o.1 o.2 in (o.0, z.0, z.1, z.2 ∙ o.3)
 
   -- and a number that was live stays so
-  pub number-after : (vs : List (View E C)) (id : ℕ) (v w : View E C) (n : ℕ) → At vs id v → w.number ≡ v.number → w.is_live ≡ true
+  pub number-after : (vs : List (View E C)) (id : ℕ) (v w : View E C) (n : ℕ) → At vs id v → w.number ≡ v.number
+      → w.is_live ≡ true
       → IsLive vs n → IsLive (set vs id w) n
   number-after vs id v w n at same live o = dite (ℕ_discrete o.0 id)
-      (λ e. (id, w, (set-found vs id v w at.0, live), same ∙ (ap (λ (z : View E C). z.number) (same-place vs id o.0 v o.1 (sym e) at.0 o.2.0) ∙ o.3)))
+      (λ e. (
+        id,
+        w,
+        (set-found vs id v w at.0, live),
+        same ∙
+            (ap (λ (z : View E C). z.number) (same-place vs id o.0 v o.1 (sym e) at.0 o.2.0) ∙ o.3),
+      ))
       (λ other. (o.0, o.1, (set-kept vs id o.0 w o.1 other o.2.0, o.2.1), o.3))
 
   pub count-set : (vs : List (View E C)) (i : ℕ) (v w : View E C) → get_elem? vs i ≡ some v
       → live_count (set vs i w) + bit v.is_live ≡ live_count vs + bit w.is_live
   count-set [] i v w e = absurd (some-ne-none v (sym e))
-  count-set (x ∷ xs) zero v w e = let s : bit x.is_live ≡ bit v.is_live = ap (λ (z : View E C). bit z.is_live) (some-injective x v e) in omega arith
+  count-set (x ∷ xs) zero v w e = let s : bit x.is_live ≡ bit v.is_live =
+      ap (λ (z : View E C). bit z.is_live) (some-injective x v e) in omega arith
   count-set (x ∷ xs) (suc i) v w e = let s = count-set xs i v w e in omega arith
 
   pub count-end : (vs : List (View E C)) (w : View E C) → live_count (vs ++ w ∷ []) ≡ live_count vs + bit w.is_live
@@ -86,7 +98,8 @@ module _ {E C : Type 0} where
 
   count-one : (vs : List (View E C)) (i : ℕ) (v : View E C) → At vs i v → 1 ≤ live_count vs
   count-one [] i v a = absurd (some-ne-none v (sym a.0))
-  count-one (x ∷ xs) zero v a = let s : bit x.is_live ≡ 1 = ap (λ (z : View E C). bit z.is_live) (some-injective x v a.0) ∙ ap bit a.1 in omega arith
+  count-one (x ∷ xs) zero v a = let s : bit x.is_live ≡ 1 =
+      ap (λ (z : View E C). bit z.is_live) (some-injective x v a.0) ∙ ap bit a.1 in omega arith
   count-one (x ∷ xs) (suc i) v a = let s = count-one xs i v a in omega arith
 
   pub count-two : (vs : List (View E C)) (i j : ℕ) (v w : View E C) → At vs i v → At vs j w → i ≢ j → 2 ≤ live_count vs

@@ -4,8 +4,8 @@ use Rattle.atomic_table.specs.Seated.{TableId}
 use Rattle.turn_lock.specs.Pairs.{NoneOf, HasSeen, IsGrown, IsIn, longer, total}
 
 -- a seat: the lock that it is of, its number, the story's constant and the beginning of the history that it has seen;
--- of the first seat besides: the number that its next split gives away, how many split seats are out, and the numbers of
--- those that it has taken in, the last first
+-- of the first seat besides: the number that its next split gives away, how many split seats are out, and the numbers
+-- of those that it has taken in, the last first
 pub record Sight (E C : Type 0) : Type 0 where
   pub turn : TableId
   pub number : ℕ

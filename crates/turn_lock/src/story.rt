@@ -2,10 +2,10 @@
 ghost use Rattle.std.specs.Prelude.{◌≡◌, ◌⊎◌, ◌++◌, ◌∷◌, [], ℕ, List, length};
 
 /// A value whose calls stand in a history: the list of the pairs that its plays made, each with the
-/// number of the seat that asked for it and an entry. A turn lock lets one thread at a time play it.
-/// It has three meanings for contracts: its constant, which no play changes; its history; and the
-/// rule of a play, `plays`, between the constant, the history and the call before, and the history,
-/// the call and the reply after.
+/// number of the seat that asked for it and an entry. A turn lock lets one thread at a time play
+/// it. It has three meanings for contracts: its constant, which no play changes; its history; and
+/// the rule of a play, `plays`, between the constant, the history and the call before, and the
+/// history, the call and the reply after.
 pub trait Story {
     /// What no play changes.
     type Constant;

@@ -49,8 +49,8 @@ impl<S: Story> Model for Turn<S> {
 }
 
 impl<S: Story> Turn<S> {
-    /// A lock around `story`, whose history is empty, and the seat of number 0. `NoMemory` drops the
-    /// story.
+    /// A lock around `story`, whose history is empty, and the seat of number 0. `NoMemory` drops
+    /// the story.
     pub fn new(alloc: Global, story: S) -> Result<(Turn<S>, Seat<S>), NoMemory>
     where
         S: Drop,

@@ -1,5 +1,5 @@
-//! What a seat knows, the rule of the lock's table, and the steps on it. All of it is for contracts:
-//! no value of these types is made.
+//! What a seat knows, the rule of the lock's table, and the steps on it. All of it is for
+//! contracts: no value of these types is made.
 
 use crate::story::Story;
 use atomic_table::{Join, Play, Split, TableRule};

@@ -10,5 +10,6 @@ swap-requires g c =
       search rules,
       search rules,
       allows-free g.S.Story.constant g.S.Story.history _ _ _ _ x (ap (λ m. m.1) e ∙ k.hands) (ap (λ m. m.0.holds) e)
-          (ap (λ m. m.0.is_live) e ∙ k.live) (ap (λ m. m.0.constant) e ∙ c.requires.ready.2) (sym (ap (λ m. m.0.seen) e)) k.fits,
+          (ap (λ m. m.0.is_live) e ∙ k.live) (ap (λ m. m.0.constant) e ∙ c.requires.ready.2)
+          (sym (ap (λ m. m.0.seen) e)) k.fits,
     )

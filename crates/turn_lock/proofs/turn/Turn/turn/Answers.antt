@@ -6,13 +6,19 @@ use Rattle.turn_lock.proofs.turn.Turn.turn.Goals as goal
 
 pub returns-clause-legal : goal.returns-clause-legal
 returns-clause-legal g c =
+    let story = g.S.Story in
     let w = c.take.ensures.won in
     let p = c.play_held-reply.ensures.played in
+    let call' = c.play_held-reply.new.call in
+    let r = c.play_held-reply.result in
     let same : p.0 ≡ w.story = search rules in
-    let played = subst (λ x. Played g.S.Story.constant g.S.Story.history g.S.Story.number g.S.Story.plays x c.args.call.now p.1 c.play_held-reply.new.call c.play_held-reply.result.0 c.play_held-reply.result.1) same p.4 in
-    subst (λ s. IsLegal g.S.Story.plays s c.args.call.now c.free.new.seat.me.0.seen c.play_held-reply.new.call c.play_held-reply.result.0) c.seat.view_is
-    (legal g.S.Story.constant g.S.Story.history g.S.Story.number g.S.Story.plays _ _ c.seat.inside.inner.table_id p.1 _ _ _ _ _ w played
-    (c.requires.number ∙ sym (ap (λ s. s.number) c.seat.view_is)) (ap (λ m. m.0.seen) (c.free.ensures.freed p.1 p.3)))
+    let played = subst
+    (λ x. Played story.constant story.history story.number story.plays x c.args.call.now p.1 call' r.0 r.1) same p.4 in
+    subst (λ s. IsLegal story.plays s c.args.call.now c.free.new.seat.me.0.seen call' r.0) c.seat.view_is
+    (legal story.constant story.history story.number story.plays
+    _ _ c.seat.inside.inner.table_id p.1 _ _ _ _ _ w played
+    (c.requires.number ∙ sym (ap (λ s. s.number) c.seat.view_is))
+    (ap (λ m. m.0.seen) (c.free.ensures.freed p.1 p.3)))
 
 pub returns-clause-tallied : goal.returns-clause-tallied
 returns-clause-tallied g c zero = c.free.ensures.tallied zero _
