@@ -4,3 +4,4 @@ pub mod Machine
 pub mod Kept
 pub mod KeyCalls
 pub mod Stands
+pub mod KeyboardKept

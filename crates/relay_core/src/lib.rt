@@ -3,6 +3,7 @@
 
 mod holding;
 mod keyboard;
+mod laws;
 mod machine;
 mod methods;
 mod peers;
@@ -13,5 +14,6 @@ mod reserve;
 mod tests;
 
 pub use kbd_grab::Route;
+pub use laws::keyboard_law;
 pub use relay::Relay;
 pub use seat_objects::Post;
