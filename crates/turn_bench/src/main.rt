@@ -45,8 +45,7 @@ fn race<R: Threads + Wait + Copy + Send + Sync + 'static>(
 fn main(rt: HostRuntime) -> io::Result<()> {
     let mut words = env::args(&rt)?;
     let _program = words.next();
-    let (Some(lock), Some(threads), Some(turns)) = (words.next(), words.next(), words.next())
-    else {
+    let (Some(lock), Some(threads), Some(turns)) = (words.next(), words.next(), words.next()) else {
         return match race(&rt, rt.alloc(), Lock::Turn, 4, 1000) {
             Ok(sum) => println!(rt; "4 threads made {sum} turns"),
             Err(NoMemory) => println!(rt; "no memory"),

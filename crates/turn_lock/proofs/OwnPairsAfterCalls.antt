@@ -1,6 +1,6 @@
 -- What a turn and a meeting do to each number's own pairs, and to how many there are
 use Rattle.std.proofs.Common.{◌≡◌, ◌≢◌, ◌⊎◌, ℕ, ◌+◌, List, [], ◌∷◌, ◌++◌, length, sym, refl, ap, ◌∙◌, subst, inl, inr, ⊎_elim, arith, append-nil}
-use Rattle.turn_lock.specs.Pairs.{own, NoneOf, HasSeen, IsGrown, IsIn, total}
+use Rattle.turn_lock.specs.Pairs.{own, NoneOf, IsGrown, IsIn, total}
 use Rattle.turn_lock.specs.Sights.{Sight, IsMeeting, IsLegal}
 use Rattle.turn_lock.proofs.PairsOfNumbers.{own-append, own-here, own-else, own-seen}
 
