@@ -159,6 +159,7 @@ impl Model for LineReader {
 }
 
 impl LineReader {
+    ghost use Rattle.std.specs.Prelude.{true, false};
     ghost use Rattle.std.specs.Borrow.{sem};
     ghost use Rattle.std.specs.Io.BufRead.{Rests};
     ghost use Rattle.wio_core.specs.LineAnswers.{Answers, HasFaultCause};
@@ -175,6 +176,19 @@ impl LineReader {
             room: limit,
             settled: None,
         })
+    }
+
+    /// Whether the next call has to read before it can give a whole line: no line feed and no line that is too long stands among
+    /// the bytes that are held. It reads nothing itself. (no memory)
+    pub fn reads_next(&self) -> bool
+        ensures open { result ≡ true → IsOpen self.now.held }
+        ensures whole { result ≡ false → ¬ IsOpen self.now.held }
+    {
+        match look(&self.window.held()[self.lent..], 0) {
+            Front::Line(_) => false,
+            Front::Long => false,
+            Front::Open => true,
+        }
     }
 
     /// The next line of the bytes that are held and of those that the source has left. It reads while
