@@ -1,0 +1,16 @@
+pub mod LivesBefore
+pub mod DeadAfterBadSize
+pub mod UnreadLists
+pub mod UnreadPlaces
+pub mod FirstSteps
+pub mod JournalGrows
+pub mod StaysWaiting
+pub mod StepAnswers
+pub mod BytesGoOn
+pub mod JoinAnswers
+pub mod TakeAnswers
+pub mod SharedSteps
+pub mod BytesLoop
+pub mod SessionHistory
+pub mod PrintedStepsAlone
+pub mod TextsSince

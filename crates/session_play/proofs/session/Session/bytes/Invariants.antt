@@ -1,0 +1,16 @@
+use Rattle.std.proofs.Common.{◌≡◌, length}
+use Rattle.session_play.specs.Played.{bytes_played}
+use Rattle.session_play.specs.Playing.{IsWatched}
+use Rattle.session_play.proofs.session.Session.bytes.Given as goal
+
+-- what is left of the piece leads to the same
+abbrev pub invariant-loop-rest : goal.invariant-loop-rest
+invariant-loop-rest g l = record {
+  limits : l.self.limits ≡ l.fn.self.limits;
+  left : bytes_played l.fn.self.limits l.number l.rest l.self.play ≡ bytes_played l.fn.self.limits l.number l.fn.piece l.fn.self.play;
+  watched : IsWatched g.W.Watch.may_follow l.fn.self.limits.store l.fn.self.play.journal l.fn.watch l.self.play.journal l.watch;
+}
+
+-- each message leaves fewer bytes
+abbrev pub decreases-loop-rest : goal.decreases-loop-rest
+decreases-loop-rest g l = length l.rest

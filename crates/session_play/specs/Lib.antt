@@ -1,0 +1,5 @@
+pub mod Steps
+pub mod Played
+pub mod Unread
+pub mod Playing
+pub mod Laws

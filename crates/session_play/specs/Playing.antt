@@ -1,0 +1,106 @@
+-- A session as far as it is played.
+use Rattle.std.specs.Prelude.{◌≡◌, ℕ, ◌==◌, List, [], ◌∷◌, ◌++◌, length, Bool, true, false, string_bytes, map, Option, Some, None, Result, Ok, Err, String}
+use Rattle.std.specs.List.{list_any}
+use Rattle.std.specs.Global.{Global}
+use Rattle.session_text.specs.declared.limits.Limits.{Limits}
+use Rattle.session_text.specs.declared.step.Step.{Step}
+use Rattle.session_text.specs.declared.step.Step.TheVariants as steps
+use Rattle.broker_model.specs.declared.journal.Entry.{Entry}
+use Rattle.broker_core.specs.Broker.{kept_in}
+use Rattle.broker_core.specs.declared.taking.Standing.TheVariants.{Alive}
+use Rattle.broker_core.specs.Taking.{standing_of}
+use Rattle.broker_core.specs.Taking.{lives}
+use Rattle.seat_objects.specs.Reached.{Reached}
+use Rattle.broker_core.specs.Watched.{Watched, watched_since}
+use Rattle.seat_printer.specs.Transcribed.{journal_text}
+use Rattle.session_play.specs.declared.session.Stop.{Stop}
+use Rattle.session_play.specs.declared.session.Stop.TheVariants as stops
+use Rattle.session_play.specs.declared.player.PlayEnd.{PlayEnd}
+use Rattle.session_play.specs.declared.player.PlayEnd.TheVariants as ends
+use Rattle.session_play.specs.declared.unread.Found.{Found}
+use Rattle.session_play.specs.Played.{Waiting, Play, Played, unread_of, with_unread}
+use Rattle.session_play.specs.Unread.{Finds}
+
+-- a session that goes on: what was allowed, and what was played so far
+pub record Ongoing : Type 0 where
+  pub limits : Limits
+  pub play : Play
+
+-- what a player's callers see: what was allowed, what was played so far, whether nothing more can be played, and why
+pub record Playing : Type 0 where
+  pub limits : Limits
+  pub play : Play
+  pub is_spent : Bool
+  pub stopped : Option Stop
+
+-- there are unread bytes of the peer q
+abbrev pub is_waiting : ℕ → List Waiting → Bool
+is_waiting q unread = list_any (λ w. w.number == q) unread
+
+-- each live peer has its unread bytes
+abbrev pub AreWaiting : List Entry → List Waiting → Type 0
+AreWaiting journal unread = (q : ℕ) → lives journal q ≡ true → is_waiting q unread ≡ true
+
+-- the peer of the step is alive, if it is a peer's
+abbrev pub IsThere : Step → List Entry → Type 0
+IsThere (steps.Peer q step) journal = (standing_of journal q ≡ Alive) × (lives journal q ≡ true)
+IsThere _ journal = Unit {0}
+
+-- the journal has these entries more, the newest first
+pub record IsMore (before after : List Entry) : Type 0 where
+  pub more : List Entry
+  pub is : after ≡ more ++ before
+
+-- who watched was told of each entry that the journal has more, and of nothing else
+pub record IsWatched {W : Type 0} (may_follow : W → Watched → W → Type 0) (store : ℕ) (before : List Entry) (watch : W) (after : List Entry) (watch_after : W) : Type 0 where
+  pub grew : IsMore before after
+  pub told : Reached may_follow watch (watched_since store (length before) after) watch_after
+
+-- It was played to where the lines lead. Where the journal was full, the journal is that before the step that it was full for. Where memory was short, what
+-- was played is a front of it.
+abbrev pub IsPlayed : Played → Result (Unit {0}) Stop → Play → Type 0
+IsPlayed p (Ok done) after = (p.is_full ≡ false) × (after ≡ p.play)
+IsPlayed p (Err (stops.Full kept)) after = (p.is_full ≡ true) × (kept ≡ kept_in p.play.journal) × (after.journal ≡ p.play.journal)
+IsPlayed p (Err stops.NoMemory) after = IsMore after.journal p.play.journal
+
+-- what was found in a piece behind the unread bytes of the peer q, which are others from now on
+pub record IsRead (before : Ongoing) (q : ℕ) (piece : List ℕ) (found : Found) (after : Ongoing) : Type 0 where
+  pub left : List ℕ
+  pub finds : Finds q (unread_of before.play q ++ piece) piece found left
+  pub unread : after.play.unread ≡ with_unread q left before.play.unread
+
+-- the text is what the transcript has more
+abbrev pub IsWritten : ℕ → Play → Play → String Global → Type 0
+IsWritten store before after text = journal_text store after.journal ≡ journal_text store before.journal ++ string_bytes text
+
+-- the text is a front of what the transcript has more
+pub record IsFront (store : ℕ) (before after : Play) (text : String Global) : Type 0 where
+  pub rest : List ℕ
+  pub is : journal_text store after.journal ≡ journal_text store before.journal ++ (string_bytes text ++ rest)
+
+-- A line met a journal that was full for a step: how much it holds, and what was written before the step. Where memory was short, a front of the line's steps
+-- was played, and a front of that is written.
+abbrev pub IsStopped : ℕ → Played → Play → Play → PlayEnd → Type 0
+IsStopped store p before after (ends.JournalFull kept text) =
+    (p.is_full ≡ true) × (kept ≡ kept_in p.play.journal) × IsWritten store before p.play text × (after.journal ≡ p.play.journal)
+IsStopped store p before after (ends.NoMemory text) = IsMore after.journal p.play.journal × IsFront store before after text
+
+-- why nothing more is played
+abbrev pub stop_of : PlayEnd → Stop
+stop_of (ends.JournalFull kept text) = stops.Full kept
+stop_of (ends.NoMemory text) = stops.NoMemory
+
+-- how a line ends, with its text
+abbrev pub end_with : Stop → String Global → PlayEnd
+end_with (stops.Full kept) text = ends.JournalFull kept text
+end_with stops.NoMemory text = ends.NoMemory text
+
+-- the text that comes with an error
+abbrev pub text_of : PlayEnd → List ℕ
+text_of (ends.JournalFull kept text) = string_bytes text
+text_of (ends.NoMemory text) = string_bytes text
+
+-- the same answer again, with an empty text
+abbrev pub IsAgain : Stop → Result (String Global) PlayEnd → Type 0
+IsAgain stop (Ok text) = ⊥
+IsAgain stop (Err e) = (stop_of e ≡ stop) × (text_of e ≡ [])

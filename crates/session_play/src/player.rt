@@ -1,0 +1,152 @@
+// A session that is played line by line.
+ghost use Rattle.std.specs.Prelude.{◌≡◌};
+ghost use Rattle.session_play.specs.Playing.{end_with};
+
+use crate::session::{Session, Stop};
+use broker_core::{Journal, Kept, Watch};
+use seat_printer::Printer;
+use session_text::{Limits, SessionLine};
+use std::alloc::Global;
+use std::marker::Model;
+use wio_core::NoMemory;
+
+/// Where a session's line couldn't be played to its end. The text is what was written before.
+#[derive(Debug, Drop)]
+pub enum PlayEnd {
+    /// The journal is full for a step: so much it holds.
+    JournalFull(Kept, String),
+    /// There was no memory.
+    NoMemory(String),
+}
+
+/// Plays a session line by line. After an error it plays nothing more, and its journal stays what was played.
+///
+/// In contracts it is its limits, what was played so far, and whether and why an error came.
+#[derive(Drop)]
+pub struct Player {
+    alloc: Global,
+    session: Session,
+    stopped: Option<Stop>,
+}
+
+impl Model for Player {
+    ghost use Rattle.std.specs.Prelude.{is_some};
+    ghost use Rattle.session_play.specs.Playing.{Playing};
+
+    ghost Value = { Playing };
+
+    ghost view = { λ p. record { limits = p.session.limits; play = p.session.play; is_spent = is_some p.stopped; stopped = p.stopped } };
+}
+
+// How a line ends, with its text.
+fn ended(stop: Stop, text: String) -> PlayEnd
+    ensures { result ≡ end_with stop text }
+{
+    match stop {
+        Stop::Full(kept) => PlayEnd::JournalFull(kept, text),
+        Stop::NoMemory => PlayEnd::NoMemory(text),
+    }
+}
+
+impl Player {
+    ghost use Rattle.std.specs.Prelude.{◌≡◌, [], length, false, true, Some, None, Err, IfOk, IfErr, IfSome, OnOk, OnErr};
+    ghost use Rattle.session_text.specs.Steps.{IsLimits, IsSessionLine};
+    ghost use Rattle.broker_model.specs.Settle.{history, outer};
+    ghost use Rattle.session_play.specs.Played.{line_played};
+    ghost use Rattle.session_play.specs.Playing.{IsPlayed, IsWatched, IsMore, IsWritten, IsStopped, IsAgain, stop_of};
+
+    /// Nobody joined yet. Asks for limits in their ranges. `NoMemory` is its one error.
+    pub fn new(alloc: Global, limits: Limits) -> Result<Player, NoMemory>
+        requires limits { IsLimits limits }
+        ensures new { IfOk result (λ p. p ≡ record { limits = limits; play = record { journal = []; unread = [] }; is_spent = false; stopped = None }) }
+    {
+        Ok(Player {
+            alloc,
+            session: Session::new(alloc, limits)?,
+            stopped: None,
+        })
+    }
+
+    /// Plays a line, and tells who watches of each entry that it makes.
+    ///
+    /// `Full` comes where the journal is full for a step of the line, before which it stopped. `NoMemory` may come at any time, and then a front of the line's
+    /// steps was played. After an error each line answers the same, and nothing is played.
+    pub fn line_watched<W: Watch>(&mut self, line: &SessionLine, watch: &mut W) -> Result<(), Stop>
+        requires valid { IsSessionLine line.now }
+        ensures played { self.old.is_spent ≡ false → IsPlayed (line_played self.old.limits line.now self.old.play) result self.new.play }
+        ensures ok { OnOk result (self.new ≡ record self.old { play = self.new.play }) }
+        ensures stopped { IfErr result (λ stop. self.new.stopped ≡ Some stop) }
+        ensures spent { OnErr result (self.new.is_spent ≡ true) }
+        ensures again { IfSome self.old.stopped (λ stop. result ≡ Err stop) }
+        ensures stays { self.old.is_spent ≡ true → self.new ≡ self.old }
+        ensures limits { self.new.limits ≡ self.old.limits }
+        ensures watched { IsWatched W.may_follow self.old.limits.store self.old.play.journal watch.old self.new.play.journal watch.new }
+    {
+        if let Some(stop) = self.stopped {
+            return Err(stop);
+        }
+        let played = self.session.line(line, watch);
+        if let Err(stop) = played {
+            self.stopped = Some(stop);
+        }
+        played
+    }
+
+    // A line, and its part of the transcript if there was memory for it.
+    fn printed(&mut self, line: &SessionLine) -> (Result<(), Stop>, Option<String>)
+        requires valid { IsSessionLine line.now }
+        ensures played { self.old.is_spent ≡ false → IsPlayed (line_played self.old.limits line.now self.old.play) result.0 self.new.play }
+        ensures ok { OnOk result.0 (self.new ≡ record self.old { play = self.new.play }) }
+        ensures stopped { IfErr result.0 (λ stop. self.new.stopped ≡ Some stop) }
+        ensures spent { OnErr result.0 (self.new.is_spent ≡ true) }
+        ensures limits { self.new.limits ≡ self.old.limits }
+        ensures grew { IsMore self.old.play.journal self.new.play.journal }
+        ensures text { IfSome result.1 (IsWritten self.old.limits.store self.old.play self.new.play) }
+    {
+        let mut printer = Printer::new(self.alloc);
+        let played = self.line_watched(line, &mut printer);
+        (played, printer.finish())
+    }
+
+    /// Plays a line, and answers its part of the transcript.
+    ///
+    /// `JournalFull` comes where the journal is full for a step of the line, before which it stopped. `NoMemory` may come at any time, and then the text is a
+    /// front of what was played. After an error each line answers the same with an empty text, and nothing is played.
+    pub fn line(&mut self, line: &SessionLine) -> Result<String, PlayEnd>
+        requires valid { IsSessionLine line.now }
+        ensures ok { self.old.is_spent ≡ false → IfOk result (λ text. let p = line_played self.old.limits line.now self.old.play in (p.is_full ≡ false) × (self.new ≡ record self.old { play = p.play }) × IsWritten self.old.limits.store self.old.play p.play text) }
+        ensures full { self.old.is_spent ≡ false → IfErr result (IsStopped self.old.limits.store (line_played self.old.limits line.now self.old.play) self.old.play self.new.play) }
+        ensures stopped { IfErr result (λ e. self.new.stopped ≡ Some (stop_of e)) }
+        ensures spent { OnErr result (self.new.is_spent ≡ true) }
+        ensures again { IfSome self.old.stopped (λ stop. IsAgain stop result) }
+        ensures stays { self.old.is_spent ≡ true → self.new ≡ self.old }
+        ensures limits { self.new.limits ≡ self.old.limits }
+    {
+        if let Some(stop) = self.stopped {
+            return Err(ended(stop, String::new(self.alloc)));
+        }
+        match self.printed(line) {
+            (Ok(()), Some(text)) => Ok(text),
+            (Err(stop), Some(text)) => Err(ended(stop, text)),
+            (_, None) => {
+                self.stopped = Some(Stop::NoMemory);
+                Err(PlayEnd::NoMemory(String::new(self.alloc)))
+            }
+        }
+    }
+
+    /// How many entries the journal has, also after an error.
+    pub fn entries(&self) -> u32
+        ensures number { result ≡ length self.now.play.journal }
+    {
+        self.session.journal().len()
+    }
+
+    /// The journal that the lines led to, also after an error. It is the history of its outer steps.
+    pub fn journal(&self) -> &Journal
+        ensures entries { result.now.entries ≡ self.now.play.journal }
+        ensures history { history self.now.limits.store (outer self.now.play.journal) ≡ self.now.play.journal }
+    {
+        self.session.journal()
+    }
+}

@@ -1,0 +1,195 @@
+// The lines of a session that are one step each, played through the shared state.
+use crate::unread::{Unread, forget_ended, lives};
+use broker_core::{JoinRefusal, Journal, Kept, Refused, Shared, Took, Watch};
+use relay_model::Role;
+use session_text::{Limits, PeerStep, SessionLine, Step};
+use std::alloc::{AllocError, Global};
+use std::marker::Model;
+use wio_core::NoMemory;
+use wl_wire::Assembler;
+
+/// Why a session isn't played further.
+#[derive(Clone, Copy, Debug, PartialEq, Eq)]
+pub enum Stop {
+    /// The journal is full for a step: so much it holds.
+    Full(Kept),
+    /// There was no memory.
+    NoMemory,
+}
+
+impl From<NoMemory> for Stop {
+    ghost use Rattle.std.specs.Prelude.{◌≡◌};
+    ghost use Rattle.session_play.specs.declared.session.Stop.TheVariants as stops;
+
+    ghost from_gives = { λ _ e. e ≡ stops.NoMemory };
+
+    fn from(_: NoMemory) -> Self {
+        Stop::NoMemory
+    }
+}
+
+impl From<AllocError> for Stop {
+    ghost use Rattle.std.specs.Prelude.{◌≡◌};
+    ghost use Rattle.session_play.specs.declared.session.Stop.TheVariants as stops;
+
+    ghost from_gives = { λ _ e. e ≡ stops.NoMemory };
+
+    fn from(_: AllocError) -> Self {
+        Stop::NoMemory
+    }
+}
+
+// A session that goes on. In contracts it is its limits and what was played so far.
+#[derive(Drop)]
+pub(crate) struct Session {
+    pub alloc: Global,
+    pub shared: Shared,
+    // Of each live peer, in the order in which they joined.
+    pub unread: Vec<Unread>,
+}
+
+impl Model for Session {
+    ghost use Rattle.std.specs.Prelude.{map};
+    ghost use Rattle.session_play.specs.Unread.{waiting};
+    ghost use Rattle.session_play.specs.Playing.{Ongoing, AreWaiting};
+
+    ghost Value = { Ongoing };
+
+    ghost view = { λ s. record { limits = s.shared.limits; play = record { journal = s.shared.journal; unread = map waiting s.unread.items } } };
+
+    ghost invariant = { λ s. AreWaiting s.shared.journal (map waiting s.unread.items) };
+}
+
+impl Session {
+    ghost use Rattle.std.specs.Prelude.{◌≡◌, ◌≤◌, [], IfOk, true, if◌then◌else◌, Ok};
+    ghost use Rattle.relay_model.specs.declared.act.EndCause.TheVariants.{Gone};
+    ghost use Rattle.session_text.specs.declared.step.Step.TheVariants as steps;
+    ghost use Rattle.session_text.specs.Steps.{IsLimits, IsStep, IsSessionLine};
+    ghost use Rattle.broker_model.specs.declared.journal.Entry.TheVariants as entries;
+    ghost use Rattle.broker_model.specs.Ids.{peer_at};
+    ghost use Rattle.broker_model.specs.Resolve.{past_of};
+    ghost use Rattle.broker_model.specs.Settle.{history, outer};
+    ghost use Rattle.broker_core.specs.Broker.{entry_of, IsSaid};
+    ghost use Rattle.broker_core.specs.declared.taking.Standing.TheVariants.{Alive};
+    ghost use Rattle.broker_core.specs.Taking.{standing_of};
+    ghost use Rattle.broker_core.specs.Taking.{lives};
+    ghost use Rattle.session_play.specs.Played.{went, step_played, join_played, take_played, line_played};
+    ghost use Rattle.session_play.specs.Playing.{IsPlayed, IsWatched, IsThere};
+
+    /// Nobody joined yet. `NoMemory` is its one error.
+    pub(crate) fn new(alloc: Global, limits: Limits) -> Result<Session, NoMemory>
+        requires limits { IsLimits limits }
+        ensures new { IfOk result (λ s. s ≡ record { limits = limits; play = record { journal = []; unread = [] } }) }
+    {
+        Ok(Session {
+            alloc,
+            shared: Shared::new(alloc, limits)?,
+            unread: Vec::new(alloc),
+        })
+    }
+
+    /// Whether the peer with the number joined and is alive.
+    pub(crate) fn lives(&self, number: u32) -> bool
+        ensures value { result ≡ lives self.now.play.journal number }
+        ensures alive { result ≡ true → standing_of self.now.play.journal number ≡ Alive }
+    {
+        lives(&self.shared, number)
+    }
+
+    /// The journal.
+    pub(crate) fn journal(&self) -> &Journal
+        ensures entries { result.now.entries ≡ self.now.play.journal }
+        ensures history { history self.now.limits.store (outer self.now.play.journal) ≡ self.now.play.journal }
+    {
+        self.shared.journal()
+    }
+
+    /// A step of a live peer or of the shell.
+    pub(crate) fn step<W: Watch>(&mut self, step: &Step, watch: &mut W) -> Result<(), Stop>
+        requires step { IsStep step.now }
+        requires said { IsSaid step.now }
+        requires there { IsThere step.now self.old.play.journal }
+        ensures limits { self.new.limits ≡ self.old.limits }
+        ensures played { IsPlayed (step_played self.old.limits (entry_of step.now) self.old.play) result self.new.play }
+        ensures watched { IsWatched W.may_follow self.old.limits.store self.old.play.journal watch.old self.new.play.journal watch.new }
+    {
+        match self.shared.apply_watched(step, watch) {
+            Ok(_) => {
+                forget_ended(&self.shared, &mut self.unread);
+                Ok(())
+            }
+            Err(Refused::JournalFull(kept)) => Err(Stop::Full(kept)),
+            Err(Refused::NoMemory) => Err(Stop::NoMemory),
+            Err(Refused::NoPeer | Refused::Ended(_)) => unreachable!(),
+        }
+    }
+
+    /// A peer joins, unless so many are alive.
+    pub(crate) fn join<W: Watch>(&mut self, role: Role, watch: &mut W) -> Result<(), Stop>
+        ensures limits { self.new.limits ≡ self.old.limits }
+        ensures played { IsPlayed (join_played self.old.limits (entries.Join role) self.old.play) result self.new.play }
+        ensures watched { IsWatched W.may_follow self.old.limits.store self.old.play.journal watch.old self.new.play.journal watch.new }
+    {
+        let assembler = Assembler::new(self.alloc)?;
+        self.unread.reserve(1)?;
+        match self.shared.join_watched(role, watch) {
+            Ok(number) => {
+                let _ = self.unread.push(Unread { number, assembler });
+                forget_ended(&self.shared, &mut self.unread);
+                Ok(())
+            }
+            Err(JoinRefusal::TooManyPeers(_)) => Ok(()),
+            Err(JoinRefusal::JournalFull(kept)) => Err(Stop::Full(kept)),
+            Err(JoinRefusal::NoMemory) => Err(Stop::NoMemory),
+        }
+    }
+
+    /// The link of a peer ends, if it is alive.
+    pub(crate) fn gone<W: Watch>(&mut self, number: u32, watch: &mut W) -> Result<(), Stop>
+        ensures limits { self.new.limits ≡ self.old.limits }
+        ensures played { IsPlayed (if lives self.old.play.journal number then step_played self.old.limits (entries.End number Gone) self.old.play else went self.old.play) result self.new.play }
+        ensures watched { IsWatched W.may_follow self.old.limits.store self.old.play.journal watch.old self.new.play.journal watch.new }
+    {
+        if !self.lives(number) {
+            return Ok(());
+        }
+        self.step(&Step::Peer(number, PeerStep::Gone), watch)
+    }
+
+    /// The first bytes that are stored for a peer are taken.
+    pub(crate) fn take<W: Watch>(&mut self, number: u32, most: u32, watch: &mut W) -> Result<(), Stop>
+        requires some { 1 ≤ most }
+        requires piece { most ≤ 4096 }
+        ensures limits { self.new.limits ≡ self.old.limits }
+        ensures played { IsPlayed (take_played self.old.limits number most self.old.play (peer_at (past_of self.old.play.journal) number)) result self.new.play }
+        ensures watched { IsWatched W.may_follow self.old.limits.store self.old.play.journal watch.old self.new.play.journal watch.new }
+    {
+        let mut bytes = [0u8; 4096];
+        let mut tokens = [0u32; 256];
+        match self.shared.take_watched(number, &mut bytes[..most as usize], &mut tokens, watch) {
+            Took::Bytes(..) => {
+                forget_ended(&self.shared, &mut self.unread);
+                Ok(())
+            }
+            Took::NoPeer | Took::Closed | Took::Empty => Ok(()),
+            Took::JournalFull(kept) => Err(Stop::Full(kept)),
+            Took::NoMemory => Err(Stop::NoMemory),
+        }
+    }
+
+    /// One line.
+    pub(crate) fn line<W: Watch>(&mut self, line: &SessionLine, watch: &mut W) -> Result<(), Stop>
+        requires valid { IsSessionLine line.now }
+        ensures limits { self.new.limits ≡ self.old.limits }
+        ensures played { IsPlayed (line_played self.old.limits line.now self.old.play) result self.new.play }
+        ensures watched { IsWatched W.may_follow self.old.limits.store self.old.play.journal watch.old self.new.play.journal watch.new }
+    {
+        match line {
+            SessionLine::Join(role) => self.join(*role, watch),
+            SessionLine::Bytes(number, piece) => self.bytes(*number, piece.as_slice(), watch),
+            SessionLine::Gone(number) => self.gone(*number, watch),
+            SessionLine::Take(number, most) => self.take(*number, *most, watch),
+            SessionLine::Shell(step) => self.step(&Step::Shell(*step), watch),
+        }
+    }
+}
