@@ -1,9 +1,9 @@
 -- Bytes of a peer, one step after the other.
 use Rattle.std.proofs.Common.{◌≡◌, ℕ, List, [], ◌∷◌, ◌++◌, drop, Bool, true, false, Result, Ok, Err, refl, sym, ap, ap₂, subst, ◌∙◌}
 use Rattle.std.specs.Prelude.{if◌then◌else◌}
-use Rattle.session_text.specs.declared.limits.Limits.{Limits}
-use Rattle.session_text.specs.declared.step.PeerStep.{PeerStep}
-use Rattle.session_text.specs.declared.step.PeerStep.TheVariants as peers
+use Rattle.seat_steps.specs.declared.limits.Limits.{Limits}
+use Rattle.seat_steps.specs.declared.step.PeerStep.{PeerStep}
+use Rattle.seat_steps.specs.declared.step.PeerStep.TheVariants as peers
 use Rattle.broker_model.specs.declared.journal.Entry.{Entry}
 use Rattle.broker_model.specs.declared.journal.Entry.TheVariants as entries
 use Rattle.broker_model.specs.Limits.{is_full}

@@ -1,8 +1,8 @@
 -- A piece of bytes that is played step by step, from where it began.
 use Rattle.std.proofs.Common.{◌≡◌, ℕ, List, drop, true, Ok, Err, refl, sym, ap, ap₂, subst, ◌∙◌}
 use Rattle.std.specs.Prelude.{Result}
-use Rattle.session_text.specs.declared.limits.Limits.{Limits}
-use Rattle.session_text.specs.declared.step.PeerStep.{PeerStep}
+use Rattle.seat_steps.specs.declared.limits.Limits.{Limits}
+use Rattle.seat_steps.specs.declared.step.PeerStep.{PeerStep}
 use Rattle.broker_model.specs.declared.journal.Entry.{Entry}
 use Rattle.broker_core.specs.Broker.{peer_entry}
 use Rattle.broker_core.specs.Taking.{lives}

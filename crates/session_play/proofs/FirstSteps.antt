@@ -6,8 +6,8 @@ use Rattle.wl_wire.specs.Messages.{id_of, opcode_of, body_of, size_of, is_good, 
 use Rattle.wl_wire.specs.declared.assembler.Fed.TheVariants as fed
 use Rattle.wl_wire.specs.Streams.{Assembly, begun, bytes_of, Feeds}
 use Rattle.wl_wire.proofs.Sizes.{size_stays}
-use Rattle.session_text.specs.declared.step.PeerStep.TheVariants as peers
-use Rattle.session_text.specs.Steps.{IsBody}
+use Rattle.seat_steps.specs.declared.step.PeerStep.TheVariants as peers
+use Rattle.seat_steps.specs.Ranges.{IsBody}
 use Rattle.broker_model.specs.declared.journal.Entry.{Entry}
 use Rattle.broker_model.specs.declared.journal.Entry.TheVariants as entries
 use Rattle.session_play.specs.Steps.{message_entry, bad_entries, behind, steps_in}

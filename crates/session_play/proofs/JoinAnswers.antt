@@ -10,7 +10,7 @@ use Rattle.broker_model.specs.Settle.{number_alive}
 use Rattle.broker_core.specs.declared.shared.JoinRefusal.{JoinRefusal}
 use Rattle.broker_core.specs.declared.shared.JoinRefusal.TheVariants as join
 use Rattle.broker_core.specs.Broker.{Broker, kept_in, join_refusal}
-use Rattle.session_text.specs.declared.limits.Limits.{Limits}
+use Rattle.seat_steps.specs.declared.limits.Limits.{Limits}
 use Rattle.session_play.specs.declared.session.Stop.TheVariants as stops
 use Rattle.session_play.specs.Played.{Play, Played, went, with_step, step_played, with_peer, join_played}
 use Rattle.session_play.specs.Playing.{IsPlayed, IsMore}

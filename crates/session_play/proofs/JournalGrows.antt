@@ -1,7 +1,7 @@
 -- A journal only grows, and who watches is told of what it has more.
 use Rattle.std.proofs.Common.{◌≡◌, ℕ, zero, suc, ◌+◌, ◌≤◌, List, [], ◌∷◌, ◌++◌, length, Bool, true, false, Option, Some, None, refl, sym, ap, subst, ◌∙◌, arith, append_assoc, length-append}
 use Rattle.std.specs.Prelude.{if◌then◌else◌, min, nat_le, ◌==◌}
-use Rattle.session_text.specs.declared.limits.Limits.{Limits}
+use Rattle.seat_steps.specs.declared.limits.Limits.{Limits}
 use Rattle.session_text.specs.declared.line.SessionLine.{SessionLine}
 use Rattle.session_text.specs.declared.line.SessionLine.TheVariants as lines
 use Rattle.relay_model.specs.declared.act.EndCause.TheVariants.{Gone}

@@ -6,12 +6,13 @@ use Rattle.std.proofs.lemmas.List.{append-nil, take_all}
 use Rattle.relay_model.specs.declared.act.EndCause.TheVariants.{Gone}
 use Rattle.relay_model.specs.declared.role.Role.{Role}
 use Rattle.wl_wire.specs.Messages.{IsMessage, IsBad, id_of, opcode_of, body_of, messages, bad_size}
-use Rattle.session_text.specs.declared.limits.Limits.{Limits}
-use Rattle.session_text.specs.declared.step.Step.{Step}
-use Rattle.session_text.specs.declared.step.Step.TheVariants as steps
-use Rattle.session_text.specs.declared.step.PeerStep.{PeerStep}
-use Rattle.session_text.specs.declared.step.PeerStep.TheVariants as peers
-use Rattle.session_text.specs.Steps.{IsBody, message_bytes, step_line}
+use Rattle.seat_steps.specs.declared.limits.Limits.{Limits}
+use Rattle.seat_steps.specs.declared.step.Step.{Step}
+use Rattle.seat_steps.specs.declared.step.Step.TheVariants as steps
+use Rattle.seat_steps.specs.declared.step.PeerStep.{PeerStep}
+use Rattle.seat_steps.specs.declared.step.PeerStep.TheVariants as peers
+use Rattle.seat_steps.specs.Ranges.{IsBody}
+use Rattle.session_text.specs.Steps.{message_bytes, step_line}
 use Rattle.session_text.proofs.Printed.{message_whole}
 use Rattle.broker_model.specs.declared.journal.Entry.{Entry}
 use Rattle.broker_model.specs.declared.journal.Entry.TheVariants as entries

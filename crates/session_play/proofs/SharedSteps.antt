@@ -3,8 +3,8 @@ use Rattle.std.proofs.Common.{◌≡◌, ℕ, ◌+◌, ◌≤◌, List, [], ◌�
 use Rattle.std.specs.Prelude.{Result, IfSome, IfNone, IsOkUnless, nat_le, filter, position, ◌==◌, IfOk}
 use Rattle.std.proofs.lemmas.List.{map-append}
 use Rattle.relay_model.specs.declared.role.Role.{Role}
-use Rattle.session_text.specs.declared.limits.Limits.{Limits}
-use Rattle.session_text.specs.declared.step.Step.{Step}
+use Rattle.seat_steps.specs.declared.limits.Limits.{Limits}
+use Rattle.seat_steps.specs.declared.step.Step.{Step}
 use Rattle.broker_model.specs.declared.journal.Entry.{Entry}
 use Rattle.broker_model.specs.declared.journal.Entry.TheVariants as entries
 use Rattle.broker_model.specs.Ids.{peer_at}

@@ -5,10 +5,10 @@ use Rattle.std.proofs.lemmas.Bool.{eq-eqb}
 use Rattle.std.proofs.lemmas.List.{map-append}
 use Rattle.wl_wire.specs.Streams.{Assembly, Begun, begun}
 use Rattle.relay_model.specs.declared.role.Role.{Role}
-use Rattle.session_text.specs.declared.limits.Limits.{Limits}
-use Rattle.session_text.specs.declared.step.Step.{Step}
-use Rattle.session_text.specs.declared.step.Step.TheVariants as steps
-use Rattle.session_text.specs.declared.step.PeerStep.TheVariants as peers
+use Rattle.seat_steps.specs.declared.limits.Limits.{Limits}
+use Rattle.seat_steps.specs.declared.step.Step.{Step}
+use Rattle.seat_steps.specs.declared.step.Step.TheVariants as steps
+use Rattle.seat_steps.specs.declared.step.PeerStep.TheVariants as peers
 use Rattle.relay_model.specs.declared.act.EndCause.TheVariants.{Gone}
 use Rattle.broker_model.specs.declared.journal.Entry.{Entry}
 use Rattle.broker_model.specs.declared.journal.Entry.TheVariants as entries

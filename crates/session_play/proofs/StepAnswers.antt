@@ -1,10 +1,10 @@
 -- What a step of the shared state that was taken, or refused, makes of what is played.
 use Rattle.std.proofs.Common.{◌≡◌, ℕ, List, ◌∷◌, Bool, true, false, Option, Some, None, Result, Ok, Err, refl, sym, ap, subst, ◌∙◌, inl, inr, ◌⊎◌}
 use Rattle.std.specs.Prelude.{if◌then◌else◌, option_map, IfSome, IfNone}
-use Rattle.session_text.specs.declared.limits.Limits.{Limits}
-use Rattle.session_text.specs.declared.step.Step.{Step}
-use Rattle.session_text.specs.declared.step.Step.TheVariants as steps
-use Rattle.session_text.specs.declared.step.PeerStep.TheVariants as peers
+use Rattle.seat_steps.specs.declared.limits.Limits.{Limits}
+use Rattle.seat_steps.specs.declared.step.Step.{Step}
+use Rattle.seat_steps.specs.declared.step.Step.TheVariants as steps
+use Rattle.seat_steps.specs.declared.step.PeerStep.TheVariants as peers
 use Rattle.broker_model.specs.declared.journal.Entry.{Entry}
 use Rattle.broker_model.specs.declared.journal.Kept.{Kept}
 use Rattle.broker_model.specs.Limits.{is_full}

@@ -3,7 +3,7 @@ use Rattle.std.proofs.Common.{◌≡◌, ℕ, ◌≤◌, List, ◌∷◌, length
 use Rattle.std.specs.Prelude.{if◌then◌else◌, option_map, ◌==◌, IfSome, IfNone}
 use Rattle.std.proofs.lemmas.Bool.{eq-eqb, ne_eqb, eqb-true}
 use Rattle.relay_model.specs.declared.act.EndCause.{EndCause}
-use Rattle.session_text.specs.declared.limits.Limits.{Limits}
+use Rattle.seat_steps.specs.declared.limits.Limits.{Limits}
 use Rattle.broker_model.specs.declared.journal.Entry.{Entry}
 use Rattle.broker_model.specs.declared.journal.Entry.TheVariants as entries
 use Rattle.broker_model.specs.declared.journal.Kept.{Kept}

@@ -1,12 +1,13 @@
 -- Laws of what lines play.
 use Rattle.std.specs.Prelude.{◌≡◌, ℕ, ◌^◌, ◌<◌, ◌≤◌, List, [], ◌∷◌, length, Bool, true, false, if◌then◌else◌, Option, Some, None}
-use Rattle.session_text.specs.declared.limits.Limits.{Limits}
+use Rattle.seat_steps.specs.declared.limits.Limits.{Limits}
 use Rattle.session_text.specs.declared.line.SessionLine.{SessionLine}
-use Rattle.session_text.specs.declared.step.Step.{Step}
-use Rattle.session_text.specs.declared.step.Step.TheVariants as steps
-use Rattle.session_text.specs.declared.step.PeerStep.{PeerStep}
-use Rattle.session_text.specs.declared.step.PeerStep.TheVariants as peers
-use Rattle.session_text.specs.Steps.{IsBody, step_line}
+use Rattle.seat_steps.specs.declared.step.Step.{Step}
+use Rattle.seat_steps.specs.declared.step.Step.TheVariants as steps
+use Rattle.seat_steps.specs.declared.step.PeerStep.{PeerStep}
+use Rattle.seat_steps.specs.declared.step.PeerStep.TheVariants as peers
+use Rattle.seat_steps.specs.Ranges.{IsBody}
+use Rattle.session_text.specs.Steps.{step_line}
 use Rattle.wl_wire.specs.Messages.{IsBad}
 use Rattle.broker_model.specs.declared.journal.Entry.{Entry}
 use Rattle.broker_model.specs.declared.journal.Entry.TheVariants as entries

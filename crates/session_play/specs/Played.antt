@@ -1,7 +1,7 @@
 -- What the lines of a session make of a journal and of the unread bytes of its live peers.
 use Rattle.std.specs.Prelude.{ℕ, ◌+◌, List, [], ◌∷◌, ◌++◌, length, filter, min, Bool, true, false, ◌==◌, nat_le, if◌then◌else◌, Option, Some, None}
 use Rattle.relay_model.specs.declared.act.EndCause.TheVariants.{Gone}
-use Rattle.session_text.specs.declared.limits.Limits.{Limits}
+use Rattle.seat_steps.specs.declared.limits.Limits.{Limits}
 use Rattle.session_text.specs.declared.line.SessionLine.{SessionLine}
 use Rattle.session_text.specs.declared.line.SessionLine.TheVariants as lines
 use Rattle.broker_model.specs.declared.journal.Entry.{Entry}

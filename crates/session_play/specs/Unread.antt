@@ -1,9 +1,9 @@
 -- What is found in bytes of a peer, behind those that it sent before.
 use Rattle.std.specs.Prelude.{◌≡◌, ℕ, ◌<◌, ◌≤◌, List, [], ◌∷◌, ◌++◌, length, drop, map}
 use Rattle.wl_wire.specs.Streams.{Assembly, begun}
-use Rattle.session_text.specs.declared.step.PeerStep.{PeerStep}
-use Rattle.session_text.specs.Steps.{IsPeerStep}
-use Rattle.session_text.specs.declared.step.PeerStep.TheVariants as peers
+use Rattle.seat_steps.specs.declared.step.PeerStep.{PeerStep}
+use Rattle.seat_steps.specs.Ranges.{IsPeerStep}
+use Rattle.seat_steps.specs.declared.step.PeerStep.TheVariants as peers
 use Rattle.broker_model.specs.declared.journal.Entry.TheVariants as entries
 use Rattle.broker_core.specs.Broker.{peer_entry}
 use Rattle.session_play.specs.declared.unread.Found.{Found}

@@ -2,7 +2,7 @@
 use crate::session::{Session, Stop};
 use crate::unread::{Found, place_of};
 use broker_core::Watch;
-use session_text::Step;
+use seat_steps::Step;
 use wio_core::NoMemory;
 
 impl Session {

@@ -5,7 +5,8 @@ ghost use Rattle.session_play.specs.Playing.{end_with};
 use crate::session::{Session, Stop};
 use broker_core::{Journal, Kept, Watch};
 use seat_printer::Printer;
-use session_text::{Limits, SessionLine};
+use seat_steps::Limits;
+use session_text::SessionLine;
 use std::alloc::Global;
 use std::marker::Model;
 use wio_core::NoMemory;
@@ -50,7 +51,8 @@ fn ended(stop: Stop, text: String) -> PlayEnd
 
 impl Player {
     ghost use Rattle.std.specs.Prelude.{◌≡◌, [], length, false, true, Some, None, Err, IfOk, IfErr, IfSome, OnOk, OnErr};
-    ghost use Rattle.session_text.specs.Steps.{IsLimits, IsSessionLine};
+    ghost use Rattle.seat_steps.specs.Ranges.{IsLimits};
+    ghost use Rattle.session_text.specs.Steps.{IsSessionLine};
     ghost use Rattle.broker_model.specs.Settle.{history, outer};
     ghost use Rattle.session_play.specs.Played.{line_played};
     ghost use Rattle.session_play.specs.Playing.{IsPlayed, IsWatched, IsMore, IsWritten, IsStopped, IsAgain, stop_of};

@@ -2,7 +2,8 @@
 use crate::unread::{Unread, forget_ended, lives};
 use broker_core::{JoinRefusal, Journal, Kept, Refused, Shared, Took, Watch};
 use relay_model::Role;
-use session_text::{Limits, PeerStep, SessionLine, Step};
+use seat_steps::{Limits, PeerStep, Step};
+use session_text::SessionLine;
 use std::alloc::{AllocError, Global};
 use std::marker::Model;
 use wio_core::NoMemory;
@@ -63,8 +64,9 @@ impl Model for Session {
 impl Session {
     ghost use Rattle.std.specs.Prelude.{◌≡◌, ◌≤◌, [], IfOk, true, if◌then◌else◌, Ok};
     ghost use Rattle.relay_model.specs.declared.act.EndCause.TheVariants.{Gone};
-    ghost use Rattle.session_text.specs.declared.step.Step.TheVariants as steps;
-    ghost use Rattle.session_text.specs.Steps.{IsLimits, IsStep, IsSessionLine};
+    ghost use Rattle.seat_steps.specs.declared.step.Step.TheVariants as steps;
+    ghost use Rattle.seat_steps.specs.Ranges.{IsLimits, IsStep};
+    ghost use Rattle.session_text.specs.Steps.{IsSessionLine};
     ghost use Rattle.broker_model.specs.declared.journal.Entry.TheVariants as entries;
     ghost use Rattle.broker_model.specs.Ids.{peer_at};
     ghost use Rattle.broker_model.specs.Resolve.{past_of};

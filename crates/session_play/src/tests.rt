@@ -2,7 +2,8 @@
 use crate::{PlayEnd, Player, Stop};
 use broker_core::Kept;
 use relay_model::Role;
-use session_text::{Limits, SessionLine};
+use seat_steps::Limits;
+use session_text::SessionLine;
 use std::alloc::Global;
 use std::process::Abort;
 use std::test::Fail;

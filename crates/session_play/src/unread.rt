@@ -6,7 +6,7 @@ ghost use Rattle.broker_core.specs.Taking.{standing_of};
 ghost use Rattle.broker_core.specs.Taking.{lives};
 
 use broker_core::{Shared, Standing};
-use session_text::PeerStep;
+use seat_steps::PeerStep;
 use std::alloc::Global;
 use wio_core::NoMemory;
 use wl_wire::{Assembler, Bytes, Fed};
