@@ -1,13 +1,13 @@
 -- The front of some bytes, by the place of the first line feed behind those that have none.
-use Rattle.std.proofs.Common.{◌≡◌, ◌≢◌, ℕ, ◌+◌, ◌-◌, ◌<◌, ◌≤◌, List, ◌∷◌, ◌++◌, length, take, drop, get_or, length-append, suc, inl, inr, sym, ap, ◌∙◌, subst, arith, add-one, length-drop}
+use Rattle.std.proofs.Common.{◌≡◌, ◌≢◌, ℕ, ◌+◌, ◌-◌, ◌<◌, ◌≤◌, List, ◌∷◌, ◌++◌, length, take, drop, get_or, suc, inl, inr, sym, ap, ◌∙◌, subst, arith, add-one, length-drop}
 use Rattle.std.proofs.lemmas.List.{take_all, take-take, take-append-drop, get_or-drop}
 use Rattle.std.proofs.lemmas.List.Elements.{All-append, All-take}
 use Rattle.std.proofs.lemmas.Bool.{eqb-true}
 use Rattle.std.proofs.lemmas.Bool.Decides.{eqb_tells}
-use Rattle.std.proofs.Math.Seq.{take-add, drop-cons, get_or-append_seam}
+use Rattle.std.proofs.Math.Seq.{take-add, drop-cons}
 use Rattle.std.proofs.lemmas.Grind.{common_steps}
 use Rattle.memchr.specs.Find.{Nowhere, NoneBefore, Passes, is_byte}
-use Rattle.wio_core.specs.Lines.{LacksFeed, IsOpen, HasLine, IsTooLong}
+use Rattle.wio_core.specs.Lines.{LacksFeed, HasLine, IsTooLong}
 
 -- a search that found no line feed among the first n bytes
 lacks_searched : (tail : List ℕ) (n : ℕ) → n ≤ length tail → Nowhere (Passes (is_byte 10) tail) 0 n
@@ -82,12 +82,3 @@ pub found_none : (bytes : List ℕ) (seen : ℕ) → seen ≤ length bytes → L
     → 8400 < length bytes → IsTooLong bytes
 found_none bytes seen within lacks nowhere many =
     record { many = many; lacks = All-take (λ b. b ≢ 10) 8401 bytes (lacks_all bytes seen within lacks nowhere) }
-
--- where a line stands whole, no line is open
-pub whole_is_not_open : (bytes : List ℕ) (n : ℕ) → HasLine bytes n → IsOpen bytes → ⊥
-whole_is_not_open bytes n has is =
-    let line = take n bytes in
-    let rest = drop (n + 1) bytes in
-    let lacks : LacksFeed (line ++ 10 ∷ rest) = subst LacksFeed has.line.split is.lacks in
-    let len : length (line ++ 10 ∷ rest) ≡ length line + length (10 ∷ rest) = length-append line (10 ∷ rest) in
-    lacks (length line) 0 (omega (arith, len)) (get_or-append_seam line 10 rest 0)

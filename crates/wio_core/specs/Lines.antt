@@ -50,9 +50,9 @@ pub record Gathers (held_before held_after : List ℕ) (room_before room_after :
   pub room : room_after ≡ option_map (λ n. n - length bytes) room_before
   pub within : IfSome room_before (λ n. length bytes ≤ n)
 
--- why no line comes of the bytes held
+-- why no line comes of the bytes held: the source ended where a read gave nothing, so that more might have been taken
 abbrev pub HasCause : LineStop → List ℕ → Option ℕ → Option (List ℕ) → Type 0
-HasCause stop.End held room left = IsOpen held × IsAtEnd left
+HasCause stop.End held room left = IsOpen held × IsAtEnd left × (room ≢ Some 0)
 HasCause stop.Long held room left = IsTooLong held
 HasCause stop.Limit held room left = IsOpen held × (room ≡ Some 0)
 HasCause stop.ReadFault held room left = IsOpen held

@@ -1,5 +1,5 @@
 // The lines of a source, lent one at a time.
-ghost use Rattle.std.specs.Prelude.{◌≡◌, ◌≢◌, ◌+◌, ◌<◌, ◌≤◌, ◌++◌, ◌∷◌, ℕ, List, [], drop, length, Option, Some, None, IfOk, IfErr, OnOk, IfSome, OnSome};
+ghost use Rattle.std.specs.Prelude.{◌≡◌, ◌≢◌, ◌+◌, ◌<◌, ◌≤◌, ◌++◌, ◌∷◌, ℕ, List, [], drop, length, Option, Some, None, IfOk, IfErr, OnOk, IfSome, OnSome, IsTrue, ◌↔◌};
 ghost use Rattle.wio_core.specs.Io.{Rose, StaysQuiet};
 ghost use Rattle.wio_core.specs.Lines.{LacksFeed, IsOpen, HasLine, TookFrom, Gathers, HasCause};
 
@@ -159,7 +159,6 @@ impl Model for LineReader {
 }
 
 impl LineReader {
-    ghost use Rattle.std.specs.Prelude.{true, false};
     ghost use Rattle.std.specs.Borrow.{sem};
     ghost use Rattle.std.specs.Io.BufRead.{Rests};
     ghost use Rattle.wio_core.specs.LineAnswers.{Answers, HasFaultCause};
@@ -178,16 +177,14 @@ impl LineReader {
         })
     }
 
-    /// Whether the next call has to read before it can give a whole line: no line feed and no line that is too long stands among
-    /// the bytes that are held. It reads nothing itself. (no memory)
-    pub fn reads_next(&self) -> bool
-        ensures open { result ≡ true → IsOpen self.now.held }
-        ensures whole { result ≡ false → ¬ IsOpen self.now.held }
+    /// Whether the bytes that are held are the beginning of a line alone, so that the next call reads unless its answer
+    /// is settled. (no memory)
+    pub fn is_open(&self) -> bool
+        ensures { IsTrue result ↔ IsOpen self.now.held }
     {
         match look(&self.window.held()[self.lent..], 0) {
-            Front::Line(_) => false,
-            Front::Long => false,
             Front::Open => true,
+            Front::Line(_) | Front::Long => false,
         }
     }
 
