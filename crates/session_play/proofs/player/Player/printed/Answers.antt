@@ -13,4 +13,5 @@ returns-clause-text c =
     let watched = c.line_watched-played.ensures.watched in
     written store c.args.self.now.play c.line_watched-played.new.self.play c.finish.result watched.grew
     (c.finish.ensures.text store (length before) after
-    (subst (λ (p : Printing). Reached MayPrint p (watched_since store (length before) after) c.line_watched-played.new.watch) c.new-printer.ensures watched.told))
+    (subst (λ (p : Printing). Reached MayPrint p (watched_since store (length before) after)
+        c.line_watched-played.new.watch) c.new-printer.ensures watched.told))
