@@ -14,7 +14,7 @@ use Rattle.broker_model.specs.Limits.{number_counted}
 use Rattle.wlim.specs.declared.last_line.LastLine.TheVariants as last
 use Rattle.wlim.specs.Lines.{lines_of}
 use Rattle.wlim.specs.Endings.{Answer, ending, without_end}
-use Rattle.broker_core.specs.Played.{Play, Played, line_played}
+use Rattle.session_play.specs.Played.{Play, Played, line_played}
 use Rattle.wlim.specs.declared.session.Meaning.{Meaning}
 use Rattle.wlim.specs.declared.session.Meaning.TheVariants as meaning
 use Rattle.wlim.specs.Session.{closed, full_at, meaning_of_line, meaning_of, by_meaning, session_from, unplayed, header_of_line, header_of, by_header, session_of_lines, session_answer}

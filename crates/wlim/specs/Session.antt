@@ -11,8 +11,8 @@ use Rattle.wlim.specs.declared.session.Meaning.{Meaning}
 use Rattle.wlim.specs.declared.session.Meaning.TheVariants as meaning
 use Rattle.wlim.specs.Lines.{lines_of}
 use Rattle.wlim.specs.Endings.{Answer, with_front, ending, without_end}
-use Rattle.broker_core.specs.Played.{Play, Played, line_played}
-use Rattle.broker_core.specs.Transcribed.{journal_text}
+use Rattle.session_play.specs.Played.{Play, Played, line_played}
+use Rattle.seat_printer.specs.Transcribed.{journal_text}
 
 -- the transcript of what was played, and behind it how it ends
 abbrev pub closed : Limits → Play → Answer → Answer

@@ -1,8 +1,8 @@
 // The transcript of a session.
 ghost use Rattle.std.specs.Prelude.{◌≡◌, [], false, None, IfOk, string_bytes};
 ghost use Rattle.session_text.specs.Steps.{IsLimits, IsSessionLine};
-ghost use Rattle.broker_core.specs.Played.{line_played};
-ghost use Rattle.broker_core.specs.Transcribed.{journal_text};
+ghost use Rattle.session_play.specs.Played.{line_played};
+ghost use Rattle.seat_printer.specs.Transcribed.{journal_text};
 ghost use Rattle.wlim.specs.Endings.{IsDecided};
 ghost use Rattle.wlim.specs.Lines.{lines_of};
 ghost use Rattle.wlim.specs.Session.{meaning_of, header_of, full_at, session_from, session_answer, unplayed};
@@ -10,7 +10,7 @@ ghost use Rattle.wlim.specs.Session.{meaning_of, header_of, full_at, session_fro
 use crate::last_line::{LastLine, close, close_without_end};
 use crate::lines::take_line;
 use crate::status::Status;
-use broker_core::{PlayEnd, Player};
+use session_play::{PlayEnd, Player};
 use session_text::{BadLine, Form, Limits, Line, SessionLine, read_line};
 use std::alloc::Global;
 use wio_core::NoMemory;

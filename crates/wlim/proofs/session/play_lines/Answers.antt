@@ -1,7 +1,7 @@
 use Rattle.std.proofs.Common.{◌≡◌, ◌+◌, ◌∙◌, ap, sym, arith}
 use Rattle.wlim.specs.declared.last_line.LastLine.TheVariants as last
-use Rattle.broker_core.specs.Played.{line_played}
-use Rattle.broker_core.specs.Transcribed.{journal_text}
+use Rattle.session_play.specs.Played.{line_played}
+use Rattle.seat_printer.specs.Transcribed.{journal_text}
 use Rattle.wlim.specs.Endings.{with_front, ending, without_end}
 use Rattle.wlim.specs.Lines.{lines_of}
 use Rattle.wlim.specs.Session.{closed, session_from}

@@ -1,5 +1,5 @@
 use Rattle.std.proofs.Common.{◌≡◌, ◌+◌, ◌≤◌, length, false, string_bytes}
-use Rattle.broker_core.specs.Transcribed.{journal_text}
+use Rattle.seat_printer.specs.Transcribed.{journal_text}
 use Rattle.wlim.specs.Lines.{lines_of}
 use Rattle.wlim.specs.Session.{session_from, unplayed}
 use Rattle.wlim.proofs.session.play_lines.Given as goal
