@@ -1,6 +1,6 @@
 -- A peer that sent a header with a bad size is not alive once the ends that follow have come.
-use Rattle.std.proofs.Common.{◌≡◌, ℕ, zero, suc, List, [], ◌∷◌, Bool, true, false, Option, Some, None, refl, sym, ap, ◌∙◌, arith}
-use Rattle.std.specs.Prelude.{◌==◌, ◌&&◌, ◌||◌, if◌then◌else◌}
+use Rattle.std.proofs.Common.{◌≡◌, ℕ, zero, suc, List, ◌∷◌, Bool, true, false, Option, Some, None, refl, ap, ◌∙◌, arith}
+use Rattle.std.specs.Prelude.{◌&&◌, ◌||◌, if◌then◌else◌}
 use Rattle.std.proofs.lemmas.Bool.{eq-eqb}
 use Rattle.relay_model.specs.Objects.{is_peer}
 use Rattle.broker_model.specs.declared.journal.Entry.{Entry}
@@ -9,7 +9,7 @@ use Rattle.broker_model.specs.Ids.{Joined, log_of, peer_at}
 use Rattle.relay_model.specs.declared.fault.Fault.TheVariants as fault
 use Rattle.broker_model.specs.Resolve.{of_peer, refused_for, past_of}
 use Rattle.broker_model.specs.Out.{act_at, out_for}
-use Rattle.broker_model.specs.Settle.{is_bad, refused, is_due, due, cause_of, with_end, settled, number_alive, settle}
+use Rattle.broker_model.specs.Settle.{is_bad, refused, due, cause_of, with_end, settled, number_alive, settle}
 use Rattle.broker_model.proofs.Settling.{IsSettled, settles}
 use Rattle.broker_core.specs.Taking.{lives_in, lives}
 use Rattle.session_play.proofs.LivesBefore.{IsAlive, is_alive}
@@ -53,7 +53,7 @@ dead_by : (capacity : ℕ) (journal : List Entry) (q : ℕ) (o : Option Joined) 
 dead_by capacity journal q None s e r = refl
 dead_by capacity journal q (Some peer) s e r =
     left_false (is_peer (log_of (past_of journal)) peer.label) (refused journal q)
-        (out_for capacity journal peer.label).choked r (s.nobody q peer e)
+    (out_for capacity journal peer.label).choked r (s.nobody q peer e)
 
 pub dead_after : (capacity q : ℕ) (head : List ℕ) (older : List Entry) → lives older q ≡ true →
     lives (settle capacity (entries.BadSize q head ∷ older)) q ≡ false
@@ -61,5 +61,5 @@ dead_after capacity q head older h =
     let journal : List Entry = entries.BadSize q head ∷ older in
     let after : List Entry = settle capacity journal in
     dead_by capacity after q (peer_at (past_of after) q) (settles capacity (number_alive journal) journal (omega arith))
-        refl
+    refl
     (refused_settled capacity (number_alive journal) journal q ∙ bad_size_refused q head older h)

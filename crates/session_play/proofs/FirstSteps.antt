@@ -1,5 +1,5 @@
 -- The first step that bytes give, by what they begin with.
-use Rattle.std.proofs.Common.{◌≡◌, ℕ, zero, suc, ◌+◌, ◌-◌, ◌%◌, ◌<◌, ◌≤◌, Bool, true, false, leb, not, ◌&&◌, List, [], ◌∷◌, ◌++◌, length, map, take, drop, Option, Some, None, refl, sym, ap, subst, ◌∙◌, arith, append_assoc, length-append, length-drop}
+use Rattle.std.proofs.Common.{◌≡◌, ℕ, zero, suc, ◌+◌, ◌%◌, ◌<◌, ◌≤◌, Bool, true, false, leb, ◌&&◌, List, [], ◌∷◌, ◌++◌, length, map, take, drop, Option, Some, None, refl, sym, ap, subst, ◌∙◌, arith, append_assoc, length-append, length-drop}
 use Rattle.std.proofs.lemmas.List.{length-take-le, length-take, drop-drop, take-append-drop, take_at, drop_at}
 use Rattle.std.proofs.lemmas.Bool.{and_parts, leb-true, le-leb, lt-leb, eq-eqb, eqb-true}
 use Rattle.wl_wire.specs.Messages.{id_of, opcode_of, body_of, size_of, is_good, is_whole, messages_within, messages, joined, bad_size_at, bad_size, IsGoodSize, IsMessage, IsPartial, IsBad}
@@ -23,7 +23,7 @@ record IsHeaded (bytes : List ℕ) : Type 0 where
 headed : (bytes : List ℕ) → is_whole bytes ≡ true → IsHeaded bytes
 headed bytes e =
     let (front, there) = and_parts (leb 8 (length bytes) && is_good (size_of bytes))
-        (leb (size_of bytes) (length bytes)) e in
+    (leb (size_of bytes) (length bytes)) e in
     let (header, good) = and_parts (leb 8 (length bytes)) (is_good (size_of bytes)) front in
     let (low, four) = and_parts (leb 8 (size_of bytes) && leb (size_of bytes) 4096) _ good in
     let (least, most) = and_parts (leb 8 (size_of bytes)) (leb (size_of bytes) 4096) low in
@@ -51,9 +51,9 @@ enough_by m n bytes true e lm ln k =
     let h : IsHeaded bytes = headed bytes e in
     let size = h.size in
     let shorter : length (drop (size_of bytes) bytes) + size_of bytes ≡ length bytes =
-        (let there = h.there in omega (arith, length-drop (size_of bytes) bytes)) in
+    (let there = h.there in omega (arith, length-drop (size_of bytes) bytes)) in
     within_first m bytes e ∙ ap (λ (r : List (List ℕ)). take (size_of bytes) bytes ∷ r)
-        (k (drop (size_of bytes) bytes) (omega arith) (omega arith))
+    (k (drop (size_of bytes) bytes) (omega arith) (omega arith))
     ∙ sym (within_first n bytes e)
 
 enough : (m n : ℕ) (bytes : List ℕ) → length bytes ≤ m → length bytes ≤ n →
@@ -72,7 +72,7 @@ messages_next bytes e =
     let shorter = length-drop (size_of bytes) bytes in
     enough (length bytes) (suc (length bytes)) bytes (omega arith) (omega arith) ∙ within_first (length bytes) bytes e
     ∙ ap (λ (r : List (List ℕ)). take (size_of bytes) bytes ∷ r)
-        (enough (length bytes) (length rest) rest (omega arith) (omega arith))
+    (enough (length bytes) (length rest) rest (omega arith) (omega arith))
 
 messages_none : (bytes : List ℕ) → is_whole bytes ≡ false → messages bytes ≡ []
 unfolding messages
@@ -101,7 +101,7 @@ bad_size_is bytes = refl
 bad_size_next : (bytes : List ℕ) → is_whole bytes ≡ true → bad_size bytes ≡ bad_size (drop (size_of bytes) bytes)
 bad_size_next bytes e =
     bad_size_is bytes ∙ ap (λ (rest : List ℕ). bad_size_at rest) (behind_next bytes e)
-        ∙ sym (bad_size_is (drop (size_of bytes) bytes))
+    ∙ sym (bad_size_is (drop (size_of bytes) bytes))
 
 bad_size_none : (bytes : List ℕ) → is_whole bytes ≡ false → bad_size bytes ≡ bad_size_at bytes
 bad_size_none bytes e = bad_size_is bytes ∙ ap (λ (rest : List ℕ). bad_size_at rest) (behind_none bytes e)
@@ -116,26 +116,26 @@ same_steps : (q : ℕ) (ms ms′ : List (List ℕ)) (rest rest′ : List ℕ) (b
     steps_of q ms rest bad ≡ steps_of q ms′ rest′ bad′
 same_steps q ms ms′ rest rest′ bad bad′ a b c =
     ap (λ (x : List (List ℕ)). steps_of q x rest bad) a ∙ ap (λ (x : List ℕ). steps_of q ms′ x bad) b
-        ∙ ap (steps_of q ms′ rest′) c
+    ∙ ap (steps_of q ms′ rest′) c
 
 steps_next : (q : ℕ) (bytes : List ℕ) → is_whole bytes ≡ true →
     steps_in q bytes ≡ message_entry q (take (size_of bytes) bytes) ∷ steps_in q (drop (size_of bytes) bytes)
 steps_next q bytes e =
     same_steps q (messages bytes) (take (size_of bytes) bytes ∷ messages (drop (size_of bytes) bytes)) (behind bytes)
-        (behind (drop (size_of bytes) bytes))
+    (behind (drop (size_of bytes) bytes))
     (bad_size bytes) (bad_size (drop (size_of bytes) bytes)) (messages_next bytes e) (behind_next bytes e)
-        (bad_size_next bytes e)
+    (bad_size_next bytes e)
 
 steps_none : (q : ℕ) (bytes : List ℕ) → is_whole bytes ≡ false → bad_size_at bytes ≡ None → steps_in q bytes ≡ []
 steps_none q bytes e n =
     same_steps q (messages bytes) [] (behind bytes) bytes (bad_size bytes) None (messages_none bytes e)
-        (behind_none bytes e) (bad_size_none bytes e ∙ n)
+    (behind_none bytes e) (bad_size_none bytes e ∙ n)
 
 steps_bad : (q size : ℕ) (bytes : List ℕ) → is_whole bytes ≡ false → bad_size_at bytes ≡ Some size →
     steps_in q bytes ≡ entries.BadSize q (take 8 bytes) ∷ []
 steps_bad q size bytes e b =
     same_steps q (messages bytes) [] (behind bytes) bytes (bad_size bytes) (Some size) (messages_none bytes e)
-        (behind_none bytes e) (bad_size_none bytes e ∙ b)
+    (behind_none bytes e) (bad_size_none bytes e ∙ b)
 
 -- bytes that begin with a message
 
@@ -159,12 +159,17 @@ first_message q m tail is =
     let same : size_of (m ++ tail) ≡ size_of m = size_stays m tail long in
     let len = length-append m tail in
     let whole : is_whole (m ++ tail) ≡ true =
-    rw (same, le-leb 8 (length (m ++ tail)) (omega arith), good_is (size_of m) is.0, le-leb (size_of m)
-        (length (m ++ tail)) (omega (arith, is.1))) refl in
+    rw (
+      same,
+      le-leb 8 (length (m ++ tail)) (omega arith),
+      good_is (size_of m) is.0,
+      le-leb (size_of m)
+          (length (m ++ tail)) (omega (arith, is.1)),
+    ) refl in
     let front : take (size_of (m ++ tail)) (m ++ tail) ≡ m = ap (λ n. take n (m ++ tail)) same
-        ∙ take_at m tail (size_of m) is.1 in
+    ∙ take_at m tail (size_of m) is.1 in
     let rest : drop (size_of (m ++ tail)) (m ++ tail) ≡ tail = ap (λ n. drop n (m ++ tail)) same
-        ∙ drop_at m tail (size_of m) is.1 in (
+    ∙ drop_at m tail (size_of m) is.1 in (
       steps_next q (m ++ tail) whole ∙ ap (λ (x : List ℕ). message_entry q x ∷ steps_in q
           (drop (size_of (m ++ tail)) (m ++ tail))) front
           ∙ ap (λ (x : List ℕ). message_entry q m ∷ steps_in q x) rest,
@@ -187,7 +192,7 @@ found_message q id opcode used held piece m body left some within is whole i o b
     let first = first_message q m (drop used piece) whole in
     let entry : message_entry q m ≡ entries.Message q id opcode body =
     sym (ap (λ n. entries.Message q n opcode body) i ∙ ap (λ n. entries.Message q (id_of m) n body) o
-        ∙ ap (entries.Message q (id_of m) (opcode_of m)) b) in
+    ∙ ap (entries.Message q (id_of m) (opcode_of m)) b) in
     record {
       some = some;
       within = within;
@@ -221,10 +226,10 @@ pub bad_size_steps : (q : ℕ) (bytes : List ℕ) → IsBad (take 8 bytes) →
 bad_size_steps q bytes bad =
     let long : 8 ≤ length bytes = (let len = length-take 8 bytes in let eight = bad.0 in omega arith) in
     let same : size_of bytes ≡ size_of (take 8 bytes) = ap size_of (sym (take-append-drop 8 bytes))
-        ∙ size_stays (take 8 bytes) (drop 8 bytes) bad.0 in
+    ∙ size_stays (take 8 bytes) (drop 8 bytes) bad.0 in
     let reach : leb 8 (length bytes) ≡ true = le-leb 8 (length bytes) long in
     let wrong : is_good (size_of bytes) ≡ false = ap is_good same
-        ∙ not_good (size_of (take 8 bytes)) (is_good (size_of (take 8 bytes))) refl bad.1 in
+    ∙ not_good (size_of (take 8 bytes)) (is_good (size_of (take 8 bytes))) refl bad.1 in
     steps_bad q (size_of bytes) bytes (rw (reach, wrong) refl) (rw (reach, wrong) refl)
 
 pub found_bad_size : (q : ℕ) (bytes head : List ℕ) → IsBad (take 8 bytes) → head ≡ take 8 bytes →
@@ -246,7 +251,7 @@ read_message q old new piece used id opcode body f i o b =
     let m : List ℕ = begun old ++ take used piece in
     let held : bytes_of new ≡ m = ap bytes_of f.3 in
     found_message q id opcode used (begun old) piece m body (begun new) f.0 f.1 refl f.2
-        (i ∙ ap (λ (l : List ℕ). id_of l) held)
+    (i ∙ ap (λ (l : List ℕ). id_of l) held)
     (o ∙ ap (λ (l : List ℕ). opcode_of l) held) (b ∙ ap (λ (l : List ℕ). body_of l) held) (ap begun f.3)
 
 pub read_nothing : (q : ℕ) (old new : Assembly) (piece : List ℕ) → Feeds old piece fed.Need new →

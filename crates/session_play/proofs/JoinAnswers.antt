@@ -1,5 +1,5 @@
 -- What a join that was taken, or refused, makes of what is played.
-use Rattle.std.proofs.Common.{◌≡◌, ℕ, ◌+◌, List, [], ◌∷◌, ◌++◌, length, Bool, true, false, Option, Some, None, Result, Ok, Err, refl, sym, ap, ap₂, subst, ◌∙◌}
+use Rattle.std.proofs.Common.{◌≡◌, Bool, true, false, Option, Some, None, Result, Ok, Err, refl, sym, ap, subst, ◌∙◌}
 use Rattle.std.specs.Prelude.{if◌then◌else◌, option_map, nat_le, IfSome, IfNone, IsOkUnless}
 use Rattle.relay_model.specs.declared.role.Role.{Role}
 use Rattle.broker_model.specs.declared.journal.Entry.{Entry}
@@ -13,9 +13,8 @@ use Rattle.broker_core.specs.Broker.{Broker, kept_in, join_refusal}
 use Rattle.session_text.specs.declared.limits.Limits.{Limits}
 use Rattle.session_play.specs.declared.session.Stop.TheVariants as stops
 use Rattle.session_play.specs.Played.{Play, Played, went, with_step, step_played, with_peer, join_played}
-use Rattle.session_play.specs.Playing.{IsPlayed, IsMore}
-use Rattle.session_play.proofs.JournalGrows.{join_grows}
-use Rattle.session_play.proofs.StepAnswers.{by_full, played_ok, played_full}
+use Rattle.session_play.specs.Playing.{IsPlayed}
+use Rattle.session_play.proofs.StepAnswers.{played_ok, played_full}
 
 -- why nobody can join, by how many are alive and whether the journal is full
 abbrev refusal_by : Bool → Bool → Kept → Option JoinRefusal
@@ -36,7 +35,7 @@ unless_is (Err w) why e h = cc
 refused_by : {T : Type 0} (many full : Bool) (kept : Kept) (r : Result T JoinRefusal) (why : JoinRefusal) →
     r ≡ Err why →
     IfSome (refusal_by many full kept) (λ w. r ≡ Err w) → IfNone (refusal_by many full kept)
-        (IsOkUnless r join.NoMemory) → IsRefused many full kept why
+    (IsOkUnless r join.NoMemory) → IsRefused many full kept why
 refused_by true full kept r why e s n = too_many refl (let same = sym e ∙ s in cc)
 refused_by false true kept r why e s n = at_limit refl refl (let same = sym e ∙ s in cc)
 refused_by false false kept r why e s n = short (unless_is r why e n)
@@ -45,10 +44,10 @@ pub join_refused : {T : Type 0} (b : Broker) (role : Role) (r : Result T JoinRef
     r ≡ Err why →
     IfSome (join_refusal b role) (λ w. r ≡ Err w) → IfNone (join_refusal b role) (IsOkUnless r join.NoMemory) →
     IsRefused (nat_le 64 (number_alive b.journal)) (is_full b.limits.entries b.journal (entries.Join role))
-        (kept_in b.journal) why
+    (kept_in b.journal) why
 join_refused b role r why e s n =
     refused_by (nat_le 64 (number_alive b.journal)) (is_full b.limits.entries b.journal (entries.Join role))
-        (kept_in b.journal) r why e s n
+    (kept_in b.journal) r why e s n
 
 taken_by : {T : Type 0} (many full : Bool) (kept : Kept) (r : Result T JoinRefusal) (x : T) → r ≡ Ok x →
     IfSome (refusal_by many full kept) (λ w. r ≡ Err w) →
@@ -76,10 +75,10 @@ many_joined limits e play after m a = subst (λ (p : Played). IsPlayed p (Ok tt)
 
 pub joined_ok : (limits : Limits) (e : Entry) (play after : Play) → nat_le 64 (number_alive play.journal) ≡ false →
     is_full limits.entries play.journal e ≡ false → after ≡ with_step limits e (with_peer play) →
-        IsPlayed (join_played limits e play) (Ok tt) after
+    IsPlayed (join_played limits e play) (Ok tt) after
 joined_ok limits e play after m f a =
     subst (λ (p : Played). IsPlayed p (Ok tt) after) (sym (ap (by_many limits e play) m))
-        (played_ok limits e (with_peer play) after f a)
+    (played_ok limits e (with_peer play) after f a)
 
 pub joined_full : (limits : Limits) (e : Entry) (play after : Play) (kept : Kept) →
     nat_le 64 (number_alive play.journal) ≡ false →
@@ -87,4 +86,4 @@ pub joined_full : (limits : Limits) (e : Entry) (play after : Play) (kept : Kept
     IsPlayed (join_played limits e play) (Err (stops.Full kept)) after
 joined_full limits e play after kept m f k a =
     subst (λ (p : Played). IsPlayed p (Err (stops.Full kept)) after) (sym (ap (by_many limits e play) m))
-        (played_full limits e (with_peer play) after kept f k a)
+    (played_full limits e (with_peer play) after kept f k a)

@@ -42,7 +42,7 @@ pub lives_kept : (e : Entry) (older : List Entry) (q : ℕ) (peer : Joined) → 
     peer_at (past_of (e ∷ older)) q ≡ Some peer → lives (e ∷ older) q ≡ lives older q
 lives_kept e older q peer n h k =
     is_lives (e ∷ older) q peer k ∙ peer_kept e older peer.label n (label_within older q peer h)
-        ∙ sym (is_lives older q peer h)
+    ∙ sym (is_lives older q peer h)
 
 -- and joins nobody
 pub lives_same : (e : Entry) (older : List Entry) (q : ℕ) → is_end e ≡ false →
@@ -51,7 +51,7 @@ pub lives_same : (e : Entry) (older : List Entry) (q : ℕ) → is_end e ≡ fal
 lives_same e older q n j h =
     let a : IsAlive (e ∷ older) q = is_alive (e ∷ older) q h in
     let before : peer_at (past_of older) q ≡ Some a.peer = ap (λ (joined : List Joined). peer_in joined q) (sym j)
-        ∙ a.joined in
+    ∙ a.joined in
     sym (lives_kept e older q a.peer n before a.joined) ∙ h
 
 -- the end of a live peer
@@ -67,7 +67,7 @@ lives_end k why older q l h =
     let a : IsAlive (entries.End k why ∷ older) q = is_alive (entries.End k why ∷ older) q h in
     let ends : IsAlive older k = is_alive older k l in
     let fewer = peer_ended k why older ends.peer a.peer.label ends.joined ends.alive
-        (label_within older q a.peer a.joined) in
+    (label_within older q a.peer a.joined) in
     is_lives older q a.peer a.joined ∙ and_left _ _ (sym fewer ∙ a.alive)
 
 -- the ends that follow

@@ -1,30 +1,24 @@
 -- The line of a printed step plays that step alone.
-use Rattle.std.proofs.Common.{◌≡◌, ℕ, ◌+◌, ◌<◌, ◌≤◌, List, [], ◌∷◌, ◌++◌, length, take, Bool, true, false, Option, Some, None, refl, sym, ap, subst, ◌∙◌, arith}
-use Rattle.std.specs.Prelude.{if◌then◌else◌, min, nat_le, ◌==◌}
+use Rattle.std.proofs.Common.{◌≡◌, ℕ, List, [], ◌∷◌, ◌++◌, length, take, Bool, true, false, Some, refl, sym, ap, subst, ◌∙◌, arith}
+use Rattle.std.specs.Prelude.{if◌then◌else◌, min, ◌==◌}
 use Rattle.std.proofs.lemmas.Bool.{lt-leb, ne_eqb}
 use Rattle.std.proofs.lemmas.List.{append-nil, take_all}
 use Rattle.relay_model.specs.declared.act.EndCause.TheVariants.{Gone}
-use Rattle.relay_model.specs.declared.role.Role.{Role}
-use Rattle.wl_wire.specs.Messages.{IsMessage, IsBad, id_of, opcode_of, body_of, messages, bad_size}
+use Rattle.wl_wire.specs.Messages.{IsBad, opcode_of, body_of, messages, bad_size}
 use Rattle.session_text.specs.declared.limits.Limits.{Limits}
-use Rattle.session_text.specs.declared.step.Step.{Step}
 use Rattle.session_text.specs.declared.step.Step.TheVariants as steps
-use Rattle.session_text.specs.declared.step.PeerStep.{PeerStep}
 use Rattle.session_text.specs.declared.step.PeerStep.TheVariants as peers
-use Rattle.session_text.specs.Steps.{IsBody, message_bytes, step_line}
+use Rattle.session_text.specs.Steps.{message_bytes}
 use Rattle.session_text.proofs.Printed.{message_whole}
 use Rattle.broker_model.specs.declared.journal.Entry.{Entry}
 use Rattle.broker_model.specs.declared.journal.Entry.TheVariants as entries
-use Rattle.broker_model.specs.Ids.{Joined, peer_at}
 use Rattle.broker_model.specs.Limits.{is_full}
 use Rattle.broker_model.specs.Out.{stored, out_for}
 use Rattle.broker_model.specs.Settle.{number_alive, settle}
-use Rattle.broker_core.specs.Broker.{entry_of}
 use Rattle.broker_core.specs.Taking.{lives}
 use Rattle.session_play.specs.Steps.{message_entry, steps_in, behind}
-use Rattle.session_play.specs.Played.{Waiting, Play, Played, went, of_live, with_step, step_played, steps_played, unread_by, unread_of, with_unread, bytes_played, with_peer, join_played, take_played, line_played}
-use Rattle.session_play.specs.Laws.{IsIdle, IsSent, AreStored, CanPlay, ready_for, IsSame, PrintedSteps}
-use Rattle.session_play.specs.Unread.{IsLast}
+use Rattle.session_play.specs.Played.{Waiting, Play, Played, went, step_played, steps_played, unread_by, with_unread, bytes_played, with_peer, take_played}
+use Rattle.session_play.specs.Laws.{IsIdle, IsSent, AreStored, IsSame, PrintedSteps}
 use Rattle.session_play.proofs.BytesGoOn.{left_as, live_bytes, first_is}
 use Rattle.session_play.proofs.DeadAfterBadSize.{dead_after}
 use Rattle.session_play.proofs.FirstSteps.{first_message, bad_size_steps}
@@ -32,8 +26,11 @@ use Rattle.session_play.proofs.StepAnswers.{by_full}
 use Rattle.session_play.proofs.UnreadLists.{dead_left}
 
 same : (p other : Played) → p ≡ other → IsSame p other
-same p other e = record { full = ap (λ (x : Played). x.is_full) e; journal = ap (λ (x : Played). x.play.journal) e;
-    play = λ f. ap (λ (x : Played). x.play) e }
+same p other e = record {
+  full = ap (λ (x : Played). x.is_full) e;
+  journal = ap (λ (x : Played). x.play.journal) e;
+  play = λ f. ap (λ (x : Played). x.play) e;
+}
 
 -- a peer whose unread bytes are none keeps none
 none_stays : (q : ℕ) (unread : List Waiting) → unread_by unread q ≡ [] → with_unread q [] unread ≡ unread
@@ -76,7 +73,7 @@ nothing_in q = (refl, refl)
 message_alone : (limits : Limits) (q id opcode : ℕ) (body : List ℕ) (play : Play) → IsIdle play q →
     IsSent (peers.Message id opcode body) →
     bytes_played limits q (message_bytes id opcode body) play ≡ step_played limits (entries.Message q id opcode body)
-        play
+    play
 message_alone limits q id opcode body play i s =
     let m : List ℕ = message_bytes id opcode body in
     let e : Entry = entries.Message q id opcode body in
@@ -85,27 +82,27 @@ message_alone limits q id opcode body play i s =
     let all : m ++ [] ≡ m = append-nil m in
     let entry : message_entry q m ≡ e =
     ap (λ n. entries.Message q n (opcode_of m) (body_of m)) whole.1
-        ∙ ap (λ n. entries.Message q id n (body_of m)) whole.2 ∙ ap (entries.Message q id opcode) whole.3 in
+    ∙ ap (λ n. entries.Message q id n (body_of m)) whole.2 ∙ ap (entries.Message q id opcode) whole.3 in
     let one : steps_in q m ≡ e ∷ [] =
     ap (λ (l : List ℕ). steps_in q l) (sym all) ∙ first.0 ∙ ap (λ (x : Entry). x ∷ steps_in q []) entry
-        ∙ ap (λ (l : List Entry). e ∷ l) (nothing_in q).0 in
+    ∙ ap (λ (l : List Entry). e ∷ l) (nothing_in q).0 in
     let none : behind m ≡ [] = ap (λ (l : List ℕ). behind l) (sym all) ∙ first.1 ∙ (nothing_in q).1 in
     piece_is limits q e m play i one
     ∙ ap (λ (l : List ℕ). step_played limits e (left_as q l play)) none
     ∙ ap (λ (unread : List Waiting). step_played limits e (record { journal = play.journal; unread = unread }))
-        (none_stays q play.unread i.read)
+    (none_stays q play.unread i.read)
 
 -- a bad size, behind which nothing is read
 
 bad_by : (limits : Limits) (q : ℕ) (head left : List ℕ) (play : Play) (full : Bool) → lives play.journal q ≡ true →
     is_full limits.entries play.journal (entries.BadSize q head) ≡ full →
     IsSame (step_played limits (entries.BadSize q head) (left_as q left play))
-        (step_played limits (entries.BadSize q head) play)
+    (step_played limits (entries.BadSize q head) play)
 bad_by limits q head left play true h f =
     let e : Entry = entries.BadSize q head in
     subst (λ (p : Played). IsSame p (step_played limits e play)) (sym (ap (by_full limits e (left_as q left play)) f))
     (subst (λ (p : Played). IsSame (record { play = left_as q left play; is_full = true }) p)
-        (sym (ap (by_full limits e play) f))
+    (sym (ap (by_full limits e play) f))
     (record { full = refl; journal = refl; play = λ n. cc }))
 bad_by limits q head left play false h f =
     let e : Entry = entries.BadSize q head in
@@ -113,7 +110,7 @@ bad_by limits q head left play false h f =
     same (step_played limits e (left_as q left play)) (step_played limits e play)
     (ap (by_full limits e (left_as q left play)) f
     ∙ ap (λ (unread : List Waiting). went (record { journal = J; unread = unread }))
-        (dead_left J q left play.unread (dead_after limits.store q head play.journal h))
+    (dead_left J q left play.unread (dead_after limits.store q head play.journal h))
     ∙ sym (ap (by_full limits e play) f))
 
 bad_alone : (limits : Limits) (q : ℕ) (head : List ℕ) (play : Play) → IsIdle play q → IsSent (peers.BadSize head) →
@@ -123,7 +120,7 @@ bad_alone limits q head play i s =
     let one : steps_in q head ≡ entries.BadSize q head ∷ [] =
     bad_size_steps q head (subst IsBad (sym whole) s.0) ∙ ap (λ (h : List ℕ). entries.BadSize q h ∷ []) whole in
     subst (λ (p : Played). IsSame p (step_played limits (entries.BadSize q head) play))
-        (sym (piece_is limits q (entries.BadSize q head) head play i one))
+    (sym (piece_is limits q (entries.BadSize q head) head play i one))
     (bad_by limits q head (behind head) play (is_full limits.entries play.journal (entries.BadSize q head)) i.live refl)
 
 -- a take of what is stored
@@ -135,7 +132,7 @@ take_alone limits q n play a =
     let enough = a.enough in
     let least : min n all ≡ n = omega arith in
     ap (λ (b : Bool). (if b then went play else step_played limits (entries.Took q (min n all)) play))
-        (ne_eqb (min n all) 0 (λ z. omega arith))
+    (ne_eqb (min n all) 0 (λ z. omega arith))
     ∙ ap (λ m. step_played limits (entries.Took q m) play) least
 
 pub printed_steps : PrintedSteps

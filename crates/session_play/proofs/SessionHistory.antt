@@ -1,5 +1,5 @@
 -- What lines lead to is the history of its outer steps.
-use Rattle.std.proofs.Common.{◌≡◌, ℕ, List, [], ◌∷◌, ◌++◌, map, Bool, true, false, Option, Some, None, refl, sym, ap, ◌∙◌}
+use Rattle.std.proofs.Common.{◌≡◌, ℕ, List, [], ◌∷◌, ◌++◌, map, Bool, true, false, Option, Some, None, refl}
 use Rattle.std.specs.Prelude.{if◌then◌else◌, min, nat_le, length, ◌==◌}
 use Rattle.std.specs.List.{AllByRecursion}
 use Rattle.relay_model.specs.declared.act.EndCause.TheVariants.{Gone}
@@ -17,7 +17,7 @@ use Rattle.broker_model.specs.Settle.{number_alive, settle, history, step_of, ou
 use Rattle.broker_model.proofs.Settling.{history_stays}
 use Rattle.broker_core.specs.Taking.{lives}
 use Rattle.session_play.specs.Steps.{message_entry, bad_entries, steps_in, behind}
-use Rattle.session_play.specs.Played.{Play, Played, went, with_step, step_played, steps_played, unread_of, with_unread, bytes_played, with_peer, join_played, take_played, line_played}
+use Rattle.session_play.specs.Played.{Play, Played, went, with_step, step_played, steps_played, unread_of, with_unread, bytes_played, with_peer, take_played, line_played}
 use Rattle.session_play.specs.Laws.{lines_played, unplayed, SessionLaw}
 
 -- a journal that is the history of its outer steps
@@ -52,7 +52,7 @@ steps_are limits q (e ∷ rest) play o h =
     by : (b c : Bool) → IsHistory limits (steps_played limits q rest (with_step limits e play)).play.journal →
         IsHistory limits
         (if b then (if c then record { play = play; is_full = true } else steps_played limits q rest
-            (with_step limits e play)) else went play).play.journal
+        (with_step limits e play)) else went play).play.journal
     by true true k = h
     by true false k = k
     by false c k = h
@@ -77,7 +77,7 @@ bytes_are limits q piece play h = by (lives play.journal q)
 
     by : (b : Bool) → IsHistory limits
         (if b then steps_played limits q (steps_in q bytes) (record play
-            { unread = with_unread q (behind bytes) play.unread }) else went play).play.journal
+        { unread = with_unread q (behind bytes) play.unread }) else went play).play.journal
     by true =
         steps_are limits q (steps_in q bytes) (record play { unread = with_unread q (behind bytes) play.unread })
         (all_outer q (messages bytes) (behind bytes) (bad_size bytes)) h
@@ -90,7 +90,7 @@ take_is limits q n play (Some peer) h = by (min n (length (stored (out_for limit
   where
     by : (b : Bool) → IsHistory limits
         (if b then went play else step_played limits (entries.Took q
-            (min n (length (stored (out_for limits.store play.journal peer.label))))) play).play.journal
+        (min n (length (stored (out_for limits.store play.journal peer.label))))) play).play.journal
     by true = h
     by false = step_is limits (entries.Took q (min n (length (stored (out_for limits.store play.journal peer.label)))))
         play refl h
@@ -118,7 +118,7 @@ lines_are : (limits : Limits) (all : List SessionLine) (play : Play) → IsHisto
 lines_are limits [] play h = h
 lines_are limits (line ∷ rest) play h =
     by (line_played limits line play).is_full (line_is limits line play h)
-        (lines_are limits rest (line_played limits line play).play)
+    (lines_are limits rest (line_played limits line play).play)
   where
     p : Played
     p = line_played limits line play

@@ -1,9 +1,8 @@
 -- A step of the shared state, as a session sees it.
-use Rattle.std.proofs.Common.{◌≡◌, ℕ, ◌+◌, ◌≤◌, List, [], ◌∷◌, ◌++◌, length, map, cond, set, get_or, Bool, true, false, Option, Some, None, Ok, Err, refl, sym, ap, ap₂, subst, ◌∙◌}
+use Rattle.std.proofs.Common.{◌≡◌, ℕ, ◌+◌, ◌≤◌, List, [], ◌∷◌, ◌++◌, length, map, cond, set, get_or, Bool, true, false, Some, None, Ok, Err, refl, sym, ap, ap₂, subst, ◌∙◌}
 use Rattle.std.specs.Prelude.{Result, IfSome, IfNone, IsOkUnless, nat_le, filter, position, ◌==◌, IfOk}
 use Rattle.std.proofs.lemmas.List.{map-append}
 use Rattle.relay_model.specs.declared.role.Role.{Role}
-use Rattle.session_text.specs.declared.limits.Limits.{Limits}
 use Rattle.session_text.specs.declared.step.Step.{Step}
 use Rattle.broker_model.specs.declared.journal.Entry.{Entry}
 use Rattle.broker_model.specs.declared.journal.Entry.TheVariants as entries
@@ -23,7 +22,7 @@ use Rattle.broker_core.specs.Taking.{lives}
 use Rattle.broker_core.specs.Watched.{Watched}
 use Rattle.session_play.specs.declared.session.Stop.TheVariants as stops
 use Rattle.session_play.specs.declared.unread.Unread.{Unread}
-use Rattle.session_play.specs.Played.{Waiting, Play, Played, unread_by, unread_of, with_unread, of_live, with_step, step_played, with_peer, join_played, take_played}
+use Rattle.session_play.specs.Played.{Waiting, Play, unread_by, unread_of, with_unread, of_live, with_step, step_played, with_peer, join_played, take_played}
 use Rattle.session_play.specs.Playing.{Ongoing, is_waiting, AreWaiting, IsThere, IsMore, IsPlayed, IsWatched, IsRead}
 use Rattle.session_play.specs.declared.unread.Found.{Found}
 use Rattle.wl_wire.specs.Streams.{begun}
@@ -60,30 +59,30 @@ stepped e b after was now a l =
 pub step_ok : {T : Type 0} (s : Ongoing) (b after : Broker) (was now : List Unread) (step : Step) (x : T) →
     view_of b was ≡ s → IsSaid step →
     IsThere step s.play.journal → IfSome (refusal b step) (λ (w : Refused). Ok x ≡ Err w) →
-        after ≡ broker.with_step (entry_of step) b → AreLeft after was now →
+    after ≡ broker.with_step (entry_of step) b → AreLeft after was now →
     IsPlayed (step_played s.limits (entry_of step) s.play) (Ok tt) (play_in after now)
 step_ok s b after was now step x v said there r a l =
     let at : IsThere step b.journal → IsPlayed (step_played b.limits (entry_of step) (play_in b was)) (Ok tt)
-        (play_in after now) =
+    (play_in after now) =
     λ t. played_ok b.limits (entry_of step) (play_in b was) (play_in after now)
-        (step_taken b step (Ok x) x said t refl r) (stepped (entry_of step) b after was now a l) in
+    (step_taken b step (Ok x) x said t refl r) (stepped (entry_of step) b after was now a l) in
     subst (λ (y : Ongoing). IsThere step y.play.journal → IsPlayed (step_played y.limits (entry_of step) y.play) (Ok tt)
-        (play_in after now)) v at there
+    (play_in after now)) v at there
 
 pub step_waits : (s : Ongoing) (b after : Broker) (was now : List Unread) (step : Step) → view_of b was ≡ s →
     IsSaid step → IsThere step s.play.journal →
     after ≡ broker.with_step (entry_of step) b → AreLeft after was now → AreWaiting b.journal (map waiting was) →
-        AreWaiting after.journal (map waiting now)
+    AreWaiting after.journal (map waiting now)
 step_waits s b after was now step v said there a l w =
     let t : IsThere step b.journal = subst (λ (y : Ongoing). IsThere step y.play.journal) (sym v) there in
     stays_waiting b.journal after.journal was now w
     (subst (λ (x : Broker). NoMoreLive b.journal x.journal) (sym a) (said_before b.limits.store step b.journal said t))
-        l
+    l
 
 pub step_watched : {W : Type 0} (R : W → Watched → W → Type 0) (s : Ongoing) (b after : Broker) (was : List Unread)
     (e : Entry) (w u : W) → view_of b was ≡ s →
     after ≡ broker.with_step e b → broker.IsWatched R b w after u →
-        IsWatched R s.limits.store s.play.journal w after.journal u
+    IsWatched R s.limits.store s.play.journal w after.journal u
 step_watched {W} R s b after was e w u v a h =
     subst (λ (y : Ongoing). IsWatched R y.limits.store y.play.journal w after.journal u) v (record {
       grew = subst (λ (x : Broker). IsMore b.journal x.journal) (sym a) (step_more b.limits.store e b.journal);
@@ -97,7 +96,7 @@ pub step_short : (s : Ongoing) (b after : Broker) (was : List Unread) (e : Entry
 step_short s b after was e v a =
     subst (λ (y : Ongoing). IsMore after.journal (step_played y.limits e y.play).play.journal) v
     (subst (λ (x : Broker). IsMore x.journal (step_played b.limits e (play_in b was)).play.journal) (sym a)
-        (step_grows b.limits e (play_in b was)))
+    (step_grows b.limits e (play_in b was)))
 
 pub none_watched : {W : Type 0} (R : W → Watched → W → Type 0) (s : Ongoing) (b : Broker) (was : List Unread) (w : W) →
     view_of b was ≡ s →
@@ -110,7 +109,7 @@ none_watched {W} R s b was w v = subst (λ (y : Ongoing). IsWatched R y.limits.s
 pub join_ok : {T : Type 0} (s : Ongoing) (b after : Broker) (was now : List Unread) (u : Unread) (role : Role) (x : T) →
     view_of b was ≡ s →
     IfSome (join_refusal b role) (λ (w : JoinRefusal). Ok x ≡ Err w) → after ≡ broker.with_step (entries.Join role) b →
-        u.number ≡ length (past_of after.journal).joined →
+    u.number ≡ length (past_of after.journal).joined →
     waiting u ≡ record { number = u.number; bytes = [] } → AreLeft after (was ++ u ∷ []) now →
     IsPlayed (join_played s.limits (entries.Join role) s.play) (Ok tt) (play_in after now)
 join_ok s b after was now u role x v r a n z l =
@@ -120,7 +119,7 @@ join_ok s b after was now u role x v r a n z l =
     n ∙ ap (λ (y : Broker). length (past_of y.journal).joined) a ∙ joined_more b.limits.store role b.journal in
     let more : map waiting (was ++ u ∷ []) ≡ (with_peer (play_in b was)).unread =
     map-append waiting was (u ∷ []) ∙ ap (λ (w : Waiting). map waiting was ++ w ∷ [])
-        (z ∙ ap (λ k. record { number = k; bytes = [] }) number) in
+    (z ∙ ap (λ k. record { number = k; bytes = [] }) number) in
     let next : play_in after now ≡ with_step b.limits e (with_peer (play_in b was)) =
     stepped e b after (was ++ u ∷ []) now a l
     ∙ ap (λ (unread : List Waiting). with_step b.limits e (record { journal = b.journal; unread = unread })) more in
@@ -130,7 +129,7 @@ join_ok s b after was now u role x v r a n z l =
 pub join_waits : (s : Ongoing) (b after : Broker) (was now : List Unread) (u : Unread) (role : Role) →
     after ≡ broker.with_step (entries.Join role) b →
     u.number ≡ length (past_of after.journal).joined → AreLeft after (was ++ u ∷ []) now →
-        AreWaiting b.journal (map waiting was) →
+    AreWaiting b.journal (map waiting was) →
     AreWaiting after.journal (map waiting now)
 join_waits s b after was now u role a n l w =
     join_waiting b.limits.store role b.journal after.journal was now u w (ap (λ (x : Broker). x.journal) a) n l
@@ -149,13 +148,13 @@ pub join_short : (s : Ongoing) (b after : Broker) (was : List Unread) (role : Ro
 join_short s b after was role v a =
     subst (λ (y : Ongoing). IsMore after.journal (join_played y.limits (entries.Join role) y.play).play.journal) v
     (subst (λ (x : Broker). IsMore x.journal (join_played b.limits (entries.Join role) (play_in b was)).play.journal)
-        (sym a)
+    (sym a)
     (join_grows b.limits (entries.Join role) (play_in b was)))
 
 many_by : (b : Broker) (was : List Unread) (role : Role) (many full : Bool) (kept : Kept) (n : ℕ) (why : JoinRefusal) →
     why ≡ join.TooManyPeers n →
     nat_le 64 (number_alive b.journal) ≡ many → IsRefused many full kept why →
-        IsPlayed (join_played b.limits (entries.Join role) (play_in b was)) (Ok tt) (play_in b was)
+    IsPlayed (join_played b.limits (entries.Join role) (play_in b was)) (Ok tt) (play_in b was)
 many_by b was role many full kept n why w e (too_many m t) = many_joined b.limits (entries.Join role) (play_in b was)
     (play_in b was) (e ∙ m) refl
 many_by b was role many full kept n why w e (at_limit m f t) = (let no = sym w ∙ t in cc)
@@ -171,18 +170,18 @@ join_many s b after was now role r why n v e w f o a u =
     subst (λ (p : Play). IsPlayed (join_played s.limits (entries.Join role) s.play) (Ok tt) p) same
     (subst (λ (y : Ongoing). IsPlayed (join_played y.limits (entries.Join role) y.play) (Ok tt) (play_in b was)) v
     (many_by b was role (nat_le 64 (number_alive b.journal)) (is_full b.limits.entries b.journal (entries.Join role))
-        (kept_in b.journal) n why w refl
+    (kept_in b.journal) n why w refl
     (join_refused b role r why e f o)))
 
 full_by : (b : Broker) (was : List Unread) (role : Role) (many full : Bool) (kept : Kept) (why : JoinRefusal) →
     why ≡ join.JournalFull kept →
     nat_le 64 (number_alive b.journal) ≡ many → is_full b.limits.entries b.journal (entries.Join role) ≡ full →
-        IsRefused many full (kept_in b.journal) why →
+    IsRefused many full (kept_in b.journal) why →
     IsPlayed (join_played b.limits (entries.Join role) (play_in b was)) (Err (stops.Full kept)) (play_in b was)
 full_by b was role many full kept why w e g (too_many m t) = (let no = sym w ∙ t in cc)
 full_by b was role many full kept why w e g (at_limit m f t) =
     joined_full b.limits (entries.Join role) (play_in b was) (play_in b was) kept (e ∙ m) (g ∙ f)
-        (let same = sym w ∙ t in cc) refl
+    (let same = sym w ∙ t in cc) refl
 full_by b was role many full kept why w e g (short t) = (let no = sym w ∙ t in cc)
 
 pub join_full : {T : Type 0} (s : Ongoing) (b after : Broker) (was now : List Unread) (role : Role)
@@ -194,9 +193,9 @@ join_full s b after was now role r why kept v e w f o a u =
     let same : play_in b was ≡ play_in after now = ap₂ play_in (sym a) (sym u) in
     subst (λ (p : Play). IsPlayed (join_played s.limits (entries.Join role) s.play) (Err (stops.Full kept)) p) same
     (subst (λ (y : Ongoing). IsPlayed (join_played y.limits (entries.Join role) y.play) (Err (stops.Full kept))
-        (play_in b was)) v
+    (play_in b was)) v
     (full_by b was role (nat_le 64 (number_alive b.journal)) (is_full b.limits.entries b.journal (entries.Join role))
-        kept why w refl refl
+    kept why w refl refl
     (join_refused b role r why e f o)))
 
 -- bytes were taken
@@ -206,29 +205,29 @@ pub take_waits : (b after : Broker) (was now : List Unread) (q n : ℕ) → afte
     AreWaiting b.journal (map waiting was) → AreWaiting after.journal (map waiting now)
 take_waits b after was now q n a l w =
     stays_waiting b.journal after.journal was now w (subst (λ (x : Broker). NoMoreLive b.journal x.journal) (sym a)
-        (took_before b.limits.store q n b.journal)) l
+    (took_before b.limits.store q n b.journal)) l
 
 pub take_short : (s : Ongoing) (b after : Broker) (was : List Unread) (q n : ℕ) → view_of b was ≡ s → after ≡ b →
     IsMore after.journal (take_played s.limits q n s.play (peer_at (past_of s.play.journal) q)).play.journal
 take_short s b after was q n v a =
     subst (λ (y : Ongoing). IsMore after.journal (take_played y.limits q n y.play
-        (peer_at (past_of y.play.journal) q)).play.journal) v
+    (peer_at (past_of y.play.journal) q)).play.journal) v
     (subst (λ (x : Broker). IsMore x.journal (take_played b.limits q n (play_in b was)
-        (peer_at (past_of b.journal) q)).play.journal) (sym a)
+    (peer_at (past_of b.journal) q)).play.journal) (sym a)
     (take_grows b.limits q n (play_in b was) (peer_at (past_of b.journal) q)))
 
 pub take_ok : (s : Ongoing) (b after : Broker) (was now : List Unread) (q n k t : ℕ)
     (buf places buf_after places_after : List ℕ) → view_of b was ≡ s →
     1 ≤ n → length buf ≡ n → IfSome (take_refusal b q) (λ why. took.Bytes k t ≡ why) →
     IfSome (out_at b.limits.store b.journal q) (λ out. IsTaken out b.journal q buf places (k, t) buf_after places_after
-        (entries.Took q k ∷ b.journal)) →
+    (entries.Took q k ∷ b.journal)) →
     after ≡ broker.with_step (entries.Took q k) b → AreLeft after was now →
     IsPlayed (take_played s.limits q n s.play (peer_at (past_of s.play.journal) q)) (Ok tt) (play_in after now)
 take_ok s b after was now q n k t buf places buf_after places_after v l len r i a left =
     subst (λ (y : Ongoing). IsPlayed (take_played y.limits q n y.play (peer_at (past_of y.play.journal) q)) (Ok tt)
-        (play_in after now)) v
+    (play_in after now)) v
     (bytes_taken b (map waiting was) q n k t buf places buf_after places_after (took.Bytes k t) (play_in after now) l
-        len refl r i
+    len refl r i
     (stepped (entries.Took q k) b after was now a left))
 
 -- a piece was read
@@ -263,7 +262,7 @@ pub read_waits : (journal : List Entry) (was : List Unread) (q place : ℕ) (old
     AreWaiting journal (map waiting was) → AreWaiting journal (map waiting (set was place new))
 read_waits journal was q place old new h n w k l =
     ap (is_waiting k) (set_at q was place new h.at (n ∙ h.number))
-        ∙ waiting_with q (begun new.assembler) k (map waiting was) ∙ w k l
+    ∙ waiting_with q (begun new.assembler) k (map waiting was) ∙ w k l
 
 read_by : (s after : Ongoing) (b : Broker) (was : List Unread) (q place : ℕ) (old new : Unread) (piece : List ℕ)
     (found : Found) → view_of b was ≡ s →
@@ -282,9 +281,9 @@ read_by s after b was q place old new piece found v h n u f = record {
 pub read_is : {E : Type 0} (s after : Ongoing) (b : Broker) (was : List Unread) (q place : ℕ) (old new : Unread)
     (piece : List ℕ) (r : Result Found E) →
     view_of b was ≡ s → IsHeld was q place old → new.number ≡ old.number →
-        after.play.unread ≡ map waiting (set was place new) →
+    after.play.unread ≡ map waiting (set was place new) →
     IfOk r (λ found. Finds old.number (begun old.assembler ++ piece) piece found (begun new.assembler)) →
-        IfOk r (λ found. IsRead s q piece found after)
+    IfOk r (λ found. IsRead s q piece found after)
 read_is s after b was q place old new piece (Ok found) v h n u f = read_by s after b was q place old new piece found v h
     n u f
 read_is s after b was q place old new piece (Err e) v h n u f = tt

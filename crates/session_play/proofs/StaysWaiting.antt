@@ -1,11 +1,9 @@
 -- Each live peer has its unread bytes after a step, too.
-use Rattle.std.proofs.Common.{◌≡◌, ℕ, ◌+◌, ◌<◌, ◌≤◌, List, [], ◌∷◌, ◌++◌, length, map, Bool, true, false, Result, Ok, Err, refl, sym, ap, subst, ◌∙◌, arith, length-append, inl, inr, ◌⊎◌}
-use Rattle.std.specs.Prelude.{◌==◌, filter, OnErr, is_ok, if◌then◌else◌}
+use Rattle.std.proofs.Common.{◌≡◌, ℕ, ◌+◌, ◌<◌, ◌≤◌, List, [], ◌∷◌, ◌++◌, length, map, true, Result, Ok, Err, refl, sym, ap, subst, ◌∙◌, arith, length-append, inl, inr, ◌⊎◌}
+use Rattle.std.specs.Prelude.{filter, OnErr, is_ok}
 use Rattle.std.proofs.lemmas.Bool.{eq-eqb}
 use Rattle.std.proofs.lemmas.List.{map-append}
-use Rattle.wl_wire.specs.Streams.{Assembly, Begun, begun}
 use Rattle.relay_model.specs.declared.role.Role.{Role}
-use Rattle.session_text.specs.declared.limits.Limits.{Limits}
 use Rattle.session_text.specs.declared.step.Step.{Step}
 use Rattle.session_text.specs.declared.step.Step.TheVariants as steps
 use Rattle.session_text.specs.declared.step.PeerStep.TheVariants as peers
@@ -18,7 +16,7 @@ use Rattle.broker_core.specs.Broker.{entry_of, IsSaid}
 use Rattle.broker_core.specs.Taking.{lives}
 use Rattle.broker_core.proofs.AliveAfterEntry.{same_settled}
 use Rattle.session_play.specs.declared.unread.Unread.{Unread}
-use Rattle.session_play.specs.Played.{Waiting, of_live}
+use Rattle.session_play.specs.Played.{Waiting}
 use Rattle.session_play.specs.Playing.{IsThere, is_waiting, AreWaiting}
 use Rattle.session_play.specs.Unread.{waiting}
 use Rattle.session_play.proofs.LivesBefore.{lives_same, lives_end, lives_settle, lives_join}
@@ -34,10 +32,10 @@ pub said_before : (capacity : ℕ) (step : Step) (journal : List Entry) → IsSa
 said_before capacity (steps.Join role) journal s t q h = absurd s
 said_before capacity (steps.Peer k (peers.Message id opcode body)) journal s t q h =
     lives_same (entries.Message k id opcode body) journal q refl refl
-        (lives_settle capacity (entries.Message k id opcode body ∷ journal) q h)
+    (lives_settle capacity (entries.Message k id opcode body ∷ journal) q h)
 said_before capacity (steps.Peer k (peers.BadSize head)) journal s t q h =
     lives_same (entries.BadSize k head) journal q refl refl (lives_settle capacity (entries.BadSize k head ∷ journal) q
-        h)
+    h)
 said_before capacity (steps.Peer k peers.Gone) journal s t q h =
     lives_end k Gone journal q t.1 (lives_settle capacity (entries.End k Gone ∷ journal) q h)
 said_before capacity (steps.Shell step) journal s t q h =
@@ -78,12 +76,12 @@ join_waiting capacity role journal after was now u a e n f q h =
     let number : u.number ≡ length (past_of journal).joined + 1 =
     n ∙ ap (λ (l : List Entry). length (past_of l).joined) e ∙ joined_more capacity role journal in
     let old = lives_join role journal q (lives_settle capacity (entries.Join role ∷ journal) q
-        (ap (λ (l : List Entry). lives l q) (sym e) ∙ h)) in
+    (ap (λ (l : List Entry). lives l q) (sym e) ∙ h)) in
     let has : is_waiting q (map waiting (was ++ u ∷ [])) ≡ true =
     ap (is_waiting q) (map-append waiting was (u ∷ [])) ∙ join_has journal (map waiting was) (waiting u) q number a old
-        in
+    in
     subst (λ (ws : List Waiting). is_waiting q ws ≡ true) (sym (given_back after (was ++ u ∷ []) now f))
-        (waiting_kept after q (map waiting (was ++ u ∷ [])) h has)
+    (waiting_kept after q (map waiting (was ++ u ∷ [])) h has)
 
 -- room was made, so it was put
 pub is_put : {T : Type 0} {E : Type 0} (r : Result T E) (most there : ℕ) → OnErr r (most ≤ there) → there < most →

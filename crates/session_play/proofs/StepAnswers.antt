@@ -1,20 +1,18 @@
 -- What a step of the shared state that was taken, or refused, makes of what is played.
-use Rattle.std.proofs.Common.{◌≡◌, ℕ, List, ◌∷◌, Bool, true, false, Option, Some, None, Result, Ok, Err, refl, sym, ap, subst, ◌∙◌, inl, inr, ◌⊎◌}
-use Rattle.std.specs.Prelude.{if◌then◌else◌, option_map, IfSome, IfNone}
+use Rattle.std.proofs.Common.{◌≡◌, Bool, true, false, Option, Some, None, Result, Ok, Err, refl, sym, ap, subst, ◌∙◌}
+use Rattle.std.specs.Prelude.{if◌then◌else◌, option_map, IfSome}
 use Rattle.session_text.specs.declared.limits.Limits.{Limits}
 use Rattle.session_text.specs.declared.step.Step.{Step}
 use Rattle.session_text.specs.declared.step.Step.TheVariants as steps
-use Rattle.session_text.specs.declared.step.PeerStep.TheVariants as peers
 use Rattle.broker_model.specs.declared.journal.Entry.{Entry}
 use Rattle.broker_model.specs.declared.journal.Kept.{Kept}
 use Rattle.broker_model.specs.Limits.{is_full}
 use Rattle.broker_core.specs.declared.shared.Refused.{Refused}
 use Rattle.broker_core.specs.declared.shared.Refused.TheVariants as refused
-use Rattle.broker_core.specs.Broker.{Broker, kept_in, entry_of, peer_entry, peer_refusal, refusal_if_full, refusal, IsSaid, IsAccepted}
+use Rattle.broker_core.specs.Broker.{Broker, kept_in, entry_of, peer_entry, peer_refusal, refusal_if_full, refusal, IsSaid}
 use Rattle.session_play.specs.declared.session.Stop.TheVariants as stops
 use Rattle.session_play.specs.Played.{Play, Played, went, with_step, step_played}
-use Rattle.session_play.specs.Playing.{IsThere, IsPlayed, IsMore}
-use Rattle.session_play.proofs.JournalGrows.{step_grows}
+use Rattle.session_play.specs.Playing.{IsThere, IsPlayed}
 
 -- why a step is refused, by whether the journal is full
 abbrev refusal_by : Bool → Kept → Option Refused

@@ -1,7 +1,6 @@
 -- The unread bytes of live peers, as one of them sends more and others end.
 use Rattle.std.proofs.Common.{◌≡◌, ℕ, List, [], ◌∷◌, ◌++◌, Bool, true, false, cond, refl, sym, ap, ◌∙◌}
-use Rattle.std.specs.Prelude.{◌==◌, ◌||◌, filter, if◌then◌else◌}
-use Rattle.std.specs.List.{list_any}
+use Rattle.std.specs.Prelude.{◌==◌, ◌||◌, if◌then◌else◌}
 use Rattle.std.proofs.lemmas.Bool.{eqb-true}
 use Rattle.broker_model.specs.declared.journal.Entry.{Entry}
 use Rattle.broker_core.specs.Taking.{lives}
@@ -43,11 +42,12 @@ alive_left journal q first bytes (w ∷ rest) h = by (w.number == q) refl (alive
     other : (b : Bool) → (w.number == q) ≡ false → with_unread q bytes (of_live journal (with_unread q first rest)) ≡
         of_live journal (with_unread q bytes rest) →
         with_unread q bytes (cond b (w ∷ of_live journal (with_unread q first rest))
-            (of_live journal (with_unread q first rest)))
+        (of_live journal (with_unread q first rest)))
         ≡ cond b (w ∷ of_live journal (with_unread q bytes rest)) (of_live journal (with_unread q bytes rest))
     other true e k = ap (first_by q bytes w (of_live journal (with_unread q first rest))) e
         ∙ ap (λ (ws : List Waiting). w ∷ ws) k
     other false e k = k
+
     by : (b : Bool) → (w.number == q) ≡ b → with_unread q bytes (of_live journal (with_unread q first rest)) ≡ of_live
         journal (with_unread q bytes rest) →
         with_unread q bytes (of_live journal (first_by q first w rest b)) ≡ of_live journal (first_by q bytes w rest b)
@@ -71,12 +71,14 @@ none_left journal q (w ∷ rest) = by (w.number == q) refl (none_left journal q 
         unread_by (cond b (record w { bytes = [] } ∷ of_live journal rest) (of_live journal rest)) q ≡ []
     gone true e l f = ap (λ (b : Bool). (if b then [] else unread_by (of_live journal rest) q)) e
     gone false e l f = f (ap (lives journal) (sym (eqb-true w.number q e)) ∙ l)
+
     other : (b : Bool) → (w.number == q) ≡ false → unread_by (of_live journal (with_unread q [] rest)) q ≡ [] →
         unread_by (cond b (w ∷ of_live journal (with_unread q [] rest)) (of_live journal (with_unread q [] rest))) q ≡
-            []
+        []
     other true e k = ap (λ (b : Bool). (if b then w.bytes else unread_by (of_live journal (with_unread q [] rest)) q)) e
         ∙ k
     other false e k = k
+
     by : (b : Bool) → (w.number == q) ≡ b → unread_by (of_live journal (with_unread q [] rest)) q ≡ [] →
         unread_by (of_live journal (first_by q [] w rest b)) q ≡ []
     by true e k =
@@ -100,6 +102,7 @@ waiting_kept journal q (w ∷ rest) l h = by (w.number == q) refl h (waiting_kep
         is_waiting q (cond b (w ∷ of_live journal rest) (of_live journal rest)) ≡ true
     more true k = or_right (w.number == q) (is_waiting q (of_live journal rest)) k
     more false k = k
+
     by : (b : Bool) → (w.number == q) ≡ b → (b || is_waiting q rest) ≡ true →
         (is_waiting q rest ≡ true → is_waiting q (of_live journal rest) ≡ true) →
         is_waiting q (of_live journal (w ∷ rest)) ≡ true

@@ -1,5 +1,5 @@
 -- The place of a peer's unread bytes among those that are held.
-use Rattle.std.proofs.Common.{◌≡◌, ℕ, zero, suc, ◌+◌, ◌<◌, ◌≤◌, List, [], ◌∷◌, length, map, set, get_or, Bool, true, false, cond, not, Option, Some, None, refl, sym, ap, subst, ◌∙◌, arith}
+use Rattle.std.proofs.Common.{◌≡◌, ℕ, zero, suc, ◌+◌, ◌<◌, ◌≤◌, List, [], ◌∷◌, length, map, set, get_or, Bool, true, false, cond, not, Some, None, refl, sym, ap, subst, ◌∙◌, arith}
 use Rattle.std.specs.Prelude.{◌==◌, ◌||◌, nat_lt, position, filter, if◌then◌else◌}
 use Rattle.std.specs.List.{position_or_len}
 use Rattle.std.proofs.lemmas.Bool.{ltb-true, ltb-false, eqb-true}
@@ -83,7 +83,7 @@ bytes_at q [] place d h = absurd h
 bytes_at q (u ∷ rest) zero d h = ap (λ (b : Bool). (if b then begun u.assembler else unread_by (map waiting rest) q)) h
 bytes_at q (u ∷ rest) (suc place) d h =
     ap (λ (b : Bool). (if b then begun u.assembler else unread_by (map waiting rest) q)) h.0
-        ∙ bytes_at q rest place d h.1
+    ∙ bytes_at q rest place d h.1
 
 -- and what stands there afterwards
 pub set_at : (q : ℕ) (unread : List Unread) (place : ℕ) (u : Unread) → IsAt q unread place → u.number ≡ q →

@@ -46,7 +46,7 @@ with_step limits e play =
 abbrev pub step_played : Limits → Entry → Play → Played
 step_played limits e play =
     (if is_full limits.entries play.journal e then record { play = play; is_full = true } else went
-        (with_step limits e play))
+    (with_step limits e play))
 
 -- steps of the peer q, as long as it is alive and the journal isn't full
 abbrev pub steps_played : Limits → ℕ → List Entry → Play → Played

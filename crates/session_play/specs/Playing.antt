@@ -1,5 +1,5 @@
 -- A session as far as it is played.
-use Rattle.std.specs.Prelude.{◌≡◌, ℕ, ◌==◌, List, [], ◌∷◌, ◌++◌, length, Bool, true, false, string_bytes, map, Option, Some, None, Result, Ok, Err, String}
+use Rattle.std.specs.Prelude.{◌≡◌, ℕ, ◌==◌, List, [], ◌++◌, length, Bool, true, false, string_bytes, Option, Result, Ok, Err, String}
 use Rattle.std.specs.List.{list_any}
 use Rattle.std.specs.Global.{Global}
 use Rattle.session_text.specs.declared.limits.Limits.{Limits}
@@ -88,7 +88,7 @@ pub record IsFront (store : ℕ) (before after : Play) (text : String Global) : 
 abbrev pub IsStopped : ℕ → Played → Play → Play → PlayEnd → Type 0
 IsStopped store p before after (ends.JournalFull kept text) =
     (p.is_full ≡ true) × (kept ≡ kept_in p.play.journal) × IsWritten store before p.play text ×
-        (after.journal ≡ p.play.journal)
+    (after.journal ≡ p.play.journal)
 IsStopped store p before after (ends.NoMemory text) = IsMore after.journal p.play.journal × IsFront store before after
     text
 

@@ -37,10 +37,10 @@ impl Model for Player {
     ghost Value = { Playing };
 
     ghost view = { λ p. record {
-        limits = p.session.limits;
-        play = p.session.play;
-        is_spent = is_some p.stopped;
-        stopped = p.stopped;
+      limits = p.session.limits;
+      play = p.session.play;
+      is_spent = is_some p.stopped;
+      stopped = p.stopped;
     } };
 }
 
@@ -65,10 +65,10 @@ impl Player {
     pub fn new(alloc: Global, limits: Limits) -> Result<Player, NoMemory>
         requires limits { IsLimits limits }
         ensures new { IfOk result (λ p. p ≡ record {
-            limits = limits;
-            play = record { journal = []; unread = [] };
-            is_spent = false;
-            stopped = None;
+          limits = limits;
+          play = record { journal = []; unread = [] };
+          is_spent = false;
+          stopped = None;
         }) }
     {
         Ok(Player {

@@ -56,8 +56,8 @@ impl Model for Session {
     ghost Value = { Ongoing };
 
     ghost view = { λ s. record {
-        limits = s.shared.limits;
-        play = record { journal = s.shared.journal; unread = map waiting s.unread.items };
+      limits = s.shared.limits;
+      play = record { journal = s.shared.journal; unread = map waiting s.unread.items };
     } };
 
     ghost invariant = { λ s. AreWaiting s.shared.journal (map waiting s.unread.items) };
@@ -83,8 +83,8 @@ impl Session {
     pub(crate) fn new(alloc: Global, limits: Limits) -> Result<Session, NoMemory>
         requires limits { IsLimits limits }
         ensures new { IfOk result (λ s. s ≡ record {
-            limits = limits;
-            play = record { journal = []; unread = [] };
+          limits = limits;
+          play = record { journal = []; unread = [] };
         }) }
     {
         Ok(Session {
@@ -170,7 +170,12 @@ impl Session {
     }
 
     /// The first bytes that are stored for a peer are taken.
-    pub(crate) fn take<W: Watch>(&mut self, number: u32, most: u32, watch: &mut W) -> Result<(), Stop>
+    pub(crate) fn take<W: Watch>(
+        &mut self,
+        number: u32,
+        most: u32,
+        watch: &mut W,
+    ) -> Result<(), Stop>
         requires some { 1 ≤ most }
         requires piece { most ≤ 4096 }
         ensures limits { self.new.limits ≡ self.old.limits }
@@ -181,7 +186,10 @@ impl Session {
     {
         let mut bytes = [0u8; 4096];
         let mut tokens = [0u32; 256];
-        match self.shared.take_watched(number, &mut bytes[..most as usize], &mut tokens, watch) {
+        match self
+            .shared
+            .take_watched(number, &mut bytes[..most as usize], &mut tokens, watch)
+        {
             Took::Bytes(..) => {
                 forget_ended(&self.shared, &mut self.unread);
                 Ok(())

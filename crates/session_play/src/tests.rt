@@ -52,7 +52,10 @@ fn all_refusals(rt: &impl Abort, player: &mut Player) {
     assert!(rt; player.line(&SessionLine::Join(Role::App)).is_ok());
     let again = player.line(&SessionLine::Join(Role::App));
     assert!(rt; matches!(again, Err(PlayEnd::JournalFull(_, _))));
-    assert_eq!(rt; player.line_watched(&SessionLine::Gone(1), &mut ()), Err(Stop::Full(full)));
+    assert_eq!(rt;
+        player.line_watched(&SessionLine::Gone(1), &mut ()),
+        Err(Stop::Full(full))
+    );
     let gone = player.line(&SessionLine::Gone(1));
     assert!(rt; matches!(gone, Err(PlayEnd::JournalFull(_, _))));
     assert_eq!(rt; player.entries(), 1);
