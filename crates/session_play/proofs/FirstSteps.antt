@@ -1,5 +1,5 @@
 -- The first step that bytes give, by what they begin with.
-use Rattle.std.proofs.Common.{◌≡◌, ℕ, zero, suc, ◌+◌, ◌-◌, ◌%◌, ◌<◌, ◌≤◌, Bool, true, false, leb, not, ◌&&◌, List, [], ◌∷◌, ◌++◌, length, map, take, drop, Option, Some, None, refl, sym, ap, subst, ◌∙◌, arith, append_assoc, length-append, length-drop}
+use Rattle.std.proofs.Common.{◌≡◌, ℕ, zero, suc, ◌+◌, ◌%◌, ◌<◌, ◌≤◌, Bool, true, false, leb, ◌&&◌, List, [], ◌∷◌, ◌++◌, length, map, take, drop, Option, Some, None, refl, sym, ap, subst, ◌∙◌, arith, append_assoc, length-append, length-drop}
 use Rattle.std.proofs.lemmas.List.{length-take-le, length-take, drop-drop, take-append-drop, take_at, drop_at}
 use Rattle.std.proofs.lemmas.Bool.{and_parts, leb-true, le-leb, lt-leb, eq-eqb, eqb-true}
 use Rattle.wl_wire.specs.Messages.{id_of, opcode_of, body_of, size_of, is_good, is_whole, messages_within, messages, joined, bad_size_at, bad_size, IsGoodSize, IsMessage, IsPartial, IsBad}
@@ -22,7 +22,8 @@ record IsHeaded (bytes : List ℕ) : Type 0 where
 
 headed : (bytes : List ℕ) → is_whole bytes ≡ true → IsHeaded bytes
 headed bytes e =
-    let (front, there) = and_parts (leb 8 (length bytes) && is_good (size_of bytes)) (leb (size_of bytes) (length bytes)) e in
+    let (front, there) = and_parts (leb 8 (length bytes) && is_good (size_of bytes))
+    (leb (size_of bytes) (length bytes)) e in
     let (header, good) = and_parts (leb 8 (length bytes)) (is_good (size_of bytes)) front in
     let (low, four) = and_parts (leb 8 (size_of bytes) && leb (size_of bytes) 4096) _ good in
     let (least, most) = and_parts (leb 8 (size_of bytes)) (leb (size_of bytes) 4096) low in
@@ -49,24 +50,29 @@ enough_by m n bytes false e lm ln k = within_none (suc m) bytes e ∙ sym (withi
 enough_by m n bytes true e lm ln k =
     let h : IsHeaded bytes = headed bytes e in
     let size = h.size in
-    let shorter : length (drop (size_of bytes) bytes) + size_of bytes ≡ length bytes = (let there = h.there in omega (arith, length-drop (size_of bytes) bytes)) in
-    within_first m bytes e ∙ ap (λ (r : List (List ℕ)). take (size_of bytes) bytes ∷ r) (k (drop (size_of bytes) bytes) (omega arith) (omega arith))
+    let shorter : length (drop (size_of bytes) bytes) + size_of bytes ≡ length bytes =
+    (let there = h.there in omega (arith, length-drop (size_of bytes) bytes)) in
+    within_first m bytes e ∙ ap (λ (r : List (List ℕ)). take (size_of bytes) bytes ∷ r)
+    (k (drop (size_of bytes) bytes) (omega arith) (omega arith))
     ∙ sym (within_first n bytes e)
 
-enough : (m n : ℕ) (bytes : List ℕ) → length bytes ≤ m → length bytes ≤ n → messages_within m bytes ≡ messages_within n bytes
+enough : (m n : ℕ) (bytes : List ℕ) → length bytes ≤ m → length bytes ≤ n →
+    messages_within m bytes ≡ messages_within n bytes
 enough zero n bytes lm ln = sym (within_none n bytes (empty_none bytes lm))
 enough (suc m) zero bytes lm ln = within_none (suc m) bytes (empty_none bytes ln)
 enough (suc m) (suc n) bytes lm ln = enough_by m n bytes (is_whole bytes) refl lm ln (enough m n)
 
 -- the first message and those of the rest, or none
 
-messages_next : (bytes : List ℕ) → is_whole bytes ≡ true → messages bytes ≡ take (size_of bytes) bytes ∷ messages (drop (size_of bytes) bytes)
+messages_next : (bytes : List ℕ) → is_whole bytes ≡ true → messages bytes ≡ take (size_of bytes) bytes ∷ messages
+    (drop (size_of bytes) bytes)
 unfolding messages
 messages_next bytes e =
     let rest : List ℕ = drop (size_of bytes) bytes in
     let shorter = length-drop (size_of bytes) bytes in
     enough (length bytes) (suc (length bytes)) bytes (omega arith) (omega arith) ∙ within_first (length bytes) bytes e
-    ∙ ap (λ (r : List (List ℕ)). take (size_of bytes) bytes ∷ r) (enough (length bytes) (length rest) rest (omega arith) (omega arith))
+    ∙ ap (λ (r : List (List ℕ)). take (size_of bytes) bytes ∷ r)
+    (enough (length bytes) (length rest) rest (omega arith) (omega arith))
 
 messages_none : (bytes : List ℕ) → is_whole bytes ≡ false → messages bytes ≡ []
 unfolding messages
@@ -94,7 +100,8 @@ bad_size_is bytes = refl
 
 bad_size_next : (bytes : List ℕ) → is_whole bytes ≡ true → bad_size bytes ≡ bad_size (drop (size_of bytes) bytes)
 bad_size_next bytes e =
-    bad_size_is bytes ∙ ap (λ (rest : List ℕ). bad_size_at rest) (behind_next bytes e) ∙ sym (bad_size_is (drop (size_of bytes) bytes))
+    bad_size_is bytes ∙ ap (λ (rest : List ℕ). bad_size_at rest) (behind_next bytes e)
+    ∙ sym (bad_size_is (drop (size_of bytes) bytes))
 
 bad_size_none : (bytes : List ℕ) → is_whole bytes ≡ false → bad_size bytes ≡ bad_size_at bytes
 bad_size_none bytes e = bad_size_is bytes ∙ ap (λ (rest : List ℕ). bad_size_at rest) (behind_none bytes e)
@@ -104,25 +111,31 @@ bad_size_none bytes e = bad_size_is bytes ∙ ap (λ (rest : List ℕ). bad_size
 abbrev steps_of : ℕ → List (List ℕ) → List ℕ → Option ℕ → List Entry
 steps_of q ms rest bad = map (message_entry q) ms ++ bad_entries q rest bad
 
-same_steps : (q : ℕ) (ms ms′ : List (List ℕ)) (rest rest′ : List ℕ) (bad bad′ : Option ℕ) → ms ≡ ms′ → rest ≡ rest′ → bad ≡ bad′ →
+same_steps : (q : ℕ) (ms ms′ : List (List ℕ)) (rest rest′ : List ℕ) (bad bad′ : Option ℕ) → ms ≡ ms′ → rest ≡ rest′ →
+    bad ≡ bad′ →
     steps_of q ms rest bad ≡ steps_of q ms′ rest′ bad′
 same_steps q ms ms′ rest rest′ bad bad′ a b c =
-    ap (λ (x : List (List ℕ)). steps_of q x rest bad) a ∙ ap (λ (x : List ℕ). steps_of q ms′ x bad) b ∙ ap (steps_of q ms′ rest′) c
+    ap (λ (x : List (List ℕ)). steps_of q x rest bad) a ∙ ap (λ (x : List ℕ). steps_of q ms′ x bad) b
+    ∙ ap (steps_of q ms′ rest′) c
 
 steps_next : (q : ℕ) (bytes : List ℕ) → is_whole bytes ≡ true →
     steps_in q bytes ≡ message_entry q (take (size_of bytes) bytes) ∷ steps_in q (drop (size_of bytes) bytes)
 steps_next q bytes e =
-    same_steps q (messages bytes) (take (size_of bytes) bytes ∷ messages (drop (size_of bytes) bytes)) (behind bytes) (behind (drop (size_of bytes) bytes))
-    (bad_size bytes) (bad_size (drop (size_of bytes) bytes)) (messages_next bytes e) (behind_next bytes e) (bad_size_next bytes e)
+    same_steps q (messages bytes) (take (size_of bytes) bytes ∷ messages (drop (size_of bytes) bytes)) (behind bytes)
+    (behind (drop (size_of bytes) bytes))
+    (bad_size bytes) (bad_size (drop (size_of bytes) bytes)) (messages_next bytes e) (behind_next bytes e)
+    (bad_size_next bytes e)
 
 steps_none : (q : ℕ) (bytes : List ℕ) → is_whole bytes ≡ false → bad_size_at bytes ≡ None → steps_in q bytes ≡ []
 steps_none q bytes e n =
-    same_steps q (messages bytes) [] (behind bytes) bytes (bad_size bytes) None (messages_none bytes e) (behind_none bytes e) (bad_size_none bytes e ∙ n)
+    same_steps q (messages bytes) [] (behind bytes) bytes (bad_size bytes) None (messages_none bytes e)
+    (behind_none bytes e) (bad_size_none bytes e ∙ n)
 
 steps_bad : (q size : ℕ) (bytes : List ℕ) → is_whole bytes ≡ false → bad_size_at bytes ≡ Some size →
     steps_in q bytes ≡ entries.BadSize q (take 8 bytes) ∷ []
 steps_bad q size bytes e b =
-    same_steps q (messages bytes) [] (behind bytes) bytes (bad_size bytes) (Some size) (messages_none bytes e) (behind_none bytes e) (bad_size_none bytes e ∙ b)
+    same_steps q (messages bytes) [] (behind bytes) bytes (bad_size bytes) (Some size) (messages_none bytes e)
+    (behind_none bytes e) (bad_size_none bytes e ∙ b)
 
 -- bytes that begin with a message
 
@@ -146,19 +159,30 @@ first_message q m tail is =
     let same : size_of (m ++ tail) ≡ size_of m = size_stays m tail long in
     let len = length-append m tail in
     let whole : is_whole (m ++ tail) ≡ true =
-    rw (same, le-leb 8 (length (m ++ tail)) (omega arith), good_is (size_of m) is.0, le-leb (size_of m) (length (m ++ tail)) (omega (arith, is.1))) refl in
-    let front : take (size_of (m ++ tail)) (m ++ tail) ≡ m = ap (λ n. take n (m ++ tail)) same ∙ take_at m tail (size_of m) is.1 in
-    let rest : drop (size_of (m ++ tail)) (m ++ tail) ≡ tail = ap (λ n. drop n (m ++ tail)) same ∙ drop_at m tail (size_of m) is.1 in (
-      steps_next q (m ++ tail) whole ∙ ap (λ (x : List ℕ). message_entry q x ∷ steps_in q (drop (size_of (m ++ tail)) (m ++ tail))) front
+    rw (
+      same,
+      le-leb 8 (length (m ++ tail)) (omega arith),
+      good_is (size_of m) is.0,
+      le-leb (size_of m)
+          (length (m ++ tail)) (omega (arith, is.1)),
+    ) refl in
+    let front : take (size_of (m ++ tail)) (m ++ tail) ≡ m = ap (λ n. take n (m ++ tail)) same
+    ∙ take_at m tail (size_of m) is.1 in
+    let rest : drop (size_of (m ++ tail)) (m ++ tail) ≡ tail = ap (λ n. drop n (m ++ tail)) same
+    ∙ drop_at m tail (size_of m) is.1 in (
+      steps_next q (m ++ tail) whole ∙ ap (λ (x : List ℕ). message_entry q x ∷ steps_in q
+          (drop (size_of (m ++ tail)) (m ++ tail))) front
           ∙ ap (λ (x : List ℕ). message_entry q m ∷ steps_in q x) rest,
       behind_next (m ++ tail) whole ∙ ap (λ (x : List ℕ). behind x) rest,
     )
 
 body_is : (m : List ℕ) → IsMessage m → IsBody (drop 8 m)
-body_is m is = (let len = length-drop 8 m in let a = is.0.0 in let b = is.0.1 in let c = is.0.2 in let d = is.1 in (omega arith, omega arith))
+body_is m is = (let len = length-drop 8 m in let a = is.0.0 in let b = is.0.1 in let c = is.0.2 in let d = is.1 in
+    (omega arith, omega arith))
 
 -- as a piece completes it
-pub found_message : (q id opcode used : ℕ) (held piece m body left : List ℕ) → 0 < used → used ≤ length piece → m ≡ held ++ take used piece → IsMessage m →
+pub found_message : (q id opcode used : ℕ) (held piece m body left : List ℕ) → 0 < used → used ≤ length piece →
+    m ≡ held ++ take used piece → IsMessage m →
     id ≡ id_of m → opcode ≡ opcode_of m → body ≡ body_of m → left ≡ [] →
     IsFirst q (held ++ piece) piece (peers.Message id opcode body) used left
 found_message q id opcode used held piece m body left some within is whole i o b none =
@@ -167,19 +191,22 @@ found_message q id opcode used held piece m body left some within is whole i o b
     ∙ ap (λ (r : List ℕ). held ++ r) (take-append-drop used piece)) in
     let first = first_message q m (drop used piece) whole in
     let entry : message_entry q m ≡ entries.Message q id opcode body =
-    sym (ap (λ n. entries.Message q n opcode body) i ∙ ap (λ n. entries.Message q (id_of m) n body) o ∙ ap (entries.Message q (id_of m) (opcode_of m)) b) in
+    sym (ap (λ n. entries.Message q n opcode body) i ∙ ap (λ n. entries.Message q (id_of m) n body) o
+    ∙ ap (entries.Message q (id_of m) (opcode_of m)) b) in
     record {
       some = some;
       within = within;
       valid = subst IsBody (sym b) (body_is m whole);
-      steps = ap (λ (x : List ℕ). steps_in q x) split ∙ first.0 ∙ ap (λ (e : Entry). e ∷ steps_in q (drop used piece)) entry;
+      steps = ap (λ (x : List ℕ). steps_in q x) split ∙ first.0
+          ∙ ap (λ (e : Entry). e ∷ steps_in q (drop used piece)) entry;
       behind_same = ap (λ (x : List ℕ). behind x) split ∙ first.1;
       none_left = none;
     }
 
 -- bytes that begin with no message and no bad size
 
-partial_by : (bytes : List ℕ) (b : Bool) → leb 8 (length bytes) ≡ b → IsPartial bytes → (is_whole bytes ≡ false) × (bad_size_at bytes ≡ None)
+partial_by : (bytes : List ℕ) (b : Bool) → leb 8 (length bytes) ≡ b → IsPartial bytes →
+    (is_whole bytes ≡ false) × (bad_size_at bytes ≡ None)
 partial_by bytes true e h =
     let p = h (leb-true _ _ e) in
     let good = good_is (size_of bytes) p.0 in
@@ -194,15 +221,19 @@ found_nothing q bytes left h l =
 
 -- bytes that begin with a bad size
 
-pub bad_size_steps : (q : ℕ) (bytes : List ℕ) → IsBad (take 8 bytes) → steps_in q bytes ≡ entries.BadSize q (take 8 bytes) ∷ []
+pub bad_size_steps : (q : ℕ) (bytes : List ℕ) → IsBad (take 8 bytes) →
+    steps_in q bytes ≡ entries.BadSize q (take 8 bytes) ∷ []
 bad_size_steps q bytes bad =
     let long : 8 ≤ length bytes = (let len = length-take 8 bytes in let eight = bad.0 in omega arith) in
-    let same : size_of bytes ≡ size_of (take 8 bytes) = ap size_of (sym (take-append-drop 8 bytes)) ∙ size_stays (take 8 bytes) (drop 8 bytes) bad.0 in
+    let same : size_of bytes ≡ size_of (take 8 bytes) = ap size_of (sym (take-append-drop 8 bytes))
+    ∙ size_stays (take 8 bytes) (drop 8 bytes) bad.0 in
     let reach : leb 8 (length bytes) ≡ true = le-leb 8 (length bytes) long in
-    let wrong : is_good (size_of bytes) ≡ false = ap is_good same ∙ not_good (size_of (take 8 bytes)) (is_good (size_of (take 8 bytes))) refl bad.1 in
+    let wrong : is_good (size_of bytes) ≡ false = ap is_good same
+    ∙ not_good (size_of (take 8 bytes)) (is_good (size_of (take 8 bytes))) refl bad.1 in
     steps_bad q (size_of bytes) bytes (rw (reach, wrong) refl) (rw (reach, wrong) refl)
 
-pub found_bad_size : (q : ℕ) (bytes head : List ℕ) → IsBad (take 8 bytes) → head ≡ take 8 bytes → IsLast q bytes (peers.BadSize head)
+pub found_bad_size : (q : ℕ) (bytes head : List ℕ) → IsBad (take 8 bytes) → head ≡ take 8 bytes →
+    IsLast q bytes (peers.BadSize head)
 found_bad_size q bytes head bad is = record {
   head = head;
   is = refl;
@@ -212,18 +243,22 @@ found_bad_size q bytes head bad is = record {
 
 -- as an assembler finds it
 
-pub read_message : (q : ℕ) (old new : Assembly) (piece : List ℕ) (used id opcode : ℕ) (body : List ℕ) → Feeds old piece (fed.Whole used) new →
+pub read_message : (q : ℕ) (old new : Assembly) (piece : List ℕ) (used id opcode : ℕ) (body : List ℕ) →
+    Feeds old piece (fed.Whole used) new →
     id ≡ id_of (bytes_of new) → opcode ≡ opcode_of (bytes_of new) → body ≡ body_of (bytes_of new) →
     IsFirst q (begun old ++ piece) piece (peers.Message id opcode body) used (begun new)
 read_message q old new piece used id opcode body f i o b =
     let m : List ℕ = begun old ++ take used piece in
     let held : bytes_of new ≡ m = ap bytes_of f.3 in
-    found_message q id opcode used (begun old) piece m body (begun new) f.0 f.1 refl f.2 (i ∙ ap (λ (l : List ℕ). id_of l) held)
+    found_message q id opcode used (begun old) piece m body (begun new) f.0 f.1 refl f.2
+    (i ∙ ap (λ (l : List ℕ). id_of l) held)
     (o ∙ ap (λ (l : List ℕ). opcode_of l) held) (b ∙ ap (λ (l : List ℕ). body_of l) held) (ap begun f.3)
 
-pub read_nothing : (q : ℕ) (old new : Assembly) (piece : List ℕ) → Feeds old piece fed.Need new → IsUnfinished q (begun old ++ piece) (begun new)
+pub read_nothing : (q : ℕ) (old new : Assembly) (piece : List ℕ) → Feeds old piece fed.Need new →
+    IsUnfinished q (begun old ++ piece) (begun new)
 read_nothing q old new piece f = found_nothing q (begun old ++ piece) (begun new) f.0 (ap begun f.1)
 
-pub read_bad_size : (q n : ℕ) (old new : Assembly) (piece head : List ℕ) → Feeds old piece (fed.BadSize n) new → head ≡ bytes_of new →
+pub read_bad_size : (q n : ℕ) (old new : Assembly) (piece head : List ℕ) → Feeds old piece (fed.BadSize n) new →
+    head ≡ bytes_of new →
     IsLast q (begun old ++ piece) (peers.BadSize head)
 read_bad_size q n old new piece head f h = found_bad_size q (begun old ++ piece) head f.0 (h ∙ ap bytes_of f.2)

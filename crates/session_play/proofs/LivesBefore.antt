@@ -23,7 +23,8 @@ pub record IsAlive (journal : List Entry) (q : ℕ) : Type 0 where
   pub joined : peer_at (past_of journal) q ≡ Some peer
   pub alive : is_peer (log_of (past_of journal)) peer.label ≡ true
 
-alive_by : (journal : List Entry) (q : ℕ) (o : Option Joined) → peer_at (past_of journal) q ≡ o → lives_in journal o ≡ true → IsAlive journal q
+alive_by : (journal : List Entry) (q : ℕ) (o : Option Joined) → peer_at (past_of journal) q ≡ o →
+    lives_in journal o ≡ true → IsAlive journal q
 alive_by journal q None e h = cc
 alive_by journal q (Some peer) e h = record { peer = peer; joined = e; alive = h }
 
@@ -36,17 +37,21 @@ is_lives journal q peer e = ap (lives_in journal) e
 
 -- an entry that ends nobody
 
-pub lives_kept : (e : Entry) (older : List Entry) (q : ℕ) (peer : Joined) → is_end e ≡ false → peer_at (past_of older) q ≡ Some peer →
+pub lives_kept : (e : Entry) (older : List Entry) (q : ℕ) (peer : Joined) → is_end e ≡ false →
+    peer_at (past_of older) q ≡ Some peer →
     peer_at (past_of (e ∷ older)) q ≡ Some peer → lives (e ∷ older) q ≡ lives older q
 lives_kept e older q peer n h k =
-    is_lives (e ∷ older) q peer k ∙ peer_kept e older peer.label n (label_within older q peer h) ∙ sym (is_lives older q peer h)
+    is_lives (e ∷ older) q peer k ∙ peer_kept e older peer.label n (label_within older q peer h)
+    ∙ sym (is_lives older q peer h)
 
 -- and joins nobody
-pub lives_same : (e : Entry) (older : List Entry) (q : ℕ) → is_end e ≡ false → (past_of (e ∷ older)).joined ≡ (past_of older).joined →
+pub lives_same : (e : Entry) (older : List Entry) (q : ℕ) → is_end e ≡ false →
+    (past_of (e ∷ older)).joined ≡ (past_of older).joined →
     lives (e ∷ older) q ≡ true → lives older q ≡ true
 lives_same e older q n j h =
     let a : IsAlive (e ∷ older) q = is_alive (e ∷ older) q h in
-    let before : peer_at (past_of older) q ≡ Some a.peer = ap (λ (joined : List Joined). peer_in joined q) (sym j) ∙ a.joined in
+    let before : peer_at (past_of older) q ≡ Some a.peer = ap (λ (joined : List Joined). peer_in joined q) (sym j)
+    ∙ a.joined in
     sym (lives_kept e older q a.peer n before a.joined) ∙ h
 
 -- the end of a live peer
@@ -55,12 +60,14 @@ and_left : (a b : Bool) → (a && b) ≡ true → a ≡ true
 and_left true b h = refl
 and_left false b h = cc
 
-pub lives_end : (k : ℕ) (why : EndCause) (older : List Entry) (q : ℕ) → lives older k ≡ true → lives (entries.End k why ∷ older) q ≡ true →
+pub lives_end : (k : ℕ) (why : EndCause) (older : List Entry) (q : ℕ) → lives older k ≡ true →
+    lives (entries.End k why ∷ older) q ≡ true →
     lives older q ≡ true
 lives_end k why older q l h =
     let a : IsAlive (entries.End k why ∷ older) q = is_alive (entries.End k why ∷ older) q h in
     let ends : IsAlive older k = is_alive older k l in
-    let fewer = peer_ended k why older ends.peer a.peer.label ends.joined ends.alive (label_within older q a.peer a.joined) in
+    let fewer = peer_ended k why older ends.peer a.peer.label ends.joined ends.alive
+    (label_within older q a.peer a.joined) in
     is_lives older q a.peer a.joined ∙ and_left _ _ (sym fewer ∙ a.alive)
 
 -- the ends that follow
@@ -74,27 +81,32 @@ settled_by capacity fuel journal q (Some k) e f h =
     lives_end k (cause_of journal k) journal q (is_lives journal k d.peer d.joined ∙ due_lives capacity journal k d)
     (f (entries.End k (cause_of journal k) ∷ journal) h)
 
-lives_settled : (capacity fuel : ℕ) (journal : List Entry) (q : ℕ) → lives (settled capacity fuel journal) q ≡ true → lives journal q ≡ true
+lives_settled : (capacity fuel : ℕ) (journal : List Entry) (q : ℕ) → lives (settled capacity fuel journal) q ≡ true →
+    lives journal q ≡ true
 lives_settled capacity zero journal q h = h
 lives_settled capacity (suc fuel) journal q h =
     settled_by capacity fuel journal q (due capacity journal) refl (λ later. lives_settled capacity fuel later q) h
 
-pub lives_settle : (capacity : ℕ) (journal : List Entry) (q : ℕ) → lives (settle capacity journal) q ≡ true → lives journal q ≡ true
+pub lives_settle : (capacity : ℕ) (journal : List Entry) (q : ℕ) → lives (settle capacity journal) q ≡ true →
+    lives journal q ≡ true
 lives_settle capacity journal q h = lives_settled capacity (number_alive journal) journal q h
 
 -- who joins
 
-last_place : (xs : List Joined) (y : Joined) (i : ℕ) (x : Joined) → slice_get (xs ++ y ∷ []) i ≡ Some x → slice_get xs i ≡ None → i ≡ length xs
+last_place : (xs : List Joined) (y : Joined) (i : ℕ) (x : Joined) → slice_get (xs ++ y ∷ []) i ≡ Some x →
+    slice_get xs i ≡ None → i ≡ length xs
 last_place [] y zero x h n = refl
 last_place [] y (suc i) x h n = cc
 last_place (z ∷ xs) y zero x h n = cc
 last_place (z ∷ xs) y (suc i) x h n = ap suc (last_place xs y i x h n)
 
-last_peer : (xs : List Joined) (y : Joined) (q : ℕ) (x : Joined) → peer_in (xs ++ y ∷ []) q ≡ Some x → peer_in xs q ≡ None → q ≡ length xs + 1
+last_peer : (xs : List Joined) (y : Joined) (q : ℕ) (x : Joined) → peer_in (xs ++ y ∷ []) q ≡ Some x →
+    peer_in xs q ≡ None → q ≡ length xs + 1
 last_peer xs y zero x h n = cc
 last_peer xs y (suc i) x h n = (let place = last_place xs y i x h n in omega arith)
 
-join_by : (role : Role) (older : List Entry) (q : ℕ) (o : Option Joined) → peer_at (past_of older) q ≡ o → lives (entries.Join role ∷ older) q ≡ true →
+join_by : (role : Role) (older : List Entry) (q : ℕ) (o : Option Joined) → peer_at (past_of older) q ≡ o →
+    lives (entries.Join role ∷ older) q ≡ true →
     (lives older q ≡ true) ⊎ (q ≡ length (past_of older).joined + 1)
 join_by role older q None e h =
     let a : IsAlive (entries.Join role ∷ older) q = is_alive (entries.Join role ∷ older) q h in

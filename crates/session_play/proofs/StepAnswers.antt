@@ -1,68 +1,37 @@
 -- What a step of the shared state that was taken, or refused, makes of what is played.
-use Rattle.std.proofs.Common.{◌≡◌, ℕ, List, ◌∷◌, Bool, true, false, Option, Some, None, Result, Ok, Err, refl, sym, ap, subst, ◌∙◌, inl, inr, ◌⊎◌}
-use Rattle.std.specs.Prelude.{if◌then◌else◌, option_map, IfSome, IfNone}
+use Rattle.std.proofs.Common.{◌≡◌, Bool, true, false, Option, Some, None, Result, Ok, Err, refl, sym, ap, subst, ◌∙◌}
+use Rattle.std.specs.Prelude.{if◌then◌else◌, option_map, IfSome}
 use Rattle.seat_steps.specs.declared.limits.Limits.{Limits}
 use Rattle.seat_steps.specs.declared.step.Step.{Step}
 use Rattle.seat_steps.specs.declared.step.Step.TheVariants as steps
-use Rattle.seat_steps.specs.declared.step.PeerStep.TheVariants as peers
 use Rattle.broker_model.specs.declared.journal.Entry.{Entry}
 use Rattle.broker_model.specs.declared.journal.Kept.{Kept}
 use Rattle.broker_model.specs.Limits.{is_full}
 use Rattle.broker_core.specs.declared.shared.Refused.{Refused}
 use Rattle.broker_core.specs.declared.shared.Refused.TheVariants as refused
-use Rattle.broker_core.specs.Broker.{Broker, kept_in, entry_of, peer_entry, peer_refusal, refusal_if_full, refusal, IsSaid, IsAccepted}
+use Rattle.broker_core.specs.Broker.{Broker, kept_in, entry_of, peer_entry, peer_refusal, refusal_if_full, refusal, IsSaid}
 use Rattle.session_play.specs.declared.session.Stop.TheVariants as stops
 use Rattle.session_play.specs.Played.{Play, Played, went, with_step, step_played}
-use Rattle.session_play.specs.Playing.{IsThere, IsPlayed, IsMore}
-use Rattle.session_play.proofs.JournalGrows.{step_grows}
+use Rattle.session_play.specs.Playing.{IsThere, IsPlayed}
 
 -- why a step is refused, by whether the journal is full
 abbrev refusal_by : Bool → Kept → Option Refused
 refusal_by full kept = option_map (λ k. refused.JournalFull k) (if full then Some kept else None)
 
-refusal_is : (b : Broker) (step : Step) → IsSaid step → IsThere step b.journal → refusal b step ≡ refusal_if_full b (entry_of step)
+refusal_is : (b : Broker) (step : Step) → IsSaid step → IsThere step b.journal →
+    refusal b step ≡ refusal_if_full b (entry_of step)
 refusal_is b (steps.Join role) s t = absurd s
 refusal_is b (steps.Peer q step) s t = ap (peer_refusal b (peer_entry q step)) t.0
 refusal_is b (steps.Shell step) s t = refl
 refusal_is b (steps.Take q n) s t = absurd s
 
-accepted_is : {T : Type 0} (step : Step) (r : Result T Refused) → IsAccepted refused.NoMemory step r → (why : Refused) → r ≡ Err why → why ≡ refused.NoMemory
-accepted_is (steps.Join role) (Ok x) a why e = cc
-accepted_is (steps.Join role) (Err w) a why e = cc
-accepted_is (steps.Peer q (peers.Message id opcode body)) (Ok x) a why e = cc
-accepted_is (steps.Peer q (peers.Message id opcode body)) (Err w) a why e = cc
-accepted_is (steps.Peer q (peers.BadSize head)) (Ok x) a why e = cc
-accepted_is (steps.Peer q (peers.BadSize head)) (Err w) a why e = cc
-accepted_is (steps.Peer q peers.Gone) (Ok x) a why e = cc
-accepted_is (steps.Peer q peers.Gone) (Err w) a why e = cc
-accepted_is (steps.Shell step) (Ok x) a why e = cc
-accepted_is (steps.Shell step) (Err w) a why e = cc
-accepted_is (steps.Take q n) (Ok x) a why e = cc
-accepted_is (steps.Take q n) (Err w) a why e = cc
-
--- the journal was full, or memory was short
-pub data IsRefused (full : Bool) (kept : Kept) (why : Refused) : Type 0 where
-  at_limit : full ≡ true → why ≡ refused.JournalFull kept → IsRefused full kept why
-  short : why ≡ refused.NoMemory → IsRefused full kept why
-
-refused_by : {T : Type 0} (full : Bool) (kept : Kept) (step : Step) (r : Result T Refused) (why : Refused) → r ≡ Err why →
-    IfSome (refusal_by full kept) (λ w. r ≡ Err w) → IfNone (refusal_by full kept) (IsAccepted refused.NoMemory step r) → IsRefused full kept why
-refused_by true kept step r why e s n = at_limit refl (let same = sym e ∙ s in cc)
-refused_by false kept step r why e s n = short (accepted_is step r n why e)
-
-taken_by : {T : Type 0} (full : Bool) (kept : Kept) (r : Result T Refused) (x : T) → r ≡ Ok x → IfSome (refusal_by full kept) (λ w. r ≡ Err w) → full ≡ false
+taken_by : {T : Type 0} (full : Bool) (kept : Kept) (r : Result T Refused) (x : T) → r ≡ Ok x →
+    IfSome (refusal_by full kept) (λ w. r ≡ Err w) → full ≡ false
 taken_by true kept r x e s = (let no = sym e ∙ s in cc)
 taken_by false kept r x e s = refl
 
-pub step_refused : {T : Type 0} (b : Broker) (step : Step) (r : Result T Refused) (why : Refused) → IsSaid step → IsThere step b.journal → r ≡ Err why →
-    IfSome (refusal b step) (λ w. r ≡ Err w) → IfNone (refusal b step) (IsAccepted refused.NoMemory step r) →
-    IsRefused (is_full b.limits.entries b.journal (entry_of step)) (kept_in b.journal) why
-step_refused b step r why said there e s n =
-    let is = refusal_is b step said there in
-    refused_by (is_full b.limits.entries b.journal (entry_of step)) (kept_in b.journal) step r why e
-    (subst (λ (o : Option Refused). IfSome o (λ w. r ≡ Err w)) is s) (subst (λ (o : Option Refused). IfNone o (IsAccepted refused.NoMemory step r)) is n)
-
-pub step_taken : {T : Type 0} (b : Broker) (step : Step) (r : Result T Refused) (x : T) → IsSaid step → IsThere step b.journal → r ≡ Ok x →
+pub step_taken : {T : Type 0} (b : Broker) (step : Step) (r : Result T Refused) (x : T) → IsSaid step →
+    IsThere step b.journal → r ≡ Ok x →
     IfSome (refusal b step) (λ w. r ≡ Err w) → is_full b.limits.entries b.journal (entry_of step) ≡ false
 step_taken b step r x said there e s =
     taken_by (is_full b.limits.entries b.journal (entry_of step)) (kept_in b.journal) r x e
@@ -73,15 +42,14 @@ step_taken b step r x said there e s =
 abbrev pub by_full : Limits → Entry → Play → Bool → Played
 by_full limits e play t = (if t then record { play = play; is_full = true } else went (with_step limits e play))
 
-pub played_ok : (limits : Limits) (e : Entry) (play after : Play) → is_full limits.entries play.journal e ≡ false → after ≡ with_step limits e play →
+pub played_ok : (limits : Limits) (e : Entry) (play after : Play) → is_full limits.entries play.journal e ≡ false →
+    after ≡ with_step limits e play →
     IsPlayed (step_played limits e play) (Ok tt) after
-played_ok limits e play after f a = subst (λ (p : Played). IsPlayed p (Ok tt) after) (sym (ap (by_full limits e play) f)) (refl, a)
+played_ok limits e play after f a = subst (λ (p : Played). IsPlayed p (Ok tt) after)
+    (sym (ap (by_full limits e play) f)) (refl, a)
 
-pub played_full : (limits : Limits) (e : Entry) (play after : Play) (kept : Kept) → is_full limits.entries play.journal e ≡ true → kept ≡ kept_in play.journal →
+pub played_full : (limits : Limits) (e : Entry) (play after : Play) (kept : Kept) →
+    is_full limits.entries play.journal e ≡ true → kept ≡ kept_in play.journal →
     after.journal ≡ play.journal → IsPlayed (step_played limits e play) (Err (stops.Full kept)) after
 played_full limits e play after kept f k a =
     subst (λ (p : Played). IsPlayed p (Err (stops.Full kept)) after) (sym (ap (by_full limits e play) f)) (refl, k, a)
-
-pub played_short : (limits : Limits) (e : Entry) (play after : Play) → after.journal ≡ play.journal → IsPlayed (step_played limits e play) (Err stops.NoMemory) after
-played_short limits e play after a =
-    subst (λ (j : List Entry). IsMore j (step_played limits e play).play.journal) (sym a) (step_grows limits e play)

@@ -1,26 +1,22 @@
 -- What a take that was taken, or refused, makes of what is played.
-use Rattle.std.proofs.Common.{◌≡◌, ℕ, ◌≤◌, List, ◌∷◌, length, min, Bool, true, false, Option, Some, None, Ok, Err, refl, sym, ap, subst, ◌∙◌, arith}
-use Rattle.std.specs.Prelude.{if◌then◌else◌, option_map, ◌==◌, IfSome, IfNone}
-use Rattle.std.proofs.lemmas.Bool.{eq-eqb, ne_eqb, eqb-true}
+use Rattle.std.proofs.Common.{◌≡◌, ℕ, ◌≤◌, List, ◌∷◌, length, min, Bool, true, false, Option, Some, None, Ok, refl, sym, ap, subst, ◌∙◌, arith}
+use Rattle.std.specs.Prelude.{if◌then◌else◌, option_map, ◌==◌, IfSome}
+use Rattle.std.proofs.lemmas.Bool.{eq-eqb, ne_eqb}
 use Rattle.relay_model.specs.declared.act.EndCause.{EndCause}
 use Rattle.seat_steps.specs.declared.limits.Limits.{Limits}
-use Rattle.broker_model.specs.declared.journal.Entry.{Entry}
 use Rattle.broker_model.specs.declared.journal.Entry.TheVariants as entries
-use Rattle.broker_model.specs.declared.journal.Kept.{Kept}
 use Rattle.broker_model.specs.Ids.{Joined, peer_at}
 use Rattle.broker_model.specs.Limits.{is_full}
 use Rattle.broker_model.specs.Out.{Outgoing, stored, out_for}
 use Rattle.broker_model.specs.Resolve.{past_of}
 use Rattle.broker_core.specs.declared.shared.Took.{Took}
 use Rattle.broker_core.specs.declared.shared.Took.TheVariants as took
-use Rattle.broker_core.specs.Broker.{Broker, kept_in, nothing_left, take_refusal_from, take_refusal, IsBytesUnlessMemory}
+use Rattle.broker_core.specs.Broker.{Broker, kept_in, nothing_left, take_refusal_from, take_refusal}
 use Rattle.broker_core.specs.Stands.{end_of}
 use Rattle.broker_core.specs.Taking.{out_at, IsTaken}
-use Rattle.session_play.specs.declared.session.Stop.TheVariants as stops
 use Rattle.session_play.specs.Played.{Play, Played, Waiting, went, with_step, step_played, take_played}
-use Rattle.session_play.specs.Playing.{IsPlayed, IsMore}
-use Rattle.session_play.proofs.JournalGrows.{take_grows}
-use Rattle.session_play.proofs.StepAnswers.{played_ok, played_full}
+use Rattle.session_play.specs.Playing.{IsPlayed}
+use Rattle.session_play.proofs.StepAnswers.{played_ok}
 
 -- what the session has played, beside the unread bytes
 abbrev play_in : Broker → List Waiting → Play
@@ -41,101 +37,49 @@ nothing_by limits q play m t = (if t then went play else step_played limits (ent
 
 -- by whether something is stored, and whether the journal is full
 abbrev refusal_by : Broker → ℕ → Bool → Bool → Option Took
-refusal_by b q none full = (if none then Some (nothing_left (end_of b.journal q)) else option_map (λ k. took.JournalFull k) (if full then Some (kept_in b.journal) else None))
+refusal_by b q none full = (if none then Some (nothing_left (end_of b.journal q)) else option_map
+    (λ k. took.JournalFull k) (if full then Some (kept_in b.journal) else None))
 
 left_is : (o : Option EndCause) → IsNothing (nothing_left o)
 left_is None = tt
 left_is (Some cause) = tt
-
--- where something is stored, the answer says so
-not_nothing : (b : Broker) (q : ℕ) (full : Bool) (r : Took) → IfSome (refusal_by b q false full) (λ why. r ≡ why) →
-    IfNone (refusal_by b q false full) (IsBytesUnlessMemory r) → IsNothing r → ⊥
-not_nothing b q true r s n z = subst IsNothing s z
-not_nothing b q false (took.Bytes k t) s n z = z
-not_nothing b q false took.NoPeer s n z = n
-not_nothing b q false took.Closed s n z = n
-not_nothing b q false took.Empty s n z = n
-not_nothing b q false (took.JournalFull k) s n z = z
-not_nothing b q false took.NoMemory s n z = z
-
-nothing_peer : (b : Broker) (unread : List Waiting) (q n : ℕ) (peer : Joined) (r : Took) (none : Bool) →
-    (length (stored (out_for b.limits.store b.journal peer.label)) == 0) ≡ none →
-    IfSome (refusal_by b q none (is_full b.limits.entries b.journal (entries.Took q 0))) (λ why. r ≡ why) →
-    IfNone (refusal_by b q none (is_full b.limits.entries b.journal (entries.Took q 0))) (IsBytesUnlessMemory r) → IsNothing r →
-    take_played b.limits q n (play_in b unread) (Some peer) ≡ went (play_in b unread)
-nothing_peer b unread q n peer r true e s a z =
-    let all : ℕ = length (stored (out_for b.limits.store b.journal peer.label)) in
-    let empty : all ≡ 0 = eqb-true all 0 e in
-    ap (nothing_by b.limits q (play_in b unread) (min n all)) (eq-eqb (min n all) 0 (omega arith))
-nothing_peer b unread q n peer r false e s a z = absurd (not_nothing b q (is_full b.limits.entries b.journal (entries.Took q 0)) r s a z)
-
-nothing_by_peer : (b : Broker) (unread : List Waiting) (q n : ℕ) (o : Option Joined) (r : Took) →
-    IfSome (take_refusal_from b q (out_of b o)) (λ why. r ≡ why) → IfNone (take_refusal_from b q (out_of b o)) (IsBytesUnlessMemory r) → IsNothing r →
-    take_played b.limits q n (play_in b unread) o ≡ went (play_in b unread)
-nothing_by_peer b unread q n None r s a z = refl
-nothing_by_peer b unread q n (Some peer) r s a z =
-    nothing_peer b unread q n peer r (length (stored (out_for b.limits.store b.journal peer.label)) == 0) refl s a z
-
-pub nothing_taken : (b : Broker) (unread : List Waiting) (q n : ℕ) (r : Took) → IfSome (take_refusal b q) (λ why. r ≡ why) →
-    IfNone (take_refusal b q) (IsBytesUnlessMemory r) → IsNothing r →
-    IsPlayed (take_played b.limits q n (play_in b unread) (peer_at (past_of b.journal) q)) (Ok tt) (play_in b unread)
-nothing_taken b unread q n r s a z =
-    subst (λ (p : Played). IsPlayed p (Ok tt) (play_in b unread)) (sym (nothing_by_peer b unread q n (peer_at (past_of b.journal) q) r s a z)) (refl, refl)
 
 -- where something is stored and at least one byte is asked for, an entry says how much was taken
 
 some_peer : (b : Broker) (unread : List Waiting) (q n : ℕ) (peer : Joined) → 1 ≤ n →
     (length (stored (out_for b.limits.store b.journal peer.label)) == 0) ≡ false →
     take_played b.limits q n (play_in b unread) (Some peer)
-    ≡ step_played b.limits (entries.Took q (min n (length (stored (out_for b.limits.store b.journal peer.label))))) (play_in b unread)
+    ≡ step_played b.limits (entries.Took q (min n (length (stored (out_for b.limits.store b.journal peer.label)))))
+    (play_in b unread)
 some_peer b unread q n peer l e =
     let all : ℕ = length (stored (out_for b.limits.store b.journal peer.label)) in
     let some : all ≡ 0 → ⊥ = λ z. (let no = sym (eq-eqb all 0 z) ∙ e in cc) in
     ap (nothing_by b.limits q (play_in b unread) (min n all)) (ne_eqb (min n all) 0 (λ z. some (omega arith)))
 
--- the journal was full
-
-full_peer : (b : Broker) (unread : List Waiting) (q n : ℕ) (peer : Joined) (kept : Kept) (r : Took) (none full : Bool) → 1 ≤ n → r ≡ took.JournalFull kept →
-    (length (stored (out_for b.limits.store b.journal peer.label)) == 0) ≡ none → is_full b.limits.entries b.journal (entries.Took q 0) ≡ full →
-    IfSome (refusal_by b q none full) (λ why. r ≡ why) → IfNone (refusal_by b q none full) (IsBytesUnlessMemory r) →
-    IsPlayed (take_played b.limits q n (play_in b unread) (Some peer)) (Err (stops.Full kept)) (play_in b unread)
-full_peer b unread q n peer kept r true full l j e f s a = absurd (subst IsNothing (sym s ∙ j) (left_is (end_of b.journal q)))
-full_peer b unread q n peer kept r false true l j e f s a =
-    subst (λ (p : Played). IsPlayed p (Err (stops.Full kept)) (play_in b unread)) (sym (some_peer b unread q n peer l e))
-    (played_full b.limits (entries.Took q (min n (length (stored (out_for b.limits.store b.journal peer.label))))) (play_in b unread) (play_in b unread) kept f
-    (let same = sym j ∙ s in cc) refl)
-full_peer b unread q n peer kept r false false l j e f s a = absurd (subst IsBytesUnlessMemory j a)
-
-full_by_peer : (b : Broker) (unread : List Waiting) (q n : ℕ) (o : Option Joined) (kept : Kept) (r : Took) → 1 ≤ n → r ≡ took.JournalFull kept →
-    IfSome (take_refusal_from b q (out_of b o)) (λ why. r ≡ why) → IfNone (take_refusal_from b q (out_of b o)) (IsBytesUnlessMemory r) →
-    IsPlayed (take_played b.limits q n (play_in b unread) o) (Err (stops.Full kept)) (play_in b unread)
-full_by_peer b unread q n None kept r l j s a = (let no = sym j ∙ s in cc)
-full_by_peer b unread q n (Some peer) kept r l j s a =
-    full_peer b unread q n peer kept r (length (stored (out_for b.limits.store b.journal peer.label)) == 0)
-    (is_full b.limits.entries b.journal (entries.Took q 0)) l j refl refl s a
-
-pub full_taken : (b : Broker) (unread : List Waiting) (q n : ℕ) (kept : Kept) (r : Took) → 1 ≤ n → r ≡ took.JournalFull kept →
-    IfSome (take_refusal b q) (λ why. r ≡ why) → IfNone (take_refusal b q) (IsBytesUnlessMemory r) →
-    IsPlayed (take_played b.limits q n (play_in b unread) (peer_at (past_of b.journal) q)) (Err (stops.Full kept)) (play_in b unread)
-full_taken b unread q n kept r l j s a = full_by_peer b unread q n (peer_at (past_of b.journal) q) kept r l j s a
-
 -- bytes were taken
 
-bytes_peer : (b : Broker) (unread : List Waiting) (q n k t : ℕ) (peer : Joined) (r : Took) (after : Play) (none full : Bool) → 1 ≤ n → r ≡ took.Bytes k t →
-    (length (stored (out_for b.limits.store b.journal peer.label)) == 0) ≡ none → is_full b.limits.entries b.journal (entries.Took q 0) ≡ full →
-    IfSome (refusal_by b q none full) (λ why. r ≡ why) → k ≡ min n (length (stored (out_for b.limits.store b.journal peer.label))) →
+bytes_peer : (b : Broker) (unread : List Waiting) (q n k t : ℕ) (peer : Joined) (r : Took) (after : Play)
+    (none full : Bool) → 1 ≤ n → r ≡ took.Bytes k t →
+    (length (stored (out_for b.limits.store b.journal peer.label)) == 0) ≡ none →
+    is_full b.limits.entries b.journal (entries.Took q 0) ≡ full →
+    IfSome (refusal_by b q none full) (λ why. r ≡ why) → k ≡ min n
+    (length (stored (out_for b.limits.store b.journal peer.label))) →
     after ≡ with_step b.limits (entries.Took q k) (play_in b unread) →
     IsPlayed (take_played b.limits q n (play_in b unread) (Some peer)) (Ok tt) after
-bytes_peer b unread q n k t peer r after true full l j e f s c h = absurd (subst IsNothing (sym s ∙ j) (left_is (end_of b.journal q)))
+bytes_peer b unread q n k t peer r after true full l j e f s c h = absurd
+    (subst IsNothing (sym s ∙ j) (left_is (end_of b.journal q)))
 bytes_peer b unread q n k t peer r after false true l j e f s c h = (let no = sym j ∙ s in cc)
 bytes_peer b unread q n k t peer r after false false l j e f s c h =
     let m : ℕ = min n (length (stored (out_for b.limits.store b.journal peer.label))) in
     subst (λ (p : Played). IsPlayed p (Ok tt) after) (sym (some_peer b unread q n peer l e))
-    (played_ok b.limits (entries.Took q m) (play_in b unread) after f (h ∙ ap (λ i. with_step b.limits (entries.Took q i) (play_in b unread)) c))
+    (played_ok b.limits (entries.Took q m) (play_in b unread) after f
+    (h ∙ ap (λ i. with_step b.limits (entries.Took q i) (play_in b unread)) c))
 
-bytes_by_peer : (b : Broker) (unread : List Waiting) (q n k t : ℕ) (buf places buf_after places_after : List ℕ) (o : Option Joined) (r : Took) (after : Play) →
+bytes_by_peer : (b : Broker) (unread : List Waiting) (q n k t : ℕ) (buf places buf_after places_after : List ℕ)
+    (o : Option Joined) (r : Took) (after : Play) →
     1 ≤ n → length buf ≡ n → r ≡ took.Bytes k t → IfSome (take_refusal_from b q (out_of b o)) (λ why. r ≡ why) →
-    IfSome (out_of b o) (λ out. IsTaken out b.journal q buf places (k, t) buf_after places_after (entries.Took q k ∷ b.journal)) →
+    IfSome (out_of b o) (λ out. IsTaken out b.journal q buf places (k, t) buf_after places_after
+    (entries.Took q k ∷ b.journal)) →
     after ≡ with_step b.limits (entries.Took q k) (play_in b unread) →
     IsPlayed (take_played b.limits q n (play_in b unread) o) (Ok tt) after
 bytes_by_peer b unread q n k t buf places buf_after places_after None r after l len j s i h = (let no = sym j ∙ s in cc)
@@ -144,14 +88,13 @@ bytes_by_peer b unread q n k t buf places buf_after places_after (Some peer) r a
     (is_full b.limits.entries b.journal (entries.Took q 0)) l j refl refl s
     (i.count ∙ ap (λ m. min m (length (stored (out_for b.limits.store b.journal peer.label)))) len) h
 
-pub bytes_taken : (b : Broker) (unread : List Waiting) (q n k t : ℕ) (buf places buf_after places_after : List ℕ) (r : Took) (after : Play) →
+pub bytes_taken : (b : Broker) (unread : List Waiting) (q n k t : ℕ) (buf places buf_after places_after : List ℕ)
+    (r : Took) (after : Play) →
     1 ≤ n → length buf ≡ n → r ≡ took.Bytes k t → IfSome (take_refusal b q) (λ why. r ≡ why) →
-    IfSome (out_at b.limits.store b.journal q) (λ out. IsTaken out b.journal q buf places (k, t) buf_after places_after (entries.Took q k ∷ b.journal)) →
+    IfSome (out_at b.limits.store b.journal q) (λ out. IsTaken out b.journal q buf places (k, t) buf_after places_after
+    (entries.Took q k ∷ b.journal)) →
     after ≡ with_step b.limits (entries.Took q k) (play_in b unread) →
     IsPlayed (take_played b.limits q n (play_in b unread) (peer_at (past_of b.journal) q)) (Ok tt) after
 bytes_taken b unread q n k t buf places buf_after places_after r after l len j s i h =
-    bytes_by_peer b unread q n k t buf places buf_after places_after (peer_at (past_of b.journal) q) r after l len j s i h
-
-pub short_taken : (b : Broker) (unread : List Waiting) (q n : ℕ) →
-    IsPlayed (take_played b.limits q n (play_in b unread) (peer_at (past_of b.journal) q)) (Err stops.NoMemory) (play_in b unread)
-short_taken b unread q n = take_grows b.limits q n (play_in b unread) (peer_at (past_of b.journal) q)
+    bytes_by_peer b unread q n k t buf places buf_after places_after (peer_at (past_of b.journal) q) r after l len j s i
+    h

@@ -1,6 +1,6 @@
 -- The text of what a journal has more stands behind the text of what it had.
-use Rattle.std.proofs.Common.{◌≡◌, ℕ, suc, ◌+◌, ◌≤◌, List, [], ◌∷◌, ◌++◌, length, Bool, true, false, Option, Some, None, refl, sym, ap, subst, ◌∙◌, arith, append_assoc, length-append}
-use Rattle.std.specs.Prelude.{if◌then◌else◌, nat_le, IfSome, string_bytes, String, Result, Ok, Err}
+use Rattle.std.proofs.Common.{◌≡◌, ℕ, suc, List, [], ◌∷◌, ◌++◌, length, Bool, Option, Some, None, refl, sym, ap, ◌∙◌, arith, append_assoc, length-append}
+use Rattle.std.specs.Prelude.{if◌then◌else◌, IfSome, string_bytes, String, Result, Ok, Err}
 use Rattle.std.specs.Global.{Global}
 use Rattle.std.proofs.lemmas.Bool.{le-leb, lt-leb}
 use Rattle.std.proofs.lemmas.List.{append-nil}
@@ -20,7 +20,8 @@ none_since capacity (e ∷ older) =
 
 more_since : (capacity : ℕ) (more t : List Entry) →
     journal_text capacity (more ++ t) ≡ journal_text capacity t ++ text_since capacity (length t) (more ++ t)
-more_since capacity [] t = sym (append-nil (journal_text capacity t)) ∙ ap (λ (l : List ℕ). journal_text capacity t ++ l) (sym (none_since capacity t))
+more_since capacity [] t = sym (append-nil (journal_text capacity t))
+    ∙ ap (λ (l : List ℕ). journal_text capacity t ++ l) (sym (none_since capacity t))
 more_since capacity (e ∷ more) t =
     let long = length-append more t in
     let older : List Entry = more ++ t in
@@ -31,7 +32,8 @@ more_since capacity (e ∷ more) t =
     (le-leb (length t) (length older) (omega arith))))
 
 pub written : (capacity : ℕ) (before after : Play) (o : Option (String Global)) → IsMore before.journal after.journal →
-    IfSome o (λ text. string_bytes text ≡ text_since capacity (length before.journal) after.journal) → IfSome o (IsWritten capacity before after)
+    IfSome o (λ text. string_bytes text ≡ text_since capacity (length before.journal) after.journal) →
+    IfSome o (IsWritten capacity before after)
 written capacity before after None m h = tt
 written capacity before after (Some text) m h =
     ap (journal_text capacity) m.is ∙ more_since capacity m.more before.journal
@@ -39,18 +41,22 @@ written capacity before after (Some text) m h =
     (ap (text_since capacity (length before.journal)) (sym m.is) ∙ sym h)
 
 -- what was played is a front of where the line leads, and no text is a front of what was written
-played_more : (p : Played) (r : Result (Unit {0}) Stop) (after : Play) → IsPlayed p r after → IsMore after.journal p.play.journal
+played_more : (p : Played) (r : Result (Unit {0}) Stop) (after : Play) → IsPlayed p r after →
+    IsMore after.journal p.play.journal
 played_more p (Ok done) after h = record { more = []; is = sym (ap (λ (x : Play). x.journal) h.1) }
 played_more p (Err (stops.Full kept)) after h = record { more = []; is = sym h.2 }
 played_more p (Err stops.NoMemory) after h = h
 
-pub short_line : (capacity : ℕ) (p : Played) (r : Result (Unit {0}) Stop) (before after : Play) (text : String Global) → IsPlayed p r after →
-    IsMore before.journal after.journal → string_bytes text ≡ [] → IsMore after.journal p.play.journal × IsFront capacity before after text
+pub short_line : (capacity : ℕ) (p : Played) (r : Result (Unit {0}) Stop) (before after : Play) (text : String Global) →
+    IsPlayed p r after →
+    IsMore before.journal after.journal → string_bytes text ≡ [] →
+    IsMore after.journal p.play.journal × IsFront capacity before after text
 short_line capacity p r before after text h m e = (
   played_more p r after h,
   record {
     rest = text_since capacity (length before.journal) (m.more ++ before.journal);
     is = ap (journal_text capacity) m.is ∙ more_since capacity m.more before.journal
-        ∙ ap (λ (l : List ℕ). journal_text capacity before.journal ++ (l ++ text_since capacity (length before.journal) (m.more ++ before.journal))) (sym e);
+        ∙ ap (λ (l : List ℕ). journal_text capacity before.journal ++
+        (l ++ text_since capacity (length before.journal) (m.more ++ before.journal))) (sym e);
   },
 )

@@ -1,5 +1,5 @@
 -- The place of a peer's unread bytes among those that are held.
-use Rattle.std.proofs.Common.{◌≡◌, ℕ, zero, suc, ◌+◌, ◌<◌, ◌≤◌, List, [], ◌∷◌, length, map, set, get_or, Bool, true, false, cond, not, Option, Some, None, refl, sym, ap, subst, ◌∙◌, arith}
+use Rattle.std.proofs.Common.{◌≡◌, ℕ, zero, suc, ◌+◌, ◌<◌, ◌≤◌, List, [], ◌∷◌, length, map, set, get_or, Bool, true, false, cond, not, Some, None, refl, sym, ap, subst, ◌∙◌, arith}
 use Rattle.std.specs.Prelude.{◌==◌, ◌||◌, nat_lt, position, filter, if◌then◌else◌}
 use Rattle.std.specs.List.{position_or_len}
 use Rattle.std.proofs.lemmas.Bool.{ltb-true, ltb-false, eqb-true}
@@ -22,7 +22,8 @@ IsAt q [] place = ⊥
 IsAt q (u ∷ rest) zero = (u.number == q) ≡ true
 IsAt q (u ∷ rest) (suc place) = ((u.number == q) ≡ false) × IsAt q rest place
 
-first_at : (q : ℕ) (unread : List Unread) → position_or_len (is_of q) unread < length unread → IsAt q unread (position_or_len (is_of q) unread)
+first_at : (q : ℕ) (unread : List Unread) → position_or_len (is_of q) unread < length unread →
+    IsAt q unread (position_or_len (is_of q) unread)
 first_at q [] l = absurd (omega arith)
 first_at q (u ∷ rest) l = by (u.number == q) refl l (first_at q rest)
   where
@@ -34,7 +35,8 @@ first_at q (u ∷ rest) l = by (u.number == q) refl l (first_at q rest)
         let place : suc (position_or_len (is_of q) rest) ≡ 1 + position_or_len (is_of q) rest = omega arith in
         subst (IsAt q (u ∷ rest)) place (e, f (omega arith))
 
-nowhere : (q : ℕ) (unread : List Unread) → length unread ≤ position_or_len (is_of q) unread → is_waiting q (map waiting unread) ≡ false
+nowhere : (q : ℕ) (unread : List Unread) → length unread ≤ position_or_len (is_of q) unread →
+    is_waiting q (map waiting unread) ≡ false
 nowhere q [] l = refl
 nowhere q (u ∷ rest) l = by (u.number == q) refl l (nowhere q rest)
   where
@@ -46,7 +48,8 @@ nowhere q (u ∷ rest) l = by (u.number == q) refl l (nowhere q rest)
 
 -- what the search for it found
 
-found_by : (q : ℕ) (unread : List Unread) (place : ℕ) (b : Bool) → nat_lt (position_or_len (is_of q) unread) (length unread) ≡ b →
+found_by : (q : ℕ) (unread : List Unread) (place : ℕ) (b : Bool) →
+    nat_lt (position_or_len (is_of q) unread) (length unread) ≡ b →
     Some place ≡ cond b (Some (position_or_len (is_of q) unread)) None → IsAt q unread place
 found_by q unread place true e h =
     let same = same_Some place (position_or_len (is_of q) unread) h in
@@ -56,22 +59,20 @@ found_by q unread place false e h = cc
 pub found_at : (q : ℕ) (unread : List Unread) (place : ℕ) → Some place ≡ position (is_of q) unread → IsAt q unread place
 found_at q unread place h = found_by q unread place (nat_lt (position_or_len (is_of q) unread) (length unread)) refl h
 
-not_found_by : (q : ℕ) (unread : List Unread) (b : Bool) → nat_lt (position_or_len (is_of q) unread) (length unread) ≡ b →
+not_found_by : (q : ℕ) (unread : List Unread) (b : Bool) → nat_lt (position_or_len (is_of q) unread) (length unread) ≡ b
+    →
     None ≡ cond b (Some (position_or_len (is_of q) unread)) None → is_waiting q (map waiting unread) ≡ false
 not_found_by q unread true e h = cc
 not_found_by q unread false e h = nowhere q unread (ltb-false _ _ e)
 
-pub not_found : (q : ℕ) (unread : List Unread) → None ≡ position (is_of q) unread → is_waiting q (map waiting unread) ≡ false
+pub not_found : (q : ℕ) (unread : List Unread) → None ≡ position (is_of q) unread →
+    is_waiting q (map waiting unread) ≡ false
 not_found q unread h = not_found_by q unread (nat_lt (position_or_len (is_of q) unread) (length unread)) refl h
 
 -- what stands at the place
 
-pub place_within : (q : ℕ) (unread : List Unread) (place : ℕ) → IsAt q unread place → place < length unread
-place_within q [] place h = absurd h
-place_within q (u ∷ rest) zero h = omega arith
-place_within q (u ∷ rest) (suc place) h = (let l = place_within q rest place h.1 in omega arith)
-
-pub number_at : (q : ℕ) (unread : List Unread) (place : ℕ) (d : Unread) → IsAt q unread place → (get_or unread place d).number ≡ q
+pub number_at : (q : ℕ) (unread : List Unread) (place : ℕ) (d : Unread) → IsAt q unread place →
+    (get_or unread place d).number ≡ q
 number_at q [] place d h = absurd h
 number_at q (u ∷ rest) zero d h = eqb-true u.number q h
 number_at q (u ∷ rest) (suc place) d h = number_at q rest place d h.1
@@ -81,7 +82,8 @@ pub bytes_at : (q : ℕ) (unread : List Unread) (place : ℕ) (d : Unread) → I
 bytes_at q [] place d h = absurd h
 bytes_at q (u ∷ rest) zero d h = ap (λ (b : Bool). (if b then begun u.assembler else unread_by (map waiting rest) q)) h
 bytes_at q (u ∷ rest) (suc place) d h =
-    ap (λ (b : Bool). (if b then begun u.assembler else unread_by (map waiting rest) q)) h.0 ∙ bytes_at q rest place d h.1
+    ap (λ (b : Bool). (if b then begun u.assembler else unread_by (map waiting rest) q)) h.0
+    ∙ bytes_at q rest place d h.1
 
 -- and what stands there afterwards
 pub set_at : (q : ℕ) (unread : List Unread) (place : ℕ) (u : Unread) → IsAt q unread place → u.number ≡ q →
@@ -98,6 +100,7 @@ set_at q (v ∷ rest) (suc place) u h n =
     else waiting v ∷ with_unread q (begun u.assembler) (map waiting rest))) h.0)
 
 -- those of the dead are given back
-pub given_back : (journal : List Entry) (before after : List Unread) → after ≡ filter (λ u. lives journal u.number) before →
+pub given_back : (journal : List Entry) (before after : List Unread) →
+    after ≡ filter (λ u. lives journal u.number) before →
     map waiting after ≡ of_live journal (map waiting before)
 given_back journal before after h = ap (map waiting) h ∙ map_filter waiting (λ w. lives journal w.number) before

@@ -1,5 +1,5 @@
 -- Laws of what lines play.
-use Rattle.std.specs.Prelude.{◌≡◌, ℕ, ◌^◌, ◌<◌, ◌≤◌, List, [], ◌∷◌, length, Bool, true, false, if◌then◌else◌, Option, Some, None}
+use Rattle.std.specs.Prelude.{◌≡◌, ℕ, ◌^◌, ◌<◌, ◌≤◌, List, [], ◌∷◌, length, true, false, if◌then◌else◌, Some}
 use Rattle.seat_steps.specs.declared.limits.Limits.{Limits}
 use Rattle.session_text.specs.declared.line.SessionLine.{SessionLine}
 use Rattle.seat_steps.specs.declared.step.Step.{Step}
@@ -9,8 +9,6 @@ use Rattle.seat_steps.specs.declared.step.PeerStep.TheVariants as peers
 use Rattle.seat_steps.specs.Ranges.{IsBody}
 use Rattle.session_text.specs.Steps.{step_line}
 use Rattle.wl_wire.specs.Messages.{IsBad}
-use Rattle.broker_model.specs.declared.journal.Entry.{Entry}
-use Rattle.broker_model.specs.declared.journal.Entry.TheVariants as entries
 use Rattle.broker_model.specs.Ids.{Joined, peer_at}
 use Rattle.broker_model.specs.Out.{stored, out_for}
 use Rattle.broker_model.specs.Resolve.{past_of}

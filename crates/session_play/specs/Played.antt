@@ -45,7 +45,8 @@ with_step limits e play =
 -- a step that is taken if the journal isn't full for it
 abbrev pub step_played : Limits → Entry → Play → Played
 step_played limits e play =
-    (if is_full limits.entries play.journal e then record { play = play; is_full = true } else went (with_step limits e play))
+    (if is_full limits.entries play.journal e then record { play = play; is_full = true } else went
+    (with_step limits e play))
 
 -- steps of the peer q, as long as it is alive and the journal isn't full
 abbrev pub steps_played : Limits → ℕ → List Entry → Play → Played
@@ -68,7 +69,8 @@ unread_of play q = unread_by play.unread q
 -- those of the peer q are these now
 abbrev pub with_unread : ℕ → List ℕ → List Waiting → List Waiting
 with_unread q bytes [] = []
-with_unread q bytes (w ∷ rest) = (if w.number == q then record w { bytes = bytes } ∷ rest else w ∷ with_unread q bytes rest)
+with_unread q bytes (w ∷ rest) =
+    (if w.number == q then record w { bytes = bytes } ∷ rest else w ∷ with_unread q bytes rest)
 
 -- bytes of the peer q: a step for each message that they complete; those of a peer that ended say nothing
 abbrev pub bytes_played : Limits → ℕ → List ℕ → Play → Played
@@ -86,7 +88,12 @@ with_peer play = record play {
 
 -- at most 64 peers are alive
 abbrev pub join_played : Limits → Entry → Play → Played
-join_played limits e play = (if nat_le 64 (number_alive play.journal) then went play else step_played limits e (with_peer play))
+join_played limits e play = (if nat_le 64 (number_alive play.journal) then went play else step_played limits e
+    (with_peer play))
+
+-- the end of the link of the peer q, if it is alive
+abbrev pub gone_played : Limits → ℕ → Play → Played
+gone_played limits q play = (if lives play.journal q then step_played limits (entries.End q Gone) play else went play)
 
 -- the first n bytes that are stored for the peer, or all where fewer are; nothing where none is
 abbrev pub take_played : Limits → ℕ → ℕ → Play → Option Joined → Played
@@ -99,7 +106,6 @@ take_played limits q n play (Some peer) =
 abbrev pub line_played : Limits → SessionLine → Play → Played
 line_played limits (lines.Join role) play = join_played limits (entries.Join role) play
 line_played limits (lines.Bytes q piece) play = bytes_played limits q piece play
-line_played limits (lines.Gone q) play =
-    (if lives play.journal q then step_played limits (entries.End q Gone) play else went play)
+line_played limits (lines.Gone q) play = gone_played limits q play
 line_played limits (lines.Take q n) play = take_played limits q n play (peer_at (past_of play.journal) q)
 line_played limits (lines.Shell step) play = step_played limits (entries.Shell step) play

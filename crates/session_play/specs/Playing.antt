@@ -1,5 +1,5 @@
 -- A session as far as it is played.
-use Rattle.std.specs.Prelude.{◌≡◌, ℕ, ◌==◌, List, [], ◌∷◌, ◌++◌, length, Bool, true, false, string_bytes, map, Option, Some, None, Result, Ok, Err, String}
+use Rattle.std.specs.Prelude.{◌≡◌, ℕ, ◌==◌, List, [], ◌++◌, length, Bool, true, false, string_bytes, Option, Result, Ok, Err, String}
 use Rattle.std.specs.List.{list_any}
 use Rattle.std.specs.Global.{Global}
 use Rattle.seat_steps.specs.declared.limits.Limits.{Limits}
@@ -52,15 +52,18 @@ pub record IsMore (before after : List Entry) : Type 0 where
   pub is : after ≡ more ++ before
 
 -- who watched was told of each entry that the journal has more, and of nothing else
-pub record IsWatched {W : Type 0} (may_follow : W → Watched → W → Type 0) (store : ℕ) (before : List Entry) (watch : W) (after : List Entry) (watch_after : W) : Type 0 where
+pub record IsWatched {W : Type 0} (may_follow : W → Watched → W → Type 0) (store : ℕ) (before : List Entry) (watch : W)
+    (after : List Entry) (watch_after : W) : Type 0 where
   pub grew : IsMore before after
   pub told : Reached may_follow watch (watched_since store (length before) after) watch_after
 
--- It was played to where the lines lead. Where the journal was full, the journal is that before the step that it was full for. Where memory was short, what
+-- It was played to where the lines lead. Where the journal was full, the journal is that before the step that it was
+-- full for. Where memory was short, what
 -- was played is a front of it.
 abbrev pub IsPlayed : Played → Result (Unit {0}) Stop → Play → Type 0
 IsPlayed p (Ok done) after = (p.is_full ≡ false) × (after ≡ p.play)
-IsPlayed p (Err (stops.Full kept)) after = (p.is_full ≡ true) × (kept ≡ kept_in p.play.journal) × (after.journal ≡ p.play.journal)
+IsPlayed p (Err (stops.Full kept)) after = (p.is_full ≡ true) × (kept ≡ kept_in p.play.journal) ×
+    (after.journal ≡ p.play.journal)
 IsPlayed p (Err stops.NoMemory) after = IsMore after.journal p.play.journal
 
 -- what was found in a piece behind the unread bytes of the peer q, which are others from now on
@@ -71,19 +74,23 @@ pub record IsRead (before : Ongoing) (q : ℕ) (piece : List ℕ) (found : Found
 
 -- the text is what the transcript has more
 abbrev pub IsWritten : ℕ → Play → Play → String Global → Type 0
-IsWritten store before after text = journal_text store after.journal ≡ journal_text store before.journal ++ string_bytes text
+IsWritten store before after text = journal_text store after.journal ≡ journal_text store before.journal ++ string_bytes
+    text
 
 -- the text is a front of what the transcript has more
 pub record IsFront (store : ℕ) (before after : Play) (text : String Global) : Type 0 where
   pub rest : List ℕ
   pub is : journal_text store after.journal ≡ journal_text store before.journal ++ (string_bytes text ++ rest)
 
--- A line met a journal that was full for a step: how much it holds, and what was written before the step. Where memory was short, a front of the line's steps
+-- A line met a journal that was full for a step: how much it holds, and what was written before the step. Where memory
+-- was short, a front of the line's steps
 -- was played, and a front of that is written.
 abbrev pub IsStopped : ℕ → Played → Play → Play → PlayEnd → Type 0
 IsStopped store p before after (ends.JournalFull kept text) =
-    (p.is_full ≡ true) × (kept ≡ kept_in p.play.journal) × IsWritten store before p.play text × (after.journal ≡ p.play.journal)
-IsStopped store p before after (ends.NoMemory text) = IsMore after.journal p.play.journal × IsFront store before after text
+    (p.is_full ≡ true) × (kept ≡ kept_in p.play.journal) × IsWritten store before p.play text ×
+    (after.journal ≡ p.play.journal)
+IsStopped store p before after (ends.NoMemory text) = IsMore after.journal p.play.journal × IsFront store before after
+    text
 
 -- why nothing more is played
 abbrev pub stop_of : PlayEnd → Stop

@@ -1,6 +1,6 @@
 -- What is found in bytes of a peer, behind those that it sent before.
-use Rattle.std.specs.Prelude.{◌≡◌, ℕ, ◌<◌, ◌≤◌, List, [], ◌∷◌, ◌++◌, length, drop, map}
-use Rattle.wl_wire.specs.Streams.{Assembly, begun}
+use Rattle.std.specs.Prelude.{◌≡◌, ℕ, ◌<◌, ◌≤◌, List, [], ◌∷◌, length, drop}
+use Rattle.wl_wire.specs.Streams.{begun}
 use Rattle.seat_steps.specs.declared.step.PeerStep.{PeerStep}
 use Rattle.seat_steps.specs.Ranges.{IsPeerStep}
 use Rattle.seat_steps.specs.declared.step.PeerStep.TheVariants as peers

@@ -32,8 +32,10 @@ impl Session {
         watch: &mut W,
     ) -> Result<(), Stop>
         ensures limits { self.new.limits ≡ self.old.limits }
-        ensures played { IsPlayed (bytes_played self.old.limits number piece.now self.old.play) result self.new.play }
-        ensures watched { IsWatched W.may_follow self.old.limits.store self.old.play.journal watch.old self.new.play.journal watch.new }
+        ensures played { IsPlayed (bytes_played self.old.limits number piece.now self.old.play)
+            result self.new.play }
+        ensures watched { IsWatched W.may_follow self.old.limits.store self.old.play.journal
+            watch.old self.new.play.journal watch.new }
     {
         let mut rest = piece;
         while self.lives(number) {

@@ -20,7 +20,8 @@ pub enum PlayEnd {
     NoMemory(String),
 }
 
-/// Plays a session line by line. After an error it plays nothing more, and its journal stays what was played.
+/// Plays a session line by line. After an error it plays nothing more, and its journal stays what
+/// was played.
 ///
 /// In contracts it is its limits, what was played so far, and whether and why an error came.
 #[derive(Drop)]
@@ -36,7 +37,12 @@ impl Model for Player {
 
     ghost Value = { Playing };
 
-    ghost view = { λ p. record { limits = p.session.limits; play = p.session.play; is_spent = is_some p.stopped; stopped = p.stopped } };
+    ghost view = { λ p. record {
+      limits = p.session.limits;
+      play = p.session.play;
+      is_spent = is_some p.stopped;
+      stopped = p.stopped;
+    } };
 }
 
 // How a line ends, with its text.
@@ -60,7 +66,12 @@ impl Player {
     /// Nobody joined yet. Asks for limits in their ranges. `NoMemory` is its one error.
     pub fn new(alloc: Global, limits: Limits) -> Result<Player, NoMemory>
         requires limits { IsLimits limits }
-        ensures new { IfOk result (λ p. p ≡ record { limits = limits; play = record { journal = []; unread = [] }; is_spent = false; stopped = None }) }
+        ensures new { IfOk result (λ p. p ≡ record {
+          limits = limits;
+          play = record { journal = []; unread = [] };
+          is_spent = false;
+          stopped = None;
+        }) }
     {
         Ok(Player {
             alloc,
@@ -71,18 +82,21 @@ impl Player {
 
     /// Plays a line, and tells who watches of each entry that it makes.
     ///
-    /// `Full` comes where the journal is full for a step of the line, before which it stopped. `NoMemory` may come at any time, and then a front of the line's
-    /// steps was played. After an error each line answers the same, and nothing is played.
+    /// `Full` comes where the journal is full for a step of the line, before which it stopped.
+    /// `NoMemory` may come at any time, and then a front of the line's steps was played. After an
+    /// error each line answers the same, and nothing is played.
     pub fn line_watched<W: Watch>(&mut self, line: &SessionLine, watch: &mut W) -> Result<(), Stop>
         requires valid { IsSessionLine line.now }
-        ensures played { self.old.is_spent ≡ false → IsPlayed (line_played self.old.limits line.now self.old.play) result self.new.play }
+        ensures played { self.old.is_spent ≡ false →
+            IsPlayed (line_played self.old.limits line.now self.old.play) result self.new.play }
         ensures ok { OnOk result (self.new ≡ record self.old { play = self.new.play }) }
         ensures stopped { IfErr result (λ stop. self.new.stopped ≡ Some stop) }
         ensures spent { OnErr result (self.new.is_spent ≡ true) }
         ensures again { IfSome self.old.stopped (λ stop. result ≡ Err stop) }
         ensures stays { self.old.is_spent ≡ true → self.new ≡ self.old }
         ensures limits { self.new.limits ≡ self.old.limits }
-        ensures watched { IsWatched W.may_follow self.old.limits.store self.old.play.journal watch.old self.new.play.journal watch.new }
+        ensures watched { IsWatched W.may_follow self.old.limits.store self.old.play.journal
+            watch.old self.new.play.journal watch.new }
     {
         if let Some(stop) = self.stopped {
             return Err(stop);
@@ -97,13 +111,15 @@ impl Player {
     // A line, and its part of the transcript if there was memory for it.
     fn printed(&mut self, line: &SessionLine) -> (Result<(), Stop>, Option<String>)
         requires valid { IsSessionLine line.now }
-        ensures played { self.old.is_spent ≡ false → IsPlayed (line_played self.old.limits line.now self.old.play) result.0 self.new.play }
+        ensures played { self.old.is_spent ≡ false →
+            IsPlayed (line_played self.old.limits line.now self.old.play) result.0 self.new.play }
         ensures ok { OnOk result.0 (self.new ≡ record self.old { play = self.new.play }) }
         ensures stopped { IfErr result.0 (λ stop. self.new.stopped ≡ Some stop) }
         ensures spent { OnErr result.0 (self.new.is_spent ≡ true) }
         ensures limits { self.new.limits ≡ self.old.limits }
         ensures grew { IsMore self.old.play.journal self.new.play.journal }
-        ensures text { IfSome result.1 (IsWritten self.old.limits.store self.old.play self.new.play) }
+        ensures text { IfSome result.1
+            (IsWritten self.old.limits.store self.old.play self.new.play) }
     {
         let mut printer = Printer::new(self.alloc);
         let played = self.line_watched(line, &mut printer);
@@ -112,12 +128,17 @@ impl Player {
 
     /// Plays a line, and answers its part of the transcript.
     ///
-    /// `JournalFull` comes where the journal is full for a step of the line, before which it stopped. `NoMemory` may come at any time, and then the text is a
-    /// front of what was played. After an error each line answers the same with an empty text, and nothing is played.
+    /// `JournalFull` comes where the journal is full for a step of the line, before which it
+    /// stopped. `NoMemory` may come at any time, and then the text is a front of what was played.
+    /// After an error each line answers the same with an empty text, and nothing is played.
     pub fn line(&mut self, line: &SessionLine) -> Result<String, PlayEnd>
         requires valid { IsSessionLine line.now }
-        ensures ok { self.old.is_spent ≡ false → IfOk result (λ text. let p = line_played self.old.limits line.now self.old.play in (p.is_full ≡ false) × (self.new ≡ record self.old { play = p.play }) × IsWritten self.old.limits.store self.old.play p.play text) }
-        ensures full { self.old.is_spent ≡ false → IfErr result (IsStopped self.old.limits.store (line_played self.old.limits line.now self.old.play) self.old.play self.new.play) }
+        ensures ok { self.old.is_spent ≡ false → IfOk result (λ text.
+            let p = line_played self.old.limits line.now self.old.play in
+            (p.is_full ≡ false) × (self.new ≡ record self.old { play = p.play })
+            × IsWritten self.old.limits.store self.old.play p.play text) }
+        ensures full { self.old.is_spent ≡ false → IfErr result (IsStopped self.old.limits.store
+            (line_played self.old.limits line.now self.old.play) self.old.play self.new.play) }
         ensures stopped { IfErr result (λ e. self.new.stopped ≡ Some (stop_of e)) }
         ensures spent { OnErr result (self.new.is_spent ≡ true) }
         ensures again { IfSome self.old.stopped (λ stop. IsAgain stop result) }
@@ -144,10 +165,11 @@ impl Player {
         self.session.journal().len()
     }
 
-    /// The journal that the lines led to, also after an error. It is the history of its outer steps.
+    /// What was played, also after an error. It is the history of its outer steps.
     pub fn journal(&self) -> &Journal
         ensures entries { result.now.entries ≡ self.now.play.journal }
-        ensures history { history self.now.limits.store (outer self.now.play.journal) ≡ self.now.play.journal }
+        ensures history { history self.now.limits.store (outer self.now.play.journal)
+            ≡ self.now.play.journal }
     {
         self.session.journal()
     }

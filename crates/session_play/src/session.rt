@@ -56,7 +56,10 @@ impl Model for Session {
 
     ghost Value = { Ongoing };
 
-    ghost view = { λ s. record { limits = s.shared.limits; play = record { journal = s.shared.journal; unread = map waiting s.unread.items } } };
+    ghost view = { λ s. record {
+      limits = s.shared.limits;
+      play = record { journal = s.shared.journal; unread = map waiting s.unread.items };
+    } };
 
     ghost invariant = { λ s. AreWaiting s.shared.journal (map waiting s.unread.items) };
 }
@@ -75,13 +78,16 @@ impl Session {
     ghost use Rattle.broker_core.specs.declared.taking.Standing.TheVariants.{Alive};
     ghost use Rattle.broker_core.specs.Taking.{standing_of};
     ghost use Rattle.broker_core.specs.Taking.{lives};
-    ghost use Rattle.session_play.specs.Played.{went, step_played, join_played, take_played, line_played};
+    ghost use Rattle.session_play.specs.Played.{step_played, gone_played, join_played, take_played, line_played};
     ghost use Rattle.session_play.specs.Playing.{IsPlayed, IsWatched, IsThere};
 
     /// Nobody joined yet. `NoMemory` is its one error.
     pub(crate) fn new(alloc: Global, limits: Limits) -> Result<Session, NoMemory>
         requires limits { IsLimits limits }
-        ensures new { IfOk result (λ s. s ≡ record { limits = limits; play = record { journal = []; unread = [] } }) }
+        ensures new { IfOk result (λ s. s ≡ record {
+          limits = limits;
+          play = record { journal = []; unread = [] };
+        }) }
     {
         Ok(Session {
             alloc,
@@ -101,7 +107,8 @@ impl Session {
     /// The journal.
     pub(crate) fn journal(&self) -> &Journal
         ensures entries { result.now.entries ≡ self.now.play.journal }
-        ensures history { history self.now.limits.store (outer self.now.play.journal) ≡ self.now.play.journal }
+        ensures history { history self.now.limits.store (outer self.now.play.journal)
+            ≡ self.now.play.journal }
     {
         self.shared.journal()
     }
@@ -112,8 +119,10 @@ impl Session {
         requires said { IsSaid step.now }
         requires there { IsThere step.now self.old.play.journal }
         ensures limits { self.new.limits ≡ self.old.limits }
-        ensures played { IsPlayed (step_played self.old.limits (entry_of step.now) self.old.play) result self.new.play }
-        ensures watched { IsWatched W.may_follow self.old.limits.store self.old.play.journal watch.old self.new.play.journal watch.new }
+        ensures played { IsPlayed (step_played self.old.limits (entry_of step.now) self.old.play)
+            result self.new.play }
+        ensures watched { IsWatched W.may_follow self.old.limits.store self.old.play.journal
+            watch.old self.new.play.journal watch.new }
     {
         match self.shared.apply_watched(step, watch) {
             Ok(_) => {
@@ -129,8 +138,10 @@ impl Session {
     /// A peer joins, unless so many are alive.
     pub(crate) fn join<W: Watch>(&mut self, role: Role, watch: &mut W) -> Result<(), Stop>
         ensures limits { self.new.limits ≡ self.old.limits }
-        ensures played { IsPlayed (join_played self.old.limits (entries.Join role) self.old.play) result self.new.play }
-        ensures watched { IsWatched W.may_follow self.old.limits.store self.old.play.journal watch.old self.new.play.journal watch.new }
+        ensures played { IsPlayed (join_played self.old.limits (entries.Join role) self.old.play)
+            result self.new.play }
+        ensures watched { IsWatched W.may_follow self.old.limits.store self.old.play.journal
+            watch.old self.new.play.journal watch.new }
     {
         let assembler = Assembler::new(self.alloc)?;
         self.unread.reserve(1)?;
@@ -149,8 +160,10 @@ impl Session {
     /// The link of a peer ends, if it is alive.
     pub(crate) fn gone<W: Watch>(&mut self, number: u32, watch: &mut W) -> Result<(), Stop>
         ensures limits { self.new.limits ≡ self.old.limits }
-        ensures played { IsPlayed (if lives self.old.play.journal number then step_played self.old.limits (entries.End number Gone) self.old.play else went self.old.play) result self.new.play }
-        ensures watched { IsWatched W.may_follow self.old.limits.store self.old.play.journal watch.old self.new.play.journal watch.new }
+        ensures played { IsPlayed (gone_played self.old.limits number self.old.play)
+            result self.new.play }
+        ensures watched { IsWatched W.may_follow self.old.limits.store self.old.play.journal
+            watch.old self.new.play.journal watch.new }
     {
         if !self.lives(number) {
             return Ok(());
@@ -159,16 +172,26 @@ impl Session {
     }
 
     /// The first bytes that are stored for a peer are taken.
-    pub(crate) fn take<W: Watch>(&mut self, number: u32, most: u32, watch: &mut W) -> Result<(), Stop>
+    pub(crate) fn take<W: Watch>(
+        &mut self,
+        number: u32,
+        most: u32,
+        watch: &mut W,
+    ) -> Result<(), Stop>
         requires some { 1 ≤ most }
         requires piece { most ≤ 4096 }
         ensures limits { self.new.limits ≡ self.old.limits }
-        ensures played { IsPlayed (take_played self.old.limits number most self.old.play (peer_at (past_of self.old.play.journal) number)) result self.new.play }
-        ensures watched { IsWatched W.may_follow self.old.limits.store self.old.play.journal watch.old self.new.play.journal watch.new }
+        ensures played { IsPlayed (take_played self.old.limits number most self.old.play
+            (peer_at (past_of self.old.play.journal) number)) result self.new.play }
+        ensures watched { IsWatched W.may_follow self.old.limits.store self.old.play.journal
+            watch.old self.new.play.journal watch.new }
     {
         let mut bytes = [0u8; 4096];
         let mut tokens = [0u32; 256];
-        match self.shared.take_watched(number, &mut bytes[..most as usize], &mut tokens, watch) {
+        match self
+            .shared
+            .take_watched(number, &mut bytes[..most as usize], &mut tokens, watch)
+        {
             Took::Bytes(..) => {
                 forget_ended(&self.shared, &mut self.unread);
                 Ok(())
@@ -183,8 +206,10 @@ impl Session {
     pub(crate) fn line<W: Watch>(&mut self, line: &SessionLine, watch: &mut W) -> Result<(), Stop>
         requires valid { IsSessionLine line.now }
         ensures limits { self.new.limits ≡ self.old.limits }
-        ensures played { IsPlayed (line_played self.old.limits line.now self.old.play) result self.new.play }
-        ensures watched { IsWatched W.may_follow self.old.limits.store self.old.play.journal watch.old self.new.play.journal watch.new }
+        ensures played { IsPlayed (line_played self.old.limits line.now self.old.play)
+            result self.new.play }
+        ensures watched { IsWatched W.may_follow self.old.limits.store self.old.play.journal
+            watch.old self.new.play.journal watch.new }
     {
         match line {
             SessionLine::Join(role) => self.join(*role, watch),

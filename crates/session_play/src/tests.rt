@@ -1,4 +1,9 @@
 // What no clause tells: that memory is found, and that a player answers as its callers use it.
+ghost use Rattle.std.specs.Prelude.{length, IfOk};
+ghost use Rattle.seat_steps.specs.Ranges.{piece_limit};
+ghost use Rattle.seat_steps.specs.Ranges.{IsWithin};
+ghost use Rattle.session_text.specs.Steps.{IsSessionLine};
+
 use crate::{PlayEnd, Player, Stop};
 use broker_core::Kept;
 use relay_model::Role;
@@ -9,7 +14,11 @@ use std::process::Abort;
 use std::test::Fail;
 use wl_wire::Bytes;
 
-fn piece(alloc: Global, bytes: &[u8]) -> Result<SessionLine, Fail> {
+// A line of bytes of the first peer.
+fn piece(alloc: Global, bytes: &[u8]) -> Result<SessionLine, Fail>
+    requires { IsWithin piece_limit (length bytes.now) }
+    ensures { IfOk result IsSessionLine }
+{
     Ok(SessionLine::Bytes(1, Bytes::new(Vec::from_slice(alloc, bytes)?)))
 }
 
@@ -43,9 +52,14 @@ fn all_refusals(rt: &impl Abort, player: &mut Player) {
         weight: 16,
     };
     assert!(rt; player.line(&SessionLine::Join(Role::App)).is_ok());
-    assert!(rt; matches!(player.line(&SessionLine::Join(Role::App)), Err(PlayEnd::JournalFull(_, _))));
-    assert_eq!(rt; player.line_watched(&SessionLine::Gone(1), &mut ()), Err(Stop::Full(full)));
-    assert!(rt; matches!(player.line(&SessionLine::Gone(1)), Err(PlayEnd::JournalFull(_, _))));
+    let again = player.line(&SessionLine::Join(Role::App));
+    assert!(rt; matches!(again, Err(PlayEnd::JournalFull(_, _))));
+    assert_eq!(rt;
+        player.line_watched(&SessionLine::Gone(1), &mut ()),
+        Err(Stop::Full(full))
+    );
+    let gone = player.line(&SessionLine::Gone(1));
+    assert!(rt; matches!(gone, Err(PlayEnd::JournalFull(_, _))));
     assert_eq!(rt; player.entries(), 1);
 }
 

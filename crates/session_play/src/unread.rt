@@ -36,7 +36,9 @@ impl Unread {
     /// The next step that the piece gives. `NoMemory` is its one error.
     pub(crate) fn read(&mut self, alloc: Global, piece: &[u8]) -> Result<Found, NoMemory>
         ensures number { self.new.number ≡ self.old.number }
-        ensures found { IfOk result (λ found. Finds self.old.number (begun self.old.assembler ++ piece.now) piece.now found (begun self.new.assembler)) }
+        ensures found { IfOk result (λ found.
+            Finds self.old.number (begun self.old.assembler ++ piece.now) piece.now
+            found (begun self.new.assembler)) }
     {
         match self.assembler.feed(piece) {
             Fed::Whole(used) => {

@@ -1,4 +1,4 @@
-use Rattle.std.proofs.Common.{length, sym, subst}
+use Rattle.std.proofs.Common.{length, subst}
 use Rattle.seat_objects.specs.Reached.{Reached}
 use Rattle.broker_core.specs.Watched.{watched_since}
 use Rattle.seat_printer.specs.Printed.{Printing, MayPrint}
@@ -13,4 +13,5 @@ returns-clause-text c =
     let watched = c.line_watched-played.ensures.watched in
     written store c.args.self.now.play c.line_watched-played.new.self.play c.finish.result watched.grew
     (c.finish.ensures.text store (length before) after
-    (subst (λ (p : Printing). Reached MayPrint p (watched_since store (length before) after) c.line_watched-played.new.watch) c.new-printer.ensures watched.told))
+    (subst (λ (p : Printing). Reached MayPrint p (watched_since store (length before) after)
+    c.line_watched-played.new.watch) c.new-printer.ensures watched.told))

@@ -10,53 +10,71 @@ pub loop-rest-init : goal.loop-rest-init
 loop-rest-init g c = record {
   limits = refl;
   left = refl;
-  watched = watched_none g.W.Watch.may_follow c.args.self.now.limits.store c.args.self.now.play.journal c.args.watch.now;
+  watched = watched_none g.W.Watch.may_follow c.args.self.now.limits.store c.args.self.now.play.journal
+      c.args.watch.now;
 }
 
 pub returns-in_err-step-clause-played : goal.returns-in_err-step-clause-played
 returns-in_err-step-clause-played g c =
     let p = err_from_is_err_and c.from_residual.result c.from_residual.ensures.1 in
     rw (p.1, p.2)
-    (read_short c.args.self.now c.loop-rest.self c.args.number c.args.piece.now c.loop-rest.rest.now c.read.new.self.play c.loop-rest.invariant.left
+    (read_short c.args.self.now c.loop-rest.self c.args.number c.args.piece.now c.loop-rest.rest.now
+    c.read.new.self.play c.loop-rest.invariant.left
     c.read.ensures.journal)
 
 pub returns-in_err-step-in-Message-clause-played : goal.returns-in_err-step-in-Message-clause-played
 returns-in_err-step-in-Message-clause-played g c =
-    let p = err_from_is_err_and c.from_residual-in_err-step-in-Message.result c.from_residual-in_err-step-in-Message.ensures.1 in
+    let p = err_from_is_err_and c.from_residual-in_err-step-in-Message.result
+    c.from_residual-in_err-step-in-Message.ensures.1 in
     rw (p.1, p.2)
-    (message_stops c.args.self.now c.loop-rest.self c.read.new.self c.args.number c.args.piece.now c.loop-rest.rest.now c.in-Message.step c.in-Message.used
-    c.in_err-step-in-Message.field-0.0 c.step.new.self.play c.loop-rest.invariant.limits c.read.ensures.limits c.loop-rest.invariant.left
+    (message_stops c.args.self.now c.loop-rest.self c.read.new.self c.args.number c.args.piece.now c.loop-rest.rest.now
+    c.in-Message.step c.in-Message.used
+    c.in_err-step-in-Message.field-0.0 c.step.new.self.play c.loop-rest.invariant.limits c.read.ensures.limits
+    c.loop-rest.invariant.left
     (sym c.lives.ensures.value ∙ c.loop-rest-test.true)
-    (subst (λ (f : Found). IsRead c.loop-rest.self c.args.number c.loop-rest.rest.now f c.read.new.self) c.in-Message.is c.in_ok-step.ensures.read) c.read.ensures.journal c.in_err-step-in-Message.ensures.played)
+    (subst (λ (f : Found). IsRead c.loop-rest.self c.args.number c.loop-rest.rest.now f c.read.new.self) c.in-Message.is
+    c.in_ok-step.ensures.read) c.read.ensures.journal c.in_err-step-in-Message.ensures.played)
 
 pub returns-in_err-step-in-Message-clause-watched : goal.returns-in_err-step-in-Message-clause-watched
 returns-in_err-step-in-Message-clause-watched g c =
-    step_more_watched g.W.Watch.may_follow c.args.self.now c.loop-rest.self c.read.new.self c.step.new.self.play.journal c.args.watch.now c.loop-rest.watch
-    c.step.new.watch c.loop-rest.invariant.limits c.read.ensures.limits c.read.ensures.journal c.loop-rest.invariant.watched c.step.ensures.watched
+    step_more_watched g.W.Watch.may_follow c.args.self.now c.loop-rest.self c.read.new.self c.step.new.self.play.journal
+    c.args.watch.now c.loop-rest.watch
+    c.step.new.watch c.loop-rest.invariant.limits c.read.ensures.limits c.read.ensures.journal
+    c.loop-rest.invariant.watched c.step.ensures.watched
 
 pub loop-rest-preserved : goal.loop-rest-preserved
 loop-rest-preserved g c = record {
   limits = c.step.ensures.limits ∙ c.read.ensures.limits ∙ c.loop-rest.invariant.limits;
   left =
-      message_goes c.args.self.now c.loop-rest.self c.read.new.self c.step.new.self c.args.number c.args.piece.now c.loop-rest.rest.now c.split_at.result.1.now
+      message_goes c.args.self.now c.loop-rest.self c.read.new.self c.step.new.self c.args.number c.args.piece.now
+      c.loop-rest.rest.now c.split_at.result.1.now
       c.in-Message.step c.in-Message.used c.loop-rest.invariant.limits c.read.ensures.limits c.loop-rest.invariant.left
       (sym c.lives.ensures.value ∙ c.loop-rest-test.true)
-      (subst (λ (f : Found). IsRead c.loop-rest.self c.args.number c.loop-rest.rest.now f c.read.new.self) c.in-Message.is c.in_ok-step.ensures.read) c.read.ensures.journal c.split_at.ensures.back c.in_ok-step-in-Message.ensures.played;
+      (subst (λ (f : Found). IsRead c.loop-rest.self c.args.number c.loop-rest.rest.now f c.read.new.self)
+      c.in-Message.is c.in_ok-step.ensures.read) c.read.ensures.journal c.split_at.ensures.back
+      c.in_ok-step-in-Message.ensures.played;
   watched =
-      step_more_watched g.W.Watch.may_follow c.args.self.now c.loop-rest.self c.read.new.self c.step.new.self.play.journal c.args.watch.now
-      c.loop-rest.watch c.step.new.watch c.loop-rest.invariant.limits c.read.ensures.limits c.read.ensures.journal c.loop-rest.invariant.watched
+      step_more_watched g.W.Watch.may_follow c.args.self.now c.loop-rest.self c.read.new.self
+      c.step.new.self.play.journal c.args.watch.now
+      c.loop-rest.watch c.step.new.watch c.loop-rest.invariant.limits c.read.ensures.limits c.read.ensures.journal
+      c.loop-rest.invariant.watched
       c.step.ensures.watched;
 }
 
 pub returns-in-BadSize-clause-played : goal.returns-in-BadSize-clause-played
 returns-in-BadSize-clause-played g c =
-    bad_size_ends c.args.self.now c.loop-rest.self c.read.new.self c.args.number c.args.piece.now c.loop-rest.rest.now c.in-BadSize.step
-    c.step-in-BadSize.result c.step-in-BadSize.new.self.play c.loop-rest.invariant.limits c.read.ensures.limits c.loop-rest.invariant.left
+    bad_size_ends c.args.self.now c.loop-rest.self c.read.new.self c.args.number c.args.piece.now c.loop-rest.rest.now
+    c.in-BadSize.step
+    c.step-in-BadSize.result c.step-in-BadSize.new.self.play c.loop-rest.invariant.limits c.read.ensures.limits
+    c.loop-rest.invariant.left
     (sym c.lives.ensures.value ∙ c.loop-rest-test.true)
-    (subst (λ (f : Found). IsRead c.loop-rest.self c.args.number c.loop-rest.rest.now f c.read.new.self) c.in-BadSize.is c.in_ok-step.ensures.read) c.read.ensures.journal c.step-in-BadSize.ensures.played
+    (subst (λ (f : Found). IsRead c.loop-rest.self c.args.number c.loop-rest.rest.now f c.read.new.self) c.in-BadSize.is
+    c.in_ok-step.ensures.read) c.read.ensures.journal c.step-in-BadSize.ensures.played
 
 pub returns-in-BadSize-clause-watched : goal.returns-in-BadSize-clause-watched
 returns-in-BadSize-clause-watched g c =
-    step_more_watched g.W.Watch.may_follow c.args.self.now c.loop-rest.self c.read.new.self c.step-in-BadSize.new.self.play.journal c.args.watch.now
-    c.loop-rest.watch c.step-in-BadSize.new.watch c.loop-rest.invariant.limits c.read.ensures.limits c.read.ensures.journal
+    step_more_watched g.W.Watch.may_follow c.args.self.now c.loop-rest.self c.read.new.self
+    c.step-in-BadSize.new.self.play.journal c.args.watch.now
+    c.loop-rest.watch c.step-in-BadSize.new.watch c.loop-rest.invariant.limits c.read.ensures.limits
+    c.read.ensures.journal
     c.loop-rest.invariant.watched c.step-in-BadSize.ensures.watched

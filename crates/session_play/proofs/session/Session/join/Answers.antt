@@ -1,4 +1,4 @@
-use Rattle.std.proofs.Common.{◌≡◌, ap, refl, sym, ◌∙◌, arith}
+use Rattle.std.proofs.Common.{ap, refl, arith}
 use Rattle.std.specs.Prelude.{is_ok}
 use Rattle.std.proofs.lemmas.Result.{err_from_is_err_and}
 use Rattle.wl_wire.specs.Streams.{Assembly, begun}
@@ -20,49 +20,63 @@ returns-in_err-assembler-clause-watched g c =
 pub returns-in_err-reserve-clause-played : goal.returns-in_err-reserve-clause-played
 returns-in_err-reserve-clause-played g c =
     let p = err_from_is_err_and c.from_residual-in_err-reserve.result c.from_residual-in_err-reserve.ensures.1 in
-    rw (p.1, p.2) (join_short c.args.self.now c.self.inside.shared c.self.inside.shared c.self.inside.unread.items c.args.role c.self.view_is refl)
+    rw (p.1, p.2) (join_short c.args.self.now c.self.inside.shared c.self.inside.shared c.self.inside.unread.items
+    c.args.role c.self.view_is refl)
 
 pub returns-in_err-reserve-clause-watched : goal.returns-in_err-reserve-clause-watched
 returns-in_err-reserve-clause-watched g c =
-    none_watched g.W.Watch.may_follow c.args.self.now c.self.inside.shared c.self.inside.unread.items c.args.watch.now c.self.view_is
+    none_watched g.W.Watch.may_follow c.args.self.now c.self.inside.shared c.self.inside.unread.items c.args.watch.now
+    c.self.view_is
 
 pub invariant_of-self-in-Ok : goal.invariant_of-self-in-Ok
 invariant_of-self-in-Ok g c =
     let room = c.in_ok-reserve.ensures.ok in
     let put = is_put c.push.result _ _ c.push.ensures.full (omega arith) in
-    let made = pushed c.self.inside.unread.items c.reserve.new.self.items c.push.new.self.items _ (is_ok c.push.result) c.in_ok-reserve.ensures.items put c.push.ensures.items in
-    join_waits c.args.self.now c.self.inside.shared c.join_watched.new.self c.self.inside.unread.items c.forget_ended.new.unread.items _ c.args.role
-    c.in-Ok.ensures.ok c.in-Ok.ensures.number (left_of c.join_watched.new.self _ c.push.new.self.items c.forget_ended.new.unread.items c.forget_ended.ensures made)
+    let made = pushed c.self.inside.unread.items c.reserve.new.self.items c.push.new.self.items _ (is_ok c.push.result)
+    c.in_ok-reserve.ensures.items put c.push.ensures.items in
+    join_waits c.args.self.now c.self.inside.shared c.join_watched.new.self c.self.inside.unread.items
+    c.forget_ended.new.unread.items _ c.args.role
+    c.in-Ok.ensures.ok c.in-Ok.ensures.number (left_of c.join_watched.new.self _ c.push.new.self.items
+    c.forget_ended.new.unread.items c.forget_ended.ensures made)
     c.self.invariant
 
 pub returns-in-Ok-clause-played : goal.returns-in-Ok-clause-played
 returns-in-Ok-clause-played g c =
     let room = c.in_ok-reserve.ensures.ok in
     let put = is_put c.push.result _ _ c.push.ensures.full (omega arith) in
-    let made = pushed c.self.inside.unread.items c.reserve.new.self.items c.push.new.self.items _ (is_ok c.push.result) c.in_ok-reserve.ensures.items put c.push.ensures.items in
-    join_ok c.args.self.now c.self.inside.shared c.join_watched.new.self c.self.inside.unread.items c.forget_ended.new.unread.items _ c.args.role c.in-Ok.number
+    let made = pushed c.self.inside.unread.items c.reserve.new.self.items c.push.new.self.items _ (is_ok c.push.result)
+    c.in_ok-reserve.ensures.items put c.push.ensures.items in
+    join_ok c.args.self.now c.self.inside.shared c.join_watched.new.self c.self.inside.unread.items
+    c.forget_ended.new.unread.items _ c.args.role c.in-Ok.number
     c.self.view_is c.in-Ok.ensures.refused c.in-Ok.ensures.ok c.in-Ok.ensures.number
     (ap (λ (a : Assembly). record { number = c.in-Ok.number; bytes = begun a }) c.in_ok-assembler.ensures.empty)
-    (left_of c.join_watched.new.self _ c.push.new.self.items c.forget_ended.new.unread.items c.forget_ended.ensures made)
+    (left_of c.join_watched.new.self _ c.push.new.self.items c.forget_ended.new.unread.items c.forget_ended.ensures
+    made)
 
 pub returns-in-Ok-clause-watched : goal.returns-in-Ok-clause-watched
 returns-in-Ok-clause-watched g c =
-    step_watched g.W.Watch.may_follow c.args.self.now c.self.inside.shared c.join_watched.new.self c.self.inside.unread.items (entries.Join c.args.role)
+    step_watched g.W.Watch.may_follow c.args.self.now c.self.inside.shared c.join_watched.new.self
+    c.self.inside.unread.items (entries.Join c.args.role)
     c.args.watch.now c.join_watched.new.watch c.self.view_is c.in-Ok.ensures.ok c.in-Ok.ensures.watched
 
 pub returns-in-Err-TooManyPeers-clause-played : goal.returns-in-Err-TooManyPeers-clause-played
 returns-in-Err-TooManyPeers-clause-played g c =
-    join_many c.args.self.now c.self.inside.shared c.join_watched.new.self c.self.inside.unread.items c.reserve.new.self.items c.args.role _
-    c.in-Err-TooManyPeers.field-0 _ c.self.view_is refl c.in-Err-TooManyPeers.field-0-is c.in-Err-TooManyPeers.ensures.refused
+    join_many c.args.self.now c.self.inside.shared c.join_watched.new.self c.self.inside.unread.items
+    c.reserve.new.self.items c.args.role _
+    c.in-Err-TooManyPeers.field-0 _ c.self.view_is refl c.in-Err-TooManyPeers.field-0-is
+    c.in-Err-TooManyPeers.ensures.refused
     c.in-Err-TooManyPeers.ensures.accepted c.in-Err-TooManyPeers.ensures.err c.in_ok-reserve.ensures.items
 
 pub returns-in-Err-JournalFull-clause-played : goal.returns-in-Err-JournalFull-clause-played
 returns-in-Err-JournalFull-clause-played g c =
-    join_full c.args.self.now c.self.inside.shared c.join_watched.new.self c.self.inside.unread.items c.reserve.new.self.items c.args.role _
-    c.in-Err-JournalFull.field-0 c.in-Err-JournalFull.kept c.self.view_is refl c.in-Err-JournalFull.field-0-is c.in-Err-JournalFull.ensures.refused
+    join_full c.args.self.now c.self.inside.shared c.join_watched.new.self c.self.inside.unread.items
+    c.reserve.new.self.items c.args.role _
+    c.in-Err-JournalFull.field-0 c.in-Err-JournalFull.kept c.self.view_is refl c.in-Err-JournalFull.field-0-is
+    c.in-Err-JournalFull.ensures.refused
     c.in-Err-JournalFull.ensures.accepted c.in-Err-JournalFull.ensures.err c.in_ok-reserve.ensures.items
 
 pub returns-clause-played : goal.returns-clause-played
 returns-clause-played g c =
-    join_short c.args.self.now c.self.inside.shared c.join_watched.new.self c.self.inside.unread.items c.args.role c.self.view_is
+    join_short c.args.self.now c.self.inside.shared c.join_watched.new.self c.self.inside.unread.items c.args.role
+    c.self.view_is
     c.in-Err-NoMemory.ensures.err

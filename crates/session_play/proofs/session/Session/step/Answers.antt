@@ -4,20 +4,25 @@ use Rattle.session_play.proofs.session.Session.step.Goals as goal
 
 pub invariant_of-self : goal.invariant_of-self
 invariant_of-self g c =
-    step_waits c.args.self.now c.self.inside.shared c.apply_watched.new.self c.self.inside.unread.items c.forget_ended.new.unread.items c.args.step.now
+    step_waits c.args.self.now c.self.inside.shared c.apply_watched.new.self c.self.inside.unread.items
+    c.forget_ended.new.unread.items c.args.step.now
     c.self.view_is c.requires.said c.requires.there c.in-Ok.ensures.ok c.forget_ended.ensures c.self.invariant
 
 pub returns-in-Ok-clause-played : goal.returns-in-Ok-clause-played
 returns-in-Ok-clause-played g c =
-    step_ok c.args.self.now c.self.inside.shared c.apply_watched.new.self c.self.inside.unread.items c.forget_ended.new.unread.items c.args.step.now
-    c.in-Ok.field-0 c.self.view_is c.requires.said c.requires.there c.in-Ok.ensures.refused c.in-Ok.ensures.ok c.forget_ended.ensures
+    step_ok c.args.self.now c.self.inside.shared c.apply_watched.new.self c.self.inside.unread.items
+    c.forget_ended.new.unread.items c.args.step.now
+    c.in-Ok.field-0 c.self.view_is c.requires.said c.requires.there c.in-Ok.ensures.refused c.in-Ok.ensures.ok
+    c.forget_ended.ensures
 
 pub returns-in-Ok-clause-watched : goal.returns-in-Ok-clause-watched
 returns-in-Ok-clause-watched g c =
-    step_watched g.W.Watch.may_follow c.args.self.now c.self.inside.shared c.apply_watched.new.self c.self.inside.unread.items (entry_of c.args.step.now)
+    step_watched g.W.Watch.may_follow c.args.self.now c.self.inside.shared c.apply_watched.new.self
+    c.self.inside.unread.items (entry_of c.args.step.now)
     c.args.watch.now c.apply_watched.new.watch c.self.view_is c.in-Ok.ensures.ok c.in-Ok.ensures.watched
 
 pub returns-in-Err-NoMemory-clause-played : goal.returns-in-Err-NoMemory-clause-played
 returns-in-Err-NoMemory-clause-played g c =
-    step_short c.args.self.now c.self.inside.shared c.apply_watched.new.self c.self.inside.unread.items (entry_of c.args.step.now) c.self.view_is
+    step_short c.args.self.now c.self.inside.shared c.apply_watched.new.self c.self.inside.unread.items
+    (entry_of c.args.step.now) c.self.view_is
     c.in-Err-NoMemory.ensures.err

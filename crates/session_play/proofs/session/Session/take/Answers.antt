@@ -6,22 +6,28 @@ use Rattle.session_play.proofs.session.Session.take.Goals as goal
 
 pub invariant_of-self : goal.invariant_of-self
 invariant_of-self g c =
-    take_waits c.self.inside.shared c.take_watched.new.self c.self.inside.unread.items c.forget_ended.new.unread.items c.args.number c.in-Bytes.field-0
+    take_waits c.self.inside.shared c.take_watched.new.self c.self.inside.unread.items c.forget_ended.new.unread.items
+    c.args.number c.in-Bytes.field-0
     c.in-Bytes.ensures.settled c.forget_ended.ensures c.self.invariant
 
 pub returns-in-Bytes-clause-played : goal.returns-in-Bytes-clause-played
 returns-in-Bytes-clause-played g c =
-    take_ok c.args.self.now c.self.inside.shared c.take_watched.new.self c.self.inside.unread.items c.forget_ended.new.unread.items c.args.number c.args.most
-    c.in-Bytes.field-0 c.in-Bytes.field-1 _ _ c.take_watched.new.buf c.take_watched.new.tokens c.self.view_is c.requires.some (grind (arith, common_steps)) c.in-Bytes.ensures.refused
+    take_ok c.args.self.now c.self.inside.shared c.take_watched.new.self c.self.inside.unread.items
+    c.forget_ended.new.unread.items c.args.number c.args.most
+    c.in-Bytes.field-0 c.in-Bytes.field-1 _ _ c.take_watched.new.buf c.take_watched.new.tokens c.self.view_is
+    c.requires.some (grind (arith, common_steps)) c.in-Bytes.ensures.refused
     c.in-Bytes.ensures.bytes c.in-Bytes.ensures.settled c.forget_ended.ensures
 
 pub returns-in-Bytes-clause-watched : goal.returns-in-Bytes-clause-watched
 returns-in-Bytes-clause-watched g c =
-    step_watched g.W.Watch.may_follow c.args.self.now c.self.inside.shared c.take_watched.new.self c.self.inside.unread.items
-    (entries.Took c.args.number c.in-Bytes.field-0) c.args.watch.now c.take_watched.new.watch c.self.view_is c.in-Bytes.ensures.settled
+    step_watched g.W.Watch.may_follow c.args.self.now c.self.inside.shared c.take_watched.new.self
+    c.self.inside.unread.items
+    (entries.Took c.args.number c.in-Bytes.field-0) c.args.watch.now c.take_watched.new.watch c.self.view_is
+    c.in-Bytes.ensures.settled
     c.in-Bytes.ensures.watched
 
 pub returns-in-NoMemory-clause-played : goal.returns-in-NoMemory-clause-played
 returns-in-NoMemory-clause-played g c =
-    take_short c.args.self.now c.self.inside.shared c.take_watched.new.self c.self.inside.unread.items c.args.number c.args.most c.self.view_is
+    take_short c.args.self.now c.self.inside.shared c.take_watched.new.self c.self.inside.unread.items c.args.number
+    c.args.most c.self.view_is
     c.in-NoMemory.ensures.same

@@ -4,8 +4,10 @@ use Rattle.session_play.proofs.unread.Unread.read.Goals as goal
 
 pub returns-in_ok-from_slice-in-Whole-clause-found : goal.returns-in_ok-from_slice-in-Whole-clause-found
 returns-in_ok-from_slice-in-Whole-clause-found c =
-    read_message c.args.self.now.number c.args.self.now.assembler c.feed.new.self c.args.piece.now c.in-Whole.used c.message-message.result.id
-    c.message-message.result.opcode c.new-body.result c.in-Whole.ensures.one c.message-message.ensures.id c.message-message.ensures.opcode
+    read_message c.args.self.now.number c.args.self.now.assembler c.feed.new.self c.args.piece.now c.in-Whole.used
+    c.message-message.result.id
+    c.message-message.result.opcode c.new-body.result c.in-Whole.ensures.one c.message-message.ensures.id
+    c.message-message.ensures.opcode
     (c.new-body.ensures.value ∙ c.in_ok-from_slice-in-Whole.ensures.items ∙ c.message-message.ensures.body)
 
 pub returns-in-Need-clause-found : goal.returns-in-Need-clause-found
@@ -14,5 +16,6 @@ returns-in-Need-clause-found c =
 
 pub returns-in-BadSize-clause-found : goal.returns-in-BadSize-clause-found
 returns-in-BadSize-clause-found c =
-    read_bad_size c.args.self.now.number c.in-BadSize.field-0 c.args.self.now.assembler c.feed.new.self c.args.piece.now c.head.result
+    read_bad_size c.args.self.now.number c.in-BadSize.field-0 c.args.self.now.assembler c.feed.new.self c.args.piece.now
+    c.head.result
     c.in-BadSize.ensures.one c.head.ensures.header
