@@ -11,8 +11,8 @@ ghost use Rattle.wlim.specs.Session.{meaning_of, header_of, full_at, session_fro
 use crate::last_line::{LastLine, close, close_without_end};
 use crate::lines::take_line;
 use crate::status::Status;
-use session_play::{PlayEnd, Player};
 use seat_steps::Limits;
+use session_play::{PlayEnd, Player};
 use session_text::{BadLine, Form, Line, SessionLine, read_line};
 use std::alloc::Global;
 use wio_core::NoMemory;
