@@ -7,8 +7,10 @@ use Rattle.session_play.proofs.session.Session.bytes.Given as goal
 abbrev pub invariant-loop-rest : goal.invariant-loop-rest
 invariant-loop-rest g l = record {
   limits : l.self.limits ≡ l.fn.self.limits;
-  left : bytes_played l.fn.self.limits l.number l.rest l.self.play ≡ bytes_played l.fn.self.limits l.number l.fn.piece l.fn.self.play;
-  watched : IsWatched g.W.Watch.may_follow l.fn.self.limits.store l.fn.self.play.journal l.fn.watch l.self.play.journal l.watch;
+  left : bytes_played l.fn.self.limits l.number l.rest l.self.play
+      ≡ bytes_played l.fn.self.limits l.number l.fn.piece l.fn.self.play;
+  watched : IsWatched g.W.Watch.may_follow l.fn.self.limits.store l.fn.self.play.journal l.fn.watch
+      l.self.play.journal l.watch;
 }
 
 -- each message leaves fewer bytes
