@@ -1,5 +1,5 @@
 -- What a written message holds: its opcode, and its body.
-use Rattle.std.proofs.Common.{◌≡◌, ℕ, ◌+◌, ◌-◌, ◌*◌, ◌^◌, ◌<◌, ◌≤◌, List, [], ◌++◌, length, take, drop, slice_index, refl, sym, ◌∙◌, ap, arith}
+use Rattle.std.proofs.Common.{◌≡◌, ℕ, ◌+◌, ◌-◌, ◌*◌, ◌^◌, ◌<◌, ◌≤◌, List, ◌++◌, length, take, drop, slice_index, refl, ◌∙◌, ap, arith}
 use Rattle.std.proofs.lemmas.List.{length-append, length-drop, take-append-le}
 use Rattle.std.proofs.Math.Seq.{take-length}
 use Rattle.wl_proto.specs.Rows.{Message}
@@ -25,7 +25,8 @@ body_in id m old new size is same le =
     let whole : length (message_bytes id m) ≡ 8 + length (spelling m.values) = omega arith in
     let total : length new ≡ length (message_bytes id m) + length rest =
     ap length is ∙ length-append (message_bytes id m) rest in
-    let size-is : size - 8 ≡ length (spelling m.values) = omega (arith, whole, total, same, le, length-drop size old) in
+    let size-is : size - 8 ≡ length (spelling m.values) =
+    omega (arith, whole, total, same, le, length-drop size old) in
     ap (λ b. take (size - 8) (drop 8 b)) is
     ∙ take-append-le (size - 8) (spelling m.values) rest (omega (arith, size-is))
     ∙ ap (λ n. take n (spelling m.values)) size-is ∙ take-length (spelling m.values)

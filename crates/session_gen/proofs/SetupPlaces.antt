@@ -1,5 +1,5 @@
 -- Where each step of the set-up stands in it.
-use Rattle.std.proofs.Common.{◌≡◌, ℕ, zero, suc, ◌+◌, ◌-◌, ◌*◌, ◌<◌, ◌≤◌, List, [], ◌∷◌, ◌++◌, length, map, Option, Some, None, refl, sym, ◌∙◌, ap, arith, suc-add}
+use Rattle.std.proofs.Common.{◌≡◌, ℕ, zero, suc, ◌+◌, ◌-◌, ◌*◌, ◌<◌, ◌≤◌, List, [], ◌∷◌, ◌++◌, length, map, Some, refl, sym, ◌∙◌, ap, arith, suc-add}
 use Rattle.std.specs.List.{slice_get}
 use Rattle.std.specs.Option.{option_map}
 use Rattle.std.proofs.lemmas.Option.{slice_get-map, slice_get_past}
@@ -31,23 +31,29 @@ in_the_middle front xs back place i is lt =
     ap (slice_get (front ++ (xs ++ back))) is ∙ behind_the_front front (xs ++ back) i ∙ before_the_rest xs back i lt
 
 -- an app peer's steps in the set-up
-pub app_place : (k place i : ℕ) → k < 4 → i < 7 → place ≡ 7 * k + i → slice_get setup place ≡ slice_get (app_steps (1 + k)) i
+pub app_place : (k place i : ℕ) → k < 4 → i < 7 → place ≡ 7 * k + i
+    → slice_get setup place ≡ slice_get (app_steps (1 + k)) i
 unfolding setup
 app_place zero place i few lt is =
-    in_the_middle [] (app_steps 1) (app_steps 2 ++ (app_steps 3 ++ (app_steps 4 ++ method_steps 5))) place i (omega (arith, is)) lt
+    in_the_middle [] (app_steps 1) (app_steps 2 ++ (app_steps 3 ++ (app_steps 4 ++ method_steps 5)))
+    place i (omega (arith, is)) lt
 app_place (suc zero) place i few lt is =
-    in_the_middle (app_steps 1) (app_steps 2) (app_steps 3 ++ (app_steps 4 ++ method_steps 5)) place i (omega (arith, is)) lt
+    in_the_middle (app_steps 1) (app_steps 2) (app_steps 3 ++ (app_steps 4 ++ method_steps 5))
+    place i (omega (arith, is)) lt
 app_place (suc (suc zero)) place i few lt is =
-    in_the_middle (app_steps 1 ++ app_steps 2) (app_steps 3) (app_steps 4 ++ method_steps 5) place i (omega (arith, is)) lt
+    in_the_middle (app_steps 1 ++ app_steps 2) (app_steps 3) (app_steps 4 ++ method_steps 5)
+    place i (omega (arith, is)) lt
 app_place (suc (suc (suc zero))) place i few lt is =
-    in_the_middle (app_steps 1 ++ (app_steps 2 ++ app_steps 3)) (app_steps 4) (method_steps 5) place i (omega (arith, is)) lt
+    in_the_middle (app_steps 1 ++ (app_steps 2 ++ app_steps 3)) (app_steps 4) (method_steps 5)
+    place i (omega (arith, is)) lt
 app_place (suc (suc (suc (suc k)))) place i few lt is = absurd (omega (arith, few))
 
 -- the method's steps in it
 pub method_place : (place i : ℕ) → place ≡ 28 + i → slice_get setup place ≡ slice_get (method_steps 5) i
 unfolding setup
 method_place place i is =
-    ap (slice_get setup) is ∙ behind_the_front (app_steps 1 ++ (app_steps 2 ++ (app_steps 3 ++ app_steps 4))) (method_steps 5) i
+    let apps = app_steps 1 ++ (app_steps 2 ++ (app_steps 3 ++ app_steps 4)) in
+    ap (slice_get setup) is ∙ behind_the_front apps (method_steps 5) i
 
 -- a step of the set-up is that step of the session
 pub step_in_setup : (n made d : ℕ) (s : Step) → slice_get setup made ≡ Some s → s ≡ step_of n made d

@@ -1,5 +1,5 @@
 -- The session of a number: its set-up, and then a step for each word of a generator that the number seeds.
-use Rattle.std.specs.Prelude.{ℕ, zero, suc, ◌-◌, length, unwrap_or}
+use Rattle.std.specs.Prelude.{ℕ, zero, suc, ◌-◌, unwrap_or}
 use Rattle.std.specs.List.{slice_get}
 use Rattle.rand_core.specs.Pcg32Seed.{pcg32_seed}
 use Rattle.rand_pcg.specs.Lcg.{Lcg}

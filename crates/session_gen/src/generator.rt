@@ -13,11 +13,12 @@ use std::alloc::Global;
 use std::marker::Model;
 use wio_core::NoMemory;
 
-/// The steps of a generated session: 5 joins, 28 set-up messages, and 20,000 steps that the generator's words draw.
+/// The steps of a generated session: 5 joins, 28 set-up messages, and 20,000 steps that the
+/// generator's words draw.
 pub const STEPS: u32 = 20_033;
 
-/// The steps of the session of a number, one after the other. The same number gives the same session, as long as it is told
-/// the same numbers of done events.
+/// The steps of the session of a number, one after the other. The same number gives the same
+/// session, as long as it is told the same numbers of done events.
 #[derive(Drop)]
 pub struct Gen {
     number: u64,
@@ -62,8 +63,8 @@ impl Gen {
         STEPS - self.made
     }
 
-    /// The next step. `dones` is how many done events the steps before it put into the store of peer 5, the input method.
-    /// After `NoMemory` the session is as before.
+    /// The next step. `dones` is how many done events the steps before it put into the store of
+    /// peer 5, the input method. After `NoMemory` the session is as before.
     pub fn next_step(&mut self, alloc: Global, dones: u32) -> Result<Step, NoMemory>
         requires { self.old.made < step_count }
         ensures step { IfOk result (λ step. step ≡ step_of self.old.number self.old.made dones) }

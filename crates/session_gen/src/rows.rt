@@ -21,6 +21,7 @@ const FIELD: u32 = 7;
 
 /// The peer that has the input method, and the input method's id there.
 const METHOD_PEER: u32 = 5;
+
 const METHOD: u32 = 5;
 
 /// The most bytes that one step takes.
@@ -63,7 +64,6 @@ const ROWS: [Row; 16] = [
 ];
 
 // The row of a word.
-#[tactic(auto, unfolding(crate::specs::Rows::row_of), using(std::proofs::lemmas::List::get_or_default))]
 fn drawn_row(word: u32) -> Row
     ensures { result ≡ row_of word }
 {
@@ -82,13 +82,7 @@ pub(crate) fn drawn_step(alloc: Global, word: u32, dones: u32) -> Result<Step, N
 }
 
 // What the row means for the app peer and the value.
-fn step_of_row(
-    alloc: Global,
-    row: Row,
-    peer: u32,
-    value: u32,
-    dones: u32,
-) -> Result<Step, NoMemory>
+fn step_of_row(alloc: Global, row: Row, peer: u32, value: u32, dones: u32) -> Result<Step, NoMemory>
     ensures step { IfOk result (λ step. step ≡ row_step row peer value dones) }
     ensures valid { IfOk result IsStep }
 {
@@ -99,7 +93,11 @@ fn step_of_row(
         Row::Commit => field_step(alloc, peer, &Request::TextInputCommit),
         Row::SurroundingText => surrounding_step(alloc, peer, (value % 3) as i32),
         Row::ChangeCause => {
-            field_step(alloc, peer, &Request::SetTextChangeCause { cause: value % 2 })
+            field_step(
+                alloc,
+                peer,
+                &Request::SetTextChangeCause { cause: value % 2 },
+            )
         }
         Row::CommitString => string_step(alloc, value),
         Row::Preedit => preedit_step(alloc, value),
@@ -129,7 +127,8 @@ fn method_step(alloc: Global, request: &Request<'_>) -> Result<Step, NoMemory>
 
 // The field tells "ab" with cursor and anchor at this place.
 fn surrounding_step(alloc: Global, peer: u32, place: i32) -> Result<Step, NoMemory>
-    ensures value { IfOk result (λ step. step ≡ field_sends peer (set_surrounding_text (codes "ab") place)) }
+    ensures value { IfOk result (λ step.
+        step ≡ field_sends peer (set_surrounding_text (codes "ab") place)) }
     ensures valid { IfOk result IsStep }
 {
     let request = Request::SetSurroundingText {
@@ -152,7 +151,8 @@ fn string_step(alloc: Global, value: u32) -> Result<Step, NoMemory>
 
 // The method shows the value's letter.
 fn preedit_step(alloc: Global, value: u32) -> Result<Step, NoMemory>
-    ensures step { IfOk result (λ step. step ≡ method_sends (set_preedit_string (letter value) (pos 0) (pos 1))) }
+    ensures step { IfOk result (λ step.
+        step ≡ method_sends (set_preedit_string (letter value) (pos 0) (pos 1))) }
     ensures valid { IfOk result IsStep }
 {
     let mut room = [0; 4];
@@ -167,18 +167,17 @@ fn preedit_step(alloc: Global, value: u32) -> Result<Step, NoMemory>
 
 // The method deletes so many bytes before the cursor.
 fn deletion_step(alloc: Global, before: u32) -> Result<Step, NoMemory>
-    ensures step { IfOk result (λ step. step ≡ method_sends (request_message (DeleteSurroundingText before 0))) }
+    ensures step { IfOk result (λ step.
+        step ≡ method_sends (request_message (DeleteSurroundingText before 0))) }
     ensures valid { IfOk result IsStep }
 {
-    method_step(
-        alloc,
-        &Request::DeleteSurroundingText { before, after: 0 },
-    )
+    method_step(alloc, &Request::DeleteSurroundingText { before, after: 0 })
 }
 
 // The method commits with this serial.
 fn commit_step(alloc: Global, serial: u32) -> Result<Step, NoMemory>
-    ensures step { IfOk result (λ step. step ≡ method_sends (request_message (InputMethodCommit serial))) }
+    ensures step { IfOk result (λ step.
+        step ≡ method_sends (request_message (InputMethodCommit serial))) }
     ensures valid { IfOk result IsStep }
 {
     method_step(alloc, &Request::InputMethodCommit { serial })

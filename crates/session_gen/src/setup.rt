@@ -1,4 +1,5 @@
-// How a generated session begins: four app peers and a method join, and each sends its set-up messages.
+// How a generated session begins: four app peers and a method join, and each sends its set-up
+// messages.
 ghost use Rattle.std.specs.Prelude.{◌≡◌, ◌<◌, Some, IfOk};
 ghost use Rattle.std.specs.List.{slice_get};
 ghost use Rattle.wl_proto.specs.Rows.{request_message};
@@ -82,14 +83,21 @@ fn app_message(place: u32) -> (u32, Request<'static>)
 // The method's set-up message, and the object that it is sent to.
 fn method_message(place: u32) -> (u32, Request<'static>)
     requires { place < 4 }
-    ensures message { slice_get method_messages place ≡ Some (to result.0 (request_message result.1)) }
+    ensures message { slice_get method_messages place
+        ≡ Some (to result.0 (request_message result.1)) }
     ensures short { IsShort (request_message result.1) }
 {
     match place {
         0 => (1, Request::GetRegistry { registry: 2 }),
         1 => (2, bind(2, Interface::Seat, 3)),
         2 => (2, bind(4, Interface::InputMethodManager, 4)),
-        _ => (4, Request::GetInputMethod { seat: 3, input_method: 5 }),
+        _ => (
+            4,
+            Request::GetInputMethod {
+                seat: 3,
+                input_method: 5,
+            },
+        ),
     }
 }
 

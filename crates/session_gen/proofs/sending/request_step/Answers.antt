@@ -1,4 +1,4 @@
-use Rattle.std.proofs.Common.{◌≡◌, ◌+◌, ◌*◌, ◌≤◌, ℕ, ◌∙◌, arith, slice_index}
+use Rattle.std.proofs.Common.{◌≡◌, ◌+◌, ◌*◌, ◌≤◌, ◌∙◌, arith, slice_index}
 use Rattle.wl_proto.specs.Rows.{Message, request_message}
 use Rattle.session_gen.proofs.BytesOfAMessage.{opcode_in, body_in, sends_it}
 use Rattle.session_gen.proofs.sending.request_step.Goals as goal
@@ -15,4 +15,4 @@ returns-clause-value c =
     sends_it c.args.peer c.args.object m _ _
     (parts ∙ opcode_in c.args.object m out _ is c.ranges.object.fits c.requires.1 (omega (arith, c.requires.0)))
     (c.new.ensures.value ∙ c.in_ok-body.ensures.items
-      ∙ body_in c.args.object m _ out c.write_request-size.result is c.write_request-size.auto.out short)
+    ∙ body_in c.args.object m _ out c.write_request-size.result is c.write_request-size.auto.out short)

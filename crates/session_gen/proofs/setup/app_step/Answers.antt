@@ -1,4 +1,4 @@
-use Rattle.std.proofs.Common.{◌≡◌, Some, ◌∙◌, ap, sym}
+use Rattle.std.proofs.Common.{Some, ◌∙◌, ap, sym}
 use Rattle.std.proofs.lemmas.Result.{IfOk-weaker}
 use Rattle.relay_model.specs.declared.role.Role.TheVariants.{App}
 use Rattle.seat_steps.specs.declared.step.Step.TheVariants.{Join}
@@ -9,6 +9,8 @@ use Rattle.session_gen.proofs.setup.app_step.Goals as goal
 pub returns-clause-step : goal.returns-clause-step
 returns-clause-step c =
     IfOk-weaker c.request_step.result _ _
-    (λ step is. behind_the_join (Join App) c.args.peer c.args.place app_messages _ c.if-place-eq0.false c.app_message-object.ensures.message
-      ∙ ap Some (sym is))
+    (λ step is.
+    behind_the_join (Join App) c.args.peer c.args.place app_messages _
+    c.if-place-eq0.false c.app_message-object.ensures.message
+    ∙ ap Some (sym is))
     c.request_step.ensures.value

@@ -9,7 +9,8 @@ pub returns-then-peer-le-APPS-clause-step : goal.returns-then-peer-le-APPS-claus
 returns-then-peer-le-APPS-clause-step c =
     let place = c.args.place in
     IfOk-weaker c.app_step.result _ _
-    (λ step is. app_place (place / 7) place (place % 7) (omega (arith, c.if-peer-le-APPS.true)) (omega arith) (omega arith) ∙ is)
+    (λ step is.
+    app_place (place / 7) place (place % 7) (omega (arith, c.if-peer-le-APPS.true)) (omega arith) (omega arith) ∙ is)
     c.app_step.ensures.step
 
 pub returns-else-peer-le-APPS-clause-step : goal.returns-else-peer-le-APPS-clause-step
@@ -18,5 +19,5 @@ returns-else-peer-le-APPS-clause-step c =
     let fifth : 1 + place / 7 ≡ 5 = omega (arith, c.requires, c.if-peer-le-APPS.false) in
     IfOk-weaker c.method_step.result _ _
     (λ step is. method_place place (place % 7) (omega (arith, c.requires, c.if-peer-le-APPS.false))
-      ∙ ap (λ p. slice_get (method_steps p) (place % 7)) (sym fifth) ∙ is)
+    ∙ ap (λ p. slice_get (method_steps p) (place % 7)) (sym fifth) ∙ is)
     c.method_step.ensures.step

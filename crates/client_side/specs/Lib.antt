@@ -1,0 +1,17 @@
+pub mod Outgoing
+pub mod Messages
+pub mod Happenings
+pub mod Window
+pub mod FieldSends
+pub mod FieldLog
+pub mod Events
+pub mod Client
+pub mod FieldState
+pub mod Kept
+pub mod Working
+pub mod Fronts
+pub mod Fitting
+pub mod MethodSends
+pub mod MethodLog
+pub mod MethodState
+pub mod MethodWorking

@@ -1,0 +1,24 @@
+// The clients of a trial: a field that edits itself, and an input method that composes.
+#![tactic(auto)]
+
+mod events;
+mod fault;
+mod field_client;
+mod field_receiving;
+mod field_state;
+mod field_telling;
+mod held;
+mod method_client;
+mod method_receiving;
+mod method_state;
+mod method_telling;
+mod objects;
+mod outbox;
+mod pending;
+mod setup;
+#[cfg(test)]
+mod tests;
+
+pub use fault::ClientFault;
+pub use field_client::FieldClient;
+pub use method_client::MethodClient;
