@@ -1,10 +1,11 @@
 // Lines that are printed: of what is told, of a session's steps, of its transcript.
 use crate::reading_tests::SHELL_LINES;
 use crate::{
-    Form, Line, PeerStep, Step, print_ended, print_out, print_pass, print_placed, print_step,
-    print_told, print_took, read_line,
+    Form, Line, print_ended, print_out, print_pass, print_placed, print_step, print_told,
+    print_took, read_line,
 };
 use relay_model::{EndCause, Said, Told};
+use seat_steps::{PeerStep, Step};
 use std::process::Abort;
 use std::test::Fail;
 use wl_wire::{Bytes, Text};
