@@ -190,11 +190,11 @@ own_shown (acts.MCommit m serial) older k =
     shown_if (acts.MCommit m serial ∷ older) (fresh (acts.MCommit m serial) older) _
     (batch_shown (acts.MCommit m serial ∷ older) (acts.MCommit m serial) older (holder older))
 own_shown (acts.Key time key state) older k = absurd k
-own_shown (acts.Mods depressed latched locked group) older k =
-    grab_shown (acts.Mods depressed latched locked group ∷ older) (standing older) (said.Mods (next older) depressed latched locked group) tt
-own_shown (acts.Keymap format token size) older k =
-    grab_shown (acts.Keymap format token size ∷ older) (standing older) (said.Keymap format token size) tt
-own_shown (acts.Repeat rate delay) older k = grab_shown (acts.Repeat rate delay ∷ older) (standing older) (said.Repeat rate delay) tt
+own_shown (acts.Mods mods) older k =
+    grab_shown (acts.Mods mods ∷ older) (standing older) (said.Mods (next older) mods) tt
+own_shown (acts.Keymap keymap) older k =
+    grab_shown (acts.Keymap keymap ∷ older) (standing older) (said.Keymap keymap) tt
+own_shown (acts.Repeat repeat) older k = grab_shown (acts.Repeat repeat ∷ older) (standing older) (said.Repeat repeat) tt
 own_shown (acts.Registry p role) older k =
     each_map (IsTold (acts.Registry p role ∷ older)) (global_told (next older)) (offered role)
     (each_of (λ offer. IsTold (acts.Registry p role ∷ older) (global_told (next older) offer)) (offered role) (λ offer. tt))

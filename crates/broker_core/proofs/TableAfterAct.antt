@@ -81,9 +81,9 @@ quiet_shell past p shell.Unfocus = quiet_only past p acts.Unfocus refl
 quiet_shell past p (shell.Area q id rect) = quiet_surface past p (surface_at past (peer_at past q) id) (λ s. acts.Area s rect) (λ s. refl)
 quiet_shell past p (shell.Screen size) = quiet_only past p (acts.Screen size) refl
 quiet_shell past p (shell.Key time key state) = quiet_only past p (acts.Key time key state) refl
-quiet_shell past p (shell.Mods depressed latched locked group) = quiet_only past p (acts.Mods depressed latched locked group) refl
-quiet_shell past p (shell.Keymap format token size) = quiet_only past p (acts.Keymap format token size) refl
-quiet_shell past p (shell.Repeat rate delay) = quiet_only past p (acts.Repeat rate delay) refl
+quiet_shell past p (shell.Mods mods) = quiet_only past p (acts.Mods mods) refl
+quiet_shell past p (shell.Keymap keymap) = quiet_only past p (acts.Keymap keymap) refl
+quiet_shell past p (shell.Repeat repeat) = quiet_only past p (acts.Repeat repeat) refl
 
 quiet_new : (log : List Act) (q p n : ℕ) (o : Option Argument) → (q == p) ≡ false → make_calls log p (made_new q n o) ≡ []
 quiet_new log q p n None h = refl

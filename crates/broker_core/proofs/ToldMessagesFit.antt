@@ -1,5 +1,5 @@
 -- Events whose texts are short are messages that fit.
-use Rattle.std.proofs.Common.{◌≡◌, ℤ, pos, negsuc, ◌≤◌, List, length, refl, arith, ℕ, [], ◌∷◌, Bool, Option, Some, None}
+use Rattle.std.proofs.Common.{◌≡◌, ◌≤◌, List, length, refl, arith, ℕ, [], ◌∷◌, Bool, Option, Some, None}
 use Rattle.std.specs.Prelude.{IfSome, ◌==◌, ◌&&◌, nat_le, if◌then◌else◌, is_some, filter, unwrap_or}
 use Rattle.wl_proto.specs.declared.interface.Interface.{Interface}
 use Rattle.wl_proto.specs.declared.interface.Interface.TheVariants as interface
@@ -11,7 +11,7 @@ use Rattle.relay_model.specs.declared.said.Said.{Said}
 use Rattle.relay_model.specs.declared.said.Said.TheVariants as said
 use Rattle.relay_model.specs.Faults.{text_of}
 use Rattle.broker_model.specs.Ids.{Made}
-use Rattle.broker_model.specs.Groups.{plain_word, message_of}
+use Rattle.broker_model.specs.Groups.{message_of}
 use Rattle.std.specs.List.{AllByRecursion}
 use Rattle.relay_model.specs.declared.act.Act.{Act}
 use Rattle.relay_model.specs.declared.act.Act.TheVariants as acts
@@ -38,10 +38,6 @@ HasShort (said.Preedit text begin end) = length text ≤ 4075
 HasShort (said.CommitString text) = length text ≤ 4083
 HasShort (said.Surrounding text cursor anchor) = length text ≤ 4075
 HasShort _ = Unit {0}
-
-plain_len : (z : ℤ) → value_len (plain_word z) ≡ 4
-plain_len (pos n) = refl
-plain_len (negsuc n) = refl
 
 name_short : (i : Interface) → length (name_of i) ≤ 64
 name_short interface.Display = omega arith
@@ -73,10 +69,7 @@ fault_short faults.Role = omega arith
 pub short_said : (event : Said) → HasShort event → (made : List Made) → IfSome (message_of made event) (λ m. message_len m ≤ 4096)
 short_said (said.Preedit text begin end) h made = omega arith
 short_said (said.CommitString text) h made = omega arith
-short_said (said.Surrounding text cursor anchor) h made =
-    let a : value_len (plain_word cursor) ≡ 4 = plain_len cursor in
-    let b : value_len (plain_word anchor) ≡ 4 = plain_len anchor in
-    omega arith
+short_said (said.Surrounding text cursor anchor) h made = omega arith
 short_said (said.Global name i version) h made = let n : length (name_of i) ≤ 64 = name_short i in omega arith
 short_said (said.Error object fault) h made = let n : length (text_of fault) ≤ 64 = fault_short fault in omega arith
 short_said (said.Pass time key state) h made = tt
@@ -275,9 +268,9 @@ own_short (acts.Screen size) log h = popups_short (acts.Screen size ∷ log)
 own_short (acts.Commit f) log h = short_if (is_at (holder (acts.Commit f ∷ log)) f) _ (popups_short (acts.Commit f ∷ log))
 own_short (acts.MCommit m serial) log h = short_if (fresh (acts.MCommit m serial) log) _ (batch_short m serial log (holder log) h)
 own_short (acts.Key time key state) log h = key_short (next log) time key state (key_route log key state)
-own_short (acts.Mods depressed latched locked group) log h = grab_short (standing log) (said.Mods (next log) depressed latched locked group) tt
-own_short (acts.Keymap format token size) log h = grab_short (standing log) (said.Keymap format token size) tt
-own_short (acts.Repeat rate delay) log h = grab_short (standing log) (said.Repeat rate delay) tt
+own_short (acts.Mods mods) log h = grab_short (standing log) (said.Mods (next log) mods) tt
+own_short (acts.Keymap keymap) log h = grab_short (standing log) (said.Keymap keymap) tt
+own_short (acts.Repeat repeat) log h = grab_short (standing log) (said.Repeat repeat) tt
 own_short (acts.Registry p role) log h =
     each_map HasShortEvent (global_told (next log)) (offered role) (each_of (λ offer. HasShortEvent (global_told (next log) offer)) (offered role) (λ offer. tt))
 own_short (acts.Sync p) log h = (tt, (tt, tt))

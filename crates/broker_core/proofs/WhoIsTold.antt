@@ -185,9 +185,9 @@ heard_own (acts.Commit f) log i = heard_if log (is_at (holder (acts.Commit f ∷
 heard_own (acts.MCommit m serial) log i =
     heard_if log (fresh (acts.MCommit m serial) log) _ (heard_holder (acts.MCommit m serial) log (holder log) i.1 refl)
 heard_own (acts.Key time key state) log i = heard_key log (next log) time key state (key_route log key state) (goes_heard log key state)
-heard_own (acts.Mods depressed latched locked group) log i = heard_grab log (standing log) (said.Mods (next log) depressed latched locked group) refl
-heard_own (acts.Keymap format token size) log i = heard_grab log (standing log) (said.Keymap format token size) refl
-heard_own (acts.Repeat rate delay) log i = heard_grab log (standing log) (said.Repeat rate delay) refl
+heard_own (acts.Mods mods) log i = heard_grab log (standing log) (said.Mods (next log) mods) refl
+heard_own (acts.Keymap keymap) log i = heard_grab log (standing log) (said.Keymap keymap) refl
+heard_own (acts.Repeat repeat) log i = heard_grab log (standing log) (said.Repeat repeat) refl
 heard_own (acts.Registry p role) log i =
     each_map (IsHeard log) (global_told (next log)) (offered role) (each_of (λ offer. IsHeard log (global_told (next log) offer)) (offered role) (λ offer. hears_next log))
 heard_own (acts.Sync p) log i = (hears_next log, (hears_peer log p (live (acts.Sync p) log i.0 (λ d. cc)), tt))

@@ -6,8 +6,6 @@ mod shared;
 mod state;
 mod steps;
 mod taking;
-#[cfg(test)]
-mod tests;
 mod watch;
 
 pub use broker_model::{Entry, Journal, Kept};

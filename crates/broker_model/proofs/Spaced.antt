@@ -1,5 +1,5 @@
 -- The tokens of a group are spaced as a store asks for it.
-use Rattle.std.proofs.Common.{◌≡◌, ℕ, pos, negsuc, ◌+◌, ◌≤◌, ◌==◌, List, [], ◌∷◌, ◌++◌, length, map, Bool, true, false, Option, Some, None, refl, sym, ap, ◌∙◌, subst, arith, length-append, if◌then◌else◌}
+use Rattle.std.proofs.Common.{◌≡◌, ℕ, ◌+◌, ◌≤◌, ◌==◌, List, [], ◌∷◌, ◌++◌, length, map, Bool, true, false, Option, Some, None, refl, sym, ap, ◌∙◌, subst, arith, length-append, if◌then◌else◌}
 use Rattle.std.proofs.lemmas.List.{map-append}
 use Rattle.wl_proto.specs.declared.interface.Interface.TheVariants as interface
 use Rattle.wl_proto.specs.Grammar.{word, token}
@@ -47,19 +47,16 @@ spaced_message made id (said.Delete before after) = omega arith
 spaced_message made id (said.FieldDone serial) = omega arith
 spaced_message made id said.Activate = omega arith
 spaced_message made id said.Deactivate = omega arith
-spaced_message made id (said.Surrounding t (pos m) (pos n)) = omega arith
-spaced_message made id (said.Surrounding t (pos m) (negsuc n)) = omega arith
-spaced_message made id (said.Surrounding t (negsuc m) (pos n)) = omega arith
-spaced_message made id (said.Surrounding t (negsuc m) (negsuc n)) = omega arith
+spaced_message made id (said.Surrounding t cursor anchor) = omega arith
 spaced_message made id (said.ChangeCause cause) = omega arith
 spaced_message made id (said.ContentType hint purpose) = omega arith
 spaced_message made id said.MethodDone = omega arith
 spaced_message made id said.Unavailable = omega arith
 spaced_message made id (said.PopupRect x y width height) = omega arith
-spaced_message made id (said.Keymap format t size) = (omega arith, keymap_long id format t size)
+spaced_message made id (said.Keymap keymap) = (omega arith, keymap_long id keymap.format keymap.token keymap.size)
 spaced_message made id (said.Key serial time key state) = omega arith
-spaced_message made id (said.Mods serial depressed latched locked group) = omega arith
-spaced_message made id (said.Repeat rate delay) = omega arith
+spaced_message made id (said.Mods serial mods) = omega arith
+spaced_message made id (said.Repeat repeat) = omega arith
 spaced_message made id (said.Global name i version) = omega arith
 spaced_message made id (said.CallbackDone value) = omega arith
 spaced_message made id (said.DeleteId label) = omega arith

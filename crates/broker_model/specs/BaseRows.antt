@@ -122,7 +122,7 @@ BatchIsLeftOut =
 -- a keymap's token stands at the first byte of its event
 abbrev pub TokenIsPlaced : Type 0
 TokenIsPlaced =
-    (out_for 65536 (after with_method (sent 2 (codes "0500000005000c0006000000") ∷ Shell (shell.Keymap 1 77 4096) ∷ [])) 8).put.tokens
+    (out_for 65536 (after with_method (sent 2 (codes "0500000005000c0006000000") ∷ Shell (shell.Keymap (record { format = 1; token = 77; size = 4096 })) ∷ [])) 8).put.tokens
     ≡ record { offset = 124; token = 77 } ∷ []
 
 -- a second popup on a surface

@@ -1,5 +1,5 @@
 -- What an act tells a peer, as bytes.
-use Rattle.std.specs.Prelude.{ℕ, ◌+◌, ℤ, pos, negsuc, List, [], ◌∷◌, ◌++◌, length, map, ◌==◌, if◌then◌else◌, Option, Some, None}
+use Rattle.std.specs.Prelude.{ℕ, ◌+◌, List, [], ◌∷◌, ◌++◌, length, map, ◌==◌, if◌then◌else◌, Option, Some, None}
 use Rattle.wl_proto.specs.declared.interface.Interface.TheVariants as interface
 use Rattle.wl_proto.specs.Grammar.{Value, word, signed, text, token}
 use Rattle.wl_proto.specs.Names.{name_of}
@@ -50,11 +50,6 @@ id_of (Some m) = m.id
 abbrev pub id_word : List Made → ℕ → Value
 id_word made label = word (id_of (made_as made label))
 
--- a number with a sign that is never negative, as a word
-abbrev pub plain_word : ℤ → Value
-plain_word (pos n) = word n
-plain_word (negsuc n) = word 0
-
 -- the message of an event; none of what the shell is told
 abbrev pub message_of : List Made → Said → Option Message
 message_of made (said.Enter surface) = Some (message interface.TextInput 0 (id_word made surface ∷ []))
@@ -65,17 +60,17 @@ message_of made (said.Delete before after) = Some (message interface.TextInput 4
 message_of made (said.FieldDone serial) = Some (message interface.TextInput 5 (word serial ∷ []))
 message_of made said.Activate = Some (message interface.InputMethod 0 [])
 message_of made said.Deactivate = Some (message interface.InputMethod 1 [])
-message_of made (said.Surrounding t cursor anchor) = Some (message interface.InputMethod 2 (text t ∷ plain_word cursor ∷ plain_word anchor ∷ []))
+message_of made (said.Surrounding t cursor anchor) = Some (message interface.InputMethod 2 (text t ∷ word cursor ∷ word anchor ∷ []))
 message_of made (said.ChangeCause cause) = Some (message interface.InputMethod 3 (word cause ∷ []))
 message_of made (said.ContentType hint purpose) = Some (message interface.InputMethod 4 (word hint ∷ word purpose ∷ []))
 message_of made said.MethodDone = Some (message interface.InputMethod 5 [])
 message_of made said.Unavailable = Some (message interface.InputMethod 6 [])
 message_of made (said.PopupRect x y width height) = Some (message interface.InputPopupSurface 0 (signed x ∷ signed y ∷ signed width ∷ signed height ∷ []))
-message_of made (said.Keymap format t size) = Some (message interface.KeyboardGrab 0 (word format ∷ token t ∷ word size ∷ []))
+message_of made (said.Keymap keymap) = Some (message interface.KeyboardGrab 0 (word keymap.format ∷ token keymap.token ∷ word keymap.size ∷ []))
 message_of made (said.Key serial time key state) = Some (message interface.KeyboardGrab 1 (word serial ∷ word time ∷ word key ∷ word state ∷ []))
-message_of made (said.Mods serial depressed latched locked group) =
-    Some (message interface.KeyboardGrab 2 (word serial ∷ word depressed ∷ word latched ∷ word locked ∷ word group ∷ []))
-message_of made (said.Repeat rate delay) = Some (message interface.KeyboardGrab 3 (signed rate ∷ signed delay ∷ []))
+message_of made (said.Mods serial mods) =
+    Some (message interface.KeyboardGrab 2 (word serial ∷ word mods.depressed ∷ word mods.latched ∷ word mods.locked ∷ word mods.group ∷ []))
+message_of made (said.Repeat repeat) = Some (message interface.KeyboardGrab 3 (signed repeat.rate ∷ signed repeat.delay ∷ []))
 message_of made (said.Global name i version) = Some (message interface.Registry 0 (word name ∷ text (name_of i) ∷ word version ∷ []))
 message_of made (said.CallbackDone value) = Some (message interface.Callback 0 (word value ∷ []))
 message_of made (said.DeleteId label) = Some (message interface.Display 1 (id_word made label ∷ []))

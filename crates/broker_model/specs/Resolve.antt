@@ -88,9 +88,9 @@ shell_act past shell.Unfocus = acts.Unfocus
 shell_act past (shell.Area q id rect) = on_surface (surface_at past (peer_at past q) id) (λ s. acts.Area s rect)
 shell_act past (shell.Screen size) = acts.Screen size
 shell_act past (shell.Key time key state) = acts.Key time key state
-shell_act past (shell.Mods depressed latched locked group) = acts.Mods depressed latched locked group
-shell_act past (shell.Keymap format token size) = acts.Keymap format token size
-shell_act past (shell.Repeat rate delay) = acts.Repeat rate delay
+shell_act past (shell.Mods mods) = acts.Mods mods
+shell_act past (shell.Keymap keymap) = acts.Keymap keymap
+shell_act past (shell.Repeat repeat) = acts.Repeat repeat
 
 -- what the entry with the number n comes to, after all before it
 abbrev pub means : Entry → ℕ → Past → Meaning

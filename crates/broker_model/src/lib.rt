@@ -8,6 +8,3 @@ mod rows;
 pub use journal::{Entry, Journal, Kept};
 pub use laws::{relay_law, store_law, table_law};
 pub use rows::{base_session, small_sessions};
-
-#[cfg(test)]
-mod tests;

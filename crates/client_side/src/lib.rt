@@ -16,8 +16,6 @@ mod objects;
 mod outbox;
 mod pending;
 mod setup;
-#[cfg(test)]
-mod tests;
 
 pub use fault::ClientFault;
 pub use field_client::FieldClient;

@@ -6,8 +6,6 @@ mod keys;
 mod method;
 mod singles;
 mod table;
-#[cfg(test)]
-mod tests;
 mod typing;
 
 pub use method::Method;

@@ -43,6 +43,3 @@ impl Got {
         }
     }
 }
-
-#[cfg(test)]
-mod tests;

@@ -295,6 +295,3 @@ impl Field {
         self.current.rect()
     }
 }
-
-#[cfg(test)]
-mod tests;

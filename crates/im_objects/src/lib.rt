@@ -4,8 +4,6 @@
 
 mod refusal;
 mod table;
-#[cfg(test)]
-mod tests;
 
 pub use refusal::MakeRefusal;
 pub use table::{DISPLAY_ID, LAST_ID, Label, MOST_LIVE, Table};

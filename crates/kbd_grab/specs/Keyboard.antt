@@ -5,6 +5,7 @@ use Rattle.std.specs.FinMap as map
 use Rattle.std.specs.Coded.{Coded, code_by, coded×, coded_option, coded_ℕ, coded_ℤ}
 use Rattle.kbd_grab.specs.declared.keyboard.Keymap.{Keymap}
 use Rattle.kbd_grab.specs.declared.keyboard.Mods.{Mods}
+use Rattle.kbd_grab.specs.declared.keyboard.Repeat.{Repeat}
 use Rattle.kbd_grab.specs.declared.keyboard.Route.{Route}
 use Rattle.kbd_grab.specs.declared.keyboard.Route.TheVariants.{Pass, TooMany}
 use Rattle.kbd_grab.specs.Keys.{Call, as_first, to_standing, grab_standing, is_down, number_down, first_went, told_keymap, told_repeat, told_mods}
@@ -19,7 +20,7 @@ pub record Keyboard : Type 0 where
   pub down : DownKeys
   -- what the shell told last
   pub keymap : Option Keymap
-  pub repeat : Option (ℤ × ℤ)
+  pub repeat : Option Repeat
   pub mods : Option Mods
 
 -- a keymap is stored as the pair of its format with the pair of its other numbers
@@ -28,6 +29,14 @@ keymap_code =
     code_by (ℕ × (ℕ × ℕ)) (coded× coded_ℕ (coded× coded_ℕ coded_ℕ))
     (λ k. (k.format, (k.token, k.size)))
     (λ p. record { format = p.0; token = p.1.0; size = p.1.1 })
+    (λ _. refl)
+
+-- a repeat is stored as the pair of its numbers
+abbrev pub repeat_code : Coded Repeat
+repeat_code =
+    code_by (ℤ × ℤ) (coded× coded_ℤ coded_ℤ)
+    (λ r. (r.rate, r.delay))
+    (λ p. record { rate = p.0; delay = p.1 })
     (λ _. refl)
 
 -- modifiers are stored as two pairs
@@ -41,9 +50,9 @@ mods_code =
 -- a keyboard is stored as pairs of its fields
 abbrev pub keyboard_code : Coded Keyboard
 keyboard_code =
-    code_by ((Option ℕ × DownKeys) × (Option Keymap × (Option (ℤ × ℤ) × Option Mods)))
+    code_by ((Option ℕ × DownKeys) × (Option Keymap × (Option Repeat × Option Mods)))
     (coded× (coded× (coded_option coded_ℕ) (map.code coded_ℕ (coded_option coded_ℕ)))
-    (coded× (coded_option keymap_code) (coded× (coded_option (coded× coded_ℤ coded_ℤ)) (coded_option mods_code))))
+    (coded× (coded_option keymap_code) (coded× (coded_option repeat_code) (coded_option mods_code))))
     (λ k. ((k.standing, k.down), (k.keymap, (k.repeat, k.mods))))
     (λ p. record { standing = p.0.0; down = p.0.1; keymap = p.1.0; repeat = p.1.1.0; mods = p.1.1.1 })
     (λ _. refl)

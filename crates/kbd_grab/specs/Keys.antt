@@ -1,8 +1,9 @@
 -- where keys go, by looking back over the calls that a grab's keyboard has had, the newest first
-use Rattle.std.specs.Prelude.{◌≡◌, ℕ, ℤ, List, [], ◌∷◌, Bool, true, false, not, ◌&&◌, ◌||◌, ◌==◌, nat_lt, if◌then◌else◌, Option, Some, None}
+use Rattle.std.specs.Prelude.{◌≡◌, ℕ, List, [], ◌∷◌, Bool, true, false, not, ◌&&◌, ◌||◌, ◌==◌, nat_lt, if◌then◌else◌, Option, Some, None}
 use Rattle.std.specs.List.{count_by, list_any}
 use Rattle.kbd_grab.specs.declared.keyboard.Keymap.{Keymap}
 use Rattle.kbd_grab.specs.declared.keyboard.Mods.{Mods}
+use Rattle.kbd_grab.specs.declared.keyboard.Repeat.{Repeat}
 use Rattle.kbd_grab.specs.declared.keyboard.Route.{Route}
 use Rattle.kbd_grab.specs.declared.keyboard.Route.TheVariants.{ToGrab, Pass, Nowhere, TooMany}
 
@@ -12,7 +13,7 @@ pub data Call : Type 0 where
   Fall : Call
   Key : (key : ℕ) (pressed : Bool) → Call
   TellKeymap : Keymap → Call
-  TellRepeat : (rate delay : ℤ) → Call
+  TellRepeat : Repeat → Call
   TellMods : Mods → Call
 
 -- the grab that stands: the last that stood up and hasn't fallen
@@ -73,9 +74,9 @@ told_keymap [] = None
 told_keymap (TellKeymap map ∷ older) = Some map
 told_keymap (_ ∷ older) = told_keymap older
 
-abbrev pub told_repeat : List Call → Option (ℤ × ℤ)
+abbrev pub told_repeat : List Call → Option Repeat
 told_repeat [] = None
-told_repeat (TellRepeat rate delay ∷ older) = Some (rate, delay)
+told_repeat (TellRepeat repeat ∷ older) = Some repeat
 told_repeat (_ ∷ older) = told_repeat older
 
 abbrev pub told_mods : List Call → Option Mods

@@ -5,7 +5,7 @@ ghost use Rattle.kbd_grab.specs.Keys.Call.{Stand, Fall, Key, TellKeymap, TellRep
 ghost use Rattle.kbd_grab.specs.Keyboard.{StandsFor, turned, answer_at};
 
 use crate::down::{Down, KEYS_DOWN, turn};
-use crate::keyboard::{Keymap, Label, Mods, Route};
+use crate::keyboard::{Keymap, Label, Mods, Repeat, Route};
 use std::alloc::Global;
 use std::marker::Model;
 use wio_core::NoMemory;
@@ -20,7 +20,7 @@ pub struct Grab {
     standing: Option<Label>,
     down: Vec<Down>,
     keymap: Option<Keymap>,
-    repeat: Option<(i32, i32)>,
+    repeat: Option<Repeat>,
     mods: Option<Mods>,
 }
 
@@ -112,13 +112,13 @@ impl Grab {
         self.keymap = Some(map);
     }
 
-    /// The shell told this repeat: `rate` in keys a second and `delay` in milliseconds, any i32.
-    pub fn repeat(&mut self, rate: i32, delay: i32)
-        ensures told { self.new ≡ record self.old { repeat = Some (rate, delay) } }
+    /// The shell told this repeat.
+    pub fn repeat(&mut self, repeat: Repeat)
+        ensures told { self.new ≡ record self.old { repeat = Some repeat } }
         ensures history { (calls : List Call) → StandsFor calls self.old →
-            StandsFor (TellRepeat rate delay ∷ calls) self.new }
+            StandsFor (TellRepeat repeat ∷ calls) self.new }
     {
-        self.repeat = Some((rate, delay));
+        self.repeat = Some(repeat);
     }
 
     /// The shell told these modifiers.
@@ -146,8 +146,8 @@ impl Grab {
         self.keymap
     }
 
-    /// The repeat that the shell told last, if it told one: rate and delay.
-    pub fn last_repeat(&self) -> Option<(i32, i32)>
+    /// The repeat that the shell told last, if it told one.
+    pub fn last_repeat(&self) -> Option<Repeat>
         ensures now { result ≡ self.now.repeat }
         ensures history { (calls : List Call) → StandsFor calls self.now → result ≡ told_repeat calls }
     {
@@ -160,91 +160,5 @@ impl Grab {
         ensures history { (calls : List Call) → StandsFor calls self.now → result ≡ told_mods calls }
     {
         self.mods
-    }
-}
-
-#[cfg(test)]
-mod tests {
-    use super::*;
-    use std::process::Abort;
-    use std::test::Fail;
-
-    // Presses or releases these keys in turn, and compares where each goes.
-    fn turn_all(rt: &impl Abort, grab: &mut Grab, rows: &[(u32, bool, Route)]) {
-        for (key, pressed, route) in rows {
-            assert_eq!(rt; grab.key(*key, *pressed), *route, "key {key}");
-        }
-    }
-
-    #[test]
-    fn refuses_the_65th_key(rt: HostRuntime) -> Result<(), Fail> {
-        let mut grab = Grab::new(rt.alloc())?;
-        for key in 0..64 {
-            assert_eq!(rt; grab.key(key, true), Route::Pass, "key {key}");
-        }
-        let rows = [
-            (64, true, Route::TooMany),
-            // pressed again, a key that is down
-            (63, true, Route::Pass),
-            // the key that was refused is up
-            (64, false, Route::Pass),
-            (64, true, Route::TooMany),
-            (7, false, Route::Pass),
-            (64, true, Route::Pass),
-        ];
-        turn_all(&rt, &mut grab, &rows);
-        Ok(())
-    }
-
-    #[test]
-    fn keys_follow_their_first_press(rt: HostRuntime) -> Result<(), Fail> {
-        let mut grab = Grab::new(rt.alloc())?;
-        turn_all(&rt, &mut grab, &[(30, true, Route::Pass)]);
-        grab.fall();
-        grab.stand(5);
-        assert_eq!(rt; grab.standing(), Some(5));
-        let rows = [
-            (31, true, Route::ToGrab(5)),
-            // pressed before the grab stood
-            (30, true, Route::Pass),
-            (31, true, Route::ToGrab(5)),
-            // a release of a key that is up
-            (32, false, Route::Pass),
-        ];
-        turn_all(&rt, &mut grab, &rows);
-        grab.fall();
-        grab.stand(9);
-        let rows = [
-            (31, true, Route::Nowhere),
-            (31, false, Route::Nowhere),
-            // a first press again
-            (31, true, Route::ToGrab(9)),
-            (30, false, Route::Pass),
-        ];
-        turn_all(&rt, &mut grab, &rows);
-        Ok(())
-    }
-
-    #[test]
-    fn keeps_what_was_told_last(rt: HostRuntime) -> Result<(), Fail> {
-        let map = Keymap {
-            format: 1,
-            token: 7,
-            size: 100,
-        };
-        let mods = Mods {
-            depressed: 1,
-            latched: 2,
-            locked: 4,
-            group: 0,
-        };
-        let mut grab = Grab::new(rt.alloc())?;
-        grab.keymap(map);
-        grab.repeat(25, 600);
-        grab.mods(mods);
-        assert_eq!(rt; grab.last_keymap(), Some(map));
-        assert_eq!(rt; grab.last_repeat(), Some((25, 600)));
-        assert_eq!(rt; grab.last_mods(), Some(mods));
-        Ok(())
     }
 }

@@ -12,6 +12,15 @@ pub struct Keymap {
     pub size: u32,
 }
 
+/// How keys repeat, as `zwp_input_method_keyboard_grab_v2.repeat_info` tells it. Any i32.
+#[derive(Clone, Copy, Debug, PartialEq, Eq)]
+pub struct Repeat {
+    /// Keys a second.
+    pub rate: i32,
+    /// Milliseconds before the first repeat.
+    pub delay: i32,
+}
+
 /// The modifiers, as `zwp_input_method_keyboard_grab_v2.modifiers` tells them: three masks and the layout.
 #[derive(Clone, Copy, Debug, PartialEq, Eq)]
 pub struct Mods {

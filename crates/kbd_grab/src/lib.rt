@@ -7,4 +7,4 @@ mod grab;
 mod keyboard;
 
 pub use grab::Grab;
-pub use keyboard::{Keymap, Label, Mods, Route};
+pub use keyboard::{Keymap, Label, Mods, Repeat, Route};

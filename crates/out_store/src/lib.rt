@@ -115,6 +115,3 @@ impl Store {
 pub fn nothing_is_lost()
     ensures { NothingIsLost }
 {}
-
-#[cfg(test)]
-mod tests;

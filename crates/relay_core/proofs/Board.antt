@@ -1,5 +1,5 @@
 -- The keyboard after the acts that change it.
-use Rattle.std.proofs.Common.{◌≡◌, ℕ, ℤ, ◌+◌, List, [], ◌∷◌, ◌++◌, length, Bool, true, false, Some, None, ap, refl, sym, subst, ◌∙◌}
+use Rattle.std.proofs.Common.{◌≡◌, ℕ, ◌+◌, List, [], ◌∷◌, ◌++◌, length, Bool, true, false, Some, None, ap, refl, sym, subst, ◌∙◌}
 use Rattle.std.specs.Prelude.{◌&&◌, ◌||◌, nat_lt, if◌then◌else◌, is_some, is_none}
 use Rattle.std.specs.FinMap as map
 use Rattle.std.proofs.lemmas.Bool.{true≢false}
@@ -17,6 +17,7 @@ use Rattle.kbd_grab.specs.Keys.Call.{Stand, Fall, Key, TellKeymap, TellRepeat, T
 use Rattle.kbd_grab.specs.Keyboard.{Keyboard, StandsFor, turned, turned_at}
 use Rattle.kbd_grab.specs.declared.keyboard.Keymap.{Keymap}
 use Rattle.kbd_grab.specs.declared.keyboard.Mods.{Mods}
+use Rattle.kbd_grab.specs.declared.keyboard.Repeat.{Repeat}
 use Rattle.kbd_grab.proofs.Turns.{turned_stands, answer_is}
 use Rattle.relay_core.specs.KeyCalls.{key_calls, route_of}
 use Rattle.relay_core.specs.Machine.{State, fallen_keys, owner_at, route_in}
@@ -38,9 +39,9 @@ pub keymap_stands : (calls : List Call) (keys : Keyboard) (k : Keymap) → Stand
 keymap_stands calls keys k h =
     record { grab = h.grab; keys = h.keys; number = h.number; last_keymap = refl; last_repeat = h.last_repeat; last_mods = h.last_mods }
 
-pub repeat_stands : (calls : List Call) (keys : Keyboard) (rate delay : ℤ) → StandsFor calls keys →
-    StandsFor (TellRepeat rate delay ∷ calls) (record keys { repeat = Some (rate, delay) })
-repeat_stands calls keys rate delay h =
+pub repeat_stands : (calls : List Call) (keys : Keyboard) (repeat : Repeat) → StandsFor calls keys →
+    StandsFor (TellRepeat repeat ∷ calls) (record keys { repeat = Some repeat })
+repeat_stands calls keys repeat h =
     record { grab = h.grab; keys = h.keys; number = h.number; last_keymap = h.last_keymap; last_repeat = refl; last_mods = h.last_mods }
 
 pub mods_stands : (calls : List Call) (keys : Keyboard) (m : Mods) → StandsFor calls keys → StandsFor (TellMods m ∷ calls) (record keys { mods = Some m })

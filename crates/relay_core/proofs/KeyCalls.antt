@@ -1,7 +1,6 @@
 -- That the calls of a history make of the keyboard what the history says.
 use Rattle.std.proofs.Common.{◌≡◌, ℕ, ◌+◌, ◌≤◌, ◌<◌, List, [], ◌∷◌, ◌++◌, length, Bool, true, false, Option, Some, None, ap, refl, sym, ◌∙◌, arith, ◌⊎◌, inl, inr}
 use Rattle.std.specs.Prelude.{◌==◌, ◌&&◌, ◌||◌, not, nat_lt, if◌then◌else◌, is_some, is_none}
-use Rattle.std.specs.Option.{option_map}
 use Rattle.std.specs.List.{count_by}
 use Rattle.std.proofs.lemmas.Bool.{ne_eqb, eq-eqb, eqb-true}
 use Rattle.kbd_grab.specs.declared.keyboard.Route.TheVariants as routes
@@ -18,7 +17,7 @@ use Rattle.relay_model.specs.Activation.{serving}
 use Rattle.relay_model.specs.Keys.{ToGrab, ToShell, Nowhere, Refused, stands_on, standing, is_press, with_key, is_down, number_down, pressed_keys, first_went, to_standing, as_first, key_route, is_refused, last_keymap, last_repeat, last_mods}
 use Rattle.relay_model.proofs.Histories.{IsHistory, live}
 use Rattle.relay_model.proofs.FocusLaws.{and_false}
-use Rattle.relay_core.specs.KeyCalls.{route_of, calls_of, stand_calls, fall_calls, key_calls, keymap_of, repeat_of, mods_of}
+use Rattle.relay_core.specs.KeyCalls.{route_of, calls_of, stand_calls, fall_calls, key_calls}
 use Rattle.relay_core.proofs.GrabLaws.{standing_steady, standing_within, standing_dropped, standing_gone, standing_new}
 
 -- the calls of a history
@@ -70,12 +69,12 @@ calls_standing (acts.Grab m ∷ older) =
     (grab_beyond (standing older) (length older) (standing_within older)) (calls_standing older)
 calls_standing (acts.Key time key state ∷ older) =
     calls_standing older ∙ sym (standing_steady (acts.Key time key state) older refl refl (λ x o. refl))
-calls_standing (acts.Mods depressed latched locked group ∷ older) =
-    calls_standing older ∙ sym (standing_steady (acts.Mods depressed latched locked group) older refl refl (λ x o. refl))
-calls_standing (acts.Keymap format token size ∷ older) =
-    calls_standing older ∙ sym (standing_steady (acts.Keymap format token size) older refl refl (λ x o. refl))
-calls_standing (acts.Repeat rate delay ∷ older) =
-    calls_standing older ∙ sym (standing_steady (acts.Repeat rate delay) older refl refl (λ x o. refl))
+calls_standing (acts.Mods mods ∷ older) =
+    calls_standing older ∙ sym (standing_steady (acts.Mods mods) older refl refl (λ x o. refl))
+calls_standing (acts.Keymap keymap ∷ older) =
+    calls_standing older ∙ sym (standing_steady (acts.Keymap keymap) older refl refl (λ x o. refl))
+calls_standing (acts.Repeat repeat ∷ older) =
+    calls_standing older ∙ sym (standing_steady (acts.Repeat repeat) older refl refl (λ x o. refl))
 calls_standing (act ∷ older) =
     fall_by (standing older) (standing (act ∷ older)) (key_calls older) (stands_or_falls (act ∷ older) (standing older)) (calls_standing older)
 
@@ -122,9 +121,9 @@ calls_pressed : (log : List Act) → board.pressed_keys (key_calls log) ≡ pres
 calls_pressed [] = refl
 calls_pressed (acts.Grab m ∷ older) = unseen board.pressed_keys _ (Stand (next older)) (key_calls older) refl ∙ calls_pressed older
 calls_pressed (acts.Key time key state ∷ older) = press_same (is_press state) key (key_calls older) (pressed_keys older) (calls_pressed older)
-calls_pressed (acts.Mods depressed latched locked group ∷ older) = calls_pressed older
-calls_pressed (acts.Keymap format token size ∷ older) = calls_pressed older
-calls_pressed (acts.Repeat rate delay ∷ older) = calls_pressed older
+calls_pressed (acts.Mods mods ∷ older) = calls_pressed older
+calls_pressed (acts.Keymap keymap ∷ older) = calls_pressed older
+calls_pressed (acts.Repeat repeat ∷ older) = calls_pressed older
 calls_pressed (act ∷ older) = unseen board.pressed_keys _ Fall (key_calls older) refl ∙ calls_pressed older
 
 -- the keys of the calls are down that are down after the acts
@@ -162,9 +161,9 @@ calls_down (acts.Key time k state ∷ older) h key =
     let same : SameDown (key_calls older) older = calls_down older h.1 in
     pressed_by (is_press state) k key (key_calls older) older same (number_same older same)
     (live (acts.Key time k state) older h.0 (λ (d : acts.Key time k state ≡ acts.Idle). cc))
-calls_down (acts.Mods depressed latched locked group ∷ older) h key = calls_down older h.1 key
-calls_down (acts.Keymap format token size ∷ older) h key = calls_down older h.1 key
-calls_down (acts.Repeat rate delay ∷ older) h key = calls_down older h.1 key
+calls_down (acts.Mods mods ∷ older) h key = calls_down older h.1 key
+calls_down (acts.Keymap keymap ∷ older) h key = calls_down older h.1 key
+calls_down (acts.Repeat repeat ∷ older) h key = calls_down older h.1 key
 calls_down (act ∷ older) h key = unseen (λ cs. board.is_down cs key) _ Fall (key_calls older) refl ∙ calls_down older h.1 key
 
 pub calls_number : (log : List Act) → IsHistory log → board.number_down (key_calls log) ≡ number_down log
@@ -181,9 +180,9 @@ calls_went [] h key = refl
 calls_went (acts.Grab m ∷ older) h key = unseen (λ cs. board.first_went cs key) _ (Stand (next older)) (key_calls older) refl ∙ calls_went older h.1 key
 calls_went (acts.Key time k state ∷ older) h key =
     went_by (is_press state) k key (key_calls older) older (calls_down older h.1 key) (calls_standing older) (calls_went older h.1 key)
-calls_went (acts.Mods depressed latched locked group ∷ older) h key = calls_went older h.1 key
-calls_went (acts.Keymap format token size ∷ older) h key = calls_went older h.1 key
-calls_went (acts.Repeat rate delay ∷ older) h key = calls_went older h.1 key
+calls_went (acts.Mods mods ∷ older) h key = calls_went older h.1 key
+calls_went (acts.Keymap keymap ∷ older) h key = calls_went older h.1 key
+calls_went (acts.Repeat repeat ∷ older) h key = calls_went older h.1 key
 calls_went (act ∷ older) h key = unseen (λ cs. board.first_went cs key) _ Fall (key_calls older) refl ∙ calls_went older h.1 key
 
 first_stands : (stands : Option ℕ) (g : ℕ) → board.as_first stands (Some g) ≡ route_of (if is_at stands g then ToGrab g else Nowhere)
@@ -227,31 +226,31 @@ calls_route log h key state =
 
 -- what the shell told last
 
-pub calls_keymap : (log : List Act) → board.told_keymap (key_calls log) ≡ option_map keymap_of (last_keymap log)
+pub calls_keymap : (log : List Act) → board.told_keymap (key_calls log) ≡ last_keymap log
 calls_keymap [] = refl
 calls_keymap (acts.Grab m ∷ older) = unseen board.told_keymap _ (Stand (next older)) (key_calls older) refl ∙ calls_keymap older
 calls_keymap (acts.Key time k state ∷ older) = calls_keymap older
-calls_keymap (acts.Mods depressed latched locked group ∷ older) = calls_keymap older
-calls_keymap (acts.Keymap format token size ∷ older) = refl
-calls_keymap (acts.Repeat rate delay ∷ older) = calls_keymap older
+calls_keymap (acts.Mods mods ∷ older) = calls_keymap older
+calls_keymap (acts.Keymap keymap ∷ older) = refl
+calls_keymap (acts.Repeat repeat ∷ older) = calls_keymap older
 calls_keymap (act ∷ older) = unseen board.told_keymap _ Fall (key_calls older) refl ∙ calls_keymap older
 
-pub calls_repeat : (log : List Act) → board.told_repeat (key_calls log) ≡ option_map repeat_of (last_repeat log)
+pub calls_repeat : (log : List Act) → board.told_repeat (key_calls log) ≡ last_repeat log
 calls_repeat [] = refl
 calls_repeat (acts.Grab m ∷ older) = unseen board.told_repeat _ (Stand (next older)) (key_calls older) refl ∙ calls_repeat older
 calls_repeat (acts.Key time k state ∷ older) = calls_repeat older
-calls_repeat (acts.Mods depressed latched locked group ∷ older) = calls_repeat older
-calls_repeat (acts.Keymap format token size ∷ older) = calls_repeat older
-calls_repeat (acts.Repeat rate delay ∷ older) = refl
+calls_repeat (acts.Mods mods ∷ older) = calls_repeat older
+calls_repeat (acts.Keymap keymap ∷ older) = calls_repeat older
+calls_repeat (acts.Repeat repeat ∷ older) = refl
 calls_repeat (act ∷ older) = unseen board.told_repeat _ Fall (key_calls older) refl ∙ calls_repeat older
 
-pub calls_mods : (log : List Act) → board.told_mods (key_calls log) ≡ option_map mods_of (last_mods log)
+pub calls_mods : (log : List Act) → board.told_mods (key_calls log) ≡ last_mods log
 calls_mods [] = refl
 calls_mods (acts.Grab m ∷ older) = unseen board.told_mods _ (Stand (next older)) (key_calls older) refl ∙ calls_mods older
 calls_mods (acts.Key time k state ∷ older) = calls_mods older
-calls_mods (acts.Mods depressed latched locked group ∷ older) = refl
-calls_mods (acts.Keymap format token size ∷ older) = calls_mods older
-calls_mods (acts.Repeat rate delay ∷ older) = calls_mods older
+calls_mods (acts.Mods mods ∷ older) = refl
+calls_mods (acts.Keymap keymap ∷ older) = calls_mods older
+calls_mods (acts.Repeat repeat ∷ older) = calls_mods older
 calls_mods (act ∷ older) = unseen board.told_mods _ Fall (key_calls older) refl ∙ calls_mods older
 
 -- no act of a history is a refused press
@@ -273,9 +272,9 @@ not_stood : (log : List Act) (x : ℕ) → length log < x → board.stood (key_c
 not_stood [] x l = refl
 not_stood (acts.Grab m ∷ older) x l = stood_by _ (length older + 1) x (key_calls older) (omega arith) (not_stood older x (omega arith))
 not_stood (acts.Key time k state ∷ older) x l = not_stood older x (omega arith)
-not_stood (acts.Mods depressed latched locked group ∷ older) x l = not_stood older x (omega arith)
-not_stood (acts.Keymap format token size ∷ older) x l = not_stood older x (omega arith)
-not_stood (acts.Repeat rate delay ∷ older) x l = not_stood older x (omega arith)
+not_stood (acts.Mods mods ∷ older) x l = not_stood older x (omega arith)
+not_stood (acts.Keymap keymap ∷ older) x l = not_stood older x (omega arith)
+not_stood (acts.Repeat repeat ∷ older) x l = not_stood older x (omega arith)
 not_stood (act ∷ older) x l = unseen (λ cs. board.stood cs x) _ Fall (key_calls older) refl ∙ not_stood older x (omega arith)
 
 stands_once : (b : Bool) (n : ℕ) (before : List Call) → board.EachStandsOnce before → (b ≡ true → board.grab_standing before ≡ None) →
@@ -293,7 +292,7 @@ calls_once (acts.Grab m ∷ older) =
     stands_once _ (length older + 1) (key_calls older) (calls_once older) (λ e. calls_standing older ∙ (standing_new m older e).0)
     (not_stood older (length older + 1) (omega arith))
 calls_once (acts.Key time k state ∷ older) = calls_once older
-calls_once (acts.Mods depressed latched locked group ∷ older) = calls_once older
-calls_once (acts.Keymap format token size ∷ older) = calls_once older
-calls_once (acts.Repeat rate delay ∷ older) = calls_once older
+calls_once (acts.Mods mods ∷ older) = calls_once older
+calls_once (acts.Keymap keymap ∷ older) = calls_once older
+calls_once (acts.Repeat repeat ∷ older) = calls_once older
 calls_once (act ∷ older) = falls_once _ (key_calls older) (calls_once older)

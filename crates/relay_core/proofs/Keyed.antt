@@ -1,6 +1,6 @@
 -- Acts on the keyboard, and the screen: the relay stands for the history with them, and told what they tell.
-use Rattle.std.proofs.Common.{◌≡◌, ℕ, ℤ, ◌+◌, ◌≤◌, List, [], ◌∷◌, ◌++◌, length, map, Bool, true, false, Option, Some, None, ap, refl, sym, subst, ◌∙◌, arith}
-use Rattle.std.specs.Prelude.{◌&&◌, option_map, if◌then◌else◌, is_none}
+use Rattle.std.proofs.Common.{◌≡◌, ℕ, ◌+◌, ◌≤◌, List, [], ◌∷◌, ◌++◌, length, map, Bool, true, false, Option, Some, None, ap, refl, sym, subst, ◌∙◌, arith}
+use Rattle.std.specs.Prelude.{◌&&◌, if◌then◌else◌, is_none}
 use Rattle.std.proofs.lemmas.Bool.{ne_eqb, eq-eqb}
 use Rattle.std.proofs.lemmas.List.{map-append}
 use Rattle.popup_place.specs.declared.geometry.Rect.{Rect}
@@ -14,7 +14,7 @@ use Rattle.relay_model.specs.Focus.{where_alive}
 use Rattle.relay_model.specs.Hold.{kept, holder}
 use Rattle.relay_model.specs.Activation.{serving, makes_serving, updates, notice}
 use Rattle.relay_model.specs.Keys as keys
-use Rattle.relay_model.specs.Keys.{Goes, ToGrab, ToShell, Nowhere, Refused, standing, is_press, is_refused, key_route, last_keymap, last_repeat, last_mods}
+use Rattle.relay_model.specs.Keys.{Keymap, Mods, Repeat, Goes, ToGrab, ToShell, Nowhere, Refused, standing, is_press, is_refused, key_route, last_keymap, last_repeat, last_mods}
 use Rattle.relay_model.specs.Popups.{area, screen}
 use Rattle.relay_model.specs.Told.{to, to_grab, leaves, enters, own, keymap_said, repeat_said, mods_said, keyboard_said, key_told as key_said, to_method, told_by}
 use Rattle.relay_model.proofs.Histories.{IsHistory}
@@ -24,7 +24,7 @@ use Rattle.relay_model.proofs.ActivationLaws.{serving_same}
 use Rattle.kbd_grab.specs.Keyboard.{Keyboard, StandsFor, turned}
 use Rattle.seat_objects.specs.declared.object.Kind.{Kind as KeptKind}
 use Rattle.seat_objects.specs.declared.object.Kind.TheVariants.{Popup, Grab}
-use Rattle.relay_core.specs.KeyCalls.{key_calls, route_of, keymap_of, repeat_of, mods_of}
+use Rattle.relay_core.specs.KeyCalls.{key_calls, route_of}
 use Rattle.seat_objects.specs.Objects.{find, owner_in, placed_at}
 use Rattle.seat_objects.specs.Keyboard.{keymap_told, repeat_told, mods_told, keyboard_told, key_told}
 use Rattle.relay_core.specs.Machine.{State, counted, made_for, made_by, stands_now, grabbed, keyed, route_in, moved}
@@ -219,10 +219,10 @@ key_board time key state = record {
   edits = λ m rest. refl;
 }
 
-mods_board : (depressed latched locked group : ℕ) → IsBoard (acts.Mods depressed latched locked group)
-mods_board depressed latched locked group = record {
-  steady = mods_steady depressed latched locked group;
-  silent = mods_silent depressed latched locked group;
+mods_board : (mods : Mods) → IsBoard (acts.Mods mods)
+mods_board mods = record {
+  steady = mods_steady mods;
+  silent = mods_silent mods;
   new = λ log. refl;
   areas = λ log x. refl;
   screens = λ log. refl;
@@ -233,10 +233,10 @@ mods_board depressed latched locked group = record {
   edits = λ m rest. refl;
 }
 
-keymap_board : (format token size : ℕ) → IsBoard (acts.Keymap format token size)
-keymap_board format token size = record {
-  steady = keymap_steady format token size;
-  silent = keymap_silent format token size;
+keymap_board : (keymap : Keymap) → IsBoard (acts.Keymap keymap)
+keymap_board keymap = record {
+  steady = keymap_steady keymap;
+  silent = keymap_silent keymap;
   new = λ log. refl;
   areas = λ log x. refl;
   screens = λ log. refl;
@@ -247,10 +247,10 @@ keymap_board format token size = record {
   edits = λ m rest. refl;
 }
 
-repeat_board : (rate delay : ℤ) → IsBoard (acts.Repeat rate delay)
-repeat_board rate delay = record {
-  steady = repeat_steady rate delay;
-  silent = repeat_silent rate delay;
+repeat_board : (repeat : Repeat) → IsBoard (acts.Repeat repeat)
+repeat_board repeat = record {
+  steady = repeat_steady repeat;
+  silent = repeat_silent repeat;
   new = λ log. refl;
   areas = λ log x. refl;
   screens = λ log. refl;
@@ -272,22 +272,22 @@ stands_refused s log time key state i r h =
     let same : turned s.keys key (is_press state) ≡ s.keys.down = refused_turns s.keys log key state i h.keys_now r in
     subst (λ d. Stands (record (counted s) { keys = record s.keys { down = d } }) (acts.Idle ∷ log)) (sym same) (stands_idle s log i h)
 
-pub stands_mods : (s : State) (log : List Act) (depressed latched locked group : ℕ) → IsHistory log → Stands s log →
-    Stands (moved (acts.Mods depressed latched locked group) (counted s)) (acts.Mods depressed latched locked group ∷ log)
-stands_mods s log depressed latched locked group i h =
-    stands_board s log (acts.Mods depressed latched locked group) _ i (mods_board depressed latched locked group)
-    (mods_stands (key_calls log) s.keys (record { depressed = depressed; latched = latched; locked = locked; group = group }) h.keys_now) h
+pub stands_mods : (s : State) (log : List Act) (mods : Mods) → IsHistory log → Stands s log →
+    Stands (moved (acts.Mods mods) (counted s)) (acts.Mods mods ∷ log)
+stands_mods s log mods i h =
+    stands_board s log (acts.Mods mods) _ i (mods_board mods)
+    (mods_stands (key_calls log) s.keys mods h.keys_now) h
 
-pub stands_keymap : (s : State) (log : List Act) (format token size : ℕ) → IsHistory log → Stands s log →
-    Stands (moved (acts.Keymap format token size) (counted s)) (acts.Keymap format token size ∷ log)
-stands_keymap s log format token size i h =
-    stands_board s log (acts.Keymap format token size) _ i (keymap_board format token size)
-    (keymap_stands (key_calls log) s.keys (record { format = format; token = token; size = size }) h.keys_now) h
+pub stands_keymap : (s : State) (log : List Act) (keymap : Keymap) → IsHistory log → Stands s log →
+    Stands (moved (acts.Keymap keymap) (counted s)) (acts.Keymap keymap ∷ log)
+stands_keymap s log keymap i h =
+    stands_board s log (acts.Keymap keymap) _ i (keymap_board keymap)
+    (keymap_stands (key_calls log) s.keys keymap h.keys_now) h
 
-pub stands_repeat : (s : State) (log : List Act) (rate delay : ℤ) → IsHistory log → Stands s log →
-    Stands (moved (acts.Repeat rate delay) (counted s)) (acts.Repeat rate delay ∷ log)
-stands_repeat s log rate delay i h =
-    stands_board s log (acts.Repeat rate delay) _ i (repeat_board rate delay) (repeat_stands (key_calls log) s.keys rate delay h.keys_now) h
+pub stands_repeat : (s : State) (log : List Act) (repeat : Repeat) → IsHistory log → Stands s log →
+    Stands (moved (acts.Repeat repeat) (counted s)) (acts.Repeat repeat ∷ log)
+stands_repeat s log repeat i h =
+    stands_board s log (acts.Repeat repeat) _ i (repeat_board repeat) (repeat_stands (key_calls log) s.keys repeat h.keys_now) h
 
 -- what they tell
 
@@ -319,36 +319,36 @@ pub says_refused : (s : State) (log : List Act) (time key state : ℕ) → IsHis
 says_refused s log time key state i r h =
     ap (key_told (s.acts + 1) time key state) (route_is s log key state i h ∙ ap route_of (refused_goes log key state r)) ∙ says_idle log i
 
-pub says_mods : (s : State) (log : List Act) (depressed latched locked group : ℕ) → IsHistory log → Stands s log →
-    to_grab s.keys.standing (said.Mods (s.acts + 1) depressed latched locked group) ≡ told_by (acts.Mods depressed latched locked group) log
-says_mods s log depressed latched locked group i h =
-    ap (λ o. to_grab o (said.Mods (s.acts + 1) depressed latched locked group)) (standing_is s log h) ∙
-    ap (λ n. to_grab (standing log) (said.Mods (n + 1) depressed latched locked group)) h.acts_now ∙
-    says_own (acts.Mods depressed latched locked group) log (board_quiet (acts.Mods depressed latched locked group) log i (mods_board depressed latched locked group)) refl refl
+pub says_mods : (s : State) (log : List Act) (mods : Mods) → IsHistory log → Stands s log →
+    to_grab s.keys.standing (said.Mods (s.acts + 1) mods) ≡ told_by (acts.Mods mods) log
+says_mods s log mods i h =
+    ap (λ o. to_grab o (said.Mods (s.acts + 1) mods)) (standing_is s log h) ∙
+    ap (λ n. to_grab (standing log) (said.Mods (n + 1) mods)) h.acts_now ∙
+    says_own (acts.Mods mods) log (board_quiet (acts.Mods mods) log i (mods_board mods)) refl refl
 
-pub says_keymap : (s : State) (log : List Act) (format token size : ℕ) → IsHistory log → Stands s log →
-    to_grab s.keys.standing (said.Keymap format token size) ≡ told_by (acts.Keymap format token size) log
-says_keymap s log format token size i h =
-    ap (λ o. to_grab o (said.Keymap format token size)) (standing_is s log h) ∙
-    says_own (acts.Keymap format token size) log (board_quiet (acts.Keymap format token size) log i (keymap_board format token size)) refl refl
+pub says_keymap : (s : State) (log : List Act) (keymap : Keymap) → IsHistory log → Stands s log →
+    to_grab s.keys.standing (said.Keymap keymap) ≡ told_by (acts.Keymap keymap) log
+says_keymap s log keymap i h =
+    ap (λ o. to_grab o (said.Keymap keymap)) (standing_is s log h) ∙
+    says_own (acts.Keymap keymap) log (board_quiet (acts.Keymap keymap) log i (keymap_board keymap)) refl refl
 
-pub says_repeat : (s : State) (log : List Act) (rate delay : ℤ) → IsHistory log → Stands s log →
-    to_grab s.keys.standing (said.Repeat rate delay) ≡ told_by (acts.Repeat rate delay) log
-says_repeat s log rate delay i h =
-    ap (λ o. to_grab o (said.Repeat rate delay)) (standing_is s log h) ∙
-    says_own (acts.Repeat rate delay) log (board_quiet (acts.Repeat rate delay) log i (repeat_board rate delay)) refl refl
+pub says_repeat : (s : State) (log : List Act) (repeat : Repeat) → IsHistory log → Stands s log →
+    to_grab s.keys.standing (said.Repeat repeat) ≡ told_by (acts.Repeat repeat) log
+says_repeat s log repeat i h =
+    ap (λ o. to_grab o (said.Repeat repeat)) (standing_is s log h) ∙
+    says_own (acts.Repeat repeat) log (board_quiet (acts.Repeat repeat) log i (repeat_board repeat)) refl refl
 
 -- a grab that stands is told the keyboard
 
-keymap_is : (g : ℕ) (o : Option keys.Keymap) → keymap_told g (option_map keymap_of o) ≡ map (to g) (keymap_said o)
+keymap_is : (g : ℕ) (o : Option keys.Keymap) → keymap_told g o ≡ map (to g) (keymap_said o)
 keymap_is g None = refl
 keymap_is g (Some k) = refl
 
-repeat_is : (g : ℕ) (o : Option keys.Repeat) → repeat_told g (option_map repeat_of o) ≡ map (to g) (repeat_said o)
+repeat_is : (g : ℕ) (o : Option keys.Repeat) → repeat_told g o ≡ map (to g) (repeat_said o)
 repeat_is g None = refl
 repeat_is g (Some r) = refl
 
-mods_is : (g : ℕ) (o : Option keys.Mods) → mods_told g (option_map mods_of o) ≡ map (to g) (mods_said g o)
+mods_is : (g : ℕ) (o : Option keys.Mods) → mods_told g o ≡ map (to g) (mods_said g o)
 mods_is g None = refl
 mods_is g (Some m) = refl
 

@@ -9,6 +9,7 @@ use Rattle.relay_model.specs.declared.act.EndCause.{EndCause}
 use Rattle.relay_model.specs.declared.fault.Fault.{Fault}
 use Rattle.relay_model.specs.declared.role.Role.{Role}
 use Rattle.relay_model.specs.Objects.{is_at}
+use Rattle.relay_model.specs.Keys.{Keymap, Mods, Repeat}
 use Rattle.relay_model.specs.Hold.{holder, kept, begins_hold}
 use Rattle.relay_model.specs.Popups.{area}
 use Rattle.relay_model.specs.Activation.{Notice, Deactivates, makes_serving, updates, notice}
@@ -58,14 +59,14 @@ screen_steady size = record { keeps = λ x o. refl; last = λ log. refl; since =
 pub key_steady : (time key state : ℕ) → IsSteady (acts.Key time key state)
 key_steady time key state = record { keeps = λ x o. refl; last = λ log. refl; since = λ log. refl }
 
-pub mods_steady : (depressed latched locked group : ℕ) → IsSteady (acts.Mods depressed latched locked group)
-mods_steady depressed latched locked group = record { keeps = λ x o. refl; last = λ log. refl; since = λ log. refl }
+pub mods_steady : (mods : Mods) → IsSteady (acts.Mods mods)
+mods_steady mods = record { keeps = λ x o. refl; last = λ log. refl; since = λ log. refl }
 
-pub keymap_steady : (format token size : ℕ) → IsSteady (acts.Keymap format token size)
-keymap_steady format token size = record { keeps = λ x o. refl; last = λ log. refl; since = λ log. refl }
+pub keymap_steady : (keymap : Keymap) → IsSteady (acts.Keymap keymap)
+keymap_steady keymap = record { keeps = λ x o. refl; last = λ log. refl; since = λ log. refl }
 
-pub repeat_steady : (rate delay : ℤ) → IsSteady (acts.Repeat rate delay)
-repeat_steady rate delay = record { keeps = λ x o. refl; last = λ log. refl; since = λ log. refl }
+pub repeat_steady : (repeat : Repeat) → IsSteady (acts.Repeat repeat)
+repeat_steady repeat = record { keeps = λ x o. refl; last = λ log. refl; since = λ log. refl }
 
 pub registry_steady : (p : ℕ) (role : Role) → IsSteady (acts.Registry p role)
 registry_steady p role = record { keeps = λ y o. refl; last = λ log. refl; since = λ log. refl }
@@ -135,14 +136,14 @@ screen_silent size = record { words = λ f rest. refl; sets = λ f rest. refl; c
 pub key_silent : (time key state : ℕ) → IsSilent (acts.Key time key state)
 key_silent time key state = record { words = λ f rest. refl; sets = λ f rest. refl; counts = λ log f. refl; begins = λ log. refl; commits = λ f. refl }
 
-pub mods_silent : (depressed latched locked group : ℕ) → IsSilent (acts.Mods depressed latched locked group)
-mods_silent depressed latched locked group = record { words = λ f rest. refl; sets = λ f rest. refl; counts = λ log f. refl; begins = λ log. refl; commits = λ f. refl }
+pub mods_silent : (mods : Mods) → IsSilent (acts.Mods mods)
+mods_silent mods = record { words = λ f rest. refl; sets = λ f rest. refl; counts = λ log f. refl; begins = λ log. refl; commits = λ f. refl }
 
-pub keymap_silent : (format token size : ℕ) → IsSilent (acts.Keymap format token size)
-keymap_silent format token size = record { words = λ f rest. refl; sets = λ f rest. refl; counts = λ log f. refl; begins = λ log. refl; commits = λ f. refl }
+pub keymap_silent : (keymap : Keymap) → IsSilent (acts.Keymap keymap)
+keymap_silent keymap = record { words = λ f rest. refl; sets = λ f rest. refl; counts = λ log f. refl; begins = λ log. refl; commits = λ f. refl }
 
-pub repeat_silent : (rate delay : ℤ) → IsSilent (acts.Repeat rate delay)
-repeat_silent rate delay = record { words = λ f rest. refl; sets = λ f rest. refl; counts = λ log f. refl; begins = λ log. refl; commits = λ f. refl }
+pub repeat_silent : (repeat : Repeat) → IsSilent (acts.Repeat repeat)
+repeat_silent repeat = record { words = λ f rest. refl; sets = λ f rest. refl; counts = λ log f. refl; begins = λ log. refl; commits = λ f. refl }
 
 pub registry_silent : (p : ℕ) (role : Role) → IsSilent (acts.Registry p role)
 registry_silent p role = record { words = λ f rest. refl; sets = λ f rest. refl; counts = λ log f. refl; begins = λ log. refl; commits = λ f. refl }

@@ -1,7 +1,5 @@
 -- What the acts of a history call on the seat's keyboard.
-use Rattle.std.specs.Prelude.{ℕ, ℤ, List, [], ◌∷◌, ◌++◌, ◌&&◌, if◌then◌else◌, Option, is_some, is_none}
-use Rattle.kbd_grab.specs.declared.keyboard.Keymap.{Keymap}
-use Rattle.kbd_grab.specs.declared.keyboard.Mods.{Mods}
+use Rattle.std.specs.Prelude.{ℕ, List, [], ◌∷◌, ◌++◌, ◌&&◌, if◌then◌else◌, Option, is_some, is_none}
 use Rattle.kbd_grab.specs.declared.keyboard.Route.{Route}
 use Rattle.kbd_grab.specs.declared.keyboard.Route.TheVariants as routes
 use Rattle.kbd_grab.specs.Keys.{Call}
@@ -9,7 +7,6 @@ use Rattle.kbd_grab.specs.Keys.Call.{Stand, Fall, Key, TellKeymap, TellRepeat, T
 use Rattle.relay_model.specs.declared.act.Act.{Act}
 use Rattle.relay_model.specs.declared.act.Act.TheVariants as acts
 use Rattle.relay_model.specs.Objects.{next, is_at}
-use Rattle.relay_model.specs.Keys as keys
 use Rattle.relay_model.specs.Keys.{Goes, ToGrab, ToShell, Nowhere, Refused, is_press, standing}
 
 -- the grab that the act made stands
@@ -24,10 +21,9 @@ fall_calls before after = (if is_some before && is_none after then Fall ∷ [] e
 abbrev pub calls_of : Act → List Act → List Call
 calls_of (acts.Grab m) older = stand_calls (next older) (standing (acts.Grab m ∷ older))
 calls_of (acts.Key time key state) older = Key key (is_press state) ∷ []
-calls_of (acts.Mods depressed latched locked group) older =
-    TellMods (record { depressed = depressed; latched = latched; locked = locked; group = group }) ∷ []
-calls_of (acts.Keymap format token size) older = TellKeymap (record { format = format; token = token; size = size }) ∷ []
-calls_of (acts.Repeat rate delay) older = TellRepeat rate delay ∷ []
+calls_of (acts.Mods mods) older = TellMods mods ∷ []
+calls_of (acts.Keymap keymap) older = TellKeymap keymap ∷ []
+calls_of (acts.Repeat repeat) older = TellRepeat repeat ∷ []
 calls_of act older = fall_calls (standing older) (standing (act ∷ older))
 
 -- the calls of a history, the newest first
@@ -36,18 +32,8 @@ key_calls [] = []
 key_calls (act ∷ older) = calls_of act older ++ key_calls older
 
 -- the same in the keyboard's words
-
 abbrev pub route_of : Goes → Route
 route_of (ToGrab g) = routes.ToGrab g
 route_of ToShell = routes.Pass
 route_of Nowhere = routes.Nowhere
 route_of Refused = routes.TooMany
-
-abbrev pub keymap_of : keys.Keymap → Keymap
-keymap_of k = record { format = k.format; token = k.token; size = k.size }
-
-abbrev pub repeat_of : keys.Repeat → ℤ × ℤ
-repeat_of r = (r.rate, r.delay)
-
-abbrev pub mods_of : keys.Mods → Mods
-mods_of m = record { depressed = m.depressed; latched = m.latched; locked = m.locked; group = m.group }

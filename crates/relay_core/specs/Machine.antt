@@ -53,9 +53,9 @@ is_live_in (acts.Grab m) s = is_method_in (find s.objects m)
 is_live_in (acts.Area t rect) s = is_surface_in (find s.objects t)
 is_live_in (acts.Screen size) s = true
 is_live_in (acts.Key time key state) s = true
-is_live_in (acts.Mods depressed latched locked group) s = true
-is_live_in (acts.Keymap format token size) s = true
-is_live_in (acts.Repeat rate delay) s = true
+is_live_in (acts.Mods mods) s = true
+is_live_in (acts.Keymap keymap) s = true
+is_live_in (acts.Repeat repeat) s = true
 is_live_in (acts.Registry p role) s = is_peer_in (find s.objects p)
 is_live_in (acts.Sync p) s = is_peer_in (find s.objects p)
 is_live_in (acts.Seat p) s = is_peer_in (find s.objects p)
@@ -220,11 +220,9 @@ moved (acts.Grab m) s = grabbed m s
 moved (acts.Area t rect) s = record s { objects = map (placed_at t rect) s.objects }
 moved (acts.Screen size) s = record s { screen = size }
 moved (acts.Key time key state) s = keyed key state s
-moved (acts.Mods depressed latched locked group) s =
-    record s { keys = record s.keys { mods = Some (record { depressed = depressed; latched = latched; locked = locked; group = group }) } }
-moved (acts.Keymap format token size) s =
-    record s { keys = record s.keys { keymap = Some (record { format = format; token = token; size = size }) } }
-moved (acts.Repeat rate delay) s = record s { keys = record s.keys { repeat = Some (rate, delay) } }
+moved (acts.Mods mods) s = record s { keys = record s.keys { mods = Some mods } }
+moved (acts.Keymap keymap) s = record s { keys = record s.keys { keymap = Some keymap } }
+moved (acts.Repeat repeat) s = record s { keys = record s.keys { repeat = Some repeat } }
 moved (acts.Gone p cause) s = gone p s
 moved (acts.Surface p) s = made p (Surface no_area) s
 moved (acts.Field p) s = made p (Field (new_field p s)) s
@@ -336,9 +334,9 @@ says (acts.Screen size) s = popups_told (record s { screen = size })
 says (acts.Commit f) s =
     commit_told f (taken_by f s) (committing f (taken_by f s) s) ++ popups_where_holds f (field_committed f s)
 says (acts.Key time key state) s = key_told s.acts time key state (route_in key state s)
-says (acts.Mods depressed latched locked group) s = to_grab s.keys.standing (said.Mods s.acts depressed latched locked group)
-says (acts.Keymap format token size) s = to_grab s.keys.standing (said.Keymap format token size)
-says (acts.Repeat rate delay) s = to_grab s.keys.standing (said.Repeat rate delay)
+says (acts.Mods mods) s = to_grab s.keys.standing (said.Mods s.acts mods)
+says (acts.Keymap keymap) s = to_grab s.keys.standing (said.Keymap keymap)
+says (acts.Repeat repeat) s = to_grab s.keys.standing (said.Repeat repeat)
 says (acts.MCommit m serial) s = batch_told m serial s
 says (acts.Registry p role) s = globals_told s.acts role
 says (acts.Sync p) s = synced s.acts p

@@ -6,7 +6,7 @@ ghost use Rattle.relay_core.specs.Kept.{state};
 ghost use Rattle.relay_core.specs.Machine.{made_by, fallen, grabbed, keyed, route_in, moved, says};
 
 use crate::machine::Machine;
-use kbd_grab::{Keymap, Mods, Route};
+use kbd_grab::{Keymap, Mods, Repeat, Route};
 use relay_model::{Label, Said};
 use seat_objects::{Kind, Post, is_number, owner, tell_grab, tell_key, tell_keyboard};
 
@@ -58,44 +58,33 @@ impl Machine {
     }
 
     pub fn set_mods<P: Post>(&mut self, mods: Mods, post: &mut P)
-        ensures state { state self.new ≡ moved (acts.Mods mods.depressed mods.latched mods.locked mods.group) (state self.old) }
-        ensures told { Reached P.may_follow post.old (says (acts.Mods mods.depressed mods.latched mods.locked mods.group) (state self.old)) post.new }
+        ensures state { state self.new ≡ moved (acts.Mods mods) (state self.old) }
+        ensures told { Reached P.may_follow post.old (says (acts.Mods mods) (state self.old)) post.new }
     {
         self.keys.mods(mods);
         tell_grab(
             self.keys.standing(),
             Said::Mods {
                 serial: self.acts,
-                depressed: mods.depressed,
-                latched: mods.latched,
-                locked: mods.locked,
-                group: mods.group,
+                mods,
             },
             post,
         );
     }
 
     pub fn set_keymap<P: Post>(&mut self, keymap: Keymap, post: &mut P)
-        ensures state { state self.new ≡ moved (acts.Keymap keymap.format keymap.token keymap.size) (state self.old) }
-        ensures told { Reached P.may_follow post.old (says (acts.Keymap keymap.format keymap.token keymap.size) (state self.old)) post.new }
+        ensures state { state self.new ≡ moved (acts.Keymap keymap) (state self.old) }
+        ensures told { Reached P.may_follow post.old (says (acts.Keymap keymap) (state self.old)) post.new }
     {
         self.keys.keymap(keymap);
-        tell_grab(
-            self.keys.standing(),
-            Said::Keymap {
-                format: keymap.format,
-                token: keymap.token,
-                size: keymap.size,
-            },
-            post,
-        );
+        tell_grab(self.keys.standing(), Said::Keymap(keymap), post);
     }
 
-    pub fn set_repeat<P: Post>(&mut self, rate: i32, delay: i32, post: &mut P)
-        ensures state { state self.new ≡ moved (acts.Repeat rate delay) (state self.old) }
-        ensures told { Reached P.may_follow post.old (says (acts.Repeat rate delay) (state self.old)) post.new }
+    pub fn set_repeat<P: Post>(&mut self, repeat: Repeat, post: &mut P)
+        ensures state { state self.new ≡ moved (acts.Repeat repeat) (state self.old) }
+        ensures told { Reached P.may_follow post.old (says (acts.Repeat repeat) (state self.old)) post.new }
     {
-        self.keys.repeat(rate, delay);
-        tell_grab(self.keys.standing(), Said::Repeat { rate, delay }, post);
+        self.keys.repeat(repeat);
+        tell_grab(self.keys.standing(), Said::Repeat(repeat), post);
     }
 }

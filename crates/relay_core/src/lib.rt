@@ -10,8 +10,6 @@ mod peers;
 mod popups;
 mod relay;
 mod reserve;
-#[cfg(test)]
-mod tests;
 
 pub use kbd_grab::Route;
 pub use laws::keyboard_law;

@@ -12,7 +12,7 @@ ghost use Rattle.relay_core.specs.Machine.{owner_at, entered_in, is_live_in, is_
 use crate::peers::{tell_error, tell_synced};
 use edit_batch::Pending;
 use field_state::Field;
-use kbd_grab::{Grab, Keymap, Mods, Route};
+use kbd_grab::{Grab, Route};
 use relay_model::{Act, Label, Rect, Size};
 use seat_objects::{
     Kind, NO_AREA, Object, Post, Spare, commit, has_popup, is_method, is_number, is_peer, is_same,
@@ -259,33 +259,9 @@ impl Machine {
             Act::Area { surface, rect } => self.set_area(*surface, *rect, post),
             Act::Screen { size } => self.set_screen(*size, post),
             Act::Key { time, key, state } => return Some(self.turn_key(*time, *key, *state, post)),
-            Act::Mods {
-                depressed,
-                latched,
-                locked,
-                group,
-            } => self.set_mods(
-                Mods {
-                    depressed: *depressed,
-                    latched: *latched,
-                    locked: *locked,
-                    group: *group,
-                },
-                post,
-            ),
-            Act::Keymap {
-                format,
-                token,
-                size,
-            } => self.set_keymap(
-                Keymap {
-                    format: *format,
-                    token: *token,
-                    size: *size,
-                },
-                post,
-            ),
-            Act::Repeat { rate, delay } => self.set_repeat(*rate, *delay, post),
+            Act::Mods(mods) => self.set_mods(*mods, post),
+            Act::Keymap(keymap) => self.set_keymap(*keymap, post),
+            Act::Repeat(repeat) => self.set_repeat(*repeat, post),
             Act::Registry { peer, role } => self.make_registry(*peer, *role, post),
             Act::Sync { peer } => tell_synced(self.acts, *peer, post),
             Act::Seat { peer } => self.make_seat(*peer, post),

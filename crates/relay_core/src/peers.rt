@@ -29,12 +29,10 @@ fn tell_global<P: Post>(registry: Label, name: u32, interface: Interface, post: 
 fn tell_globals<P: Post>(registry: Label, role: Role, post: &mut P)
     ensures { Reached P.may_follow post.old (globals_told registry role) post.new }
 {
-    tell_global(registry, 1, Interface::Compositor, post);
-    tell_global(registry, 2, Interface::Seat, post);
-    match role {
-        Role::App => tell_global(registry, 3, Interface::TextInputManager, post),
-        Role::Method => tell_global(registry, 4, Interface::InputMethodManager, post),
-    }
+    let [(first, compositor), (second, seat), (third, manager)] = role.globals();
+    tell_global(registry, first, compositor, post);
+    tell_global(registry, second, seat, post);
+    tell_global(registry, third, manager, post);
 }
 
 /// Tells the callback of a sync its value, and the peer that its id is free again.

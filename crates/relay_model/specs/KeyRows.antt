@@ -5,7 +5,20 @@ use Rattle.popup_place.specs.declared.geometry.Size.{Size}
 use Rattle.relay_model.specs.declared.act.Act.{Act}
 use Rattle.relay_model.specs.declared.act.Act.TheVariants as acts
 use Rattle.relay_model.specs.declared.said.Said.TheVariants as said
+use Rattle.relay_model.specs.Keys.{Keymap, Repeat, Mods}
 use Rattle.relay_model.specs.Told.{to, told_each}
+
+-- the modifiers with these masks and this layout
+abbrev pub mods : (depressed latched locked group : ℕ) → Mods
+mods depressed latched locked group = record { depressed = depressed; latched = latched; locked = locked; group = group }
+
+-- the keymap with this format, token and size
+abbrev pub keymap : (format token size : ℕ) → Keymap
+keymap format token size = record { format = format; token = token; size = size }
+
+-- 25 keys a second, the first after 600 milliseconds
+abbrev pub repeat : Repeat
+repeat = record { rate = pos 25; delay = pos 600 }
 
 abbrev pub rect : ℕ → ℕ → ℕ → ℕ → Rect
 rect x y width height = record { x = pos x; y = pos y; width = pos width; height = pos height }
@@ -61,11 +74,11 @@ GrabsInTurn =
     told_each []
     (acts.Peer
     ∷ acts.Method 1
-    ∷ acts.Mods 1 2 3 4
-    ∷ acts.Keymap 1 7 90
-    ∷ acts.Repeat (pos 25) (pos 600)
+    ∷ acts.Mods (mods 1 2 3 4)
+    ∷ acts.Keymap (keymap 1 7 90)
+    ∷ acts.Repeat repeat
     ∷ acts.Grab 2
-    ∷ acts.Mods 5 6 7 8
+    ∷ acts.Mods (mods 5 6 7 8)
     ∷ acts.Grab 2
     ∷ acts.Drop 6
     ∷ acts.Key 5 30 1
@@ -76,12 +89,12 @@ GrabsInTurn =
     ∷ []
     ∷ []
     ∷ []
-    ∷ (to 6 (said.Keymap 1 7 90) ∷ to 6 (said.Repeat (pos 25) (pos 600)) ∷ to 6 (said.Mods 6 1 2 3 4) ∷ [])
-    ∷ (to 6 (said.Mods 7 5 6 7 8) ∷ [])
+    ∷ (to 6 (said.Keymap (keymap 1 7 90)) ∷ to 6 (said.Repeat repeat) ∷ to 6 (said.Mods 6 (mods 1 2 3 4)) ∷ [])
+    ∷ (to 6 (said.Mods 7 (mods 5 6 7 8)) ∷ [])
     ∷ []
     ∷ (to 1 (said.DeleteId 6) ∷ [])
     ∷ (to 0 (said.Pass 5 30 1) ∷ [])
-    ∷ (to 11 (said.Keymap 1 7 90) ∷ to 11 (said.Repeat (pos 25) (pos 600)) ∷ to 11 (said.Mods 11 5 6 7 8) ∷ [])
+    ∷ (to 11 (said.Keymap (keymap 1 7 90)) ∷ to 11 (said.Repeat repeat) ∷ to 11 (said.Mods 11 (mods 5 6 7 8)) ∷ [])
     ∷ [])
 
 -- a popup that fits above the cursor rectangle

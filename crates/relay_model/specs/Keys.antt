@@ -1,8 +1,11 @@
 -- The keys of the seat's keyboard, and the grab that has them.
-use Rattle.std.specs.Prelude.{ℕ, ℤ, List, [], ◌∷◌, Bool, false, not, ◌&&◌, ◌==◌, nat_lt, if◌then◌else◌, Option, Some, None, is_none}
+use Rattle.std.specs.Prelude.{ℕ, List, [], ◌∷◌, Bool, false, not, ◌&&◌, ◌==◌, nat_lt, if◌then◌else◌, Option, Some, None, is_none}
 use Rattle.std.specs.List.{count_by, list_any}
 use Rattle.relay_model.specs.declared.act.Act.{Act}
 use Rattle.relay_model.specs.declared.act.Act.TheVariants as acts
+pub use Rattle.kbd_grab.specs.declared.keyboard.Keymap.{Keymap}
+pub use Rattle.kbd_grab.specs.declared.keyboard.Repeat.{Repeat}
+pub use Rattle.kbd_grab.specs.declared.keyboard.Mods.{Mods}
 use Rattle.relay_model.specs.Objects.{next, is_at, is_same, method_of}
 use Rattle.relay_model.specs.Activation.{serving}
 
@@ -83,39 +86,20 @@ key_route log key state =
 abbrev pub is_refused : List Act → ℕ → ℕ → Bool
 is_refused log key state = is_first_press log key state && not (nat_lt (number_down log) 64)
 
--- a keymap: its format, the token of its descriptor, its size in bytes
-pub record Keymap : Type 0 where
-  pub format : ℕ
-  pub token : ℕ
-  pub size : ℕ
-
--- how keys repeat
-pub record Repeat : Type 0 where
-  pub rate : ℤ
-  pub delay : ℤ
-
--- the modifiers: three masks and the layout
-pub record Mods : Type 0 where
-  pub depressed : ℕ
-  pub latched : ℕ
-  pub locked : ℕ
-  pub group : ℕ
-
 -- the keymap that the shell told last
 abbrev pub last_keymap : List Act → Option Keymap
 last_keymap [] = None
-last_keymap (acts.Keymap format token size ∷ older) = Some (record { format = format; token = token; size = size })
+last_keymap (acts.Keymap keymap ∷ older) = Some keymap
 last_keymap (_ ∷ older) = last_keymap older
 
 -- the repeat that the shell told last
 abbrev pub last_repeat : List Act → Option Repeat
 last_repeat [] = None
-last_repeat (acts.Repeat rate delay ∷ older) = Some (record { rate = rate; delay = delay })
+last_repeat (acts.Repeat repeat ∷ older) = Some repeat
 last_repeat (_ ∷ older) = last_repeat older
 
 -- the modifiers that the shell told last
 abbrev pub last_mods : List Act → Option Mods
 last_mods [] = None
-last_mods (acts.Mods depressed latched locked group ∷ older) =
-    Some (record { depressed = depressed; latched = latched; locked = locked; group = group })
+last_mods (acts.Mods mods ∷ older) = Some mods
 last_mods (_ ∷ older) = last_mods older

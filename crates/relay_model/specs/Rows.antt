@@ -287,7 +287,7 @@ CursorInsideACharacter =
     ∷ []
     ∷ []
     ∷ []
-    ∷ (to 5 said.Activate ∷ to 5 (said.Surrounding (195 ∷ 169 ∷ []) (pos 2) (pos 2)) ∷ to 5 (said.ChangeCause 0) ∷ to 5 (said.ContentType 0 0) ∷ to 5 said.MethodDone ∷ [])
+    ∷ (to 5 said.Activate ∷ to 5 (said.Surrounding (195 ∷ 169 ∷ []) 2 2) ∷ to 5 (said.ChangeCause 0) ∷ to 5 (said.ContentType 0 0) ∷ to 5 said.MethodDone ∷ [])
     ∷ [])
 
 -- the focused surface is dropped
@@ -383,8 +383,8 @@ CauseOfOneCommit =
     ∷ []
     ∷ []
     ∷ []
-    ∷ (to 5 said.Activate ∷ to 5 (said.Surrounding (97 ∷ 98 ∷ []) (pos 1) (pos 1)) ∷ to 5 (said.ChangeCause 1) ∷ to 5 (said.ContentType 0 0) ∷ to 5 said.MethodDone ∷ [])
-    ∷ (to 5 (said.Surrounding (97 ∷ 98 ∷ []) (pos 1) (pos 1)) ∷ to 5 (said.ChangeCause 0) ∷ to 5 (said.ContentType 0 0) ∷ to 5 said.MethodDone ∷ [])
+    ∷ (to 5 said.Activate ∷ to 5 (said.Surrounding (97 ∷ 98 ∷ []) 1 1) ∷ to 5 (said.ChangeCause 1) ∷ to 5 (said.ContentType 0 0) ∷ to 5 said.MethodDone ∷ [])
+    ∷ (to 5 (said.Surrounding (97 ∷ 98 ∷ []) 1 1) ∷ to 5 (said.ChangeCause 0) ∷ to 5 (said.ContentType 0 0) ∷ to 5 said.MethodDone ∷ [])
     ∷ [])
 
 -- what was set before the enable

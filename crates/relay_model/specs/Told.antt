@@ -1,5 +1,5 @@
 -- What an act tells.
-use Rattle.std.specs.Prelude.{ℕ, List, [], ◌∷◌, ◌++◌, map, filter, if◌then◌else◌, Option, Some, None, is_some}
+use Rattle.std.specs.Prelude.{ℕ, List, [], ◌∷◌, ◌++◌, map, filter, if◌then◌else◌, Option, Some, None, is_some, nat_abs}
 use Rattle.relay_model.specs.declared.act.Act.{Act}
 use Rattle.relay_model.specs.declared.act.Act.TheVariants.{Field, Method, Popup, Grab, Drop, Focus, Unfocus, Area, Screen, Commit, MCommit, Key, Mods, Keymap, Repeat, Registry, Sync, Seat, Bad}
 use Rattle.relay_model.specs.declared.said.Told.{Told}
@@ -35,11 +35,11 @@ leaves (Focus s) older = each_entered leave older (focus older)
 leaves Unfocus older = each_entered leave older (focus older)
 leaves _ older = []
 
--- the surrounding text and its cause, where one is set
+-- the surrounding text and its cause, where one is set; its cursor and anchor, never negative, are told as plain numbers
 abbrev pub around_said : Option Around → ℕ → List Said
 around_said None cause = []
 around_said (Some around) cause =
-    said.Surrounding around.text around.cursor around.anchor ∷ said.ChangeCause cause ∷ []
+    said.Surrounding around.text (nat_abs around.cursor) (nat_abs around.anchor) ∷ said.ChangeCause cause ∷ []
 
 -- the state of the holder, and the done that ends it
 abbrev pub state_said : State → List Said
@@ -89,16 +89,16 @@ key_told n time key state Refused = []
 
 abbrev pub keymap_said : Option keys.Keymap → List Said
 keymap_said None = []
-keymap_said (Some k) = said.Keymap k.format k.token k.size ∷ []
+keymap_said (Some keymap) = said.Keymap keymap ∷ []
 
 abbrev pub repeat_said : Option keys.Repeat → List Said
 repeat_said None = []
-repeat_said (Some r) = said.Repeat r.rate r.delay ∷ []
+repeat_said (Some repeat) = said.Repeat repeat ∷ []
 
 -- modifiers are told with the number of the act as their serial
 abbrev pub mods_said : ℕ → Option keys.Mods → List Said
 mods_said n None = []
-mods_said n (Some m) = said.Mods n m.depressed m.latched m.locked m.group ∷ []
+mods_said n (Some mods) = said.Mods n mods ∷ []
 
 -- what a grab is told that stands from the act n on: the last keymap, repeat and modifiers, as far as there were any
 abbrev pub keyboard_said : ℕ → List Act → List Said
@@ -125,9 +125,9 @@ own (Screen size) older = each_popup (Screen size ∷ older)
 own (Commit f) older = (if is_at (holder (Commit f ∷ older)) f then each_popup (Commit f ∷ older) else [])
 own (MCommit m serial) older = (if fresh (MCommit m serial) older then to_holder (MCommit m serial) older (holder older) else [])
 own (Key time key state) older = key_told (next older) time key state (key_route older key state)
-own (Mods depressed latched locked group) older = to_grab (standing older) (said.Mods (next older) depressed latched locked group)
-own (Keymap format token size) older = to_grab (standing older) (said.Keymap format token size)
-own (Repeat rate delay) older = to_grab (standing older) (said.Repeat rate delay)
+own (Mods mods) older = to_grab (standing older) (said.Mods (next older) mods)
+own (Keymap keymap) older = to_grab (standing older) (said.Keymap keymap)
+own (Repeat repeat) older = to_grab (standing older) (said.Repeat repeat)
 own (Registry p role) older = globals_told (next older) role
 own (Sync p) older = synced (next older) p
 own (Seat p) older = to (next older) (said.Capabilities 0) ∷ []

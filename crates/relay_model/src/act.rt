@@ -1,6 +1,7 @@
 // What happens on a seat.
 use crate::fault::Fault;
 use crate::role::Role;
+use kbd_grab::{Keymap, Mods, Repeat};
 use popup_place::{Rect, Size};
 use wl_wire::Text;
 
@@ -141,23 +142,11 @@ pub enum Act {
         state: u32,
     },
     /// The modifiers of the seat's keyboard.
-    Mods {
-        depressed: u32,
-        latched: u32,
-        locked: u32,
-        group: u32,
-    },
-    /// The keymap of the seat's keyboard: its format, the token of its descriptor, its size in bytes.
-    Keymap {
-        format: u32,
-        token: u32,
-        size: u32,
-    },
-    /// How keys repeat: characters a second, and milliseconds before the first repeat.
-    Repeat {
-        rate: i32,
-        delay: i32,
-    },
+    Mods(Mods),
+    /// The keymap of the seat's keyboard.
+    Keymap(Keymap),
+    /// How keys repeat.
+    Repeat(Repeat),
     /// `wl_display.get_registry`. The role is the peer's.
     Registry {
         peer: Label,

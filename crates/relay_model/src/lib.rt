@@ -9,6 +9,7 @@ mod said;
 
 pub use act::{Act, EndCause, Label, Word};
 pub use fault::Fault;
+pub use kbd_grab::{Keymap, Mods, Repeat};
 pub use popup_place::{Rect, Size};
 pub use role::Role;
 pub use rows::{hold_rows, session_rows, worked_rows};

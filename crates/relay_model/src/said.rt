@@ -1,6 +1,7 @@
 // What a peer is told.
 use crate::act::Label;
 use crate::fault::Fault;
+use kbd_grab::{Keymap, Mods, Repeat};
 use wl_proto::Interface;
 use wl_wire::Text;
 
@@ -41,8 +42,8 @@ pub enum Said {
     /// `zwp_input_method_v2.surrounding_text`. Cursor and anchor are offsets in bytes.
     Surrounding {
         text: Text,
-        cursor: i32,
-        anchor: i32,
+        cursor: u32,
+        anchor: u32,
     },
     /// `zwp_input_method_v2.text_change_cause`.
     ChangeCause {
@@ -65,11 +66,7 @@ pub enum Said {
         height: i32,
     },
     /// `zwp_input_method_keyboard_grab_v2.keymap`.
-    Keymap {
-        format: u32,
-        token: u32,
-        size: u32,
-    },
+    Keymap(Keymap),
     /// `zwp_input_method_keyboard_grab_v2.key`. The serial is the number of the key's act.
     Key {
         serial: u32,
@@ -80,16 +77,10 @@ pub enum Said {
     /// `zwp_input_method_keyboard_grab_v2.modifiers`. The serial is the number of the act.
     Mods {
         serial: u32,
-        depressed: u32,
-        latched: u32,
-        locked: u32,
-        group: u32,
+        mods: Mods,
     },
     /// `zwp_input_method_keyboard_grab_v2.repeat_info`.
-    Repeat {
-        rate: i32,
-        delay: i32,
-    },
+    Repeat(Repeat),
     /// `wl_registry.global`: the peer may bind the interface under this name.
     Global {
         name: u32,

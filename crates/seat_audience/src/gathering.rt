@@ -131,6 +131,3 @@ impl Gathering {
         self.is_over
     }
 }
-
-#[cfg(test)]
-mod tests;

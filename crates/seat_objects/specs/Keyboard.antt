@@ -1,25 +1,26 @@
 -- What a grab and the shell are told of keys.
-use Rattle.std.specs.Prelude.{ℕ, ℤ, List, [], ◌∷◌, ◌++◌, Option, Some, None}
+use Rattle.std.specs.Prelude.{ℕ, List, [], ◌∷◌, ◌++◌, Option, Some, None}
 use Rattle.relay_model.specs.declared.said.Told.{Told}
 use Rattle.relay_model.specs.declared.said.Said.TheVariants as said
 use Rattle.relay_model.specs.Told.{to}
 use Rattle.kbd_grab.specs.Keyboard.{Keyboard}
 use Rattle.kbd_grab.specs.declared.keyboard.Keymap.{Keymap}
 use Rattle.kbd_grab.specs.declared.keyboard.Mods.{Mods}
+use Rattle.kbd_grab.specs.declared.keyboard.Repeat.{Repeat}
 use Rattle.kbd_grab.specs.declared.keyboard.Route.{Route}
 use Rattle.kbd_grab.specs.declared.keyboard.Route.TheVariants.{ToGrab, Pass, Nowhere, TooMany}
 
 abbrev pub keymap_told : ℕ → Option Keymap → List Told
 keymap_told g None = []
-keymap_told g (Some k) = to g (said.Keymap k.format k.token k.size) ∷ []
+keymap_told g (Some keymap) = to g (said.Keymap keymap) ∷ []
 
-abbrev pub repeat_told : ℕ → Option (ℤ × ℤ) → List Told
+abbrev pub repeat_told : ℕ → Option Repeat → List Told
 repeat_told g None = []
-repeat_told g (Some r) = to g (said.Repeat r.0 r.1) ∷ []
+repeat_told g (Some repeat) = to g (said.Repeat repeat) ∷ []
 
 abbrev pub mods_told : ℕ → Option Mods → List Told
 mods_told g None = []
-mods_told g (Some m) = to g (said.Mods g m.depressed m.latched m.locked m.group) ∷ []
+mods_told g (Some mods) = to g (said.Mods g mods) ∷ []
 
 -- what the grab g is told that stands from its making on
 abbrev pub keyboard_told : ℕ → Keyboard → List Told

@@ -1,5 +1,5 @@
 -- What fields and the serving method are told of a focus, a hold and a batch.
-use Rattle.std.specs.Prelude.{ℕ, List, [], ◌∷◌, ◌++◌, map, ◌&&◌, if◌then◌else◌, Option, Some, None}
+use Rattle.std.specs.Prelude.{ℕ, List, [], ◌∷◌, ◌++◌, map, ◌&&◌, if◌then◌else◌, Option, Some, None, nat_abs}
 use Rattle.relay_model.specs.declared.said.Told.{Told}
 use Rattle.relay_model.specs.declared.said.Said.{Said}
 use Rattle.relay_model.specs.declared.said.Said.TheVariants as said
@@ -31,7 +31,7 @@ text_around (Some around) = around.text
 abbrev pub around_told : ℕ → Option field.Surrounding → ℕ → List Told
 around_told m None cause = []
 around_told m (Some around) cause =
-    to m (said.Surrounding around.text around.cursor around.anchor) ∷ to m (said.ChangeCause cause) ∷ []
+    to m (said.Surrounding around.text (nat_abs around.cursor) (nat_abs around.anchor)) ∷ to m (said.ChangeCause cause) ∷ []
 
 -- the state, and the done that ends it
 abbrev pub state_told : ℕ → field.State → List Told

@@ -5,8 +5,6 @@ mod asking;
 mod object;
 mod post;
 mod spare;
-#[cfg(test)]
-mod tests;
 mod told;
 
 pub use object::{

@@ -71,8 +71,8 @@ fn tell_around<P: Post>(method: Label, field: &Field, text: Text, post: &mut P)
             to: method,
             event: Said::Surrounding {
                 text,
-                cursor,
-                anchor,
+                cursor: cursor.unsigned_abs(),
+                anchor: anchor.unsigned_abs(),
             },
         });
         post.tell(&Told {

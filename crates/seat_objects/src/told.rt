@@ -5,7 +5,7 @@ ghost use Rattle.seat_objects.specs.Reached.{Reached};
 ghost use Rattle.seat_objects.specs.Keyboard.{keymap_told, repeat_told, mods_told, keyboard_told, key_told};
 
 use crate::post::Post;
-use kbd_grab::{Grab, Keymap, Mods, Route};
+use kbd_grab::{Grab, Keymap, Mods, Repeat, Route};
 use popup_place::Placed;
 use relay_model::{Label, Said, Told};
 
@@ -28,22 +28,18 @@ fn tell_keymap<P: Post>(grab: Label, keymap: Option<Keymap>, post: &mut P)
     if let Some(keymap) = keymap {
         post.tell(&Told {
             to: grab,
-            event: Said::Keymap {
-                format: keymap.format,
-                token: keymap.token,
-                size: keymap.size,
-            },
+            event: Said::Keymap(keymap),
         });
     }
 }
 
-fn tell_repeat<P: Post>(grab: Label, repeat: Option<(i32, i32)>, post: &mut P)
+fn tell_repeat<P: Post>(grab: Label, repeat: Option<Repeat>, post: &mut P)
     ensures { Reached P.may_follow post.old (repeat_told grab repeat) post.new }
 {
-    if let Some((rate, delay)) = repeat {
+    if let Some(repeat) = repeat {
         post.tell(&Told {
             to: grab,
-            event: Said::Repeat { rate, delay },
+            event: Said::Repeat(repeat),
         });
     }
 }
@@ -54,13 +50,7 @@ fn tell_mods<P: Post>(grab: Label, mods: Option<Mods>, post: &mut P)
     if let Some(mods) = mods {
         post.tell(&Told {
             to: grab,
-            event: Said::Mods {
-                serial: grab,
-                depressed: mods.depressed,
-                latched: mods.latched,
-                locked: mods.locked,
-                group: mods.group,
-            },
+            event: Said::Mods { serial: grab, mods },
         });
     }
 }

@@ -3,8 +3,6 @@
 
 mod laws;
 mod printer;
-#[cfg(test)]
-mod tests;
 
 pub use laws::{text_from_the_beginning, watched_in_parts};
 pub use printer::Printer;

@@ -6,6 +6,3 @@ mod step;
 
 pub use limits::{ENTRY_LIMIT, Limits, STORE_LIMIT};
 pub use step::{PeerStep, ShellStep, Step};
-
-#[cfg(test)]
-mod tests;

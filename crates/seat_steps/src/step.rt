@@ -1,5 +1,5 @@
 // The steps of a session.
-use relay_model::{Rect, Role, Size};
+use relay_model::{Keymap, Mods, Rect, Repeat, Role, Size};
 use std::alloc::Global;
 use wio_core::NoMemory;
 use wl_wire::Bytes;
@@ -33,47 +33,21 @@ pub enum PeerStep {
 #[derive(Clone, Copy, Debug, PartialEq, Eq)]
 pub enum ShellStep {
     /// The keyboard focus goes to a surface.
-    Focus {
-        peer: u32,
-        id: u32,
-    },
+    Focus { peer: u32, id: u32 },
     /// The keyboard focus goes away.
     Unfocus,
     /// Where a surface is on the screen. Pixels; the size isn't negative.
-    Area {
-        peer: u32,
-        id: u32,
-        rect: Rect,
-    },
+    Area { peer: u32, id: u32, rect: Rect },
     /// How large the screen is. Pixels; not negative.
-    Screen {
-        size: Size,
-    },
+    Screen { size: Size },
     /// A key of the seat's keyboard: state 0 is released, 1 pressed. The time is in milliseconds.
-    Key {
-        time: u32,
-        key: u32,
-        state: u32,
-    },
+    Key { time: u32, key: u32, state: u32 },
     /// The modifiers of the seat's keyboard.
-    Mods {
-        depressed: u32,
-        latched: u32,
-        locked: u32,
-        group: u32,
-    },
-    /// The keymap of the seat's keyboard: its format, the token of its descriptor, its size in
-    /// bytes.
-    Keymap {
-        format: u32,
-        token: u32,
-        size: u32,
-    },
-    /// How keys repeat: characters a second, and milliseconds before the first repeat.
-    Repeat {
-        rate: i32,
-        delay: i32,
-    },
+    Mods(Mods),
+    /// The keymap of the seat's keyboard.
+    Keymap(Keymap),
+    /// How keys repeat.
+    Repeat(Repeat),
 }
 
 impl PeerStep {

@@ -156,26 +156,8 @@ pub fn shell_act(step: &ShellStep, surface: Option<Label>) -> Act
         ShellStep::Area { rect, .. } => area_act(surface, rect),
         ShellStep::Screen { size } => Act::Screen { size },
         ShellStep::Key { time, key, state } => Act::Key { time, key, state },
-        ShellStep::Mods {
-            depressed,
-            latched,
-            locked,
-            group,
-        } => Act::Mods {
-            depressed,
-            latched,
-            locked,
-            group,
-        },
-        ShellStep::Keymap {
-            format,
-            token,
-            size,
-        } => Act::Keymap {
-            format,
-            token,
-            size,
-        },
-        ShellStep::Repeat { rate, delay } => Act::Repeat { rate, delay },
+        ShellStep::Mods(mods) => Act::Mods(mods),
+        ShellStep::Keymap(keymap) => Act::Keymap(keymap),
+        ShellStep::Repeat(repeat) => Act::Repeat(repeat),
     }
 }

@@ -1,7 +1,5 @@
 // A thing told as an event of the wire.
 ghost use Rattle.std.specs.Prelude.{◌≡◌};
-ghost use Rattle.wl_proto.specs.Grammar.{word};
-ghost use Rattle.broker_model.specs.Groups.{plain_word};
 ghost use Rattle.seat_wire.specs.Events.{named, IsEventOf, IsTokenOf};
 
 use relay_model::{Label, Said};
@@ -45,7 +43,7 @@ pub fn token_of(said: &Said) -> Option<u32>
     ensures { IsTokenOf said.now result }
 {
     match said {
-        Said::Keymap { token, .. } => Some(*token),
+        Said::Keymap(keymap) => Some(keymap.token),
         Said::Enter { .. }
         | Said::Leave { .. }
         | Said::DeleteId { .. }
@@ -71,13 +69,6 @@ pub fn token_of(said: &Said) -> Option<u32>
         | Said::Pass { .. }
         | Said::Placed { .. } => None,
     }
-}
-
-// An offset as the wire has it, without a sign. A negative one counts as 0.
-fn plain(offset: i32) -> u32
-    ensures { word result ≡ plain_word offset }
-{
-    if offset < 0 { 0 } else { offset as u32 }
 }
 
 /// The event that says what is told, with this id for the object that `named` finds. None for what
@@ -109,8 +100,8 @@ pub fn event_of<'a>(said: &'a Said, id: u32) -> Option<Event<'a>>
             anchor,
         } => Event::SurroundingText {
             text: text.as_str(),
-            cursor: plain(*cursor),
-            anchor: plain(*anchor),
+            cursor: *cursor,
+            anchor: *anchor,
         },
         Said::ChangeCause { cause } => Event::TextChangeCause { cause: *cause },
         Said::ContentType { hint, purpose } => Event::ContentType {
@@ -130,14 +121,10 @@ pub fn event_of<'a>(said: &'a Said, id: u32) -> Option<Event<'a>>
             width: *width,
             height: *height,
         },
-        Said::Keymap {
-            format,
-            token,
-            size,
-        } => Event::Keymap {
-            format: *format,
-            token: *token,
-            size: *size,
+        Said::Keymap(keymap) => Event::Keymap {
+            format: keymap.format,
+            token: keymap.token,
+            size: keymap.size,
         },
         Said::Key {
             serial,
@@ -150,22 +137,16 @@ pub fn event_of<'a>(said: &'a Said, id: u32) -> Option<Event<'a>>
             key: *key,
             state: *state,
         },
-        Said::Mods {
-            serial,
-            depressed,
-            latched,
-            locked,
-            group,
-        } => Event::Modifiers {
+        Said::Mods { serial, mods } => Event::Modifiers {
             serial: *serial,
-            depressed: *depressed,
-            latched: *latched,
-            locked: *locked,
-            group: *group,
+            depressed: mods.depressed,
+            latched: mods.latched,
+            locked: mods.locked,
+            group: mods.group,
         },
-        Said::Repeat { rate, delay } => Event::RepeatInfo {
-            rate: *rate,
-            delay: *delay,
+        Said::Repeat(repeat) => Event::RepeatInfo {
+            rate: repeat.rate,
+            delay: repeat.delay,
         },
         Said::Global {
             name,

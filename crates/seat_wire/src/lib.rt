@@ -10,6 +10,3 @@ pub use acts::shell_act;
 pub use events::{event_of, named, token_of};
 pub use meaning::{Meaning, Sender, meaning_of};
 pub use requests::Argument;
-
-#[cfg(test)]
-mod tests;

@@ -95,14 +95,7 @@ pub(crate) fn new_object(request: &Request) -> Option<Argument>
 fn is_offered(role: Role, name: u32, text: &str) -> bool
     ensures { result ≡ is_offered role name text.now }
 {
-    let interface = match (role, name) {
-        (_, 1) => Interface::Compositor,
-        (_, 2) => Interface::Seat,
-        (Role::App, 3) => Interface::TextInputManager,
-        (Role::Method, 4) => Interface::InputMethodManager,
-        _ => return false,
-    };
-    interface.name() == text
+    role.globals().iter().any(|(offered, interface)| *offered == name && interface.name() == text)
 }
 
 /// The fault of the request alone: a bind of what isn't offered, what the seat lacks, or a popup on

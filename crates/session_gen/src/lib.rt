@@ -6,7 +6,5 @@ mod letters;
 mod rows;
 mod sending;
 mod setup;
-#[cfg(test)]
-mod tests;
 
 pub use generator::{Gen, STEPS};

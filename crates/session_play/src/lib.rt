@@ -5,8 +5,6 @@ mod bytes;
 mod laws;
 mod player;
 mod session;
-#[cfg(test)]
-mod tests;
 mod unread;
 
 pub use broker_core::{Journal, Kept, Watch};

@@ -13,9 +13,9 @@ shell_asked shells.Unfocus h = tt
 shell_asked (shells.Area p i r) h = (h.2.2, h.2.3)
 shell_asked (shells.Screen z) h = h
 shell_asked (shells.Key time key state) h = h.2
-shell_asked (shells.Mods depressed latched locked group) h = tt
-shell_asked (shells.Keymap format token size) h = tt
-shell_asked (shells.Repeat rate delay) h = tt
+shell_asked (shells.Mods mods) h = tt
+shell_asked (shells.Keymap keymap) h = tt
+shell_asked (shells.Repeat repeat) h = tt
 
 pub line_asked : (line : SessionLine) → HasSessionLine line → IsSessionLine line
 line_asked (sessions.Join role) h = tt

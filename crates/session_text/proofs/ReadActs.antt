@@ -44,7 +44,7 @@ three_sound k a b act e =
     read_two numbers numbers (codes "cause") acts.Cause k a b _ act (λ f c. refl) (λ f c h i. (h, i)) e (λ e.
     read_two numbers (texts text_limit) (codes "mstring") acts.MString k a b _ act (λ m t. refl) (λ m t h i. (h, i)) e (λ e.
     read_two numbers numbers (codes "mcommit") acts.MCommit k a b _ act (λ m s. refl) (λ m s h i. (h, i)) e (λ e.
-    read_two signeds signeds (codes "repeat") acts.Repeat k a b _ act (λ r d. refl) (λ r d h i. (h, i)) e (λ e. absurd (cc e)))))))
+    read_two signeds signeds (codes "repeat") (λ r d. acts.Repeat (record { rate = r; delay = d })) k a b _ act (λ r d. refl) (λ r d h i. (h, i)) e (λ e. absurd (cc e)))))))
 
 four_sound : (k a b c : List ℕ) (act : Act) → four_words k a b c ≡ Some act → IsReadAct (k ∷ a ∷ b ∷ c ∷ []) act
 unfolding four_words
@@ -56,7 +56,7 @@ four_sound k a b c act e =
     arm k (codes "key") _ _ act e (λ is e. bound numbers a _ act e (λ time h is1 e. bound numbers b _ act e (λ key i is2 e. bound states c _ act e (λ state j is3 e.
     made _ (acts.Key time key state) act e (rw (is, is1, is2, is3) refl) (h, i, j))))) (λ e.
     arm k (codes "keymap") _ _ act e (λ is e. bound numbers a _ act e (λ format h is1 e. bound numbers b _ act e (λ token i is2 e. bound numbers c _ act e (λ size j is3 e.
-    made _ (acts.Keymap format token size) act e (rw (is, is1, is2, is3) refl) (h, i, j))))) (λ e. absurd (cc e)))))
+    made _ (acts.Keymap (record { format = format; token = token; size = size })) act e (rw (is, is1, is2, is3) refl) (h, i, j))))) (λ e. absurd (cc e)))))
 
 five_sound : (k a b c d : List ℕ) (act : Act) → five_words k a b c d ≡ Some act → IsReadAct (k ∷ a ∷ b ∷ c ∷ d ∷ []) act
 unfolding five_words
@@ -66,7 +66,7 @@ five_sound k a b c d act e =
     arm k (codes "mpreedit") _ _ act e (λ is e. bound numbers a _ act e (λ m h is1 e. bound (texts cursor_text_limit) b _ act e (λ text i is2 e. bound signeds c _ act e (λ begin j is3 e. bound signeds d _ act e (λ end l is4 e.
     made _ (acts.MPreedit m text begin end) act e (rw (is, is1, is2, is3, is4) refl) (h, i, j, l)))))) (λ e.
     arm k (codes "mods") _ _ act e (λ is e. bound numbers a _ act e (λ depressed h is1 e. bound numbers b _ act e (λ latched i is2 e. bound numbers c _ act e (λ locked j is3 e. bound numbers d _ act e (λ group l is4 e.
-    made _ (acts.Mods depressed latched locked group) act e (rw (is, is1, is2, is3, is4) refl) (h, i, j, l)))))) (λ e. absurd (cc e))))
+    made _ (acts.Mods (record { depressed = depressed; latched = latched; locked = locked; group = group })) act e (rw (is, is1, is2, is3, is4) refl) (h, i, j, l)))))) (λ e. absurd (cc e))))
 
 six_sound : (k a b c d f : List ℕ) (act : Act) → six_words k a b c d f ≡ Some act → IsReadAct (k ∷ a ∷ b ∷ c ∷ d ∷ f ∷ []) act
 unfolding six_words

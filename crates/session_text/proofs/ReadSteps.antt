@@ -31,7 +31,7 @@ unfolding three_shell_words
 three_shell k a b step e =
     read_two numbers numbers (codes "focus") shells.Focus k a b _ step (λ p i. refl) (λ p i h j. (h, j)) e (λ e.
     read_two sizes sizes (codes "screen") (λ w h. shells.Screen (size w h)) k a b _ step (λ w h. refl) (λ w h i j. (i, j)) e (λ e.
-    read_two signeds signeds (codes "repeat") shells.Repeat k a b _ step (λ r d. refl) (λ r d h i. (h, i)) e (λ e. absurd (cc e))))
+    read_two signeds signeds (codes "repeat") (λ r d. shells.Repeat (record { rate = r; delay = d })) k a b _ step (λ r d. refl) (λ r d h i. (h, i)) e (λ e. absurd (cc e))))
 
 four_shell : (k a b c : List ℕ) (step : ShellStep) → four_shell_words k a b c ≡ Some step → IsReadShell (k ∷ a ∷ b ∷ c ∷ []) step
 unfolding four_shell_words
@@ -39,13 +39,13 @@ four_shell k a b c step e =
     arm k (codes "key") _ _ step e (λ is e. bound numbers a _ step e (λ time h is1 e. bound numbers b _ step e (λ key i is2 e. bound states c _ step e (λ state j is3 e.
     made _ (shells.Key time key state) step e (rw (is, is1, is2, is3) refl) (h, i, j))))) (λ e.
     arm k (codes "keymap") _ _ step e (λ is e. bound numbers a _ step e (λ format h is1 e. bound numbers b _ step e (λ token i is2 e. bound numbers c _ step e (λ size j is3 e.
-    made _ (shells.Keymap format token size) step e (rw (is, is1, is2, is3) refl) (h, i, j))))) (λ e. absurd (cc e)))
+    made _ (shells.Keymap (record { format = format; token = token; size = size })) step e (rw (is, is1, is2, is3) refl) (h, i, j))))) (λ e. absurd (cc e)))
 
 five_shell : (k a b c d : List ℕ) (step : ShellStep) → five_shell_words k a b c d ≡ Some step → IsReadShell (k ∷ a ∷ b ∷ c ∷ d ∷ []) step
 unfolding five_shell_words
 five_shell k a b c d step e =
     arm k (codes "mods") _ _ step e (λ is e. bound numbers a _ step e (λ depressed h is1 e. bound numbers b _ step e (λ latched i is2 e. bound numbers c _ step e (λ locked j is3 e. bound numbers d _ step e (λ group l is4 e.
-    made _ (shells.Mods depressed latched locked group) step e (rw (is, is1, is2, is3, is4) refl) (h, i, j, l)))))) (λ e. absurd (cc e))
+    made _ (shells.Mods (record { depressed = depressed; latched = latched; locked = locked; group = group })) step e (rw (is, is1, is2, is3, is4) refl) (h, i, j, l)))))) (λ e. absurd (cc e))
 
 seven_shell : (k a b c d f g : List ℕ) (step : ShellStep) → seven_shell_words k a b c d f g ≡ Some step → IsReadShell (k ∷ a ∷ b ∷ c ∷ d ∷ f ∷ g ∷ []) step
 unfolding seven_shell_words

@@ -37,9 +37,9 @@ parts (acts.MPreedit m text begin end) h = named (codes "mpreedit") _ _ (more nu
 parts (acts.MDelete m before after) h = named (codes "mdelete") _ _ (more numbers m h.0 _ _ (more numbers before h.1 _ _ (more numbers after h.2 _ _ none))) refl
 parts (acts.MCommit m serial) h = with_two numbers numbers (codes "mcommit") m serial h.0 h.1 refl
 parts (acts.Key time key state) h = named (codes "key") _ _ (more numbers time h.0 _ _ (more numbers key h.1 _ _ (more states state h.2 _ _ none))) refl
-parts (acts.Mods depressed latched locked group) h = named (codes "mods") _ _ (more numbers depressed h.0 _ _ (more numbers latched h.1 _ _ (more numbers locked h.2 _ _ (more numbers group h.3 _ _ none)))) refl
-parts (acts.Keymap format token size) h = named (codes "keymap") _ _ (more numbers format h.0 _ _ (more numbers token h.1 _ _ (more numbers size h.2 _ _ none))) refl
-parts (acts.Repeat rate delay) h = with_two signeds signeds (codes "repeat") rate delay h.0 h.1 refl
+parts (acts.Mods mods) h = named (codes "mods") _ _ (more numbers mods.depressed h.0 _ _ (more numbers mods.latched h.1 _ _ (more numbers mods.locked h.2 _ _ (more numbers mods.group h.3 _ _ none)))) refl
+parts (acts.Keymap keymap) h = named (codes "keymap") _ _ (more numbers keymap.format h.0 _ _ (more numbers keymap.token h.1 _ _ (more numbers keymap.size h.2 _ _ none))) refl
+parts (acts.Repeat repeat) h = with_two signeds signeds (codes "repeat") repeat.rate repeat.delay h.0 h.1 refl
 parts _ h = absurd h
 
 -- ---- the words of an act are read as that act
@@ -70,7 +70,7 @@ act_complete (acts.MPreedit m text begin end) h = (refl, rw (numbers.complete m 
 act_complete (acts.MDelete m before after) h = (refl, rw (numbers.complete m h.0) (rw (numbers.complete before h.1) (rw (numbers.complete after h.2) refl)))
 act_complete (acts.MCommit m serial) h = (refl, rw (numbers.complete m h.0) (rw (numbers.complete serial h.1) refl))
 act_complete (acts.Key time key state) h = (refl, rw (numbers.complete time h.0) (rw (numbers.complete key h.1) (rw (states.complete state h.2) refl)))
-act_complete (acts.Mods depressed latched locked group) h = (refl, rw (numbers.complete depressed h.0) (rw (numbers.complete latched h.1) (rw (numbers.complete locked h.2) (rw (numbers.complete group h.3) refl))))
-act_complete (acts.Keymap format token size) h = (refl, rw (numbers.complete format h.0) (rw (numbers.complete token h.1) (rw (numbers.complete size h.2) refl)))
-act_complete (acts.Repeat rate delay) h = (refl, rw (signeds.complete rate h.0) (rw (signeds.complete delay h.1) refl))
+act_complete (acts.Mods mods) h = (refl, rw (numbers.complete mods.depressed h.0) (rw (numbers.complete mods.latched h.1) (rw (numbers.complete mods.locked h.2) (rw (numbers.complete mods.group h.3) refl))))
+act_complete (acts.Keymap keymap) h = (refl, rw (numbers.complete keymap.format h.0) (rw (numbers.complete keymap.token h.1) (rw (numbers.complete keymap.size h.2) refl)))
+act_complete (acts.Repeat repeat) h = (refl, rw (signeds.complete repeat.rate h.0) (rw (signeds.complete repeat.delay h.1) refl))
 act_complete _ h = absurd h

@@ -34,9 +34,9 @@ shell_parts shells.Unfocus h = named (codes "unfocus") [] 0 none refl
 shell_parts (shells.Area p i r) h = named (codes "area") _ _ (more numbers p h.0 _ _ (more numbers i h.1 _ _ (more signeds r.x h.2.0 _ _ (more signeds r.y h.2.1 _ _ (more sizes r.width h.2.2 _ _ (more sizes r.height h.2.3 _ _ none)))))) refl
 shell_parts (shells.Screen z) h = with_two sizes sizes (codes "screen") z.width z.height h.0 h.1 refl
 shell_parts (shells.Key time key state) h = named (codes "key") _ _ (more numbers time h.0 _ _ (more numbers key h.1 _ _ (more states state h.2 _ _ none))) refl
-shell_parts (shells.Mods depressed latched locked group) h = named (codes "mods") _ _ (more numbers depressed h.0 _ _ (more numbers latched h.1 _ _ (more numbers locked h.2 _ _ (more numbers group h.3 _ _ none)))) refl
-shell_parts (shells.Keymap format token size) h = named (codes "keymap") _ _ (more numbers format h.0 _ _ (more numbers token h.1 _ _ (more numbers size h.2 _ _ none))) refl
-shell_parts (shells.Repeat rate delay) h = with_two signeds signeds (codes "repeat") rate delay h.0 h.1 refl
+shell_parts (shells.Mods mods) h = named (codes "mods") _ _ (more numbers mods.depressed h.0 _ _ (more numbers mods.latched h.1 _ _ (more numbers mods.locked h.2 _ _ (more numbers mods.group h.3 _ _ none)))) refl
+shell_parts (shells.Keymap keymap) h = named (codes "keymap") _ _ (more numbers keymap.format h.0 _ _ (more numbers keymap.token h.1 _ _ (more numbers keymap.size h.2 _ _ none))) refl
+shell_parts (shells.Repeat repeat) h = with_two signeds signeds (codes "repeat") repeat.rate repeat.delay h.0 h.1 refl
 
 pub session_parts : (line : SessionLine) → HasSessionLine line → Parts (session_words line)
 session_parts (sessions.Join role) h = with_one roles (codes "join") role tt refl
@@ -59,9 +59,9 @@ shell_complete shells.Unfocus h = refl
 shell_complete (shells.Area p i r) h = rw (numbers.complete p h.0) (rw (numbers.complete i h.1) (rw (signeds.complete r.x h.2.0) (rw (signeds.complete r.y h.2.1) (rw (sizes.complete r.width h.2.2) (rw (sizes.complete r.height h.2.3) refl)))))
 shell_complete (shells.Screen z) h = rw (sizes.complete z.width h.0) (rw (sizes.complete z.height h.1) refl)
 shell_complete (shells.Key time key state) h = rw (numbers.complete time h.0) (rw (numbers.complete key h.1) (rw (states.complete state h.2) refl))
-shell_complete (shells.Mods depressed latched locked group) h = rw (numbers.complete depressed h.0) (rw (numbers.complete latched h.1) (rw (numbers.complete locked h.2) (rw (numbers.complete group h.3) refl)))
-shell_complete (shells.Keymap format token size) h = rw (numbers.complete format h.0) (rw (numbers.complete token h.1) (rw (numbers.complete size h.2) refl))
-shell_complete (shells.Repeat rate delay) h = rw (signeds.complete rate h.0) (rw (signeds.complete delay h.1) refl)
+shell_complete (shells.Mods mods) h = rw (numbers.complete mods.depressed h.0) (rw (numbers.complete mods.latched h.1) (rw (numbers.complete mods.locked h.2) (rw (numbers.complete mods.group h.3) refl)))
+shell_complete (shells.Keymap keymap) h = rw (numbers.complete keymap.format h.0) (rw (numbers.complete keymap.token h.1) (rw (numbers.complete keymap.size h.2) refl))
+shell_complete (shells.Repeat repeat) h = rw (signeds.complete repeat.rate h.0) (rw (signeds.complete repeat.delay h.1) refl)
 
 pub session_complete : (line : SessionLine) → HasSessionLine line → session_of (session_words line) ≡ Some (lines.Session line)
 unfolding one_session_word two_session_words three_session_words four_session_words
@@ -74,9 +74,9 @@ session_complete (sessions.Shell shells.Unfocus) h = ap in_session (shell_comple
 session_complete (sessions.Shell (shells.Area p i r)) h = ap in_session (shell_complete (shells.Area p i r) h)
 session_complete (sessions.Shell (shells.Screen z)) h = ap in_session (shell_complete (shells.Screen z) h)
 session_complete (sessions.Shell (shells.Key time key state)) h = ap in_session (shell_complete (shells.Key time key state) h)
-session_complete (sessions.Shell (shells.Mods depressed latched locked group)) h = ap in_session (shell_complete (shells.Mods depressed latched locked group) h)
-session_complete (sessions.Shell (shells.Keymap format token size)) h = ap in_session (shell_complete (shells.Keymap format token size) h)
-session_complete (sessions.Shell (shells.Repeat rate delay)) h = ap in_session (shell_complete (shells.Repeat rate delay) h)
+session_complete (sessions.Shell (shells.Mods mods)) h = ap in_session (shell_complete (shells.Mods mods) h)
+session_complete (sessions.Shell (shells.Keymap keymap)) h = ap in_session (shell_complete (shells.Keymap keymap) h)
+session_complete (sessions.Shell (shells.Repeat repeat)) h = ap in_session (shell_complete (shells.Repeat repeat) h)
 
 pub header_complete : (limits : Limits) → IsLimits limits → session_of (header_words limits) ≡ Some (lines.Header limits)
 unfolding four_session_words header_of

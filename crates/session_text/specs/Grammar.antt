@@ -42,10 +42,10 @@ act_words (acts.MPreedit m text begin end) =
 act_words (acts.MDelete m before after) = codes "mdelete" ∷ decimal m ∷ decimal before ∷ decimal after ∷ []
 act_words (acts.MCommit m serial) = codes "mcommit" ∷ decimal m ∷ decimal serial ∷ []
 act_words (acts.Key time key state) = codes "key" ∷ decimal time ∷ decimal key ∷ decimal state ∷ []
-act_words (acts.Mods depressed latched locked group) =
-    codes "mods" ∷ decimal depressed ∷ decimal latched ∷ decimal locked ∷ decimal group ∷ []
-act_words (acts.Keymap format token size) = codes "keymap" ∷ decimal format ∷ decimal token ∷ decimal size ∷ []
-act_words (acts.Repeat rate delay) = codes "repeat" ∷ signed_decimal rate ∷ signed_decimal delay ∷ []
+act_words (acts.Mods mods) =
+    codes "mods" ∷ decimal mods.depressed ∷ decimal mods.latched ∷ decimal mods.locked ∷ decimal mods.group ∷ []
+act_words (acts.Keymap keymap) = codes "keymap" ∷ decimal keymap.format ∷ decimal keymap.token ∷ decimal keymap.size ∷ []
+act_words (acts.Repeat repeat) = codes "repeat" ∷ signed_decimal repeat.rate ∷ signed_decimal repeat.delay ∷ []
 act_words _ = []
 
 abbrev pub line_words : Line → List (List ℕ)
@@ -87,10 +87,10 @@ HasLine (acts.MPreedit m text begin end) =
 HasLine (acts.MDelete m before after) = (m < 2 ^ 32) × (before < 2 ^ 32) × (after < 2 ^ 32)
 HasLine (acts.MCommit m serial) = (m < 2 ^ 32) × (serial < 2 ^ 32)
 HasLine (acts.Key time key state) = (time < 2 ^ 32) × (key < 2 ^ 32) × (state ≤ 1)
-HasLine (acts.Mods depressed latched locked group) =
-    (depressed < 2 ^ 32) × (latched < 2 ^ 32) × (locked < 2 ^ 32) × (group < 2 ^ 32)
-HasLine (acts.Keymap format token size) = (format < 2 ^ 32) × (token < 2 ^ 32) × (size < 2 ^ 32)
-HasLine (acts.Repeat rate delay) = IsTrue (fits_i32 rate) × IsTrue (fits_i32 delay)
+HasLine (acts.Mods mods) =
+    (mods.depressed < 2 ^ 32) × (mods.latched < 2 ^ 32) × (mods.locked < 2 ^ 32) × (mods.group < 2 ^ 32)
+HasLine (acts.Keymap keymap) = (keymap.format < 2 ^ 32) × (keymap.token < 2 ^ 32) × (keymap.size < 2 ^ 32)
+HasLine (acts.Repeat repeat) = IsTrue (fits_i32 repeat.rate) × IsTrue (fits_i32 repeat.delay)
 HasLine _ = ⊥
 
 -- the line is one of the form

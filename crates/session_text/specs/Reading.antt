@@ -45,7 +45,7 @@ three_words k a b =
     else if bytes_eq k (codes "cause") then number_of a >>= (λ f. number_of b >>= (λ cause. Some (acts.Cause f cause)))
     else if bytes_eq k (codes "mstring") then number_of a >>= (λ m. text_of text_limit b >>= (λ text. Some (acts.MString m text)))
     else if bytes_eq k (codes "mcommit") then number_of a >>= (λ m. number_of b >>= (λ serial. Some (acts.MCommit m serial)))
-    else if bytes_eq k (codes "repeat") then signed_of a >>= (λ rate. signed_of b >>= (λ delay. Some (acts.Repeat rate delay)))
+    else if bytes_eq k (codes "repeat") then signed_of a >>= (λ rate. signed_of b >>= (λ delay. Some (acts.Repeat (record { rate = rate; delay = delay }))))
     else None
 
 unfoldable pub four_words : List ℕ → List ℕ → List ℕ → List ℕ → Option Act
@@ -61,7 +61,7 @@ four_words k a b c =
     Some (acts.Key time key state))))
     else if bytes_eq k (codes "keymap") then
     number_of a >>= (λ format. number_of b >>= (λ token. number_of c >>= (λ size.
-    Some (acts.Keymap format token size))))
+    Some (acts.Keymap (record { format = format; token = token; size = size })))))
     else None
 
 unfoldable pub five_words : List ℕ → List ℕ → List ℕ → List ℕ → List ℕ → Option Act
@@ -76,7 +76,7 @@ five_words k a b c d =
     Some (acts.MPreedit m text begin end)))))
     else if bytes_eq k (codes "mods") then
     number_of a >>= (λ depressed. number_of b >>= (λ latched. number_of c >>= (λ locked. number_of d >>= (λ group.
-    Some (acts.Mods depressed latched locked group)))))
+    Some (acts.Mods (record { depressed = depressed; latched = latched; locked = locked; group = group }))))))
     else None
 
 unfoldable pub six_words : List ℕ → List ℕ → List ℕ → List ℕ → List ℕ → List ℕ → Option Act

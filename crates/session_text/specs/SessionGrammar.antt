@@ -16,10 +16,10 @@ shell_words shells.Unfocus = codes "unfocus" ∷ []
 shell_words (shells.Area p i rect) = codes "area" ∷ decimal p ∷ decimal i ∷ rect_words rect
 shell_words (shells.Screen size) = codes "screen" ∷ signed_decimal size.width ∷ signed_decimal size.height ∷ []
 shell_words (shells.Key time key state) = codes "key" ∷ decimal time ∷ decimal key ∷ decimal state ∷ []
-shell_words (shells.Mods depressed latched locked group) =
-    codes "mods" ∷ decimal depressed ∷ decimal latched ∷ decimal locked ∷ decimal group ∷ []
-shell_words (shells.Keymap format token size) = codes "keymap" ∷ decimal format ∷ decimal token ∷ decimal size ∷ []
-shell_words (shells.Repeat rate delay) = codes "repeat" ∷ signed_decimal rate ∷ signed_decimal delay ∷ []
+shell_words (shells.Mods mods) =
+    codes "mods" ∷ decimal mods.depressed ∷ decimal mods.latched ∷ decimal mods.locked ∷ decimal mods.group ∷ []
+shell_words (shells.Keymap keymap) = codes "keymap" ∷ decimal keymap.format ∷ decimal keymap.token ∷ decimal keymap.size ∷ []
+shell_words (shells.Repeat repeat) = codes "repeat" ∷ signed_decimal repeat.rate ∷ signed_decimal repeat.delay ∷ []
 
 abbrev pub session_words : SessionLine → List (List ℕ)
 session_words (sessions.Join role) = codes "join" ∷ role_word role ∷ []
@@ -38,10 +38,10 @@ HasShellLine shells.Unfocus = Unit {0}
 HasShellLine (shells.Area p i rect) = (p < 2 ^ 32) × (i < 2 ^ 32) × IsArea rect
 HasShellLine (shells.Screen size) = IsTrue (is_size size.width) × IsTrue (is_size size.height)
 HasShellLine (shells.Key time key state) = (time < 2 ^ 32) × (key < 2 ^ 32) × (state ≤ 1)
-HasShellLine (shells.Mods depressed latched locked group) =
-    (depressed < 2 ^ 32) × (latched < 2 ^ 32) × (locked < 2 ^ 32) × (group < 2 ^ 32)
-HasShellLine (shells.Keymap format token size) = (format < 2 ^ 32) × (token < 2 ^ 32) × (size < 2 ^ 32)
-HasShellLine (shells.Repeat rate delay) = IsTrue (fits_i32 rate) × IsTrue (fits_i32 delay)
+HasShellLine (shells.Mods mods) =
+    (mods.depressed < 2 ^ 32) × (mods.latched < 2 ^ 32) × (mods.locked < 2 ^ 32) × (mods.group < 2 ^ 32)
+HasShellLine (shells.Keymap keymap) = (keymap.format < 2 ^ 32) × (keymap.token < 2 ^ 32) × (keymap.size < 2 ^ 32)
+HasShellLine (shells.Repeat repeat) = IsTrue (fits_i32 repeat.rate) × IsTrue (fits_i32 repeat.delay)
 
 -- The line holds only what a line can give: each number is in its range, and there are from one to 4,096 bytes.
 abbrev pub HasSessionLine : SessionLine → Type 0

@@ -16,7 +16,7 @@ unfoldable pub three_shell_words : List ℕ → List ℕ → List ℕ → Option
 three_shell_words k a b =
     if bytes_eq k (codes "focus") then number_of a >>= (λ p. number_of b >>= (λ i. Some (shells.Focus p i)))
     else if bytes_eq k (codes "screen") then size_of a >>= (λ w. size_of b >>= (λ h. Some (shells.Screen (size w h))))
-    else if bytes_eq k (codes "repeat") then signed_of a >>= (λ rate. signed_of b >>= (λ delay. Some (shells.Repeat rate delay)))
+    else if bytes_eq k (codes "repeat") then signed_of a >>= (λ rate. signed_of b >>= (λ delay. Some (shells.Repeat (record { rate = rate; delay = delay }))))
     else None
 
 unfoldable pub four_shell_words : List ℕ → List ℕ → List ℕ → List ℕ → Option ShellStep
@@ -26,14 +26,14 @@ four_shell_words k a b c =
     Some (shells.Key time key state))))
     else if bytes_eq k (codes "keymap") then
     number_of a >>= (λ format. number_of b >>= (λ token. number_of c >>= (λ size.
-    Some (shells.Keymap format token size))))
+    Some (shells.Keymap (record { format = format; token = token; size = size })))))
     else None
 
 unfoldable pub five_shell_words : List ℕ → List ℕ → List ℕ → List ℕ → List ℕ → Option ShellStep
 five_shell_words k a b c d =
     if bytes_eq k (codes "mods") then
     number_of a >>= (λ depressed. number_of b >>= (λ latched. number_of c >>= (λ locked. number_of d >>= (λ group.
-    Some (shells.Mods depressed latched locked group)))))
+    Some (shells.Mods (record { depressed = depressed; latched = latched; locked = locked; group = group }))))))
     else None
 
 unfoldable pub seven_shell_words : List ℕ → List ℕ → List ℕ → List ℕ → List ℕ → List ℕ → List ℕ → Option ShellStep

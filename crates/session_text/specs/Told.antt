@@ -20,18 +20,18 @@ said_words (said.FieldDone serial) = codes "done" ∷ decimal serial ∷ []
 said_words said.Activate = codes "activate" ∷ []
 said_words said.Deactivate = codes "deactivate" ∷ []
 said_words (said.Surrounding text cursor anchor) =
-    codes "surrounding_text" ∷ hex_word text ∷ signed_decimal cursor ∷ signed_decimal anchor ∷ []
+    codes "surrounding_text" ∷ hex_word text ∷ decimal cursor ∷ decimal anchor ∷ []
 said_words (said.ChangeCause cause) = codes "text_change_cause" ∷ decimal cause ∷ []
 said_words (said.ContentType hint purpose) = codes "content_type" ∷ decimal hint ∷ decimal purpose ∷ []
 said_words said.MethodDone = codes "done" ∷ []
 said_words said.Unavailable = codes "unavailable" ∷ []
 said_words (said.PopupRect x y width height) =
     codes "text_input_rectangle" ∷ signed_decimal x ∷ signed_decimal y ∷ signed_decimal width ∷ signed_decimal height ∷ []
-said_words (said.Keymap format token size) = codes "keymap" ∷ decimal format ∷ decimal token ∷ decimal size ∷ []
+said_words (said.Keymap keymap) = codes "keymap" ∷ decimal keymap.format ∷ decimal keymap.token ∷ decimal keymap.size ∷ []
 said_words (said.Key serial time key state) = codes "key" ∷ decimal serial ∷ decimal time ∷ decimal key ∷ decimal state ∷ []
-said_words (said.Mods serial depressed latched locked group) =
-    codes "modifiers" ∷ decimal serial ∷ decimal depressed ∷ decimal latched ∷ decimal locked ∷ decimal group ∷ []
-said_words (said.Repeat rate delay) = codes "repeat_info" ∷ signed_decimal rate ∷ signed_decimal delay ∷ []
+said_words (said.Mods serial mods) =
+    codes "modifiers" ∷ decimal serial ∷ decimal mods.depressed ∷ decimal mods.latched ∷ decimal mods.locked ∷ decimal mods.group ∷ []
+said_words (said.Repeat repeat) = codes "repeat_info" ∷ signed_decimal repeat.rate ∷ signed_decimal repeat.delay ∷ []
 said_words (said.Global name interface version) = codes "global" ∷ decimal name ∷ name_of interface ∷ decimal version ∷ []
 said_words (said.CallbackDone value) = codes "done" ∷ decimal value ∷ []
 said_words (said.DeleteId label) = codes "delete_id" ∷ decimal label ∷ []

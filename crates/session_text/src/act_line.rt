@@ -5,7 +5,7 @@ ghost use Rattle.session_text.specs.Reading.{five_words, six_words, act_of, Read
 
 use crate::line::BadLine;
 use crate::words::{cursor_text, number, signed, size, state, text};
-use relay_model::{Act, EndCause, Rect, Size};
+use relay_model::{Act, EndCause, Keymap, Mods, Rect, Repeat, Size};
 use std::alloc::Global;
 
 #[tactic(auto, unfolding(crate::specs::Reading::one_word))]
@@ -84,7 +84,7 @@ fn read_three(alloc: Global, key: &[u8], a: &[u8], b: &[u8]) -> Result<Act, BadL
     } else if key == b"repeat".as_slice() {
         let rate = signed(a)?;
         let delay = signed(b)?;
-        Ok(Act::Repeat { rate, delay })
+        Ok(Act::Repeat(Repeat { rate, delay }))
     } else {
         Err(BadLine::Grammar)
     }
@@ -121,11 +121,11 @@ fn read_four(key: &[u8], a: &[u8], b: &[u8], c: &[u8]) -> Result<Act, BadLine>
         let format = number(a)?;
         let token = number(b)?;
         let size = number(c)?;
-        Ok(Act::Keymap {
+        Ok(Act::Keymap(Keymap {
             format,
             token,
             size,
-        })
+        }))
     } else {
         Err(BadLine::Grammar)
     }
@@ -169,12 +169,12 @@ fn read_five(
         let latched = number(b)?;
         let locked = number(c)?;
         let group = number(d)?;
-        Ok(Act::Mods {
+        Ok(Act::Mods(Mods {
             depressed,
             latched,
             locked,
             group,
-        })
+        }))
     } else {
         Err(BadLine::Grammar)
     }

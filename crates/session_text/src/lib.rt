@@ -18,8 +18,3 @@ pub use line::{
 pub use step_line::{messages_are_whole, print_step};
 pub use told_line::print_told;
 pub use transcript_line::{print_ended, print_out, print_pass, print_placed, print_took};
-
-#[cfg(test)]
-mod printing_tests;
-#[cfg(test)]
-mod reading_tests;

@@ -7,7 +7,7 @@ ghost use Rattle.session_text.specs.SessionReading.{seven_shell_words, shell_of}
 
 use crate::line::BadLine;
 use crate::words::{number, signed, size, state};
-use relay_model::{Rect, Size};
+use relay_model::{Keymap, Mods, Rect, Repeat, Size};
 use seat_steps::ShellStep;
 
 #[tactic(auto, unfolding(crate::specs::SessionReading::one_shell_word))]
@@ -38,7 +38,7 @@ pub fn read_three(key: &[u8], a: &[u8], b: &[u8]) -> Result<ShellStep, BadLine>
     } else if key == b"repeat".as_slice() {
         let rate = signed(a)?;
         let delay = signed(b)?;
-        Ok(ShellStep::Repeat { rate, delay })
+        Ok(ShellStep::Repeat(Repeat { rate, delay }))
     } else {
         Err(BadLine::Grammar)
     }
@@ -57,11 +57,11 @@ pub fn read_four(key: &[u8], a: &[u8], b: &[u8], c: &[u8]) -> Result<ShellStep, 
         let format = number(a)?;
         let token = number(b)?;
         let size = number(c)?;
-        Ok(ShellStep::Keymap {
+        Ok(ShellStep::Keymap(Keymap {
             format,
             token,
             size,
-        })
+        }))
     } else {
         Err(BadLine::Grammar)
     }
@@ -76,12 +76,12 @@ fn read_five(key: &[u8], a: &[u8], b: &[u8], c: &[u8], d: &[u8]) -> Result<Shell
         let latched = number(b)?;
         let locked = number(c)?;
         let group = number(d)?;
-        Ok(ShellStep::Mods {
+        Ok(ShellStep::Mods(Mods {
             depressed,
             latched,
             locked,
             group,
-        })
+        }))
     } else {
         Err(BadLine::Grammar)
     }

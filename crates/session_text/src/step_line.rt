@@ -65,18 +65,19 @@ fn shell_line(alloc: Global, step: ShellStep) -> Result<String, NoMemory>
             Ok(format!(in alloc; "screen {width} {height}")?)
         }
         ShellStep::Key { time, key, state } => Ok(format!(in alloc; "key {time} {key} {state}")?),
-        ShellStep::Mods {
-            depressed,
-            latched,
-            locked,
-            group,
-        } => Ok(format!(in alloc; "mods {depressed} {latched} {locked} {group}")?),
-        ShellStep::Keymap {
-            format,
-            token,
-            size,
-        } => Ok(format!(in alloc; "keymap {format} {token} {size}")?),
-        ShellStep::Repeat { rate, delay } => Ok(format!(in alloc; "repeat {rate} {delay}")?),
+        ShellStep::Mods(mods) => {
+            let (depressed, latched) = (mods.depressed, mods.latched);
+            let (locked, group) = (mods.locked, mods.group);
+            Ok(format!(in alloc; "mods {depressed} {latched} {locked} {group}")?)
+        }
+        ShellStep::Keymap(keymap) => {
+            let (format, token, size) = (keymap.format, keymap.token, keymap.size);
+            Ok(format!(in alloc; "keymap {format} {token} {size}")?)
+        }
+        ShellStep::Repeat(repeat) => {
+            let (rate, delay) = (repeat.rate, repeat.delay);
+            Ok(format!(in alloc; "repeat {rate} {delay}")?)
+        }
     }
 }
 

@@ -68,6 +68,25 @@ fn add_text(
     add_signed(line, word.as_str(), numbers)
 }
 
+// A surrounding text, with its cursor and anchor.
+fn add_around(
+    alloc: Global,
+    line: &mut String,
+    text: &Text,
+    cursor: u32,
+    anchor: u32,
+) -> Result<(), NoMemory>
+    requires { IsTrue (has_no_zero (string_bytes line.old)) }
+    ensures added { OnOk result (string_bytes line.new
+        ≡ string_bytes line.old ++ spaced (codes "surrounding_text"
+        ∷ hex_word text.now ∷ decimal cursor ∷ decimal anchor ∷ [])) }
+    ensures clean { OnOk result (IsTrue (has_no_zero (string_bytes line.new))) }
+{
+    let word = hex_of(alloc, text.as_bytes())?;
+    add_word(line, "surrounding_text")?;
+    add_numbers(line, word.as_str(), &[cursor, anchor])
+}
+
 // The place of a popup, whose numbers may be beyond those of 32 bits.
 fn add_place(line: &mut String, popup: Label, x: i64, y: i64) -> Result<(), NoMemory>
     requires { IsTrue (has_no_zero (string_bytes line.old)) }
@@ -142,7 +161,7 @@ fn add_said(alloc: Global, line: &mut String, event: &Said) -> Result<(), NoMemo
             text,
             cursor,
             anchor,
-        } => add_text(alloc, line, "surrounding_text", text, &[*cursor, *anchor]),
+        } => add_around(alloc, line, text, *cursor, *anchor),
         Said::ChangeCause { cause } => add_numbers(line, "text_change_cause", &[*cause]),
         Said::ContentType { hint, purpose } => add_numbers(
             line,
@@ -157,29 +176,29 @@ fn add_said(alloc: Global, line: &mut String, event: &Said) -> Result<(), NoMemo
             width,
             height,
         } => add_signed(line, "text_input_rectangle", &[*x, *y, *width, *height]),
-        Said::Keymap {
-            format,
-            token,
-            size,
-        } => add_numbers(line, "keymap", &[*format, *token, *size]),
+        Said::Keymap(keymap) => add_numbers(
+            line,
+            "keymap",
+            &[keymap.format, keymap.token, keymap.size],
+        ),
         Said::Key {
             serial,
             time,
             key,
             state,
         } => add_numbers(line, "key", &[*serial, *time, *key, *state]),
-        Said::Mods {
-            serial,
-            depressed,
-            latched,
-            locked,
-            group,
-        } => add_numbers(
+        Said::Mods { serial, mods } => add_numbers(
             line,
             "modifiers",
-            &[*serial, *depressed, *latched, *locked, *group],
+            &[
+                *serial,
+                mods.depressed,
+                mods.latched,
+                mods.locked,
+                mods.group,
+            ],
         ),
-        Said::Repeat { rate, delay } => add_signed(line, "repeat_info", &[*rate, *delay]),
+        Said::Repeat(repeat) => add_signed(line, "repeat_info", &[repeat.rate, repeat.delay]),
         Said::Global {
             name,
             interface,

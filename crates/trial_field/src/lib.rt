@@ -6,8 +6,6 @@ mod edits;
 mod field;
 mod laws;
 mod places;
-#[cfg(test)]
-mod tests;
 
 pub use batch_view::{BatchView, MAX_PREEDIT, MAX_STRING};
 pub use edits::Edit;

@@ -110,8 +110,3 @@ pub fn write_all<K: Sink>(sink: &mut K, piece: &[u8]) -> Result<(), Failed>
     }
     Ok(())
 }
-
-#[cfg(test)]
-mod line_tests;
-#[cfg(test)]
-mod tests;

@@ -31,8 +31,3 @@ pub use table::{
     REGISTRY_EVENTS, REGISTRY_REQUESTS, SEAT_EVENTS, SEAT_REQUESTS, SURFACE_REQUESTS, Sig,
     SigTable, TEXT_INPUT_EVENTS, TEXT_INPUT_MANAGER_REQUESTS, TEXT_INPUT_REQUESTS,
 };
-
-#[cfg(test)]
-mod row_tests;
-#[cfg(test)]
-mod tests;

@@ -17,6 +17,3 @@ pub use bytes::Bytes;
 pub use laws::messages_are_longest;
 pub use raw::Raw;
 pub use text::Text;
-
-#[cfg(test)]
-mod tests;

@@ -1,0 +1,208 @@
+use field_state::{Field, SURROUNDING_LIMIT, Taken};
+use popup_place::Rect;
+use std::alloc::Global;
+use std::process::Abort;
+use std::test::Fail;
+use wio_core::NoMemory;
+
+// A call with what it has to answer, or what a reader has to give.
+#[derive(Clone, Copy)]
+enum Step {
+    Enter,
+    Leave,
+    Enable,
+    Disable,
+    Surround(&'static str, i32, i32, bool),
+    Cause(u32),
+    Content(u32, u32),
+    Rectangle(Rect, bool),
+    Commit(Taken),
+    Displace,
+    Shows(Option<(&'static str, i32, i32)>, u32, (u32, u32), Option<Rect>),
+    Count(u32),
+}
+
+const RECT: Rect = Rect {
+    x: 1,
+    y: -2,
+    width: 3,
+    height: 0,
+};
+
+fn surround(
+    rt: &impl Abort,
+    field: &mut Field,
+    text: &str,
+    cursor: i32,
+    anchor: i32,
+    has_effect: bool,
+) {
+    assert!(rt; text.len() <= SURROUNDING_LIMIT);
+    assert_eq!(rt; field.set_surrounding(text, cursor, anchor), has_effect);
+}
+
+fn shows(
+    rt: &impl Abort,
+    field: &Field,
+    surrounding: Option<(&'static str, i32, i32)>,
+    cause: u32,
+    content: (u32, u32),
+    rect: Option<Rect>,
+) {
+    assert_eq!(rt; field.surrounding(), surrounding);
+    assert_eq!(rt; field.cause(), cause);
+    assert_eq!(rt; field.content(), content);
+    assert_eq!(rt; field.rect(), rect);
+}
+
+fn take(rt: &impl Abort, field: &mut Field, step: Step) {
+    match step {
+        Step::Enter => field.enter(),
+        Step::Leave => field.leave(),
+        Step::Enable => field.enable(),
+        Step::Disable => field.disable(),
+        Step::Surround(text, cursor, anchor, has_effect) => surround(
+            rt, field, text, cursor, anchor, has_effect,
+        ),
+        Step::Cause(cause) => field.set_cause(cause),
+        Step::Content(hint, purpose) => field.set_content(hint, purpose),
+        Step::Rectangle(rect, has_effect) => assert_eq!(rt; field.set_rect(rect), has_effect),
+        Step::Commit(taken) => assert_eq!(rt; field.commit(), taken),
+        Step::Displace => field.displace(),
+        Step::Shows(surrounding, cause, content, rect) => shows(
+            rt,
+            field,
+            surrounding,
+            cause,
+            content,
+            rect,
+        ),
+        Step::Count(count) => assert_eq!(rt; field.count(), count),
+    }
+}
+
+fn play(rt: &impl Abort, alloc: Global, steps: &[Step]) -> Result<(), NoMemory> {
+    let mut field = Field::new(alloc)?;
+    for step in steps {
+        take(rt, &mut field, *step);
+    }
+    Ok(())
+}
+
+#[test]
+fn a_commit_shows_what_was_set_and_the_next_one_no_cause(rt: HostRuntime) -> Result<(), Fail> {
+    let steps = [
+        Step::Enter,
+        Step::Enable,
+        Step::Surround("ab", 1, 1, true),
+        Step::Cause(1),
+        Step::Content(2, 3),
+        Step::Rectangle(RECT, true),
+        Step::Shows(None, 0, (0, 0), None),
+        Step::Commit(Taken::Begun),
+        Step::Shows(Some(("ab", 1, 1)), 1, (2, 3), Some(RECT)),
+        Step::Commit(Taken::Updated),
+        Step::Shows(Some(("ab", 1, 1)), 0, (2, 3), Some(RECT)),
+    ];
+    play(&rt, rt.alloc(), &steps)?;
+    Ok(())
+}
+
+#[test]
+fn an_enable_forgets_what_was_set_before_it(rt: HostRuntime) -> Result<(), Fail> {
+    let steps = [
+        Step::Enter,
+        Step::Surround("ab", 1, 1, true),
+        Step::Enable,
+        Step::Commit(Taken::Begun),
+        Step::Shows(None, 0, (0, 0), None),
+    ];
+    play(&rt, rt.alloc(), &steps)?;
+    Ok(())
+}
+
+#[test]
+fn requests_without_effect_answer_false(rt: HostRuntime) -> Result<(), Fail> {
+    let steps = [
+        Step::Surround("é", 2, 2, false),
+        Step::Rectangle(RECT, false),
+        Step::Enter,
+        Step::Enable,
+        Step::Surround("é", 0, 2, true),
+        Step::Surround("é", 1, 2, false),
+        Step::Surround("é", 2, 1, false),
+        Step::Surround("é", 3, 2, false),
+        Step::Surround("é", 0, -1, false),
+        Step::Rectangle(RECT, true),
+        Step::Rectangle(Rect { width: -1, ..RECT }, false),
+        Step::Rectangle(Rect { height: -1, ..RECT }, false),
+        Step::Commit(Taken::Begun),
+        Step::Shows(Some(("é", 0, 2)), 0, (0, 0), Some(RECT)),
+    ];
+    play(&rt, rt.alloc(), &steps)?;
+    Ok(())
+}
+
+#[test]
+fn the_word_of_a_commit_is_the_last_since_the_one_before(rt: HostRuntime) -> Result<(), Fail> {
+    let steps = [
+        Step::Enter,
+        Step::Enable,
+        Step::Disable,
+        Step::Commit(Taken::Nothing),
+        Step::Enable,
+        Step::Commit(Taken::Begun),
+        Step::Enable,
+        Step::Commit(Taken::Begun),
+        Step::Disable,
+        Step::Commit(Taken::Ended),
+        Step::Disable,
+        Step::Commit(Taken::Nothing),
+    ];
+    play(&rt, rt.alloc(), &steps)?;
+    Ok(())
+}
+
+#[test]
+fn a_displaced_field_holds_again_only_by_an_enable(rt: HostRuntime) -> Result<(), Fail> {
+    let steps = [
+        Step::Enter,
+        Step::Enable,
+        Step::Content(2, 3),
+        Step::Commit(Taken::Begun),
+        Step::Displace,
+        Step::Shows(None, 0, (0, 0), None),
+        Step::Commit(Taken::Nothing),
+        Step::Disable,
+        Step::Commit(Taken::Nothing),
+        Step::Count(3),
+        Step::Enable,
+        Step::Displace,
+        Step::Commit(Taken::Begun),
+        Step::Shows(None, 0, (0, 0), None),
+    ];
+    play(&rt, rt.alloc(), &steps)?;
+    Ok(())
+}
+
+#[test]
+fn commits_count_outside_and_a_leave_keeps_only_their_count(rt: HostRuntime) -> Result<(), Fail> {
+    let steps = [
+        Step::Enable,
+        Step::Commit(Taken::Nothing),
+        Step::Commit(Taken::Nothing),
+        Step::Count(2),
+        Step::Enter,
+        Step::Enable,
+        Step::Surround("ab", 0, 2, true),
+        Step::Cause(1),
+        Step::Content(2, 3),
+        Step::Rectangle(RECT, true),
+        Step::Commit(Taken::Begun),
+        Step::Leave,
+        Step::Shows(None, 0, (0, 0), None),
+        Step::Count(3),
+    ];
+    play(&rt, rt.alloc(), &steps)?;
+    Ok(())
+}

@@ -1,0 +1,86 @@
+use kbd_grab::{Grab, Keymap, Mods, Repeat, Route};
+use std::process::Abort;
+use std::test::Fail;
+
+// Presses or releases these keys in turn, and compares where each goes.
+fn turn_all(rt: &impl Abort, grab: &mut Grab, rows: &[(u32, bool, Route)]) {
+    for (key, pressed, route) in rows {
+        assert_eq!(rt; grab.key(*key, *pressed), *route, "key {key}");
+    }
+}
+
+#[test]
+fn refuses_the_65th_key(rt: HostRuntime) -> Result<(), Fail> {
+    let mut grab = Grab::new(rt.alloc())?;
+    for key in 0..64 {
+        assert_eq!(rt; grab.key(key, true), Route::Pass, "key {key}");
+    }
+    let rows = [
+        (64, true, Route::TooMany),
+        // pressed again, a key that is down
+        (63, true, Route::Pass),
+        // the key that was refused is up
+        (64, false, Route::Pass),
+        (64, true, Route::TooMany),
+        (7, false, Route::Pass),
+        (64, true, Route::Pass),
+    ];
+    turn_all(&rt, &mut grab, &rows);
+    Ok(())
+}
+
+#[test]
+fn keys_follow_their_first_press(rt: HostRuntime) -> Result<(), Fail> {
+    let mut grab = Grab::new(rt.alloc())?;
+    turn_all(&rt, &mut grab, &[(30, true, Route::Pass)]);
+    grab.fall();
+    grab.stand(5);
+    assert_eq!(rt; grab.standing(), Some(5));
+    let rows = [
+        (31, true, Route::ToGrab(5)),
+        // pressed before the grab stood
+        (30, true, Route::Pass),
+        (31, true, Route::ToGrab(5)),
+        // a release of a key that is up
+        (32, false, Route::Pass),
+    ];
+    turn_all(&rt, &mut grab, &rows);
+    grab.fall();
+    grab.stand(9);
+    let rows = [
+        (31, true, Route::Nowhere),
+        (31, false, Route::Nowhere),
+        // a first press again
+        (31, true, Route::ToGrab(9)),
+        (30, false, Route::Pass),
+    ];
+    turn_all(&rt, &mut grab, &rows);
+    Ok(())
+}
+
+#[test]
+fn keeps_what_was_told_last(rt: HostRuntime) -> Result<(), Fail> {
+    let map = Keymap {
+        format: 1,
+        token: 7,
+        size: 100,
+    };
+    let mods = Mods {
+        depressed: 1,
+        latched: 2,
+        locked: 4,
+        group: 0,
+    };
+    let repeat = Repeat {
+        rate: 25,
+        delay: 600,
+    };
+    let mut grab = Grab::new(rt.alloc())?;
+    grab.keymap(map);
+    grab.repeat(repeat);
+    grab.mods(mods);
+    assert_eq!(rt; grab.last_keymap(), Some(map));
+    assert_eq!(rt; grab.last_repeat(), Some(repeat));
+    assert_eq!(rt; grab.last_mods(), Some(mods));
+    Ok(())
+}

@@ -1,0 +1,14 @@
+// The tests of the relay, of the steps of a session and of their lines: each public call once on its happy path, and the
+// worked lines.
+#![tactic(auto)]
+
+#[cfg(test)]
+mod printing_tests;
+#[cfg(test)]
+mod reading_tests;
+#[cfg(test)]
+mod relay_core_tests;
+#[cfg(test)]
+mod seat_objects_tests;
+#[cfg(test)]
+mod seat_steps_tests;

@@ -1,0 +1,103 @@
+// What no clause tells: that memory is found, and that calls on a concrete post tell what they should.
+use field_state::Field;
+use kbd_grab::Route;
+use relay_model::{Label, Said, Text, Told};
+use seat_objects::{
+    Group, Kind, NO_AREA, Object, Post, Preedit, Spare, commit, count_of, is_surface, owner,
+    refocus, tell_activate, tell_deactivate, tell_deleted, tell_enters, tell_grab, tell_group,
+    tell_key, tell_leaves, tell_unavailable,
+};
+use std::alloc::Global;
+use std::process::Abort;
+use std::test::Fail;
+
+/// Counts what it is told, and keeps whom it told last.
+#[derive(Drop)]
+struct Tally {
+    told: u32,
+    last: Label,
+}
+
+impl Post for Tally {
+    ghost may_follow = { λ before told after. Unit {0} };
+
+    fn tell(&mut self, told: &Told) {
+        self.told = self.told.saturating_add(1);
+        self.last = told.to;
+    }
+}
+
+#[test]
+fn each_part_is_told(rt: HostRuntime) -> Result<(), Fail> {
+    let alloc = rt.alloc();
+    let mut post = Tally { told: 0, last: 0 };
+    tell_activate(Some(5), None, Text::empty(alloc), &mut post);
+    assert_eq!(rt; (post.told, post.last), (3, 5));
+    tell_deactivate(Some(5), &mut post);
+    assert_eq!(rt; (post.told, post.last), (5, 5));
+    tell_unavailable(6, &mut post);
+    tell_deleted(7, Some(1), &mut post);
+    assert_eq!(rt; (post.told, post.last), (7, 1));
+    tell_grab(Some(8), Said::Activate, &mut post);
+    tell_key(Route::Pass, 1, 5, 30, 1, &mut post);
+    assert_eq!(rt; (post.told, post.last), (9, 0));
+    let group = Group {
+        before: 1,
+        after: 0,
+        string: Text::of(alloc, "a")?,
+        preedit: Preedit {
+            text: Text::empty(alloc),
+            begin: 0,
+            end: 0,
+        },
+    };
+    tell_group(3, group, 1, &mut post);
+    assert_eq!(rt; (post.told, post.last), (12, 3));
+    Ok(())
+}
+
+// The focus comes to a surface of the peer 1, goes, and the field 3 commits.
+fn focus_comes_and_goes(rt: &impl Abort, objects: &mut [Object]) {
+    let mut post = Tally { told: 0, last: 0 };
+    refocus(objects, Some(1));
+    tell_enters(objects, Some(1), 2, &mut post);
+    tell_leaves(objects, Some(1), 2, &mut post);
+    commit(objects, 3, None);
+    assert_eq!(rt; (post.told, post.last), (2, 3));
+    assert_eq!(rt; count_of(objects, 3), 1);
+    assert!(rt; is_surface(objects, 2) && !is_surface(objects, 3));
+    assert_eq!(rt; owner(objects, 3), Some(1));
+}
+
+#[test]
+fn fields_of_the_peer_are_told(rt: HostRuntime) -> Result<(), Fail> {
+    let alloc = rt.alloc();
+    let surface = Kind::Surface { area: NO_AREA };
+    let mut objects = Vec::new(alloc);
+    for (label, kind) in [(2, surface), (3, Kind::Field(Field::new(alloc)?))] {
+        objects.push(Object {
+            label,
+            peer: 1,
+            kind,
+        })?;
+    }
+    focus_comes_and_goes(&rt, &mut objects);
+    Ok(())
+}
+
+// A text is copied and handed out.
+fn is_copied(alloc: Global, spare: &mut Spare) -> Result<bool, Fail> {
+    spare.copy_text(alloc, "a")?;
+    spare.copy_preedit(alloc, "b")?;
+    spare.make_field(alloc)?;
+    let text = spare.take_text(alloc);
+    let preedit = spare.take_preedit(alloc);
+    Ok(text.as_str() == "a" && preedit.as_str() == "b" && spare.field.is_some())
+}
+
+#[test]
+fn copies_are_made(rt: HostRuntime) -> Result<(), Fail> {
+    let mut spare = Spare::new(rt.alloc());
+    assert!(rt; is_copied(rt.alloc(), &mut spare)?);
+    Ok(())
+}

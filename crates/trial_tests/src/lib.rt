@@ -1,0 +1,8 @@
+// The tests of generated sessions and of the clients of a trial: each public call once on its happy path, and the
+// numbers that were worked out elsewhere.
+#![tactic(auto)]
+
+#[cfg(test)]
+mod client_side_tests;
+#[cfg(test)]
+mod session_gen_tests;

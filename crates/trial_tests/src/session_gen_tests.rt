@@ -1,0 +1,56 @@
+// The set-up and the first drawn steps of the number 7, whose first words are 2442223337, 414063806
+// and 2743600285.
+use session_gen::{Gen, STEPS};
+use std::alloc::Global;
+use std::process::Abort;
+use std::test::Fail;
+
+// Makes the next step, and compares it as it prints.
+fn next_is(
+    rt: &impl Abort,
+    alloc: Global,
+    session: &mut Gen,
+    dones: u32,
+    wanted: &str,
+) -> Result<(), Fail> {
+    assert!(rt; session.left() > 0);
+    let step = session.next_step(alloc, dones)?;
+    let told = format!(in alloc; "{step:?}")?;
+    assert_eq!(rt; told.as_str(), wanted);
+    Ok(())
+}
+
+#[test]
+fn makes_the_first_steps_of_a_number(rt: HostRuntime) -> Result<(), Fail> {
+    let mut session = Gen::new(7);
+    assert_eq!(rt; session.left(), STEPS);
+    next_is(&rt, rt.alloc(), &mut session, 0, "Join(App)")?;
+    next_is(
+        &rt,
+        rt.alloc(),
+        &mut session,
+        0,
+        "Peer(1, Message { id: 1, opcode: 1, body: Bytes { bytes: [2, 0, 0, 0] } })",
+    )?;
+    for _ in 2..33 {
+        assert!(rt; session.left() > 0);
+        let _ = session.next_step(rt.alloc(), 0)?;
+    }
+    assert_eq!(rt; session.left(), 20_000);
+    let rows = [
+        "Peer(5, Message { id: 5, opcode: 0, body: Bytes { bytes: [2, 0, 0, 0, 112, 0, 0, 0] } })",
+        "Peer(5, Message { id: 5, opcode: 3, body: Bytes { bytes: [0, 0, 0, 0] } })",
+        "Peer(5, Message { id: 5, opcode: 3, body: Bytes { bytes: [1, 0, 0, 0] } })",
+        "Peer(3, Message { id: 7, opcode: 7, body: Bytes { bytes: [] } })",
+        "Peer(5, Message { id: 5, opcode: 2, body: Bytes { bytes: [2, 0, 0, 0, 0, 0, 0, 0] } })",
+        "Peer(5, Message { id: 5, opcode: 3, body: Bytes { bytes: [0, 0, 0, 0] } })",
+        "Peer(3, Message { id: 7, opcode: 7, body: Bytes { bytes: [] } })",
+        "Shell(Focus { peer: 2, id: 6 })",
+        "Peer(4, Message { id: 7, opcode: 1, body: Bytes { bytes: [] } })",
+        "Peer(2, Message { id: 7, opcode: 4, body: Bytes { bytes: [0, 0, 0, 0] } })",
+    ];
+    for row in rows {
+        next_is(&rt, rt.alloc(), &mut session, 1, row)?;
+    }
+    Ok(())
+}

@@ -1,0 +1,102 @@
+// The worked examples of the wire.
+use wl_proto::{
+    Event, Interface, Refuse, Request, SURFACE_REQUESTS, Sig, SigTable, read_event, read_request,
+    write_event,
+};
+use wl_wire::Raw;
+
+#[test]
+fn events_are_written_as_in_the_examples(rt: HostRuntime) {
+    let mut out = [0; 16];
+    let event = Event::CommitString { text: Some("a") };
+    assert_eq!(rt; write_event(5, &event, &mut out), 16);
+    assert_eq!(rt;
+        out.as_slice(),
+        b"\x05\0\0\0\x03\0\x10\0\x02\0\0\0a\0\0\0".as_slice()
+    );
+    let mut out = [9; 16];
+    assert_eq!(rt;
+        write_event(5, &Event::TextInputDone { serial: 1 }, &mut out),
+        12
+    );
+    assert_eq!(rt;
+        out.as_slice(),
+        b"\x05\0\0\0\x05\0\x0c\0\x01\0\0\0\x09\x09\x09\x09".as_slice()
+    );
+}
+
+// What the body of a commit_string is read as.
+fn committed(body: &[u8]) -> Result<&str, Refuse> {
+    let raw = Raw {
+        id: 5,
+        opcode: 0,
+        body,
+    };
+    match read_request(Interface::InputMethod, &raw, &[]) {
+        Ok(Request::CommitString { text }) => Ok(text),
+        Ok(_) => Err(Refuse::Opcode),
+        Err(refuse) => Err(refuse),
+    }
+}
+
+#[test]
+fn a_commit_string_is_read_or_malformed(rt: HostRuntime) {
+    for (body, read) in [
+        (b"\x02\0\0\0a\0\0\xff".as_slice(), Ok("a")),
+        (b"\x02\0\0\0ab\0\0", Err(Refuse::Malformed)),
+        (b"\x01\0\0\0", Err(Refuse::Malformed)),
+        (b"\0\0\0\0", Err(Refuse::Malformed)),
+        (b"\x02\0\0\0a\0\0\0\0\0\0\0", Err(Refuse::Malformed)),
+    ] {
+        assert!(rt; committed(body) == read, "{body:?}");
+    }
+}
+
+// The token of a keymap event that comes with these tokens.
+fn keymap_token(tokens: &[u32]) -> Result<u32, Refuse> {
+    let raw = Raw {
+        id: 5,
+        opcode: 0,
+        body: &[1, 0, 0, 0, 2, 0, 0, 0],
+    };
+    match read_event(Interface::KeyboardGrab, &raw, tokens)? {
+        Event::Keymap { token, .. } => Ok(token),
+        _ => Err(Refuse::Opcode),
+    }
+}
+
+#[test]
+fn a_descriptor_is_the_first_token(rt: HostRuntime) {
+    assert_eq!(rt; keymap_token(&[8, 9]), Ok(8));
+    assert_eq!(rt; keymap_token(&[]), Err(Refuse::Malformed));
+}
+
+#[test]
+fn an_opcode_without_a_row_is_refused(rt: HostRuntime) {
+    for (interface, opcode) in [
+        (Interface::Surface, 1),
+        (Interface::Callback, 0),
+        (Interface::TextInput, 8),
+    ] {
+        let raw = Raw {
+            id: 5,
+            opcode,
+            body: &[],
+        };
+        match read_request(interface, &raw, &[]) {
+            Ok(_) => assert!(rt; false, "a request was read"),
+            Err(refuse) => assert_eq!(rt; refuse, Refuse::Opcode),
+        }
+    }
+}
+
+#[test]
+fn opcodes_rise_in_a_table(rt: HostRuntime) {
+    assert!(rt; SURFACE_REQUESTS.opcodes_rise());
+    let row = Sig {
+        opcode: 3,
+        kinds: [None; 5],
+    };
+    assert!(rt; !SigTable { rows: [row, row] }.opcodes_rise());
+    assert_eq!(rt; Interface::InputMethod.name(), "zwp_input_method_v2");
+}
