@@ -10,7 +10,7 @@ mod shell_line;
 mod step_line;
 mod told_line;
 mod transcript_line;
-mod words;
+pub mod words;
 
 pub use line::{
     BadLine, Form, LINE_LIMIT, Line, SessionLine, one_spelling, read_line, worked_lines,

@@ -1,4 +1,4 @@
-// What single words read as.
+//! What single words of a line read as: numbers, texts and bytes, each in its one spelling.
 ghost use Rattle.std.specs.Prelude.{◌≡◌, ◌≢◌, ℕ, ◌≤◌};
 ghost use Rattle.std.specs.Str.{bytes_eq};
 ghost use Rattle.std.specs.Fmt.{signed_decimal};
@@ -20,7 +20,7 @@ use wl_wire::{Bytes, Text};
 const TEXT_LIMIT: usize = 4083;
 // The same where two numbers follow the text, which take 8 more.
 const CURSOR_TEXT_LIMIT: usize = 4075;
-// The most bytes that one line gives or takes: those of one message.
+/// The most bytes that one line gives or takes: those of one message.
 pub const PIECE_LIMIT: usize = 4096;
 
 fn parsed_number(word: &[u8]) -> Option<u32>
@@ -54,18 +54,21 @@ fn parsed_signed(word: &[u8]) -> Option<i32>
     }
 }
 
+/// A decimal number below 2^32, without a leading zero.
 pub fn number(word: &[u8]) -> Result<u32, BadLine>
     ensures { Reads result (number_of word.now) }
 {
     parsed_number(word).ok_or(BadLine::Grammar)
 }
 
+/// A decimal number of 32 bits with a sign.
 pub fn signed(word: &[u8]) -> Result<i32, BadLine>
     ensures { Reads result (signed_of word.now) }
 {
     parsed_signed(word).ok_or(BadLine::Grammar)
 }
 
+/// A size: a number of 32 bits that isn't negative.
 #[tactic(auto, unfolding(crate::specs::Words::size_of))]
 pub fn size(word: &[u8]) -> Result<i32, BadLine>
     ensures { Reads result (size_of word.now) }
@@ -77,6 +80,7 @@ pub fn size(word: &[u8]) -> Result<i32, BadLine>
     Ok(n)
 }
 
+/// The state of a key: 0 for released, 1 for pressed.
 #[tactic(auto, unfolding(crate::specs::Words::state_of))]
 pub fn state(word: &[u8]) -> Result<u32, BadLine>
     ensures { Reads result (state_of word.now) }
@@ -88,7 +92,7 @@ pub fn state(word: &[u8]) -> Result<u32, BadLine>
     Ok(n)
 }
 
-// A number from 1 to the greatest.
+/// A number from 1 to `most`.
 #[tactic(auto, unfolding(crate::specs::Words::count_of))]
 pub fn count(most: u32, word: &[u8]) -> Result<u32, BadLine>
     ensures { Reads result (count_of most word.now) }
@@ -100,6 +104,7 @@ pub fn count(most: u32, word: &[u8]) -> Result<u32, BadLine>
     Ok(n)
 }
 
+/// The role of a peer.
 #[tactic(auto, unfolding(crate::specs::Words::role_of))]
 pub fn role(word: &[u8]) -> Result<Role, BadLine>
     ensures { Reads result (role_of word.now) }
@@ -135,7 +140,7 @@ fn undecoded(error: hex::FromHexError) -> BadLine
     }
 }
 
-// Bytes, from one to so many.
+/// Bytes in lower-case hex, from one to `limit`.
 #[tactic(auto, unfolding(crate::specs::Words::bytes_of))]
 pub fn bytes_within(alloc: Global, limit: usize, word: &[u8]) -> Result<Bytes, BadLine>
     ensures { Reads result (bytes_of limit word.now) }
@@ -146,8 +151,9 @@ pub fn bytes_within(alloc: Global, limit: usize, word: &[u8]) -> Result<Bytes, B
     }
 }
 
+/// A text of at most `limit` bytes in lower-case hex, or `-` where it is empty.
 #[tactic(auto, unfolding(crate::specs::Words::text_of))]
-fn text_within(alloc: Global, limit: usize, word: &[u8]) -> Result<Text, BadLine>
+pub fn text_within(alloc: Global, limit: usize, word: &[u8]) -> Result<Text, BadLine>
     ensures { Reads result (text_of limit word.now) }
 {
     if word == b"-".as_slice() {
@@ -160,14 +166,14 @@ fn text_within(alloc: Global, limit: usize, word: &[u8]) -> Result<Text, BadLine
     }
 }
 
-// The text of a request that has no argument after it.
+/// The text of a request that has no argument after it: at most 4,083 bytes.
 pub fn text(alloc: Global, word: &[u8]) -> Result<Text, BadLine>
     ensures { Reads result (text_of text_limit word.now) }
 {
     text_within(alloc, TEXT_LIMIT, word)
 }
 
-// The text of a request that two numbers follow.
+/// The text of a request that two numbers follow: at most 4,075 bytes.
 pub fn cursor_text(alloc: Global, word: &[u8]) -> Result<Text, BadLine>
     ensures { Reads result (text_of cursor_text_limit word.now) }
 {

@@ -1,19 +1,21 @@
 //! Where threads sleep that found the lock taken. No contract speaks of it: that none sleeps for
 //! good is tested.
 
+use crossbeam_utils::CachePadded;
 use std::sync::Wait;
 use std::sync::atomic::{AtomicU64, Ordering};
 
-/// A word that is 1 while a thread may be asleep or about to be, and else 0.
+/// A word that is 1 while a thread may be asleep or about to be, and else 0. No other value is on its
+/// line of the cache, so an announcement takes nothing else from the other processors.
 #[derive(Drop)]
 pub(crate) struct Sleepers {
-    wanted: AtomicU64,
+    wanted: CachePadded<AtomicU64>,
 }
 
 impl Sleepers {
     pub(crate) fn new() -> Sleepers {
         Sleepers {
-            wanted: AtomicU64::new(0),
+            wanted: CachePadded::new(AtomicU64::new(0)),
         }
     }
 

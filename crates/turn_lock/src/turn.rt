@@ -17,8 +17,9 @@ use std::snapshot::Snapshot;
 use std::sync::Wait;
 use wio_core::NoMemory;
 
-// More looks than a backoff takes to complete.
-const LOOKS: u32 = 20;
+// How often a turn looks at a taken lock before it sleeps. The pauses between the looks grow, so
+// that whoever has the lock isn't kept from it by them.
+const LOOKS: u32 = 30;
 
 // The words of the table.
 const LOCK: usize = 0;
@@ -32,8 +33,10 @@ const STORY: usize = 0;
 /// `turn` is `t`.
 #[derive(Drop)]
 pub struct Turn<S: Story> {
-    table: Table<Option<S>, View<S::Entry, S::Constant>, Snapshot<S>, Law<S>, Global>,
+    // First, since its unused bytes keep the table's addresses, which every look reads, off the
+    // lines of what was allocated before, which are the words and the story that each turn writes.
     sleepers: Sleepers,
+    table: Table<Option<S>, View<S::Entry, S::Constant>, Snapshot<S>, Law<S>, Global>,
 }
 
 impl<S: Story> Model for Turn<S> {
@@ -64,8 +67,8 @@ impl<S: Story> Turn<S> {
         match Table::new(alloc, &[0, 0], slots, &about) {
             Ok((table, inner)) => Ok((
                 Turn {
-                    table,
                     sleepers: Sleepers::new(),
+                    table,
                 },
                 Seat {
                     inner,
@@ -140,7 +143,7 @@ impl<S: Story> Turn<S> {
         ensures history { S.history result ≡ seat.seen }
         ensures total { total (0 ∷ seat.taken) seat.seen ≡ length seat.seen }
     {
-        let Turn { table, sleepers: _ } = self;
+        let Turn { sleepers: _, table } = self;
         let Seat {
             inner,
             number: _,
@@ -188,10 +191,7 @@ impl<S: Story> Turn<S> {
             if self.table.shared.peek(LOCK) == 0 {
                 return false;
             }
-            if backoff.is_completed() {
-                break;
-            }
-            backoff.snooze();
+            backoff.spin();
         }
         self.sleep(rt);
         backoff.reset();

@@ -1,0 +1,6 @@
+pub mod ScriptWords
+pub mod SpelledLines
+pub mod ReadLines
+pub mod Laws
+pub mod LinesTaken
+pub mod ScriptsRead

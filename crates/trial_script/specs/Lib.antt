@@ -1,0 +1,6 @@
+pub mod Words
+pub mod Grammar
+pub mod Reading
+pub mod Laws
+pub mod Lines
+pub mod Scripts
