@@ -33,7 +33,7 @@ fn texts_and_bytes_are_copied(rt: HostRuntime) -> Result<(), Fail> {
     assert_eq!(rt; text.as_str(), "ab");
     let bytes = Bytes::new(text.into_bytes());
     assert!(rt; bytes.copy(rt.alloc())? == bytes);
-    assert_eq!(rt; bytes.into_vec().as_slice(), b"ab".as_slice());
+    assert_eq!(rt; bytes.as_slice(), b"ab".as_slice());
     Ok(())
 }
 

@@ -13,7 +13,7 @@ fn all_calls(rt: &impl Abort, alloc: Global, shared: &mut Shared) -> Result<(), 
     let registry = PeerStep::Message {
         id: 1,
         opcode: 1,
-        body: Bytes::new(Vec::from_slice(alloc, &[2, 0, 0, 0])?),
+        body: Bytes::from_slice(alloc, &[2, 0, 0, 0])?,
     };
     let key = ShellStep::Key {
         time: 5,

@@ -19,7 +19,7 @@ fn piece(alloc: Global, bytes: &[u8]) -> Result<SessionLine, Fail>
     requires { IsWithin piece_limit (length bytes.now) }
     ensures { IfOk result IsSessionLine }
 {
-    Ok(SessionLine::Bytes(1, Bytes::new(Vec::from_slice(alloc, bytes)?)))
+    Ok(SessionLine::Bytes(1, Bytes::from_slice(alloc, bytes)?))
 }
 
 // An application joins, asks for its registry in two pieces, and goes.

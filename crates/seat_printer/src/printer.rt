@@ -7,32 +7,46 @@ ghost use Rattle.seat_printer.specs.Transcribed.{with_feed, head_text, text_sinc
 ghost use Rattle.seat_printer.specs.Printed.{MayPrint, blank, closed, IsFront};
 
 use broker_core::{Entry, Watch};
-use session_text::{print_ended, print_out, print_pass, print_placed, print_took};
+use session_text::{write_ended, write_out, write_pass, write_placed, write_took};
 use std::alloc::Global;
 use std::marker::Model;
 use wio_core::NoMemory;
-use wl_wire::Text;
 
-// The line goes behind the text, with its line feed, or nothing does.
-fn add_line(text: &mut String, line: Result<Text, NoMemory>) -> Result<(), NoMemory>
-    ensures ok { (bytes : List ℕ) → IfOk line (λ l. l ≡ bytes) →
+// The line, if it was written, goes behind the text with its line feed, or nothing does.
+fn add_line(
+    text: &mut String,
+    line: &str,
+    written: Result<(), NoMemory>,
+) -> Result<(), NoMemory>
+    ensures ok { (bytes : List ℕ) → OnOk written (line.now ≡ bytes) →
         OnOk result (string_bytes text.new ≡ string_bytes text.old ++ with_feed bytes) }
     ensures err { OnErr result (string_bytes text.new ≡ string_bytes text.old) }
 {
-    let line = line?;
+    written?;
     text.reserve(line.len() + 1)?;
-    text.push_str(line.as_str())?;
+    text.push_str(line)?;
     text.push('\n')?;
     Ok(())
 }
 
 // Who ended, or what was taken, goes behind the text.
-fn add_head(text: &mut String, alloc: Global, number: u32, entry: &Entry) -> Result<(), NoMemory>
+fn add_head(
+    text: &mut String,
+    line: &mut String,
+    number: u32,
+    entry: &Entry,
+) -> Result<(), NoMemory>
     ensures { OnOk result (string_bytes text.new ≡ string_bytes text.old ++ head_text number entry.now) }
 {
     match entry {
-        Entry::End { peer, cause } => add_line(text, print_ended(alloc, number, *peer, *cause)),
-        Entry::Took { peer, bytes } => add_line(text, print_took(alloc, number, *peer, *bytes)),
+        Entry::End { peer, cause } => {
+            let written = write_ended(number, *peer, *cause, line);
+            add_line(text, line.as_str(), written)
+        }
+        Entry::Took { peer, bytes } => {
+            let written = write_took(number, *peer, *bytes, line);
+            add_line(text, line.as_str(), written)
+        }
         _ => Ok(()),
     }
 }
@@ -52,7 +66,7 @@ fn move_behind(text: &mut String, shell: &mut String) -> Result<(), NoMemory>
 fn begin_entry(
     text: &mut String,
     shell: &mut String,
-    alloc: Global,
+    line: &mut String,
     number: u32,
     entry: &Entry,
 ) -> Result<(), NoMemory>
@@ -61,7 +75,7 @@ fn begin_entry(
     ensures shell { OnOk result (string_bytes shell.new ≡ []) }
     ensures err { OnErr result (string_bytes text.new ≡ string_bytes text.old) }
 {
-    add_head(shell, alloc, number, entry)?;
+    add_head(shell, line, number, entry)?;
     move_behind(text, shell)
 }
 
@@ -77,6 +91,8 @@ pub struct Printer {
     text: String,
     // What the shell was told of the newest entry, whose lines stand behind those of its groups.
     shell: String,
+    // Where each line is written before it goes behind one of these.
+    line: String,
     is_short: bool,
 }
 
@@ -102,6 +118,7 @@ impl Printer {
             alloc,
             text: String::new(alloc),
             shell: String::new(alloc),
+            line: String::new(alloc),
             is_short: false,
         }
     }
@@ -163,6 +180,7 @@ impl Printer {
             alloc: _,
             text,
             shell: _,
+            line: _,
             is_short: _,
         } = printer;
         Some(text)
@@ -179,30 +197,30 @@ impl Watch for Printer {
             return;
         }
         let (text, shell) = (&mut self.text, &mut self.shell);
-        self.is_short = begin_entry(text, shell, self.alloc, number, entry).is_err();
+        self.is_short = begin_entry(text, shell, &mut self.line, number, entry).is_err();
     }
 
     fn placed(&mut self, number: u32, peer: u32, id: u32, x: i64, y: i64) {
         if self.is_short {
             return;
         }
-        let line = print_placed(self.alloc, number, peer, id, x, y);
-        self.is_short = add_line(&mut self.shell, line).is_err();
+        let written = write_placed(number, peer, id, x, y, &mut self.line);
+        self.is_short = add_line(&mut self.shell, self.line.as_str(), written).is_err();
     }
 
     fn passed(&mut self, number: u32, time: u32, key: u32, state: u32) {
         if self.is_short {
             return;
         }
-        let line = print_pass(self.alloc, number, time, key, state);
-        self.is_short = add_line(&mut self.shell, line).is_err();
+        let written = write_pass(number, time, key, state, &mut self.line);
+        self.is_short = add_line(&mut self.shell, self.line.as_str(), written).is_err();
     }
 
     fn put(&mut self, number: u32, peer: u32, bytes: &[u8], tokens: &[(usize, u32)]) {
         if self.is_short {
             return;
         }
-        let line = print_out(self.alloc, number, peer, bytes, tokens);
-        self.is_short = add_line(&mut self.text, line).is_err();
+        let written = write_out(self.alloc, number, peer, bytes, tokens, &mut self.line);
+        self.is_short = add_line(&mut self.text, self.line.as_str(), written).is_err();
     }
 }

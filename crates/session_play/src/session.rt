@@ -7,7 +7,7 @@ use session_text::SessionLine;
 use std::alloc::{AllocError, Global};
 use std::marker::Model;
 use wio_core::NoMemory;
-use wl_wire::Assembler;
+use wl_wire::{Assembler, MESSAGE_LIMIT};
 
 /// Why a session isn't played further.
 #[derive(Clone, Copy, Debug, PartialEq, Eq)]
@@ -47,6 +47,8 @@ pub(crate) struct Session {
     pub shared: Shared,
     // Of each live peer, in the order in which they joined.
     pub unread: Vec<Unread>,
+    // Where taken bytes are put; nobody reads them.
+    taken: Box<[u8; MESSAGE_LIMIT]>,
 }
 
 impl Model for Session {
@@ -93,6 +95,7 @@ impl Session {
             alloc,
             shared: Shared::new(alloc, limits)?,
             unread: Vec::new(alloc),
+            taken: Box::new(alloc, [0; MESSAGE_LIMIT])?,
         })
     }
 
@@ -186,12 +189,9 @@ impl Session {
         ensures watched { IsWatched W.may_follow self.old.limits.store self.old.play.journal
             watch.old self.new.play.journal watch.new }
     {
-        let mut bytes = [0u8; 4096];
         let mut tokens = [0u32; 256];
-        match self
-            .shared
-            .take_watched(number, &mut bytes[..most as usize], &mut tokens, watch)
-        {
+        let bytes = &mut self.taken[..most as usize];
+        match self.shared.take_watched(number, bytes, &mut tokens, watch) {
             Took::Bytes(..) => {
                 forget_ended(&self.shared, &mut self.unread);
                 Ok(())

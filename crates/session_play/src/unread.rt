@@ -43,7 +43,7 @@ impl Unread {
         match self.assembler.feed(piece) {
             Fed::Whole(used) => {
                 let message = self.assembler.message();
-                let body = Bytes::new(Vec::from_slice(alloc, message.body)?);
+                let body = Bytes::from_slice(alloc, message.body)?;
                 let step = PeerStep::Message {
                     id: message.id,
                     opcode: message.opcode,

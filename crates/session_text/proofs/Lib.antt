@@ -1,4 +1,7 @@
-pub mod Numerals
+mod LowerHex
+mod DecimalDigits
+mod FirstSpace
+pub mod WrittenNumbers
 pub mod Arms
 pub mod Texts
 pub mod Separators

@@ -16,7 +16,7 @@ use lib.IntN.{ℤ, pos, negsuc}
 use lib.Signed.{mag}
 use Rattle.std.proofs.lemmas.List.{length-append}
 use Rattle.session_text.specs.Words.{hex_word}
-use Rattle.session_text.proofs.Numerals.{own}
+use Rattle.session_text.proofs.WrittenNumbers.{own}
 
 -- the word has no such byte
 abbrev pub lacks : ℕ → List ℕ → Bool

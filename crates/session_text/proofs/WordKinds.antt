@@ -11,7 +11,7 @@ use Rattle.seat_steps.specs.Ranges.{is_size}
 use Rattle.session_text.specs.Words.{IsTextWithin, IsBytesWithin, fits_i32, hex_word, role_word, number_of, signed_of, size_of, state_of, text_of, bytes_of, count_of, role_of}
 use Rattle.seat_steps.specs.Ranges.{IsWithin}
 use Rattle.session_text.proofs.Arms.{arm, kept_some}
-use Rattle.session_text.proofs.Numerals.{number_sound, number_complete, signed_sound, signed_complete, mag_i32}
+use Rattle.session_text.proofs.WrittenNumbers.{number_sound, number_complete, signed_sound, signed_complete, mag_i32}
 use Rattle.session_text.proofs.Texts.{text_sound, text_complete, bytes_sound, bytes_complete, length-hex_word}
 use Rattle.session_text.proofs.Separators.{lacks, IsOutside, space, zero, decimal_lacks, signed_lacks, hex_lacks}
 

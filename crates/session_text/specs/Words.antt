@@ -1,5 +1,5 @@
 -- The words of a line: decimal numbers, hex texts and bytes, and what each word reads as.
-use Rattle.std.specs.Prelude.{ℕ, ℤ, pos, negsuc, ◌^◌, ◌≤◌, ◌&&◌, Bool, false, nat_lt, nat_le, if◌then◌else◌, List, [], ◌∷◌, length, codes, IsTrue, Option, Some, None, Result, Ok, Err}
+use Rattle.std.specs.Prelude.{◌≡◌, ℕ, zero, suc, ℤ, pos, negsuc, ◌^◌, ◌≤◌, ◌&&◌, Bool, false, nat_lt, nat_le, if◌then◌else◌, List, [], ◌∷◌, length, get_or, codes, IsTrue, Option, Some, None, Result, Ok, Err}
 use Rattle.std.specs.Str.{bytes_eq}
 use Rattle.std.specs.Str.Parse.{digits_value, signed_digits_value}
 use Rattle.std.specs.Fmt.{decimal, signed_decimal}
@@ -70,6 +70,23 @@ number_of word = printed (digits_value 10) (λ n. nat_lt n (2 ^ 32)) decimal wor
 -- the number of 32 bits with a sign that is written so
 unfoldable pub signed_of : List ℕ → Option ℤ
 signed_of word = printed (signed_digits_value 10) fits_i32 signed_decimal word
+
+-- from one to ten bytes, of which the first is no zero in front of others
+abbrev pub IsPlain : List ℕ → Type 0
+IsPlain word = (1 ≤ length word) × (length word ≤ 10) × (get_or word 0 0 ≡ 48 → length word ≡ 1)
+
+-- the number, if it has 32 bits
+abbrev pub unsigned_of : ℕ → Option ℕ
+unsigned_of n = (if nat_lt n (2 ^ 32) then Some n else None)
+
+-- the number above zero or zero, if it has 32 bits with a sign
+abbrev pub positive_of : ℕ → Option ℤ
+positive_of n = (if nat_lt n (2 ^ 31) then Some (pos n) else None)
+
+-- the number below zero with so many units, if it has 32 bits
+abbrev pub negative_of : ℕ → Option ℤ
+negative_of zero = None
+negative_of (suc units) = (if nat_lt units (2 ^ 31) then Some (negsuc units) else None)
 
 -- what the rest makes of the word's value, if it has one
 infixl 10 ◌>>=◌

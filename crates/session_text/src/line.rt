@@ -1,6 +1,5 @@
 // A line, and how it is read.
-ghost use Rattle.std.specs.Prelude.{◌≡◌, map, IfOk, ◌==◌};
-ghost use Rattle.std.specs.List.{slice_split};
+ghost use Rattle.std.specs.Prelude.{◌≡◌, map, IfOk};
 ghost use Rattle.session_text.specs.declared.line.BadLine.TheVariants.{NoMemory};
 ghost use Rattle.session_text.specs.Grammar.{IsLine};
 ghost use Rattle.session_text.specs.Laws.{ReadsOnlySpellings, ReadsEachSpelling};
@@ -8,6 +7,7 @@ ghost use Rattle.session_text.specs.Reading as reading;
 ghost use Rattle.session_text.specs.Worked.{WorkedLines, OtherLines, WorkedSteps, WorkedEvents};
 
 use crate::act_line::read_act;
+use crate::cutting::words_of;
 use crate::session_line::read_session;
 use crate::shell_line::read_shell;
 use relay_model::{Act, Role};
@@ -98,12 +98,6 @@ fn read_words(alloc: Global, form: Form, words: &[&[u8]]) -> Result<Line, BadLin
     }
 }
 
-fn words_of(alloc: Global, line: &[u8]) -> Result<Vec<&[u8]>, AllocError>
-    ensures { IfOk result (λ v. map (λ w. w.now) v.items ≡ slice_split (λ b. b == 32) line.now) }
-{
-    line.split(|b| *b == b' ').collect(alloc)
-}
-
 /// Reads a line without its line feed. `Grammar` comes exactly where the form has no such line.
 /// Words are separated by one space. Numbers are decimal, in the range of their type, without a
 /// leading zero, and only those with a sign may begin with `-`. A text is pairs of lower-case hex
@@ -119,7 +113,7 @@ pub fn read_line(alloc: Global, form: Form, line: &[u8]) -> Result<Line, BadLine
         return Err(BadLine::Grammar);
     }
     let words = words_of(alloc, line)?;
-    read_words(alloc, form, &words)
+    read_words(alloc, form, words.as_slice())
 }
 
 /// A law without work: bytes that read as a line are its one spelling, and each line's spelling

@@ -1,11 +1,24 @@
-// What printed lines share: bytes as a word, one more word, and the end of the printing.
+// What printed lines share: the number that begins them, bytes as a word, one more word, and the
+// end of the printing.
 ghost use Rattle.std.specs.Prelude.{◌≡◌, ◌∷◌, ◌++◌, IfOk, OnOk, IsTrue, string_bytes};
+ghost use Rattle.std.specs.Fmt.{decimal};
 ghost use Rattle.session_text.specs.Words.{hex_word};
 ghost use Rattle.wl_wire.specs.Texts.{has_no_zero};
 
+use itoa::Buffer;
 use std::alloc::Global;
 use wio_core::NoMemory;
 use wl_wire::Text;
+
+// The line is the number alone.
+pub fn begin(line: &mut String, number: u32) -> Result<(), NoMemory>
+    ensures value { OnOk result (string_bytes line.new ≡ decimal number) }
+    ensures clean { OnOk result (IsTrue (has_no_zero (string_bytes line.new))) }
+{
+    line.clear();
+    line.push_str(Buffer::new().format(number))?;
+    Ok(())
+}
 
 // The line as a text, without a copy.
 pub fn finished(line: String) -> Text

@@ -6,11 +6,13 @@ ghost use Rattle.session_text.specs.SessionReading.{header_of, one_session_word,
 ghost use Rattle.session_text.specs.SessionReading.{three_session_words, four_session_words};
 ghost use Rattle.session_text.specs.SessionReading.{session_of};
 
+use crate::hex_words::bytes_within;
 use crate::line::{BadLine, Line, SessionLine};
 use crate::shell_line;
-use crate::words::{PIECE_LIMIT, bytes_within, count, number, role};
+use crate::words::{count, number, role};
 use seat_steps::{ENTRY_LIMIT, Limits, STORE_LIMIT};
 use std::alloc::Global;
+use wl_wire::MESSAGE_LIMIT;
 
 #[tactic(auto, unfolding(crate::specs::SessionReading::one_session_word))]
 fn read_one(key: &[u8]) -> Result<Line, BadLine>
@@ -45,11 +47,11 @@ fn read_three(alloc: Global, key: &[u8], a: &[u8], b: &[u8]) -> Result<Line, Bad
 {
     if key == b"bytes".as_slice() {
         let peer = number(a)?;
-        let bytes = bytes_within(alloc, PIECE_LIMIT, b)?;
+        let bytes = bytes_within(alloc, MESSAGE_LIMIT, b)?;
         Ok(Line::Session(SessionLine::Bytes(peer, bytes)))
     } else if key == b"take".as_slice() {
         let peer = number(a)?;
-        let taken = count(PIECE_LIMIT as u32, b)?;
+        let taken = count(MESSAGE_LIMIT as u32, b)?;
         Ok(Line::Session(SessionLine::Take(peer, taken)))
     } else {
         let step = shell_line::read_three(key, a, b)?;

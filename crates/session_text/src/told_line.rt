@@ -1,7 +1,6 @@
 // The line that says what a peer is told.
 ghost use Rattle.std.specs.Prelude.{◌≡◌, [], ◌∷◌, ◌++◌, map, codes, IfOk, OnOk, IsTrue};
 ghost use Rattle.std.specs.Prelude.{string_bytes};
-ghost use Rattle.std.specs.List.{join_with_byte};
 ghost use Rattle.std.specs.Fmt.{decimal, signed_decimal};
 ghost use Rattle.wl_proto.specs.Names.{name_of};
 ghost use Rattle.relay_model.specs.Faults.{code_of, text_of};
@@ -9,7 +8,7 @@ ghost use Rattle.session_text.specs.Words.{hex_word};
 ghost use Rattle.session_text.specs.Told.{said_words, spaced, told_line};
 ghost use Rattle.wl_wire.specs.Texts.{has_no_zero};
 
-use crate::printing::{add_word, finished, hex_of};
+use crate::printing::{add_word, begin, finished, hex_of};
 use itoa::Buffer;
 use relay_model::{Fault, Interface, Label, Said, Told};
 use std::alloc::Global;
@@ -19,7 +18,7 @@ use wl_wire::Text;
 // Each function below adds words to a line, each after a space.
 
 // An event's name, and numbers without a sign.
-fn add_numbers(line: &mut String, name: &str, numbers: &[u32]) -> Result<(), NoMemory>
+pub(crate) fn add_numbers(line: &mut String, name: &str, numbers: &[u32]) -> Result<(), NoMemory>
     requires line_clean { IsTrue (has_no_zero (string_bytes line.old)) }
     requires name_clean { IsTrue (has_no_zero name.now) }
     ensures added { OnOk result (string_bytes line.new
@@ -190,13 +189,7 @@ fn add_said(alloc: Global, line: &mut String, event: &Said) -> Result<(), NoMemo
         Said::Mods { serial, mods } => add_numbers(
             line,
             "modifiers",
-            &[
-                *serial,
-                mods.depressed,
-                mods.latched,
-                mods.locked,
-                mods.group,
-            ],
+            &[*serial, mods.depressed, mods.latched, mods.locked, mods.group],
         ),
         Said::Repeat(repeat) => add_signed(line, "repeat_info", &[repeat.rate, repeat.delay]),
         Said::Global {
@@ -213,13 +206,20 @@ fn add_said(alloc: Global, line: &mut String, event: &Said) -> Result<(), NoMemo
     }
 }
 
-// The number of an act, and a label.
-fn front(alloc: Global, number: u32, to: Label) -> Result<String, NoMemory>
-    ensures value { IfOk result (λ line. string_bytes line
-        ≡ join_with_byte 32 (decimal number ∷ decimal to ∷ [])) }
-    ensures clean { IfOk result (λ line. IsTrue (has_no_zero (string_bytes line))) }
+/// Writes the line of what is told by the act of that number over what `line` was, as `print_told`
+/// prints it.
+pub fn write_told(
+    alloc: Global,
+    number: u32,
+    told: &Told,
+    line: &mut String,
+) -> Result<(), NoMemory>
+    ensures value { OnOk result (string_bytes line.new ≡ told_line number told.now) }
+    ensures clean { OnOk result (IsTrue (has_no_zero (string_bytes line.new))) }
 {
-    Ok(format!(in alloc; "{number} {to}")?)
+    begin(line, number)?;
+    add_word(line, Buffer::new().format(told.to))?;
+    add_said(alloc, line, &told.event)
 }
 
 /// Prints what is told by the act of that number: `N LABEL event arguments`, without a line feed.
@@ -228,7 +228,7 @@ fn front(alloc: Global, number: u32, to: Label) -> Result<String, NoMemory>
 pub fn print_told(alloc: Global, number: u32, told: &Told) -> Result<Text, NoMemory>
     ensures value { IfOk result (λ line. line ≡ told_line number told.now) }
 {
-    let mut line = front(alloc, number, told.to)?;
-    add_said(alloc, &mut line, &told.event)?;
+    let mut line = String::new(alloc);
+    write_told(alloc, number, told, &mut line)?;
     Ok(finished(line))
 }

@@ -4,6 +4,7 @@ ghost use Rattle.wl_wire.specs.Messages.{size_of, id_of, opcode_of, body_of, IsG
 ghost use Rattle.wl_wire.specs.Streams.{Assembly, Begun, bytes_of, HasMessage, HasBadSize, Feeds, HasTold, HasFed, FedOn};
 ghost use Rattle.wl_wire.specs.Gathering.{Gathers, phase_of, taken_of, told_behind};
 
+use crate::MESSAGE_LIMIT;
 use crate::raw::Raw;
 use std::alloc::Global;
 use std::marker::Model;
@@ -54,7 +55,7 @@ impl Model for Assembler {
 fn is_good(size: usize) -> bool
     ensures { IsTrue result ↔ IsGoodSize size }
 {
-    8 <= size && size <= 4096 && size % 4 == 0
+    8 <= size && size <= MESSAGE_LIMIT && size % 4 == 0
 }
 
 fn size_at(held: &[u8]) -> usize
@@ -150,7 +151,7 @@ impl Assembler {
         ensures empty { IfOk result (λ a. a ≡ Begun []) }
         ensures fed { IfOk result (λ a. HasFed [] a) }
     {
-        let held = Vec::with_capacity(alloc, 4096)?;
+        let held = Vec::with_capacity(alloc, MESSAGE_LIMIT)?;
         Ok(Assembler {
             held,
             phase: Phase::Open,

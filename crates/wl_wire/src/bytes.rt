@@ -1,12 +1,14 @@
 // Bytes that contracts see as a list of numbers.
+use smallvec::SmallVec;
 use std::alloc::Global;
 use std::marker::Model;
 use wio_core::NoMemory;
 
-/// Bytes that a value owns, as the body of a message or what is stored for a peer. Contracts see the list of the bytes.
+/// Bytes that a value owns, as the body of a message or what is stored for a peer. Up to 16 lie within the value, more in
+/// memory of their own. Contracts see the list of the bytes.
 #[derive(Debug, Drop)]
 pub struct Bytes {
-    bytes: Vec<u8>,
+    bytes: SmallVec<u8, 16>,
 }
 
 impl Model for Bytes {
@@ -18,27 +20,32 @@ impl Model for Bytes {
 }
 
 impl Bytes {
-    ghost use Rattle.std.specs.Prelude.{◌≡◌, ◌==◌, length, IfOk};
+    ghost use Rattle.std.specs.Prelude.{◌≡◌, ◌≤◌, ◌==◌, length, IsOk, IfOk};
 
     /// The bytes of a `Vec`, which it keeps. Takes no memory.
     pub fn new(bytes: Vec<u8>) -> Bytes
         ensures value { result ≡ bytes.items }
     {
-        Bytes { bytes }
+        Bytes {
+            bytes: SmallVec::from_vec(bytes),
+        }
+    }
+
+    /// A copy of the bytes. Up to 16 take no memory.
+    pub fn from_slice(alloc: Global, bytes: &[u8]) -> Result<Bytes, NoMemory>
+        ensures value { IfOk result (λ b. b ≡ bytes.now) }
+        ensures short { length bytes.now ≤ 16 → IsOk result }
+    {
+        Ok(Bytes {
+            bytes: SmallVec::from_slice(alloc, bytes)?,
+        })
     }
 
     /// The bytes.
     pub fn as_slice(&self) -> &[u8]
         ensures value { result.now ≡ self.now }
     {
-        &self.bytes
-    }
-
-    /// The `Vec` that holds the bytes.
-    pub fn into_vec(self) -> Vec<u8>
-        ensures value { result.items ≡ self }
-    {
-        self.bytes
+        self.bytes.as_slice()
     }
 
     /// How many bytes there are.
@@ -55,12 +62,12 @@ impl Bytes {
         self.bytes.is_empty()
     }
 
-    /// The same bytes in memory of their own.
+    /// The same bytes in another value. Up to 16 take no memory.
     pub fn copy(&self, alloc: Global) -> Result<Bytes, NoMemory>
         ensures value { IfOk result (λ b. b ≡ self.now) }
+        ensures short { length self.now ≤ 16 → IsOk result }
     {
-        let bytes = Vec::from_slice(alloc, &self.bytes)?;
-        Ok(Bytes { bytes })
+        Bytes::from_slice(alloc, self.bytes.as_slice())
     }
 }
 

@@ -17,3 +17,13 @@ pub use bytes::Bytes;
 pub use laws::messages_are_longest;
 pub use raw::Raw;
 pub use text::Text;
+
+/// The most bytes of a message, its header of 8 included.
+pub const MESSAGE_LIMIT: usize = 4096;
+
+/// The most bytes of a text that stands alone in its message: beside the header, the text's length and its zero byte
+/// take 5.
+pub const TEXT_LIMIT: usize = 4083;
+
+/// The most bytes of a text beside which two numbers stand in its message, which take 8 more.
+pub const CURSOR_TEXT_LIMIT: usize = 4075;

@@ -3,8 +3,9 @@ use Rattle.std.specs.Prelude.{IsTrue, string_bytes, take}
 use Rattle.wl_wire.specs.Texts.{has_no_zero}
 use Rattle.session_text.specs.Told.{spaced}
 use Rattle.session_text.specs.Transcript.{token_word}
-use Rattle.session_text.proofs.transcript_line.print_out.Given as goal
+use Rattle.session_text.proofs.transcript_line.write_out.Given as goal
 
+-- the words before the tokens, and the tokens so far
 abbrev pub invariant-loop-offset : goal.invariant-loop-offset
 invariant-loop-offset l = record {
   added : string_bytes l.line ≡ string_bytes l.initial.line ++ spaced (map token_word (take l.offset-index l.tokens));

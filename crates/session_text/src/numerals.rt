@@ -1,0 +1,94 @@
+// Decimal numbers in the one spelling that is printed: without a sign but `-`, and without a zero in
+// front of other digits.
+ghost use Rattle.std.specs.Prelude.{◌≡◌, ◌≤◌, ◌<◌, ◌^◌, ◌↔◌, ℕ, length, get_or, IfSome, IfNone, IsTrue};
+ghost use Rattle.std.specs.Fmt.{decimal};
+ghost use Rattle.std.specs.Str.Parse.{AllDigits, digits_value};
+ghost use Rattle.session_text.specs.Words.{IsPlain, negative_of, number_of, positive_of, signed_of, unsigned_of};
+
+// The number that the digits write, if there are only digits.
+fn digits_number(digits: &[u8]) -> Option<u64>
+    requires few { length digits.now ≤ 10 }
+    ensures value { IfSome result (λ n. n ≡ digits_value 10 digits.now) }
+    ensures all { IfSome result (λ n. AllDigits 10 digits.now) }
+    ensures other { IfNone result (¬ (AllDigits 10 digits.now)) }
+{
+    let mut number: u64 = 0;
+    for digit in digits {
+        if !digit.is_ascii_digit() {
+            return None;
+        }
+        number = 10 * number + u64::from(*digit - b'0');
+    }
+    Some(number)
+}
+
+// From one to ten bytes, of which the first is no zero in front of others.
+fn is_plain(word: &[u8]) -> bool
+    ensures { IsTrue result ↔ IsPlain word.now }
+{
+    !word.is_empty() && word.len() <= 10 && (word[0] != b'0' || word.len() == 1)
+}
+
+// The number that is printed so, if it has at most ten digits.
+fn numeral(word: &[u8]) -> Option<u64>
+    ensures small { IfSome result (λ n. n < 10 ^ 10) }
+    ensures value { IfSome result (λ n. word.now ≡ decimal n) }
+    ensures other { IfNone result ((n : ℕ) → n < 2 ^ 32 → ¬ (word.now ≡ decimal n)) }
+{
+    if !is_plain(word) {
+        return None;
+    }
+    let number = digits_number(word)?;
+    Some(number)
+}
+
+// The number, if it has 32 bits.
+fn without_sign(number: u64) -> Option<u32>
+    ensures { result ≡ unsigned_of number }
+{
+    u32::try_from(number).ok()
+}
+
+/// The number of 32 bits that is written so.
+pub(crate) fn parsed_number(word: &[u8]) -> Option<u32>
+    ensures { result ≡ number_of word.now }
+{
+    let number = numeral(word)?;
+    without_sign(number)
+}
+
+// The number above zero or zero, if it has 32 bits with a sign.
+fn positive(number: u64) -> Option<i32>
+    ensures { result ≡ positive_of number }
+{
+    i32::try_from(number).ok()
+}
+
+// The number below zero with so many units, if it has 32 bits.
+fn negative(units: u64) -> Option<i32>
+    ensures { result ≡ negative_of units }
+{
+    if units == 0 || units > 2_147_483_648 {
+        return None;
+    }
+    Some((-(units as i64)) as i32)
+}
+
+fn begins_with_minus(word: &[u8]) -> bool
+    ensures { IsTrue result ↔ (get_or word.now 0 0 ≡ 45) }
+{
+    !word.is_empty() && word[0] == b'-'
+}
+
+/// The number of 32 bits with a sign that is written so.
+pub(crate) fn parsed_signed(word: &[u8]) -> Option<i32>
+    ensures { result ≡ signed_of word.now }
+{
+    if begins_with_minus(word) {
+        let units = numeral(&word[1..])?;
+        negative(units)
+    } else {
+        let number = numeral(word)?;
+        positive(number)
+    }
+}
