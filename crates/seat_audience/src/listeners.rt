@@ -12,7 +12,7 @@ ghost use Rattle.seat_audience.specs.declared.live.Live.{Live};
 ghost use Rattle.seat_audience.specs.Changes.{IsChangedAt, first_due};
 ghost use Rattle.seat_audience.specs.Lives.{cleared, hears_message, delivered, is_number, number_of, AreRising};
 ghost use Rattle.seat_audience.specs.Marks.{is_marked, AreWithin};
-ghost use Rattle.seat_audience.specs.Visits.{map_at, at_marked, cause_of, changed_at, refusing, taken, IsAt, HasNone, IsAboveAll, IsNew, IsQuiet};
+ghost use Rattle.seat_audience.specs.Visits.{map_at, at_marked, cause_of, changed_at, refusing, taken, IsAt, HasNone, IsAboveAll, AreInOrder, IsNew, IsQuiet};
 
 use crate::directory::Named;
 use crate::live::Live;
@@ -166,6 +166,7 @@ impl Listeners {
     pub fn place_with(&self, label: Label) -> Option<usize>
         ensures found { IfSome result (IsAt (λ l. l.label) label self.now.items) }
         ensures none { IfNone result (HasNone (λ l. l.label) label self.now.items) }
+        ensures order { AreInOrder self.now.items }
     {
         self.peers.place_with(label)
     }
