@@ -1,9 +1,9 @@
 -- A message has as many bytes as its length says.
 use Rattle.std.proofs.Common.{◌≡◌, ℕ, ◌+◌, ◌-◌, ◌%◌, List, [], ◌∷◌, ◌++◌, length, arith, refl, length-append, length-take, map, sym, ap, ap₂, ◌∙◌, append_assoc, append-nil, Result, Ok, Err, ℤ, ◌≤◌, ◌<◌, false, cond, ltb, eqb, ◌&&◌, get_or, take, drop, Option, Some, None, inl, inr}
-use Rattle.wl_wire.specs.Spelling.{word_bytes, text_bytes, text_len, zeros}
-use Rattle.wl_proto.specs.Grammar.{Value, word, signed, text, null, token, string_value}
+use Rattle.wl_proto.specs.Grammar.{Value, word, signed, text, token, string_value}
 use Rattle.wl_proto.specs.Rows.{Message, request_kinds}
-use Rattle.wl_proto.specs.Spelling.{value_bytes, value_len, values_len, spelling, row_bytes, message_len, message_bytes}
+use Rattle.wl_proto.specs.Spelling.{value_len, values_len, row_bytes, message_len, message_bytes}
+use Rattle.wl_proto.proofs.Whole.{spelling_length}
 use Rattle.std.proofs.lemmas.List.{map-append, length-drop}
 use Rattle.broker_model.specs.Groups.{Token, Piece, nothing, later, followed_by}
 use Rattle.std.specs.Int.{w32, from_le_bytes, cast_signed}
@@ -17,23 +17,6 @@ use Rattle.wl_proto.specs.declared.table.Kind.{Kind}
 use Rattle.wl_proto.specs.declared.table.Kind.TheVariants.{Uint, Int, Object, NewId, Text, TextOrNull, Descriptor}
 use Rattle.wl_proto.specs.declared.refuse.Refuse.{Refuse}
 use Rattle.wl_proto.specs.Reading.{first_of, text_at, value_at, values_at, all_read, by_row, request_reading}
-
-text_length : (t : List ℕ) → length (text_bytes t) ≡ text_len (length t)
-unfolding text_bytes
-text_length t =
-    let padding : List ℕ = 0 ∷ 0 ∷ 0 ∷ 0 ∷ [] in
-    omega (arith, length-append (word_bytes (length t + 1) ++ t) (zeros (length t)), length-append (word_bytes (length t + 1)) t, length-take (4 - length t % 4) padding)
-
-value_length : (v : Value) → length (value_bytes v) ≡ value_len v
-value_length (word n) = refl
-value_length (signed z) = refl
-value_length (text t) = text_length t
-value_length null = refl
-value_length (token n) = refl
-
-spelling_length : (vs : List Value) → length (spelling vs) ≡ values_len vs
-spelling_length [] = refl
-spelling_length (v ∷ vs) = omega (arith, length-append (value_bytes v) (spelling vs), value_length v, spelling_length vs)
 
 -- whether or not it is short enough to be written
 pub message_length : (id : ℕ) (m : Message) → length (message_bytes id m) ≡ message_len m
