@@ -1,5 +1,6 @@
 // The live objects, by rising label.
-ghost use Rattle.std.specs.Prelude.{◌≡◌, ◌≤◌, map, filter, option_map, Some};
+ghost use Rattle.std.specs.Prelude.{◌≡◌, ◌≤◌, map, filter, option_map, Some, None, false};
+ghost use Rattle.seat_objects.specs.Listed.{is_popup_kind};
 ghost use Rattle.relay_model.specs.Objects.{is_at, is_same};
 ghost use Rattle.seat_objects.specs.Fits.{FitsMessage};
 ghost use Rattle.seat_objects.specs.Objects.{find, owner_in, area_in, surface_of_kind, has_popup_in, not_label, not_peer, requested, refocused, committed, placed_at, field_in, field_at, count_in, is_peer_in, is_field_in, is_surface_in, is_method_in};
@@ -190,7 +191,25 @@ impl Object {
         }
     }
 
-    fn area(&self) -> Rect
+    /// It is a popup.
+    pub fn is_popup(&self) -> bool
+        ensures { result ≡ is_popup_kind self.now.kind }
+    {
+        matches!(self.kind, Kind::Popup { .. })
+    }
+
+    /// It is a field that is entered. Where it isn't, leaving it changes nothing.
+    pub fn is_entered(&self) -> bool
+        ensures { result ≡ false → refocused None self.now ≡ self.now }
+    {
+        match self.field() {
+            Some(field) => field.is_entered(),
+            None => false,
+        }
+    }
+
+    /// The place and the size on the screen, if it is a surface.
+    pub fn area(&self) -> Rect
         ensures { result ≡ area_in (Some self.now) }
     {
         match &self.kind {
