@@ -12,6 +12,7 @@ mod relay;
 mod reserve;
 #[cfg(test)]
 mod tests;
+mod turning;
 
 pub use kbd_grab::Route;
 pub use laws::keyboard_law;

@@ -1,5 +1,5 @@
 -- The focus moves by a visit to the fields that may be entered, and to those of the peer that it comes to.
-use Rattle.std.proofs.Common.{◌≡◌, ℕ, zero, suc, ◌<◌, List, [], ◌∷◌, ◌++◌, length, get_or, map, filter, Bool, true, false, ◌&&◌, ◌||◌, if◌then◌else◌, eqb, Option, Some, None, refl, sym, ap, ◌∙◌, arith}
+use Rattle.std.proofs.Common.{◌≡◌, ℕ, zero, suc, ◌<◌, List, [], ◌∷◌, ◌++◌, length, get_or, map, filter, Bool, true, false, ◌||◌, if◌then◌else◌, eqb, Option, Some, None, refl, sym, ap, ◌∙◌, arith}
 use Rattle.std.proofs.lemmas.Bool.Decides.{nat_tests}
 use Rattle.std.proofs.lemmas.List.Elements.{All-map}
 use Rattle.field_state.specs.Stands.{Kept}
@@ -17,7 +17,7 @@ use Rattle.seat_objects.specs.Changes.{changed_at}
 use Rattle.seat_objects.specs.Objects.{changed, is_field_kind, refocused}
 use Rattle.seat_objects.specs.Listed.{live_field, of_peer, is_field_of, fields_of, entered_by, may_be, visited, is_among, refocused_in, IsCalm, Lists}
 use Rattle.seat_objects.proofs.SiftedLists.{any_filter, map_map, map_all}
-use Rattle.seat_objects.proofs.ListedObjects.{KeepsListed, lists_mapped}
+use Rattle.seat_objects.proofs.ListedObjects.{lists_mapped}
 use Rattle.seat_objects.proofs.LeftFields.{keeps_changed}
 
 -- a second visit changes nothing

@@ -1,5 +1,5 @@
 -- What a change keeps of an object, and that a field that was left stays as it is.
-use Rattle.std.proofs.Common.{◌≡◌, ℕ, Bool, true, false, ◌&&◌, if◌then◌else◌, eqb, Option, Some, None, refl, sym, ap, subst, ◌∙◌}
+use Rattle.std.proofs.Common.{◌≡◌, ℕ, Bool, true, false, ◌&&◌, if◌then◌else◌, eqb, refl, sym, ap, subst, ◌∙◌}
 use Rattle.popup_place.specs.declared.geometry.Rect.{Rect}
 use Rattle.field_state.specs.Stands.{Kept}
 use Rattle.field_state.specs.Calls.{is_place, is_length}
@@ -12,7 +12,7 @@ use Rattle.seat_objects.specs.declared.object.Object.{Object}
 use Rattle.seat_objects.specs.declared.object.Kind.{Kind}
 use Rattle.seat_objects.specs.declared.object.Kind.TheVariants.{Peer, Surface, Field, Method, Popup, Grab, Thing}
 use Rattle.seat_objects.specs.declared.entered.Entered.{Entered}
-use Rattle.seat_objects.specs.Objects.{asked, changed, kind_placed, is_field_kind, refocused}
+use Rattle.seat_objects.specs.Objects.{asked, changed, kind_placed, is_field_kind}
 use Rattle.seat_objects.specs.Changes.{kind_after, changed_by, changed_at}
 use Rattle.seat_objects.specs.Listed.{live_field, popup_of_kind, popup_of, IsCalm}
 use Rattle.seat_objects.proofs.ListedObjects.{KeepsListed}

@@ -12,3 +12,4 @@ pub mod LeftFields
 pub mod ChangedLists
 pub mod FocusVisits
 pub mod PopupSurfaces
+pub mod ToldFields

@@ -1,5 +1,5 @@
 -- The objects that the places name: found by label, and changed one at a time.
-use Rattle.std.proofs.Common.{◌≡◌, ◌≢◌, ℕ, zero, suc, ◌+◌, ◌<◌, ◌≤◌, List, [], ◌∷◌, length, get_or, map, option_map, cond, is_some, Bool, true, false, if◌then◌else◌, eqb, Option, Some, None, IsSome, IsSomeAnd, refl, sym, ap, ◌∙◌, arith, inl, inr}
+use Rattle.std.proofs.Common.{◌≡◌, ℕ, zero, suc, ◌+◌, ◌<◌, ◌≤◌, List, [], ◌∷◌, length, get_or, map, option_map, cond, is_some, Bool, true, false, if◌then◌else◌, eqb, Option, Some, None, IsSome, IsSomeAnd, refl, sym, ap, ◌∙◌, arith, inl, inr}
 use Rattle.std.proofs.lemmas.Bool.{cases_eq}
 use Rattle.std.proofs.lemmas.Bool.Decides.{nat_tests}
 use Rattle.std.proofs.lemmas.List.{get_or_default}
@@ -12,8 +12,7 @@ use Rattle.seat_objects.specs.declared.object.Object.{Object}
 use Rattle.seat_objects.specs.Changes.{changed_by, changed_at}
 use Rattle.seat_objects.specs.Objects.{find}
 use Rattle.seat_objects.specs.Rising.{RisesBy}
-use Rattle.seat_objects.specs.Labels.{Rises}
-use Rattle.seat_objects.specs.Places.{no_place, place_at, key_at, key_in, put, named, IsAt, Held, Stands, IsPlaceOf}
+use Rattle.seat_objects.specs.Places.{no_place, key_at, key_in, put, named, IsAt, Held, Stands}
 use Rattle.seat_objects.proofs.SearchedPlaces.{label_of}
 
 -- finding

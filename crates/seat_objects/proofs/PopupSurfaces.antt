@@ -7,7 +7,7 @@ use Rattle.seat_objects.specs.declared.object.Kind.{Kind}
 use Rattle.seat_objects.specs.declared.object.Kind.TheVariants.{Peer, Surface, Field, Method, Popup, Grab, Thing}
 use Rattle.seat_objects.specs.declared.listed.LivePopup.{LivePopup}
 use Rattle.seat_objects.specs.Objects.{surface_of_kind, has_popup_in}
-use Rattle.seat_objects.specs.Listed.{popup_of_kind, popup_of, popups_of}
+use Rattle.seat_objects.specs.Listed.{popup_of_kind, popups_of}
 
 abbrev has : ℕ → LivePopup → Bool
 has s w = eqb w.surface s

@@ -1,9 +1,9 @@
 -- What a search among the places finds.
-use Rattle.std.proofs.Common.{◌≡◌, ◌≢◌, ℕ, zero, suc, ◌+◌, ◌<◌, ◌≤◌, List, [], ◌∷◌, length, get_or, Some, None, Result, refl, arith}
+use Rattle.std.proofs.Common.{◌≡◌, ℕ, zero, suc, ◌+◌, List, [], ◌∷◌, get_or, Some, None, refl, arith}
 use Rattle.std.proofs.lemmas.Bool.Decides.{nat_tests}
 use Rattle.seat_objects.specs.declared.place.Place.{Place}
 use Rattle.seat_objects.specs.Rising.{RisesBy}
-use Rattle.seat_objects.specs.Places.{no_place, label_at, IsPlaceOf, HasNoPlace, key_in}
+use Rattle.seat_objects.specs.Places.{no_place, IsPlaceOf, HasNoPlace, key_in}
 use Rattle.seat_objects.proofs.RisingNumbers.{number_from}
 
 abbrev pub label_of : Place → ℕ

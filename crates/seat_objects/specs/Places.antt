@@ -1,5 +1,5 @@
 -- Places by rising label, and the objects that they name.
-use Rattle.std.specs.Prelude.{◌≡◌, ◌≢◌, ℕ, ◌+◌, ◌<◌, ◌≤◌, List, [], ◌∷◌, length, slice_index_or, ◌==◌, if◌then◌else◌, Option, Some, None, IsSomeAnd}
+use Rattle.std.specs.Prelude.{◌≡◌, ◌≢◌, ℕ, ◌<◌, List, [], ◌∷◌, length, slice_index_or, ◌==◌, if◌then◌else◌, Option, Some, None, IsSomeAnd}
 use Rattle.slab.specs.Slab.{Slab, get, slab_len}
 use Rattle.seat_objects.specs.declared.place.Place.{Place}
 use Rattle.seat_objects.specs.declared.object.Object.{Object}

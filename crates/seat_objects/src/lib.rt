@@ -16,11 +16,7 @@ mod tests;
 mod told;
 
 pub use listed::{LiveField, LivePopup};
-pub use object::{
-    Kind, NO_AREA, Object, area_of, commit, count_of, field_at, field_of, has_popup, is_method,
-    is_number, is_peer, is_same, is_surface, object_of, owner, place_surface, refocus,
-    remove_object, remove_peer, request,
-};
+pub use object::{Kind, NO_AREA, Object, is_number, is_same};
 pub use objects::Objects;
 pub use post::{
     Group, Post, Preedit, tell_activate, tell_deactivate, tell_deleted, tell_enter, tell_enters,

@@ -60,6 +60,13 @@ impl Objects {
         }
     }
 
+    /// A number above each label.
+    pub fn bound(&self) -> u64
+        ensures { result ≡ self.now.bound }
+    {
+        self.bound
+    }
+
     /// The object with the label, if it lives.
     pub fn object_of(&self, label: Label) -> Option<&Object>
         ensures { option_map (λ o. o.now) result ≡ find self.now.items label }

@@ -1,7 +1,4 @@
-use Rattle.std.proofs.Common.{◌≡◌, sym, subst}
 use Rattle.seat_objects.specs.declared.change.Change.TheVariants.{Commit, Displace}
-use Rattle.seat_objects.specs.Labels.{IsNew}
-use Rattle.seat_objects.specs.Listed.{Lists}
 use Rattle.seat_objects.proofs.ChangedLists.{still_listed, commit_over}
 use Rattle.seat_objects.proofs.objects.Objects.commit_over.Goals as goal
 

@@ -1,7 +1,5 @@
-use Rattle.std.proofs.Common.{◌≡◌, Some, None, sym, ◌∙◌}
+use Rattle.std.proofs.Common.{◌≡◌, None, sym, ◌∙◌}
 use Rattle.seat_objects.specs.Objects.{find, not_label}
-use Rattle.seat_objects.specs.Listed.{Lists}
-use Rattle.seat_objects.specs.Labels.{IsNew}
 use Rattle.seat_objects.proofs.NewObject.{new_filtered}
 use Rattle.seat_objects.proofs.ListedObjects.{fields_rise, lists_without, none_goes}
 use Rattle.seat_objects.proofs.objects.Objects.remove_object.Goals as goal

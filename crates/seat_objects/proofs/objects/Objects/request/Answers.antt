@@ -1,4 +1,4 @@
-use Rattle.seat_objects.specs.declared.change.Change.TheVariants.{Ask, Area}
+use Rattle.seat_objects.specs.declared.change.Change.TheVariants.{Ask}
 use Rattle.seat_objects.proofs.ChangedLists.{still_listed}
 use Rattle.seat_objects.proofs.objects.Objects.request.Goals as goal
 

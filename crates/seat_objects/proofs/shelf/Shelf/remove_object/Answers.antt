@@ -1,6 +1,5 @@
-use Rattle.std.proofs.Common.{◌≡◌, filter, subst, sym, ap, ◌∙◌}
+use Rattle.std.proofs.Common.{subst}
 use Rattle.seat_objects.specs.Labels.{Rises}
-use Rattle.seat_objects.specs.Objects.{find}
 use Rattle.seat_objects.proofs.NamedObjects.{slot_at, named_rise}
 use Rattle.seat_objects.proofs.RemovedObjects.{stands_removed, items_removed, items_kept, found_removed, find_none}
 use Rattle.seat_objects.proofs.shelf.Shelf.remove_object.Goals as goal
