@@ -2,7 +2,7 @@
 // What is current is defined by looking back over the calls; here it is kept in two sets of slots.
 ghost use Rattle.std.specs.Prelude.{◌≡◌, ◌≤◌, List, [], ◌∷◌, length, true, false, Option, None, option_map, IfOk, if◌then◌else◌};
 ghost use Rattle.field_state.specs.Calls.{Call, Enter, Leave, Enable, Disable, Surround, Cause, Content, Rectangle, Commit, Displace, initial, is_place};
-ghost use Rattle.field_state.specs.Hold.{answer, holds_after, has_effect, taken, commit_count};
+ghost use Rattle.field_state.specs.Hold.{entered, answer, holds_after, has_effect, taken, commit_count};
 ghost use Rattle.field_state.specs.Current.{current};
 ghost use Rattle.field_state.specs.Stands.{Stands, pending_of};
 ghost use Rattle.field_state.specs.Changes.{fresh, focused, enabled, disabled, surrounded, caused, typed, placed, taken_of, committed, displaced};
@@ -38,6 +38,11 @@ impl Model for Field {
       pending = f.pending;
       current = f.current;
     } };
+
+    ghost use Rattle.std.specs.Prelude.{◌≡◌, false};
+    ghost use Rattle.field_state.specs.Stands.{IsLeft};
+
+    ghost invariant = { λ f. f.entered ≡ false → IsLeft f.word f.holds f.pending f.current };
 }
 
 // A cursor or anchor can stand at this byte of the text.
@@ -93,6 +98,15 @@ impl Field {
             pending,
             current,
         })
+    }
+
+    /// The field is entered. Where it isn't, leaving it changes nothing.
+    pub fn is_entered(&self) -> bool
+        ensures now { result ≡ self.now.entered }
+        ensures left { result ≡ false → focused false self.now ≡ self.now }
+        ensures history { (calls : List Call) → Stands calls self.now → result ≡ entered calls }
+    {
+        self.entered
     }
 
     // Nothing is pending or current any more, and no hold goes on.

@@ -1,3 +1,4 @@
+pub mod LivePopups
 pub mod Areas
 pub mod Asides
 pub mod Board

@@ -1,5 +1,5 @@
 -- What a relay shows: what it keeps of the acts so far, and what it reserved for the next.
-use Rattle.std.specs.Prelude.{◌≡◌, ℕ, ◌-◌, ◌<◌, List, [], Option, Some, None, vec_len, vec_capacity}
+use Rattle.std.specs.Prelude.{◌≡◌, ℕ, ◌<◌, List, [], Option, Some, None}
 use Rattle.relay_model.specs.declared.act.Act.{Act}
 use Rattle.relay_model.specs.declared.act.Act.TheVariants as acts
 use Rattle.field_state.specs.Stands.{Kept}
@@ -34,7 +34,7 @@ pub record Shown : Type 0 where
   pub spare : Spare
 
 abbrev pub shown : Machine → Shown
-shown m = record { state = state m; room = vec_capacity m.objects - vec_len m.objects; spare = m.spare }
+shown m = record { state = state m; room = m.objects.room; spare = m.spare }
 
 -- the surrounding text that a field has pending
 abbrev pub text_pending : Option Kept → List ℕ

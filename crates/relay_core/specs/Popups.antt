@@ -9,6 +9,7 @@ use Rattle.relay_model.specs.Popups.{corner, size_of, place_told}
 use Rattle.seat_objects.specs.declared.object.Object.{Object}
 use Rattle.seat_objects.specs.declared.object.Kind.{Kind}
 use Rattle.seat_objects.specs.declared.object.Kind.TheVariants.{Popup}
+use Rattle.seat_objects.specs.declared.listed.LivePopup.{LivePopup}
 use Rattle.seat_objects.specs.Objects.{find, area_in}
 use Rattle.relay_core.specs.State.{State, holder_state}
 
@@ -30,6 +31,10 @@ shown_told s rect x m t =
     (if is_at s.serving m && is_some (find s.objects t) then
     place_told x (place_of s.screen (origin_in s) rect (size_of (area_in (find s.objects t))))
     else [])
+
+-- the same of a popup that lives
+abbrev pub live_told : State → Rect → LivePopup → List Told
+live_told s rect w = shown_told s rect w.label w.method w.surface
 
 abbrev pub kind_told : State → Rect → ℕ → Kind → List Told
 kind_told s rect x (Popup m t) = shown_told s rect x m t

@@ -7,20 +7,20 @@ ghost use Rattle.seat_objects.specs.Reached.{Reached};
 ghost use Rattle.relay_core.specs.Kept.{state, text_pending};
 ghost use Rattle.relay_core.specs.Machine.{owner_at, activated, updated, deactivated, released, refocused_to, unfocused, parted, gone, taken_in, taken_by, displaced_by, held, committing, field_committed, leaves_of, text_around, state_of, activate_told, update_told, release_told, part_told, commit_told, says};
 
-use crate::machine::{Machine, owner_at};
+use crate::machine::Machine;
+use crate::turning::owner_at;
 use field_state::Taken;
 use relay_model::Label;
 use seat_objects::{
-    Object, Post, commit, field_of, owner, refocus, tell_activate, tell_deactivate, tell_enters,
-    tell_leaves, tell_update,
+    Objects, Post, tell_activate, tell_deactivate, tell_enters, tell_leaves, tell_update,
 };
 use serial_count::Since;
 
 // What a commit of the field does.
-fn taken(objects: &[Object], field: Label) -> Taken
-    ensures { result ≡ taken_in (field_in (find objects.now field)) }
+fn taken(objects: &Objects, field: Label) -> Taken
+    ensures { result ≡ taken_in (field_in (find objects.now.items field)) }
 {
-    match field_of(objects, field) {
+    match objects.field_of(field) {
         Some(field) => field.commit_answer(),
         None => Taken::Nothing,
     }
@@ -80,7 +80,7 @@ impl Machine {
         ensures told { Reached P.may_follow post.old (activate_told (state_of (state self.old) field) (state self.old).serving) post.new }
     {
         let text = self.spare.take_text(self.alloc);
-        tell_activate(self.serving, field_of(&self.objects, field), text, post);
+        tell_activate(self.serving, self.objects.field_of(field), text, post);
         self.count_activate();
     }
 
@@ -91,7 +91,7 @@ impl Machine {
         ensures told { Reached P.may_follow post.old (update_told (state_of (state self.old) field) (state self.old).serving) post.new }
     {
         let text = self.spare.take_text(self.alloc);
-        tell_update(self.serving, field_of(&self.objects, field), text, post);
+        tell_update(self.serving, self.objects.field_of(field), text, post);
         self.count_update();
     }
 
@@ -113,7 +113,7 @@ impl Machine {
         ensures { state self.new ≡ refocused_to surface (state self.old) }
     {
         let peer = owner_at(&self.objects, surface);
-        refocus(&mut self.objects, peer);
+        self.objects.refocus(peer);
         self.focus = surface;
     }
 
@@ -144,7 +144,7 @@ impl Machine {
         ensures state { state self.new ≡ refocused_to (Some surface) (released (state self.old)) }
         ensures told { Reached P.may_follow post.old (says (acts.Focus surface) (state self.old)) post.new }
     {
-        let peer = owner(&self.objects, surface);
+        let peer = self.objects.owner(surface);
         self.tell_leaves(post);
         self.release(post);
         tell_enters(&self.objects, peer, surface, post);
@@ -184,7 +184,7 @@ impl Machine {
         ensures spare { self.new.spare ≡ self.old.spare }
     {
         let other = displaced(taken, self.holder);
-        commit(&mut self.objects, field, other);
+        self.objects.commit(field, other);
     }
 
     pub fn commit<P: Post>(&mut self, field: Label, post: &mut P)

@@ -1,5 +1,5 @@
 // The relay's part on keys: grabs, and what the shell says of the keyboard.
-ghost use Rattle.std.specs.Prelude.{◌≡◌, ◌<◌, vec_len, vec_capacity};
+ghost use Rattle.std.specs.Prelude.{◌≡◌, ◌<◌, ◌≤◌};
 ghost use Rattle.relay_model.specs.declared.act.Act.TheVariants as acts;
 ghost use Rattle.seat_objects.specs.Reached.{Reached};
 ghost use Rattle.relay_core.specs.Kept.{state};
@@ -8,25 +8,27 @@ ghost use Rattle.relay_core.specs.Machine.{made_by, fallen, grabbed, keyed, rout
 use crate::machine::Machine;
 use kbd_grab::{Keymap, Mods, Repeat, Route};
 use relay_model::{Label, Said};
-use seat_objects::{Kind, Post, is_number, owner, tell_grab, tell_key, tell_keyboard};
+use seat_objects::{Kind, Post, is_number, tell_grab, tell_key, tell_keyboard};
 
 impl Machine {
     /// The method made an object.
     pub fn make_by(&mut self, method: Label, kind: Kind)
-        requires { vec_len self.old.objects < vec_capacity self.old.objects }
+        requires room { 0 < self.old.objects.room }
+        requires above { self.old.objects.bound ≤ self.old.acts }
         ensures state { state self.new ≡ made_by method kind (state self.old) }
         ensures keys { self.new.keys ≡ self.old.keys }
         ensures serving { self.new.serving ≡ self.old.serving }
         ensures acts { self.new.acts ≡ self.old.acts }
     {
-        if let Some(peer) = owner(&self.objects, method) {
+        if let Some(peer) = self.objects.owner(method) {
             self.make(peer, kind);
         }
     }
 
     /// A grab stands from its making on, where its method serves and no other stands.
     pub fn make_grab<P: Post>(&mut self, method: Label, post: &mut P)
-        requires { vec_len self.old.objects < vec_capacity self.old.objects }
+        requires room { 0 < self.old.objects.room }
+        requires above { self.old.objects.bound ≤ self.old.acts }
         ensures state { state self.new ≡ grabbed method (state self.old) }
         ensures told { Reached P.may_follow post.old (says (acts.Grab method) (state self.old)) post.new }
     {

@@ -10,6 +10,7 @@ mod peers;
 mod popups;
 mod relay;
 mod reserve;
+mod turning;
 
 pub use kbd_grab::Route;
 pub use laws::keyboard_law;

@@ -1,5 +1,5 @@
 // The relay's part on methods: which one serves, its pending edits, and its commits.
-ghost use Rattle.std.specs.Prelude.{◌≡◌, ◌&&◌, ◌-◌, ◌<◌, ◌≤◌, Some, None, length, vec_len, vec_capacity};
+ghost use Rattle.std.specs.Prelude.{◌≡◌, ◌&&◌, ◌-◌, ◌<◌, ◌≤◌, Some, None, length};
 ghost use Rattle.relay_model.specs.declared.act.Act.TheVariants as acts;
 ghost use Rattle.relay_model.specs.Objects.{is_at};
 ghost use Rattle.seat_objects.specs.Reached.{Reached};
@@ -9,7 +9,7 @@ ghost use Rattle.relay_core.specs.Machine.{served_unless, serving_unless, serves
 
 use crate::machine::Machine;
 use relay_model::{Label, Text};
-use seat_objects::{Group, Kind, Post, Preedit, count_of, is_number, tell_group, tell_unavailable};
+use seat_objects::{Group, Kind, Post, Preedit, is_number, tell_group, tell_unavailable};
 use serial_count::{Count32, Since, fresh};
 
 // The serial names a done of the present activation.
@@ -33,7 +33,8 @@ impl Machine {
     }
 
     pub fn make_method<P: Post>(&mut self, peer: Label, post: &mut P)
-        requires room { vec_len self.old.objects < vec_capacity self.old.objects }
+        requires room { 0 < self.old.objects.room }
+        requires above { self.old.objects.bound ≤ self.old.acts }
         requires spare { self.old.spare.text ≡ text_around (holder_state (state self.old)).surrounding }
         ensures state { state self.new ≡ method_made peer (state self.old) }
         ensures told { Reached P.may_follow post.old (method_told (state self.old)) post.new }
@@ -126,7 +127,7 @@ impl Machine {
         ensures { Reached P.may_follow post.old (group_of_holder (state self.now) (state self.now).holder) post.new }
     {
         if let Some(field) = self.holder {
-            tell_group(field, edits, count_of(&self.objects, field), post);
+            tell_group(field, edits, self.objects.count_of(field), post);
         }
     }
 

@@ -1,5 +1,5 @@
 // The relay's part on what a peer does beside its surfaces, fields and methods: registries, syncs, bound globals and refused messages.
-ghost use Rattle.std.specs.Prelude.{◌≡◌, ◌<◌, [], ◌∷◌, vec_len, vec_capacity};
+ghost use Rattle.std.specs.Prelude.{◌≡◌, ◌<◌, ◌≤◌, [], ◌∷◌};
 ghost use Rattle.relay_model.specs.Globals.{globals_told};
 ghost use Rattle.relay_model.specs.Told.{to, synced};
 ghost use Rattle.seat_objects.specs.Reached.{Reached};
@@ -68,7 +68,8 @@ pub fn tell_error<P: Post>(peer: Label, object: Label, fault: Fault, post: &mut 
 
 impl Machine {
     pub fn make_registry<P: Post>(&mut self, peer: Label, role: Role, post: &mut P)
-        requires { vec_len self.old.objects < vec_capacity self.old.objects }
+        requires room { 0 < self.old.objects.room }
+        requires above { self.old.objects.bound ≤ self.old.acts }
         ensures state { state self.new ≡ made peer Kind.Thing (state self.old) }
         ensures told { Reached P.may_follow post.old (globals_told (state self.old).acts role) post.new }
     {
@@ -77,7 +78,8 @@ impl Machine {
     }
 
     pub fn make_seat<P: Post>(&mut self, peer: Label, post: &mut P)
-        requires { vec_len self.old.objects < vec_capacity self.old.objects }
+        requires room { 0 < self.old.objects.room }
+        requires above { self.old.objects.bound ≤ self.old.acts }
         ensures state { state self.new ≡ made peer Kind.Thing (state self.old) }
         ensures told { Reached P.may_follow post.old (to (state self.old).acts (Said.Capabilities 0) ∷ []) post.new }
     {

@@ -1,26 +1,24 @@
 // The relay's part on popups: where they stand beside the cursor rectangle.
-ghost use Rattle.std.specs.Prelude.{◌≡◌, ◌<◌, Option, vec_len, vec_capacity};
+ghost use Rattle.std.specs.Prelude.{◌≡◌, ◌<◌, ◌≤◌, Option};
 ghost use Rattle.std.specs.List.{flat_map};
 ghost use Rattle.relay_model.specs.declared.act.Act.TheVariants as acts;
 ghost use Rattle.seat_objects.specs.declared.object.Kind.TheVariants.{Popup};
 ghost use Rattle.seat_objects.specs.Reached.{Reached};
 ghost use Rattle.relay_core.specs.Kept.{state};
-ghost use Rattle.relay_core.specs.Popups.{cursor_in, origin_in, shown_told, popup_told, popups_told, popups_where_holds, new_popup_told};
+ghost use Rattle.relay_core.specs.Popups.{cursor_in, origin_in, shown_told, live_told, popup_told, popups_told, popups_where_holds, new_popup_told};
 ghost use Rattle.relay_core.specs.Machine.{made_by, moved, says};
 
 use crate::machine::Machine;
 use popup_place::place;
 use relay_model::{Label, Rect, Size};
-use seat_objects::{
-    Kind, Object, Post, area_of, field_at, is_number, object_of, place_surface, tell_place,
-};
+use seat_objects::{Kind, LivePopup, Object, Post, is_number, tell_place};
 
 impl Machine {
     // The cursor rectangle of the holder, where it is set.
     fn cursor(&self) -> Option<Rect>
         ensures { result ≡ cursor_in (state self.now) }
     {
-        match field_at(&self.objects, self.holder) {
+        match self.objects.field_at(self.holder) {
             Some(field) => field.rect(),
             None => None,
         }
@@ -32,7 +30,7 @@ impl Machine {
     {
         match self.focus {
             Some(surface) => {
-                let area = area_of(&self.objects, surface);
+                let area = self.objects.area_of(surface);
                 (area.x, area.y)
             }
             None => (0, 0),
@@ -50,8 +48,8 @@ impl Machine {
     )
         ensures { Reached P.may_follow post.old (shown_told (state self.now) rect popup method surface) post.new }
     {
-        if is_number(self.serving, method) && object_of(&self.objects, surface).is_some() {
-            let area = area_of(&self.objects, surface);
+        if is_number(self.serving, method) && self.objects.object_of(surface).is_some() {
+            let area = self.objects.area_of(surface);
             let size = Size {
                 width: area.width,
                 height: area.height,
@@ -82,16 +80,16 @@ impl Machine {
         ensures { Reached P.may_follow post.old (popups_told (state self.now)) post.new }
     {
         if let Some(rect) = self.cursor() {
-            self.tell_each(rect, &self.objects, post);
+            self.tell_each(rect, self.objects.popups(), post);
         }
     }
 
     #[tactic(auto, using(seat_objects::proofs::Reaches::reached_append))]
-    fn tell_each<P: Post>(&self, rect: Rect, objects: &[Object], post: &mut P)
-        ensures { Reached P.may_follow post.old (flat_map (popup_told (state self.now) rect) objects.now) post.new }
+    fn tell_each<P: Post>(&self, rect: Rect, popups: &[LivePopup], post: &mut P)
+        ensures { Reached P.may_follow post.old (flat_map (live_told (state self.now) rect) popups.now) post.new }
     {
-        for object in objects {
-            self.tell_popup(rect, object, post);
+        for popup in popups {
+            self.tell_shown(rect, popup.label, popup.method, popup.surface, post);
         }
     }
 
@@ -105,7 +103,8 @@ impl Machine {
     }
 
     pub fn make_popup<P: Post>(&mut self, method: Label, surface: Label, post: &mut P)
-        requires { vec_len self.old.objects < vec_capacity self.old.objects }
+        requires room { 0 < self.old.objects.room }
+        requires above { self.old.objects.bound ≤ self.old.acts }
         ensures state { state self.new ≡ made_by method (Popup method surface) (state self.old) }
         ensures told { Reached P.may_follow post.old (says (acts.Popup method surface) (state self.old)) post.new }
     {
@@ -119,7 +118,7 @@ impl Machine {
         let Some(rect) = self.cursor() else {
             return;
         };
-        if let Some(object) = object_of(&self.objects, self.acts) {
+        if let Some(object) = self.objects.object_of(self.acts) {
             self.tell_popup(rect, object, post);
         }
     }
@@ -128,7 +127,7 @@ impl Machine {
         ensures state { state self.new ≡ moved (acts.Area surface rect) (state self.old) }
         ensures told { Reached P.may_follow post.old (says (acts.Area surface rect) (state self.old)) post.new }
     {
-        place_surface(&mut self.objects, surface, rect);
+        self.objects.place_surface(surface, rect);
         self.tell_popups(post);
     }
 

@@ -3,7 +3,7 @@ use crate::machine::Machine;
 use edit_batch::Pending;
 use kbd_grab::{Grab, Route};
 use relay_model::{Act, Label, Size};
-use seat_objects::{Post, Spare, has_popup};
+use seat_objects::{Objects, Post, Spare};
 use serial_count::{Count32, Since};
 use std::alloc::Global;
 use std::marker::Model;
@@ -47,7 +47,7 @@ impl Relay {
             machine: Machine {
                 alloc,
                 acts: 0,
-                objects: Vec::new(alloc),
+                objects: Objects::new(alloc),
                 focus: None,
                 holder: None,
                 serving: None,
@@ -102,6 +102,6 @@ impl Relay {
     pub fn has_popup(&self, surface: Label) -> bool
         ensures { (log : List Act) → StandsFor self.now log → result ≡ has_popup (history log) surface }
     {
-        has_popup(&self.machine.objects, surface)
+        self.machine.objects.has_popup(surface)
     }
 }

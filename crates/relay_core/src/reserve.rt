@@ -1,5 +1,5 @@
 // What is made before an act.
-ghost use Rattle.std.specs.Prelude.{◌≡◌, ◌-◌, ◌<◌, Some, None, vec_len, vec_capacity, OnOk};
+ghost use Rattle.std.specs.Prelude.{◌≡◌, ◌-◌, ◌<◌, Some, None, OnOk};
 ghost use Rattle.relay_model.specs.declared.act.Act.{Act};
 ghost use Rattle.seat_objects.specs.Objects.{find, field_in};
 ghost use Rattle.relay_core.specs.Kept.{state, HasSpare, text_pending};
@@ -8,7 +8,6 @@ ghost use Rattle.relay_core.specs.Machine.{made, text_around, holder_state};
 use crate::machine::Machine;
 use field_state::Field;
 use relay_model::{Act, Label};
-use seat_objects::{field_at, field_of};
 use wio_core::NoMemory;
 
 fn surrounding_text(field: &Field) -> &str
@@ -35,7 +34,7 @@ impl Machine {
         ensures objects { self.new.objects ≡ self.old.objects }
         ensures text { OnOk result (self.new.spare.text ≡ text_around (holder_state (state self.old)).surrounding) }
     {
-        match field_at(&self.objects, self.holder) {
+        match self.objects.field_at(self.holder) {
             Some(field) => self.spare.copy_text(self.alloc, surrounding_text(field)),
             None => self.spare.copy_text(self.alloc, ""),
         }
@@ -46,7 +45,7 @@ impl Machine {
         ensures objects { self.new.objects ≡ self.old.objects }
         ensures text { OnOk result (self.new.spare.text ≡ text_pending (field_in (find (state self.old).objects field))) }
     {
-        match field_of(&self.objects, field) {
+        match self.objects.field_of(field) {
             Some(field) => self.spare.copy_text(self.alloc, pending_text(field)),
             None => self.spare.copy_text(self.alloc, ""),
         }
@@ -81,10 +80,10 @@ impl Machine {
     /// Makes the room for one act, and what else it needs.
     pub fn reserve(&mut self, act: &Act) -> Result<(), NoMemory>
         ensures same { state self.new ≡ state self.old }
-        ensures room { OnOk result (vec_len self.new.objects < vec_capacity self.new.objects) }
+        ensures room { OnOk result (0 < self.new.objects.room) }
         ensures spare { OnOk result (HasSpare (state self.new) self.new.spare act.now) }
     {
-        self.objects.reserve(1)?;
+        self.objects.reserve()?;
         self.spare_for(act)
     }
 }

@@ -1,2 +1,15 @@
 pub mod Mapped
 pub mod Reaches
+pub mod SiftedLists
+pub mod RisingNumbers
+pub mod SearchedPlaces
+pub mod NamedObjects
+pub mod NewObject
+pub mod RemovedObjects
+pub mod PeerParts
+pub mod ListedObjects
+pub mod LeftFields
+pub mod ChangedLists
+pub mod FocusVisits
+pub mod PopupSurfaces
+pub mod ToldFields

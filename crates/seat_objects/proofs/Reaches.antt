@@ -1,6 +1,5 @@
 -- One list of tells after the other.
 use Rattle.std.proofs.Common.{List, [], ◌∷◌, ◌++◌, subst}
-use Rattle.relay_model.specs.declared.said.Told.{Told}
 use Rattle.seat_objects.specs.Reached.{Reached}
 
 pub reached_append : {P E : Type 0} (R : P → E → P → Type 0) (xs ys : List E) (a b c : P) →

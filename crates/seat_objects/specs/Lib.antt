@@ -1,5 +1,11 @@
 pub mod Objects
 pub mod Fits
+pub mod Rising
+pub mod Labels
+pub mod Changes
+pub mod Places
+pub mod Listed
+pub mod Living
 pub mod Groups
 pub mod Reached
 pub mod Saying

@@ -9,6 +9,7 @@ use Rattle.relay_model.specs.Told.{to}
 use Rattle.field_state.specs.Calls as field
 use Rattle.field_state.specs.Stands.{Kept}
 use Rattle.seat_objects.specs.declared.object.Object.{Object}
+use Rattle.seat_objects.specs.declared.listed.LiveField.{LiveField}
 use Rattle.seat_objects.specs.Objects.{is_field_in}
 
 -- what each field of the peer is told
@@ -16,6 +17,10 @@ abbrev pub said_to : Said → Option ℕ → List Object → List Told
 said_to say peer [] = []
 said_to say peer (o ∷ os) =
     (if is_field_in (Some o) && is_at peer o.peer then to o.label say ∷ said_to say peer os else said_to say peer os)
+
+-- the event for each of these fields
+abbrev pub told_each : Said → List LiveField → List Told
+told_each say ws = map (λ w. to w.label say) ws
 
 -- the current state of a field
 abbrev pub current_of : Option Kept → field.State

@@ -2,16 +2,20 @@
 #![tactic(auto)]
 
 mod asking;
+mod change;
+mod entered;
+mod listed;
 mod object;
+mod objects;
+mod place;
 mod post;
+mod shelf;
 mod spare;
 mod told;
 
-pub use object::{
-    Kind, NO_AREA, Object, area_of, commit, count_of, field_at, field_of, has_popup, is_method,
-    is_number, is_peer, is_same, is_surface, object_of, owner, place_surface, refocus,
-    remove_object, remove_peer, request,
-};
+pub use listed::{LiveField, LivePopup};
+pub use object::{Kind, NO_AREA, Object, is_number, is_same};
+pub use objects::Objects;
 pub use post::{
     Group, Post, Preedit, tell_activate, tell_deactivate, tell_deleted, tell_enter, tell_enters,
     tell_group, tell_leaves, tell_unavailable, tell_update,

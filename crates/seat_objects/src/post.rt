@@ -5,9 +5,10 @@ ghost use Rattle.relay_model.specs.Batch.{deletion_said, string_said, preedit_sa
 ghost use Rattle.relay_model.specs.Told.{to, deleted};
 ghost use Rattle.seat_objects.specs.Reached.{Reached};
 ghost use Rattle.seat_objects.specs.Groups.{preedit_in, batch_in};
-ghost use Rattle.seat_objects.specs.Saying.{said_to, current_of, text_around, around_told, state_told, group_told, activate_told, update_told, deactivate_told};
+ghost use Rattle.seat_objects.specs.Saying.{said_to, told_each, current_of, text_around, around_told, state_told, group_told, activate_told, update_told, deactivate_told};
 
-use crate::object::{Object, is_number};
+use crate::listed::LiveField;
+use crate::objects::Objects;
 use field_state::Field;
 use relay_model::{Label, Said, Text, Told};
 
@@ -31,14 +32,20 @@ pub fn tell_enter<P: Post>(field: Label, surface: Label, post: &mut P)
     });
 }
 
-/// Tells each field of the peer that the surface has the focus, in order.
-pub fn tell_enters<P: Post>(objects: &[Object], peer: Option<Label>, surface: Label, post: &mut P)
-    ensures { Reached P.may_follow post.old (said_to (Said.Enter surface) peer objects.now) post.new }
+fn enter_each<P: Post>(fields: &[LiveField], surface: Label, post: &mut P)
+    ensures { Reached P.may_follow post.old (told_each (Said.Enter surface) fields.now) post.new }
 {
-    for object in objects {
-        if object.is_field() && is_number(peer, object.peer) {
-            tell_enter(object.label, surface, post);
-        }
+    for field in fields {
+        tell_enter(field.label, surface, post);
+    }
+}
+
+/// Tells each field of the peer that the surface has the focus, by rising label.
+pub fn tell_enters<P: Post>(objects: &Objects, peer: Option<Label>, surface: Label, post: &mut P)
+    ensures { Reached P.may_follow post.old (said_to (Said.Enter surface) peer objects.now.items) post.new }
+{
+    if let Some(peer) = peer {
+        enter_each(objects.fields_of(peer), surface, post);
     }
 }
 
@@ -51,14 +58,20 @@ fn tell_leave<P: Post>(field: Label, surface: Label, post: &mut P)
     });
 }
 
-/// Tells each field of the peer that the surface has the focus no longer, in order.
-pub fn tell_leaves<P: Post>(objects: &[Object], peer: Option<Label>, surface: Label, post: &mut P)
-    ensures { Reached P.may_follow post.old (said_to (Said.Leave surface) peer objects.now) post.new }
+fn leave_each<P: Post>(fields: &[LiveField], surface: Label, post: &mut P)
+    ensures { Reached P.may_follow post.old (told_each (Said.Leave surface) fields.now) post.new }
 {
-    for object in objects {
-        if object.is_field() && is_number(peer, object.peer) {
-            tell_leave(object.label, surface, post);
-        }
+    for field in fields {
+        tell_leave(field.label, surface, post);
+    }
+}
+
+/// Tells each field of the peer that the surface has the focus no longer, by rising label.
+pub fn tell_leaves<P: Post>(objects: &Objects, peer: Option<Label>, surface: Label, post: &mut P)
+    ensures { Reached P.may_follow post.old (said_to (Said.Leave surface) peer objects.now.items) post.new }
+{
+    if let Some(peer) = peer {
+        leave_each(objects.fields_of(peer), surface, post);
     }
 }
 

@@ -3,9 +3,8 @@ use field_state::Field;
 use kbd_grab::Route;
 use relay_model::{Label, Said, Text, Told};
 use seat_objects::{
-    Group, Kind, NO_AREA, Object, Post, Preedit, Spare, commit, count_of, is_surface, owner,
-    refocus, tell_activate, tell_deactivate, tell_deleted, tell_enters, tell_grab, tell_group,
-    tell_key, tell_leaves, tell_unavailable,
+    Group, Kind, NO_AREA, Object, Objects, Post, Preedit, Spare, tell_activate, tell_deactivate,
+    tell_deleted, tell_enters, tell_grab, tell_group, tell_key, tell_leaves, tell_unavailable,
 };
 use std::alloc::Global;
 use std::process::Abort;
@@ -57,29 +56,31 @@ fn each_part_is_told(rt: HostRuntime) -> Result<(), Fail> {
 }
 
 // The focus comes to a surface of the peer 1, goes, and the field 3 commits.
-fn focus_comes_and_goes(rt: &impl Abort, objects: &mut [Object]) {
+fn focus_comes_and_goes(rt: &impl Abort, objects: &mut Objects) {
     let mut post = Tally { told: 0, last: 0 };
-    refocus(objects, Some(1));
+    objects.refocus(Some(1));
     tell_enters(objects, Some(1), 2, &mut post);
     tell_leaves(objects, Some(1), 2, &mut post);
-    commit(objects, 3, None);
+    objects.commit(3, None);
     assert_eq!(rt; (post.told, post.last), (2, 3));
-    assert_eq!(rt; count_of(objects, 3), 1);
-    assert!(rt; is_surface(objects, 2) && !is_surface(objects, 3));
-    assert_eq!(rt; owner(objects, 3), Some(1));
+    assert_eq!(rt; objects.count_of(3), 1);
+    assert!(rt; objects.is_surface(2) && !objects.is_surface(3));
+    assert_eq!(rt; objects.owner(3), Some(1));
 }
 
 #[test]
 fn fields_of_the_peer_are_told(rt: HostRuntime) -> Result<(), Fail> {
     let alloc = rt.alloc();
     let surface = Kind::Surface { area: NO_AREA };
-    let mut objects = Vec::new(alloc);
+    let mut objects = Objects::new(alloc);
     for (label, kind) in [(2, surface), (3, Kind::Field(Field::new(alloc)?))] {
-        objects.push(Object {
+        objects.reserve()?;
+        assert!(rt; objects.bound() <= u64::from(label));
+        objects.make(Object {
             label,
             peer: 1,
             kind,
-        })?;
+        });
     }
     focus_comes_and_goes(&rt, &mut objects);
     Ok(())

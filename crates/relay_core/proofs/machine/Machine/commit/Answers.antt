@@ -8,7 +8,7 @@ use Rattle.relay_core.proofs.machine.Machine.commit.Goals as goal
 pub hold-requires : goal.hold-requires
 hold-requires g c = λ e.
     let same : c.taken-taken.result ≡ taken_in (field_in (find c.args.self.now.objects.items c.args.field)) =
-    c.taken-taken.ensures ∙ ap (λ os. taken_in (field_in (find os c.args.field))) c.deref.ensures.value in
+    c.taken-taken.ensures in
     ap (λ spare. spare.text) c.commit_field.ensures.spare ∙ c.requires ∙
     text_committed c.args.field (displaced_by c.taken-taken.result c.args.self.now.holder) c.args.self.now.objects.items
     (sym (ap holds_after same) ∙ e) ∙

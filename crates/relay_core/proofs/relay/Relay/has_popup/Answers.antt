@@ -8,5 +8,5 @@ use Rattle.relay_core.proofs.relay.Relay.has_popup.Goals as goal
 pub returns : goal.returns
 returns c = λ log h.
     c.has_popup.ensures ∙
-    ap (λ os. has_popup_in os c.args.surface) (c.deref.ensures.value ∙ ap (λ (k : Shown). k.state.objects) c.self.view_is) ∙
+    ap (λ (k : Shown). has_popup_in k.state.objects c.args.surface) c.self.view_is ∙
     finds_popup c.args.self.now.state (history log) c.args.surface h
