@@ -1,4 +1,4 @@
-use Rattle.std.proofs.Common.{ℕ, List, refl, subst}
+use Rattle.std.proofs.Common.{ℕ, List, refl, sym, subst}
 use Rattle.std.specs.Prelude.{string_bytes}
 use Rattle.session_text.specs.Transcript.{out_line}
 use Rattle.broker_core.specs.Watched.{Watched}
@@ -15,4 +15,4 @@ returns c =
     subst (λ (p : Printing). MayPrint p event (printing (string_bytes c.add_line.new.text) (string_bytes c.self.inside.shell) c.is_err-self-inside.result)) c.self.view_is
     (text_printed event (with_feed line) (string_bytes c.self.inside.text) (string_bytes c.add_line.new.text) (string_bytes c.self.inside.shell)
     c.self.inside.is_short c.is_err-self-inside.result c.add_line.result c.if-self.false c.is_err-self-inside.ensures.value refl
-    (c.add_line.ensures.ok line c.print_out-line.ensures.value) c.add_line.ensures.err)
+    (c.add_line.ensures.ok line (rw (sym c.as_str.ensures.value) at c.write_out-written.ensures.value)) c.add_line.ensures.err)
