@@ -48,8 +48,11 @@ impl Machine {
     )
         ensures { Reached P.may_follow post.old (shown_told (state self.now) rect popup method surface) post.new }
     {
-        if is_number(self.serving, method) && self.objects.object_of(surface).is_some() {
-            let area = self.objects.area_of(surface);
+        if !is_number(self.serving, method) {
+            return;
+        }
+        if let Some(object) = self.objects.object_of(surface) {
+            let area = object.area();
             let size = Size {
                 width: area.width,
                 height: area.height,

@@ -10,7 +10,7 @@ use std::marker::Model;
 use wio_core::NoMemory;
 
 /// The broker's state on one seat: which objects live, which surface has the focus, which field holds the seat, which method serves, and what is
-/// pending. It stands for the list of all acts that it took, of which it keeps no copy: an act costs the live objects and what it tells, whatever came before.
+/// pending. It stands for the list of all acts that it took, of which it keeps no copy: an act costs the objects that it changes and what it tells, however many others live and whatever came before.
 #[derive(Drop)]
 pub struct Relay {
     machine: Machine,

@@ -1,10 +1,10 @@
 // What each act makes of what the relay keeps.
-ghost use Rattle.std.specs.Prelude.{◌≡◌, ◌&&◌, ◌+◌, ◌<◌, ◌≤◌, ◌^◌, true, Option, Some, None};
+ghost use Rattle.std.specs.Prelude.{◌≡◌, ◌&&◌, ◌+◌, ◌<◌, ◌≤◌, true, Option, Some, None};
 ghost use Rattle.relay_model.specs.declared.act.Act.{Act};
 ghost use Rattle.relay_model.specs.Idle.{is_place, is_sized};
 ghost use Rattle.field_state.specs.Changes as change;
 ghost use Rattle.seat_objects.specs.Fits.{FitsMessage};
-ghost use Rattle.seat_objects.specs.Objects.{find, is_field_in};
+ghost use Rattle.seat_objects.specs.Objects.{find};
 ghost use Rattle.seat_objects.specs.Reached.{Reached};
 ghost use Rattle.relay_core.specs.Kept.{state, HasRoom, HasSpare};
 ghost use Rattle.relay_core.specs.Machine.{owner_at, entered_in, is_live_in, is_thing_in, made, new_field, serves, dropped, gone, moved, after, enter_told, drop_told, gone_told, says, tells, route_of};
@@ -13,9 +13,7 @@ use crate::machine::Machine;
 use crate::peers::{tell_error, tell_synced};
 use kbd_grab::Route;
 use relay_model::{Act, Label, Rect};
-use seat_objects::{
-    Kind, NO_AREA, Object, Objects, Post, is_number, is_same, tell_deleted, tell_enter,
-};
+use seat_objects::{Kind, NO_AREA, Object, Objects, Post, is_number, tell_deleted, tell_enter};
 
 /// The peer of an object that may be there.
 pub fn owner_at(objects: &Objects, label: Option<Label>) -> Option<Label>
@@ -53,11 +51,12 @@ impl Machine {
     fn is_entered(&self, field: Label) -> bool
         ensures { result ≡ entered_in (state self.now) field }
     {
-        self.objects.is_field(field)
-            && is_same(
-                self.objects.owner(field),
-                owner_at(&self.objects, self.focus),
-            )
+        match self.objects.object_of(field) {
+            Some(object) => {
+                object.is_field() && is_number(owner_at(&self.objects, self.focus), object.peer)
+            }
+            None => false,
+        }
     }
 
     // The act may do something; a press of a key that is refused does nothing besides.

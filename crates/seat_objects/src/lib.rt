@@ -14,7 +14,7 @@ mod spare;
 mod told;
 
 pub use listed::{LiveField, LivePopup};
-pub use object::{Kind, NO_AREA, Object, is_number, is_same};
+pub use object::{Kind, NO_AREA, Object, is_number};
 pub use objects::Objects;
 pub use post::{
     Group, Post, Preedit, tell_activate, tell_deactivate, tell_deleted, tell_enter, tell_enters,

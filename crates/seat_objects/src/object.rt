@@ -1,13 +1,11 @@
-// The live objects, by rising label.
-ghost use Rattle.std.specs.Prelude.{◌≡◌, ◌≤◌, map, filter, option_map, Some, None, false};
+// What a live object is.
+ghost use Rattle.std.specs.Prelude.{◌≡◌, option_map, Some, None, false};
+ghost use Rattle.relay_model.specs.Objects.{is_at};
 ghost use Rattle.seat_objects.specs.Listed.{is_popup_kind};
-ghost use Rattle.relay_model.specs.Objects.{is_at, is_same};
-ghost use Rattle.seat_objects.specs.Fits.{FitsMessage};
-ghost use Rattle.seat_objects.specs.Objects.{find, owner_in, area_in, surface_of_kind, has_popup_in, not_label, not_peer, requested, refocused, committed, placed_at, field_in, field_at, count_in, is_peer_in, is_field_in, is_surface_in, is_method_in};
+ghost use Rattle.seat_objects.specs.Objects.{area_in, refocused, field_in, is_field_in};
 
-use crate::asking::ask;
 use field_state::Field;
-use relay_model::{Act, Label, Rect};
+use relay_model::{Label, Rect};
 
 /// What an object is, with all that a field keeps.
 #[derive(Drop)]
@@ -45,16 +43,6 @@ pub fn is_number(slot: Option<Label>, label: Label) -> bool
 {
     match slot {
         Some(there) => there == label,
-        None => false,
-    }
-}
-
-/// Both are named, and are the same.
-pub fn is_same(one: Option<Label>, other: Option<Label>) -> bool
-    ensures { result ≡ is_same one other }
-{
-    match one {
-        Some(label) => is_number(other, label),
         None => false,
     }
 }
