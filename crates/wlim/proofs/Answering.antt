@@ -1,11 +1,10 @@
--- The answer for some lines, by its first line.
+-- The answer for an act list, by its first line.
 use Rattle.std.proofs.Common.{◌≡◌, ℕ, ◌+◌, ◌<◌, Bool, true, false, List, [], ◌∷◌, ◌++◌, length, refl, sym, ap, subst, ◌∙◌, append_assoc, Option, Some, None}
 use Rattle.std.specs.Prelude.{nat_lt, if◌then◌else◌}
 use Rattle.std.proofs.lemmas.Bool.{ltb-true}
 use Rattle.relay_model.specs.declared.act.Act.{Act}
 use Rattle.relay_model.specs.declared.act.Act.TheVariants as acts
 use Rattle.relay_model.specs.Told.{told}
-use Rattle.wlim.specs.Lines.{lines_of}
 use Rattle.wlim.specs.declared.act_list.Verdict.{Verdict}
 use Rattle.wlim.specs.declared.act_list.Verdict.TheVariants as verdict
 use Rattle.wlim.specs.declared.act_list.TheConstants.{ACT_LIMIT}
@@ -17,7 +16,7 @@ use Rattle.session_text.specs.Grammar.{HasLine}
 use Rattle.session_text.specs.Reading.{line_of}
 use Rattle.session_text.proofs.Laws.{reads_only}
 use Rattle.wlim.specs.Endings.{Answer, with_front, without_end}
-use Rattle.wlim.specs.Transcript.{verdict_of_line, answer_of, answer_from, by_verdict, verdict_of, act_text}
+use Rattle.wlim.specs.Transcript.{verdict_of_line, answer_from, by_verdict, verdict_of, act_text}
 
 pub front_of_front : (a b : List ℕ) (x : Answer) → with_front a (with_front b x) ≡ with_front (a ++ b) x
 front_of_front a b x = ap (λ t. (t, x.1)) (sym (append_assoc a b x.0))
@@ -27,31 +26,14 @@ abbrev pub by_line : Bool → List Act → ℕ → Verdict → List (List ℕ) �
 by_line cut log n v more =
     by_verdict n v (λ act. act_text (length log + 1) (told act log)) (λ act. answer_from cut (act ∷ log) more)
 
-answer_cons : (cut : Bool) (log : List Act) (raw : List ℕ) (lines : List (List ℕ)) →
+pub answer_cons : (cut : Bool) (log : List Act) (raw : List ℕ) (lines : List (List ℕ)) →
     answer_from cut log (raw ∷ lines) ≡ by_line cut log (length log) (verdict_of (length log) raw) lines
 unfolding answer_from
 answer_cons cut log raw lines = refl
 
-answer_nil : (cut : Bool) (log : List Act) → answer_from cut log [] ≡ without_end cut (length log)
+pub answer_nil : (cut : Bool) (log : List Act) → answer_from cut log [] ≡ without_end cut (length log)
 unfolding answer_from
 answer_nil cut log = refl
-
--- what a line makes of the whole
-pub step : (cut : Bool) (log : List Act) (n : ℕ) (t raw : List ℕ) (lines more : List (List ℕ)) (v : Verdict) (whole : Answer) → n ≡ length log →
-    with_front t (answer_from cut log lines) ≡ whole → lines ≡ raw ∷ more → v ≡ verdict_of n raw → with_front t (by_line cut log n v more) ≡ whole
-step cut log n t raw lines more v whole count e split is =
-    ap (λ w. with_front t (by_line cut log n w more)) is ∙ ap (λ m. with_front t (by_line cut log m (verdict_of m raw) more)) count ∙ ap (with_front t) (sym (answer_cons cut log raw more)) ∙
-    ap (λ l. with_front t (answer_from cut log l)) (sym split) ∙ e
-
--- where no line is left
-pub ends : (cut : Bool) (log : List Act) (n : ℕ) (t : List ℕ) (lines : List (List ℕ)) (whole : Answer) → n ≡ length log →
-    with_front t (answer_from cut log lines) ≡ whole → lines ≡ [] → with_front t (without_end cut n) ≡ whole
-ends cut log n t lines whole count e none =
-    ap (λ m. with_front t (without_end cut m)) count ∙ ap (with_front t) (sym (answer_nil cut log)) ∙ ap (λ l. with_front t (answer_from cut log l)) (sym none) ∙ e
-
-pub starts : (cut : Bool) (input : List ℕ) → with_front [] (answer_from cut [] (lines_of cut input)) ≡ answer_of cut input
-unfolding answer_of
-starts cut input = refl
 
 -- an act that a line can give fits a message
 line_fits : (act : Act) → HasLine act → FitsMessage act
