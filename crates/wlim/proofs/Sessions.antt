@@ -19,7 +19,6 @@ use Rattle.broker_model.specs.declared.journal.Entry.TheVariants as entries
 use Rattle.broker_model.specs.Ids.{peer_at}
 use Rattle.broker_model.specs.Limits.{number_counted}
 use Rattle.broker_model.specs.Resolve.{past_of}
-use Rattle.broker_core.specs.Taking.{lives}
 use Rattle.seat_printer.specs.Transcribed.{entry_text, journal_text, text_since}
 use Rattle.session_play.specs.Played.{Play, Played, went, step_played, line_played}
 use Rattle.session_play.specs.Playing.{IsMore}
@@ -59,7 +58,7 @@ text_grows capacity before after m =
 pub line_grows : (limits : Limits) (found : SessionLine) (play : Play) → IsMore play.journal (line_played limits found play).play.journal
 line_grows limits (lines.Join role) play = join_grows limits (entries.Join role) play
 line_grows limits (lines.Bytes q piece) play = bytes_grow limits q piece play
-line_grows limits (lines.Gone q) play = by (lives play.journal q)
+line_grows limits (lines.Gone q) play = by _
   where
     by : (b : Bool) → IsMore play.journal (if b then step_played limits (entries.End q Gone) play else went play).play.journal
     by true = step_grows limits (entries.End q Gone) play

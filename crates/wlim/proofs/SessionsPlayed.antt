@@ -1,6 +1,6 @@
 -- What one line more makes of a session.
-use Rattle.std.proofs.Common.{◌≡◌, ℕ, ◌+◌, ◌<◌, Bool, true, false, List, [], ◌∷◌, ◌++◌, length, Option, Some, None, refl, sym, ap, subst, ◌∙◌, append_assoc, append-nil, length-append}
-use Rattle.std.specs.Prelude.{if◌then◌else◌}
+use Rattle.std.proofs.Common.{◌≡◌, ℕ, ◌+◌, ◌<◌, Bool, true, false, List, [], ◌∷◌, ◌++◌, length, Option, Some, None, Ok, Err, refl, sym, ap, subst, ◌∙◌, append_assoc, append-nil, length-append}
+use Rattle.std.specs.Prelude.{if◌then◌else◌, Result, IfOk}
 use Rattle.std.specs.Option.{option_map}
 use Rattle.seat_steps.specs.declared.limits.Limits.{Limits}
 use Rattle.session_text.specs.Reading.{line_limit}
@@ -108,7 +108,7 @@ pub went_on : (player after : Playing) (printer printer_after : Printing) (line 
     → after ≡ record player { play = after.play } → after.limits ≡ player.limits
     → IsWatched MayPrint player.limits.store player.play.journal printer after.play.journal printer_after → Went player after printer printer_after line None
 went_on player after printer printer_after line played same limits watched = record {
-  full = sym (full_of (line_played player.limits line player.play) false played.0);
+  full = ap (option_map last.Full) (sym (full_of (line_played player.limits line player.play) false played.0));
   play = λ e. same ∙ ap (λ (x : Play). record player { play = x }) played.1;
   journal = ap (λ (x : Play). x.journal) played.1;
   limits = limits;
@@ -117,12 +117,12 @@ went_on player after printer printer_after line played same limits watched = rec
 
 pub went_full : (player after : Playing) (printer printer_after : Printing) (line : SessionLine) (kept : Kept) → IsPlayed (line_played player.limits line player.play) (Err (stops.Full kept)) after.play
     → after.limits ≡ player.limits
-    → IsWatched MayPrint player.limits.store player.play.journal printer after.play.journal printer_after → Went player after printer printer_after line (Some kept.entries)
+    → IsWatched MayPrint player.limits.store player.play.journal printer after.play.journal printer_after → Went player after printer printer_after line (Some (last.Full kept.entries))
 went_full player after printer printer_after line kept played limits watched =
     let p = line_played player.limits line player.play in
     let counted : kept.entries ≡ number_counted p.play.journal = ap (λ (k : Kept). k.entries) played.1 in
     record {
-      full = ap (λ n. Some n) counted ∙ sym (full_of p true played.0);
+      full = ap (λ n. Some (last.Full n)) counted ∙ ap (option_map last.Full) (sym (full_of p true played.0));
       play = λ e. absurd (cc e);
       journal = played.2;
       limits = limits;
@@ -141,9 +141,9 @@ grows player after found same =
     (subst (λ (j : List Entry). IsMore player.play.journal j) (sym same) (line_grows player.limits found player.play))
 
 -- the printer holds it
-holds_line : (player after : Playing) (printer printer_after : Printing) (found : SessionLine) (full : Option ℕ) (gathered : List ℕ) → Went player after printer printer_after found full
+holds_line : (player after : Playing) (printer printer_after : Printing) (found : SessionLine) (end : Option LastLine) (gathered : List ℕ) → Went player after printer printer_after found end
     → PlayerHolds player printer gathered → PlayerHolds after printer_after (gathered ++ gained player after)
-holds_line player after printer printer_after found full gathered w h =
+holds_line player after printer printer_after found end gathered w h =
     let store : player.limits.store ≡ after.limits.store = ap (λ (l : Limits). l.store) (sym w.limits) in
     record {
       written = h.written;
@@ -163,8 +163,9 @@ one_more done raw = length-append done (raw ∷ [])
 
 -- it goes on
 stands_line : (player after : Playing) (printer printer_after : Printing) (found : SessionLine) (before : ℕ) (done : List (List ℕ)) (raw output : List ℕ) → PlayerStands player before done output
-    → meaning.Play found ≡ meaning_of raw → Went player after printer printer_after found None → PlayerStands after (before + 1) (done ++ raw ∷ []) (output ++ gained player after)
-stands_line player after printer printer_after found before done raw output s is w =
+    → meaning.Play found ≡ meaning_of raw → None ≡ full_at (line_played player.limits found player.play) → Went player after printer printer_after found None
+    → PlayerStands after (before + 1) (done ++ raw ∷ []) (output ++ gained player after)
+stands_line player after printer printer_after found before done raw output s is room w =
     let went = w.play refl in
     let store : player.limits.store ≡ after.limits.store = ap (λ (l : Limits). l.store) (sym w.limits) in
     record {
@@ -172,26 +173,45 @@ stands_line player after printer printer_after found before done raw output s is
       count = ap (λ k. k + 1) s.count ∙ sym (one_more done raw);
       said = subst (λ (n : ℕ). output ++ gained player after ≡ journal_text n after.play.journal) store (said_line player after found before done output s w.journal);
       goes_on = λ cut more.
-          goes_further player before done output raw found s is w.full cut more
+          goes_further player before done output raw found s is room cut more
           ∙ ap (λ (p : Playing). session_from p.limits cut (before + 1) p.play more) (sym went);
     }
 
--- a line that was played
-pub line_told : (player after : Playing) (printer printer_after : Printing) (found : SessionLine) (before : ℕ) (done : List (List ℕ)) (raw output gathered : List ℕ) (full : Option ℕ)
-    → PlayerStands player before done output → PlayerHolds player printer gathered → meaning.Play found ≡ meaning_of raw → Went player after printer printer_after found full
+-- by the entries that are counted where the journal was full
+told_by : (player after : Playing) (printer printer_after : Printing) (found : SessionLine) (before : ℕ) (done : List (List ℕ)) (raw output gathered : List ℕ) (full : Option ℕ)
+    → PlayerStands player before done output → PlayerHolds player printer gathered → meaning.Play found ≡ meaning_of raw
+    → full ≡ full_at (line_played player.limits found player.play) → Went player after printer printer_after found (option_map last.Full full)
     → Played session_of_lines (PlayerStands after (before + 1)) (PlayerHolds after printer_after) done raw output gathered (option_map last.Full full)
-line_told player after printer printer_after found before done raw output gathered None s h is w =
-    let next = stands_line player after printer printer_after found before done raw output s is w in
+told_by player after printer printer_after found before done raw output gathered None s h is room w =
+    let next = stands_line player after printer printer_after found before done raw output s is room w in
     (gained player after, next, holds_line player after printer printer_after found None gathered w h, follows after (before + 1) (done ++ raw ∷ []) (output ++ gained player after) next)
-line_told player after printer printer_after found before done raw output gathered (Some entries) s h is w =
+told_by player after printer printer_after found before done raw output gathered (Some entries) s h is room w =
     let text : journal_text player.limits.store (line_played player.limits found player.play).play.journal ≡ output ++ gained player after =
         ap (journal_text player.limits.store) (sym w.journal) ∙ sym (said_line player after found before done output s w.journal) in
     (
       gained player after,
-      holds_line player after printer printer_after found (Some entries) gathered w h,
+      holds_line player after printer printer_after found (Some (last.Full entries)) gathered w h,
       subst (λ t. Settles session_of_lines (done ++ raw ∷ []) (with_front t (ending (last.Full entries)))) text
-          (settles_full player before done output raw found entries s is w.full),
+          (settles_full player before done output raw found entries s is room),
     )
+
+-- a line that was played
+pub line_told : (player after : Playing) (printer printer_after : Printing) (found : SessionLine) (before : ℕ) (done : List (List ℕ)) (raw output gathered : List ℕ) (end : Option LastLine)
+    → PlayerStands player before done output → PlayerHolds player printer gathered → meaning.Play found ≡ meaning_of raw → Went player after printer printer_after found end
+    → Played session_of_lines (PlayerStands after (before + 1)) (PlayerHolds after printer_after) done raw output gathered end
+line_told player after printer printer_after found before done raw output gathered end s h is w =
+    let full : Option ℕ = full_at (line_played player.limits found player.play) in
+    subst (Played session_of_lines (PlayerStands after (before + 1)) (PlayerHolds after printer_after) done raw output gathered) (sym w.full)
+    (told_by player after printer printer_after found before done raw output gathered full s h is refl (subst (Went player after printer printer_after found) w.full w))
+
+-- the same of a call that may have found no memory
+pub line_told_if : {E : Type 0} (player after : Playing) (printer printer_after : Printing) (found : SessionLine) (before : ℕ) (done : List (List ℕ)) (raw output gathered : List ℕ)
+    (r : Result (Option LastLine) E) → PlayerStands player before done output → PlayerHolds player printer gathered → meaning.Play found ≡ meaning_of raw
+    → IfOk r (Went player after printer printer_after found)
+    → IfOk r (Played session_of_lines (PlayerStands after (before + 1)) (PlayerHolds after printer_after) done raw output gathered)
+line_told_if player after printer printer_after found before done raw output gathered (Ok end) s h is w =
+    line_told player after printer printer_after found before done raw output gathered end s h is w
+line_told_if player after printer printer_after found before done raw output gathered (Err e) s h is w = tt
 
 -- a line that ends the session without a step tells nothing before the last line
 pub ended : (stands : List (List ℕ) → List ℕ → Type 0) (player : Playing) (printer : Printing) (done : List (List ℕ)) (raw output gathered : List ℕ) (end : LastLine) → PlayerHolds player printer gathered
@@ -244,3 +264,36 @@ holds_none player = record {
   watched = watched_none MayPrint player.limits.store player.play.journal blank;
   text = sym (append-nil (journal_text player.limits.store player.play.journal));
 }
+
+-- a header came first
+
+Begun : Playing → ℕ → Printing → List (List ℕ) → List ℕ → List ℕ → List ℕ → Type 0
+Begun player before printer done raw output gathered =
+    (x : List ℕ) × PlayerStands player before (done ++ raw ∷ []) (output ++ x) × PlayerHolds player printer (gathered ++ x) × Follows session_of_lines (done ++ raw ∷ []) (output ++ x)
+
+begun_fresh : (limits : Limits) (raw : List ℕ) → Some limits ≡ header_of raw → Begun (fresh limits) 1 blank [] raw [] []
+unfolding Begun
+begun_fresh limits raw is =
+    let s = header_stands limits raw is in
+    ([], s, header_holds limits, follows (fresh limits) 1 (raw ∷ []) [] s)
+
+begun_by : (player : Playing) (raw : List ℕ) (o : Option Limits) → o ≡ header_of raw → Some player ≡ option_map fresh o → Begun player 1 blank [] raw [] []
+begun_by player raw None is e = absurd (cc e)
+begun_by player raw (Some limits) is e =
+    let same : fresh limits ≡ player = cc e in subst (λ (p : Playing). Begun p 1 blank [] raw [] []) same (begun_fresh limits raw is)
+
+pub begun : (player : Playing) (before : ℕ) (printer : Printing) (done : List (List ℕ)) (raw output gathered : List ℕ) → Some player ≡ option_map fresh (header_of raw)
+    → (before ≡ 1) × (done ≡ []) × (output ≡ []) → (printer ≡ blank) × (gathered ≡ [])
+    → (x : List ℕ) × PlayerStands player before (done ++ raw ∷ []) (output ++ x) × PlayerHolds player printer (gathered ++ x) × Follows session_of_lines (done ++ raw ∷ []) (output ++ x)
+unfolding Begun
+begun player before printer done raw output gathered is stood held =
+    subst (λ n. Begun player n printer done raw output gathered) (sym stood.0)
+    (subst (λ d. Begun player 1 printer d raw output gathered) (sym stood.1)
+    (subst (λ t. Begun player 1 printer [] raw t gathered) (sym stood.2)
+    (subst (λ (p : Printing). Begun player 1 p [] raw [] gathered) (sym held.0)
+    (subst (λ t. Begun player 1 blank [] raw [] t) (sym held.1) (begun_by player raw (header_of raw) refl is)))))
+
+-- the first line is no header
+pub no_begin : (raw : List ℕ) (o : Option Limits) → o ≡ header_of raw → None ≡ option_map fresh o → None ≡ header_of raw
+no_begin raw None is e = is
+no_begin raw (Some limits) is e = absurd (cc e)

@@ -53,19 +53,19 @@ fn header(alloc: Global, raw: &[u8]) -> Result<Option<Limits>, NoMemory>
     }
 }
 
-// Plays one line, and prints what it tells. Gives the number of counted entries where the journal was full for a step of it.
+// Plays one line, and prints what it tells. Tells how the output ends where the journal was full for a step of it.
 fn play(
     player: &mut Player,
     line: &SessionLine,
     printer: &mut Printer,
-) -> Result<Option<u32>, NoMemory>
+) -> Result<Option<LastLine>, NoMemory>
     requires valid { IsSessionLine line.now }
     ensures { player.old.is_spent ≡ false
         → IfOk result (Went player.old player.new printer.old printer.new line.now) }
 {
     match player.line_watched(line, printer) {
         Ok(()) => Ok(None),
-        Err(Stop::Full(kept)) => Ok(Some(kept.entries)),
+        Err(Stop::Full(kept)) => Ok(Some(LastLine::Full(kept.entries))),
         Err(Stop::NoMemory) => Err(NoMemory),
     }
 }
@@ -85,7 +85,7 @@ fn play_line(
         (PlayerHolds player.new printer.new) done raw.now output gathered) }
 {
     match judge(alloc, raw)? {
-        Meaning::Play(line) => Ok(play(player, &line, printer)?.map(LastLine::Full)),
+        Meaning::Play(line) => play(player, &line, printer),
         Meaning::End => Ok(Some(LastLine::End(player.entries()))),
         Meaning::Bad => Ok(Some(LastLine::Bad(before.saturating_add(1)))),
     }
