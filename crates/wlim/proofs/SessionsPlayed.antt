@@ -23,6 +23,7 @@ use Rattle.wlim.specs.Endings.{Answer, with_front, ending, without_end, is_long}
 use Rattle.wlim.specs.Scripts.{Follows, Settles, NamesNext, Played}
 use Rattle.wlim.specs.Session.{closed, full_at, meaning_of, by_meaning, header_of, by_header, unplayed, session_from, session_of_lines}
 use Rattle.wlim.specs.PlayerScript.{fresh, PlayerStands, PlayerHolds}
+use Rattle.wlim.specs.SessionScript.{StandsBy, HoldsBy}
 use Rattle.wlim.specs.Watching.{Gathers, Went}
 use Rattle.wlim.proofs.Sessions.{begins, text_grows, line_grows, long_is_bad, long_is_none}
 
@@ -264,6 +265,24 @@ holds_none player = record {
   watched = watched_none MayPrint player.limits.store player.play.journal blank;
   text = sym (append-nil (journal_text player.limits.store player.play.journal));
 }
+
+pub holds_none_by : (o : Option Playing) (printer : Printing) → printer ≡ blank → HoldsBy o printer []
+holds_none_by None printer e = (e, refl)
+holds_none_by (Some player) printer e = subst (λ (p : Printing). PlayerHolds player p []) (sym e) (holds_none player)
+
+-- the same where a header may have come or not
+
+pub count_by : (o : Option Playing) (before : ℕ) (done : List (List ℕ)) (output : List ℕ) → StandsBy o before done output → before ≡ length done
+count_by None before done output s = s.0 ∙ sym (ap length s.1)
+count_by (Some player) before done output s = s.count
+
+pub names_by : (o : Option Playing) (before next : ℕ) (done : List (List ℕ)) (output : List ℕ) → StandsBy o before done output → next ≡ before + 1
+    → NamesNext session_of_lines done output (last.Bad next)
+names_by None before next done output s e =
+    subst (λ n. NamesNext session_of_lines done output (last.Bad n)) (sym (e ∙ ap (λ n. n + 1) s.0))
+    (subst (λ d. NamesNext session_of_lines d output (last.Bad 1)) (sym s.1) (subst (λ t. NamesNext session_of_lines [] t (last.Bad 1)) (sym s.2) names_first))
+names_by (Some player) before next done output s e =
+    subst (λ n. NamesNext session_of_lines done output (last.Bad n)) (sym e) (names_next player before done output s)
 
 -- a header came first
 
