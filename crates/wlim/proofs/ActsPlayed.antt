@@ -90,3 +90,7 @@ played_act before after done raw output gathered n act s count is stands printed
       printed ∙ ap (λ t. t ++ more) held,
       follows (done ++ raw ∷ []) (output ++ more) (act ∷ s.log) goes,
     )
+
+-- before any line
+pub acts_begin : Follows (λ cut lines. answer_from cut [] lines) [] []
+acts_begin = follows [] [] [] (λ cut more. refl)

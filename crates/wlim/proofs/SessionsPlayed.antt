@@ -316,3 +316,7 @@ begun player before printer done raw output gathered is stood held =
 pub no_begin : (raw : List ℕ) (o : Option Limits) → o ≡ header_of raw → None ≡ option_map fresh o → None ≡ header_of raw
 no_begin raw None is e = is
 no_begin raw (Some limits) is e = absurd (cc e)
+
+-- before any line
+pub session_begins : Follows session_of_lines [] []
+session_begins = record { begins = λ cut more. (session_of_lines cut more, refl); undecided = refl }
