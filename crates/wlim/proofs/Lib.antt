@@ -3,6 +3,7 @@ pub mod Inputs
 pub mod ReadLines
 pub mod LinesTold
 pub mod LinePlayed
+pub mod LinesWithin
 pub mod Going
 pub mod RunEnds
 pub mod Runs
