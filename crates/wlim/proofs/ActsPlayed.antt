@@ -17,7 +17,6 @@ use Rattle.wlim.specs.Scripts.{Follows, Settles, NamesNext, Played}
 use Rattle.wlim.specs.ActScript.{ActsStand, acts_text}
 use Rattle.wlim.proofs.Answering.{by_line, answer_cons, answer_nil, front_of_front}
 
-
 by_verdict_of : (done : List (List ℕ)) (output : List ℕ) (log : List Act) (raw : List ℕ) (n : ℕ) (v : Verdict)
     → ((cut : Bool) (more : List (List ℕ)) → answer_from cut [] (done ++ more) ≡ with_front output (answer_from cut log more)) → n ≡ length log → v ≡ verdict_of n raw
     → (cut : Bool) (more : List (List ℕ)) → answer_from cut [] ((done ++ raw ∷ []) ++ more) ≡ with_front output (by_line cut log n v more)
@@ -83,8 +82,7 @@ pub played_act : (before after : ActList) (done : List (List ℕ)) (raw output g
     → Played (λ cut lines. answer_from cut [] lines) (ActsStand after) (λ g. acts_text after ≡ g) done raw output gathered None
 played_act before after done raw output gathered n act s count is stands printed held =
     let more : List ℕ = act_text (length s.log + 1) (told act s.log) in
-    let goes = goes_further done output s.log raw n act s.goes_on count is in
-    (
+    let goes = goes_further done output s.log raw n act s.goes_on count is in (
       more,
       record { log = act ∷ s.log; stands = stands; goes_on = goes },
       printed ∙ ap (λ t. t ++ more) held,

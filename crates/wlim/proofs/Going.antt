@@ -180,7 +180,7 @@ went_on {answer} stands_after holds_after g_after l_after after r come =
     let output : List ℕ = at.written ++ at.ready in
     let longer : length output ≤ length (output ++ played.0) = omega (arith, length-append output played.0) in
     let same : output ++ played.0 ≡ at.written ++ (at.ready ++ played.0) =
-        append_assoc at.written at.ready played.0 in
+    append_assoc at.written at.ready played.0 in
     let within = within_more answer at.done raw (output ++ played.0) (length output) at.all_within longer played.3 in
     record {
       done = lines;

@@ -17,15 +17,14 @@ pub line_played : (answer : Bool → List (List ℕ) → Answer) (stands : List 
     → ComesTo answer stands holds gf lf g l before after done read output gathered (Ok end)
 line_played answer stands holds gf lf g l before after done raw read output gathered None came played =
     (raw, came.read_after, came.up_to, played, came.near, came.fewer)
-line_played answer stands holds gf lf g l before after done raw read output gathered (Some end) came played =
-    (
-      played.0,
-      came.read_after,
-      came.up_to.took,
-      played.1,
-      told_by_line answer gf lf g l before after done raw read (with_front (output ++ played.0) (ending end)) came played.2,
-      came.near,
-    )
+line_played answer stands holds gf lf g l before after done raw read output gathered (Some end) came played = (
+  played.0,
+  came.read_after,
+  came.up_to.took,
+  played.1,
+  told_by_line answer gf lf g l before after done raw read (with_front (output ++ played.0) (ending end)) came played.2,
+  came.near,
+)
 
 -- there are fewer lines than a number can count
 pub few_done : (gf lf g l : Option (List ℕ)) (reader : LinesAhead) (done : List (List ℕ)) (read : List ℕ) → IsReadTo gf lf g l reader done read → length done < 2 ^ 32

@@ -84,7 +84,7 @@ line_came gf lf g0 l0 g1 l1 before after raw done read r h waits =
       | inl whole ↦
           let up_to = whole_line gf lf g1 l1 after done raw.now (before.held ++ more) (read ++ more) b whole in
           let count : length before.held + length more ≡ (length raw.now + 1) + length after.held =
-              omega (arith, ap length whole.begins.split, length-append raw.now (10 ∷ after.held), both) in
+          omega (arith, ap length whole.begins.split, length-append raw.now (10 ∷ after.held), both) in
           record {
             read_after = read ++ more;
             up_to = up_to;
@@ -161,8 +161,8 @@ end_came answer gf lf g0 l0 g1 l1 before after done read output end r h waits st
         let b = went_on gf lf g0 l0 g1 l1 before after answers.End done read more r e on in
         let cause = on.tells.0.cause in
         let lines : lines_of false (read ++ more) ≡ done =
-            ap (lines_of false) (b.split ∙ ap (λ t. bytes_of done ++ t) on.tells.1) ∙ lines_front false done [] b.lack
-            ∙ ap (λ t. done ++ t) (lines_nil false) ∙ append-nil done in
+        ap (lines_of false) (b.split ∙ ap (λ t. bytes_of done ++ t) on.tells.1) ∙ lines_front false done [] b.lack
+        ∙ ap (λ t. done ++ t) (lines_nil false) ∙ append-nil done in
         let other : length (read ++ more) ≢ INPUT_LIMIT = λ full. cause.2 (b.room ∙ ap (λ n. Some n) (omega arith)) in
         let within = b.within in
         record {
@@ -202,7 +202,7 @@ limit_came answer gf lf g0 l0 g1 l1 before after done read output r h waits foll
     let within = b.within in
     let full : length (read ++ more) ≡ INPUT_LIMIT = omega arith in
     let lines : lines_of true (read ++ more) ≡ done =
-        ap (lines_of true) b.split ∙ lines_front true done (before.held ++ more) b.lack ∙ ap (λ t. done ++ t) (lines_open (before.held ++ more) cause.0) ∙ append-nil done in
+    ap (lines_of true) b.split ∙ lines_front true done (before.held ++ more) b.lack ∙ ap (λ t. done ++ t) (lines_open (before.held ++ more) cause.0) ∙ append-nil done in
     let is : answer true (lines_of true (read ++ more)) ≡ with_front output (ending last.Long) = ap (answer true) lines ∙ follows.undecided in
     record {
       read_after = read ++ more;

@@ -33,7 +33,7 @@ within_none answer = record {
 pub shown_of : (output : List ℕ) → shown (with_front output (ending last.Long)) ≡ output
 shown_of output =
     let n : length (output ++ long_line) - length long_line ≡ length output =
-        omega (arith, length-append output long_line) in
+    omega (arith, length-append output long_line) in
     ap (λ k. take k (output ++ long_line)) n ∙ take-append_seam output long_line
 
 -- of two lists the first is a front of the second, or the other way round, with a line between
@@ -58,8 +58,14 @@ at_the_end : (done : List (List ℕ)) (raw : List ℕ) (before : List (List ℕ)
     → before ++ line ∷ [] ≡ done ++ raw ∷ []
 at_the_end done raw before line [] m e is = sym e
 at_the_end done raw before line (x ∷ after) m e is =
-    absurd (omega (arith, ap length is, ap length e, length-append done m, length-append done (raw ∷ []),
-        length-append before (line ∷ x ∷ after)))
+    absurd (omega (
+      arith,
+      ap length is,
+      ap length e,
+      length-append done m,
+      length-append done (raw ∷ []),
+      length-append before (line ∷ x ∷ after),
+    ))
 
 -- one line more was played
 pub within_more : (answer : Bool → List (List ℕ) → Answer) (done : List (List ℕ)) (raw output : List ℕ) (n : ℕ)
@@ -94,7 +100,7 @@ within_more answer done raw output n w le follows = record {
 reaches : (P : List (List ℕ) → Type 0) (base rest lines : List (List ℕ)) (read : List ℕ) → lines ≡ base ++ rest
     → length read ≤ size_of base + 16384
     → ((before : List (List ℕ)) (line : List ℕ) (after : List (List ℕ))
-        → base ≡ before ++ line ∷ after → P (before ++ line ∷ []) → ⊥)
+    → base ≡ before ++ line ∷ after → P (before ++ line ∷ []) → ⊥)
     → ReachesNear lines read P
 reaches P base rest lines read e near none before line after split holds =
     elim (split_twice base rest before line after (sym e ∙ split)) [
@@ -130,8 +136,8 @@ is_near answer lf held0 held base read gained n ahead near w grew enough = recor
     unwritten : (o : Option (List ℕ)) → LeadsOff o base → IfSome o (λ bytes. length read ≤ size_of base + 16384)
         → (a b : Option (List ℕ)) → Appends a b gained
         → IfSome o (λ bytes. IfSome a (λ was. IfSome b (λ now.
-            ReachesNear (lines_read bytes) read
-            (λ lines. length now < length was + length (shown (answer true lines))))))
+        ReachesNear (lines_read bytes) read
+        (λ lines. length now < length was + length (shown (answer true lines))))))
     unwritten None ahead near a b grew = tt
     unwritten (Some bytes) ahead near None b grew = tt
     unwritten (Some bytes) ahead near (Some was) None grew = absurd grew
@@ -139,6 +145,6 @@ is_near answer lf held0 held base read gained n ahead near w grew enough = recor
         reaches (λ lines. length now < length was + length (shown (answer true lines)))
         base ahead.0 (lines_read bytes) read ahead.1 near
         (λ before line after e h.
-            let old = w.said before line after e in
-            let len = ap length grew in
-            absurd (omega (arith, len, length-append was gained)))
+        let old = w.said before line after e in
+        let len = ap length grew in
+        absurd (omega (arith, len, length-append was gained)))

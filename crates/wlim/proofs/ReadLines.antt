@@ -134,8 +134,8 @@ pub whole_line : (gf lf g l : Option (List ℕ)) (after : LinesAhead) (done : Li
 whole_line gf lf g l after done raw bytes read b w =
     let more : bytes_of (done ++ raw ∷ []) ≡ bytes_of done ++ (raw ++ 10 ∷ []) = bytes_both done (raw ∷ []) in
     let split : read ≡ bytes_of (done ++ raw ∷ []) ++ after.held =
-        b.split ∙ ap (λ t. bytes_of done ++ t) (w.begins.split ∙ sym (append_assoc raw (10 ∷ []) after.held))
-        ∙ sym (append_assoc (bytes_of done) (raw ++ 10 ∷ []) after.held) ∙ ap (λ t. t ++ after.held) (sym more) in
+    b.split ∙ ap (λ t. bytes_of done ++ t) (w.begins.split ∙ sym (append_assoc raw (10 ∷ []) after.held))
+    ∙ sym (append_assoc (bytes_of done) (raw ++ 10 ∷ []) after.held) ∙ ap (λ t. t ++ after.held) (sym more) in
     record {
       took = b.took;
       room = b.room;
@@ -150,7 +150,7 @@ last_line_read gf lf g l after done raw bytes read b w =
     let lacks : LacksFeed raw = subst LacksFeed w.all w.cause.0.lacks in
     let split : read ≡ bytes_of done ++ raw = b.split ∙ ap (λ t. bytes_of done ++ t) w.all in
     let lines : lines_of false read ≡ done ++ raw ∷ [] =
-        ap (lines_of false) split ∙ lines_front false done raw b.lack ∙ ap (λ t. done ++ t) (lines_last raw lacks w.some) in
+    ap (lines_of false) split ∙ lines_front false done raw b.lack ∙ ap (λ t. done ++ t) (lines_last raw lacks w.some) in
     let other : length read ≢ INPUT_LIMIT = λ full. w.cause.2 (b.room ∙ ap (λ n. Some n) (omega arith)) in
     let within = b.within in
     let some = w.some in

@@ -77,11 +77,10 @@ front_written answer None held0 held held' done written ready n le wrote part fo
 front_written answer (Some bytes) held0 held held' done written ready n le wrote part follows ahead =
     let b = follows.begins (is_cut bytes) ahead.0 in
     let text : (answer_read answer bytes).0 ≡ (written ++ ready) ++ b.0.0 =
-        ap (λ a. a.0) (ap (answer (is_cut bytes)) ahead.1 ∙ b.1) in
+    ap (λ a. a.0) (ap (answer (is_cut bytes)) ahead.1 ∙ b.1) in
     let front : take (length written + n) (answer_read answer bytes).0 ≡ written ++ take n ready =
-        ap (take (length written + n)) text ∙ take_front written ready b.0.0 n le in
-    let len = ap length text in
-    (
+    ap (take (length written + n)) text ∙ take_front written ready b.0.0 n le in
+    let len = ap length text in (
       length written + n,
       omega (arith, len, length-append (written ++ ready) b.0.0, length-append written ready),
       subst (Appends held0 held') (sym front) (Appends-trans held0 held held' written (take n ready) wrote part),
@@ -98,7 +97,7 @@ pub short_ran : {answer : Bool → List (List ℕ) → Answer} {stands : List (L
 short_ran {answer} {lf} {held0} {held} held' reads reads' writes writes' s at part cause =
     ran_short answer lf held0 held' reads reads' writes writes' s part.3
     (front_written answer lf held0 held held' at.done at.written at.ready part.0 part.1 at.gained part.2 at.follows
-        (leads_done at)) cause
+    (leads_done at)) cause
 
 pub short_law : {answer : Bool → List (List ℕ) → Answer} {stands : List (List ℕ) → List ℕ → Type 0}
     {holds : List ℕ → Type 0} {gf lf g l held0 held : Option (List ℕ)} {reader : LinesAhead}
@@ -108,9 +107,9 @@ pub short_law : {answer : Bool → List (List ℕ) → Answer} {stands : List (L
 short_law {answer} {lf} {held0} {held} held' reads reads' s at part same =
     law_short answer lf held0 held' reads reads' s at.read part.3 same
     (is_near answer lf held0 held' at.first at.read (at.written ++ take part.0 at.ready) (length at.written)
-        (leads_first at) at.near at.first_within
-        (Appends-trans held0 held held' at.written (take part.0 at.ready) at.gained part.2)
-        (omega (arith, length-append at.written (take part.0 at.ready))))
+    (leads_first at) at.near at.first_within
+    (Appends-trans held0 held held' at.written (take part.0 at.ready) at.gained part.2)
+    (omega (arith, length-append at.written (take part.0 at.ready))))
 
 -- it ends where the answer is told: its output is what was written and what is still to be written
 
@@ -122,9 +121,8 @@ front_told answer None held0 held held' written end n le wrote part is = tt
 front_told answer (Some bytes) held0 held held' written end n le wrote part is =
     let text : (answer_read answer bytes).0 ≡ written ++ end.0 = ap (λ a. a.0) is in
     let front : take (length written + n) (answer_read answer bytes).0 ≡ written ++ take n end.0 =
-        ap (take (length written + n)) text ∙ take-append-add written end.0 n in
-    let len = ap length text in
-    (
+    ap (take (length written + n)) text ∙ take-append-add written end.0 n in
+    let len = ap length text in (
       length written + n,
       omega (arith, len, length-append written end.0),
       subst (Appends held0 held') (sym front) (Appends-trans held0 held held' written (take n end.0) wrote part),
@@ -163,7 +161,7 @@ law_end : (answer : Bool → List (List ℕ) → Answer) (lf held0 held held' : 
     (read written : List ℕ) (end : Answer) (result : Status) → Appends held0 held written
     → WritesEnd held held' end result → reads' ≡ reads
     → ((gained : List ℕ) → Appends held0 held' gained → length written ≤ length gained
-        → IsNear answer lf held0 held' read)
+    → IsNear answer lf held0 held' read)
     → LineByLine answer lf reads reads' held0 held' result read
 law_end answer lf held0 held held' reads reads' read written end result before (inl wrote) same near =
     let both = Appends-trans held0 held held' written end.0 before wrote.0 in
@@ -177,8 +175,8 @@ law_end answer lf held0 held held' reads reads' read written end result before (
 law_end answer lf held0 held held' reads reads' read written end result before (inr part) same near =
     law_short answer lf held0 held' reads reads' result read part.3 same
     (near (written ++ take part.0 end.0)
-        (Appends-trans held0 held held' written (take part.0 end.0) before part.2)
-        (omega (arith, length-append written (take part.0 end.0))))
+    (Appends-trans held0 held held' written (take part.0 end.0) before part.2)
+    (omega (arith, length-append written (take part.0 end.0))))
 
 -- the lines near to which it was read
 near_first : {answer : Bool → List (List ℕ) → Answer} {stands : List (List ℕ) → List ℕ → Type 0}
@@ -214,7 +212,7 @@ told_ran {answer} {lf} {held0} {held} stands_after holds_after g' l' held' after
     let rest : Answer = with_front (at.ready ++ come.0) (ending end) in
     ran_end answer lf held0 held held' reads reads' writes writes' at.written rest result at.gained wrote
     (subst (λ a. IfSome lf (λ bytes. answer_read answer bytes ≡ a))
-        (whole_text at.written at.ready come.0 (ending end)) come.4.all)
+    (whole_text at.written at.ready come.0 (ending end)) come.4.all)
     cause
 
 pub told_law : {answer : Bool → List (List ℕ) → Answer} {stands : List (List ℕ) → List ℕ → Type 0}
@@ -228,8 +226,7 @@ pub told_law : {answer : Bool → List (List ℕ) → Answer} {stands : List (Li
     → (read : List ℕ) × TookFrom gf g' lf l' read × LineByLine answer lf reads reads' held0 held' result read
 told_law {answer} {lf} {held0} {held} stands_after holds_after g' l' held' after reads reads' end result r come wrote
     same =
-    let at = r.going in
-    (
+    let at = r.going in (
       come.1,
       come.2,
       law_end answer lf held0 held held' reads reads' come.1 at.written
@@ -245,7 +242,7 @@ by_error : (answer : Bool → List (List ℕ) → Answer) (stands : List (List �
     (read output gathered : List ℕ) (P : Status → Type 0) (s : Status)
     → ComesTo answer stands holds gf lf g l before after done read output gathered (Err s)
     → (ComesTo answer stands holds gf lf g l before after done read output gathered (Err status.ReadFault)
-        → P status.ReadFault)
+    → P status.ReadFault)
     → P status.NoMemory → P s
 by_error answer stands holds gf lf g l before after done read output gathered P s come fault memory = by s come
   where
@@ -275,14 +272,14 @@ failed_ran {answer} {gf} {lf} {held0} {held} {reader} stands_after holds_after g
     (λ x. (x ≡ status.ReadFault → Rose reads reads') → Ran (answer_read answer) lf reads reads' held0 held writes writes' x)
     s come
     (λ come rose. record {
-        front = front;
-        decided = λ h. absurd h;
-        read_fault = λ e. rose refl;
-        write_fault = λ e. absurd (cc e);
-        good_words = λ e. cc e;
-      })
+      front = front;
+      decided = λ h. absurd h;
+      read_fault = λ e. rose refl;
+      write_fault = λ e. absurd (cc e);
+      good_words = λ e. cc e;
+    })
     (λ rose. ran_short answer lf held0 held reads reads' writes writes' status.NoMemory (inr refl) front
-        (λ e. absurd (cc e)))
+    (λ e. absurd (cc e)))
     rose
   where
     front : IfSome lf (λ bytes. GrowsByFront held0 held (answer_read answer bytes).0)
@@ -296,7 +293,7 @@ fault_law : (answer : Bool → List (List ℕ) → Answer) (lf held0 held : Opti
     → LineByLine answer lf reads reads' held0 held status.ReadFault read
 fault_law answer lf held0 held reads reads' done read output lines follows wrote near =
     let is : answer true (lines_of true read) ≡ with_front output (ending last.Long) =
-        ap (answer true) lines ∙ follows.undecided in
+    ap (answer true) lines ∙ follows.undecided in
     record {
       read_failed = λ other. inl refl;
       whole_lines = λ e.
@@ -328,15 +325,15 @@ failed_law {answer} {gf} {lf} {held0} {held} {reader} stands_after holds_after g
     let at = r.going in
     by_error answer stands_after holds_after gf lf g' l' reader after at.done at.read (at.written ++ at.ready) at.ready
     (λ x. x ≢ status.NoMemory
-        → (read : List ℕ) × TookFrom gf g' lf l' read × LineByLine answer lf reads reads' held0 held x read)
+    → (read : List ℕ) × TookFrom gf g' lf l' read × LineByLine answer lf reads reads' held0 held x read)
     s come
     (λ come other. (
-        come.0,
-        come.1,
-        fault_law answer lf held0 held reads reads' at.done come.0 (at.written ++ at.ready) come.2 at.follows
-            (nothing_ready r come.4)
-            (near_first held at come.0 (stays_near r come.0 come.5) at.written at.gained (omega arith)),
-      ))
+      come.0,
+      come.1,
+      fault_law answer lf held0 held reads reads' at.done come.0 (at.written ++ at.ready) come.2 at.follows
+          (nothing_ready r come.4)
+          (near_first held at come.0 (stays_near r come.0 come.5) at.written at.gained (omega arith)),
+    ))
     (λ other. absurd (other refl))
     other
 

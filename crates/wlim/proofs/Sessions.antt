@@ -71,9 +71,11 @@ line_grows limits (lines.Shell step) play = step_grows limits (entries.Shell ste
 longer : (limits : Limits) (play : Play) (p : Played) (x : Answer) → IsMore play.journal p.play.journal
     → (rest : Answer) × (with_front (journal_text limits.store p.play.journal) x ≡ with_front (journal_text limits.store play.journal) rest)
 longer limits play p x m =
-    let more : List ℕ = text_since limits.store (length play.journal) p.play.journal in
-    (with_front more x, ap (λ t. (t ++ x.0, x.1)) (text_grows limits.store play.journal p.play.journal m)
-        ∙ ap (λ t. (t, x.1)) (append_assoc (journal_text limits.store play.journal) more x.0))
+    let more : List ℕ = text_since limits.store (length play.journal) p.play.journal in (
+      with_front more x,
+      ap (λ t. (t ++ x.0, x.1)) (text_grows limits.store play.journal p.play.journal m)
+          ∙ ap (λ t. (t, x.1)) (append_assoc (journal_text limits.store play.journal) more x.0),
+    )
 
 longer_by : (limits : Limits) (play : Play) (p : Played) (rest : Play → Answer) (b : Bool) → IsMore play.journal p.play.journal
     → ((next : Play) → (x : Answer) × (rest next ≡ with_front (journal_text limits.store next.journal) x))

@@ -188,8 +188,7 @@ told_by player after printer printer_after found before done raw output gathered
     (gained player after, next, holds_line player after printer printer_after found None gathered w h, follows after (before + 1) (done ++ raw ∷ []) (output ++ gained player after) next)
 told_by player after printer printer_after found before done raw output gathered (Some entries) s h is room w =
     let text : journal_text player.limits.store (line_played player.limits found player.play).play.journal ≡ output ++ gained player after =
-        ap (journal_text player.limits.store) (sym w.journal) ∙ sym (said_line player after found before done output s w.journal) in
-    (
+    ap (journal_text player.limits.store) (sym w.journal) ∙ sym (said_line player after found before done output s w.journal) in (
       gained player after,
       holds_line player after printer printer_after found (Some (last.Full entries)) gathered w h,
       subst (λ t. Settles session_of_lines (done ++ raw ∷ []) (with_front t (ending (last.Full entries)))) text

@@ -104,8 +104,7 @@ ends_inside cut whole lacks inside =
       | true ↦ λ e. leb-true 8401 at e
       | false ↦ λ e. absurd (lacks at (leb-false 8401 at e) here)
     ] refl in
-    let len = length-slice_split p (after_first p whole) in
-    (
+    let len = length-slice_split p (after_first p whole) in (
       before_first p whole,
       lines_of_parts cut (slice_split p (after_first p whole)),
       ap (lines_of_parts cut) (slice_split_first p whole 0 inside)

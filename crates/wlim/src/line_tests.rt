@@ -1,7 +1,9 @@
 // What is written before the input goes on, on the top call.
 use crate::run::run_plain;
+use crate::session_tests::{FIELD, HEADER, OFFERED, REGISTRY};
 use crate::status::Status;
 use crate::tests::{BEGINNING, BEGUN, STRING, joined, run, word_list};
+use std::alloc::Global;
 use std::test::Fail;
 use wio_core::{MemSink, MemSource, Source};
 
@@ -14,6 +16,28 @@ fn lines_before_a_failed_read_are_played(rt: HostRuntime) -> Result<(), Fail> {
         let (status, text) = run(alloc, &["replay-acts"], input.as_str(), &[fails], &[])?;
         assert_eq!(rt; status, Status::ReadFault, "at read {fails}");
         assert_eq!(rt; text.as_slice(), output.as_bytes(), "at read {fails}");
+    }
+    Ok(())
+}
+
+// A session's lines are played as far as they are whole too. A failed read isn't the end, and is none of a read that isn't made.
+#[test]
+fn a_failed_read_is_told(rt: HostRuntime) -> Result<(), Fail> {
+    let alloc = rt.alloc();
+    let begun = joined(alloc, &[HEADER, REGISTRY])?;
+    let session = joined(alloc, &[begun.as_str(), FIELD, "end\n"])?;
+    let fails = begun.len() as u64 / 16 + 2;
+    let (status, text) = run(alloc, &["replay"], session.as_str(), &[fails], &[])?;
+    assert_eq!(rt; status, Status::ReadFault);
+    assert_eq!(rt; text.as_slice(), OFFERED.as_bytes());
+    for (input, output, status) in [
+        ("peer\n", "", Status::ReadFault),
+        ("peer\nend", "", Status::ReadFault),
+        ("peer\nend\n", "end 1\n", Status::Ok),
+    ] {
+        let (answer, text) = run(alloc, &["replay-acts"], input, &[2], &[])?;
+        assert_eq!(rt; answer, status, "of {input}");
+        assert_eq!(rt; text.as_slice(), output.as_bytes(), "of {input}");
     }
     Ok(())
 }
@@ -40,20 +64,45 @@ fn a_failed_write_ends_the_reading(rt: HostRuntime) -> Result<(), Fail> {
     Ok(())
 }
 
-// A line of too many bytes is outside the grammar, and so is one of the most that don't spell anything.
-#[test]
-fn long_lines_are_bad(rt: HostRuntime) -> Result<(), Fail> {
-    let alloc = rt.alloc();
-    for length in [8400, 8401] {
-        let mut input = String::from_str(alloc, "peer\n")?;
-        for _ in 0..length {
-            input.push('a')?;
-        }
-        input.push_str("\nend\n")?;
-        let (status, text) = run(alloc, &["replay-acts"], input.as_str(), &[], &[])?;
-        assert_eq!(rt; status, Status::BadSession, "of {length} bytes");
-        assert_eq!(rt; text.as_slice(), b"bad line 2\n".as_slice(), "of {length} bytes");
+fn letters(alloc: Global, length: usize) -> Result<String, Fail> {
+    let mut text = String::new(alloc);
+    for _ in 0..length {
+        text.push('a')?;
     }
+    Ok(text)
+}
+
+// Of 8,400 bytes without a line feed the line isn't known yet, and one more makes it a bad line. In pieces of 16 bytes 525 reads take 8,400.
+#[test]
+fn a_long_line_is_bad_before_its_line_feed(rt: HostRuntime) -> Result<(), Fail> {
+    let alloc = rt.alloc();
+    for (length, fails, output, status) in [
+        (8400, 526, "", Status::ReadFault),
+        (8401, 527, "bad line 1\n", Status::BadSession),
+    ] {
+        let line = letters(alloc, length)?;
+        let (answer, text) = run(alloc, &["replay-acts"], line.as_str(), &[fails], &[])?;
+        assert_eq!(rt; answer, status, "of {length} bytes");
+        assert_eq!(rt; text.as_slice(), output.as_bytes(), "of {length} bytes");
+    }
+    for length in [8400, 8401] {
+        let line = letters(alloc, length)?;
+        let input = joined(alloc, &["peer\n", line.as_str(), "\nend\n"])?;
+        let (answer, text) = run(alloc, &["replay-acts"], input.as_str(), &[], &[])?;
+        assert_eq!(rt; answer, Status::BadSession, "of {length} bytes");
+        assert_eq!(rt;
+            text.as_slice(),
+            b"bad line 2\n".as_slice(),
+            "of {length} bytes"
+        );
+    }
+    Ok(())
+}
+
+// The last line may lack its line feed.
+#[test]
+fn an_input_ends_without_a_line_feed(rt: HostRuntime) -> Result<(), Fail> {
+    let alloc = rt.alloc();
     let (status, text) = run(alloc, &["replay-acts"], "peer\nend", &[], &[])?;
     assert_eq!(rt; status, Status::Ok);
     assert_eq!(rt; text.as_slice(), b"end 1\n".as_slice());

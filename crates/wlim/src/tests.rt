@@ -30,7 +30,8 @@ pub(crate) fn run(
 }
 
 // The acts up to the first activation, and what they tell.
-pub(crate) const BEGINNING: &str = "peer\nsurface 1\nfield 1\npeer\nmethod 4\nfocus 2\nenable 3\ncommit 3\n";
+pub(crate) const BEGINNING: &str =
+    "peer\nsurface 1\nfield 1\npeer\nmethod 4\nfocus 2\nenable 3\ncommit 3\n";
 
 pub(crate) const BEGUN: &str = "6 3 enter 2\n8 5 activate\n8 5 content_type 0 0\n8 5 done\n";
 

@@ -28,8 +28,7 @@ returns-in-Err-write_due-clause-ran g c =
 
 pub returns-in-Err-write_due-clause-line_by_line : goal.returns-in-Err-write_due-clause-line_by_line
 returns-in-Err-write_due-clause-line_by_line g c = λ other.
-    let i = c.lines.invariant in
-    (
+    let i = c.lines.invariant in (
       i.going.read,
       i.going.up_to.took,
       short_law _ _ _ c.in-Err-write_due.status i.going
@@ -42,10 +41,10 @@ pub lines-preserved : goal.lines-preserved
 lines-preserved g c =
     let i = c.lines.invariant in
     let r = was_due (g.P.Script.stands c.write_due.new.script) (g.P.Script.holds c.write_due.new.script) _ i.going
-        (c.in_default.ensures.stays i.going.done (i.going.written ++ i.going.ready) i.going.said)
-        (c.in_default.ensures.due i.going.ready i.going.kept) in
+    (c.in_default.ensures.stays i.going.done (i.going.written ++ i.going.ready) i.going.said)
+    (c.in_default.ensures.due i.going.ready i.going.kept) in
     let come = (rw c.in-Ok-None.field-0-is at c.in-Ok-None.ensures.comes) _ _ r.going.done r.going.read
-        (r.going.written ++ r.going.ready) r.going.ready r.going.up_to r.going.said r.going.kept r.going.follows in
+    (r.going.written ++ r.going.ready) r.going.ready r.going.up_to r.going.said r.going.kept r.going.follows in
     record {
       going = went_on (g.P.Script.stands c.play_next.new.script) (g.P.Script.holds c.play_next.new.script) _ _
           c.play_next.new.reader r come;
@@ -57,10 +56,10 @@ pub lines-smaller : goal.lines-smaller
 lines-smaller g c =
     let i = c.lines.invariant in
     let r = was_due (g.P.Script.stands c.write_due.new.script) (g.P.Script.holds c.write_due.new.script) _ i.going
-        (c.in_default.ensures.stays i.going.done (i.going.written ++ i.going.ready) i.going.said)
-        (c.in_default.ensures.due i.going.ready i.going.kept) in
+    (c.in_default.ensures.stays i.going.done (i.going.written ++ i.going.ready) i.going.said)
+    (c.in_default.ensures.due i.going.ready i.going.kept) in
     let come = (rw c.in-Ok-None.field-0-is at c.in-Ok-None.ensures.comes) _ _ r.going.done r.going.read
-        (r.going.written ++ r.going.ready) r.going.ready r.going.up_to r.going.said r.going.kept r.going.follows in
+    (r.going.written ++ r.going.ready) r.going.ready r.going.up_to r.going.said r.going.kept r.going.follows in
     come.5
 
 -- the last line
@@ -69,24 +68,24 @@ pub returns-in-Ok-Some-clause-ran : goal.returns-in-Ok-Some-clause-ran
 returns-in-Ok-Some-clause-ran g c =
     let i = c.lines.invariant in
     let r = was_due (g.P.Script.stands c.write_due.new.script) (g.P.Script.holds c.write_due.new.script) _ i.going
-        (c.in_default.ensures.stays i.going.done (i.going.written ++ i.going.ready) i.going.said)
-        (c.in_default.ensures.due i.going.ready i.going.kept) in
+    (c.in_default.ensures.stays i.going.done (i.going.written ++ i.going.ready) i.going.said)
+    (c.in_default.ensures.due i.going.ready i.going.kept) in
     let come = (rw c.in-Ok-Some.field-0-is at c.in-Ok-Some.ensures.comes) _ _ r.going.done r.going.read
-        (r.going.written ++ r.going.ready) r.going.ready r.going.up_to r.going.said r.going.kept r.going.follows in
+    (r.going.written ++ r.going.ready) r.going.ready r.going.up_to r.going.said r.going.kept r.going.follows in
     told_ran (g.P.Script.stands c.play_next.new.script) (g.P.Script.holds c.play_next.new.script) _ _ _
     c.play_next.new.reader _ _ _ _ c.in-Ok-Some.last c.write_end.result r come
     (c.write_end.ensures.ends (r.going.ready ++ come.0) come.3)
     (λ e. rose_later _ _ _ (omega (arith, i.writes_grow, c.in_default.ensures.never_falls))
-        (c.write_end.ensures.cause e))
+    (c.write_end.ensures.cause e))
 
 pub returns-in-Ok-Some-clause-line_by_line : goal.returns-in-Ok-Some-clause-line_by_line
 returns-in-Ok-Some-clause-line_by_line g c = λ other.
     let i = c.lines.invariant in
     let r = was_due (g.P.Script.stands c.write_due.new.script) (g.P.Script.holds c.write_due.new.script) _ i.going
-        (c.in_default.ensures.stays i.going.done (i.going.written ++ i.going.ready) i.going.said)
-        (c.in_default.ensures.due i.going.ready i.going.kept) in
+    (c.in_default.ensures.stays i.going.done (i.going.written ++ i.going.ready) i.going.said)
+    (c.in_default.ensures.due i.going.ready i.going.kept) in
     let come = (rw c.in-Ok-Some.field-0-is at c.in-Ok-Some.ensures.comes) _ _ r.going.done r.going.read
-        (r.going.written ++ r.going.ready) r.going.ready r.going.up_to r.going.said r.going.kept r.going.follows in
+    (r.going.written ++ r.going.ready) r.going.ready r.going.up_to r.going.said r.going.kept r.going.follows in
     told_law (g.P.Script.stands c.play_next.new.script) (g.P.Script.holds c.play_next.new.script) _ _ _
     c.play_next.new.reader _ _ c.in-Ok-Some.last c.write_end.result r come
     (c.write_end.ensures.ends (r.going.ready ++ come.0) come.3) (c.in-Ok-Some.ensures.steady ∙ i.no_read_failed)
@@ -97,10 +96,10 @@ pub returns-in-Err-play_next-clause-ran : goal.returns-in-Err-play_next-clause-r
 returns-in-Err-play_next-clause-ran g c =
     let i = c.lines.invariant in
     let r = was_due (g.P.Script.stands c.write_due.new.script) (g.P.Script.holds c.write_due.new.script) _ i.going
-        (c.in_default.ensures.stays i.going.done (i.going.written ++ i.going.ready) i.going.said)
-        (c.in_default.ensures.due i.going.ready i.going.kept) in
+    (c.in_default.ensures.stays i.going.done (i.going.written ++ i.going.ready) i.going.said)
+    (c.in_default.ensures.due i.going.ready i.going.kept) in
     let come = c.in-Err-play_next.ensures.comes _ _ r.going.done r.going.read
-        (r.going.written ++ r.going.ready) r.going.ready r.going.up_to r.going.said r.going.kept r.going.follows in
+    (r.going.written ++ r.going.ready) r.going.ready r.going.up_to r.going.said r.going.kept r.going.follows in
     failed_ran (g.P.Script.stands c.play_next.new.script) (g.P.Script.holds c.play_next.new.script) _ _
     c.play_next.new.reader _ _ _ _ c.in-Err-play_next.status r come
     (λ e. rose_later _ _ _ (omega (arith, i.no_read_failed)) (c.in-Err-play_next.ensures.cause (ap Err e)))
@@ -109,9 +108,9 @@ pub returns-in-Err-play_next-clause-line_by_line : goal.returns-in-Err-play_next
 returns-in-Err-play_next-clause-line_by_line g c = λ other.
     let i = c.lines.invariant in
     let r = was_due (g.P.Script.stands c.write_due.new.script) (g.P.Script.holds c.write_due.new.script) _ i.going
-        (c.in_default.ensures.stays i.going.done (i.going.written ++ i.going.ready) i.going.said)
-        (c.in_default.ensures.due i.going.ready i.going.kept) in
+    (c.in_default.ensures.stays i.going.done (i.going.written ++ i.going.ready) i.going.said)
+    (c.in_default.ensures.due i.going.ready i.going.kept) in
     let come = c.in-Err-play_next.ensures.comes _ _ r.going.done r.going.read
-        (r.going.written ++ r.going.ready) r.going.ready r.going.up_to r.going.said r.going.kept r.going.follows in
+    (r.going.written ++ r.going.ready) r.going.ready r.going.up_to r.going.said r.going.kept r.going.follows in
     failed_law (g.P.Script.stands c.play_next.new.script) (g.P.Script.holds c.play_next.new.script) _ _
     c.play_next.new.reader _ _ c.in-Err-play_next.status r come other

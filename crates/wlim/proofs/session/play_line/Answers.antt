@@ -22,11 +22,11 @@ pub returns-in-End : goal.returns-in-End
 returns-in-End c = λ done output gathered few s h.
     ended (PlayerStands c.args.player.now (c.args.before + 1)) c.args.player.now c.args.printer.now done c.args.raw.now output gathered (last.End c.entries.result) h
     (settles c.args.player.now c.args.before done output c.args.raw.now meaning.End (last.End c.entries.result) s (sym c.in-End.is ∙ c.in_ok-line.ensures)
-        (λ rest. ap (λ n. closed c.args.player.now.limits c.args.player.now.play (ending (last.End n))) (sym c.entries.ensures.number)) refl)
+    (λ rest. ap (λ n. closed c.args.player.now.limits c.args.player.now.play (ending (last.End n))) (sym c.entries.ensures.number)) refl)
 
 pub returns-in-Bad : goal.returns-in-Bad
 returns-in-Bad c = λ done output gathered few s h.
     let next : c.args.before + 1 ≡ c.saturating_add.result = omega (arith, s.count, c.saturating_add.ensures) in
     ended (PlayerStands c.args.player.now (c.args.before + 1)) c.args.player.now c.args.printer.now done c.args.raw.now output gathered (last.Bad c.saturating_add.result) h
     (settles c.args.player.now c.args.before done output c.args.raw.now meaning.Bad (last.Bad c.saturating_add.result) s (sym c.in-Bad.is ∙ c.in_ok-line.ensures)
-        (λ rest. ap (λ n. closed c.args.player.now.limits c.args.player.now.play (ending (last.Bad n))) next) refl)
+    (λ rest. ap (λ n. closed c.args.player.now.limits c.args.player.now.play (ending (last.Bad n))) next) refl)

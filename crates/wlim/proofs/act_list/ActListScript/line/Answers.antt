@@ -13,21 +13,21 @@ returns-in-Bad c = λ done output gathered few s held.
     let count = c.acts-count.ensures.length s.log s.stands in
     ended (ActsStand c.args.self.now) _ done c.args.raw.now output gathered (last.Bad (c.from.result + 1)) held
     (settles done output s.log c.args.raw.now c.acts-count.result verdict.Bad (last.Bad (c.from.result + 1)) s.goes_on count (sym c.in-Bad.is ∙ c.in_ok-judge.ensures)
-        (λ cut more. ap (λ k. ending (last.Bad (k + 1))) (sym c.from.ensures)) refl)
+    (λ cut more. ap (λ k. ending (last.Bad (k + 1))) (sym c.from.ensures)) refl)
 
 pub returns-in-End : goal.returns-in-End
 returns-in-End c = λ done output gathered few s held.
     let count = c.acts-count.ensures.length s.log s.stands in
     ended (ActsStand c.args.self.now) _ done c.args.raw.now output gathered (last.End c.acts-count.result) held
     (settles done output s.log c.args.raw.now c.acts-count.result verdict.End (last.End c.acts-count.result) s.goes_on count (sym c.in-End.is ∙ c.in_ok-judge.ensures)
-        (λ cut more. refl) refl)
+    (λ cut more. refl) refl)
 
 pub returns-in-Full : goal.returns-in-Full
 returns-in-Full c = λ done output gathered few s held.
     let count = c.acts-count.ensures.length s.log s.stands in
     ended (ActsStand c.args.self.now) _ done c.args.raw.now output gathered (last.Full c.acts-count.result) held
     (settles done output s.log c.args.raw.now c.acts-count.result verdict.Full (last.Full c.acts-count.result) s.goes_on count (sym c.in-Full.is ∙ c.in_ok-judge.ensures)
-        (λ cut more. refl) refl)
+    (λ cut more. refl) refl)
 
 pub play-requires-clause-number : goal.play-requires-clause-number
 play-requires-clause-number c =
