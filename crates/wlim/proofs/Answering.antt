@@ -1,5 +1,5 @@
 -- The answer for an act list, by its first line.
-use Rattle.std.proofs.Common.{◌≡◌, ℕ, ◌+◌, ◌<◌, Bool, true, false, List, [], ◌∷◌, ◌++◌, length, refl, sym, ap, subst, ◌∙◌, append_assoc, Option, Some, None}
+use Rattle.std.proofs.Common.{◌≡◌, ℕ, ◌+◌, ◌<◌, Bool, true, false, List, [], ◌∷◌, ◌++◌, length, refl, sym, ap, subst, append_assoc, Option, Some, None}
 use Rattle.std.specs.Prelude.{nat_lt, if◌then◌else◌}
 use Rattle.std.proofs.lemmas.Bool.{ltb-true}
 use Rattle.relay_model.specs.declared.act.Act.{Act}
@@ -47,7 +47,8 @@ play_act_by : (count : ℕ) (act found : Act) (b : Bool) → nat_lt count ACT_LI
 play_act_by count act found true e k h = (ltb-true count ACT_LIMIT e, let d : found ≡ act = cc in subst FitsMessage d k)
 play_act_by count act found false e k h = cc
 
-play_line_by : (count : ℕ) (act : Act) (raw : List ℕ) (o : Option Line) → line_of Acts raw ≡ o → verdict.Play act ≡ verdict_of_line count o →
+play_line_by : (count : ℕ) (act : Act) (raw : List ℕ) (o : Option Line) → line_of Acts raw ≡ o
+    → verdict.Play act ≡ verdict_of_line count o →
     (count < ACT_LIMIT) × FitsMessage act
 play_line_by count act raw None e h = cc
 play_line_by count act raw (Some line.End) e h = cc
@@ -55,9 +56,11 @@ play_line_by count act raw (Some (line.Header limits)) e h = cc
 play_line_by count act raw (Some (line.Session found)) e h = cc
 play_line_by count act raw (Some (line.Shell step)) e h = cc
 play_line_by count act raw (Some (line.Act found)) e h =
-    play_act_by count act found (nat_lt count ACT_LIMIT) refl (line_fits found (reads_only Acts raw (line.Act found) e).1) h
+    play_act_by count act found (nat_lt count ACT_LIMIT) refl
+    (line_fits found (reads_only Acts raw (line.Act found) e).1) h
 
 -- an act that is played is within the limit, and a message can carry it
-pub played : (count : ℕ) (raw : List ℕ) (act : Act) → verdict.Play act ≡ verdict_of count raw → (count < ACT_LIMIT) × FitsMessage act
+pub played : (count : ℕ) (raw : List ℕ) (act : Act) → verdict.Play act ≡ verdict_of count raw
+    → (count < ACT_LIMIT) × FitsMessage act
 unfolding verdict_of
 played count raw act h = play_line_by count act raw (line_of Acts raw) refl h

@@ -4,7 +4,7 @@ use Rattle.std.specs.Prelude.{IfSome, MatchOption, unwrap_or}
 use Rattle.std.specs.Io.KnownBytes.{Consumes, IsAtEnd}
 use Rattle.std.proofs.lemmas.Grind.{common_steps}
 use Rattle.wio_core.specs.Lines.{IsOpen, IsTooLong, TookFrom}
-use Rattle.wio_core.specs.LineAnswers.{LinesAhead, WholeLine, LastLine, GoesOn, Answers, stop_of}
+use Rattle.wio_core.specs.LineAnswers.{LinesAhead, GoesOn, Answers, stop_of}
 use Rattle.wio_core.specs.declared.line_reader.LineStop.{LineStop}
 use Rattle.wio_core.specs.declared.line_reader.LineStop.TheVariants as stop
 use Rattle.wio_core.specs.declared.line_reader.NextLine.{NextLine}
@@ -13,7 +13,7 @@ use Rattle.wlim.specs.declared.last_line.LastLine.{LastLine as End}
 use Rattle.wlim.specs.declared.last_line.LastLine.TheVariants as last
 use Rattle.wlim.specs.declared.reading.TheConstants.{INPUT_LIMIT}
 use Rattle.wlim.specs.Endings.{Answer, with_front, ending}
-use Rattle.wlim.specs.Lines.{lines_of, lines_read, is_cut, bytes_of, size_of}
+use Rattle.wlim.specs.Lines.{lines_of, lines_read, is_cut, bytes_of}
 use Rattle.wlim.specs.Scripts.{Follows, Settles, NamesNext}
 use Rattle.wlim.specs.Reading.{LackFeeds, IsDivided, IsReadTo, LeadsOff, StaysNear, IsTold, bytes_ahead}
 use Rattle.wlim.proofs.Splits.{lines_front, lines_nil, lines_open, lines_long}
@@ -21,18 +21,23 @@ use Rattle.wlim.proofs.ReadLines.{ReadBytes, went_on, input_lines, input_ended, 
 
 -- the reader went on, or its answer was settled
 
-by_settled : (o : Option LineStop) (before after : LinesAhead) (g0 g1 l0 l1 : Option (List ℕ)) (result : NextLine) → before.settled ≡ o
+by_settled : (o : Option LineStop) (before after : LinesAhead) (g0 g1 l0 l1 : Option (List ℕ)) (result : NextLine)
+    → before.settled ≡ o
     → Answers before after g0 g1 l0 l1 result
-    → MatchOption o ((more : List ℕ) × GoesOn before after g0 g1 l0 l1 result more) (λ why. (stop_of result ≡ Some why) × (after ≡ before))
+    → MatchOption o ((more : List ℕ) × GoesOn before after g0 g1 l0 l1 result more)
+    (λ why. (stop_of result ≡ Some why) × (after ≡ before))
 by_settled o before after g0 g1 l0 l1 result e h =
-    subst (λ s. MatchOption s ((more : List ℕ) × GoesOn before after g0 g1 l0 l1 result more) (λ why. (stop_of result ≡ Some why) × (after ≡ before))) e h
+    subst (λ s. MatchOption s ((more : List ℕ) × GoesOn before after g0 g1 l0 l1 result more)
+    (λ why. (stop_of result ≡ Some why) × (after ≡ before))) e h
 
 -- a reader that reads up to a line is settled at the end alone
-pub open_or_ended : (gf lf g l : Option (List ℕ)) (reader : LinesAhead) (done : List (List ℕ)) (read : List ℕ) → IsReadTo gf lf g l reader done read
+pub open_or_ended : (gf lf g l : Option (List ℕ)) (reader : LinesAhead) (done : List (List ℕ)) (read : List ℕ)
+    → IsReadTo gf lf g l reader done read
     → (reader.settled ≡ None) ⊎ (reader.settled ≡ Some stop.End)
 open_or_ended gf lf g l reader done read r = by reader.settled refl r.divided
   where
-    by : (o : Option LineStop) → reader.settled ≡ o → IsDivided o reader.held l done read → (reader.settled ≡ None) ⊎ (reader.settled ≡ Some stop.End)
+    by : (o : Option LineStop) → reader.settled ≡ o → IsDivided o reader.held l done read
+        → (reader.settled ≡ None) ⊎ (reader.settled ≡ Some stop.End)
     by None e d = inl e
     by (Some stop.End) e d = inr e
     by (Some stop.Long) e d = absurd d
@@ -40,7 +45,8 @@ open_or_ended gf lf g l reader done read r = by reader.settled refl r.divided
     by (Some stop.ReadFault) e d = absurd d
 
 -- where it answers anything but the end, it went on
-pub goes : (gf lf g0 l0 g1 l1 : Option (List ℕ)) (before after : LinesAhead) (result : NextLine) (done : List (List ℕ)) (read : List ℕ)
+pub goes : (gf lf g0 l0 g1 l1 : Option (List ℕ)) (before after : LinesAhead) (result : NextLine) (done : List (List ℕ))
+    (read : List ℕ)
     → IsReadTo gf lf g0 l0 before done read → Answers before after g0 g1 l0 l1 result → stop_of result ≢ Some stop.End
     → (before.settled ≡ None) × ((more : List ℕ) × GoesOn before after g0 g1 l0 l1 result more)
 goes gf lf g0 l0 g1 l1 before after result done read r h other =
@@ -49,8 +55,10 @@ goes gf lf g0 l0 g1 l1 before after result done read r h other =
       | inr e ↦ absurd (other (by_settled (Some stop.End) before after g0 g1 l0 l1 result e h).0)
     ]
 
-near_of : (gf lf g0 l0 g1 l1 : Option (List ℕ)) (before after : LinesAhead) (done : List (List ℕ)) (read more bytes : List ℕ)
-    → IsReadTo gf lf g0 l0 before done read → TookFrom g0 g1 l0 l1 more → ReadBytes gf lf g1 l1 after done bytes (read ++ more)
+near_of : (gf lf g0 l0 g1 l1 : Option (List ℕ)) (before after : LinesAhead) (done : List (List ℕ))
+    (read more bytes : List ℕ)
+    → IsReadTo gf lf g0 l0 before done read → TookFrom g0 g1 l0 l1 more
+    → ReadBytes gf lf g1 l1 after done bytes (read ++ more)
     → (¬ IsOpen before.held → l1 ≡ l0) → StaysNear lf before done read (read ++ more)
 near_of gf lf g0 l0 g1 l1 before after done read more bytes r took b waits = record {
   near = b.near;
@@ -58,21 +66,26 @@ near_of gf lf g0 l0 g1 l1 before after done read more bytes r took b waits = rec
 }
 
 -- a line came
-pub record LineCame (gf lf g l : Option (List ℕ)) (before after : LinesAhead) (done : List (List ℕ)) (raw read : List ℕ) : Type 0 where
+pub record LineCame (gf lf g l : Option (List ℕ)) (before after : LinesAhead) (done : List (List ℕ))
+    (raw read : List ℕ) : Type 0 where
   pub read_after : List ℕ
   pub up_to : IsReadTo gf lf g l after (done ++ raw ∷ []) read_after
   pub near : StaysNear lf before done read read_after
   pub fewer : bytes_ahead after < bytes_ahead before
 
-fewer_ahead : (before after : LinesAhead) (read more raw : List ℕ) (k : ℕ) → before.room ≡ Some (INPUT_LIMIT - length read) → after.room ≡ Some (INPUT_LIMIT - length (read ++ more))
-    → length (read ++ more) ≤ INPUT_LIMIT → length before.held + length more ≡ k + length after.held → 0 < k → bytes_ahead after < bytes_ahead before
+fewer_ahead : (before after : LinesAhead) (read more raw : List ℕ) (k : ℕ)
+    → before.room ≡ Some (INPUT_LIMIT - length read) → after.room ≡ Some (INPUT_LIMIT - length (read ++ more))
+    → length (read ++ more) ≤ INPUT_LIMIT → length before.held + length more ≡ k + length after.held → 0 < k
+    → bytes_ahead after < bytes_ahead before
 fewer_ahead before after read more raw k room room_after within count some =
     let a : unwrap_or before.room 0 ≡ INPUT_LIMIT - length read = ap (λ o. unwrap_or o 0) room in
     let b : unwrap_or after.room 0 ≡ INPUT_LIMIT - length (read ++ more) = ap (λ o. unwrap_or o 0) room_after in
     omega (arith, a, b, length-append read more)
 
-pub line_came : (gf lf g0 l0 g1 l1 : Option (List ℕ)) (before after : LinesAhead) (raw : Bor (List ℕ)) (done : List (List ℕ)) (read : List ℕ)
-    → IsReadTo gf lf g0 l0 before done read → Answers before after g0 g1 l0 l1 (answers.Line raw) → (¬ IsOpen before.held → l1 ≡ l0)
+pub line_came : (gf lf g0 l0 g1 l1 : Option (List ℕ)) (before after : LinesAhead) (raw : Bor (List ℕ))
+    (done : List (List ℕ)) (read : List ℕ)
+    → IsReadTo gf lf g0 l0 before done read → Answers before after g0 g1 l0 l1 (answers.Line raw)
+    → (¬ IsOpen before.held → l1 ≡ l0)
     → LineCame gf lf g1 l1 before after done raw.now read
 line_came gf lf g0 l0 g1 l1 before after raw done read r h waits =
     let w = goes gf lf g0 l0 g1 l1 before after (answers.Line raw) done read r h (λ e. cc e) in
@@ -89,10 +102,12 @@ line_came gf lf g0 l0 g1 l1 before after raw done read r h waits =
             read_after = read ++ more;
             up_to = up_to;
             near = near;
-            fewer = fewer_ahead before after read more raw.now (length raw.now + 1) r.room b.room b.within count (omega arith);
+            fewer = fewer_ahead before after read more raw.now (length raw.now + 1) r.room b.room b.within count
+                (omega arith);
           }
       | inr ended ↦
-          let count : length before.held + length more ≡ length raw.now + length after.held = omega (arith, ap length ended.all, ap length ended.none_held, both) in
+          let count : length before.held + length more ≡ length raw.now + length after.held =
+          omega (arith, ap length ended.all, ap length ended.none_held, both) in
           record {
             read_after = read ++ more;
             up_to = last_line_read gf lf g1 l1 after done raw.now (before.held ++ more) (read ++ more) b ended;
@@ -102,8 +117,10 @@ line_came gf lf g0 l0 g1 l1 before after raw done read r h waits =
     ]
 
 -- the line decided
-pub told_by_line : (answer : Bool → List (List ℕ) → Answer) (gf lf g l : Option (List ℕ)) (before after : LinesAhead) (done : List (List ℕ)) (raw read : List ℕ) (whole : Answer)
-    → LineCame gf lf g l before after done raw read → Settles answer (done ++ raw ∷ []) whole → IsTold answer lf done whole
+pub told_by_line : (answer : Bool → List (List ℕ) → Answer) (gf lf g l : Option (List ℕ)) (before after : LinesAhead)
+    (done : List (List ℕ)) (raw read : List ℕ) (whole : Answer)
+    → LineCame gf lf g l before after done raw read → Settles answer (done ++ raw ∷ []) whole
+    → IsTold answer lf done whole
 told_by_line answer gf lf g l before after done raw read whole came s =
     let ahead = leads gf lf g l after (done ++ raw ∷ []) came.read_after came.up_to in
     record {
@@ -111,7 +128,8 @@ told_by_line answer gf lf g l before after done raw read whole came s =
       leads = front lf ahead;
     }
   where
-    all : (o : Option (List ℕ)) → LeadsOff o (done ++ raw ∷ []) → IfSome o (λ bytes. answer (is_cut bytes) (lines_read bytes) ≡ whole)
+    all : (o : Option (List ℕ)) → LeadsOff o (done ++ raw ∷ [])
+        → IfSome o (λ bytes. answer (is_cut bytes) (lines_read bytes) ≡ whole)
     all None ahead = tt
     all (Some bytes) ahead = ap (answer (is_cut bytes)) ahead.1 ∙ s.same (is_cut bytes) ahead.0
 
@@ -120,14 +138,18 @@ told_by_line answer gf lf g l before after done raw read whole came s =
     front (Some bytes) ahead = (raw ∷ ahead.0, ahead.1 ∙ append_assoc done (raw ∷ []) ahead.0)
 
 -- the source ended
-told_end : (answer : Bool → List (List ℕ) → Answer) (lf l : Option (List ℕ)) (done : List (List ℕ)) (read : List ℕ) (whole : Answer)
-    → Consumes lf l read → IsAtEnd l → length read < INPUT_LIMIT → lines_of false read ≡ done → answer false done ≡ whole → IsTold answer lf done whole
-told_end answer lf l done read whole took end short lines is = record { all = all lf l took end; leads = front lf l took end }
+told_end : (answer : Bool → List (List ℕ) → Answer) (lf l : Option (List ℕ)) (done : List (List ℕ)) (read : List ℕ)
+    (whole : Answer)
+    → Consumes lf l read → IsAtEnd l → length read < INPUT_LIMIT → lines_of false read ≡ done
+    → answer false done ≡ whole → IsTold answer lf done whole
+told_end answer lf l done read whole took end short lines is =
+    record { all = all lf l took end; leads = front lf l took end }
   where
     same : (bytes rest : List ℕ) → bytes ≡ read ++ rest → rest ≡ [] → bytes ≡ read
     same bytes rest e none = e ∙ ap (λ t. read ++ t) none ∙ append-nil read
 
-    all : (o p : Option (List ℕ)) → Consumes o p read → IsAtEnd p → IfSome o (λ bytes. answer (is_cut bytes) (lines_read bytes) ≡ whole)
+    all : (o p : Option (List ℕ)) → Consumes o p read → IsAtEnd p
+        → IfSome o (λ bytes. answer (is_cut bytes) (lines_read bytes) ≡ whole)
     all None p took end = tt
     all (Some bytes) None took end = absurd took
     all (Some bytes) (Some rest) took end =
@@ -137,17 +159,21 @@ told_end answer lf l done read whole took end short lines is = record { all = al
     front : (o p : Option (List ℕ)) → Consumes o p read → IsAtEnd p → LeadsOff o done
     front None p took end = tt
     front (Some bytes) None took end = absurd took
-    front (Some bytes) (Some rest) took end = ([], (input_ended done read bytes (same bytes rest took end) short lines).1 ∙ sym (append-nil done))
+    front (Some bytes) (Some rest) took end =
+        ([], (input_ended done read bytes (same bytes rest took end) short lines).1 ∙ sym (append-nil done))
 
 -- what was told, and the bytes read
-pub record Came (answer : Bool → List (List ℕ) → Answer) (gf lf g l : Option (List ℕ)) (before : LinesAhead) (done : List (List ℕ)) (read : List ℕ) (whole : Answer) : Type 0 where
+pub record Came (answer : Bool → List (List ℕ) → Answer) (gf lf g l : Option (List ℕ)) (before : LinesAhead)
+    (done : List (List ℕ)) (read : List ℕ) (whole : Answer) : Type 0 where
   pub read_after : List ℕ
   pub took : TookFrom gf g lf l read_after
   pub told : IsTold answer lf done whole
   pub near : StaysNear lf before done read read_after
 
-pub end_came : (answer : Bool → List (List ℕ) → Answer) (gf lf g0 l0 g1 l1 : Option (List ℕ)) (before after : LinesAhead) (done : List (List ℕ)) (read output : List ℕ) (end : End)
-    → IsReadTo gf lf g0 l0 before done read → Answers before after g0 g1 l0 l1 answers.End → (¬ IsOpen before.held → l1 ≡ l0)
+pub end_came : (answer : Bool → List (List ℕ) → Answer) (gf lf g0 l0 g1 l1 : Option (List ℕ))
+    (before after : LinesAhead) (done : List (List ℕ)) (read output : List ℕ) (end : End)
+    → IsReadTo gf lf g0 l0 before done read → Answers before after g0 g1 l0 l1 answers.End
+    → (¬ IsOpen before.held → l1 ≡ l0)
     → (before.settled ≡ Some stop.End → (g1 ≡ g0) × (l1 ≡ l0)) → NamesNext answer done output end
     → Came answer gf lf g1 l1 before done read (with_front output (ending end))
 end_came answer gf lf g0 l0 g1 l1 before after done read output end r h waits still names =
@@ -156,7 +182,8 @@ end_came answer gf lf g0 l0 g1 l1 before after done read output end r h waits st
       | inr e ↦ stayed e (still e)
     ]
   where
-    went : before.settled ≡ None → (more : List ℕ) × GoesOn before after g0 g1 l0 l1 answers.End more → Came answer gf lf g1 l1 before done read (with_front output (ending end))
+    went : before.settled ≡ None → (more : List ℕ) × GoesOn before after g0 g1 l0 l1 answers.End more
+        → Came answer gf lf g1 l1 before done read (with_front output (ending end))
     went e (more, on) =
         let b = went_on gf lf g0 l0 g1 l1 before after answers.End done read more r e on in
         let cause = on.tells.0.cause in
@@ -168,19 +195,23 @@ end_came answer gf lf g0 l0 g1 l1 before after done read output end r h waits st
         record {
           read_after = read ++ more;
           took = b.took;
-          told = told_end answer lf l1 done (read ++ more) (with_front output (ending end)) b.took.left cause.1 (omega arith) lines names.missing;
+          told = told_end answer lf l1 done (read ++ more) (with_front output (ending end)) b.took.left cause.1
+              (omega arith) lines names.missing;
           near = near_of gf lf g0 l0 g1 l1 before after done read more (before.held ++ more) r on.took b waits;
         }
 
-    stayed : before.settled ≡ Some stop.End → (g1 ≡ g0) × (l1 ≡ l0) → Came answer gf lf g1 l1 before done read (with_front output (ending end))
+    stayed : before.settled ≡ Some stop.End → (g1 ≡ g0) × (l1 ≡ l0)
+        → Came answer gf lf g1 l1 before done read (with_front output (ending end))
     stayed e same =
         let d = subst (λ o. IsDivided o before.held l0 done read) e r.divided in
-        let took : TookFrom gf g1 lf l1 read = subst (λ (o : Option (List ℕ)). TookFrom gf o lf l1 read) (sym same.0) (subst (λ (o : Option (List ℕ)). TookFrom gf g0 lf o read) (sym same.1) r.took) in
+        let took : TookFrom gf g1 lf l1 read = subst (λ (o : Option (List ℕ)). TookFrom gf o lf l1 read) (sym same.0)
+        (subst (λ (o : Option (List ℕ)). TookFrom gf g0 lf o read) (sym same.1) r.took) in
         let long = d.3 in
         record {
           read_after = read;
           took = took;
-          told = told_end answer lf l1 done read (with_front output (ending end)) took.left (subst IsAtEnd (sym same.1) d.0) d.1 d.2 names.missing;
+          told = told_end answer lf l1 done read (with_front output (ending end)) took.left
+              (subst IsAtEnd (sym same.1) d.0) d.1 d.2 names.missing;
           near = record { near = omega arith; waits = λ held. unread lf };
         }
       where
@@ -189,8 +220,10 @@ end_came answer gf lf g0 l0 g1 l1 before after done read output end r h waits st
         unread (Some bytes) = refl
 
 -- the limit was reached
-pub limit_came : (answer : Bool → List (List ℕ) → Answer) (gf lf g0 l0 g1 l1 : Option (List ℕ)) (before after : LinesAhead) (done : List (List ℕ)) (read output : List ℕ)
-    → IsReadTo gf lf g0 l0 before done read → Answers before after g0 g1 l0 l1 answers.Limit → (¬ IsOpen before.held → l1 ≡ l0) → Follows answer done output
+pub limit_came : (answer : Bool → List (List ℕ) → Answer) (gf lf g0 l0 g1 l1 : Option (List ℕ))
+    (before after : LinesAhead) (done : List (List ℕ)) (read output : List ℕ)
+    → IsReadTo gf lf g0 l0 before done read → Answers before after g0 g1 l0 l1 answers.Limit
+    → (¬ IsOpen before.held → l1 ≡ l0) → Follows answer done output
     → Came answer gf lf g1 l1 before done read (with_front output (ending last.Long))
 limit_came answer gf lf g0 l0 g1 l1 before after done read output r h waits follows =
     let w = goes gf lf g0 l0 g1 l1 before after answers.Limit done read r h (λ e. cc e) in
@@ -202,16 +235,23 @@ limit_came answer gf lf g0 l0 g1 l1 before after done read output r h waits foll
     let within = b.within in
     let full : length (read ++ more) ≡ INPUT_LIMIT = omega arith in
     let lines : lines_of true (read ++ more) ≡ done =
-    ap (lines_of true) b.split ∙ lines_front true done (before.held ++ more) b.lack ∙ ap (λ t. done ++ t) (lines_open (before.held ++ more) cause.0) ∙ append-nil done in
-    let is : answer true (lines_of true (read ++ more)) ≡ with_front output (ending last.Long) = ap (answer true) lines ∙ follows.undecided in
+    ap (lines_of true) b.split ∙ lines_front true done (before.held ++ more) b.lack
+    ∙ ap (λ t. done ++ t) (lines_open (before.held ++ more) cause.0) ∙ append-nil done in
+    let is : answer true (lines_of true (read ++ more)) ≡ with_front output (ending last.Long) = ap (answer true) lines
+    ∙ follows.undecided in
     record {
       read_after = read ++ more;
       took = b.took;
-      told = record { all = all (read ++ more) lf l1 b.took.left full is; leads = front (read ++ more) lf l1 b.took.left full lines };
+      told = record {
+        all = all (read ++ more) lf l1 b.took.left full is;
+        leads =
+            front (read ++ more) lf l1 b.took.left full lines;
+      };
       near = near_of gf lf g0 l0 g1 l1 before after done read more (before.held ++ more) r w.1.1.took b waits;
     }
   where
-    all : (now : List ℕ) (o p : Option (List ℕ)) → Consumes o p now → length now ≡ INPUT_LIMIT → answer true (lines_of true now) ≡ with_front output (ending last.Long)
+    all : (now : List ℕ) (o p : Option (List ℕ)) → Consumes o p now → length now ≡ INPUT_LIMIT
+        → answer true (lines_of true now) ≡ with_front output (ending last.Long)
         → IfSome o (λ bytes. answer (is_cut bytes) (lines_read bytes) ≡ with_front output (ending last.Long))
     all now None p took full is = tt
     all now (Some bytes) None took full is = absurd took
@@ -219,14 +259,18 @@ limit_came answer gf lf g0 l0 g1 l1 before after done read output r h waits foll
         let e = input_cut now rest bytes took full in
         ap (λ c. answer c (lines_read bytes)) e.0 ∙ ap (answer true) e.1 ∙ is
 
-    front : (now : List ℕ) (o p : Option (List ℕ)) → Consumes o p now → length now ≡ INPUT_LIMIT → lines_of true now ≡ done → LeadsOff o done
+    front : (now : List ℕ) (o p : Option (List ℕ)) → Consumes o p now → length now ≡ INPUT_LIMIT
+        → lines_of true now ≡ done → LeadsOff o done
     front now None p took full lines = tt
     front now (Some bytes) None took full lines = absurd took
-    front now (Some bytes) (Some rest) took full lines = ([], (input_cut now rest bytes took full).1 ∙ lines ∙ sym (append-nil done))
+    front now (Some bytes) (Some rest) took full lines =
+        ([], (input_cut now rest bytes took full).1 ∙ lines ∙ sym (append-nil done))
 
 -- the next line has too many bytes
-pub long_came : (answer : Bool → List (List ℕ) → Answer) (gf lf g0 l0 g1 l1 : Option (List ℕ)) (before after : LinesAhead) (done : List (List ℕ)) (read output : List ℕ) (end : End)
-    → IsReadTo gf lf g0 l0 before done read → Answers before after g0 g1 l0 l1 answers.Long → (¬ IsOpen before.held → l1 ≡ l0) → NamesNext answer done output end
+pub long_came : (answer : Bool → List (List ℕ) → Answer) (gf lf g0 l0 g1 l1 : Option (List ℕ))
+    (before after : LinesAhead) (done : List (List ℕ)) (read output : List ℕ) (end : End)
+    → IsReadTo gf lf g0 l0 before done read → Answers before after g0 g1 l0 l1 answers.Long
+    → (¬ IsOpen before.held → l1 ≡ l0) → NamesNext answer done output end
     → Came answer gf lf g1 l1 before done read (with_front output (ending end))
 long_came answer gf lf g0 l0 g1 l1 before after done read output end r h waits names =
     let w = goes gf lf g0 l0 g1 l1 before after answers.Long done read r h (λ e. cc e) in
@@ -247,7 +291,8 @@ long_came answer gf lf g0 l0 g1 l1 before after done read output end r h waits n
     whole : Answer
     whole = with_front output (ending end)
 
-    by_long : (cut : Bool) (bytes rest : List ℕ) → IsTooLong bytes → answer cut (done ++ lines_of cut (bytes ++ rest)) ≡ whole
+    by_long : (cut : Bool) (bytes rest : List ℕ) → IsTooLong bytes
+        → answer cut (done ++ lines_of cut (bytes ++ rest)) ≡ whole
     by_long cut bytes rest long =
         let f = lines_long cut bytes rest long in
         let s = names.long f.0 f.3 in
@@ -259,7 +304,8 @@ long_came answer gf lf g0 l0 g1 l1 before after done read output end r h waits n
         went_lack : before.settled ≡ None → LackFeeds done
         went_lack e = (subst (λ o. IsDivided o before.held l0 done read) e r.divided).1
 
-    all : (bytes now : List ℕ) → IsTooLong bytes → length now ≤ INPUT_LIMIT → now ≡ bytes_of done ++ bytes → (o p : Option (List ℕ)) → Consumes o p now
+    all : (bytes now : List ℕ) → IsTooLong bytes → length now ≤ INPUT_LIMIT → now ≡ bytes_of done ++ bytes
+        → (o p : Option (List ℕ)) → Consumes o p now
         → IfSome o (λ input. answer (is_cut input) (lines_read input) ≡ whole)
     all bytes now long within split None p took = tt
     all bytes now long within split (Some input) None took = absurd took
@@ -267,11 +313,15 @@ long_came answer gf lf g0 l0 g1 l1 before after done read output end r h waits n
         ap (answer (is_cut input)) (input_lines done bytes now rest input took within split lack)
         ∙ by_long (is_cut input) bytes (take (INPUT_LIMIT - length now) rest) long
 
-    front : (bytes now : List ℕ) → IsTooLong bytes → length now ≤ INPUT_LIMIT → now ≡ bytes_of done ++ bytes → (o p : Option (List ℕ)) → Consumes o p now → LeadsOff o done
+    front : (bytes now : List ℕ) → IsTooLong bytes → length now ≤ INPUT_LIMIT → now ≡ bytes_of done ++ bytes
+        → (o p : Option (List ℕ)) → Consumes o p now → LeadsOff o done
     front bytes now long within split None p took = tt
     front bytes now long within split (Some input) None took = absurd took
-    front bytes now long within split (Some input) (Some rest) took =
-        (lines_of (is_cut input) (bytes ++ take (INPUT_LIMIT - length now) rest), input_lines done bytes now rest input took within split lack)
+    front bytes now long within split (Some input) (Some rest) took = (
+      lines_of (is_cut input) (bytes ++ take (INPUT_LIMIT - length now) rest),
+      input_lines done bytes now rest input
+          took within split lack,
+    )
 
 -- the front of the beginning of a line is one
 open_front : (held more : List ℕ) → IsOpen (held ++ more) → IsOpen held
@@ -284,15 +334,18 @@ open_front held more h = record {
 }
 
 -- a read failed
-pub record FaultCame (gf lf g l : Option (List ℕ)) (before : LinesAhead) (done : List (List ℕ)) (read : List ℕ) : Type 0 where
+pub record FaultCame (gf lf g l : Option (List ℕ)) (before : LinesAhead) (done : List (List ℕ))
+    (read : List ℕ) : Type 0 where
   pub read_after : List ℕ
   pub took : TookFrom gf g lf l read_after
   pub lines : lines_of true read_after ≡ done
   pub begun : IsOpen before.held
   pub near : StaysNear lf before done read read_after
 
-pub fault_came : (gf lf g0 l0 g1 l1 : Option (List ℕ)) (before after : LinesAhead) (done : List (List ℕ)) (read : List ℕ)
-    → IsReadTo gf lf g0 l0 before done read → Answers before after g0 g1 l0 l1 answers.ReadFault → (¬ IsOpen before.held → l1 ≡ l0) → FaultCame gf lf g1 l1 before done read
+pub fault_came : (gf lf g0 l0 g1 l1 : Option (List ℕ)) (before after : LinesAhead) (done : List (List ℕ))
+    (read : List ℕ)
+    → IsReadTo gf lf g0 l0 before done read → Answers before after g0 g1 l0 l1 answers.ReadFault
+    → (¬ IsOpen before.held → l1 ≡ l0) → FaultCame gf lf g1 l1 before done read
 fault_came gf lf g0 l0 g1 l1 before after done read r h waits =
     let w = goes gf lf g0 l0 g1 l1 before after answers.ReadFault done read r h (λ e. cc e) in
     let more = w.1.0 in
@@ -300,18 +353,22 @@ fault_came gf lf g0 l0 g1 l1 before after done read r h waits =
     record {
       read_after = read ++ more;
       took = b.took;
-      lines = ap (lines_of true) b.split ∙ lines_front true done (before.held ++ more) b.lack ∙ ap (λ t. done ++ t) (lines_open (before.held ++ more) w.1.1.tells.cause) ∙ append-nil done;
+      lines = ap (lines_of true) b.split ∙ lines_front true done (before.held ++ more) b.lack
+          ∙ ap (λ t. done ++ t) (lines_open (before.held ++ more) w.1.1.tells.cause) ∙ append-nil done;
       begun = open_front before.held more w.1.1.tells.cause;
       near = near_of gf lf g0 l0 g1 l1 before after done read more (before.held ++ more) r w.1.1.took b waits;
     }
 
 -- the source ended, or the next line has too many bytes
-pub end_or_long_came : (answer : Bool → List (List ℕ) → Answer) (gf lf g0 l0 g1 l1 : Option (List ℕ)) (before after : LinesAhead) (result : NextLine) (done : List (List ℕ)) (read output : List ℕ) (end : End)
+pub end_or_long_came : (answer : Bool → List (List ℕ) → Answer) (gf lf g0 l0 g1 l1 : Option (List ℕ))
+    (before after : LinesAhead) (result : NextLine) (done : List (List ℕ)) (read output : List ℕ) (end : End)
     → (result ≡ answers.End) ⊎ (result ≡ answers.Long)
     → IsReadTo gf lf g0 l0 before done read → Answers before after g0 g1 l0 l1 result → (¬ IsOpen before.held → l1 ≡ l0)
     → (before.settled ≡ Some stop.End → (g1 ≡ g0) × (l1 ≡ l0)) → NamesNext answer done output end
     → Came answer gf lf g1 l1 before done read (with_front output (ending end))
 end_or_long_came answer gf lf g0 l0 g1 l1 before after result done read output end (inl e) r h waits still names =
-    end_came answer gf lf g0 l0 g1 l1 before after done read output end r (subst (Answers before after g0 g1 l0 l1) e h) waits still names
+    end_came answer gf lf g0 l0 g1 l1 before after done read output end r
+    (subst (Answers before after g0 g1 l0 l1) e h) waits still names
 end_or_long_came answer gf lf g0 l0 g1 l1 before after result done read output end (inr e) r h waits still names =
-    long_came answer gf lf g0 l0 g1 l1 before after done read output end r (subst (Answers before after g0 g1 l0 l1) e h) waits names
+    long_came answer gf lf g0 l0 g1 l1 before after done read output end r
+    (subst (Answers before after g0 g1 l0 l1) e h) waits names

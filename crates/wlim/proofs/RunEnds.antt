@@ -1,5 +1,5 @@
 -- How a run ends, and what it owes then.
-use Rattle.std.proofs.Common.{◌≡◌, ◌≢◌, ℕ, ◌+◌, ◌<◌, ◌≤◌, Bool, true, false, List, [], ◌∷◌, ◌++◌, length, take, Option, Some, None, Ok, Err, refl, sym, ap, ◌∙◌, subst, inl, inr, ◌⊎◌, arith, append_assoc, append-nil, length-append}
+use Rattle.std.proofs.Common.{◌≡◌, ◌≢◌, ℕ, ◌+◌, ◌≤◌, Bool, true, List, [], ◌++◌, length, take, Option, Some, None, Ok, Err, refl, sym, ap, ◌∙◌, subst, inl, inr, arith, append_assoc, append-nil, length-append}
 use Rattle.std.specs.Prelude.{IfSome}
 use Rattle.std.specs.Io.KnownBytes.{Appends}
 use Rattle.std.proofs.KnownBytes.{Appends-trans, Appends-nil}
@@ -13,9 +13,9 @@ use Rattle.wlim.specs.declared.last_line.LastLine.TheVariants as last
 use Rattle.wlim.specs.declared.status.Status.{Status}
 use Rattle.wlim.specs.declared.status.Status.TheVariants as status
 use Rattle.wlim.specs.Endings.{Answer, with_front, ending, is_long, shown, IsDecided}
-use Rattle.wlim.specs.Lines.{lines_of, lines_read, is_cut, size_of}
+use Rattle.wlim.specs.Lines.{lines_of, is_cut, size_of}
 use Rattle.wlim.specs.Scripts.{Follows}
-use Rattle.wlim.specs.Reading.{LeadsOff, ComesTo, IsTold}
+use Rattle.wlim.specs.Reading.{LeadsOff, ComesTo}
 use Rattle.wlim.specs.Writing.{WritesPart, WritesEnd, IsCutShort}
 use Rattle.wlim.specs.LineByLine.{LineByLine}
 use Rattle.wlim.specs.Ran.{GrowsByFront, Ran, answer_read}
@@ -269,7 +269,8 @@ failed_ran {answer} {gf} {lf} {held0} {held} {reader} stands_after holds_after g
     r come rose =
     by_error answer stands_after holds_after gf lf g' l' reader after r.going.done r.going.read
     (r.going.written ++ r.going.ready) r.going.ready
-    (λ x. (x ≡ status.ReadFault → Rose reads reads') → Ran (answer_read answer) lf reads reads' held0 held writes writes' x)
+    (λ x. (x ≡ status.ReadFault → Rose reads reads')
+    → Ran (answer_read answer) lf reads reads' held0 held writes writes' x)
     s come
     (λ come rose. record {
       front = front;

@@ -1,6 +1,6 @@
 -- The lines of a session: what they ask, and how its transcript grows.
-use Rattle.std.proofs.Common.{◌≡◌, ℕ, suc, ◌+◌, ◌<◌, ◌≤◌, Bool, true, false, leb, List, [], ◌∷◌, ◌++◌, length, Option, Some, None, refl, sym, ap, subst, ◌∙◌, arith, append_assoc, append-nil, length-append}
-use Rattle.std.specs.Prelude.{if◌then◌else◌, nat_le}
+use Rattle.std.proofs.Common.{◌≡◌, ℕ, suc, ◌+◌, ◌<◌, Bool, true, false, leb, List, [], ◌∷◌, ◌++◌, length, Option, Some, None, refl, sym, ap, subst, ◌∙◌, arith, append_assoc, append-nil, length-append}
+use Rattle.std.specs.Prelude.{if◌then◌else◌}
 use Rattle.std.proofs.lemmas.Bool.{le-leb, lt-leb}
 use Rattle.relay_model.specs.declared.act.EndCause.TheVariants.{Gone}
 use Rattle.seat_steps.specs.declared.limits.Limits.{Limits}
@@ -27,7 +27,7 @@ use Rattle.wlim.specs.declared.last_line.LastLine.TheVariants as last
 use Rattle.wlim.specs.declared.session.Meaning.{Meaning}
 use Rattle.wlim.specs.declared.session.Meaning.TheVariants as meaning
 use Rattle.wlim.specs.Endings.{Answer, with_front, ending, without_end}
-use Rattle.wlim.specs.Session.{closed, meaning_of_line, meaning_of, by_meaning, by_played, session_from, header_of_line, header_of}
+use Rattle.wlim.specs.Session.{closed, meaning_of_line, meaning_of, by_meaning, session_from, header_of_line, header_of}
 
 -- the transcript of a longer journal begins with that of the shorter
 
@@ -37,8 +37,10 @@ none_since capacity (e ∷ older) =
     ap (λ (b : Bool). (if b then text_since capacity (suc (length older)) older ++ entry_text capacity e older else []))
     (lt-leb (suc (length older)) (length older) (omega arith))
 
-more_since : (capacity : ℕ) (more t : List Entry) → journal_text capacity (more ++ t) ≡ journal_text capacity t ++ text_since capacity (length t) (more ++ t)
-more_since capacity [] t = sym (append-nil (journal_text capacity t)) ∙ ap (λ (l : List ℕ). journal_text capacity t ++ l) (sym (none_since capacity t))
+more_since : (capacity : ℕ) (more t : List Entry)
+    → journal_text capacity (more ++ t) ≡ journal_text capacity t ++ text_since capacity (length t) (more ++ t)
+more_since capacity [] t = sym (append-nil (journal_text capacity t))
+    ∙ ap (λ (l : List ℕ). journal_text capacity t ++ l) (sym (none_since capacity t))
 more_since capacity (e ∷ more) t =
     let long = length-append more t in
     let older : List Entry = more ++ t in
@@ -55,12 +57,14 @@ text_grows capacity before after m =
     ∙ ap (λ (j : List Entry). journal_text capacity before ++ text_since capacity (length before) j) (sym m.is)
 
 -- a line only adds entries
-pub line_grows : (limits : Limits) (found : SessionLine) (play : Play) → IsMore play.journal (line_played limits found play).play.journal
+pub line_grows : (limits : Limits) (found : SessionLine) (play : Play)
+    → IsMore play.journal (line_played limits found play).play.journal
 line_grows limits (lines.Join role) play = join_grows limits (entries.Join role) play
 line_grows limits (lines.Bytes q piece) play = bytes_grow limits q piece play
 line_grows limits (lines.Gone q) play = by _
   where
-    by : (b : Bool) → IsMore play.journal (if b then step_played limits (entries.End q Gone) play else went play).play.journal
+    by : (b : Bool) → IsMore play.journal
+        (if b then step_played limits (entries.End q Gone) play else went play).play.journal
     by true = step_grows limits (entries.End q Gone) play
     by false = no_more play.journal
 line_grows limits (lines.Take q n) play = take_grows limits q n play (peer_at (past_of play.journal) q)
@@ -69,7 +73,8 @@ line_grows limits (lines.Shell step) play = step_grows limits (entries.Shell ste
 -- the transcript so far stands before every answer
 
 longer : (limits : Limits) (play : Play) (p : Played) (x : Answer) → IsMore play.journal p.play.journal
-    → (rest : Answer) × (with_front (journal_text limits.store p.play.journal) x ≡ with_front (journal_text limits.store play.journal) rest)
+    → (rest : Answer) × (with_front (journal_text limits.store p.play.journal) x ≡ with_front
+    (journal_text limits.store play.journal) rest)
 longer limits play p x m =
     let more : List ℕ = text_since limits.store (length play.journal) p.play.journal in (
       with_front more x,
@@ -77,9 +82,11 @@ longer limits play p x m =
           ∙ ap (λ t. (t, x.1)) (append_assoc (journal_text limits.store play.journal) more x.0),
     )
 
-longer_by : (limits : Limits) (play : Play) (p : Played) (rest : Play → Answer) (b : Bool) → IsMore play.journal p.play.journal
+longer_by : (limits : Limits) (play : Play) (p : Played) (rest : Play → Answer) (b : Bool)
+    → IsMore play.journal p.play.journal
     → ((next : Play) → (x : Answer) × (rest next ≡ with_front (journal_text limits.store next.journal) x))
-    → (x : Answer) × ((if b then closed limits p.play (ending (last.Full (number_counted p.play.journal))) else rest p.play) ≡ with_front (journal_text limits.store play.journal) x)
+    → (x : Answer) × ((if b then closed limits p.play (ending (last.Full (number_counted p.play.journal))) else rest
+    p.play) ≡ with_front (journal_text limits.store play.journal) x)
 longer_by limits play p rest true m next = longer limits play p (ending (last.Full (number_counted p.play.journal))) m
 longer_by limits play p rest false m next =
     let here = next p.play in
@@ -99,7 +106,8 @@ pub begins : (limits : Limits) (cut : Bool) (n : ℕ) (play : Play) (lines : Lis
 unfolding session_from
 begins limits cut n play [] = (without_end cut n, refl)
 begins limits cut n play (raw ∷ lines) =
-    begins_by limits n play (λ next. session_from limits cut (n + 1) next lines) (meaning_of raw) (λ next. begins limits cut (n + 1) next lines)
+    begins_by limits n play (λ next. session_from limits cut (n + 1) next lines) (meaning_of raw)
+    (λ next. begins limits cut (n + 1) next lines)
 
 -- no line of more bytes than a line may have is in the grammar
 
@@ -111,21 +119,24 @@ pub long_is_none : (raw : List ℕ) → line_limit < length raw → header_of ra
 unfolding header_of line_of
 long_is_none raw long = let test : leb (length raw) 8400 ≡ false = lt-leb (length raw) 8400 long in rw test refl
 
-asked_by : (raw : List ℕ) (found : SessionLine) (o : Option Line) → line_of Session raw ≡ o → meaning.Play found ≡ meaning_of_line o → IsSessionLine found
+asked_by : (raw : List ℕ) (found : SessionLine) (o : Option Line) → line_of Session raw ≡ o
+    → meaning.Play found ≡ meaning_of_line o → IsSessionLine found
 asked_by raw found None e h = cc
 asked_by raw found (Some line.End) e h = cc
 asked_by raw found (Some (line.Act act)) e h = cc
 asked_by raw found (Some (line.Header limits)) e h = cc
 asked_by raw found (Some (line.Shell s)) e h = cc
 asked_by raw found (Some (line.Session other)) e h =
-    let same : other ≡ found = cc in subst IsSessionLine same (line_asked other (reads_only Session raw (line.Session other) e).1)
+    let same : other ≡ found = cc in
+    subst IsSessionLine same (line_asked other (reads_only Session raw (line.Session other) e).1)
 
 -- a line that is played holds what a line of a session can give
 pub asked : (raw : List ℕ) (found : SessionLine) → meaning.Play found ≡ meaning_of raw → IsSessionLine found
 unfolding meaning_of
 asked raw found h = asked_by raw found (line_of Session raw) refl h
 
-set_by : (raw : List ℕ) (limits : Limits) (o : Option Line) → line_of Session raw ≡ o → Some limits ≡ header_of_line o → IsLimits limits
+set_by : (raw : List ℕ) (limits : Limits) (o : Option Line) → line_of Session raw ≡ o → Some limits ≡ header_of_line o
+    → IsLimits limits
 set_by raw limits None e h = cc
 set_by raw limits (Some line.End) e h = cc
 set_by raw limits (Some (line.Act act)) e h = cc

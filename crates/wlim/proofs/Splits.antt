@@ -1,5 +1,5 @@
 -- How an input falls into lines, from its front on.
-use Rattle.std.proofs.Common.{◌≡◌, ℕ, ◌+◌, ◌<◌, ◌≤◌, Bool, true, false, cond, eqb, ltb, List, [], ◌∷◌, ◌++◌, length, take, drop, get_or, Option, Some, None, refl, sym, ap, ◌∙◌, subst, inl, inr, arith, append_assoc, length-append, length-take, leb}
+use Rattle.std.proofs.Common.{◌≡◌, ℕ, ◌+◌, ◌<◌, ◌≤◌, Bool, true, false, eqb, ltb, List, [], ◌∷◌, ◌++◌, length, take, get_or, refl, sym, ap, ◌∙◌, inl, inr, arith, append_assoc, length-append, length-take, leb}
 use Rattle.std.specs.List.{slice_split, position_or_len, before_first, after_first, All}
 use Rattle.std.proofs.lemmas.Bool.{ltb-true, ltb-false, leb-true, leb-false, eqb-true}
 use Rattle.std.proofs.lemmas.Grind.{common_steps}
@@ -7,10 +7,11 @@ use Rattle.std.proofs.lemmas.Bool.Decides.{eqb_tells, nat_tests}
 use Rattle.std.proofs.lemmas.List.Sums.{fails_before_first, passes_at_first}
 use Rattle.std.proofs.lemmas.List.Splits.{slice_split_first, slice_split_none, slice_split_at, length-slice_split}
 use Rattle.wio_core.specs.Lines.{LacksFeed, IsOpen, IsTooLong}
-use Rattle.wlim.specs.Lines.{lines_of, lines_of_parts, last_line, is_no_line, bytes_of, size_of}
+use Rattle.wlim.specs.Lines.{lines_of, lines_of_parts, last_line, bytes_of, size_of}
 use Rattle.wlim.specs.Reading.{LackFeeds}
 
-parts_more : (cut : Bool) (x : List ℕ) (parts : List (List ℕ)) → 0 < length parts → lines_of_parts cut (x ∷ parts) ≡ x ∷ lines_of_parts cut parts
+parts_more : (cut : Bool) (x : List ℕ) (parts : List (List ℕ)) → 0 < length parts
+    → lines_of_parts cut (x ∷ parts) ≡ x ∷ lines_of_parts cut parts
 parts_more cut x [] some = absurd (omega arith)
 parts_more cut x (y ∷ parts) some = refl
 
@@ -18,7 +19,8 @@ no_feed : (line : List ℕ) → LacksFeed line → All (λ b. eqb b 10 ≡ false
 no_feed line lacks k d lt = elim (eqb_tells (get_or line k d) 10) [ inl p ↦ absurd (lacks k d lt p.1) | inr p ↦ p.0 ]
 
 -- a line that a line feed ends
-pub lines_first : (cut : Bool) (line more : List ℕ) → LacksFeed line → lines_of cut (line ++ 10 ∷ more) ≡ line ∷ lines_of cut more
+pub lines_first : (cut : Bool) (line more : List ℕ) → LacksFeed line
+    → lines_of cut (line ++ 10 ∷ more) ≡ line ∷ lines_of cut more
 unfolding lines_of
 lines_first cut line more lacks =
     let p : ℕ → Bool = λ b. eqb b 10 in
@@ -26,10 +28,12 @@ lines_first cut line more lacks =
     ∙ parts_more cut line (slice_split p more) (let len = length-slice_split p more in omega (arith, len))
 
 -- lines before other bytes
-pub lines_front : (cut : Bool) (done : List (List ℕ)) (more : List ℕ) → LackFeeds done → lines_of cut (bytes_of done ++ more) ≡ done ++ lines_of cut more
+pub lines_front : (cut : Bool) (done : List (List ℕ)) (more : List ℕ) → LackFeeds done
+    → lines_of cut (bytes_of done ++ more) ≡ done ++ lines_of cut more
 lines_front cut [] more lack = refl
 lines_front cut (line ∷ done) more lack =
-    ap (lines_of cut) (append_assoc line (10 ∷ bytes_of done) more) ∙ lines_first cut line (bytes_of done ++ more) lack.0
+    ap (lines_of cut) (append_assoc line (10 ∷ bytes_of done) more)
+    ∙ lines_first cut line (bytes_of done ++ more) lack.0
     ∙ ap (λ l. line ∷ l) (lines_front cut done more lack.1)
 
 lines_one : (cut : Bool) (bytes : List ℕ) → LacksFeed bytes → lines_of cut bytes ≡ last_line cut bytes
@@ -63,7 +67,8 @@ lack_both (line ∷ a) b h k = (h.0, lack_both a b h.1 k)
 
 pub bytes_both : (a b : List (List ℕ)) → bytes_of (a ++ b) ≡ bytes_of a ++ bytes_of b
 bytes_both [] b = refl
-bytes_both (line ∷ a) b = ap (λ l. line ++ 10 ∷ l) (bytes_both a b) ∙ sym (append_assoc line (10 ∷ bytes_of a) (bytes_of b))
+bytes_both (line ∷ a) b = ap (λ l. line ++ 10 ∷ l) (bytes_both a b)
+    ∙ sym (append_assoc line (10 ∷ bytes_of a) (bytes_of b))
 
 pub size_both : (a b : List (List ℕ)) → size_of (a ++ b) ≡ size_of a + size_of b
 size_both [] b = omega arith
@@ -74,7 +79,8 @@ pub few_lines : (lines : List (List ℕ)) → length lines ≤ size_of lines
 few_lines [] = omega arith
 few_lines (line ∷ lines) = let more = few_lines lines in omega (arith, more)
 
-same_front : (bytes more : List ℕ) (n k : ℕ) → k < n → k < length bytes → get_or (take n bytes) k 0 ≡ get_or (bytes ++ more) k 0
+same_front : (bytes more : List ℕ) (n k : ℕ) → k < n → k < length bytes
+    → get_or (take n bytes) k 0 ≡ get_or (bytes ++ more) k 0
 same_front bytes more n k lt inside = grind (arith, common_steps)
 
 front_lacks : (bytes more : List ℕ) → IsTooLong bytes → (k : ℕ) → k < 8401 → get_or (bytes ++ more) k 0 ≡ 10 → ⊥
@@ -85,13 +91,15 @@ front_lacks bytes more h k lt e =
     let shorter : k < length bytes = omega arith in
     h.lacks k 0 inside (same_front bytes more 8401 k lt shorter ∙ e)
 
-last_long : (cut : Bool) (whole : List ℕ) → eqb (length whole) 0 ≡ false → leb (length whole) 8400 ≡ false → last_line cut whole ≡ whole ∷ []
+last_long : (cut : Bool) (whole : List ℕ) → eqb (length whole) 0 ≡ false → leb (length whole) 8400 ≡ false
+    → last_line cut whole ≡ whole ∷ []
 last_long true whole e f = rw (e, f) refl
 last_long false whole e f = rw e refl
 
 -- a list of more bytes than a line may have, of which the first have no line feed, begins with a line that is too long
 BeginsLong : Bool → List ℕ → Type 0
-BeginsLong cut whole = (raw : List ℕ) × (lines : List (List ℕ)) × (lines_of cut whole ≡ raw ∷ lines) × (8400 < length raw)
+BeginsLong cut whole = (raw : List ℕ) × (lines : List (List ℕ)) × (lines_of cut whole ≡ raw ∷ lines)
+    × (8400 < length raw)
 
 ends_inside : (cut : Bool) (whole : List ℕ) → ((k : ℕ) → k < 8401 → get_or whole k 0 ≡ 10 → ⊥)
     → position_or_len (λ b. eqb b 10) whole < length whole → BeginsLong cut whole
@@ -112,7 +120,8 @@ ends_inside cut whole lacks inside =
       omega (arith, length-take at whole),
     )
 
-ends_nowhere : (cut : Bool) (whole : List ℕ) → 8400 < length whole → length whole ≤ position_or_len (λ b. eqb b 10) whole → BeginsLong cut whole
+ends_nowhere : (cut : Bool) (whole : List ℕ) → 8400 < length whole
+    → length whole ≤ position_or_len (λ b. eqb b 10) whole → BeginsLong cut whole
 unfolding lines_of BeginsLong
 ends_nowhere cut whole wide outside =
     let p : ℕ → Bool = λ b. eqb b 10 in

@@ -10,7 +10,8 @@ use Rattle.wlim.specs.Transcript.{answer_from}
 pub record ActsStand (list : ActList) (done : List (List ℕ)) (output : List ℕ) : Type 0 where
   pub log : List Act
   pub stands : StandsFor list.relay log
-  pub goes_on : (cut : Bool) (more : List (List ℕ)) → answer_from cut [] (done ++ more) ≡ with_front output (answer_from cut log more)
+  pub goes_on : (cut : Bool) (more : List (List ℕ)) → answer_from cut [] (done ++ more) ≡ with_front output
+      (answer_from cut log more)
 
 -- the lines that were printed since the buffer was cleared
 abbrev pub acts_text : ActList → List ℕ

@@ -6,13 +6,15 @@ use Rattle.wlim.specs.declared.status.Status.TheVariants as status
 use Rattle.wlim.specs.Lines.{lines_of, lines_read, size_of}
 use Rattle.wlim.specs.Endings.{Answer, is_long, shown}
 
--- the bytes that were read reach at most 16,384 bytes past the first byte of each line with which this holds of it and those before it
+-- the bytes that were read reach at most 16,384 bytes past the first byte of each line with which this holds of it and
+-- those before it
 abbrev pub ReachesNear : List (List ℕ) → List ℕ → (List (List ℕ) → Type 0) → Type 0
 ReachesNear lines read P =
     (before : List (List ℕ)) (line : List ℕ) (after : List (List ℕ)) → lines ≡ before ++ line ∷ after
     → P (before ++ line ∷ []) → length read ≤ size_of before + 16384
 
--- What a run owes to its lines: by the answers of its command, what the source had left, its counts of faults, what the sink held and holds, the status, and the bytes
+-- What a run owes to its lines: by the answers of its command, what the source had left, its counts of faults, what the
+-- sink held and holds, the status, and the bytes
 -- that were read, whose whole lines are those that are left of them where they are cut off.
 pub record LineByLine
     (answer : Bool → List (List ℕ) → Answer)
@@ -27,7 +29,8 @@ pub record LineByLine
   pub whole_lines : result ≡ status.ReadFault → (is_long (answer true (lines_of true read)).1 ≡ true)
       × Appends held held_after (shown (answer true (lines_of true read)))
   -- the line that decides is near
-  pub near_deciding : IfSome left (λ bytes. ReachesNear (lines_read bytes) read (λ lines. is_long (answer true lines).1 ≡ false))
+  pub near_deciding : IfSome left
+      (λ bytes. ReachesNear (lines_read bytes) read (λ lines. is_long (answer true lines).1 ≡ false))
   -- so is the first line with which the output is longer than what was written
   pub near_unwritten : IfSome left (λ bytes. IfSome held (λ was. IfSome held_after (λ now.
       ReachesNear (lines_read bytes) read (λ lines. length now < length was + length (shown (answer true lines))))))

@@ -12,12 +12,14 @@ use Rattle.wlim.specs.Watching.{Gathers}
 abbrev pub fresh : Limits → Playing
 fresh limits = record { limits = limits; play = unplayed; is_spent = false; stopped = None }
 
--- the transcript of what a player played is the output so far, and stands before every answer for these lines and others
+-- the transcript of what a player played is the output so far, and stands before every answer for these lines and
+-- others
 pub record PlayerStands (player : Playing) (before : ℕ) (done : List (List ℕ)) (output : List ℕ) : Type 0 where
   pub unspent : player.is_spent ≡ false
   pub count : before ≡ length done
   pub said : output ≡ journal_text player.limits.store player.play.journal
-  pub goes_on : (cut : Bool) (more : List (List ℕ)) → session_of_lines cut (done ++ more) ≡ session_from player.limits cut before player.play more
+  pub goes_on : (cut : Bool) (more : List (List ℕ))
+      → session_of_lines cut (done ++ more) ≡ session_from player.limits cut before player.play more
 
 -- what a player played since its journal was this, the printer has gathered
 pub record PlayerHolds (player : Playing) (printer : Printing) (gathered : List ℕ) : Type 0 where

@@ -15,7 +15,8 @@ abbrev pub Gathers : ℕ → List Entry → List Entry → Printing → Type 0
 Gathers store written journal printer = IsWatched MayPrint store written blank journal printer
 
 -- where a line that was played led, what was printed of it, and how the output ends if the journal was full for it
-pub record Went (player player_after : Playing) (printer printer_after : Printing) (line : SessionLine) (end : Option LastLine) : Type 0 where
+pub record Went (player player_after : Playing) (printer printer_after : Printing) (line : SessionLine)
+    (end : Option LastLine) : Type 0 where
   pub full : end ≡ option_map last.Full (full_at (line_played player.limits line player.play))
   pub play : end ≡ None → player_after ≡ record player { play = (line_played player.limits line player.play).play }
   pub journal : player_after.play.journal ≡ (line_played player.limits line player.play).play.journal

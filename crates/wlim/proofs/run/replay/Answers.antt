@@ -1,4 +1,3 @@
-use Rattle.std.proofs.Common.{◌≡◌, [], refl, sym, subst}
 use Rattle.wlim.proofs.Runs.{acts_ran, session_ran, acts_law, session_law}
 use Rattle.wlim.proofs.ActsPlayed.{acts_begin}
 use Rattle.wlim.proofs.SessionsPlayed.{session_begins}
@@ -11,7 +10,8 @@ pub play_input-requires-in-Ok-clause-follows : goal.play_input-requires-in-Ok-cl
 play_input-requires-in-Ok-clause-follows g c = acts_begin
 
 pub returns-in-Replay-clause-ran : goal.returns-in-Replay-clause-ran
-returns-in-Replay-clause-ran g c = session_ran c.args.command _ _ _ _ _ _ _ c.play_input.result c.in-Replay.is c.play_input.ensures.ran
+returns-in-Replay-clause-ran g c = session_ran c.args.command _ _ _ _ _ _ _ c.play_input.result c.in-Replay.is
+    c.play_input.ensures.ran
 
 pub returns-in-Replay-clause-line_by_line : goal.returns-in-Replay-clause-line_by_line
 returns-in-Replay-clause-line_by_line g c = λ other.
@@ -19,7 +19,8 @@ returns-in-Replay-clause-line_by_line g c = λ other.
     (l.0, l.1, session_law c.args.command _ _ _ _ _ c.play_input.result l.0 c.in-Replay.is l.2)
 
 pub returns-in-Ok-clause-ran : goal.returns-in-Ok-clause-ran
-returns-in-Ok-clause-ran g c = acts_ran c.args.command _ _ _ _ _ _ _ c.play_input-in-Ok.result c.in-ReplayActs.is c.play_input-in-Ok.ensures.ran
+returns-in-Ok-clause-ran g c = acts_ran c.args.command _ _ _ _ _ _ _ c.play_input-in-Ok.result c.in-ReplayActs.is
+    c.play_input-in-Ok.ensures.ran
 
 pub returns-in-Ok-clause-line_by_line : goal.returns-in-Ok-clause-line_by_line
 returns-in-Ok-clause-line_by_line g c = λ other.

@@ -1,4 +1,4 @@
-use Rattle.std.proofs.Common.{◌≡◌, sym, ◌∙◌}
+use Rattle.std.proofs.Common.{sym, ◌∙◌}
 use Rattle.wlim.proofs.Sessions.{set}
 use Rattle.wlim.proofs.session.begin.Goals as goal
 
