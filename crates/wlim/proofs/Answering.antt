@@ -1,11 +1,10 @@
--- The answer for some lines, by its first line.
-use Rattle.std.proofs.Common.{◌≡◌, ℕ, ◌+◌, ◌<◌, Bool, true, false, List, [], ◌∷◌, ◌++◌, length, refl, sym, ap, subst, ◌∙◌, append_assoc, Option, Some, None}
+-- The answer for an act list, by its first line.
+use Rattle.std.proofs.Common.{◌≡◌, ℕ, ◌+◌, ◌<◌, Bool, true, false, List, [], ◌∷◌, ◌++◌, length, refl, sym, ap, subst, append_assoc, Option, Some, None}
 use Rattle.std.specs.Prelude.{nat_lt, if◌then◌else◌}
 use Rattle.std.proofs.lemmas.Bool.{ltb-true}
 use Rattle.relay_model.specs.declared.act.Act.{Act}
 use Rattle.relay_model.specs.declared.act.Act.TheVariants as acts
 use Rattle.relay_model.specs.Told.{told}
-use Rattle.wlim.specs.Lines.{lines_of}
 use Rattle.wlim.specs.declared.act_list.Verdict.{Verdict}
 use Rattle.wlim.specs.declared.act_list.Verdict.TheVariants as verdict
 use Rattle.wlim.specs.declared.act_list.TheConstants.{ACT_LIMIT}
@@ -17,7 +16,7 @@ use Rattle.session_text.specs.Grammar.{HasLine}
 use Rattle.session_text.specs.Reading.{line_of}
 use Rattle.session_text.proofs.Laws.{reads_only}
 use Rattle.wlim.specs.Endings.{Answer, with_front, without_end}
-use Rattle.wlim.specs.Transcript.{verdict_of_line, answer_of, answer_from, by_verdict, verdict_of, act_text}
+use Rattle.wlim.specs.Transcript.{verdict_of_line, answer_from, by_verdict, verdict_of, act_text}
 
 pub front_of_front : (a b : List ℕ) (x : Answer) → with_front a (with_front b x) ≡ with_front (a ++ b) x
 front_of_front a b x = ap (λ t. (t, x.1)) (sym (append_assoc a b x.0))
@@ -27,31 +26,14 @@ abbrev pub by_line : Bool → List Act → ℕ → Verdict → List (List ℕ) �
 by_line cut log n v more =
     by_verdict n v (λ act. act_text (length log + 1) (told act log)) (λ act. answer_from cut (act ∷ log) more)
 
-answer_cons : (cut : Bool) (log : List Act) (raw : List ℕ) (lines : List (List ℕ)) →
+pub answer_cons : (cut : Bool) (log : List Act) (raw : List ℕ) (lines : List (List ℕ)) →
     answer_from cut log (raw ∷ lines) ≡ by_line cut log (length log) (verdict_of (length log) raw) lines
 unfolding answer_from
 answer_cons cut log raw lines = refl
 
-answer_nil : (cut : Bool) (log : List Act) → answer_from cut log [] ≡ without_end cut (length log)
+pub answer_nil : (cut : Bool) (log : List Act) → answer_from cut log [] ≡ without_end cut (length log)
 unfolding answer_from
 answer_nil cut log = refl
-
--- what a line makes of the whole
-pub step : (cut : Bool) (log : List Act) (n : ℕ) (t raw : List ℕ) (lines more : List (List ℕ)) (v : Verdict) (whole : Answer) → n ≡ length log →
-    with_front t (answer_from cut log lines) ≡ whole → lines ≡ raw ∷ more → v ≡ verdict_of n raw → with_front t (by_line cut log n v more) ≡ whole
-step cut log n t raw lines more v whole count e split is =
-    ap (λ w. with_front t (by_line cut log n w more)) is ∙ ap (λ m. with_front t (by_line cut log m (verdict_of m raw) more)) count ∙ ap (with_front t) (sym (answer_cons cut log raw more)) ∙
-    ap (λ l. with_front t (answer_from cut log l)) (sym split) ∙ e
-
--- where no line is left
-pub ends : (cut : Bool) (log : List Act) (n : ℕ) (t : List ℕ) (lines : List (List ℕ)) (whole : Answer) → n ≡ length log →
-    with_front t (answer_from cut log lines) ≡ whole → lines ≡ [] → with_front t (without_end cut n) ≡ whole
-ends cut log n t lines whole count e none =
-    ap (λ m. with_front t (without_end cut m)) count ∙ ap (with_front t) (sym (answer_nil cut log)) ∙ ap (λ l. with_front t (answer_from cut log l)) (sym none) ∙ e
-
-pub starts : (cut : Bool) (input : List ℕ) → with_front [] (answer_from cut [] (lines_of cut input)) ≡ answer_of cut input
-unfolding answer_of
-starts cut input = refl
 
 -- an act that a line can give fits a message
 line_fits : (act : Act) → HasLine act → FitsMessage act
@@ -65,7 +47,8 @@ play_act_by : (count : ℕ) (act found : Act) (b : Bool) → nat_lt count ACT_LI
 play_act_by count act found true e k h = (ltb-true count ACT_LIMIT e, let d : found ≡ act = cc in subst FitsMessage d k)
 play_act_by count act found false e k h = cc
 
-play_line_by : (count : ℕ) (act : Act) (raw : List ℕ) (o : Option Line) → line_of Acts raw ≡ o → verdict.Play act ≡ verdict_of_line count o →
+play_line_by : (count : ℕ) (act : Act) (raw : List ℕ) (o : Option Line) → line_of Acts raw ≡ o
+    → verdict.Play act ≡ verdict_of_line count o →
     (count < ACT_LIMIT) × FitsMessage act
 play_line_by count act raw None e h = cc
 play_line_by count act raw (Some line.End) e h = cc
@@ -73,9 +56,11 @@ play_line_by count act raw (Some (line.Header limits)) e h = cc
 play_line_by count act raw (Some (line.Session found)) e h = cc
 play_line_by count act raw (Some (line.Shell step)) e h = cc
 play_line_by count act raw (Some (line.Act found)) e h =
-    play_act_by count act found (nat_lt count ACT_LIMIT) refl (line_fits found (reads_only Acts raw (line.Act found) e).1) h
+    play_act_by count act found (nat_lt count ACT_LIMIT) refl
+    (line_fits found (reads_only Acts raw (line.Act found) e).1) h
 
 -- an act that is played is within the limit, and a message can carry it
-pub played : (count : ℕ) (raw : List ℕ) (act : Act) → verdict.Play act ≡ verdict_of count raw → (count < ACT_LIMIT) × FitsMessage act
+pub played : (count : ℕ) (raw : List ℕ) (act : Act) → verdict.Play act ≡ verdict_of count raw
+    → (count < ACT_LIMIT) × FitsMessage act
 unfolding verdict_of
 played count raw act h = play_line_by count act raw (line_of Acts raw) refl h

@@ -1,7 +1,14 @@
 pub mod Splits
 pub mod Inputs
+pub mod ReadLines
+pub mod LinesTold
+pub mod LinePlayed
+pub mod LinesWithin
+pub mod Going
+pub mod RunEnds
 pub mod Runs
 pub mod Printed
-pub mod Closing
 pub mod Answering
+pub mod ActsPlayed
 pub mod Sessions
+pub mod SessionsPlayed

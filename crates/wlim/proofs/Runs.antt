@@ -1,57 +1,66 @@
 -- What a run wrote and answered.
-use Rattle.std.proofs.Common.{◌≡◌, ◌≢◌, ℕ, ◌<◌, Bool, true, false, eqb, List, length, take, Option, Some, None, refl, sym, ap, ◌∙◌, subst, arith}
+use Rattle.std.proofs.Common.{◌≡◌, ◌≢◌, ℕ, true, false, List, [], Option, Some, None, refl, sym, ap, subst}
 use Rattle.std.specs.Prelude.{is_some, IfSome}
-use Rattle.std.proofs.lemmas.List.{take_all}
 use Rattle.std.specs.Io.KnownBytes.{Appends}
 use Rattle.std.proofs.KnownBytes.{Appends-nil}
 use Rattle.wio_core.specs.Io.{Rose}
 use Rattle.wlim.specs.declared.status.Status.{Status}
 use Rattle.wlim.specs.declared.status.Status.TheVariants as status
 use Rattle.wlim.specs.declared.command.Command.{Command}
-use Rattle.wlim.specs.declared.reading.TheConstants.{INPUT_LIMIT}
-use Rattle.wlim.specs.Lines.{taken, is_cut}
-use Rattle.wlim.specs.Endings.{Answer, IsDecided}
-use Rattle.wlim.specs.Run.{command_of, is_command, status_of, output_of, answer_to, answer_by, answer_where, GrowsByFront, Ran}
+use Rattle.wlim.specs.declared.command.Command.TheVariants as commands
+use Rattle.wlim.specs.Lines.{lines_read}
+use Rattle.wlim.specs.Endings.{IsDecided}
+use Rattle.wlim.specs.Transcript.{answer_from, answer_of}
+use Rattle.wlim.specs.Session.{session_of_lines, session_answer}
+use Rattle.wlim.specs.Ran.{GrowsByFront, Ran, answer_read}
+use Rattle.wlim.specs.LineByLine.{LineByLine}
+use Rattle.wlim.specs.Run.{command_of, is_command, status_of, output_of, answer_by, answer_lines, answer_where}
 
--- what the answer to what was read is
-pub answer_is : (command : Command) (left : Option (List ℕ)) (input : List ℕ) (answer : Answer) (cut : Bool) → cut ≡ eqb (length input) INPUT_LIMIT → IfSome left (λ bytes. input ≡ taken bytes)
-    → answer ≡ answer_to command cut input → IfSome left (λ bytes. answer ≡ answer_by command bytes)
-unfolding answer_by is_cut
-answer_is command None input answer cut c i a = tt
-answer_is command (Some bytes) input answer cut c i a =
-    a ∙ ap (λ b. answer_to command b input) c ∙ ap (λ v. answer_to command (eqb (length v) INPUT_LIMIT) v) i
+-- by its lines, the answer for an input is that of its command
 
-pub ran_all : (command : Command) (left : Option (List ℕ)) (reads reads' : ℕ) (held held' : Option (List ℕ)) (writes writes' : ℕ) (text : List ℕ) (result : Status)
-    → IfSome left (λ bytes. (text, result) ≡ answer_by command bytes) → IsDecided result → Appends held held' text → Ran (answer_by command) left reads reads' held held' writes writes' result
-ran_all command left reads reads' held held' writes writes' text result is decided wrote = record {
-  front = front_all left is;
-  decided = λ _. all left is;
-  read_fault = λ e. absurd (subst IsDecided e decided);
-  write_fault = λ e. absurd (subst IsDecided e decided);
-  good_words = λ e. subst IsDecided e decided;
-}
-  where
-    all : (left : Option (List ℕ)) → IfSome left (λ bytes. (text, result) ≡ answer_by command bytes) → IfSome left (λ bytes. ((answer_by command bytes).1 ≡ result) × Appends held held' (answer_by command bytes).0)
-    all None is = tt
-    all (Some bytes) is = (ap (λ a. a.1) (sym is), subst (Appends held held') (ap (λ a. a.0) is) wrote)
+acts_read : (left : Option (List ℕ)) (reads reads' : ℕ) (held held' : Option (List ℕ)) (writes writes' : ℕ)
+    (result : Status)
+    → Ran (answer_read (λ cut lines. answer_from cut [] lines)) left reads reads' held held' writes writes' result
+    → Ran (answer_by commands.ReplayActs) left reads reads' held held' writes writes' result
+unfolding answer_by answer_of lines_read
+acts_read left reads reads' held held' writes writes' result ran = ran
 
-    front_all : (left : Option (List ℕ)) → IfSome left (λ bytes. (text, result) ≡ answer_by command bytes) → IfSome left (λ bytes. GrowsByFront held held' (answer_by command bytes).0)
-    front_all None is = tt
-    front_all (Some bytes) is = subst (GrowsByFront held held') (ap (λ a. a.0) is) (length text, omega arith, subst (Appends held held') (sym (take_all (length text) text (omega arith))) wrote)
+pub acts_ran : (command : Command) (left : Option (List ℕ)) (reads reads' : ℕ) (held held' : Option (List ℕ))
+    (writes writes' : ℕ) (result : Status) → command ≡ commands.ReplayActs
+    → Ran (answer_read (λ cut lines. answer_from cut [] lines)) left reads reads' held held' writes writes' result
+    → Ran (answer_by command) left reads reads' held held' writes writes' result
+acts_ran command left reads reads' held held' writes writes' result is ran =
+    subst (λ c. Ran (answer_by c) left reads reads' held held' writes writes' result) (sym is)
+    (acts_read left reads reads' held held' writes writes' result ran)
 
-pub ran_front : (command : Command) (left : Option (List ℕ)) (reads reads' : ℕ) (held held' : Option (List ℕ)) (writes writes' : ℕ) (text : List ℕ) (s : Status)
-    → IfSome left (λ bytes. (text, s) ≡ answer_by command bytes) → (n : ℕ) × (n < length text) × Appends held held' (take n text) → Rose writes writes' → Ran (answer_by command) left reads reads' held held' writes writes' status.WriteFault
-ran_front command left reads reads' held held' writes writes' text s is wrote rose = record {
-  front = front_all left is;
-  decided = λ h. absurd h;
-  read_fault = λ e. absurd (cc e);
-  write_fault = λ e. rose;
-  good_words = λ e. cc e;
-}
-  where
-    front_all : (left : Option (List ℕ)) → IfSome left (λ bytes. (text, s) ≡ answer_by command bytes) → IfSome left (λ bytes. GrowsByFront held held' (answer_by command bytes).0)
-    front_all None is = tt
-    front_all (Some bytes) is = subst (GrowsByFront held held') (ap (λ a. a.0) is) (wrote.0, (let lt = wrote.1 in omega arith), wrote.2)
+session_read : (left : Option (List ℕ)) (reads reads' : ℕ) (held held' : Option (List ℕ)) (writes writes' : ℕ)
+    (result : Status)
+    → Ran (answer_read session_of_lines) left reads reads' held held' writes writes' result
+    → Ran (answer_by commands.Replay) left reads reads' held held' writes writes' result
+unfolding answer_by session_answer lines_read
+session_read left reads reads' held held' writes writes' result ran = ran
+
+pub session_ran : (command : Command) (left : Option (List ℕ)) (reads reads' : ℕ) (held held' : Option (List ℕ))
+    (writes writes' : ℕ) (result : Status) → command ≡ commands.Replay
+    → Ran (answer_read session_of_lines) left reads reads' held held' writes writes' result
+    → Ran (answer_by command) left reads reads' held held' writes writes' result
+session_ran command left reads reads' held held' writes writes' result is ran =
+    subst (λ c. Ran (answer_by c) left reads reads' held held' writes writes' result) (sym is)
+    (session_read left reads reads' held held' writes writes' result ran)
+
+pub acts_law : (command : Command) (left : Option (List ℕ)) (reads reads' : ℕ) (held held' : Option (List ℕ))
+    (result : Status) (read : List ℕ) → command ≡ commands.ReplayActs
+    → LineByLine (λ cut lines. answer_from cut [] lines) left reads reads' held held' result read
+    → LineByLine (answer_lines command) left reads reads' held held' result read
+acts_law command left reads reads' held held' result read is law =
+    subst (λ c. LineByLine (answer_lines c) left reads reads' held held' result read) (sym is) law
+
+pub session_law : (command : Command) (left : Option (List ℕ)) (reads reads' : ℕ) (held held' : Option (List ℕ))
+    (result : Status) (read : List ℕ) → command ≡ commands.Replay
+    → LineByLine session_of_lines left reads reads' held held' result read
+    → LineByLine (answer_lines command) left reads reads' held held' result read
+session_law command left reads reads' held held' result read is law =
+    subst (λ c. LineByLine (answer_lines c) left reads reads' held held' result read) (sym is) law
 
 -- the call with its words
 
@@ -61,24 +70,31 @@ is_named words command e = ap is_some e
 pub is_unnamed : (words : List (List ℕ)) → command_of words ≡ None → is_command words ≡ false
 is_unnamed words e = ap is_some e
 
-pub front_of : (command : Command) (words : List (List ℕ)) (left : Option (List ℕ)) (reads reads' : ℕ) (held held' : Option (List ℕ)) (writes writes' : ℕ) (result : Status)
-    → command_of words ≡ Some command → Ran (answer_by command) left reads reads' held held' writes writes' result → IfSome left (λ bytes. GrowsByFront held held' (output_of words bytes))
+pub front_of : (command : Command) (words : List (List ℕ)) (left : Option (List ℕ)) (reads reads' : ℕ)
+    (held held' : Option (List ℕ)) (writes writes' : ℕ) (result : Status)
+    → command_of words ≡ Some command → Ran (answer_by command) left reads reads' held held' writes writes' result
+    → IfSome left (λ bytes. GrowsByFront held held' (output_of words bytes))
 unfolding output_of
 front_of command words None reads reads' held held' writes writes' result e ran = tt
 front_of command words (Some bytes) reads reads' held held' writes writes' result e ran =
     subst (λ o. GrowsByFront held held' (answer_where o bytes).0) (sym e) ran.front
 
-pub decided_of : (command : Command) (words : List (List ℕ)) (left : Option (List ℕ)) (reads reads' : ℕ) (held held' : Option (List ℕ)) (writes writes' : ℕ) (result : Status)
-    → command_of words ≡ Some command → Ran (answer_by command) left reads reads' held held' writes writes' result → IsDecided result
+pub decided_of : (command : Command) (words : List (List ℕ)) (left : Option (List ℕ)) (reads reads' : ℕ)
+    (held held' : Option (List ℕ)) (writes writes' : ℕ) (result : Status)
+    → command_of words ≡ Some command → Ran (answer_by command) left reads reads' held held' writes writes' result
+    → IsDecided result
     → IfSome left (λ bytes. (status_of words bytes ≡ result) × Appends held held' (output_of words bytes))
 unfolding output_of status_of
 decided_of command words None reads reads' held held' writes writes' result e ran h = tt
 decided_of command words (Some bytes) reads reads' held held' writes writes' result e ran h =
-    subst (λ o. ((answer_where o bytes).1 ≡ result) × Appends held held' (answer_where o bytes).0) (sym e) (ran.decided h)
+    subst (λ o. ((answer_where o bytes).1 ≡ result) × Appends held held' (answer_where o bytes).0) (sym e)
+    (ran.decided h)
 
 -- a status without a fault and with memory is decided
-pub decides : (command : Command) (left : Option (List ℕ)) (reads reads' : ℕ) (held held' : Option (List ℕ)) (writes writes' : ℕ) (result : Status)
-    → Ran (answer_by command) left reads reads' held held' writes writes' result → (Rose reads reads' → ⊥) → (Rose writes writes' → ⊥) → result ≢ status.NoMemory → IsDecided result
+pub decides : (command : Command) (left : Option (List ℕ)) (reads reads' : ℕ) (held held' : Option (List ℕ))
+    (writes writes' : ℕ) (result : Status)
+    → Ran (answer_by command) left reads reads' held held' writes writes' result → (Rose reads reads' → ⊥)
+    → (Rose writes writes' → ⊥) → result ≢ status.NoMemory → IsDecided result
 decides command left reads reads' held held' writes writes' status.Ok ran r w m = tt
 decides command left reads reads' held held' writes writes' status.BadWords ran r w m = ran.good_words refl
 decides command left reads reads' held held' writes writes' status.BadSession ran r w m = tt
@@ -88,8 +104,10 @@ decides command left reads reads' held held' writes writes' status.NoMemory ran 
 decides command left reads reads' held held' writes writes' status.JournalFull ran r w m = tt
 decides command left reads reads' held held' writes writes' status.InputLong ran r w m = tt
 
-pub other_words : (words : List (List ℕ)) (left held : Option (List ℕ)) → command_of words ≡ None → IfSome left (λ bytes. (status_of words bytes ≡ status.BadWords) × Appends held held (output_of words bytes))
+pub other_words : (words : List (List ℕ)) (left held : Option (List ℕ)) → command_of words ≡ None
+    → IfSome left (λ bytes. (status_of words bytes ≡ status.BadWords) × Appends held held (output_of words bytes))
 unfolding output_of status_of
 other_words words None held e = tt
 other_words words (Some bytes) held e =
-    subst (λ o. ((answer_where o bytes).1 ≡ status.BadWords) × Appends held held (answer_where o bytes).0) (sym e) (refl, Appends-nil held)
+    subst (λ o. ((answer_where o bytes).1 ≡ status.BadWords) × Appends held held (answer_where o bytes).0) (sym e)
+    (refl, Appends-nil held)

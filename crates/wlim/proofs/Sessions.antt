@@ -1,98 +1,142 @@
--- The answer for some lines of a session, by its first line.
-use Rattle.std.proofs.Common.{◌≡◌, ℕ, ◌+◌, Bool, true, false, List, [], ◌∷◌, Option, Some, None, refl, sym, ap, subst, ◌∙◌}
+-- The lines of a session: what they ask, and how its transcript grows.
+use Rattle.std.proofs.Common.{◌≡◌, ℕ, suc, ◌+◌, ◌<◌, Bool, true, false, leb, List, [], ◌∷◌, ◌++◌, length, Option, Some, None, refl, sym, ap, subst, ◌∙◌, arith, append_assoc, append-nil, length-append}
 use Rattle.std.specs.Prelude.{if◌then◌else◌}
+use Rattle.std.proofs.lemmas.Bool.{le-leb, lt-leb}
+use Rattle.relay_model.specs.declared.act.EndCause.TheVariants.{Gone}
 use Rattle.seat_steps.specs.declared.limits.Limits.{Limits}
+use Rattle.seat_steps.specs.Ranges.{IsLimits}
 use Rattle.session_text.specs.declared.line.Form.TheVariants.{Session}
 use Rattle.session_text.specs.declared.line.Line.{Line}
 use Rattle.session_text.specs.declared.line.Line.TheVariants as line
 use Rattle.session_text.specs.declared.line.SessionLine.{SessionLine}
-use Rattle.session_text.specs.Reading.{line_of}
-use Rattle.seat_steps.specs.Ranges.{IsLimits}
+use Rattle.session_text.specs.declared.line.SessionLine.TheVariants as lines
+use Rattle.session_text.specs.Reading.{line_of, line_limit}
 use Rattle.session_text.specs.Steps.{IsSessionLine}
 use Rattle.session_text.proofs.Laws.{reads_only}
 use Rattle.session_text.proofs.Asked.{line_asked}
+use Rattle.broker_model.specs.declared.journal.Entry.{Entry}
+use Rattle.broker_model.specs.declared.journal.Entry.TheVariants as entries
+use Rattle.broker_model.specs.Ids.{peer_at}
 use Rattle.broker_model.specs.Limits.{number_counted}
+use Rattle.broker_model.specs.Resolve.{past_of}
+use Rattle.seat_printer.specs.Transcribed.{entry_text, journal_text, text_since}
+use Rattle.session_play.specs.Played.{Play, Played, went, step_played, line_played}
+use Rattle.session_play.specs.Playing.{IsMore}
+use Rattle.session_play.proofs.JournalGrows.{no_more, step_grows, bytes_grow, join_grows, take_grows}
 use Rattle.wlim.specs.declared.last_line.LastLine.TheVariants as last
-use Rattle.wlim.specs.Lines.{lines_of}
-use Rattle.wlim.specs.Endings.{Answer, ending, without_end}
-use Rattle.session_play.specs.Played.{Play, Played, line_played}
 use Rattle.wlim.specs.declared.session.Meaning.{Meaning}
 use Rattle.wlim.specs.declared.session.Meaning.TheVariants as meaning
-use Rattle.wlim.specs.Session.{closed, full_at, meaning_of_line, meaning_of, by_meaning, session_from, unplayed, header_of_line, header_of, by_header, session_of_lines, session_answer}
+use Rattle.wlim.specs.Endings.{Answer, with_front, ending, without_end}
+use Rattle.wlim.specs.Session.{closed, meaning_of_line, meaning_of, by_meaning, session_from, header_of_line, header_of}
 
--- where no line is left
-pub ends : (limits : Limits) (cut : Bool) (n : ℕ) (play : Play) (lines : List (List ℕ)) (whole : Answer) → session_from limits cut n play lines ≡ whole → lines ≡ [] →
-    closed limits play (without_end cut n) ≡ whole
+-- the transcript of a longer journal begins with that of the shorter
+
+none_since : (capacity : ℕ) (journal : List Entry) → text_since capacity (length journal) journal ≡ []
+none_since capacity [] = refl
+none_since capacity (e ∷ older) =
+    ap (λ (b : Bool). (if b then text_since capacity (suc (length older)) older ++ entry_text capacity e older else []))
+    (lt-leb (suc (length older)) (length older) (omega arith))
+
+more_since : (capacity : ℕ) (more t : List Entry)
+    → journal_text capacity (more ++ t) ≡ journal_text capacity t ++ text_since capacity (length t) (more ++ t)
+more_since capacity [] t = sym (append-nil (journal_text capacity t))
+    ∙ ap (λ (l : List ℕ). journal_text capacity t ++ l) (sym (none_since capacity t))
+more_since capacity (e ∷ more) t =
+    let long = length-append more t in
+    let older : List Entry = more ++ t in
+    ap (λ (l : List ℕ). l ++ entry_text capacity e older) (more_since capacity more t)
+    ∙ append_assoc (journal_text capacity t) (text_since capacity (length t) older) (entry_text capacity e older)
+    ∙ ap (λ (l : List ℕ). journal_text capacity t ++ l)
+    (sym (ap (λ (b : Bool). (if b then text_since capacity (length t) older ++ entry_text capacity e older else []))
+    (le-leb (length t) (length older) (omega arith))))
+
+pub text_grows : (capacity : ℕ) (before after : List Entry) → IsMore before after
+    → journal_text capacity after ≡ journal_text capacity before ++ text_since capacity (length before) after
+text_grows capacity before after m =
+    ap (journal_text capacity) m.is ∙ more_since capacity m.more before
+    ∙ ap (λ (j : List Entry). journal_text capacity before ++ text_since capacity (length before) j) (sym m.is)
+
+-- a line only adds entries
+pub line_grows : (limits : Limits) (found : SessionLine) (play : Play)
+    → IsMore play.journal (line_played limits found play).play.journal
+line_grows limits (lines.Join role) play = join_grows limits (entries.Join role) play
+line_grows limits (lines.Bytes q piece) play = bytes_grow limits q piece play
+line_grows limits (lines.Gone q) play = by _
+  where
+    by : (b : Bool) → IsMore play.journal
+        (if b then step_played limits (entries.End q Gone) play else went play).play.journal
+    by true = step_grows limits (entries.End q Gone) play
+    by false = no_more play.journal
+line_grows limits (lines.Take q n) play = take_grows limits q n play (peer_at (past_of play.journal) q)
+line_grows limits (lines.Shell step) play = step_grows limits (entries.Shell step) play
+
+-- the transcript so far stands before every answer
+
+longer : (limits : Limits) (play : Play) (p : Played) (x : Answer) → IsMore play.journal p.play.journal
+    → (rest : Answer) × (with_front (journal_text limits.store p.play.journal) x ≡ with_front
+    (journal_text limits.store play.journal) rest)
+longer limits play p x m =
+    let more : List ℕ = text_since limits.store (length play.journal) p.play.journal in (
+      with_front more x,
+      ap (λ t. (t ++ x.0, x.1)) (text_grows limits.store play.journal p.play.journal m)
+          ∙ ap (λ t. (t, x.1)) (append_assoc (journal_text limits.store play.journal) more x.0),
+    )
+
+longer_by : (limits : Limits) (play : Play) (p : Played) (rest : Play → Answer) (b : Bool)
+    → IsMore play.journal p.play.journal
+    → ((next : Play) → (x : Answer) × (rest next ≡ with_front (journal_text limits.store next.journal) x))
+    → (x : Answer) × ((if b then closed limits p.play (ending (last.Full (number_counted p.play.journal))) else rest
+    p.play) ≡ with_front (journal_text limits.store play.journal) x)
+longer_by limits play p rest true m next = longer limits play p (ending (last.Full (number_counted p.play.journal))) m
+longer_by limits play p rest false m next =
+    let here = next p.play in
+    let more = longer limits play p here.0 m in
+    (more.0, here.1 ∙ more.1)
+
+begins_by : (limits : Limits) (n : ℕ) (play : Play) (rest : Play → Answer) (m : Meaning)
+    → ((next : Play) → (x : Answer) × (rest next ≡ with_front (journal_text limits.store next.journal) x))
+    → (x : Answer) × (by_meaning limits n play m rest ≡ with_front (journal_text limits.store play.journal) x)
+begins_by limits n play rest (meaning.Play found) next =
+    let p = line_played limits found play in longer_by limits play p rest p.is_full (line_grows limits found play) next
+begins_by limits n play rest meaning.End next = (ending (last.End (length play.journal)), refl)
+begins_by limits n play rest meaning.Bad next = (ending (last.Bad (n + 1)), refl)
+
+pub begins : (limits : Limits) (cut : Bool) (n : ℕ) (play : Play) (lines : List (List ℕ))
+    → (x : Answer) × (session_from limits cut n play lines ≡ with_front (journal_text limits.store play.journal) x)
 unfolding session_from
-ends limits cut n play lines whole e none = ap (session_from limits cut n play) (sym none) ∙ e
+begins limits cut n play [] = (without_end cut n, refl)
+begins limits cut n play (raw ∷ lines) =
+    begins_by limits n play (λ next. session_from limits cut (n + 1) next lines) (meaning_of raw)
+    (λ next. begins limits cut (n + 1) next lines)
 
--- what a line makes of the answer for those after it
-pub step : (limits : Limits) (cut : Bool) (n : ℕ) (play : Play) (raw : List ℕ) (lines more : List (List ℕ)) (m : Meaning) (whole : Answer) →
-    session_from limits cut n play lines ≡ whole → lines ≡ raw ∷ more → m ≡ meaning_of raw → by_meaning limits n play m (λ next. session_from limits cut (n + 1) next more) ≡ whole
-unfolding session_from
-step limits cut n play raw lines more m whole e split is =
-    ap (λ l. by_meaning limits n play l (λ next. session_from limits cut (n + 1) next more)) is ∙ ap (session_from limits cut n play) (sym split) ∙ e
+-- no line of more bytes than a line may have is in the grammar
 
-full_by : (limits : Limits) (p : Played) (rest : Play → Answer) (entries : ℕ) (b : Bool) → Some entries ≡ (if b then Some (number_counted p.play.journal) else None) →
-    closed limits p.play (ending (last.Full entries)) ≡ (if b then closed limits p.play (ending (last.Full (number_counted p.play.journal))) else rest p.play)
-full_by limits p rest entries true h = let same : entries ≡ number_counted p.play.journal = cc in ap (λ n. closed limits p.play (ending (last.Full n))) same
-full_by limits p rest entries false h = absurd (cc h)
+pub long_is_bad : (raw : List ℕ) → line_limit < length raw → meaning_of raw ≡ meaning.Bad
+unfolding meaning_of line_of
+long_is_bad raw long = let test : leb (length raw) 8400 ≡ false = lt-leb (length raw) 8400 long in rw test refl
 
--- a line of which a step met a journal that was full for it
-pub step_full : (limits : Limits) (cut : Bool) (n : ℕ) (play : Play) (raw : List ℕ) (lines more : List (List ℕ)) (found : SessionLine) (entries : ℕ) (whole : Answer) →
-    session_from limits cut n play lines ≡ whole → lines ≡ raw ∷ more → meaning.Play found ≡ meaning_of raw → Some entries ≡ full_at (line_played limits found play) →
-    closed limits (line_played limits found play).play (ending (last.Full entries)) ≡ whole
-step_full limits cut n play raw lines more found entries whole e split is h =
-    let p = line_played limits found play in
-    let rest = λ (next : Play). session_from limits cut (n + 1) next more in
-    full_by limits p rest entries p.is_full h ∙ step limits cut n play raw lines more (meaning.Play found) whole e split is
+pub long_is_none : (raw : List ℕ) → line_limit < length raw → header_of raw ≡ None
+unfolding header_of line_of
+long_is_none raw long = let test : leb (length raw) 8400 ≡ false = lt-leb (length raw) 8400 long in rw test refl
 
-played_by : (limits : Limits) (p : Played) (rest : Play → Answer) (b : Bool) → None ≡ (if b then Some (number_counted p.play.journal) else None) →
-    rest p.play ≡ (if b then closed limits p.play (ending (last.Full (number_counted p.play.journal))) else rest p.play)
-played_by limits p rest true h = absurd (cc h)
-played_by limits p rest false h = refl
-
--- a line that was played
-pub step_played : (limits : Limits) (cut : Bool) (n : ℕ) (play : Play) (raw : List ℕ) (lines more : List (List ℕ)) (found : SessionLine) (whole : Answer) →
-    session_from limits cut n play lines ≡ whole → lines ≡ raw ∷ more → meaning.Play found ≡ meaning_of raw → None ≡ full_at (line_played limits found play) →
-    session_from limits cut (n + 1) (line_played limits found play).play more ≡ whole
-step_played limits cut n play raw lines more found whole e split is h =
-    let p = line_played limits found play in
-    let rest = λ (next : Play). session_from limits cut (n + 1) next more in
-    played_by limits p rest p.is_full h ∙ step limits cut n play raw lines more (meaning.Play found) whole e split is
-
--- the whole session, by its lines
-pub starts : (cut : Bool) (input : List ℕ) (lines : List (List ℕ)) → lines_of cut input ≡ lines → session_of_lines cut lines ≡ session_answer cut input
-unfolding session_answer
-starts cut input lines e = ap (session_of_lines cut) (sym e)
-
-starts_by : (cut : Bool) (input raw : List ℕ) (more : List (List ℕ)) (o : Option Limits) → lines_of cut input ≡ raw ∷ more → o ≡ header_of raw → by_header cut o more ≡ session_answer cut input
-starts_by cut input raw more o split is = ap (λ h. by_header cut h more) is ∙ starts cut input (raw ∷ more) split
-
--- where the first line is no header
-pub starts_bad : (cut : Bool) (input raw : List ℕ) (more : List (List ℕ)) → lines_of cut input ≡ raw ∷ more → None ≡ header_of raw → ending (last.Bad 1) ≡ session_answer cut input
-starts_bad cut input raw more split is = starts_by cut input raw more None split is
-
--- where it is one
-pub starts_with : (cut : Bool) (input raw : List ℕ) (more : List (List ℕ)) (limits : Limits) → lines_of cut input ≡ raw ∷ more → Some limits ≡ header_of raw →
-    session_from limits cut 1 unplayed more ≡ session_answer cut input
-starts_with cut input raw more limits split is = starts_by cut input raw more (Some limits) split is
-
-asked_by : (raw : List ℕ) (found : SessionLine) (o : Option Line) → line_of Session raw ≡ o → meaning.Play found ≡ meaning_of_line o → IsSessionLine found
+asked_by : (raw : List ℕ) (found : SessionLine) (o : Option Line) → line_of Session raw ≡ o
+    → meaning.Play found ≡ meaning_of_line o → IsSessionLine found
 asked_by raw found None e h = cc
 asked_by raw found (Some line.End) e h = cc
 asked_by raw found (Some (line.Act act)) e h = cc
 asked_by raw found (Some (line.Header limits)) e h = cc
 asked_by raw found (Some (line.Shell s)) e h = cc
 asked_by raw found (Some (line.Session other)) e h =
-    let same : other ≡ found = cc in subst IsSessionLine same (line_asked other (reads_only Session raw (line.Session other) e).1)
+    let same : other ≡ found = cc in
+    subst IsSessionLine same (line_asked other (reads_only Session raw (line.Session other) e).1)
 
 -- a line that is played holds what a line of a session can give
 pub asked : (raw : List ℕ) (found : SessionLine) → meaning.Play found ≡ meaning_of raw → IsSessionLine found
 unfolding meaning_of
 asked raw found h = asked_by raw found (line_of Session raw) refl h
 
-set_by : (raw : List ℕ) (limits : Limits) (o : Option Line) → line_of Session raw ≡ o → Some limits ≡ header_of_line o → IsLimits limits
+set_by : (raw : List ℕ) (limits : Limits) (o : Option Line) → line_of Session raw ≡ o → Some limits ≡ header_of_line o
+    → IsLimits limits
 set_by raw limits None e h = cc
 set_by raw limits (Some line.End) e h = cc
 set_by raw limits (Some (line.Act act)) e h = cc

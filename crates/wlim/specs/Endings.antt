@@ -1,5 +1,5 @@
 -- Answers: what is written, and the status. Each ends with a last line, which decides the status.
-use Rattle.std.specs.Prelude.{ℕ, ◌+◌, Bool, if◌then◌else◌, List, ◌++◌, codes}
+use Rattle.std.specs.Prelude.{ℕ, ◌+◌, ◌-◌, Bool, true, false, if◌then◌else◌, List, ◌++◌, codes, length, take}
 use Rattle.std.specs.Fmt.{decimal}
 use Rattle.wlim.specs.declared.status.Status.{Status}
 use Rattle.wlim.specs.declared.status.Status.TheVariants as status
@@ -44,3 +44,13 @@ IsDecided status.BadSession = Unit {0}
 IsDecided status.JournalFull = Unit {0}
 IsDecided status.InputLong = Unit {0}
 IsDecided _ = ⊥
+
+-- the status of an input whose lines decide nothing up to the limit of input bytes
+abbrev pub is_long : Status → Bool
+is_long status.InputLong = true
+is_long _ = false
+
+-- the output of lines for which this is the answer where the input is cut off behind them: without the last line where
+-- none of them decides
+abbrev pub shown : Answer → List ℕ
+shown answer = if is_long answer.1 then take (length answer.0 - length long_line) answer.0 else answer.0

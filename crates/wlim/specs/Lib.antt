@@ -1,7 +1,16 @@
 pub mod Lines
 pub mod Statuses
 pub mod Endings
+pub mod Scripts
+pub mod Reading
+pub mod Writing
 pub mod Transcript
 pub mod Printing
 pub mod Session
+pub mod ActScript
+pub mod Watching
+pub mod PlayerScript
+pub mod SessionScript
+pub mod Ran
 pub mod Run
+pub mod LineByLine

@@ -1,5 +1,5 @@
 -- How an input falls into lines.
-use Rattle.std.specs.Prelude.{ℕ, ◌==◌, ◌&&◌, ◌||◌, nat_le, Bool, if◌then◌else◌, List, [], ◌∷◌, length, take}
+use Rattle.std.specs.Prelude.{ℕ, ◌+◌, ◌==◌, ◌&&◌, ◌||◌, nat_le, Bool, if◌then◌else◌, List, [], ◌∷◌, ◌++◌, length, take}
 use Rattle.std.specs.List.{slice_split}
 use Rattle.session_text.specs.Reading.{line_limit}
 use Rattle.wlim.specs.declared.reading.TheConstants.{INPUT_LIMIT}
@@ -27,3 +27,17 @@ taken bytes = take INPUT_LIMIT bytes
 -- the input has as many bytes as are read at most
 unfoldable pub is_cut : List ℕ → Bool
 is_cut bytes = length (taken bytes) == INPUT_LIMIT
+
+-- the lines that are read of an input
+unfoldable pub lines_read : List ℕ → List (List ℕ)
+lines_read bytes = lines_of (is_cut bytes) (taken bytes)
+
+-- lines with their line feeds
+abbrev pub bytes_of : List (List ℕ) → List ℕ
+bytes_of [] = []
+bytes_of (line ∷ lines) = line ++ 10 ∷ bytes_of lines
+
+-- how many bytes they are, which is where the line after them begins
+abbrev pub size_of : List (List ℕ) → ℕ
+size_of [] = 0
+size_of (line ∷ lines) = length line + 1 + size_of lines

@@ -1,16 +1,14 @@
 -- What the whole call answers and writes.
-use Rattle.std.specs.Prelude.{ℕ, ◌≡◌, ◌≢◌, ◌≤◌, Bool, if◌then◌else◌, List, [], ◌∷◌, length, take, codes, Option, Some, None, is_some, IfSome}
+use Rattle.std.specs.Prelude.{ℕ, Bool, if◌then◌else◌, List, [], ◌∷◌, codes, Option, Some, None, is_some}
 use Rattle.std.specs.Str.{bytes_eq}
-use Rattle.std.specs.Io.KnownBytes.{Appends}
-use Rattle.wio_core.specs.Io.{Rose}
 use Rattle.wlim.specs.declared.status.Status.{Status}
 use Rattle.wlim.specs.declared.status.Status.TheVariants as status
 use Rattle.wlim.specs.declared.command.Command.{Command}
 use Rattle.wlim.specs.declared.command.Command.TheVariants as commands
 use Rattle.wlim.specs.Lines.{taken, is_cut}
-use Rattle.wlim.specs.Endings.{Answer, IsDecided}
-use Rattle.wlim.specs.Transcript.{answer_of}
-use Rattle.wlim.specs.Session.{session_answer}
+use Rattle.wlim.specs.Endings.{Answer}
+use Rattle.wlim.specs.Transcript.{answer_of, answer_from}
+use Rattle.wlim.specs.Session.{session_answer, session_of_lines}
 
 -- the command that one word names
 abbrev pub command_named : List ℕ → Option Command
@@ -27,6 +25,11 @@ command_of _ = None
 -- the words are those of a command
 abbrev pub is_command : List (List ℕ) → Bool
 is_command words = is_some (command_of words)
+
+-- the answer of a command for lines, whether or not the input was cut off behind them
+abbrev pub answer_lines : Command → Bool → List (List ℕ) → Answer
+answer_lines commands.Replay cut lines = session_of_lines cut lines
+answer_lines commands.ReplayActs cut lines = answer_from cut [] lines
 
 -- what a command makes of an input of which at most the limit was read
 abbrev pub answer_to : Command → Bool → List ℕ → Answer
@@ -49,15 +52,3 @@ status_of words bytes = (answer_where (command_of words) bytes).1
 -- what it writes
 unfoldable pub output_of : List (List ℕ) → List ℕ → List ℕ
 output_of words bytes = (answer_where (command_of words) bytes).0
-
--- known bytes grow by a front of a text
-abbrev pub GrowsByFront : Option (List ℕ) → Option (List ℕ) → List ℕ → Type 0
-GrowsByFront old new text = (n : ℕ) × (n ≤ length text) × Appends old new (take n text)
-
--- What any command owes: what it wrote and answered, by the answer that its input has, what the source had left, and the counts of faults.
-pub record Ran (answer : List ℕ → Answer) (left : Option (List ℕ)) (reads reads_after : ℕ) (held held_after : Option (List ℕ)) (writes writes_after : ℕ) (result : Status) : Type 0 where
-  pub front : IfSome left (λ bytes. GrowsByFront held held_after (answer bytes).0)
-  pub decided : IsDecided result → IfSome left (λ bytes. ((answer bytes).1 ≡ result) × Appends held held_after (answer bytes).0)
-  pub read_fault : result ≡ status.ReadFault → Rose reads reads_after
-  pub write_fault : result ≡ status.WriteFault → Rose writes writes_after
-  pub good_words : result ≢ status.BadWords

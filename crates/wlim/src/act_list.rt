@@ -1,16 +1,14 @@
-// The transcript of an act list.
-ghost use Rattle.std.specs.Prelude.{◌≡◌, ◌<◌, ◌≤◌, ◌+◌, ◌∷◌, [], ◌++◌, List, length, IfOk, OnOk, string_bytes, false};
+// An act list, played line by line.
+ghost use Rattle.std.specs.Prelude.{◌≡◌, ◌<◌, ◌∷◌, ◌++◌, ◌+◌, List, [], length, IfOk, OnOk, string_bytes, false};
 ghost use Rattle.relay_model.specs.declared.act.Act.{Act};
 ghost use Rattle.relay_model.specs.Told.{told};
 ghost use Rattle.seat_objects.specs.Fits.{FitsMessage};
 ghost use Rattle.relay_core.specs.Stands.{StandsFor};
-ghost use Rattle.wlim.specs.Transcript.{verdict_of, verdict_of_act, answer_of, act_text};
-ghost use Rattle.wlim.specs.Endings.{IsDecided};
+ghost use Rattle.wlim.specs.Transcript.{verdict_of, verdict_of_act, act_text};
 
-use crate::last_line::{LastLine, close, close_without_end};
-use crate::lines::take_line;
+use crate::last_line::LastLine;
 use crate::printer::Printer;
-use crate::status::Status;
+use crate::script::Script;
 use relay_core::Relay;
 use relay_model::Act;
 use session_text::{BadLine, Form, Line, read_line};
@@ -59,7 +57,6 @@ fn judge(alloc: Global, raw: &[u8], count: u32) -> Result<Verdict, NoMemory>
 fn play(relay: &mut Relay, act: &Act, printer: &mut Printer) -> Result<(), NoMemory>
     requires number { relay.old.state.acts < ACT_LIMIT }
     requires fits { FitsMessage act.now }
-    requires working { printer.old.failed ≡ false }
     ensures stands { (log : List Act) → StandsFor relay.old log → OnOk result (StandsFor relay.new (act.now ∷ log)) }
     ensures printed { (log : List Act) → StandsFor relay.old log
         → OnOk result (string_bytes printer.new.text ≡ string_bytes printer.old.text ++ act_text (length log + 1) (told act.now log)) }
@@ -74,47 +71,73 @@ fn play(relay: &mut Relay, act: &Act, printer: &mut Printer) -> Result<(), NoMem
     Ok(())
 }
 
-// Plays the lines of an act list up to the one that decides, and prints what they come to.
-fn play_lines(
+/// The acts so far, and the lines of what they told.
+#[derive(Drop)]
+pub struct ActList {
     alloc: Global,
-    relay: &mut Relay,
-    printer: &mut Printer,
-    input: &[u8],
-    cut: bool,
-) -> Result<Status, NoMemory>
-    requires new { StandsFor relay.old [] }
-    requires working { printer.old.failed ≡ false }
-    requires empty { string_bytes printer.old.text ≡ [] }
-    ensures answer { IfOk result (λ status. (string_bytes printer.new.text, status) ≡ answer_of cut input.now) }
-    ensures decided { IfOk result IsDecided }
-{
-    let mut rest = input;
-    while let Some((raw, more)) = take_line(rest, cut) {
-        let count = relay.acts();
-        match judge(alloc, raw, count)? {
-            Verdict::Bad => return close(&mut printer.text, LastLine::Bad(u64::from(count) + 1)),
-            Verdict::End => return close(&mut printer.text, LastLine::End(count)),
-            Verdict::Full => return close(&mut printer.text, LastLine::Full(count)),
-            Verdict::Play(act) => play(relay, &act, printer)?,
-        }
-        rest = more;
-    }
-    close_without_end(&mut printer.text, cut, u64::from(relay.acts()))
+    relay: Relay,
+    printer: Printer,
 }
 
-/// What is written for an act list, and the status.
-pub fn transcript(alloc: Global, input: &[u8], cut: bool) -> Result<(String, Status), NoMemory>
-    ensures answer { IfOk result (λ p. (string_bytes p.0, p.1) ≡ answer_of cut input.now) }
-    ensures decided { IfOk result (λ p. IsDecided p.1) }
-{
-    let mut relay = Relay::new(alloc)?;
-    let text = String::new(alloc);
-    let mut printer = Printer {
-        alloc,
-        text,
-        number: 0,
-        failed: false,
-    };
-    let status = play_lines(alloc, &mut relay, &mut printer, input, cut)?;
-    Ok((printer.text, status))
+impl ActList {
+    ghost use Rattle.wlim.specs.ActScript.{ActsStand, acts_text};
+
+    /// No act was played yet.
+    pub fn new(alloc: Global) -> Result<ActList, NoMemory>
+        ensures stands { IfOk result (λ list. ActsStand list [] []) }
+        ensures none { IfOk result (λ list. acts_text list ≡ []) }
+    {
+        Ok(ActList {
+            alloc,
+            relay: Relay::new(alloc)?,
+            printer: Printer {
+                alloc,
+                text: String::new(alloc),
+                number: 0,
+                failed: false,
+            },
+        })
+    }
+}
+
+impl Script for ActList {
+    ghost use Rattle.wlim.specs.Transcript.{answer_from};
+    ghost use Rattle.wlim.specs.ActScript.{ActsStand, acts_text};
+
+    ghost answer = { λ cut lines. answer_from cut [] lines };
+
+    ghost stands = { ActsStand };
+
+    ghost holds = { λ list gathered. acts_text list ≡ gathered };
+
+    ghost text = { acts_text };
+
+    fn line(&mut self, raw: &[u8]) -> Result<Option<LastLine>, NoMemory> {
+        let count = self.relay.acts();
+        match judge(self.alloc, raw, count)? {
+            Verdict::Bad => Ok(Some(LastLine::Bad(u64::from(count) + 1))),
+            Verdict::End => Ok(Some(LastLine::End(count))),
+            Verdict::Full => Ok(Some(LastLine::Full(count))),
+            Verdict::Play(act) => {
+                play(&mut self.relay, &act, &mut self.printer)?;
+                Ok(None)
+            }
+        }
+    }
+
+    fn bad_line(&self) -> LastLine {
+        LastLine::Bad(u64::from(self.relay.acts()) + 1)
+    }
+
+    fn close(&mut self) -> Result<(), NoMemory> {
+        Ok(())
+    }
+
+    fn text(&self) -> &str {
+        self.printer.text.as_str()
+    }
+
+    fn clear(&mut self) {
+        self.printer.text.clear();
+    }
 }

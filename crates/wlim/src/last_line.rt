@@ -1,6 +1,6 @@
 // The last line of a transcript.
-ghost use Rattle.std.specs.Prelude.{◌≡◌, ◌<◌, IfOk, string_bytes};
-ghost use Rattle.wlim.specs.Endings.{ending, with_front, without_end, IsDecided};
+ghost use Rattle.std.specs.Prelude.{◌≡◌, IfOk, string_bytes};
+ghost use Rattle.wlim.specs.Endings.{ending, with_front, IsDecided};
 
 use crate::status::Status;
 use wio_core::NoMemory;
@@ -40,18 +40,5 @@ pub fn close(text: &mut String, last: LastLine) -> Result<Status, NoMemory>
             text.push_str("input too long\n")?;
             Ok(Status::InputLong)
         }
-    }
-}
-
-/// The same where no line is left after so many that count: the limit of input bytes cut them off, or there is no line `end`.
-pub fn close_without_end(text: &mut String, cut: bool, before: u64) -> Result<Status, NoMemory>
-    requires few { before < 18446744073709551615 }
-    ensures answer { IfOk result (λ status. (string_bytes text.new, status) ≡ with_front (string_bytes text.old) (without_end cut before)) }
-    ensures decided { IfOk result IsDecided }
-{
-    if cut {
-        close(text, LastLine::Long)
-    } else {
-        close(text, LastLine::Bad(before + 1))
     }
 }

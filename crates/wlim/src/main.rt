@@ -5,19 +5,24 @@ mod act_list;
 mod command;
 #[cfg(test)]
 mod fault_tests;
+mod follow;
 mod last_line;
-mod lines;
+#[cfg(test)]
+mod line_tests;
 mod printer;
 mod reading;
 mod run;
+mod script;
 mod session;
 #[cfg(test)]
 mod session_tests;
 mod status;
 #[cfg(test)]
 mod tests;
+mod writing;
 
 use run::run_plain;
+use status::Status;
 use std::process::ExitCode;
 use std::{env, io};
 use wio_core::{StdSink, StdSource};
@@ -33,9 +38,18 @@ fn words<R: std::rt::Runtime + AllocGlobal>(rt: &R) -> io::Result<Vec<String>> {
     Ok(words)
 }
 
+// The status where the words can't be collected. A word that is no text is in no grammar.
+fn unread(why: io::ErrorKind) -> Status {
+    match why {
+        io::ErrorKind::OutOfMemory => Status::NoMemory,
+        _ => Status::BadWords,
+    }
+}
+
 fn main(rt: HostRuntime) -> ExitCode {
-    let Ok(words) = words(&rt) else {
-        return ExitCode::from(status::Status::BadWords.number());
+    let words = match words(&rt) {
+        Ok(words) => words,
+        Err(error) => return ExitCode::from(unread(error.kind()).number()),
     };
     let mut input = StdSource::new(rt.stdin());
     let mut output = StdSink::new(rt.stdout());

@@ -1,68 +1,65 @@
-// The whole input is read before its first line is looked at.
-ghost use Rattle.std.specs.Prelude.{◌≡◌, ◌<◌, ◌≤◌, ◌+◌, ℕ, List, Option, length, vec_len, IfOk, IfSome, OnOk, IsErrOf};
-ghost use Rattle.std.specs.Io.KnownBytes.{Consumes, IsAtEnd};
+// The next line of an input is read and played.
+ghost use Rattle.std.specs.Prelude.{◌≡◌, ◌≢◌, ◌≤◌, Some, Err, IfOk};
 ghost use Rattle.wio_core.specs.Io.{Rose};
-ghost use Rattle.wlim.specs.Lines.{taken};
+ghost use Rattle.wio_core.specs.declared.line_reader.LineStop.TheVariants.{ReadFault};
+ghost use Rattle.wlim.specs.Reading.{PlaysNext};
 
-use std::alloc::Global;
-use wio_core::{Failed, Source};
+use crate::last_line::LastLine;
+use crate::script::Script;
+use crate::status::Status;
+use wio_core::{LineReader, NextLine, NoMemory, Source};
 
 /// The most bytes that are read of an input.
-pub const INPUT_LIMIT: usize = 1073741824;
+pub const INPUT_LIMIT: u64 = 1073741824;
 
-/// How many bytes are asked for at once.
-const PIECE: usize = 16384;
-
-/// Why an input was not read to its end.
-#[derive(Clone, Copy, Debug, PartialEq, Eq)]
-pub enum ReadError {
-    Fault,
-    NoMemory,
-}
-
-// Reads once, and adds what was read to the bytes.
-fn read_some<S: Source>(
-    source: &mut S,
-    bytes: &mut Vec<u8>,
-    piece: &mut [u8],
-    room: usize,
-) -> Result<usize, ReadError>
-    requires room { 0 < room }
-    requires piece { 0 < length piece.old }
-    // What was read of a source before, it is still, with more.
-    ensures kept { OnOk result ((first : Option (List ℕ)) → Consumes first (S.left source.old) bytes.old.items → Consumes first (S.left source.new) bytes.new.items) }
-    ensures len { IfOk result (λ n. vec_len bytes.new ≡ vec_len bytes.old + n) }
-    ensures within { IfOk result (λ n. n ≤ room) }
-    ensures end { IfOk result (λ n. n ≡ 0 → IsAtEnd (S.left source.new)) }
-    ensures never_falls { S.fault_count source.old ≤ S.fault_count source.new }
-    ensures cause { IsErrOf result ReadError.Fault → Rose (S.fault_count source.old) (S.fault_count source.new) }
+// Reads the next line and plays it.
+fn next_line<P: Script, S: Source>(
+    script: &mut P,
+    reader: &mut LineReader,
+    input: &mut S,
+) -> Result<Option<LastLine>, Status>
+    requires { reader.old.settled ≢ Some ReadFault }
+    ensures comes { PlaysNext P.answer
+        (P.stands script.old) (P.stands script.new) (P.holds script.old) (P.holds script.new)
+        (S.given input.old) (S.left input.old) (S.given input.new) (S.left input.new)
+        reader.old reader.new result }
+    ensures never_falls { S.fault_count input.old ≤ S.fault_count input.new }
+    ensures cause { result ≡ Err Status.ReadFault
+        → Rose (S.fault_count input.old) (S.fault_count input.new) }
 {
-    let size = room.min(piece.len());
-    match source.read(&mut piece[..size]) {
-        Ok(n) => {
-            if bytes.extend_from_slice(&piece[..n]).is_err() {
-                return Err(ReadError::NoMemory);
-            }
-            Ok(n)
-        }
-        Err(Failed) => Err(ReadError::Fault),
+    match reader.next(input) {
+        NextLine::Line(raw) => match script.line(raw) {
+            Ok(end) => Ok(end),
+            Err(NoMemory) => Err(Status::NoMemory),
+        },
+        NextLine::End | NextLine::Long => Ok(Some(script.bad_line())),
+        NextLine::Limit => Ok(Some(LastLine::Long)),
+        NextLine::ReadFault => Err(Status::ReadFault),
     }
 }
 
-/// All bytes of a source, up to the limit.
-pub fn read_all<S: Source>(alloc: Global, source: &mut S) -> Result<Vec<u8>, ReadError>
-    ensures all { IfOk result (λ input. IfSome (S.left source.old) (λ bytes. input.items ≡ taken bytes)) }
-    ensures never_falls { S.fault_count source.old ≤ S.fault_count source.new }
-    ensures cause { IsErrOf result ReadError.Fault → Rose (S.fault_count source.old) (S.fault_count source.new) }
+/// Reads the next line and plays it. Tells how the output ends where the line decides it, or none
+/// is left. A source that counts a fault with any other answer breaks its word: it gets the one
+/// status that is free.
+pub fn play_next<P: Script, S: Source>(
+    script: &mut P,
+    reader: &mut LineReader,
+    input: &mut S,
+) -> Result<Option<LastLine>, Status>
+    requires { reader.old.settled ≢ Some ReadFault }
+    ensures comes { PlaysNext P.answer
+        (P.stands script.old) (P.stands script.new) (P.holds script.old) (P.holds script.new)
+        (S.given input.old) (S.left input.old) (S.given input.new) (S.left input.new)
+        reader.old reader.new result }
+    ensures steady { IfOk result (λ end. S.fault_count input.new ≡ S.fault_count input.old) }
+    ensures never_falls { S.fault_count input.old ≤ S.fault_count input.new }
+    ensures cause { result ≡ Err Status.ReadFault
+        → Rose (S.fault_count input.old) (S.fault_count input.new) }
 {
-    let mut input = Vec::new(alloc);
-    let mut piece = [0u8; PIECE];
-    'pieces: while input.len() < INPUT_LIMIT {
-        let room = INPUT_LIMIT - input.len();
-        let n = read_some(source, &mut input, &mut piece, room)?;
-        if n == 0 {
-            return Ok(input);
-        }
+    let faults = input.faults();
+    let end = next_line(script, reader, input)?;
+    if input.faults() != faults {
+        return Err(Status::NoMemory);
     }
-    Ok(input)
+    Ok(end)
 }

@@ -1,40 +1,47 @@
 // The call behind every command that reads an input and writes an output.
-ghost use Rattle.std.specs.Prelude.{◌≡◌, ◌≢◌, ◌≤◌, ◌↔◌, map, IfSome, string_bytes, false};
+ghost use Rattle.std.specs.Prelude.{◌≡◌, ◌≢◌, ◌≤◌, ◌↔◌, ℕ, List, map, IfSome, string_bytes, false};
 ghost use Rattle.std.specs.Io.KnownBytes.{Appends};
 ghost use Rattle.wio_core.specs.Io.{Rose};
+ghost use Rattle.wio_core.specs.Lines.{TookFrom};
 ghost use Rattle.wlim.specs.Endings.{IsDecided};
-ghost use Rattle.wlim.specs.Run.{is_command, status_of, output_of, answer_by, GrowsByFront, Ran};
+ghost use Rattle.wlim.specs.LineByLine.{LineByLine};
+ghost use Rattle.wlim.specs.Ran.{GrowsByFront, Ran};
+ghost use Rattle.wlim.specs.Run.{is_command, status_of, output_of, command_of, answer_by, answer_lines};
 
-use crate::command::{Command, answer_to, command_of};
-use crate::reading::{INPUT_LIMIT, ReadError, read_all};
+use crate::act_list::ActList;
+use crate::command::{Command, command_of};
+use crate::follow::play_input;
+use crate::session::SessionPlay;
 use crate::status::Status;
 use std::alloc::Global;
-use wio_core::{Failed, NoMemory, Sink, Source, write_all};
+use wio_core::{NoMemory, Sink, Source};
 
-// Reads the whole input, and writes its transcript.
+// Plays an input by its command.
 fn replay<S: Source, K: Sink>(
     alloc: Global,
     command: Command,
     input: &mut S,
     output: &mut K,
 ) -> Status
-    ensures ran { Ran (answer_by command) (S.left input.old) (S.fault_count input.old) (S.fault_count input.new)
-        (K.held output.old) (K.held output.new) (K.fault_count output.old) (K.fault_count output.new) result }
+    ensures ran { Ran (answer_by command) (S.left input.old)
+        (S.fault_count input.old) (S.fault_count input.new)
+        (K.held output.old) (K.held output.new)
+        (K.fault_count output.old) (K.fault_count output.new) result }
+    ensures line_by_line { result ≢ Status.NoMemory → (read : List ℕ)
+        × TookFrom (S.given input.old) (S.given input.new)
+        (S.left input.old) (S.left input.new) read
+        × LineByLine (answer_lines command) (S.left input.old)
+        (S.fault_count input.old) (S.fault_count input.new)
+        (K.held output.old) (K.held output.new) result read }
     ensures reads_never_fall { S.fault_count input.old ≤ S.fault_count input.new }
     ensures writes_never_fall { K.fault_count output.old ≤ K.fault_count output.new }
 {
-    let bytes = match read_all(alloc, input) {
-        Ok(bytes) => bytes,
-        Err(ReadError::Fault) => return Status::ReadFault,
-        Err(ReadError::NoMemory) => return Status::NoMemory,
-    };
-    let (text, status) = match answer_to(alloc, command, &bytes, bytes.len() == INPUT_LIMIT) {
-        Ok(answer) => answer,
-        Err(NoMemory) => return Status::NoMemory,
-    };
-    match write_all(output, text.as_bytes()) {
-        Ok(()) => status,
-        Err(Failed) => Status::WriteFault,
+    match command {
+        Command::Replay => play_input(alloc, &mut SessionPlay::new(alloc), input, output),
+        Command::ReplayActs => match ActList::new(alloc) {
+            Ok(mut acts) => play_input(alloc, &mut acts, input, output),
+            Err(NoMemory) => Status::NoMemory,
+        },
     }
 }
 
@@ -67,6 +74,15 @@ pub fn run_plain<S: Source, K: Sink>(
     ensures write_fault { result ≡ Status.WriteFault → Rose (K.fault_count output.old) (K.fault_count output.new) }
     ensures reads_never_fall { S.fault_count input.old ≤ S.fault_count input.new }
     ensures writes_never_fall { K.fault_count output.old ≤ K.fault_count output.new }
+
+    // Line by line: what it writes and how far it reads stands near the lines that it comes from.
+    ensures line_by_line { IfSome (command_of (map string_bytes words.now)) (λ command.
+        result ≢ Status.NoMemory → (read : List ℕ)
+        × TookFrom (S.given input.old) (S.given input.new)
+        (S.left input.old) (S.left input.new) read
+        × LineByLine (answer_lines command) (S.left input.old)
+        (S.fault_count input.old) (S.fault_count input.new)
+        (K.held output.old) (K.held output.new) result read) }
 {
     match command_of(words) {
         Some(command) => replay(alloc, command, input, output),

@@ -1,18 +1,18 @@
-// The transcript of a session.
-ghost use Rattle.std.specs.Prelude.{◌≡◌, [], false, None, IfOk, string_bytes};
+// A session, played line by line.
+ghost use Rattle.std.specs.Prelude.{◌≡◌, ◌<◌, ◌+◌, ◌^◌, ℕ, [], false, None, List, length, IfOk};
+ghost use Rattle.std.specs.Option.{option_map};
 ghost use Rattle.seat_steps.specs.Ranges.{IsLimits};
 ghost use Rattle.session_text.specs.Steps.{IsSessionLine};
-ghost use Rattle.session_play.specs.Played.{line_played};
-ghost use Rattle.seat_printer.specs.Transcribed.{journal_text};
-ghost use Rattle.wlim.specs.Endings.{IsDecided};
-ghost use Rattle.wlim.specs.Lines.{lines_of};
-ghost use Rattle.wlim.specs.Session.{meaning_of, header_of, full_at, session_from, session_answer, unplayed};
+ghost use Rattle.wlim.specs.Scripts.{Played};
+ghost use Rattle.wlim.specs.Session.{meaning_of, header_of, session_of_lines};
+ghost use Rattle.wlim.specs.PlayerScript.{fresh, PlayerStands, PlayerHolds};
+ghost use Rattle.wlim.specs.Watching.{Went};
 
-use crate::last_line::{LastLine, close, close_without_end};
-use crate::lines::take_line;
-use crate::status::Status;
+use crate::last_line::LastLine;
+use crate::script::Script;
+use seat_printer::Printer;
 use seat_steps::Limits;
-use session_play::{PlayEnd, Player};
+use session_play::{Player, Stop};
 use session_text::{BadLine, Form, Line, SessionLine, read_line};
 use std::alloc::Global;
 use wio_core::NoMemory;
@@ -53,94 +53,124 @@ fn header(alloc: Global, raw: &[u8]) -> Result<Option<Limits>, NoMemory>
     }
 }
 
-// Plays one line, and adds what it tells. Gives the number of counted entries where the journal was full for a step of it.
-fn play(player: &mut Player, line: &SessionLine, text: &mut String) -> Result<Option<u32>, NoMemory>
+// Plays one line, and prints what it tells. Tells how the output ends where the journal was full for a step of it.
+fn play(
+    player: &mut Player,
+    line: &SessionLine,
+    printer: &mut Printer,
+) -> Result<Option<LastLine>, NoMemory>
     requires valid { IsSessionLine line.now }
-    requires unspent { player.old.is_spent ≡ false }
-    requires told { string_bytes text.old ≡ journal_text player.old.limits.store player.old.play.journal }
-    ensures full { IfOk result (λ full. full ≡ full_at (line_played player.old.limits line.now player.old.play)) }
-    ensures told { IfOk result (λ full. string_bytes text.new ≡ journal_text player.old.limits.store (line_played player.old.limits line.now player.old.play).play.journal) }
-    ensures went { IfOk result (λ full. full ≡ None → player.new ≡ record player.old { play = (line_played player.old.limits line.now player.old.play).play }) }
+    ensures { player.old.is_spent ≡ false
+        → IfOk result (Went player.old player.new printer.old printer.new line.now) }
 {
-    match player.line(line) {
-        Ok(told) => {
-            text.push_str(told.as_str())?;
-            Ok(None)
-        }
-        Err(PlayEnd::JournalFull(kept, told)) => {
-            text.push_str(told.as_str())?;
-            Ok(Some(kept.entries))
-        }
-        Err(PlayEnd::NoMemory(_)) => Err(NoMemory),
+    match player.line_watched(line, printer) {
+        Ok(()) => Ok(None),
+        Err(Stop::Full(kept)) => Ok(Some(LastLine::Full(kept.entries))),
+        Err(Stop::NoMemory) => Err(NoMemory),
     }
 }
 
-// Plays the lines after the header up to the one that decides, and writes what they come to.
-fn play_lines(
+// Plays the line after so many.
+fn play_line(
     alloc: Global,
     player: &mut Player,
-    text: &mut String,
-    input: &[u8],
-    cut: bool,
-) -> Result<Status, NoMemory>
-    requires unspent { player.old.is_spent ≡ false }
-    requires unplayed { player.old.play ≡ unplayed }
-    requires empty { string_bytes text.old ≡ [] }
-    ensures answer { IfOk result (λ status. (string_bytes text.new, status) ≡ session_from player.old.limits cut 1 unplayed (lines_of cut input.now)) }
-    ensures decided { IfOk result IsDecided }
+    printer: &mut Printer,
+    before: u64,
+    raw: &[u8],
+) -> Result<Option<LastLine>, NoMemory>
+    ensures { (done : List (List ℕ)) (output gathered : List ℕ) → length done < 2 ^ 32
+        → PlayerStands player.old before done output
+        → PlayerHolds player.old printer.old gathered
+        → IfOk result (Played session_of_lines (PlayerStands player.new (before + 1))
+        (PlayerHolds player.new printer.new) done raw.now output gathered) }
 {
-    let mut before: u64 = 1;
-    let mut rest = input;
-    while let Some((raw, more)) = take_line(rest, cut) {
-        match judge(alloc, raw)? {
-            Meaning::Play(line) => {
-                if let Some(entries) = play(player, &line, text)? {
-                    return close(text, LastLine::Full(entries));
-                }
-            }
-            Meaning::End => return close(text, LastLine::End(player.entries())),
-            Meaning::Bad => return close(text, LastLine::Bad(before + 1)),
-        }
-        before += 1;
-        rest = more;
+    match judge(alloc, raw)? {
+        Meaning::Play(line) => play(player, &line, printer),
+        Meaning::End => Ok(Some(LastLine::End(player.entries()))),
+        Meaning::Bad => Ok(Some(LastLine::Bad(before.saturating_add(1)))),
     }
-    close_without_end(text, cut, before)
 }
 
-// The same, with a player of its own: the text and the status.
-fn play_all(
-    alloc: Global,
-    limits: Limits,
-    input: &[u8],
-    cut: bool,
-) -> Result<(String, Status), NoMemory>
-    requires limits { IsLimits limits }
-    ensures answer { IfOk result (λ p. (string_bytes p.0, p.1) ≡ session_from limits cut 1 unplayed (lines_of cut input.now)) }
-    ensures decided { IfOk result (λ p. IsDecided p.1) }
+// A player with the limits that a line sets, if it is a header.
+fn begin(alloc: Global, raw: &[u8]) -> Result<Option<Player>, NoMemory>
+    ensures { IfOk result (λ player. player ≡ option_map fresh (header_of raw.now)) }
 {
-    let mut player = Player::new(alloc, limits)?;
-    let mut text = String::new(alloc);
-    let status = play_lines(alloc, &mut player, &mut text, input, cut)?;
-    Ok((text, status))
+    match header(alloc, raw)? {
+        Some(limits) => Ok(Some(Player::new(alloc, limits)?)),
+        None => Ok(None),
+    }
 }
 
-/// What is written for a session, and the status.
-pub fn session_transcript(
+/// The lines so far, and the output that they came to. Before the header no player is there.
+#[derive(Drop)]
+pub struct SessionPlay {
     alloc: Global,
-    input: &[u8],
-    cut: bool,
-) -> Result<(String, Status), NoMemory>
-    ensures answer { IfOk result (λ p. (string_bytes p.0, p.1) ≡ session_answer cut input.now) }
-    ensures decided { IfOk result (λ p. IsDecided p.1) }
-{
-    let mut text = String::new(alloc);
-    let Some((raw, rest)) = take_line(input, cut) else {
-        let status = close_without_end(&mut text, cut, 0)?;
-        return Ok((text, status));
-    };
-    let Some(limits) = header(alloc, raw)? else {
-        let status = close(&mut text, LastLine::Bad(1))?;
-        return Ok((text, status));
-    };
-    play_all(alloc, limits, rest, cut)
+    player: Option<Player>,
+    printer: Printer,
+    before: u64,
+}
+
+impl SessionPlay {
+    ghost use Rattle.wlim.specs.SessionScript.{SessionStands, SessionHolds};
+
+    /// No line was played yet.
+    pub fn new(alloc: Global) -> SessionPlay
+        ensures stands { SessionStands result [] [] }
+        ensures holds { SessionHolds result [] }
+    {
+        SessionPlay {
+            alloc,
+            player: None,
+            printer: Printer::new(alloc),
+            before: 0,
+        }
+    }
+}
+
+impl Script for SessionPlay {
+    ghost use Rattle.wlim.specs.Session.{session_of_lines};
+    ghost use Rattle.wlim.specs.SessionScript.{SessionStands, SessionHolds, session_text};
+
+    ghost answer = { session_of_lines };
+
+    ghost stands = { SessionStands };
+
+    ghost holds = { SessionHolds };
+
+    ghost text = { session_text };
+
+    fn line(&mut self, raw: &[u8]) -> Result<Option<LastLine>, NoMemory> {
+        let before = self.before;
+        self.before = before.saturating_add(1);
+        match &mut self.player {
+            Some(player) => play_line(self.alloc, player, &mut self.printer, before, raw),
+            None => match begin(self.alloc, raw)? {
+                Some(player) => {
+                    self.player = Some(player);
+                    Ok(None)
+                }
+                None => Ok(Some(LastLine::Bad(1))),
+            },
+        }
+    }
+
+    fn bad_line(&self) -> LastLine {
+        LastLine::Bad(self.before.saturating_add(1))
+    }
+
+    fn close(&mut self) -> Result<(), NoMemory> {
+        self.printer.close();
+        if self.printer.is_short() {
+            return Err(NoMemory);
+        }
+        Ok(())
+    }
+
+    fn text(&self) -> &str {
+        self.printer.text()
+    }
+
+    fn clear(&mut self) {
+        self.printer.clear();
+    }
 }

@@ -5,7 +5,7 @@ use std::alloc::Global;
 use std::test::Fail;
 use wio_core::{MemSink, MemSource};
 
-fn word_list(alloc: Global, words: &[&str]) -> Result<Vec<String>, Fail> {
+pub(crate) fn word_list(alloc: Global, words: &[&str]) -> Result<Vec<String>, Fail> {
     let mut list = Vec::new(alloc);
     for word in words {
         list.push(String::from_str(alloc, word)?)?;
@@ -30,12 +30,13 @@ pub(crate) fn run(
 }
 
 // The acts up to the first activation, and what they tell.
-const BEGINNING: &str = "peer\nsurface 1\nfield 1\npeer\nmethod 4\nfocus 2\nenable 3\ncommit 3\n";
+pub(crate) const BEGINNING: &str =
+    "peer\nsurface 1\nfield 1\npeer\nmethod 4\nfocus 2\nenable 3\ncommit 3\n";
 
-const BEGUN: &str = "6 3 enter 2\n8 5 activate\n8 5 content_type 0 0\n8 5 done\n";
+pub(crate) const BEGUN: &str = "6 3 enter 2\n8 5 activate\n8 5 content_type 0 0\n8 5 done\n";
 
 // One string after the beginning, and what it tells.
-const STRING: &str = "mstring 5 61\nmcommit 5 1\n";
+pub(crate) const STRING: &str = "mstring 5 61\nmcommit 5 1\n";
 
 const RELAYED: &str = "10 3 commit_string 61\n10 3 done 1\n";
 

@@ -1,22 +1,28 @@
-use Rattle.std.proofs.Common.{◌∙◌, ap, ◌≡◌, eqb, length, arith}
-use Rattle.std.specs.Prelude.{string_bytes}
-use Rattle.wlim.specs.declared.reading.TheConstants.{INPUT_LIMIT}
-use Rattle.wlim.specs.Run.{answer_to}
-use Rattle.wlim.proofs.Runs.{answer_is, ran_all, ran_front}
+use Rattle.wlim.proofs.Runs.{acts_ran, session_ran, acts_law, session_law}
+use Rattle.wlim.proofs.ActsPlayed.{acts_begin}
+use Rattle.wlim.proofs.SessionsPlayed.{session_begins}
 use Rattle.wlim.proofs.run.replay.Goals as goal
 
-pub returns-in-Ok-write_all-clause-ran : goal.returns-in-Ok-write_all-clause-ran
-returns-in-Ok-write_all-clause-ran g c =
-    let size : c.len.result ≡ length c.in-Ok.bytes.items = omega (arith, c.in-Ok.bytes.ok.0, c.len.ensures) in
-    let told = c.in-Ok-answer_to.ensures.answer ∙ ap (answer_to c.args.command (eqb c.len.result INPUT_LIMIT)) c.deref.ensures.value in
-    let is = answer_is c.args.command (g.S.Source.left c.args.input.now) c.in-Ok.bytes.items (string_bytes c.in-Ok-answer_to.answer.0, c.in-Ok-answer_to.answer.1) (eqb c.len.result INPUT_LIMIT)
-    (ap (λ n. eqb n INPUT_LIMIT) size) c.in-Ok.ensures.all told in
-    ran_all _ _ _ _ _ _ _ _ (string_bytes c.in-Ok-answer_to.answer.0) c.in-Ok-answer_to.answer.1 is c.in-Ok-answer_to.ensures.decided (rw c.as_bytes.ensures.value at c.in-Ok-write_all.ensures.whole)
+pub play_input-requires-clause-follows : goal.play_input-requires-clause-follows
+play_input-requires-clause-follows g c = session_begins
 
-pub returns-clause-ran : goal.returns-clause-ran
-returns-clause-ran g c =
-    let size : c.len.result ≡ length c.in-Ok.bytes.items = omega (arith, c.in-Ok.bytes.ok.0, c.len.ensures) in
-    let told = c.in-Ok-answer_to.ensures.answer ∙ ap (answer_to c.args.command (eqb c.len.result INPUT_LIMIT)) c.deref.ensures.value in
-    let is = answer_is c.args.command (g.S.Source.left c.args.input.now) c.in-Ok.bytes.items (string_bytes c.in-Ok-answer_to.answer.0, c.in-Ok-answer_to.answer.1) (eqb c.len.result INPUT_LIMIT)
-    (ap (λ n. eqb n INPUT_LIMIT) size) c.in-Ok.ensures.all told in
-    ran_front _ _ _ _ _ _ _ _ (string_bytes c.in-Ok-answer_to.answer.0) c.in-Ok-answer_to.answer.1 is (rw c.as_bytes.ensures.value at c.in-Err-write_all.ensures.prefix) c.in-Err-write_all.ensures.cause
+pub play_input-requires-in-Ok-clause-follows : goal.play_input-requires-in-Ok-clause-follows
+play_input-requires-in-Ok-clause-follows g c = acts_begin
+
+pub returns-in-Replay-clause-ran : goal.returns-in-Replay-clause-ran
+returns-in-Replay-clause-ran g c = session_ran c.args.command _ _ _ _ _ _ _ c.play_input.result c.in-Replay.is
+    c.play_input.ensures.ran
+
+pub returns-in-Replay-clause-line_by_line : goal.returns-in-Replay-clause-line_by_line
+returns-in-Replay-clause-line_by_line g c = λ other.
+    let l = c.play_input.ensures.line_by_line other in
+    (l.0, l.1, session_law c.args.command _ _ _ _ _ c.play_input.result l.0 c.in-Replay.is l.2)
+
+pub returns-in-Ok-clause-ran : goal.returns-in-Ok-clause-ran
+returns-in-Ok-clause-ran g c = acts_ran c.args.command _ _ _ _ _ _ _ c.play_input-in-Ok.result c.in-ReplayActs.is
+    c.play_input-in-Ok.ensures.ran
+
+pub returns-in-Ok-clause-line_by_line : goal.returns-in-Ok-clause-line_by_line
+returns-in-Ok-clause-line_by_line g c = λ other.
+    let l = c.play_input-in-Ok.ensures.line_by_line other in
+    (l.0, l.1, acts_law c.args.command _ _ _ _ _ c.play_input-in-Ok.result l.0 c.in-ReplayActs.is l.2)
