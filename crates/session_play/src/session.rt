@@ -47,8 +47,6 @@ pub(crate) struct Session {
     pub shared: Shared,
     // Of each live peer, in the order in which they joined.
     pub unread: Vec<Unread>,
-    // Where taken bytes are put; nobody reads them.
-    taken: Box<[u8; MESSAGE_LIMIT]>,
 }
 
 impl Model for Session {
@@ -95,7 +93,6 @@ impl Session {
             alloc,
             shared: Shared::new(alloc, limits)?,
             unread: Vec::new(alloc),
-            taken: Box::new(alloc, [0; MESSAGE_LIMIT])?,
         })
     }
 
@@ -189,9 +186,12 @@ impl Session {
         ensures watched { IsWatched W.may_follow self.old.limits.store self.old.play.journal
             watch.old self.new.play.journal watch.new }
     {
+        let mut bytes = [0u8; MESSAGE_LIMIT];
         let mut tokens = [0u32; 256];
-        let bytes = &mut self.taken[..most as usize];
-        match self.shared.take_watched(number, bytes, &mut tokens, watch) {
+        match self
+            .shared
+            .take_watched(number, &mut bytes[..most as usize], &mut tokens, watch)
+        {
             Took::Bytes(..) => {
                 forget_ended(&self.shared, &mut self.unread);
                 Ok(())

@@ -2,13 +2,13 @@ use Rattle.std.proofs.Common.{◌∙◌}
 use Rattle.session_play.proofs.FirstSteps.{read_message, read_nothing, read_bad_size}
 use Rattle.session_play.proofs.unread.Unread.read.Goals as goal
 
-pub returns-in_ok-from_slice-in-Whole-clause-found : goal.returns-in_ok-from_slice-in-Whole-clause-found
-returns-in_ok-from_slice-in-Whole-clause-found c =
+pub returns-in_ok-body-in-Whole-clause-found : goal.returns-in_ok-body-in-Whole-clause-found
+returns-in_ok-body-in-Whole-clause-found c =
     read_message c.args.self.now.number c.args.self.now.assembler c.feed.new.self c.args.piece.now c.in-Whole.used
     c.message-message.result.id
-    c.message-message.result.opcode c.new-body.result c.in-Whole.ensures.one c.message-message.ensures.id
+    c.message-message.result.opcode c.in_ok-body-in-Whole.body c.in-Whole.ensures.one c.message-message.ensures.id
     c.message-message.ensures.opcode
-    (c.new-body.ensures.value ∙ c.in_ok-from_slice-in-Whole.ensures.items ∙ c.message-message.ensures.body)
+    (c.in_ok-body-in-Whole.ensures.value ∙ c.message-message.ensures.body)
 
 pub returns-in-Need-clause-found : goal.returns-in-Need-clause-found
 returns-in-Need-clause-found c =
