@@ -93,6 +93,7 @@ impl ActList {
             printer: Printer {
                 alloc,
                 text: String::new(alloc),
+                line: String::new(alloc),
                 number: 0,
                 failed: false,
             },

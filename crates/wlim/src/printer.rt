@@ -4,7 +4,7 @@ ghost use Rattle.wlim.specs.Transcript.{told_text};
 
 use relay_core::Post;
 use relay_model::Told;
-use session_text::print_told;
+use session_text::write_told;
 use std::alloc::Global;
 use wio_core::NoMemory;
 
@@ -12,6 +12,8 @@ use wio_core::NoMemory;
 pub struct Printer {
     pub alloc: Global,
     pub text: String,
+    /// Where each line is written before it goes behind the text.
+    pub line: String,
     /// The number of the act that tells.
     pub number: u32,
     /// It found no memory, and drops what it is told from then on.
@@ -27,17 +29,24 @@ impl Post for Printer {
         if self.failed {
             return;
         }
-        if print(self.alloc, &mut self.text, self.number, told).is_err() {
+        let (text, line) = (&mut self.text, &mut self.line);
+        if print(self.alloc, text, line, self.number, told).is_err() {
             self.failed = true;
         }
     }
 }
 
 #[tactic(auto, using(std::proofs::lemmas::List::append_assoc))]
-fn print(alloc: Global, text: &mut String, number: u32, told: &Told) -> Result<(), NoMemory>
+fn print(
+    alloc: Global,
+    text: &mut String,
+    line: &mut String,
+    number: u32,
+    told: &Told,
+) -> Result<(), NoMemory>
     ensures { OnOk result (string_bytes text.new ≡ string_bytes text.old ++ told_text number told.now) }
 {
-    let line = print_told(alloc, number, told)?;
+    write_told(alloc, number, told, line)?;
     text.push_str(line.as_str())?;
     text.push_str("\n")?;
     Ok(())
