@@ -9,11 +9,11 @@ use Rattle.seat_objects.specs.declared.listed.LiveField.{LiveField}
 use Rattle.seat_objects.specs.declared.listed.LivePopup.{LivePopup}
 use Rattle.seat_objects.specs.declared.entered.Entered.{Entered}
 use Rattle.seat_objects.specs.Objects.{committed}
-use Rattle.seat_objects.specs.Changes.{kind_after, changed_by, changed_at}
+use Rattle.seat_objects.specs.Changes.{kind_after, changed_at}
 use Rattle.seat_objects.specs.Labels.{IsNew}
 use Rattle.seat_objects.specs.Listed.{Lists}
 use Rattle.seat_objects.proofs.NewObject.{new_mapped}
-use Rattle.seat_objects.proofs.SiftedLists.{map_alike, map_map}
+use Rattle.seat_objects.proofs.SiftedLists.{map_map}
 use Rattle.seat_objects.proofs.ListedObjects.{lists_changed}
 use Rattle.seat_objects.proofs.LeftFields.{IsFirm, keeps_at, label_kept, calm_kept}
 
@@ -43,14 +43,3 @@ both_changed f other o differs = elim (cases_eq o.label f) [
 
 pub commit_over : (f other : ℕ) (os : List Object) → other ≢ f → map (changed_at f Commit) (map (changed_at other Displace) os) ≡ map (committed f (Some other)) os
 commit_over f other os differs = map_map (changed_at f Commit) (changed_at other Displace) (committed f (Some other)) os (λ o. both_changed f other o differs)
-
-own_changed : (f : ℕ) (o : Object) → changed_at f Commit o ≡ committed f (Some f) o
-own_changed f o = by_label (eqb o.label f) (eqb f o.label) (grind (arith, nat_tests))
-  where
-    by_label : (a b : Bool) → a ≡ b → (if a then changed_by Commit o else o) ≡ (if a then changed_by Commit o else (if b then changed_by Displace o else o))
-    by_label true b e = refl
-    by_label false true e = absurd (cc)
-    by_label false false e = refl
-
-pub commit_own : (f : ℕ) (os : List Object) → map (changed_at f Commit) os ≡ map (committed f (Some f)) os
-commit_own f os = map_alike (changed_at f Commit) (committed f (Some f)) os (own_changed f)

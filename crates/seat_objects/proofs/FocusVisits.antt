@@ -15,7 +15,7 @@ use Rattle.seat_objects.specs.declared.entered.Entered.{Entered}
 use Rattle.seat_objects.specs.declared.entered.Entered.TheVariants.{Nobody, One, Anyone}
 use Rattle.seat_objects.specs.Changes.{changed_at}
 use Rattle.seat_objects.specs.Objects.{changed, is_field_kind, refocused}
-use Rattle.seat_objects.specs.Listed.{live_field, of_peer, is_field_of, fields_of, entered_by, may_be, visited, is_among, refocused_in, IsCalm, Lists}
+use Rattle.seat_objects.specs.Listed.{live_field, of_peer, is_field_of, fields_of, entered_by, may_be, left_for, visited, is_among, refocused_in, IsCalm, Lists}
 use Rattle.seat_objects.proofs.SiftedLists.{any_filter, map_map, map_all}
 use Rattle.seat_objects.proofs.ListedObjects.{lists_mapped}
 use Rattle.seat_objects.proofs.LeftFields.{keeps_changed}
@@ -95,6 +95,17 @@ may_be_by : (peer : Option ℕ) (p : ℕ) → may_be (entered_by peer) p ≡ is_
 may_be_by None p = refl
 may_be_by (Some q) p = refl
 
+-- who is left, or has the focus, is all who may be entered
+left_covers : (e : Entered) (peer : Option ℕ) (p : ℕ) → may_be (left_for e peer) p ≡ false → may_be (entered_by peer) p ≡ false → may_be e p ≡ false
+left_covers Nobody peer p left now = refl
+left_covers Anyone peer p left now = left
+left_covers (One q) None p left now = left
+left_covers (One q) (Some r) p left now = by_test (eqb r q) refl left
+  where
+    by_test : (b : Bool) → eqb r q ≡ b → may_be (if b then Nobody else One q) p ≡ false → eqb q p ≡ false
+    by_test true is left = grind (arith, nat_tests)
+    by_test false is left = left
+
 module _ (os : List Object) (fields : List LiveField) (popups : List LivePopup) (entered : Entered) (lists : Lists os fields popups entered) where
   -- a field of a peer whose fields are visited is visited
   is_visited : (e : Entered) (k : ℕ) (d : Object) → k < length os → is_field_kind (get_or os k d).kind ≡ true → may_be e (get_or os k d).peer ≡ true → is_among (visited e fields) (get_or os k d) ≡ true
@@ -112,11 +123,14 @@ module _ (os : List Object) (fields : List LiveField) (popups : List LivePopup) 
   unvisited e k d false lt off field is = is
 
   -- what is not visited is as the focus would leave it
-  still : (peer : Option ℕ) (k : ℕ) (d : Object) (b : Bool) → k < length os → is_among (visited entered fields) (get_or os k d) ≡ false → is_among (visited (entered_by peer) fields) (get_or os k d) ≡ false → is_field_kind (get_or os k d).kind ≡ b → refocused peer (get_or os k d) ≡ get_or os k d
+  still : (peer : Option ℕ) (k : ℕ) (d : Object) (b : Bool) → k < length os → is_among (visited (left_for entered peer) fields) (get_or os k d) ≡ false → is_among (visited (entered_by peer) fields) (get_or os k d) ≡ false → is_field_kind (get_or os k d).kind ≡ b → refocused peer (get_or os k d) ≡ get_or os k d
   still peer k d false lt not_old not_new off = ap (λ v. record (get_or os k d) { kind = v }) (not_field (focused (is_at peer (get_or os k d).peer)) (get_or os k d).kind off)
   still peer k d true lt not_old not_new field =
-      let calm = lists.calm k d lt (unvisited entered k d (may_be entered (get_or os k d).peer) lt not_old field refl) in
-      let away : is_at peer (get_or os k d).peer ≡ false = sym (may_be_by peer (get_or os k d).peer) ∙ unvisited (entered_by peer) k d (may_be (entered_by peer) (get_or os k d).peer) lt not_new field refl in
+      let p = (get_or os k d).peer in
+      let not_left = unvisited (left_for entered peer) k d (may_be (left_for entered peer) p) lt not_old field refl in
+      let not_now = unvisited (entered_by peer) k d (may_be (entered_by peer) p) lt not_new field refl in
+      let calm = lists.calm k d lt (left_covers entered peer p not_left not_now) in
+      let away : is_at peer p ≡ false = sym (may_be_by peer p) ∙ not_now in
       rw away calm
 
   after_second : (peer : Option ℕ) (o : Object) (b : Bool) → (b ≡ false → refocused peer o ≡ o) → (if b then refocused peer o else o) ≡ refocused peer o
@@ -128,9 +142,9 @@ module _ (os : List Object) (fields : List LiveField) (popups : List LivePopup) 
   after_both peer o false ws rest = after_second peer o (is_among ws o) (rest refl)
 
   -- the two visits are the change of all
-  pub visits_are : (peer : Option ℕ) → map (refocused_in (visited (entered_by peer) fields) peer) (map (refocused_in (visited entered fields) peer) os) ≡ map (refocused peer) os
-  visits_are peer = map_all (refocused_in (visited (entered_by peer) fields) peer) (refocused_in (visited entered fields) peer) (refocused peer) os
-      (λ k d lt. after_both peer (get_or os k d) (is_among (visited entered fields) (get_or os k d)) (visited (entered_by peer) fields) (λ not_old not_new. still peer k d (is_field_kind (get_or os k d).kind) lt not_old not_new refl))
+  pub visits_are : (peer : Option ℕ) → map (refocused_in (visited (entered_by peer) fields) peer) (map (refocused_in (visited (left_for entered peer) fields) peer) os) ≡ map (refocused peer) os
+  visits_are peer = map_all (refocused_in (visited (entered_by peer) fields) peer) (refocused_in (visited (left_for entered peer) fields) peer) (refocused peer) os
+      (λ k d lt. after_both peer (get_or os k d) (is_among (visited (left_for entered peer) fields) (get_or os k d)) (visited (entered_by peer) fields) (λ not_old not_new. still peer k d (is_field_kind (get_or os k d).kind) lt not_old not_new refl))
 
   calm_now : (peer : Option ℕ) (o : Object) → IsCalm (entered_by peer) (refocused peer o)
   calm_now peer o may =

@@ -52,10 +52,6 @@ module _ {A : Type 0} where
       both true = refl
       both false = refl
 
-  pub map_alike : {B : Type 0} (f g : A → B) (xs : List A) → ((x : A) → f x ≡ g x) → map f xs ≡ map g xs
-  map_alike f g [] same = refl
-  map_alike f g (x ∷ xs) same = rw (same x, map_alike f g xs same) refl
-
   pub map_map : (f h g : A → A) (xs : List A) → ((x : A) → f (h x) ≡ g x) → map f (map h xs) ≡ map g xs
   map_map f h g [] same = refl
   map_map f h g (x ∷ xs) same = rw (same x, map_map f h g xs same) refl

@@ -1,6 +1,7 @@
 -- What is listed beside the live objects: the fields by peer, the popups, and whose fields may be entered.
 use Rattle.std.specs.Prelude.{◌≡◌, ℕ, ◌<◌, ◌≤◌, List, [], ◌∷◌, length, slice_index_or, map, filter, All, Bool, true, false, not, ◌&&◌, ◌==◌, if◌then◌else◌, Option, Some, None}
 use Rattle.std.specs.List.{flat_map, list_any}
+use Rattle.relay_model.specs.Objects.{is_at}
 use Rattle.seat_objects.specs.declared.object.Object.{Object}
 use Rattle.seat_objects.specs.declared.object.Kind.{Kind}
 use Rattle.seat_objects.specs.declared.object.Kind.TheVariants.{Popup}
@@ -99,6 +100,12 @@ widened Anyone p = Anyone
 abbrev pub entered_by : Option ℕ → Entered
 entered_by None = Nobody
 entered_by (Some p) = One p
+
+-- whose fields are left where the focus comes to the peer, whose own are visited anyhow
+abbrev pub left_for : Entered → Option ℕ → Entered
+left_for Nobody peer = Nobody
+left_for (One q) peer = (if is_at peer q then Nobody else One q)
+left_for Anyone peer = Anyone
 
 -- of these fields those that may be entered
 abbrev pub visited : Entered → List LiveField → List LiveField

@@ -1,11 +1,11 @@
 // Whose fields may be entered, and the focus that comes to them and goes.
 ghost use Rattle.std.specs.Prelude.{◌≡◌, map};
 ghost use Rattle.seat_objects.specs.declared.object.Object.{Object};
-ghost use Rattle.seat_objects.specs.Listed.{PeersRise, IsCalm, widened, entered_by, visited, refocused_in};
+ghost use Rattle.seat_objects.specs.Listed.{PeersRise, IsCalm, widened, entered_by, left_for, visited, refocused_in};
 
 use crate::change::Change;
 use crate::listed::{LiveField, of_peer};
-use crate::object::Object;
+use crate::object::{Object, is_number};
 use crate::shelf::Shelf;
 use relay_model::Label;
 
@@ -56,6 +56,16 @@ pub fn entered_by(peer: Option<Label>) -> Entered
     match peer {
         Some(peer) => Entered::One(peer),
         None => Entered::Nobody,
+    }
+}
+
+/// Whose fields are left where the focus comes to the peer. Its own are visited anyhow.
+pub fn left_for(entered: Entered, peer: Option<Label>) -> Entered
+    ensures { result ≡ left_for entered peer }
+{
+    match entered {
+        Entered::One(left) if is_number(peer, left) => Entered::Nobody,
+        Entered::Nobody | Entered::One(_) | Entered::Anyone => entered,
     }
 }
 

@@ -5,7 +5,7 @@ ghost use Rattle.seat_objects.specs.Objects.{find, owner_in, area_in, has_popup_
 ghost use Rattle.seat_objects.specs.Listed.{fields_of, popups_of};
 
 use crate::change::Change;
-use crate::entered::{Entered, entered_by, entered_with, refocus_entered};
+use crate::entered::{Entered, entered_by, entered_with, left_for, refocus_entered};
 use crate::listed::{LiveField, LivePopup, has_surface, list_field, list_popup, of_peer, unlist};
 use crate::object::{Kind, NO_AREA, Object};
 use crate::shelf::Shelf;
@@ -202,7 +202,8 @@ impl Objects {
         ensures bound { self.new.bound ≡ self.old.bound }
     {
         let next = entered_by(peer);
-        refocus_entered(&mut self.shelf, &self.fields, self.entered, peer);
+        let left = left_for(self.entered, peer);
+        refocus_entered(&mut self.shelf, &self.fields, left, peer);
         refocus_entered(&mut self.shelf, &self.fields, next, peer);
         self.entered = next;
     }

@@ -9,6 +9,7 @@ invariant_of-self c =
     rw (
       c.refocus_entered-2.ensures.items,
       c.refocus_entered.ensures.items,
+      c.left_for-left.ensures,
       c.entered_by-next.ensures,
       c.deref.ensures.value,
       c.deref-2.ensures.value,
@@ -18,6 +19,6 @@ invariant_of-self c =
 
 pub returns-clause-items : goal.returns-clause-items
 returns-clause-items c =
-    rw (c.refocus_entered-2.ensures.items, c.refocus_entered.ensures.items, c.entered_by-next.ensures, c.deref.ensures.value, c.deref-2.ensures.value)
+    rw (c.refocus_entered-2.ensures.items, c.refocus_entered.ensures.items, c.left_for-left.ensures, c.entered_by-next.ensures, c.deref.ensures.value, c.deref-2.ensures.value)
     (visits_are c.self.inside.shelf.items c.self.inside.fields.items c.self.inside.popups.items c.self.inside.entered c.self.invariant.0 c.args.peer)
     ∙ ap (λ v. map (refocused c.args.peer) v.items) c.self.view_is
