@@ -1,7 +1,9 @@
-// The tests of the relay, of the steps of a session and of their lines: each public call once on its happy path, and the
+// The tests of the relay and of the slow evaluator of its rules, of the steps of a session and of their lines: each public call once on its happy path, and the
 // worked lines.
 #![tactic(auto)]
 
+#[cfg(test)]
+mod plain_relay_tests;
 #[cfg(test)]
 mod printing_tests;
 #[cfg(test)]

@@ -1,0 +1,16 @@
+// One event that is told.
+ghost use Rattle.std.specs.Prelude.{◌≡◌, ◌++◌, [], ◌∷◌, OnOk};
+ghost use Rattle.relay_model.specs.Told.{to};
+
+use relay_model::{Label, Said, Told};
+use wio_core::NoMemory;
+
+// The label of the shell.
+pub const SHELL: Label = 0;
+
+pub fn tell(label: Label, event: Said, told: &mut Vec<Told>) -> Result<(), NoMemory>
+    ensures { OnOk result (told.new.items ≡ told.old.items ++ to label event ∷ []) }
+{
+    told.push(Told { to: label, event })?;
+    Ok(())
+}
