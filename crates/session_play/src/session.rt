@@ -171,7 +171,8 @@ impl Session {
         self.step(&Step::Peer(number, PeerStep::Gone), watch)
     }
 
-    /// The first bytes that are stored for a peer are taken.
+    /// The first bytes that are stored for a peer are taken. Not inlined, so that the buffers are made for this alone.
+    #[inline(never)]
     pub(crate) fn take<W: Watch>(
         &mut self,
         number: u32,

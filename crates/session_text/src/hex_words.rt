@@ -18,7 +18,11 @@ use wl_wire::{Bytes, Text};
 fn has_upper(word: &[u8]) -> bool
     ensures { result ≡ list_any is_ascii_uppercase word.now }
 {
-    word.iter().any(|byte| byte.is_ascii_uppercase())
+    let mut found = false;
+    for byte in word {
+        found |= byte.is_ascii_uppercase();
+    }
+    found
 }
 
 fn is_within(limit: usize, bytes: &[u8]) -> bool
