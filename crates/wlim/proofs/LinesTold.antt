@@ -72,6 +72,8 @@ pub record LineCame (gf lf g l : Option (List ℕ)) (before after : LinesAhead) 
   pub up_to : IsReadTo gf lf g l after (done ++ raw ∷ []) read_after
   pub near : StaysNear lf before done read read_after
   pub fewer : bytes_ahead after < bytes_ahead before
+  pub whole : ((rest : List (List ℕ)) × (lines_of true read_after ≡ (done ++ raw ∷ []) ++ rest))
+      ⊎ (IsAtEnd l × (lines_of false read_after ≡ done ++ raw ∷ []))
 
 fewer_ahead : (before after : LinesAhead) (read more raw : List ℕ) (k : ℕ)
     → before.room ≡ Some (INPUT_LIMIT - length read) → after.room ≡ Some (INPUT_LIMIT - length (read ++ more))
@@ -104,28 +106,45 @@ line_came gf lf g0 l0 g1 l1 before after raw done read r h waits =
             near = near;
             fewer = fewer_ahead before after read more raw.now (length raw.now + 1) r.room b.room b.within count
                 (omega arith);
+            whole = inl (whole_lines after done raw.now (read ++ more) up_to whole.goes_on);
           }
       | inr ended ↦
           let count : length before.held + length more ≡ length raw.now + length after.held =
           omega (arith, ap length ended.all, ap length ended.none_held, both) in
+          let up_to = last_line_read gf lf g1 l1 after done raw.now (before.held ++ more) (read ++ more) b ended in
           record {
             read_after = read ++ more;
-            up_to = last_line_read gf lf g1 l1 after done raw.now (before.held ++ more) (read ++ more) b ended;
+            up_to = up_to;
             near = near;
             fewer = fewer_ahead before after read more raw.now (length raw.now) r.room b.room b.within count ended.some;
+            whole = inr (all_lines after done raw.now (read ++ more) up_to ended.settled);
           }
     ]
+  where
+    whole_lines : (after : LinesAhead) (done : List (List ℕ)) (line read : List ℕ)
+        → IsReadTo gf lf g1 l1 after (done ++ line ∷ []) read → after.settled ≡ None
+        → (rest : List (List ℕ)) × (lines_of true read ≡ (done ++ line ∷ []) ++ rest)
+    whole_lines after done line read up_to e =
+        let d = subst (λ o. IsDivided o after.held l1 (done ++ line ∷ []) read) e up_to.divided in
+        (lines_of true after.held, ap (lines_of true) d.0 ∙ lines_front true (done ++ line ∷ []) after.held d.1)
+
+    all_lines : (after : LinesAhead) (done : List (List ℕ)) (line read : List ℕ)
+        → IsReadTo gf lf g1 l1 after (done ++ line ∷ []) read → after.settled ≡ Some stop.End
+        → IsAtEnd l1 × (lines_of false read ≡ done ++ line ∷ [])
+    all_lines after done line read up_to e =
+        let d = subst (λ o. IsDivided o after.held l1 (done ++ line ∷ []) read) e up_to.divided in (d.0, d.2)
 
 -- the line decided
 pub told_by_line : (answer : Bool → List (List ℕ) → Answer) (gf lf g l : Option (List ℕ)) (before after : LinesAhead)
     (done : List (List ℕ)) (raw read : List ℕ) (whole : Answer)
-    → LineCame gf lf g l before after done raw read → Settles answer (done ++ raw ∷ []) whole
-    → IsTold answer lf done whole
+    → (came : LineCame gf lf g l before after done raw read) → Settles answer (done ++ raw ∷ []) whole
+    → IsTold answer lf l done came.read_after whole
 told_by_line answer gf lf g l before after done raw read whole came s =
     let ahead = leads gf lf g l after (done ++ raw ∷ []) came.read_after came.up_to in
     record {
       all = all lf ahead;
       leads = front lf ahead;
+      early = early came.whole;
     }
   where
     all : (o : Option (List ℕ)) → LeadsOff o (done ++ raw ∷ [])
@@ -137,13 +156,24 @@ told_by_line answer gf lf g l before after done raw read whole came s =
     front None ahead = tt
     front (Some bytes) ahead = (raw ∷ ahead.0, ahead.1 ∙ append_assoc done (raw ∷ []) ahead.0)
 
+    early : ((rest : List (List ℕ)) × (lines_of true came.read_after ≡ (done ++ raw ∷ []) ++ rest))
+        ⊎ (IsAtEnd l × (lines_of false came.read_after ≡ done ++ raw ∷ []))
+        → (answer true (lines_of true came.read_after) ≡ whole)
+        ⊎ (IsAtEnd l × (answer false (lines_of false came.read_after) ≡ whole))
+    early (inl lines) = inl (ap (answer true) lines.1 ∙ s.same true lines.0)
+    early (inr end) =
+        inr (end.0, ap (answer false) (end.1 ∙ sym (append-nil (done ++ raw ∷ []))) ∙ s.same false [])
+
 -- the source ended
 told_end : (answer : Bool → List (List ℕ) → Answer) (lf l : Option (List ℕ)) (done : List (List ℕ)) (read : List ℕ)
     (whole : Answer)
     → Consumes lf l read → IsAtEnd l → length read < INPUT_LIMIT → lines_of false read ≡ done
-    → answer false done ≡ whole → IsTold answer lf done whole
-told_end answer lf l done read whole took end short lines is =
-    record { all = all lf l took end; leads = front lf l took end }
+    → answer false done ≡ whole → IsTold answer lf l done read whole
+told_end answer lf l done read whole took end short lines is = record {
+  all = all lf l took end;
+  leads = front lf l took end;
+  early = inr (end, ap (answer false) lines ∙ is);
+}
   where
     same : (bytes rest : List ℕ) → bytes ≡ read ++ rest → rest ≡ [] → bytes ≡ read
     same bytes rest e none = e ∙ ap (λ t. read ++ t) none ∙ append-nil read
@@ -167,7 +197,7 @@ pub record Came (answer : Bool → List (List ℕ) → Answer) (gf lf g l : Opti
     (done : List (List ℕ)) (read : List ℕ) (whole : Answer) : Type 0 where
   pub read_after : List ℕ
   pub took : TookFrom gf g lf l read_after
-  pub told : IsTold answer lf done whole
+  pub told : IsTold answer lf l done read_after whole
   pub near : StaysNear lf before done read read_after
 
 pub end_came : (answer : Bool → List (List ℕ) → Answer) (gf lf g0 l0 g1 l1 : Option (List ℕ))
@@ -246,6 +276,7 @@ limit_came answer gf lf g0 l0 g1 l1 before after done read output r h waits foll
         all = all (read ++ more) lf l1 b.took.left full is;
         leads =
             front (read ++ more) lf l1 b.took.left full lines;
+        early = inl is;
       };
       near = near_of gf lf g0 l0 g1 l1 before after done read more (before.held ++ more) r w.1.1.took b waits;
     }
@@ -278,12 +309,16 @@ long_came answer gf lf g0 l0 g1 l1 before after done read output end r h waits n
     let b = went_on gf lf g0 l0 g1 l1 before after answers.Long done read more r w.0 w.1.1 in
     let bytes : List ℕ = before.held ++ more in
     let long : IsTooLong bytes = w.1.1.tells.cause in
+    let lines : lines_of true (read ++ more) ≡ done ++ lines_of true (bytes ++ []) =
+    ap (lines_of true) b.split ∙ lines_front true done bytes b.lack
+    ∙ ap (λ t. done ++ lines_of true t) (sym (append-nil bytes)) in
     record {
       read_after = read ++ more;
       took = b.took;
       told = record {
         all = all bytes (read ++ more) long b.within b.split lf l1 b.took.left;
         leads = front bytes (read ++ more) long b.within b.split lf l1 b.took.left;
+        early = inl (ap (answer true) lines ∙ by_long true bytes [] long);
       };
       near = near_of gf lf g0 l0 g1 l1 before after done read more bytes r w.1.1.took b waits;
     }

@@ -1,7 +1,7 @@
 -- How a run ends, and what it owes then.
-use Rattle.std.proofs.Common.{◌≡◌, ◌≢◌, ℕ, ◌+◌, ◌≤◌, Bool, true, List, [], ◌++◌, length, take, Option, Some, None, Ok, Err, refl, sym, ap, ◌∙◌, subst, inl, inr, arith, append_assoc, append-nil, length-append}
+use Rattle.std.proofs.Common.{◌≡◌, ◌≢◌, ℕ, ◌+◌, ◌≤◌, Bool, true, false, List, [], ◌++◌, length, take, Option, Some, None, Ok, Err, refl, sym, ap, ◌∙◌, ◌⊎◌, subst, inl, inr, arith, append_assoc, append-nil, length-append}
 use Rattle.std.specs.Prelude.{IfSome}
-use Rattle.std.specs.Io.KnownBytes.{Appends}
+use Rattle.std.specs.Io.KnownBytes.{Appends, IsAtEnd}
 use Rattle.std.proofs.KnownBytes.{Appends-trans, Appends-nil}
 use Rattle.std.proofs.Math.Seq.{take-append-add}
 use Rattle.std.proofs.lemmas.List.{take_all, take-append-le}
@@ -17,7 +17,7 @@ use Rattle.wlim.specs.Lines.{lines_of, is_cut, size_of}
 use Rattle.wlim.specs.Scripts.{Follows}
 use Rattle.wlim.specs.Reading.{LeadsOff, ComesTo}
 use Rattle.wlim.specs.Writing.{WritesPart, WritesEnd, IsCutShort}
-use Rattle.wlim.specs.LineByLine.{LineByLine}
+use Rattle.wlim.specs.LineByLine.{IsDecidedBy, LineByLine}
 use Rattle.wlim.specs.Ran.{GrowsByFront, Ran, answer_read}
 use Rattle.wlim.proofs.LinesWithin.{IsNear, is_near, shown_of}
 use Rattle.wlim.proofs.Going.{Going, Ready, leads_done, leads_first, stays_near}
@@ -53,12 +53,11 @@ ran_short answer lf held0 held reads reads' writes writes' s short front cause =
   good_words = λ e. no_bad_words s short e;
 }
 
-law_short : (answer : Bool → List (List ℕ) → Answer) (lf held0 held : Option (List ℕ)) (reads reads' : ℕ) (s : Status)
-    (read : List ℕ) → IsCutShort s → reads' ≡ reads → IsNear answer lf held0 held read
-    → LineByLine answer lf reads reads' held0 held s read
-law_short answer lf held0 held reads reads' s read short same near = record {
-  read_failed = λ other. absurd (other (sym same));
-  whole_lines = λ e. absurd (no_read_fault s short e);
+law_short : (answer : Bool → List (List ℕ) → Answer) (lf l held0 held : Option (List ℕ)) (s : Status) (read : List ℕ)
+    → IsCutShort s → IsNear answer lf held0 held read → LineByLine answer lf l held0 held s read
+law_short answer lf l held0 held s read short near = record {
+  read_failed = λ e. absurd (no_read_fault s short e);
+  decided = λ h. absurd (undecided s short h);
   near_deciding = near.deciding;
   near_unwritten = near.unwritten;
 }
@@ -101,11 +100,11 @@ short_ran {answer} {lf} {held0} {held} held' reads reads' writes writes' s at pa
 
 pub short_law : {answer : Bool → List (List ℕ) → Answer} {stands : List (List ℕ) → List ℕ → Type 0}
     {holds : List ℕ → Type 0} {gf lf g l held0 held : Option (List ℕ)} {reader : LinesAhead}
-    (held' : Option (List ℕ)) (reads reads' : ℕ) (s : Status)
-    → (at : Going answer stands holds gf lf g l held0 held reader) → WritesPart held held' at.ready s → reads' ≡ reads
-    → LineByLine answer lf reads reads' held0 held' s at.read
-short_law {answer} {lf} {held0} {held} held' reads reads' s at part same =
-    law_short answer lf held0 held' reads reads' s at.read part.3 same
+    (held' : Option (List ℕ)) (s : Status)
+    → (at : Going answer stands holds gf lf g l held0 held reader) → WritesPart held held' at.ready s
+    → LineByLine answer lf l held0 held' s at.read
+short_law {answer} {lf} {l} {held0} {held} held' s at part =
+    law_short answer lf l held0 held' s at.read part.3
     (is_near answer lf held0 held' at.first at.read (at.written ++ take part.0 at.ready) (length at.written)
     (leads_first at) at.near at.first_within
     (Appends-trans held0 held held' at.written (take part.0 at.ready) at.gained part.2)
@@ -157,23 +156,33 @@ ran_end answer lf held0 held held' reads reads' writes writes' written end resul
     ran_short answer lf held0 held' reads reads' writes writes' result part.3
     (front_told answer lf held0 held held' written end part.0 part.1 before part.2 is) cause
 
-law_end : (answer : Bool → List (List ℕ) → Answer) (lf held0 held held' : Option (List ℕ)) (reads reads' : ℕ)
-    (read written : List ℕ) (end : Answer) (result : Status) → Appends held0 held written
-    → WritesEnd held held' end result → reads' ≡ reads
+-- by the lines of the bytes read
+decided_by : (answer : Bool → List (List ℕ) → Answer) (cut : Bool) (held0 held : Option (List ℕ)) (read : List ℕ)
+    (whole : Answer) (result : Status) → answer cut (lines_of cut read) ≡ whole → result ≡ whole.1
+    → Appends held0 held whole.0 → IsDecidedBy answer cut read held0 held result
+decided_by answer cut held0 held read whole result is e wrote =
+    (ap (λ a. a.1) is ∙ sym e, subst (Appends held0 held) (sym (ap (λ a. a.0) is)) wrote)
+
+law_end : (answer : Bool → List (List ℕ) → Answer) (lf l held0 held held' : Option (List ℕ)) (read written : List ℕ)
+    (end : Answer) (result : Status) → Appends held0 held written → WritesEnd held held' end result
+    → (answer true (lines_of true read) ≡ with_front written end)
+    ⊎ (IsAtEnd l × (answer false (lines_of false read) ≡ with_front written end))
     → ((gained : List ℕ) → Appends held0 held' gained → length written ≤ length gained
     → IsNear answer lf held0 held' read)
-    → LineByLine answer lf reads reads' held0 held' result read
-law_end answer lf held0 held held' reads reads' read written end result before (inl wrote) same near =
+    → LineByLine answer lf l held0 held' result read
+law_end answer lf l held0 held held' read written end result before (inl wrote) early near =
     let both = Appends-trans held0 held held' written end.0 before wrote.0 in
     let here = near (written ++ end.0) both (omega (arith, length-append written end.0)) in
+    let by = λ (cut : Bool) (is : answer cut (lines_of cut read) ≡ with_front written end).
+    decided_by answer cut held0 held' read (with_front written end) result is wrote.1 both in
     record {
-      read_failed = λ other. absurd (other (sym same));
-      whole_lines = λ e. absurd (subst IsDecided e wrote.2);
+      read_failed = λ e. absurd (subst IsDecided e wrote.2);
+      decided = λ h. elim early [ inl is ↦ inl (by true is) | inr is ↦ inr (is.0, by false is.1) ];
       near_deciding = here.deciding;
       near_unwritten = here.unwritten;
     }
-law_end answer lf held0 held held' reads reads' read written end result before (inr part) same near =
-    law_short answer lf held0 held' reads reads' result read part.3 same
+law_end answer lf l held0 held held' read written end result before (inr part) early near =
+    law_short answer lf l held0 held' result read part.3
     (near (written ++ take part.0 end.0)
     (Appends-trans held0 held held' written (take part.0 end.0) before part.2)
     (omega (arith, length-append written (take part.0 end.0))))
@@ -218,19 +227,21 @@ told_ran {answer} {lf} {held0} {held} stands_after holds_after g' l' held' after
 pub told_law : {answer : Bool → List (List ℕ) → Answer} {stands : List (List ℕ) → List ℕ → Type 0}
     {holds : List ℕ → Type 0} {gf lf g l held0 held : Option (List ℕ)} {reader : LinesAhead}
     (stands_after : List (List ℕ) → List ℕ → Type 0) (holds_after : List ℕ → Type 0)
-    (g' l' held' : Option (List ℕ)) (after : LinesAhead) (reads reads' : ℕ) (end : LastLine) (result : Status)
+    (g' l' held' : Option (List ℕ)) (after : LinesAhead) (end : LastLine) (result : Status)
     → (r : Ready answer stands holds gf lf g l held0 held reader)
     → (come : ComesTo answer stands_after holds_after gf lf g' l' reader after
     r.going.done r.going.read (r.going.written ++ r.going.ready) r.going.ready (Ok (Some end)))
-    → WritesEnd held held' (with_front (r.going.ready ++ come.0) (ending end)) result → reads' ≡ reads
-    → (read : List ℕ) × TookFrom gf g' lf l' read × LineByLine answer lf reads reads' held0 held' result read
-told_law {answer} {lf} {held0} {held} stands_after holds_after g' l' held' after reads reads' end result r come wrote
-    same =
-    let at = r.going in (
+    → WritesEnd held held' (with_front (r.going.ready ++ come.0) (ending end)) result
+    → (read : List ℕ) × TookFrom gf g' lf l' read × LineByLine answer lf l' held0 held' result read
+told_law {answer} {lf} {held0} {held} stands_after holds_after g' l' held' after end result r come wrote =
+    let at = r.going in
+    let rest : Answer = with_front (at.ready ++ come.0) (ending end) in
+    let text = whole_text at.written at.ready come.0 (ending end) in (
       come.1,
       come.2,
-      law_end answer lf held0 held held' reads reads' come.1 at.written
-          (with_front (at.ready ++ come.0) (ending end)) result at.gained wrote same
+      law_end answer lf l' held0 held held' come.1 at.written rest result at.gained wrote
+          (subst (λ a. (answer true (lines_of true come.1) ≡ a)
+          ⊎ (IsAtEnd l' × (answer false (lines_of false come.1) ≡ a))) text come.4.early)
           (near_first held' at come.1 (stays_near r come.1 come.5)),
     )
 
@@ -288,17 +299,16 @@ failed_ran {answer} {gf} {lf} {held0} {held} {reader} stands_after holds_after g
         front_written answer lf held0 held held r.going.done r.going.written r.going.ready 0 (omega arith)
         r.going.gained (Appends-nil held) r.going.follows (leads_done r.going)
 
-fault_law : (answer : Bool → List (List ℕ) → Answer) (lf held0 held : Option (List ℕ)) (reads reads' : ℕ)
-    (done : List (List ℕ)) (read output : List ℕ) → lines_of true read ≡ done → Follows answer done output
-    → Appends held0 held output → IsNear answer lf held0 held read
-    → LineByLine answer lf reads reads' held0 held status.ReadFault read
-fault_law answer lf held0 held reads reads' done read output lines follows wrote near =
+fault_law : (answer : Bool → List (List ℕ) → Answer) (lf l held0 held : Option (List ℕ)) (done : List (List ℕ))
+    (read output : List ℕ) → lines_of true read ≡ done → Follows answer done output → Appends held0 held output
+    → IsNear answer lf held0 held read → LineByLine answer lf l held0 held status.ReadFault read
+fault_law answer lf l held0 held done read output lines follows wrote near =
     let is : answer true (lines_of true read) ≡ with_front output (ending last.Long) =
     ap (answer true) lines ∙ follows.undecided in
     record {
-      read_failed = λ other. inl refl;
-      whole_lines = λ e.
+      read_failed = λ e.
           (ap (λ a. is_long a.1) is, subst (Appends held0 held) (sym (ap shown is ∙ shown_of output)) wrote);
+      decided = λ h. absurd h;
       near_deciding = near.deciding;
       near_unwritten = near.unwritten;
     }
@@ -316,22 +326,22 @@ nothing_ready {held0} {held} r open_line =
 pub failed_law : {answer : Bool → List (List ℕ) → Answer} {stands : List (List ℕ) → List ℕ → Type 0}
     {holds : List ℕ → Type 0} {gf lf g l held0 held : Option (List ℕ)} {reader : LinesAhead}
     (stands_after : List (List ℕ) → List ℕ → Type 0) (holds_after : List ℕ → Type 0)
-    (g' l' : Option (List ℕ)) (after : LinesAhead) (reads reads' : ℕ) (s : Status)
+    (g' l' : Option (List ℕ)) (after : LinesAhead) (s : Status)
     → (r : Ready answer stands holds gf lf g l held0 held reader)
     → ComesTo answer stands_after holds_after gf lf g' l' reader after
     r.going.done r.going.read (r.going.written ++ r.going.ready) r.going.ready (Err s)
     → s ≢ status.NoMemory
-    → (read : List ℕ) × TookFrom gf g' lf l' read × LineByLine answer lf reads reads' held0 held s read
-failed_law {answer} {gf} {lf} {held0} {held} {reader} stands_after holds_after g' l' after reads reads' s r come other =
+    → (read : List ℕ) × TookFrom gf g' lf l' read × LineByLine answer lf l' held0 held s read
+failed_law {answer} {gf} {lf} {held0} {held} {reader} stands_after holds_after g' l' after s r come other =
     let at = r.going in
     by_error answer stands_after holds_after gf lf g' l' reader after at.done at.read (at.written ++ at.ready) at.ready
     (λ x. x ≢ status.NoMemory
-    → (read : List ℕ) × TookFrom gf g' lf l' read × LineByLine answer lf reads reads' held0 held x read)
+    → (read : List ℕ) × TookFrom gf g' lf l' read × LineByLine answer lf l' held0 held x read)
     s come
     (λ come other. (
       come.0,
       come.1,
-      fault_law answer lf held0 held reads reads' at.done come.0 (at.written ++ at.ready) come.2 at.follows
+      fault_law answer lf l' held0 held at.done come.0 (at.written ++ at.ready) come.2 at.follows
           (nothing_ready r come.4)
           (near_first held at come.0 (stays_near r come.0 come.5) at.written at.gained (omega arith)),
     ))

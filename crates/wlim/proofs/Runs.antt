@@ -48,19 +48,17 @@ session_ran command left reads reads' held held' writes writes' result is ran =
     subst (λ c. Ran (answer_by c) left reads reads' held held' writes writes' result) (sym is)
     (session_read left reads reads' held held' writes writes' result ran)
 
-pub acts_law : (command : Command) (left : Option (List ℕ)) (reads reads' : ℕ) (held held' : Option (List ℕ))
-    (result : Status) (read : List ℕ) → command ≡ commands.ReplayActs
-    → LineByLine (λ cut lines. answer_from cut [] lines) left reads reads' held held' result read
-    → LineByLine (answer_lines command) left reads reads' held held' result read
-acts_law command left reads reads' held held' result read is law =
-    subst (λ c. LineByLine (answer_lines c) left reads reads' held held' result read) (sym is) law
+pub acts_law : (command : Command) (left left' held held' : Option (List ℕ)) (result : Status) (read : List ℕ)
+    → command ≡ commands.ReplayActs → LineByLine (λ cut lines. answer_from cut [] lines) left left' held held' result read
+    → LineByLine (answer_lines command) left left' held held' result read
+acts_law command left left' held held' result read is law =
+    subst (λ c. LineByLine (answer_lines c) left left' held held' result read) (sym is) law
 
-pub session_law : (command : Command) (left : Option (List ℕ)) (reads reads' : ℕ) (held held' : Option (List ℕ))
-    (result : Status) (read : List ℕ) → command ≡ commands.Replay
-    → LineByLine session_of_lines left reads reads' held held' result read
-    → LineByLine (answer_lines command) left reads reads' held held' result read
-session_law command left reads reads' held held' result read is law =
-    subst (λ c. LineByLine (answer_lines c) left reads reads' held held' result read) (sym is) law
+pub session_law : (command : Command) (left left' held held' : Option (List ℕ)) (result : Status) (read : List ℕ)
+    → command ≡ commands.Replay → LineByLine session_of_lines left left' held held' result read
+    → LineByLine (answer_lines command) left left' held held' result read
+session_law command left left' held held' result read is law =
+    subst (λ c. LineByLine (answer_lines c) left left' held held' result read) (sym is) law
 
 -- the call with its words
 

@@ -1,10 +1,10 @@
 -- The law of a run that reads and writes line by line.
-use Rattle.std.specs.Prelude.{ℕ, ◌≡◌, ◌≢◌, ◌+◌, ◌<◌, ◌≤◌, ◌⊎◌, Bool, true, false, List, [], ◌∷◌, ◌++◌, length, Option, IfSome}
-use Rattle.std.specs.Io.KnownBytes.{Appends}
+use Rattle.std.specs.Prelude.{ℕ, ◌≡◌, ◌+◌, ◌<◌, ◌≤◌, ◌⊎◌, Bool, true, false, List, [], ◌∷◌, ◌++◌, length, Option, IfSome}
+use Rattle.std.specs.Io.KnownBytes.{Appends, IsAtEnd}
 use Rattle.wlim.specs.declared.status.Status.{Status}
 use Rattle.wlim.specs.declared.status.Status.TheVariants as status
 use Rattle.wlim.specs.Lines.{lines_of, lines_read, size_of}
-use Rattle.wlim.specs.Endings.{Answer, is_long, shown}
+use Rattle.wlim.specs.Endings.{Answer, is_long, shown, IsDecided}
 
 -- the bytes that were read reach at most 16,384 bytes past the first byte of each line with which this holds of it and
 -- those before it
@@ -13,22 +13,28 @@ ReachesNear lines read P =
     (before : List (List ℕ)) (line : List ℕ) (after : List (List ℕ)) → lines ≡ before ++ line ∷ after
     → P (before ++ line ∷ []) → length read ≤ size_of before + 16384
 
--- What a run owes to its lines: by the answers of its command, what the source had left, its counts of faults, what the
--- sink held and holds, the status, and the bytes
--- that were read, whose whole lines are those that are left of them where they are cut off.
+-- the lines of the bytes read decide the status, where the input is cut off or ends behind them, and their output was
+-- written
+abbrev pub IsDecidedBy :
+    (Bool → List (List ℕ) → Answer) → Bool → List ℕ → (held held_after : Option (List ℕ)) → Status → Type 0
+IsDecidedBy answer cut read held held_after result =
+    ((answer cut (lines_of cut read)).1 ≡ result) × Appends held held_after (answer cut (lines_of cut read)).0
+
+-- What a run owes to its lines: by the answers of its command, what the source had left and has, what the sink held and
+-- holds, the status, and the bytes that were read. The lines that are whole in these are those of an input that is cut
+-- off behind them.
 pub record LineByLine
     (answer : Bool → List (List ℕ) → Answer)
-    (left : Option (List ℕ))
-    (reads reads_after : ℕ)
-    (held held_after : Option (List ℕ))
+    (left left_after held held_after : Option (List ℕ))
     (result : Status)
     (read : List ℕ) : Type 0 where
-  -- where a read failed, that is the answer, unless a write failed too
-  pub read_failed : reads ≢ reads_after → (result ≡ status.ReadFault) ⊎ (result ≡ status.WriteFault)
-  -- then no whole line decides, and the output lines of all of them were written
-  pub whole_lines : result ≡ status.ReadFault → (is_long (answer true (lines_of true read)).1 ≡ true)
+  -- a read failed: no whole line decides, and the output lines of all of them were written, without a last line
+  pub read_failed : result ≡ status.ReadFault → (is_long (answer true (lines_of true read)).1 ≡ true)
       × Appends held held_after (shown (answer true (lines_of true read)))
-  -- the line that decides is near
+  -- lines decided: the whole ones, or the source ended and it is all of them
+  pub decided : IsDecided result → IsDecidedBy answer true read held held_after result
+      ⊎ (IsAtEnd left_after × IsDecidedBy answer false read held held_after result)
+  -- the line that decides a status is near
   pub near_deciding : IfSome left
       (λ bytes. ReachesNear (lines_read bytes) read (λ lines. is_long (answer true lines).1 ≡ false))
   -- so is the first line with which the output is longer than what was written

@@ -1,5 +1,5 @@
 -- An input that is read up to a line.
-use Rattle.std.specs.Prelude.{ℕ, ◌≡◌, ◌+◌, ◌-◌, ◌<◌, ◌≤◌, Bool, true, false, List, [], ◌∷◌, ◌++◌, length, Option, Some, None, Result, Ok, Err, IfSome, unwrap_or}
+use Rattle.std.specs.Prelude.{ℕ, ◌≡◌, ◌+◌, ◌-◌, ◌<◌, ◌≤◌, ◌⊎◌, Bool, true, false, List, [], ◌∷◌, ◌++◌, length, Option, Some, None, Result, Ok, Err, IfSome, unwrap_or}
 use Rattle.std.specs.Io.KnownBytes.{IsAtEnd}
 use Rattle.wio_core.specs.Lines.{LacksFeed, IsOpen, TookFrom}
 use Rattle.wio_core.specs.LineAnswers.{LinesAhead}
@@ -46,11 +46,13 @@ pub record StaysNear (left_first : Option (List ℕ)) (reader : LinesAhead) (don
   pub near : length read ≤ size_of done + 16384
   pub waits : ¬ IsOpen reader.held → IfSome left_first (λ bytes. read ≡ read_before)
 
--- the answer for the whole input is told, which begins with these lines
-pub record IsTold (answer : Bool → List (List ℕ) → Answer) (left_first : Option (List ℕ)) (done : List (List ℕ))
-    (whole : Answer) : Type 0 where
+-- the answer for the whole input is told, which begins with these lines: by those that are whole in the bytes read, or
+-- as the source ended by all of them
+pub record IsTold (answer : Bool → List (List ℕ) → Answer) (left_first left : Option (List ℕ)) (done : List (List ℕ))
+    (read : List ℕ) (whole : Answer) : Type 0 where
   pub all : IfSome left_first (λ bytes. answer (is_cut bytes) (lines_read bytes) ≡ whole)
   pub leads : LeadsOff left_first done
+  pub early : (answer true (lines_of true read) ≡ whole) ⊎ (IsAtEnd left × (answer false (lines_of false read) ≡ whole))
 
 -- how many bytes a reader may still give in lines
 abbrev pub bytes_ahead : LinesAhead → ℕ
@@ -68,7 +70,7 @@ ComesTo answer stands holds given_first left_first given left before after done 
     × (bytes_ahead after < bytes_ahead before)
 ComesTo answer stands holds given_first left_first given left before after done read output gathered (Ok (Some end)) =
     (more read_after : List ℕ) × TookFrom given_first given left_first left read_after
-    × holds (gathered ++ more) × IsTold answer left_first done (with_front (output ++ more) (ending end))
+    × holds (gathered ++ more) × IsTold answer left_first left done read_after (with_front (output ++ more) (ending end))
     × StaysNear left_first before done read read_after
 ComesTo answer stands holds given_first left_first given left before after done read output gathered
     (Err status.ReadFault) =

@@ -5,7 +5,7 @@ ghost use Rattle.wlim.specs.Scripts.{Follows};
 ghost use Rattle.wlim.specs.LineByLine.{LineByLine};
 ghost use Rattle.wlim.specs.Ran.{answer_read, Ran};
 
-use crate::reading::{INPUT_LIMIT, play_next};
+use crate::reading::{INPUT_LIMIT, next_line};
 use crate::script::Script;
 use crate::status::Status;
 use crate::writing::{write_due, write_end};
@@ -30,7 +30,7 @@ pub fn play_input<P: Script, S: Source, K: Sink>(
     ensures line_by_line { result ≢ Status.NoMemory → (read : List ℕ)
         × TookFrom (S.given input.old) (S.given input.new)
         (S.left input.old) (S.left input.new) read
-        × LineByLine P.answer (S.left input.old) (S.fault_count input.old) (S.fault_count input.new)
+        × LineByLine P.answer (S.left input.old) (S.left input.new)
         (K.held output.old) (K.held output.new) result read }
     ensures reads_never_fall { S.fault_count input.old ≤ S.fault_count input.new }
     ensures writes_never_fall { K.fault_count output.old ≤ K.fault_count output.new }
@@ -43,7 +43,7 @@ pub fn play_input<P: Script, S: Source, K: Sink>(
         if let Err(status) = write_due(script, &reader, output) {
             return status;
         }
-        match play_next(script, &mut reader, input) {
+        match next_line(script, &mut reader, input) {
             Ok(None) => {}
             Ok(Some(last)) => return write_end(alloc, script, last, output),
             Err(status) => return status,

@@ -1,5 +1,5 @@
 // The next line of an input is read and played.
-ghost use Rattle.std.specs.Prelude.{◌≡◌, ◌≢◌, ◌≤◌, Some, Err, IfOk};
+ghost use Rattle.std.specs.Prelude.{◌≡◌, ◌≢◌, ◌≤◌, Some, Err};
 ghost use Rattle.wio_core.specs.Io.{Rose};
 ghost use Rattle.wio_core.specs.declared.line_reader.LineStop.TheVariants.{ReadFault};
 ghost use Rattle.wlim.specs.Reading.{PlaysNext};
@@ -12,8 +12,9 @@ use wio_core::{LineReader, NextLine, NoMemory, Source};
 /// The most bytes that are read of an input.
 pub const INPUT_LIMIT: u64 = 1073741824;
 
-// Reads the next line and plays it.
-fn next_line<P: Script, S: Source>(
+/// Reads the next line and plays it. Tells how the output ends where the line decides it, or none
+/// is left.
+pub fn next_line<P: Script, S: Source>(
     script: &mut P,
     reader: &mut LineReader,
     input: &mut S,
@@ -36,30 +37,4 @@ fn next_line<P: Script, S: Source>(
         NextLine::Limit => Ok(Some(LastLine::Long)),
         NextLine::ReadFault => Err(Status::ReadFault),
     }
-}
-
-/// Reads the next line and plays it. Tells how the output ends where the line decides it, or none
-/// is left. A source that counts a fault with any other answer breaks its word: it gets the one
-/// status that is free.
-pub fn play_next<P: Script, S: Source>(
-    script: &mut P,
-    reader: &mut LineReader,
-    input: &mut S,
-) -> Result<Option<LastLine>, Status>
-    requires { reader.old.settled ≢ Some ReadFault }
-    ensures comes { PlaysNext P.answer
-        (P.stands script.old) (P.stands script.new) (P.holds script.old) (P.holds script.new)
-        (S.given input.old) (S.left input.old) (S.given input.new) (S.left input.new)
-        reader.old reader.new result }
-    ensures steady { IfOk result (λ end. S.fault_count input.new ≡ S.fault_count input.old) }
-    ensures never_falls { S.fault_count input.old ≤ S.fault_count input.new }
-    ensures cause { result ≡ Err Status.ReadFault
-        → Rose (S.fault_count input.old) (S.fault_count input.new) }
-{
-    let faults = input.faults();
-    let end = next_line(script, reader, input)?;
-    if input.faults() != faults {
-        return Err(Status::NoMemory);
-    }
-    Ok(end)
 }

@@ -30,8 +30,7 @@ fn replay<S: Source, K: Sink>(
     ensures line_by_line { result ≢ Status.NoMemory → (read : List ℕ)
         × TookFrom (S.given input.old) (S.given input.new)
         (S.left input.old) (S.left input.new) read
-        × LineByLine (answer_lines command) (S.left input.old)
-        (S.fault_count input.old) (S.fault_count input.new)
+        × LineByLine (answer_lines command) (S.left input.old) (S.left input.new)
         (K.held output.old) (K.held output.new) result read }
     ensures reads_never_fall { S.fault_count input.old ≤ S.fault_count input.new }
     ensures writes_never_fall { K.fault_count output.old ≤ K.fault_count output.new }
@@ -80,8 +79,7 @@ pub fn run_plain<S: Source, K: Sink>(
         result ≢ Status.NoMemory → (read : List ℕ)
         × TookFrom (S.given input.old) (S.given input.new)
         (S.left input.old) (S.left input.new) read
-        × LineByLine (answer_lines command) (S.left input.old)
-        (S.fault_count input.old) (S.fault_count input.new)
+        × LineByLine (answer_lines command) (S.left input.old) (S.left input.new)
         (K.held output.old) (K.held output.new) result read) }
 {
     match command_of(words) {

@@ -1,4 +1,4 @@
-use Rattle.std.proofs.Common.{◌++◌, ap, arith, Err, refl, ◌∙◌}
+use Rattle.std.proofs.Common.{◌++◌, ap, arith, Err}
 use Rattle.wlim.proofs.ReadLines.{first_read}
 use Rattle.wlim.proofs.Going.{at_first, may_read, was_due, went_on}
 use Rattle.wlim.proofs.RunEnds.{rose_later, none_ran, short_ran, short_law, told_ran, told_law, failed_ran, failed_law}
@@ -11,12 +11,12 @@ pub lines-init : goal.lines-init
 lines-init g c = record {
   going = at_first g.P.Script.answer _ _ _ _ _ c.in-Ok.reader (first_read _ _ c.in-Ok.reader c.in-Ok.ensures)
       c.requires.stands c.requires.holds c.requires.follows;
-  no_read_failed = refl;
+  reads_grow = omega arith;
   writes_grow = omega arith;
 }
 
-pub play_next-requires : goal.play_next-requires
-play_next-requires g c = may_read c.lines.invariant.going
+pub next_line-requires : goal.next_line-requires
+next_line-requires g c = may_read c.lines.invariant.going
 
 -- what is ready is cut short
 
@@ -31,8 +31,7 @@ returns-in-Err-write_due-clause-line_by_line g c = λ other.
     let i = c.lines.invariant in (
       i.going.read,
       i.going.up_to.took,
-      short_law _ _ _ c.in-Err-write_due.status i.going
-          (c.in-Err-write_due.ensures.part i.going.ready i.going.kept) i.no_read_failed,
+      short_law _ c.in-Err-write_due.status i.going (c.in-Err-write_due.ensures.part i.going.ready i.going.kept),
     )
 
 -- one line more
@@ -46,9 +45,9 @@ lines-preserved g c =
     let come = (rw c.in-Ok-None.field-0-is at c.in-Ok-None.ensures.comes) _ _ r.going.done r.going.read
     (r.going.written ++ r.going.ready) r.going.ready r.going.up_to r.going.said r.going.kept r.going.follows in
     record {
-      going = went_on (g.P.Script.stands c.play_next.new.script) (g.P.Script.holds c.play_next.new.script) _ _
-          c.play_next.new.reader r come;
-      no_read_failed = c.in-Ok-None.ensures.steady ∙ i.no_read_failed;
+      going = went_on (g.P.Script.stands c.next_line.new.script) (g.P.Script.holds c.next_line.new.script) _ _
+          c.next_line.new.reader r come;
+      reads_grow = omega (arith, i.reads_grow, c.in-Ok-None.ensures.never_falls);
       writes_grow = omega (arith, i.writes_grow, c.in_default.ensures.never_falls);
     }
 
@@ -72,8 +71,8 @@ returns-in-Ok-Some-clause-ran g c =
     (c.in_default.ensures.due i.going.ready i.going.kept) in
     let come = (rw c.in-Ok-Some.field-0-is at c.in-Ok-Some.ensures.comes) _ _ r.going.done r.going.read
     (r.going.written ++ r.going.ready) r.going.ready r.going.up_to r.going.said r.going.kept r.going.follows in
-    told_ran (g.P.Script.stands c.play_next.new.script) (g.P.Script.holds c.play_next.new.script) _ _ _
-    c.play_next.new.reader _ _ _ _ c.in-Ok-Some.last c.write_end.result r come
+    told_ran (g.P.Script.stands c.next_line.new.script) (g.P.Script.holds c.next_line.new.script) _ _ _
+    c.next_line.new.reader _ _ _ _ c.in-Ok-Some.last c.write_end.result r come
     (c.write_end.ensures.ends (r.going.ready ++ come.0) come.3)
     (λ e. rose_later _ _ _ (omega (arith, i.writes_grow, c.in_default.ensures.never_falls))
     (c.write_end.ensures.cause e))
@@ -86,31 +85,31 @@ returns-in-Ok-Some-clause-line_by_line g c = λ other.
     (c.in_default.ensures.due i.going.ready i.going.kept) in
     let come = (rw c.in-Ok-Some.field-0-is at c.in-Ok-Some.ensures.comes) _ _ r.going.done r.going.read
     (r.going.written ++ r.going.ready) r.going.ready r.going.up_to r.going.said r.going.kept r.going.follows in
-    told_law (g.P.Script.stands c.play_next.new.script) (g.P.Script.holds c.play_next.new.script) _ _ _
-    c.play_next.new.reader _ _ c.in-Ok-Some.last c.write_end.result r come
-    (c.write_end.ensures.ends (r.going.ready ++ come.0) come.3) (c.in-Ok-Some.ensures.steady ∙ i.no_read_failed)
+    told_law (g.P.Script.stands c.next_line.new.script) (g.P.Script.holds c.next_line.new.script) _ _ _
+    c.next_line.new.reader c.in-Ok-Some.last c.write_end.result r come
+    (c.write_end.ensures.ends (r.going.ready ++ come.0) come.3)
 
 -- a read failed, or there was no memory
 
-pub returns-in-Err-play_next-clause-ran : goal.returns-in-Err-play_next-clause-ran
-returns-in-Err-play_next-clause-ran g c =
+pub returns-in-Err-next_line-clause-ran : goal.returns-in-Err-next_line-clause-ran
+returns-in-Err-next_line-clause-ran g c =
     let i = c.lines.invariant in
     let r = was_due (g.P.Script.stands c.write_due.new.script) (g.P.Script.holds c.write_due.new.script) _ i.going
     (c.in_default.ensures.stays i.going.done (i.going.written ++ i.going.ready) i.going.said)
     (c.in_default.ensures.due i.going.ready i.going.kept) in
-    let come = c.in-Err-play_next.ensures.comes _ _ r.going.done r.going.read
+    let come = c.in-Err-next_line.ensures.comes _ _ r.going.done r.going.read
     (r.going.written ++ r.going.ready) r.going.ready r.going.up_to r.going.said r.going.kept r.going.follows in
-    failed_ran (g.P.Script.stands c.play_next.new.script) (g.P.Script.holds c.play_next.new.script) _ _
-    c.play_next.new.reader _ _ _ _ c.in-Err-play_next.status r come
-    (λ e. rose_later _ _ _ (omega (arith, i.no_read_failed)) (c.in-Err-play_next.ensures.cause (ap Err e)))
+    failed_ran (g.P.Script.stands c.next_line.new.script) (g.P.Script.holds c.next_line.new.script) _ _
+    c.next_line.new.reader _ _ _ _ c.in-Err-next_line.status r come
+    (λ e. rose_later _ _ _ i.reads_grow (c.in-Err-next_line.ensures.cause (ap Err e)))
 
-pub returns-in-Err-play_next-clause-line_by_line : goal.returns-in-Err-play_next-clause-line_by_line
-returns-in-Err-play_next-clause-line_by_line g c = λ other.
+pub returns-in-Err-next_line-clause-line_by_line : goal.returns-in-Err-next_line-clause-line_by_line
+returns-in-Err-next_line-clause-line_by_line g c = λ other.
     let i = c.lines.invariant in
     let r = was_due (g.P.Script.stands c.write_due.new.script) (g.P.Script.holds c.write_due.new.script) _ i.going
     (c.in_default.ensures.stays i.going.done (i.going.written ++ i.going.ready) i.going.said)
     (c.in_default.ensures.due i.going.ready i.going.kept) in
-    let come = c.in-Err-play_next.ensures.comes _ _ r.going.done r.going.read
+    let come = c.in-Err-next_line.ensures.comes _ _ r.going.done r.going.read
     (r.going.written ++ r.going.ready) r.going.ready r.going.up_to r.going.said r.going.kept r.going.follows in
-    failed_law (g.P.Script.stands c.play_next.new.script) (g.P.Script.holds c.play_next.new.script) _ _
-    c.play_next.new.reader _ _ c.in-Err-play_next.status r come other
+    failed_law (g.P.Script.stands c.next_line.new.script) (g.P.Script.holds c.next_line.new.script) _ _
+    c.next_line.new.reader c.in-Err-next_line.status r come other

@@ -1,4 +1,4 @@
-use Rattle.std.proofs.Common.{◌≡◌, ◌≤◌}
+use Rattle.std.proofs.Common.{◌≤◌}
 use Rattle.wlim.specs.Reading.{bytes_ahead}
 use Rattle.wlim.proofs.Going.{Going}
 use Rattle.wlim.proofs.follow.play_input.Given as goal
@@ -10,7 +10,7 @@ invariant-lines g l = record {
       (g.S.Source.given l.initial.input) (g.S.Source.left l.initial.input)
       (g.S.Source.given l.input) (g.S.Source.left l.input)
       (g.K.Sink.held l.initial.output) (g.K.Sink.held l.output) l.reader;
-  no_read_failed : g.S.Source.fault_count l.input ≡ g.S.Source.fault_count l.initial.input;
+  reads_grow : g.S.Source.fault_count l.initial.input ≤ g.S.Source.fault_count l.input;
   writes_grow : g.K.Sink.fault_count l.initial.output ≤ g.K.Sink.fault_count l.output;
 }
 

@@ -16,7 +16,7 @@ returns-in-Replay-clause-ran g c = session_ran c.args.command _ _ _ _ _ _ _ c.pl
 pub returns-in-Replay-clause-line_by_line : goal.returns-in-Replay-clause-line_by_line
 returns-in-Replay-clause-line_by_line g c = λ other.
     let l = c.play_input.ensures.line_by_line other in
-    (l.0, l.1, session_law c.args.command _ _ _ _ _ c.play_input.result l.0 c.in-Replay.is l.2)
+    (l.0, l.1, session_law c.args.command _ _ _ _ c.play_input.result l.0 c.in-Replay.is l.2)
 
 pub returns-in-Ok-clause-ran : goal.returns-in-Ok-clause-ran
 returns-in-Ok-clause-ran g c = acts_ran c.args.command _ _ _ _ _ _ _ c.play_input-in-Ok.result c.in-ReplayActs.is
@@ -25,4 +25,4 @@ returns-in-Ok-clause-ran g c = acts_ran c.args.command _ _ _ _ _ _ _ c.play_inpu
 pub returns-in-Ok-clause-line_by_line : goal.returns-in-Ok-clause-line_by_line
 returns-in-Ok-clause-line_by_line g c = λ other.
     let l = c.play_input-in-Ok.ensures.line_by_line other in
-    (l.0, l.1, acts_law c.args.command _ _ _ _ _ c.play_input-in-Ok.result l.0 c.in-ReplayActs.is l.2)
+    (l.0, l.1, acts_law c.args.command _ _ _ _ c.play_input-in-Ok.result l.0 c.in-ReplayActs.is l.2)
