@@ -13,11 +13,7 @@ use std::marker::Model;
 use wio_core::NoMemory;
 
 // The line, if it was written, goes behind the text with its line feed, or nothing does.
-fn add_line(
-    text: &mut String,
-    line: &str,
-    written: Result<(), NoMemory>,
-) -> Result<(), NoMemory>
+fn add_line(text: &mut String, line: &str, written: Result<(), NoMemory>) -> Result<(), NoMemory>
     ensures ok { (bytes : List ℕ) → OnOk written (line.now ≡ bytes) →
         OnOk result (string_bytes text.new ≡ string_bytes text.old ++ with_feed bytes) }
     ensures err { OnErr result (string_bytes text.new ≡ string_bytes text.old) }

@@ -28,8 +28,8 @@ cut_at_space line n none here =
     let inside : n < length line = omega (arith, high) in
     let space : get_or line n 0 ≡ 32 = eqb-true (get_or line n 0) 32 here in
     let parts : take n line ++ 32 ∷ drop (suc n) line ≡ line =
-        ap (λ l. take n line ++ l) (sym (drop-cons line n 0 inside ∙ ap (λ b. b ∷ drop (suc n) line) space))
-        ∙ take-append-drop n line in
+    ap (λ l. take n line ++ l) (sym (drop-cons line n 0 inside ∙ ap (λ b. b ∷ drop (suc n) line) space))
+    ∙ take-append-drop n line in
     ap (slice_split (λ b. b == 32)) (sym parts)
     ∙ slice_split_at (λ b. b == 32) (take n line) 32 (drop (suc n) line) (lacks_space line n (omega (arith, high)) none.before) refl
 

@@ -56,7 +56,6 @@ printed_none value test print word none =
 number_back : (n : ℕ) → ltb n (2 ^ 32) ≡ true → digits_value 10 (decimal n) ≡ n
 number_back n small = let lt : n < 2 ^ 32 = ltb-true n (2 ^ 32) small in digits_value-decimal own n (omega arith)
 
-
 pub number_sound : (word : List ℕ) (n : ℕ) → number_of word ≡ Some n → (n < 2 ^ 32) × (word ≡ decimal n)
 unfolding number_of
 number_sound word n e =
@@ -67,12 +66,7 @@ pub number_complete : (n : ℕ) → n < 2 ^ 32 → number_of (decimal n) ≡ Som
 unfolding number_of
 number_complete n small = printed_one (digits_value 10) (λ n. ltb n (2 ^ 32)) decimal (decimal n) n number_back (lt-ltb n (2 ^ 32) small) refl
 
-
-
-
-
 -- ---- numbers of 32 bits with a sign
-
 
 SFits_fits_i32 : (z : ℤ) → SFits w32 z → fits_i32 z ≡ true
 SFits_fits_i32 (pos n) e = let lt : n < 2 ^ 31 = omega (arith, ints) in lt-ltb n (2 ^ 31) lt
@@ -96,7 +90,6 @@ signed_back (pos n) e =
 signed_back (negsuc n) e =
     let lt : n < 2 ^ 31 = ltb-true n (2 ^ 31) e in
     ap (λ k. neg_ℤ (pos k)) (digits_value-decimal own (suc n) (omega arith))
-
 
 pub signed_sound : (word : List ℕ) (z : ℤ) → signed_of word ≡ Some z → (fits_i32 z ≡ true) × (word ≡ signed_decimal z)
 unfolding signed_of
@@ -135,7 +128,6 @@ pub number_none : (word : List ℕ) → ((n : ℕ) → n < 2 ^ 32 → ¬ (word �
 unfolding number_of
 number_none word none = printed_none (digits_value 10) (λ n. ltb n (2 ^ 32)) decimal word (λ n small is. none n (ltb-true n (2 ^ 32) small) is)
 
-
 -- a number that is printed so is the only one
 one_decimal : (m n : ℕ) → m < 2 ^ 64 → n < 2 ^ 64 → decimal m ≡ decimal n → m ≡ n
 one_decimal m n m-lt n-lt e = sym (digits_value-decimal own m m-lt) ∙ ap (digits_value 10) e ∙ digits_value-decimal own n n-lt
@@ -149,12 +141,10 @@ number_at n false late many = number_none (decimal n) (λ m m-lt e.
 pub number_is : (word : List ℕ) (n : ℕ) → n < 10 ^ 10 → word ≡ decimal n → number_of word ≡ unsigned_of n
 number_is word n many is = ap number_of is ∙ number_at n (ltb n (2 ^ 32)) refl many
 
-
 -- with a sign
 
 no_sign : (n : ℕ) → n < 2 ^ 64 → ¬ (get_or (decimal n) 0 0 ≡ 45)
 no_sign n small e = let other = first_is_digit n 45 small (λ h. omega arith) in let same : eqb (get_or (decimal n) 0 0) 45 ≡ true = rw e refl in cc
-
 
 pub signed_none : (word : List ℕ) → ¬ (get_or word 0 0 ≡ 45) → ((n : ℕ) → n < 2 ^ 31 → ¬ (word ≡ decimal n)) → signed_of word ≡ None
 unfolding signed_of
@@ -164,14 +154,11 @@ signed_none word plain none = printed_none (signed_digits_value 10) fits_i32 sig
     at (pos n) fits is = none n (ltb-true n (2 ^ 31) fits) is
     at (negsuc n) fits is = plain (ap (λ w. get_or w 0 0) is)
 
-
 -- behind a minus
 
 minus_behind : (word : List ℕ) → get_or word 0 0 ≡ 45 → word ≡ 45 ∷ drop 1 word
 minus_behind [] e = absurd (omega (arith, e))
 minus_behind (x ∷ xs) e = ap (λ c. c ∷ xs) e
-
-
 
 negative_late : (word : List ℕ) → get_or word 0 0 ≡ 45 → ((n : ℕ) → n < 2 ^ 31 → ¬ (drop 1 word ≡ decimal (suc n))) → signed_of word ≡ None
 unfolding signed_of

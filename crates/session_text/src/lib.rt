@@ -21,6 +21,6 @@ pub use line::{
 pub use step_line::{messages_are_whole, print_step};
 pub use told_line::{print_told, write_told};
 pub use transcript_line::{
-    print_ended, print_out, print_pass, print_placed, print_took, write_ended, write_out, write_pass,
-    write_placed, write_took,
+    print_ended, print_out, print_pass, print_placed, print_took, write_ended, write_out,
+    write_pass, write_placed, write_took,
 };

@@ -189,7 +189,13 @@ fn add_said(alloc: Global, line: &mut String, event: &Said) -> Result<(), NoMemo
         Said::Mods { serial, mods } => add_numbers(
             line,
             "modifiers",
-            &[*serial, mods.depressed, mods.latched, mods.locked, mods.group],
+            &[
+                *serial,
+                mods.depressed,
+                mods.latched,
+                mods.locked,
+                mods.group,
+            ],
         ),
         Said::Repeat(repeat) => add_signed(line, "repeat_info", &[repeat.rate, repeat.delay]),
         Said::Global {

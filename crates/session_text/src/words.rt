@@ -5,7 +5,6 @@ ghost use Rattle.session_text.specs.Words.{number_of, role_of, signed_of, size_o
 ghost use Rattle.session_text.specs.Words.{text_limit, text_of};
 
 pub use crate::hex_words::text_within;
-
 use crate::line::BadLine;
 use crate::numerals::{parsed_number, parsed_signed};
 use relay_model::Role;
