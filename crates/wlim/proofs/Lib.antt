@@ -4,7 +4,7 @@ pub mod ReadLines
 pub mod LinesTold
 pub mod LinePlayed
 pub mod LinesWithin
-pub mod Going
+pub mod RunOnItsWay
 pub mod RunEnds
 pub mod Runs
 pub mod Printed

@@ -20,7 +20,7 @@ use Rattle.wlim.specs.Writing.{WritesPart, WritesEnd, IsCutShort}
 use Rattle.wlim.specs.LineByLine.{IsDecidedBy, LineByLine}
 use Rattle.wlim.specs.Ran.{GrowsByFront, Ran, answer_read}
 use Rattle.wlim.proofs.LinesWithin.{IsNear, is_near, shown_of}
-use Rattle.wlim.proofs.Going.{Going, Ready, leads_done, leads_first, stays_near}
+use Rattle.wlim.proofs.RunOnItsWay.{Going, Ready, leads_done, leads_first, stays_near}
 
 -- a count that rose later rose
 pub rose_later : (before middle after : ℕ) → before ≤ middle → Rose middle after → Rose before after

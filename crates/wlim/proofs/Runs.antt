@@ -1,6 +1,6 @@
 -- What a run wrote and answered.
-use Rattle.std.proofs.Common.{◌≡◌, ◌≢◌, ℕ, true, false, List, [], Option, Some, None, refl, sym, ap, subst}
-use Rattle.std.specs.Prelude.{is_some, IfSome}
+use Rattle.std.proofs.Common.{◌≡◌, ◌≢◌, ℕ, List, [], Option, Some, None, refl, sym, subst}
+use Rattle.std.specs.Prelude.{IfSome}
 use Rattle.std.specs.Io.KnownBytes.{Appends}
 use Rattle.std.proofs.KnownBytes.{Appends-nil}
 use Rattle.wio_core.specs.Io.{Rose}
@@ -14,7 +14,7 @@ use Rattle.wlim.specs.Transcript.{answer_from, answer_of}
 use Rattle.wlim.specs.Session.{session_of_lines, session_answer}
 use Rattle.wlim.specs.Ran.{GrowsByFront, Ran, answer_read}
 use Rattle.wlim.specs.LineByLine.{LineByLine}
-use Rattle.wlim.specs.Run.{command_of, is_command, status_of, output_of, answer_by, answer_lines, answer_where}
+use Rattle.wlim.specs.Run.{command_of, status_of, output_of, answer_by, answer_lines, answer_where}
 
 -- by its lines, the answer for an input is that of its command
 
@@ -49,7 +49,8 @@ session_ran command left reads reads' held held' writes writes' result is ran =
     (session_read left reads reads' held held' writes writes' result ran)
 
 pub acts_law : (command : Command) (left left' held held' : Option (List ℕ)) (result : Status) (read : List ℕ)
-    → command ≡ commands.ReplayActs → LineByLine (λ cut lines. answer_from cut [] lines) left left' held held' result read
+    → command ≡ commands.ReplayActs
+    → LineByLine (λ cut lines. answer_from cut [] lines) left left' held held' result read
     → LineByLine (answer_lines command) left left' held held' result read
 acts_law command left left' held held' result read is law =
     subst (λ c. LineByLine (answer_lines c) left left' held held' result read) (sym is) law
@@ -61,12 +62,6 @@ session_law command left left' held held' result read is law =
     subst (λ c. LineByLine (answer_lines c) left left' held held' result read) (sym is) law
 
 -- the call with its words
-
-pub is_named : (words : List (List ℕ)) (command : Command) → command_of words ≡ Some command → is_command words ≡ true
-is_named words command e = ap is_some e
-
-pub is_unnamed : (words : List (List ℕ)) → command_of words ≡ None → is_command words ≡ false
-is_unnamed words e = ap is_some e
 
 pub front_of : (command : Command) (words : List (List ℕ)) (left : Option (List ℕ)) (reads reads' : ℕ)
     (held held' : Option (List ℕ)) (writes writes' : ℕ) (result : Status)

@@ -380,11 +380,6 @@ begun player before printer done raw output gathered is stood held =
     (subst (λ (p : Printing). Begun player 1 p [] raw [] gathered) (sym held.0)
     (subst (λ t. Begun player 1 blank [] raw [] t) (sym held.1) (begun_by player raw (header_of raw) refl is)))))
 
--- the first line is no header
-pub no_begin : (raw : List ℕ) (o : Option Limits) → o ≡ header_of raw → None ≡ option_map fresh o → None ≡ header_of raw
-no_begin raw None is e = is
-no_begin raw (Some limits) is e = absurd (cc e)
-
 -- before any line
 pub session_begins : Follows session_of_lines [] []
 session_begins = record { begins = λ cut more. (session_of_lines cut more, refl); undecided = refl }

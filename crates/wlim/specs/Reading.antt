@@ -70,7 +70,8 @@ ComesTo answer stands holds given_first left_first given left before after done 
     × (bytes_ahead after < bytes_ahead before)
 ComesTo answer stands holds given_first left_first given left before after done read output gathered (Ok (Some end)) =
     (more read_after : List ℕ) × TookFrom given_first given left_first left read_after
-    × holds (gathered ++ more) × IsTold answer left_first left done read_after (with_front (output ++ more) (ending end))
+    × holds (gathered ++ more)
+    × IsTold answer left_first left done read_after (with_front (output ++ more) (ending end))
     × StaysNear left_first before done read read_after
 ComesTo answer stands holds given_first left_first given left before after done read output gathered
     (Err status.ReadFault) =

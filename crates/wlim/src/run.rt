@@ -6,7 +6,8 @@ ghost use Rattle.wio_core.specs.Lines.{TookFrom};
 ghost use Rattle.wlim.specs.Endings.{IsDecided};
 ghost use Rattle.wlim.specs.LineByLine.{LineByLine};
 ghost use Rattle.wlim.specs.Ran.{GrowsByFront, Ran};
-ghost use Rattle.wlim.specs.Run.{is_command, status_of, output_of, command_of, answer_by, answer_lines};
+ghost use Rattle.wlim.specs.Run.{is_command, status_of, output_of};
+ghost use Rattle.wlim.specs.Run.{command_of, answer_by, answer_lines};
 
 use crate::act_list::ActList;
 use crate::command::{Command, command_of};

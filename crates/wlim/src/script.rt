@@ -20,11 +20,13 @@ pub trait Script {
     /// The bytes in the buffer.
     ghost text: { Self → List ℕ };
 
-    /// Plays the next line, which comes without its line feed. Tells how the output ends if the line decides it.
+    /// Plays the next line, which comes without its line feed. Tells how the output ends if the
+    /// line decides it.
     fn line(&mut self, raw: &[u8]) -> Result<Option<LastLine>, NoMemory>
         ensures { (done : List (List ℕ)) (output gathered : List ℕ) → length done < 2 ^ 32
             → stands self.old done output → holds self.old gathered
-            → IfOk result (Played answer (stands self.new) (holds self.new) done raw.now output gathered) };
+            → IfOk result (Played answer (stands self.new) (holds self.new)
+            done raw.now output gathered) };
 
     /// How the output ends where the next line is outside the grammar, or isn't there.
     fn bad_line(&self) -> LastLine
@@ -35,7 +37,8 @@ pub trait Script {
     fn close(&mut self) -> Result<(), NoMemory>
         ensures stays { (done : List (List ℕ)) (output : List ℕ)
             → stands self.old done output → OnOk result (stands self.new done output) }
-        ensures all { (gathered : List ℕ) → holds self.old gathered → OnOk result (text self.new ≡ gathered) };
+        ensures all { (gathered : List ℕ) → holds self.old gathered
+            → OnOk result (text self.new ≡ gathered) };
 
     /// The bytes in the buffer.
     fn text(&self) -> &str

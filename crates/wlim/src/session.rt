@@ -53,7 +53,8 @@ fn header(alloc: Global, raw: &[u8]) -> Result<Option<Limits>, NoMemory>
     }
 }
 
-// Plays one line, and prints what it tells. Tells how the output ends where the journal was full for a step of it.
+// Plays one line, and prints what it tells. Tells how the output ends where the journal was full
+// for a step of it.
 fn play(
     player: &mut Player,
     line: &SessionLine,

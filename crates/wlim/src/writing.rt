@@ -21,7 +21,8 @@ fn write_out<P: Script, K: Sink>(script: &mut P, output: &mut K) -> Result<(), S
     ensures part { (gathered : List ℕ) → P.holds script.old gathered
         → IfErr result (WritesPart (K.held output.old) (K.held output.new) gathered) }
     ensures never_falls { K.fault_count output.old ≤ K.fault_count output.new }
-    ensures cause { result ≡ Err Status.WriteFault → Rose (K.fault_count output.old) (K.fault_count output.new) }
+    ensures cause { result ≡ Err Status.WriteFault
+        → Rose (K.fault_count output.old) (K.fault_count output.new) }
 {
     if script.close().is_err() {
         return Err(Status::NoMemory);
@@ -33,23 +34,26 @@ fn write_out<P: Script, K: Sink>(script: &mut P, output: &mut K) -> Result<(), S
     Ok(())
 }
 
-/// How many bytes of output are gathered at most before they are written, but for those of one line.
+/// So many bytes of output are written at once, or a few more: those that one line tells.
 const PIECE: usize = 16384;
 
-/// Writes what a script has gathered where the reader may wait for its next line, or a piece is full.
+/// Writes what a script has gathered where the reader may wait for its next line, or a piece is
+/// full.
 pub fn write_due<P: Script, K: Sink>(
     script: &mut P,
     reader: &LineReader,
     output: &mut K,
 ) -> Result<(), Status>
     ensures due { (gathered : List ℕ) → P.holds script.old gathered
-        → OnOk result (WritesDue (P.holds script.new) reader.now (K.held output.old) (K.held output.new) gathered) }
+        → OnOk result (WritesDue (P.holds script.new) reader.now
+        (K.held output.old) (K.held output.new) gathered) }
     ensures stays { (done : List (List ℕ)) (said : List ℕ) → P.stands script.old done said
         → OnOk result (P.stands script.new done said) }
     ensures part { (gathered : List ℕ) → P.holds script.old gathered
         → IfErr result (WritesPart (K.held output.old) (K.held output.new) gathered) }
     ensures never_falls { K.fault_count output.old ≤ K.fault_count output.new }
-    ensures cause { result ≡ Err Status.WriteFault → Rose (K.fault_count output.old) (K.fault_count output.new) }
+    ensures cause { result ≡ Err Status.WriteFault
+        → Rose (K.fault_count output.old) (K.fault_count output.new) }
 {
     if reader.is_open() || script.text().len() >= PIECE {
         return write_out(script, output);
@@ -82,9 +86,11 @@ pub fn write_end<P: Script, K: Sink>(
     output: &mut K,
 ) -> Status
     ensures ends { (gathered : List ℕ) → P.holds script.old gathered
-        → WritesEnd (K.held output.old) (K.held output.new) (with_front gathered (ending last)) result }
+        → WritesEnd (K.held output.old) (K.held output.new)
+        (with_front gathered (ending last)) result }
     ensures never_falls { K.fault_count output.old ≤ K.fault_count output.new }
-    ensures cause { result ≡ Status.WriteFault → Rose (K.fault_count output.old) (K.fault_count output.new) }
+    ensures cause { result ≡ Status.WriteFault
+        → Rose (K.fault_count output.old) (K.fault_count output.new) }
 {
     match last_output(alloc, script, last) {
         Ok((text, status)) => match write_all(output, text.as_bytes()) {

@@ -1,6 +1,6 @@
 use Rattle.std.proofs.Common.{◌++◌, ap, arith, Err}
 use Rattle.wlim.proofs.ReadLines.{first_read}
-use Rattle.wlim.proofs.Going.{at_first, may_read, was_due, went_on}
+use Rattle.wlim.proofs.RunOnItsWay.{at_first, may_read, was_due, went_on}
 use Rattle.wlim.proofs.RunEnds.{rose_later, none_ran, short_ran, short_law, told_ran, told_law, failed_ran, failed_law}
 use Rattle.wlim.proofs.follow.play_input.Goals as goal
 

@@ -1,6 +1,6 @@
 use Rattle.std.proofs.Common.{◌≤◌}
 use Rattle.wlim.specs.Reading.{bytes_ahead}
-use Rattle.wlim.proofs.Going.{Going}
+use Rattle.wlim.proofs.RunOnItsWay.{Going}
 use Rattle.wlim.proofs.follow.play_input.Given as goal
 
 -- the input is read up to the lines that were played, and what they came to is written or ready
