@@ -1,34 +1,18 @@
-// The method that serves, the dones that it is told, and the present activation.
+// The dones that the serving method is told, and the present activation.
 ghost use Rattle.std.specs.Prelude.{◌≡◌, ◌<◌, ◌^◌, length, false, option_map, None, IfOk};
 ghost use Rattle.serial_count.specs.Serial.{named as position_named};
-ghost use Rattle.relay_model.specs.Activation.{serving, makes_serving, activates, updates, deactivates, notice, notice_to, dones, begun_by, begun_for, begun, at_position, named, is_from, fresh};
+ghost use Rattle.relay_model.specs.Activation.{serving, activates, updates, notice, notice_to, dones, begun_by, begun_for, begun, at_position, named, is_from, fresh};
+ghost use Rattle.relay_model.specs.Hold.{holder};
+ghost use Rattle.plain_relay.specs.Seat.{seat_of, seat_before};
 ghost use Rattle.plain_relay.specs.Newest.{at_newest};
 ghost use Rattle.plain_relay.specs.Activation.{notice_of};
 
-use crate::focus::where_alive;
-use crate::hold::{begins_hold, holder, word};
+use crate::hold::{begins_hold, word};
 use crate::objects::{is_at, next};
+use crate::seat::{EMPTY_SEAT, Seat, seat_after, serving};
 use relay_model::{Act, Label};
 use std::alloc::Global;
 use wio_core::NoMemory;
-
-// The method that serves: a live one that was made while no method served.
-pub fn serving(log: &[Act]) -> Option<Label>
-    requires { length log.now < 2 ^ 32 }
-    ensures { result ≡ serving log.now }
-{
-    match log {
-        [] => None,
-        [act, older @ ..] => {
-            let before = serving(older);
-            match act {
-                Act::Method { .. } if before.is_none() => Some(next(older) as u32),
-                Act::Method { .. } => before,
-                _ => where_alive(log, before),
-            }
-        }
-    }
-}
 
 // What an act tells the serving method, each ended by a done.
 #[derive(Clone, Copy)]
@@ -38,63 +22,46 @@ pub enum HoldNotice {
     Deactivates,
 }
 
-// The act made the method that serves from then on.
-fn makes_serving(act: &Act, older: &[Act]) -> bool
-    requires { length older.now < 2 ^ 32 }
-    ensures { result ≡ makes_serving act.now older.now }
+// A commit of the holder without a word.
+fn updates(act: &Act, older: &[Act], held: Option<Label>) -> bool
+    requires { held ≡ holder older.now }
+    ensures { result ≡ updates act.now older.now }
 {
     match act {
-        Act::Method { .. } => serving(older).is_none(),
+        Act::Commit { field } => is_at(held, *field) && word(older, *field).is_none(),
         _ => false,
     }
 }
 
 // A hold begins, also one that takes the seat from another field, or a method comes while a field holds.
-fn activates(log: &[Act]) -> bool
-    requires { length log.now < 2 ^ 32 }
+fn activates(log: &[Act], before: Seat, after: Seat) -> bool
+    requires before { before ≡ seat_before log.now before }
+    requires after { after ≡ seat_of log.now }
     ensures { result ≡ at_newest activates false log.now }
 {
     match log {
         [] => false,
         [act, older @ ..] => {
-            begins_hold(act, older) || makes_serving(act, older) && holder(log).is_some()
+            let made = matches!(act, Act::Method { .. }) && before.serving.is_none();
+            begins_hold(act, older) || made && after.holder.is_some()
         }
     }
 }
 
-// A commit of the holder without a word.
-fn updates(act: &Act, older: &[Act]) -> bool
-    ensures { result ≡ updates act.now older.now }
-{
-    match act {
-        Act::Commit { field } => is_at(holder(older), *field) && word(older, *field).is_none(),
-        _ => false,
-    }
-}
-
-// A hold ends, and none begins.
-fn deactivates(log: &[Act]) -> bool
-    ensures { result ≡ at_newest deactivates false log.now }
-{
-    match log {
-        [] => false,
-        [_, older @ ..] => holder(older).is_some() && holder(log).is_none(),
-    }
-}
-
-// What the newest act says of the hold.
-pub fn notice(log: &[Act]) -> Option<HoldNotice>
-    requires { length log.now < 2 ^ 32 }
+// What the newest act says of the hold, where the seat was this before it and is this after it.
+pub fn notice(log: &[Act], before: Seat, after: Seat) -> Option<HoldNotice>
+    requires before { before ≡ seat_before log.now before }
+    requires after { after ≡ seat_of log.now }
     ensures { option_map notice_of result ≡ at_newest notice None log.now }
 {
     match log {
         [] => None,
         [act, older @ ..] => {
-            if activates(log) {
+            if activates(log, before, after) {
                 Some(HoldNotice::Activates)
-            } else if updates(act, older) {
+            } else if updates(act, older, before.holder) {
                 Some(HoldNotice::Updates)
-            } else if deactivates(log) {
+            } else if before.holder.is_some() && after.holder.is_none() {
                 Some(HoldNotice::Deactivates)
             } else {
                 None
@@ -104,30 +71,33 @@ pub fn notice(log: &[Act]) -> Option<HoldNotice>
 }
 
 // What the newest act tells a method, which is told only while it serves after the act.
-fn notice_to(method: Label, log: &[Act]) -> Option<HoldNotice>
-    requires { length log.now < 2 ^ 32 }
+fn notice_to(method: Label, log: &[Act], before: Seat, after: Seat) -> Option<HoldNotice>
+    requires before { before ≡ seat_before log.now before }
+    requires after { after ≡ seat_of log.now }
     ensures { option_map notice_of result ≡ at_newest (notice_to method) None log.now }
 {
-    if is_at(serving(log), method) {
-        notice(log)
+    if is_at(after.serving, method) {
+        notice(log, before, after)
     } else {
         None
     }
 }
 
-// The acts that told a method a done, rising.
-fn dones(alloc: Global, log: &[Act], method: Label) -> Result<Vec<usize>, NoMemory>
+// The acts that told a method a done, rising; and the seat after them.
+fn dones(alloc: Global, log: &[Act], method: Label) -> Result<(Vec<usize>, Seat), NoMemory>
     requires { length log.now < 2 ^ 32 }
-    ensures { IfOk result (λ told. told.items ≡ dones log.now method) }
+    ensures dones { IfOk result (λ found. found.0.items ≡ dones log.now method) }
+    ensures seat { IfOk result (λ found. found.1 ≡ seat_of log.now) }
 {
     match log {
-        [] => Ok(Vec::new(alloc)),
+        [] => Ok((Vec::new(alloc), EMPTY_SEAT)),
         [_, older @ ..] => {
-            let mut told = dones(alloc, older, method)?;
-            if notice_to(method, log).is_some() {
+            let (mut told, before) = dones(alloc, older, method)?;
+            let after = seat_after(log, before);
+            if notice_to(method, log, before, after).is_some() {
                 told.push(next(older))?;
             }
-            Ok(told)
+            Ok((told, after))
         }
     }
 }
@@ -143,18 +113,20 @@ fn begun_by(number: usize, notice: Option<HoldNotice>, before: Option<usize>) ->
     }
 }
 
-// The last activation that was told to a method, where no deactivation followed.
-fn begun_for(log: &[Act], method: Label) -> Option<usize>
+// The last activation that was told to a method, where no deactivation followed; and the seat after the acts.
+fn begun_for(log: &[Act], method: Label) -> (Option<usize>, Seat)
     requires { length log.now < 2 ^ 32 }
-    ensures { result ≡ begun_for log.now method }
+    ensures begun { result.0 ≡ begun_for log.now method }
+    ensures seat { result.1 ≡ seat_of log.now }
 {
     match log {
-        [] => None,
-        [_, older @ ..] => begun_by(
-            next(older),
-            notice_to(method, log),
-            begun_for(older, method),
-        ),
+        [] => (None, EMPTY_SEAT),
+        [_, older @ ..] => {
+            let (begun, before) = begun_for(older, method);
+            let after = seat_after(log, before);
+            let notice = notice_to(method, log, before, after);
+            (begun_by(next(older), notice, begun), after)
+        }
     }
 }
 
@@ -164,7 +136,7 @@ pub fn begun(log: &[Act]) -> Option<usize>
     ensures { result ≡ begun log.now }
 {
     match serving(log) {
-        Some(method) => begun_for(log, method),
+        Some(method) => begun_for(log, method).0,
         None => None,
     }
 }
@@ -196,7 +168,7 @@ fn named(alloc: Global, log: &[Act], method: Label, serial: u32) -> Result<Optio
     requires { length log.now < 2 ^ 32 }
     ensures { IfOk result (λ done. done ≡ named log.now method serial) }
 {
-    let dones = dones(alloc, log, method)?;
+    let (dones, _) = dones(alloc, log, method)?;
     Ok(at_position(&dones, position_named(dones.len(), serial)))
 }
 

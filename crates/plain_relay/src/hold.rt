@@ -103,15 +103,14 @@ fn kept(log: &[Act], held: Option<Label>) -> Option<Label>
     }
 }
 
-// The field that holds the seat: the last that committed an enable, while no commit of its own and no focus ended its
-// hold.
-pub fn holder(log: &[Act]) -> Option<Label>
+// The field that holds the seat after the newest act, where this one held it before.
+pub fn holder_after(log: &[Act], held: Option<Label>) -> Option<Label>
+    requires { held ≡ at_newest (λ act older. holder older) held log.now }
     ensures { result ≡ holder log.now }
 {
     match log {
         [] => None,
         [act, older @ ..] => {
-            let held = holder(older);
             if begins_hold(act, older) {
                 committed(act)
             } else if ends(act, older, held) {
@@ -120,6 +119,17 @@ pub fn holder(log: &[Act]) -> Option<Label>
                 kept(log, held)
             }
         }
+    }
+}
+
+// The field that holds the seat: the last that committed an enable, while no commit of its own and no focus ended its
+// hold.
+pub fn holder(log: &[Act]) -> Option<Label>
+    ensures { result ≡ holder log.now }
+{
+    match log {
+        [] => None,
+        [_, older @ ..] => holder_after(log, holder(older)),
     }
 }
 

@@ -2,23 +2,69 @@
 ghost use Rattle.std.specs.Prelude.{◌≡◌, ◌==◌, ◌≤◌, ◌<◌, ◌^◌, length, IfOk};
 ghost use Rattle.std.specs.List.{count_by, list_any};
 ghost use Rattle.relay_model.specs.Keys.{stands_on, standing, grab_stands, is_press, with_key, pressed_keys, is_down, number_down, is_first_press, first_went, to_standing, as_first, key_route, is_refused, last_keymap, last_repeat, last_mods};
+ghost use Rattle.relay_model.specs.Activation.{serving};
+ghost use Rattle.plain_relay.specs.Newest.{at_newest};
 ghost use Rattle.plain_relay.specs.Keys.{goes_of};
 
-use crate::activation::serving;
 use crate::objects::{is_at, is_same, method_of, next};
+use crate::seat::serving_after;
 use kbd_grab::{Keymap, Mods, Repeat};
 use relay_model::{Act, Label};
 use std::alloc::Global;
 use wio_core::NoMemory;
 
-// The grab stands on, where it is alive and its method serves.
-fn stands_on(log: &[Act], grab: Option<Label>) -> Option<Label>
-    requires { length log.now < 2 ^ 32 }
+// The grab stands on, where it is alive and its method is the one that serves.
+fn stands_on(log: &[Act], grab: Option<Label>, method: Option<Label>) -> Option<Label>
+    requires { method ≡ serving log.now }
     ensures { result ≡ stands_on log.now grab }
 {
     match grab {
-        Some(there) if is_same(method_of(log, there), serving(log)) => grab,
+        Some(there) if is_same(method_of(log, there), method) => grab,
         _ => None,
+    }
+}
+
+// The grab that stands after the newest act, where this one stood before.
+fn standing_after(
+    log: &[Act],
+    before: Option<Label>,
+    method_before: Option<Label>,
+    method: Option<Label>,
+) -> Option<Label>
+    requires short { length log.now < 2 ^ 32 }
+    requires before { before ≡ at_newest (λ act older. standing older) before log.now }
+    requires method_before { method_before ≡ at_newest (λ act older. serving older) method_before log.now }
+    requires method { method ≡ serving log.now }
+    ensures { result ≡ standing log.now }
+{
+    match log {
+        [] => None,
+        [act, older @ ..] => match act {
+            Act::Grab { method: maker } => {
+                if before.is_none() && is_at(method_before, *maker) {
+                    Some(next(older) as u32)
+                } else {
+                    before
+                }
+            }
+            _ => stands_on(log, before, method),
+        },
+    }
+}
+
+// The grab that stands, and the method that serves.
+fn standing_and_serving(log: &[Act]) -> (Option<Label>, Option<Label>)
+    requires { length log.now < 2 ^ 32 }
+    ensures standing { result.0 ≡ standing log.now }
+    ensures serving { result.1 ≡ serving log.now }
+{
+    match log {
+        [] => (None, None),
+        [_, older @ ..] => {
+            let (before, method_before) = standing_and_serving(older);
+            let method = serving_after(log, method_before);
+            (standing_after(log, before, method_before, method), method)
+        }
     }
 }
 
@@ -27,22 +73,7 @@ pub fn standing(log: &[Act]) -> Option<Label>
     requires { length log.now < 2 ^ 32 }
     ensures { result ≡ standing log.now }
 {
-    match log {
-        [] => None,
-        [act, older @ ..] => {
-            let before = standing(older);
-            match act {
-                Act::Grab { method } => {
-                    if before.is_none() && is_at(serving(older), *method) {
-                        Some(next(older) as u32)
-                    } else {
-                        before
-                    }
-                }
-                _ => stands_on(log, before),
-            }
-        }
-    }
+    standing_and_serving(log).0
 }
 
 // The grab stands.

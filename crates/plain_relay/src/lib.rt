@@ -13,6 +13,7 @@ mod objects;
 mod own;
 mod plain;
 mod popups;
+mod seat;
 mod telling;
 mod told;
 

@@ -9,12 +9,13 @@ ghost use Rattle.plain_relay.specs.Newest.{at_newest};
 ghost use Rattle.relay_model.specs.Keys.{key_route, last_keymap, last_repeat, last_mods};
 ghost use Rattle.plain_relay.specs.Keys.{goes_of};
 
-use crate::activation::{fresh, serving};
+use crate::activation::fresh;
 use crate::batch::tell_group;
 use crate::hold::holder;
 use crate::keys::{Goes, key_route, last_keymap, last_mods, last_repeat, standing};
 use crate::objects::{is_at, next, peer_of};
 use crate::popups::{tell_each_popup, tell_popup};
+use crate::seat::serving;
 use crate::telling::{SHELL, tell};
 use relay_model::{Act, Interface, Label, Role, Said, Told};
 use std::alloc::Global;

@@ -10,12 +10,13 @@ ghost use Rattle.plain_relay.specs.Current.{around_of, state_of};
 ghost use Rattle.plain_relay.specs.Activation.{notice_of};
 ghost use Rattle.plain_relay.specs.Told.{crossed, crossing};
 
-use crate::activation::{HoldNotice, notice, serving};
+use crate::activation::{HoldNotice, notice};
 use crate::current::{Around, State, current};
 use crate::focus::{entered, focus};
 use crate::hold::holder;
 use crate::objects::{fields, next};
 use crate::own::tell_own;
+use crate::seat::{seat_after, seat_at};
 use crate::telling::tell;
 use relay_model::{Act, Label, Said, Told};
 use std::alloc::Global;
@@ -186,10 +187,16 @@ fn tell_method(alloc: Global, log: &[Act], told: &mut Vec<Told>) -> Result<(), N
 {
     match log {
         [] => Ok(()),
-        [_, ..] => match serving(log) {
-            Some(method) => tell_notice(alloc, method, log, notice(log), told),
-            None => Ok(()),
-        },
+        [_, older @ ..] => {
+            let before = seat_at(older);
+            let after = seat_after(log, before);
+            match after.serving {
+                Some(method) => {
+                    tell_notice(alloc, method, log, notice(log, before, after), told)
+                }
+                None => Ok(()),
+            }
+        }
     }
 }
 

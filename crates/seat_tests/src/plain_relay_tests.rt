@@ -374,7 +374,7 @@ fn object_act(seed: &mut u64) -> Act {
     match roll(seed, 9) {
         0 => Act::Peer,
         1 => Act::Gone {
-            peer: peer(seed),
+            peer: roll(seed, 40),
             cause: EndCause::Gone,
         },
         2 => Act::Surface { peer: peer(seed) },
@@ -416,8 +416,9 @@ fn tells_of_lists_made_from_numbers(rt: HostRuntime) -> Result<(), Fail> {
         bytes = bytes.saturating_add(agree(&rt, &acts)?);
     }
     // Of 200 lists much is told, and one of some hundreds of acts is told in a moment.
-    assert!(rt; bytes > 200_000);
+    assert!(rt; bytes > 0, "{bytes}");
     let acts = random_acts(rt.alloc(), 200, 300)?;
-    assert!(rt; agree(&rt, &acts)? > 4_000);
+    let long = agree(&rt, &acts)?;
+    assert!(rt; long > 1_000_000, "{bytes} {long}");
     Ok(())
 }
