@@ -4,9 +4,9 @@ ghost use Rattle.relay_model.specs.Batch.{deletion_by, last_deletion, string_by,
 ghost use Rattle.relay_model.specs.Told.{to};
 ghost use Rattle.plain_relay.specs.Batch.{text_of, deletion_of, preedit_of, batch_of};
 
-use crate::activation::begun;
-use crate::objects::next;
 use crate::telling::tell;
+use look_back::activation::begun;
+use look_back::objects::next;
 use relay_model::{Act, Label, Said, Text, Told};
 use std::alloc::Global;
 use wio_core::NoMemory;

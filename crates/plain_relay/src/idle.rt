@@ -3,9 +3,9 @@ ghost use Rattle.std.specs.Prelude.{◌≡◌, ◌<◌, ◌^◌, length, IfOk};
 ghost use Rattle.relay_model.specs.Idle.{is_boundary, is_place, is_sized, is_live, cleaned};
 
 use crate::copying::copy_of_act;
-use crate::focus::{entered, focus};
-use crate::keys::is_refused;
-use crate::objects::{alive, has_popup, is_at, is_field, is_method, is_peer, is_surface};
+use look_back::focus::{entered, focus};
+use look_back::keys::is_refused;
+use look_back::objects::{alive, has_popup, is_at, is_field, is_method, is_peer, is_surface};
 use popup_place::Rect;
 use relay_model::{Act, Text};
 use std::alloc::Global;

@@ -5,12 +5,12 @@ ghost use Rattle.relay_model.specs.declared.said.Said.TheVariants as said;
 ghost use Rattle.relay_model.specs.Told.{to};
 ghost use Rattle.relay_model.specs.Popups.{area, screen, rect_of, cursor, corner, size_of, corner_of, origin, place, ready_surface, place_told, told_where, popup_told, each_popup};
 
-use crate::activation::serving;
-use crate::current::current;
-use crate::focus::{focus, where_alive};
-use crate::hold::holder;
-use crate::objects::{is_same, method_of, popups, surface_of};
 use crate::telling::{SHELL, tell};
+use look_back::current::current;
+use look_back::focus::{focus, where_alive};
+use look_back::hold::holder;
+use look_back::objects::{is_same, method_of, popups, surface_of};
+use look_back::seat::serving;
 use popup_place::{Placed, Rect, Size};
 use relay_model::{Act, Label, Said, Told};
 use std::alloc::Global;

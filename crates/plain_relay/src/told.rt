@@ -5,18 +5,19 @@ ghost use Rattle.relay_model.specs.Focus.{focus, entered};
 ghost use Rattle.relay_model.specs.Hold.{holder};
 ghost use Rattle.relay_model.specs.Activation.{serving};
 ghost use Rattle.relay_model.specs.Told.{to, each_entered, around_said, state_said, holders_state, notice_said, to_method, leaves, enters, enters_new, told_by};
-ghost use Rattle.plain_relay.specs.Newest.{at_newest};
-ghost use Rattle.plain_relay.specs.Current.{around_of, state_of};
-ghost use Rattle.plain_relay.specs.Activation.{notice_of};
+ghost use Rattle.look_back.specs.Newest.{at_newest};
+ghost use Rattle.look_back.specs.Current.{around_of, state_of};
+ghost use Rattle.look_back.specs.Activation.{notice_of};
 ghost use Rattle.plain_relay.specs.Told.{crossed, crossing};
 
-use crate::activation::{HoldNotice, notice, serving};
-use crate::current::{Around, State, current};
-use crate::focus::{entered, focus};
-use crate::hold::holder;
-use crate::objects::{fields, next};
 use crate::own::tell_own;
 use crate::telling::tell;
+use look_back::activation::{HoldNotice, notice};
+use look_back::current::{Around, State, current};
+use look_back::focus::{entered, focus};
+use look_back::hold::holder;
+use look_back::objects::{fields, next};
+use look_back::seat::{seat_after, seat_at};
 use relay_model::{Act, Label, Said, Told};
 use std::alloc::Global;
 use wio_core::NoMemory;
@@ -186,10 +187,16 @@ fn tell_method(alloc: Global, log: &[Act], told: &mut Vec<Told>) -> Result<(), N
 {
     match log {
         [] => Ok(()),
-        [_, ..] => match serving(log) {
-            Some(method) => tell_notice(alloc, method, log, notice(log), told),
-            None => Ok(()),
-        },
+        [_, older @ ..] => {
+            let before = seat_at(older);
+            let after = seat_after(log, before);
+            match after.serving {
+                Some(method) => {
+                    tell_notice(alloc, method, log, notice(log, before, after), told)
+                }
+                None => Ok(()),
+            }
+        }
     }
 }
 

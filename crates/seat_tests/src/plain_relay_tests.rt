@@ -4,7 +4,7 @@ ghost use Rattle.seat_objects.specs.Fits.{FitsMessage};
 
 use plain_relay::plain_told;
 use relay_core::{Post, Relay};
-use relay_model::{Act, EndCause, Rect, Size, Text, Told};
+use relay_model::{Act, EndCause, Fault, Keymap, Mods, Rect, Repeat, Role, Size, Text, Told};
 use session_text::{Form, Line, read_line};
 use std::alloc::{AllocGlobal, Global};
 use std::process::Abort;
@@ -315,30 +315,30 @@ fn field_act(alloc: Global, seed: &mut u64) -> Result<Act, NoMemory> {
 // An act of a method.
 fn method_act(alloc: Global, seed: &mut u64) -> Result<Act, NoMemory> {
     let method = method(seed);
-    let act = match roll(seed, 8) {
-        0 => Act::MString {
+    let act = match roll(seed, 10) {
+        0 | 1 => Act::MString {
             method,
             text: text(alloc, seed)?,
         },
-        1 => Act::MPreedit {
+        2 => Act::MPreedit {
             method,
             text: text(alloc, seed)?,
             begin: roll(seed, 2) as i32,
             end: roll(seed, 2) as i32,
         },
-        2 => Act::MDelete {
+        3 => Act::MDelete {
             method,
             before: roll(seed, 2),
             after: roll(seed, 2),
         },
-        3 => Act::Grab { method },
-        4 => Act::Popup {
+        4 => Act::Grab { method },
+        5 => Act::Popup {
             method,
             surface: surface(seed),
         },
         _ => Act::MCommit {
             method,
-            serial: roll(seed, 9),
+            serial: roll(seed, 6),
         },
     };
     Ok(act)
@@ -346,7 +346,7 @@ fn method_act(alloc: Global, seed: &mut u64) -> Result<Act, NoMemory> {
 
 // An act of the shell.
 fn shell_act(seed: &mut u64) -> Act {
-    match roll(seed, 12) {
+    match roll(seed, 14) {
         0 | 1 => Act::Focus {
             surface: surface(seed),
         },
@@ -361,6 +361,21 @@ fn shell_act(seed: &mut u64) -> Act {
                 height: 700,
             },
         },
+        5 => Act::Mods(Mods {
+            depressed: roll(seed, 9),
+            latched: 0,
+            locked: 0,
+            group: 1,
+        }),
+        6 => Act::Keymap(Keymap {
+            format: 1,
+            token: roll(seed, 9),
+            size: 9,
+        }),
+        7 => Act::Repeat(Repeat {
+            rate: roll(seed, 9) as i32,
+            delay: 6,
+        }),
         _ => Act::Key {
             time: roll(seed, 9),
             key: 30 + roll(seed, 3),
@@ -371,16 +386,26 @@ fn shell_act(seed: &mut u64) -> Act {
 
 // An act that makes or ends objects.
 fn object_act(seed: &mut u64) -> Act {
-    match roll(seed, 9) {
+    match roll(seed, 12) {
         0 => Act::Peer,
         1 => Act::Gone {
-            peer: peer(seed),
+            peer: roll(seed, 40),
             cause: EndCause::Gone,
         },
         2 => Act::Surface { peer: peer(seed) },
         3 => Act::Field { peer: peer(seed) },
         4 | 5 => Act::Method { peer: peer(seed) },
         6 => Act::Sync { peer: peer(seed) },
+        7 => Act::Registry {
+            peer: peer(seed),
+            role: Role::App,
+        },
+        8 => Act::Seat { peer: peer(seed) },
+        9 => Act::Bad {
+            peer: peer(seed),
+            fault: Fault::Opcode,
+            object: 2,
+        },
         _ => Act::Drop {
             label: roll(seed, 40),
         },
@@ -416,8 +441,8 @@ fn tells_of_lists_made_from_numbers(rt: HostRuntime) -> Result<(), Fail> {
         bytes = bytes.saturating_add(agree(&rt, &acts)?);
     }
     // Of 200 lists much is told, and one of some hundreds of acts is told in a moment.
-    assert!(rt; bytes > 200_000);
+    assert!(rt; bytes > 100_000);
     let acts = random_acts(rt.alloc(), 200, 300)?;
-    assert!(rt; agree(&rt, &acts)? > 4_000);
+    assert!(rt; agree(&rt, &acts)? > 5_000);
     Ok(())
 }
