@@ -23,7 +23,7 @@ use Rattle.broker_core.specs.Watched.{Watched}
 use Rattle.session_play.specs.declared.session.Stop.TheVariants as stops
 use Rattle.session_play.specs.declared.unread.Unread.{Unread}
 use Rattle.session_play.specs.Played.{Waiting, Play, unread_by, unread_of, with_unread, of_live, with_step, step_played, with_peer, join_played, take_played}
-use Rattle.session_play.specs.Playing.{Ongoing, is_waiting, AreWaiting, IsThere, IsMore, IsPlayed, IsWatched, IsRead}
+use Rattle.session_play.specs.Playing.{Ongoing, is_waiting, AreWaiting, IsThere, IsMore, IsPlayed, IsWatched, IsRead, IsEnough}
 use Rattle.session_play.specs.declared.unread.Found.{Found}
 use Rattle.wl_wire.specs.Streams.{begun}
 use Rattle.session_play.specs.Unread.{waiting, Finds}
@@ -218,16 +218,16 @@ take_short s b after was q n v a =
 
 pub take_ok : (s : Ongoing) (b after : Broker) (was now : List Unread) (q n k t : ℕ)
     (buf places buf_after places_after : List ℕ) → view_of b was ≡ s →
-    1 ≤ n → length buf ≡ n → IfSome (take_refusal b q) (λ why. took.Bytes k t ≡ why) →
+    1 ≤ n → IfSome (out_at s.limits.store s.play.journal q) (IsEnough (length buf) n) → IfSome (take_refusal b q) (λ why. took.Bytes k t ≡ why) →
     IfSome (out_at b.limits.store b.journal q) (λ out. IsTaken out b.journal q buf places (k, t) buf_after places_after
     (entries.Took q k ∷ b.journal)) →
     after ≡ broker.with_step (entries.Took q k) b → AreLeft after was now →
     IsPlayed (take_played s.limits q n s.play (peer_at (past_of s.play.journal) q)) (Ok tt) (play_in after now)
-take_ok s b after was now q n k t buf places buf_after places_after v l len r i a left =
+take_ok s b after was now q n k t buf places buf_after places_after v l enough r i a left =
     subst (λ (y : Ongoing). IsPlayed (take_played y.limits q n y.play (peer_at (past_of y.play.journal) q)) (Ok tt)
     (play_in after now)) v
     (bytes_taken b (map waiting was) q n k t buf places buf_after places_after (took.Bytes k t) (play_in after now) l
-    len refl r i
+    (subst (λ (y : Ongoing). IfSome (out_at y.limits.store y.play.journal q) (IsEnough (length buf) n)) (sym v) enough) refl r i
     (stepped (entries.Took q k) b after was now a left))
 
 -- a piece was read

@@ -15,7 +15,7 @@ use Rattle.broker_core.specs.Broker.{Broker, kept_in, nothing_left, take_refusal
 use Rattle.broker_core.specs.Stands.{end_of}
 use Rattle.broker_core.specs.Taking.{out_at, IsTaken}
 use Rattle.session_play.specs.Played.{Play, Played, Waiting, went, with_step, step_played, take_played}
-use Rattle.session_play.specs.Playing.{IsPlayed}
+use Rattle.session_play.specs.Playing.{IsPlayed, IsEnough}
 use Rattle.session_play.proofs.StepAnswers.{played_ok}
 
 -- what the session has played, beside the unread bytes
@@ -77,7 +77,8 @@ bytes_peer b unread q n k t peer r after false false l j e f s c h =
 
 bytes_by_peer : (b : Broker) (unread : List Waiting) (q n k t : ℕ) (buf places buf_after places_after : List ℕ)
     (o : Option Joined) (r : Took) (after : Play) →
-    1 ≤ n → length buf ≡ n → r ≡ took.Bytes k t → IfSome (take_refusal_from b q (out_of b o)) (λ why. r ≡ why) →
+    1 ≤ n → IfSome (out_of b o) (IsEnough (length buf) n) → r ≡ took.Bytes k t →
+    IfSome (take_refusal_from b q (out_of b o)) (λ why. r ≡ why) →
     IfSome (out_of b o) (λ out. IsTaken out b.journal q buf places (k, t) buf_after places_after
     (entries.Took q k ∷ b.journal)) →
     after ≡ with_step b.limits (entries.Took q k) (play_in b unread) →
@@ -86,11 +87,12 @@ bytes_by_peer b unread q n k t buf places buf_after places_after None r after l 
 bytes_by_peer b unread q n k t buf places buf_after places_after (Some peer) r after l len j s i h =
     bytes_peer b unread q n k t peer r after (length (stored (out_for b.limits.store b.journal peer.label)) == 0)
     (is_full b.limits.entries b.journal (entries.Took q 0)) l j refl refl s
-    (i.count ∙ ap (λ m. min m (length (stored (out_for b.limits.store b.journal peer.label)))) len) h
+    (i.count ∙ len) h
 
 pub bytes_taken : (b : Broker) (unread : List Waiting) (q n k t : ℕ) (buf places buf_after places_after : List ℕ)
     (r : Took) (after : Play) →
-    1 ≤ n → length buf ≡ n → r ≡ took.Bytes k t → IfSome (take_refusal b q) (λ why. r ≡ why) →
+    1 ≤ n → IfSome (out_at b.limits.store b.journal q) (IsEnough (length buf) n) → r ≡ took.Bytes k t →
+    IfSome (take_refusal b q) (λ why. r ≡ why) →
     IfSome (out_at b.limits.store b.journal q) (λ out. IsTaken out b.journal q buf places (k, t) buf_after places_after
     (entries.Took q k ∷ b.journal)) →
     after ≡ with_step b.limits (entries.Took q k) (play_in b unread) →

@@ -1,11 +1,12 @@
 -- A session as far as it is played.
-use Rattle.std.specs.Prelude.{◌≡◌, ℕ, ◌==◌, List, [], ◌++◌, length, Bool, true, false, string_bytes, Option, Result, Ok, Err, String}
+use Rattle.std.specs.Prelude.{◌≡◌, ℕ, ◌==◌, List, [], ◌++◌, length, min, Bool, true, false, string_bytes, Option, Result, Ok, Err, String}
 use Rattle.std.specs.List.{list_any}
 use Rattle.std.specs.Global.{Global}
 use Rattle.seat_steps.specs.declared.limits.Limits.{Limits}
 use Rattle.seat_steps.specs.declared.step.Step.{Step}
 use Rattle.seat_steps.specs.declared.step.Step.TheVariants as steps
 use Rattle.broker_model.specs.declared.journal.Entry.{Entry}
+use Rattle.broker_model.specs.Out.{Outgoing, stored}
 use Rattle.broker_core.specs.Broker.{kept_in}
 use Rattle.broker_core.specs.declared.taking.Standing.TheVariants.{Alive}
 use Rattle.broker_core.specs.Taking.{standing_of}
@@ -40,6 +41,10 @@ is_waiting q unread = list_any (λ w. w.number == q) unread
 -- each live peer has its unread bytes
 abbrev pub AreWaiting : List Entry → List Waiting → Type 0
 AreWaiting journal unread = (q : ℕ) → lives journal q ≡ true → is_waiting q unread ≡ true
+
+-- a buffer has room for as many of the stored bytes as are asked for at most
+abbrev pub IsEnough : (room most : ℕ) → Outgoing → Type 0
+IsEnough room most out = min room (length (stored out)) ≡ min most (length (stored out))
 
 -- the peer of the step is alive, if it is a peer's
 abbrev pub IsThere : Step → List Entry → Type 0

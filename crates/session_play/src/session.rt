@@ -9,6 +9,9 @@ use std::marker::Model;
 use wio_core::NoMemory;
 use wl_wire::{Assembler, MESSAGE_LIMIT};
 
+/// How many taken bytes a small buffer has room for.
+const FEW: usize = 256;
+
 /// Why a session isn't played further.
 #[derive(Clone, Copy, Debug, PartialEq, Eq)]
 pub enum Stop {
@@ -65,7 +68,7 @@ impl Model for Session {
 }
 
 impl Session {
-    ghost use Rattle.std.specs.Prelude.{◌≡◌, ◌≤◌, [], IfOk, true, if◌then◌else◌, Ok};
+    ghost use Rattle.std.specs.Prelude.{◌≡◌, ◌≤◌, [], length, IfOk, IfSome, true, if◌then◌else◌, Ok};
     ghost use Rattle.relay_model.specs.declared.act.EndCause.TheVariants.{Gone};
     ghost use Rattle.seat_steps.specs.declared.step.Step.TheVariants as steps;
     ghost use Rattle.seat_steps.specs.Ranges.{IsLimits, IsStep};
@@ -76,10 +79,10 @@ impl Session {
     ghost use Rattle.broker_model.specs.Settle.{history, outer};
     ghost use Rattle.broker_core.specs.Broker.{entry_of, IsSaid};
     ghost use Rattle.broker_core.specs.declared.taking.Standing.TheVariants.{Alive};
-    ghost use Rattle.broker_core.specs.Taking.{standing_of};
-    ghost use Rattle.broker_core.specs.Taking.{lives};
+    ghost use Rattle.broker_model.specs.Out.{stored};
+    ghost use Rattle.broker_core.specs.Taking.{lives, out_at, standing_of};
     ghost use Rattle.session_play.specs.Played.{step_played, gone_played, join_played, take_played, line_played};
-    ghost use Rattle.session_play.specs.Playing.{IsPlayed, IsWatched, IsThere};
+    ghost use Rattle.session_play.specs.Playing.{IsPlayed, IsWatched, IsThere, IsEnough};
 
     /// Nobody joined yet. `NoMemory` is its one error.
     pub(crate) fn new(alloc: Global, limits: Limits) -> Result<Session, NoMemory>
@@ -171,9 +174,41 @@ impl Session {
         self.step(&Step::Peer(number, PeerStep::Gone), watch)
     }
 
-    /// The first bytes that are stored for a peer are taken. Not inlined, so that the buffers are made for this alone.
+    // The first bytes that are stored for a peer go into the buffer, which nobody reads. It has room for
+    // as many as there are, or are asked for.
+    fn take_into<W: Watch>(
+        &mut self,
+        number: u32,
+        most: u32,
+        bytes: &mut [u8],
+        watch: &mut W,
+    ) -> Result<(), Stop>
+        requires most { 1 ≤ most }
+        requires some { 1 ≤ length bytes.old }
+        requires piece { length bytes.old ≤ 4096 }
+        requires enough { IfSome (out_at self.old.limits.store self.old.play.journal number)
+            (IsEnough (length bytes.old) most) }
+        ensures limits { self.new.limits ≡ self.old.limits }
+        ensures played { IsPlayed (take_played self.old.limits number most self.old.play
+            (peer_at (past_of self.old.play.journal) number)) result self.new.play }
+        ensures watched { IsWatched W.may_follow self.old.limits.store self.old.play.journal
+            watch.old self.new.play.journal watch.new }
+    {
+        let mut tokens = [0u32; 256];
+        match self.shared.take_watched(number, bytes, &mut tokens, watch) {
+            Took::Bytes(..) => {
+                forget_ended(&self.shared, &mut self.unread);
+                Ok(())
+            }
+            Took::NoPeer | Took::Closed | Took::Empty => Ok(()),
+            Took::JournalFull(kept) => Err(Stop::Full(kept)),
+            Took::NoMemory => Err(Stop::NoMemory),
+        }
+    }
+
+    // By way of a buffer for as many bytes as a take may ask for, which is made for this alone.
     #[inline(never)]
-    pub(crate) fn take<W: Watch>(
+    fn take_many<W: Watch>(
         &mut self,
         number: u32,
         most: u32,
@@ -188,18 +223,49 @@ impl Session {
             watch.old self.new.play.journal watch.new }
     {
         let mut bytes = [0u8; MESSAGE_LIMIT];
-        let mut tokens = [0u32; 256];
-        match self
-            .shared
-            .take_watched(number, &mut bytes[..most as usize], &mut tokens, watch)
-        {
-            Took::Bytes(..) => {
-                forget_ended(&self.shared, &mut self.unread);
-                Ok(())
-            }
-            Took::NoPeer | Took::Closed | Took::Empty => Ok(()),
-            Took::JournalFull(kept) => Err(Stop::Full(kept)),
-            Took::NoMemory => Err(Stop::NoMemory),
+        self.take_into(number, most, &mut bytes[..most as usize], watch)
+    }
+
+    // By way of a small buffer, where no more are stored than it has room for.
+    #[inline(never)]
+    fn take_few<W: Watch>(
+        &mut self,
+        number: u32,
+        most: u32,
+        watch: &mut W,
+    ) -> Result<(), Stop>
+        requires some { 1 ≤ most }
+        requires few { IfSome (out_at self.old.limits.store self.old.play.journal number)
+            (λ out. length (stored out) ≤ 256) }
+        ensures limits { self.new.limits ≡ self.old.limits }
+        ensures played { IsPlayed (take_played self.old.limits number most self.old.play
+            (peer_at (past_of self.old.play.journal) number)) result self.new.play }
+        ensures watched { IsWatched W.may_follow self.old.limits.store self.old.play.journal
+            watch.old self.new.play.journal watch.new }
+    {
+        let mut bytes = [0u8; FEW];
+        let length = FEW.min(most as usize);
+        self.take_into(number, most, &mut bytes[..length], watch)
+    }
+
+    /// The first bytes that are stored for a peer are taken.
+    pub(crate) fn take<W: Watch>(
+        &mut self,
+        number: u32,
+        most: u32,
+        watch: &mut W,
+    ) -> Result<(), Stop>
+        requires some { 1 ≤ most }
+        requires piece { most ≤ 4096 }
+        ensures limits { self.new.limits ≡ self.old.limits }
+        ensures played { IsPlayed (take_played self.old.limits number most self.old.play
+            (peer_at (past_of self.old.play.journal) number)) result self.new.play }
+        ensures watched { IsWatched W.may_follow self.old.limits.store self.old.play.journal
+            watch.old self.new.play.journal watch.new }
+    {
+        match self.shared.stored(number) {
+            Some(stored) if stored > FEW => self.take_many(number, most, watch),
+            _ => self.take_few(number, most, watch),
         }
     }
 

@@ -1,8 +1,6 @@
-use Rattle.std.proofs.Common.{arith}
-use Rattle.std.proofs.lemmas.Grind.{common_steps}
 use Rattle.session_play.proofs.SharedSteps.{take_waits, take_ok, take_short, step_watched}
 use Rattle.broker_model.specs.declared.journal.Entry.TheVariants as entries
-use Rattle.session_play.proofs.session.Session.take.Goals as goal
+use Rattle.session_play.proofs.session.Session.take_into.Goals as goal
 
 pub invariant_of-self : goal.invariant_of-self
 invariant_of-self g c =
@@ -15,7 +13,7 @@ returns-in-Bytes-clause-played g c =
     take_ok c.args.self.now c.self.inside.shared c.take_watched.new.self c.self.inside.unread.items
     c.forget_ended.new.unread.items c.args.number c.args.most
     c.in-Bytes.field-0 c.in-Bytes.field-1 _ _ c.take_watched.new.buf c.take_watched.new.tokens c.self.view_is
-    c.requires.some (grind (arith, common_steps)) c.in-Bytes.ensures.refused
+    c.requires.most c.requires.enough c.in-Bytes.ensures.refused
     c.in-Bytes.ensures.bytes c.in-Bytes.ensures.settled c.forget_ended.ensures
 
 pub returns-in-Bytes-clause-watched : goal.returns-in-Bytes-clause-watched
