@@ -39,3 +39,5 @@ pub mod CallWatched
 pub mod LiveObjectsFew
 pub mod KeysDownFew
 pub mod OneEndEach
+pub mod MarkedGroups
+pub mod NewestPeer

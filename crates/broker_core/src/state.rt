@@ -20,7 +20,7 @@ use broker_model::{Entry, Journal};
 use out_store::Store;
 use relay_core::{Relay, Route};
 use relay_model::{Act, EndCause, Label};
-use seat_audience::{Audience, Directory, clear, deliver, due, take_away};
+use seat_audience::{Audience, Directory, Listeners};
 use std::alloc::Global;
 use wio_core::NoMemory;
 
@@ -67,7 +67,7 @@ impl State {
             relay: Relay::new(alloc)?,
             journal: Journal::new(alloc),
             audience: Audience {
-                live: Vec::new(alloc),
+                live: Listeners::new(alloc),
                 directory: Directory::new(alloc),
             },
             labels: Vec::new(alloc),
@@ -92,10 +92,10 @@ impl State {
         ensures ended { self.new.ended ≡ self.old.ended }
         ensures capacity { self.new.capacity ≡ self.old.capacity }
     {
-        clear(&mut self.audience.live);
+        self.audience.live.clear();
         let route = speak(&mut self.relay, number, act, &mut self.audience, watch);
         show_groups(number, &self.audience.live, watch);
-        deliver(&mut self.audience.live);
+        self.audience.live.deliver();
         route
     }
 
@@ -133,7 +133,7 @@ impl State {
         ensures watched { Reached W.may_follow watch.old
             (watched self.old.capacity (entries.End number cause) self.old.journal.entries) watch.new }
     {
-        let Some(live) = take_away(&mut self.audience.live, number) else {
+        let Some(live) = self.audience.live.take_away(number) else {
             unreachable!()
         };
         self.ended[number as usize - 1] = Some(Ended {
@@ -165,7 +165,7 @@ impl State {
             Reached W.may_follow from (watched_since self.old.capacity k self.old.journal.entries) watch.old →
             Reached W.may_follow from (watched_since self.old.capacity k self.new.journal.entries) watch.new }
     {
-        while let Some((number, cause)) = due(&self.audience.live) {
+        while let Some((number, cause)) = self.audience.live.due() {
             self.end(number, cause, watch);
         }
     }

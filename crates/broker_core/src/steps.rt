@@ -21,7 +21,7 @@ use broker_model::Entry;
 use im_objects::DISPLAY_ID;
 use relay_core::Route;
 use relay_model::{Act, Fault, Label, Role};
-use seat_audience::{Live, Named, place_of};
+use seat_audience::{Live, Named};
 use seat_steps::ShellStep;
 use seat_wire::{Meaning, Sender, meaning_of, shell_act};
 use wio_core::NoMemory;
@@ -65,7 +65,7 @@ impl State {
         let label = self.journal.len() + 1;
         let number = self.labels.len() as u32 + 1;
         self.make_room(&Act::Peer)?;
-        self.audience.live.reserve(1)?;
+        self.audience.live.reserve()?;
         self.labels.reserve(1)?;
         self.ended.reserve(1)?;
         let live = Live::new(self.alloc, self.capacity, number, label, role)?;
@@ -75,7 +75,7 @@ impl State {
             label,
             interface: Interface::Display,
         });
-        let _ = self.audience.live.push(live);
+        self.audience.live.push(live);
         let _ = self.labels.push(label);
         let _ = self.ended.push(None);
         let _ = self.enter(Entry::Join(role), &Act::Peer, watch);
@@ -88,7 +88,7 @@ impl State {
         requires place { place < length self.now.audience.live.items }
         ensures { IfSome (slice_get self.now.audience.live.items place) (λ l. IfOk result (λ m. meant l.label (length self.now.journal.entries + 1) m ≡ means (entries.Message l.number id opcode body.now) (length self.now.journal.entries + 1) (past_of self.now.journal.entries))) }
     {
-        let peer = &self.audience.live[place];
+        let peer = self.audience.live.at(place);
         let sender = Sender {
             label: peer.label,
             role: peer.role,
@@ -118,7 +118,7 @@ impl State {
             (watched self.old.capacity (entries.Message number id opcode body.now) self.old.journal.entries) watch.new) }
         ensures unwatched { OnErr result (watch.new ≡ watch.old) }
     {
-        let Some(place) = place_of(&self.audience.live, number) else {
+        let Some(place) = self.audience.live.place_of(number) else {
             unreachable!()
         };
         let entry = Entry::Message {
@@ -153,17 +153,17 @@ impl State {
             (watched self.old.capacity (entries.BadSize number head) self.old.journal.entries) watch.new) }
         ensures unwatched { OnErr result (watch.new ≡ watch.old) }
     {
-        let Some(place) = place_of(&self.audience.live, number) else {
+        let Some(place) = self.audience.live.place_of(number) else {
             unreachable!()
         };
-        let label = self.audience.live[place].label;
+        let label = self.audience.live.at(place).label;
         let act = Act::Bad {
             peer: label,
             fault: Fault::Size,
             object: label,
         };
         self.make_room(&act)?;
-        self.audience.live[place].is_refused = true;
+        self.audience.live.refuse(place);
         let _ = self.enter(Entry::BadSize { peer: number, head }, &act, watch);
         Ok(())
     }
@@ -173,8 +173,8 @@ impl State {
         requires stands { Stands self.now }
         ensures { surface_at (past_of self.now.journal.entries) (peer_at (past_of self.now.journal.entries) number) id ≡ result }
     {
-        let place = place_of(&self.audience.live, number)?;
-        let (interface, label) = self.audience.live[place].table.find(id)?;
+        let place = self.audience.live.place_of(number)?;
+        let (interface, label) = self.audience.live.at(place).table.find(id)?;
         if interface.name() == Interface::Surface.name() {
             Some(label)
         } else {

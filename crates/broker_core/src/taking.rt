@@ -16,7 +16,6 @@ use crate::watch::Watch;
 use broker_model::Entry;
 use out_store::Store;
 use relay_model::{Act, EndCause};
-use seat_audience::place_of;
 use wio_core::NoMemory;
 
 /// Whether a peer is there.
@@ -60,8 +59,8 @@ impl State {
                 None => Some(0),
             },
             None => {
-                let place = place_of(&self.audience.live, number)?;
-                Some(self.audience.live[place].store.len())
+                let place = self.audience.live.place_of(number)?;
+                Some(self.audience.live.at(place).store.len())
             }
         }
     }
@@ -127,8 +126,8 @@ impl State {
         ensures labels { self.new.labels ≡ self.old.labels }
         ensures capacity { self.new.capacity ≡ self.old.capacity }
     {
-        if let Some(place) = place_of(&self.audience.live, number) {
-            return self.audience.live[place].store.take(buf, tokens);
+        if let Some(place) = self.audience.live.place_of(number) {
+            return self.audience.live.take(place, buf, tokens);
         }
         match &mut self.ended[number as usize - 1] {
             Some(ended) => take_rest(&mut ended.store, buf, tokens),

@@ -14,7 +14,7 @@ ghost use Rattle.broker_core.specs.Watched.Watched.{Entered, Placed, Passed, Put
 use broker_model::Entry;
 use relay_core::{Post, Relay, Route};
 use relay_model::{Act, Label, Said, Told};
-use seat_audience::{Audience, Live};
+use seat_audience::{Audience, Listeners, Live};
 
 /// Watches a journal: is told of each entry, by its number from 1, what it makes.
 ///
@@ -55,15 +55,13 @@ impl Watch for () {
 }
 
 // The number of the live peer with the label, or 0.
-fn number_with(live: &[Live], label: Label) -> u32
-    ensures { result ≡ number_at (map who live.now) label }
+fn number_with(live: &Listeners, label: Label) -> u32
+    ensures { result ≡ number_at (map who live.now.items) label }
 {
-    for peer in live {
-        if peer.label == label {
-            return peer.number;
-        }
+    match live.place_with(label) {
+        Some(place) => live.at(place).number,
+        None => 0,
     }
-    0
 }
 
 // Tells what the shell is told.
@@ -152,11 +150,10 @@ fn show_group<W: Watch>(number: u32, peer: &Live, watch: &mut W)
 }
 
 /// Tells what is gathered for the live peers, as far as it will be put.
-#[tactic(auto, using(seat_objects::proofs::Reaches::reached_append))]
-pub(crate) fn show_groups<W: Watch>(number: u32, live: &[Live], watch: &mut W)
-    ensures { Reached W.may_follow watch.old (flat_map (gathered_put number) live.now) watch.new }
+pub(crate) fn show_groups<W: Watch>(number: u32, live: &Listeners, watch: &mut W)
+    ensures { Reached W.may_follow watch.old (flat_map (gathered_put number) live.now.items) watch.new }
 {
-    for peer in live {
-        show_group(number, peer, watch);
+    for place in live.told() {
+        show_group(number, live.at(*place), watch);
     }
 }

@@ -4,3 +4,5 @@ pub mod Heard
 pub mod Lives
 pub mod Tells
 pub mod Changes
+pub mod Marks
+pub mod Visits

@@ -55,10 +55,14 @@ abbrev pub number_of : ℕ → List Live → Option Live
 number_of q [] = None
 number_of q (l ∷ rest) = (if is_number q l then Some l else number_of q rest)
 
+-- what is counted of each is above this number and those before
+abbrev pub AreOver : (Live → ℕ) → ℕ → List Live → Type 0
+AreOver key q [] = Unit {0}
+AreOver key q (l ∷ rest) = (q < key l) × AreOver key (key l) rest
+
 -- each number is above this one and those before
 abbrev pub AreAbove : ℕ → List Live → Type 0
-AreAbove q [] = Unit {0}
-AreAbove q (l ∷ rest) = (q < l.number) × AreAbove l.number rest
+AreAbove q live = AreOver (λ l. l.number) q live
 
 -- by rising number, from 1
 abbrev pub AreRising : List Live → Type 0

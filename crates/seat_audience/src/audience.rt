@@ -14,7 +14,7 @@ ghost use Rattle.seat_audience.specs.Tells.{IsShort, Tells};
 ghost use Rattle.seat_audience.specs.Changes.{IsChangedAt};
 
 use crate::directory::{Directory, Named};
-use crate::live::{Live, hear};
+use crate::listeners::Listeners;
 use relay_core::Post;
 use relay_model::{Label, Said, Told};
 use seat_wire::{Meaning, event_of, named, token_of};
@@ -28,7 +28,7 @@ const LONGEST: usize = 4096;
 #[derive(Drop)]
 pub struct Audience {
     /// The live peers.
-    pub live: Vec<Live>,
+    pub live: Listeners,
     /// Whose each label is.
     pub directory: Directory,
 }
@@ -52,9 +52,8 @@ impl Audience {
         ensures err { OnErr result (self.new.live.items ≡ self.old.live.items) }
         ensures err_made { OnErr result (self.new.directory.made ≡ self.old.directory.made) }
     {
-        let sender = &mut self.live[place];
-        sender.change(id, label, meaning)?;
-        let peer = sender.label;
+        self.live.change(place, id, label, meaning)?;
+        let peer = self.live.at(place).label;
         if let Some(new) = meaning.made {
             self.directory.push(Named {
                 peer,
@@ -92,7 +91,7 @@ impl Audience {
             return;
         };
         if event_len(&event) <= LONGEST {
-            hear(&mut self.live, &to, &event, token_of(&told.event));
+            self.live.hear(&to, &event, token_of(&told.event));
         }
     }
 }

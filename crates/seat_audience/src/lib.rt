@@ -5,9 +5,13 @@ mod audience;
 mod changes;
 mod directory;
 mod gathering;
+mod listeners;
 mod live;
+mod marks;
+mod peers;
 
 pub use audience::Audience;
 pub use directory::{Directory, Named};
 pub use gathering::Gathering;
-pub use live::{Live, clear, deliver, due, place_of, take_away};
+pub use listeners::Listeners;
+pub use live::Live;

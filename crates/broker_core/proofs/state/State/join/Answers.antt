@@ -8,7 +8,9 @@ use Rattle.broker_model.specs.Resolve.{past_of}
 use Rattle.broker_core.specs.declared.state.State.{State}
 use Rattle.seat_audience.specs.Changes.{IsNewcomer}
 use Rattle.seat_audience.specs.Directed.{IsNewest}
+use Rattle.seat_audience.specs.Visits.{IsAboveAll}
 use Rattle.broker_core.specs.Stands.{CanTake}
+use Rattle.broker_core.proofs.NewestPeer.{above_all, newcomer_number, newcomer_label}
 use Rattle.broker_core.proofs.ReadyForJoin.{ready_join}
 use Rattle.broker_core.proofs.NewLabels.{newest}
 use Rattle.broker_core.proofs.state.State.join.Goals as goal
@@ -19,6 +21,21 @@ push-requires-clause-newest g c =
     let number : length s.journal.entries ≡ c.len-label.result = ap length c.make_room.ensures.journal ∙ sym c.len-label.ensures.number in
     subst (λ (n : ℕ). IsNewest (n + 1) s.audience.directory.made) number
     (subst (IsNewest (length s.journal.entries + 1)) (sym c.make_room.ensures.stands.made) (newest s.journal.entries))
+
+pub push-requires-2-clause-above : goal.push-requires-2-clause-above
+push-requires-2-clause-above g c =
+    let s : State = c.make_room.new.self in
+    let J = s.journal.entries in
+    let label : c.len-label.result + 1 ≡ length J + 1 =
+    ap (λ (n : ℕ). n + 1) (c.len-label.ensures.number ∙ ap length (sym c.make_room.ensures.journal)) in
+    let joined : length s.labels.items ≡ length (past_of J).joined =
+    ap length c.make_room.ensures.stands.labels ∙ length-map (past_of J).joined (λ (peer : Joined). peer.label) in
+    let was : s.labels ≡ c.args.self.now.labels = c.make_room.ensures.labels in
+    let number : c.len.result + 1 ≡ length (past_of J).joined + 1 = grind (arith, common_steps, c.len.ensures, was, joined) in
+    subst (IsAboveAll c.in_ok-live.live) (sym c.reserve.ensures.same)
+    (above_all J s.audience.live.items c.make_room.ensures.stands.who c.in_ok-live.live
+    (newcomer_number s.capacity (c.len.result + 1) (c.len-label.result + 1) c.args.role c.in_ok-live.live c.in_ok-live.ensures.new ∙ number)
+    (newcomer_label s.capacity (c.len.result + 1) (c.len-label.result + 1) c.args.role c.in_ok-live.live c.in_ok-live.ensures.new ∙ label))
 
 pub enter-requires-clause-ready : goal.enter-requires-clause-ready
 enter-requires-clause-ready g c =
@@ -31,7 +48,7 @@ enter-requires-clause-ready g c =
     let was : s.labels ≡ c.args.self.now.labels = c.make_room.ensures.labels in
     let number : c.len.result + 1 ≡ length (past_of J).joined + 1 = grind (arith, common_steps, c.len.ensures, was, joined) in
     let live : c.push-2.new.self.items ≡ s.audience.live.items ++ c.in_ok-live.live ∷ [] =
-    grind (arith, common_steps, c.push-2.ensures.items, c.push-2.ensures.full, c.in_ok-reserve.ensures) in
+    c.push-2.ensures.put ∙ ap (λ ls. ls ++ c.in_ok-live.live ∷ []) c.reserve.ensures.same in
     let labels : c.push-3.new.self.items ≡ s.labels.items ++ (c.len-label.result + 1) ∷ [] =
     grind (arith, common_steps, c.push-3.ensures.items, c.push-3.ensures.full, c.in_ok-reserve-2.ensures) in
     let ended : c.push-4.new.self.items ≡ s.ended.items ++ None ∷ [] =

@@ -1,7 +1,5 @@
-use Rattle.std.proofs.Common.{◌≡◌, ◌++◌, List, length, map, take, drop, ap, subst, ◌∙◌, arith}
-use Rattle.std.proofs.lemmas.Grind.{common_steps}
+use Rattle.std.proofs.Common.{◌≡◌, List, map, ap, subst, ◌∙◌}
 use Rattle.std.specs.List.{AllByRecursion, flat_map}
-use Rattle.std.specs.Vec.{with_items}
 use Rattle.relay_model.specs.declared.act.Act.{Act}
 use Rattle.relay_model.specs.Told.{told}
 use Rattle.seat_objects.specs.Reached.{Reached}
@@ -17,42 +15,29 @@ use Rattle.broker_core.proofs.EntryWatched.{who_cleared}
 use Rattle.broker_core.proofs.state.State.play.Given.{Over}
 use Rattle.broker_core.proofs.state.State.play.Goals as goal
 
--- all who are told, with nothing gathered
-begun : (g : Over) → goal.After-self-2-1 g → Audience
-begun g c = record c.args.self.now.audience { live = with_items c.args.self.now.audience.live c.clear.new.live }
+stepped : (g : Over) (c : goal.After-deliver g) (log : List Act) → relay.StandsFor c.args.self.now.relay log → AllByRecursion IsShort (told c.args.act.now log) →
+    AllTold (record c.args.self.now.audience { live = c.clear.new.self }) (told c.args.act.now log) c.speak-route.new.audience
+stepped g c log stands short =
+    all_told (told c.args.act.now log) (record c.args.self.now.audience { live = c.clear.new.self }) c.speak-route.new.audience
+    (c.speak-route.ensures.told log stands) short
 
-stepped : (g : Over) (c : goal.After-self-2-1 g) (log : List Act) → relay.StandsFor c.args.self.now.relay log → AllByRecursion IsShort (told c.args.act.now log) →
-    AllTold (begun g c) (told c.args.act.now log) c.speak-route.new.audience
-unfolding begun
-stepped g c log stands short = all_told (told c.args.act.now log) (begun g c) c.speak-route.new.audience (c.speak-route.ensures.told log stands) short
-
-heard : (g : Over) (c : goal.After-self-2-1 g) (log : List Act) → relay.StandsFor c.args.self.now.relay log → AllByRecursion IsShort (told c.args.act.now log) →
+heard : (g : Over) (c : goal.After-deliver g) (log : List Act) → relay.StandsFor c.args.self.now.relay log → AllByRecursion IsShort (told c.args.act.now log) →
     c.speak-route.new.audience.live.items
     ≡ map (has_heard c.args.self.now.audience.directory.made (told c.args.act.now log)) (map cleared c.args.self.now.audience.live.items)
-unfolding begun
 heard g c log stands short =
     let made = c.args.self.now.audience.directory.made in
-    let all = told c.args.act.now log in
-    let empty : (with_items c.args.self.now.audience.live c.clear.new.live).items ≡ map cleared c.args.self.now.audience.live.items =
-    grind (arith, common_steps, c.clear.ensures, c.deref_mut.ensures.value) in
-    (stepped g c log stands short).live ∙ ap (map (has_heard made all)) empty
+    (stepped g c log stands short).live ∙ ap (map (has_heard made (told c.args.act.now log))) c.clear.ensures.items
 
 pub returns-clause-live : goal.returns-clause-live
 returns-clause-live g c = λ log stands short.
     let made = c.args.self.now.audience.directory.made in
     let all = told c.args.act.now log in
-    let first : List Live = c.args.self.now.audience.live.items in
-    let there : List Live = c.speak-route.new.audience.live.items in
-    let whole : take c.speak-route.new.audience.live.len (c.deliver.new.live ++ drop (length c.deliver.new.live) there) ≡ c.deliver.new.live =
-    grind (arith, common_steps) in
-    whole ∙ c.deliver.ensures ∙ ap (map delivered) (c.deref_mut-2.ensures.value ∙ heard g c log stands short) ∙ delivered_all made all first
+    c.deliver.ensures.items ∙ ap (map delivered) (heard g c log stands short) ∙ delivered_all made all c.args.self.now.audience.live.items
 
 pub returns-clause-directory : goal.returns-clause-directory
-unfolding begun
 returns-clause-directory g c = λ log stands short. (stepped g c log stands short).directory
 
 pub returns-clause-watched : goal.returns-clause-watched
-unfolding begun
 returns-clause-watched g c = λ log stands short.
     let R = g.W.Watch.may_follow in
     let n = c.args.number in
@@ -60,10 +45,8 @@ returns-clause-watched g c = λ log stands short.
     let all = told c.args.act.now log in
     let old : List Live = c.args.self.now.audience.live.items in
     let hears : List Live = map (has_heard made all) (map cleared old) in
-    let empty : (with_items c.args.self.now.audience.live c.clear.new.live).items ≡ map cleared c.args.self.now.audience.live.items =
-    grind (arith, common_steps, c.clear.ensures, c.deref_mut.ensures.value) in
     reached_append R (shown_by n made (map who old) all) (flat_map (gathered_put n) hears) c.args.watch.now c.speak-route.new.watch c.show_groups.new.watch
     (subst (λ (peers : List Numbered). Reached R c.args.watch.now (shown_by n made peers all) c.speak-route.new.watch)
-    (ap (map who) empty ∙ who_cleared old) (c.speak-route.ensures.watched log stands short))
+    (ap (map who) c.clear.ensures.items ∙ who_cleared old) (c.speak-route.ensures.watched log stands short))
     (subst (λ (live : List Live). Reached R c.speak-route.new.watch (flat_map (gathered_put n) live) c.show_groups.new.watch)
-    (c.deref.ensures.value ∙ heard g c log stands short) c.show_groups.ensures)
+    (heard g c log stands short) c.show_groups.ensures)

@@ -21,7 +21,7 @@ loop-number-init g c = record {
 
 -- the first that is due, as the loop found it
 found : (g : Over) (c : goal.After-end-arg-in-Some-1 g) → first_due c.loop-number.self.audience.live.items ≡ Some (c.in-Some.number, c.in-Some.cause)
-found g c = sym (c.due.ensures ∙ ap first_due c.deref.ensures.value) ∙ c.in-Some.is
+found g c = sym c.due.ensures ∙ c.in-Some.is
 
 pub end-requires-clause-stands : goal.end-requires-clause-stands
 end-requires-clause-stands g c = c.loop-number.invariant.stands
@@ -36,13 +36,13 @@ end-requires-clause-few g c = let few = c.loop-number.invariant.few in omega ari
 
 pub loop-number-smaller : goal.loop-number-smaller
 loop-number-smaller g c =
-    let first = sym (c.due.ensures ∙ ap first_due c.deref.ensures.value) ∙ c.in-Some.is in
+    let first = sym c.due.ensures ∙ c.in-Some.is in
     (next_end c.loop-number.self c.end.new.self c.in-Some.number c.in-Some.cause c.loop-number.invariant.stands c.end.ensures.stands c.end.ensures.capacity
     c.end.ensures.ended first).fewer
 
 pub loop-number-preserved : goal.loop-number-preserved
 loop-number-preserved g c =
-    let first = sym (c.due.ensures ∙ ap first_due c.deref.ensures.value) ∙ c.in-Some.is in
+    let first = sym c.due.ensures ∙ c.in-Some.is in
     let near = next_end c.loop-number.self c.end.new.self c.in-Some.number c.in-Some.cause c.loop-number.invariant.stands c.end.ensures.stands
     c.end.ensures.capacity c.end.ensures.ended first in
     record {
@@ -71,7 +71,7 @@ returns-clause-capacity g c = c.loop-number.invariant.capacity
 
 pub returns-clause-settled : goal.returns-clause-settled
 returns-clause-settled g c =
-    none_due c.loop-number.self c.loop-number.invariant.stands (sym (c.due.ensures ∙ ap first_due c.deref.ensures.value) ∙ c.in_default.is)
+    none_due c.loop-number.self c.loop-number.invariant.stands (sym c.due.ensures ∙ c.in_default.is)
     ∙ c.loop-number.invariant.rest
 
 pub returns-clause-watched : goal.returns-clause-watched

@@ -1,11 +1,8 @@
-use Rattle.std.proofs.Common.{◌≡◌, ◌++◌, ◌≤◌, List, length, map, take, drop, Option, Some, IfSome, ap, sym, ◌∙◌, subst, arith}
-use Rattle.std.proofs.lemmas.Grind.{common_steps}
+use Rattle.std.proofs.Common.{◌≡◌, ◌≤◌, Option, Some, IfSome, ap, sym, ◌∙◌, subst, arith}
 use Rattle.wl_proto.specs.Rows.{Message, event_message}
 use Rattle.wl_proto.specs.Spelling.{message_len}
 use Rattle.broker_model.specs.Groups.{message_of}
 use Rattle.seat_wire.specs.Events.{tokens_with}
-use Rattle.seat_audience.specs.declared.live.Live.{Live}
-use Rattle.seat_audience.specs.Lives.{hears_message}
 use Rattle.seat_audience.proofs.Overhearing.{unheard, silent, heard_by}
 use Rattle.seat_audience.proofs.audience.Audience.gather.Goals as goal
 
@@ -28,11 +25,8 @@ pub returns-then-event_len-le-LONGEST-clause-live : goal.returns-then-event_len-
 returns-then-event_len-le-LONGEST-clause-live c =
     let made = c.args.self.now.directory.made in
     let what : Some (event_message c.in-Some-event_of.event) ≡ message_of made c.args.told.now.event = c.in-Some-event_of.ensures made c.id_named-id.ensures in
-    let here : List Live = c.args.self.now.live.items in
-    let whole : take c.args.self.now.live.len (c.hear.new.live ++ drop (length c.hear.new.live) here) ≡ c.hear.new.live = grind (arith, common_steps) in
-    let heard : c.hear.new.live ≡ map (hears_message c.in-Some.to (event_message c.in-Some-event_of.event)) here =
-    c.hear.ensures ∙ ap (map (hears_message c.in-Some.to (event_message c.in-Some-event_of.event))) c.deref_mut.ensures.value in
-    λ _. whole ∙ heard ∙ heard_by made c.args.told.now c.in-Some.to (event_message c.in-Some-event_of.event) here (sym c.in-Some.ensures.value) (sym what)
+    λ _. c.hear.ensures.items
+    ∙ heard_by made c.args.told.now c.in-Some.to (event_message c.in-Some-event_of.event) c.args.self.now.live.items (sym c.in-Some.ensures.value) (sym what)
 
 pub returns-else-event_len-le-LONGEST-clause-live : goal.returns-else-event_len-le-LONGEST-clause-live
 returns-else-event_len-le-LONGEST-clause-live c =

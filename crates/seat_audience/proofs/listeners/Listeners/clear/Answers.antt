@@ -1,0 +1,24 @@
+use Rattle.std.proofs.Common.{rules, ◌≡◌, ℕ, suc, ◌+◌, ◌<◌, ◌≤◌, ◌||◌, ◌&&◌, Bool, true, false, not, eqb, List, [], ◌∷◌, ◌++◌, length, get_or, take, map, filter, Option, Some, None, slice_get, IfSome, IfNone, Ok, Err, refl, sym, ap, ◌∙◌, subst, arith}
+use Rattle.seat_audience.specs.Visits.{Peers, map_at, at_marked, AreListening}
+use Rattle.std.proofs.lemmas.List.{length-map}
+use Rattle.seat_audience.specs.Lives.{cleared}
+use Rattle.seat_audience.proofs.Visiting.{all_visited}
+use Rattle.seat_audience.proofs.Listening.{listening_cleared, unmarked_cleared}
+use Rattle.seat_audience.proofs.listeners.Listeners.clear.Goals as goal
+
+all : (c : goal.After-clear) → c.clear_each.new.peers.items ≡ map cleared c.self.inside.peers.items
+all c =
+    let live = c.self.inside.peers.items in
+    c.clear_each.ensures.items
+    ∙ ap (λ (ms : List ℕ). map_at (at_marked ms cleared) 0 live) c.places.ensures.places
+    ∙ all_visited cleared c.self.inside.told.places live (unmarked_cleared live c.self.inside.told.places c.self.inside.due.places c.self.invariant.0)
+
+pub invariant_of-self : goal.invariant_of-self
+invariant_of-self c =
+    let live = c.self.inside.peers.items in
+    let same = length-map live cleared in
+    rw (all c, c.clear.ensures.none, same)
+    (listening_cleared live c.self.inside.told.places c.self.inside.due.places c.self.invariant.0, omega (arith, c.self.invariant.1, c.clear.ensures.bound), c.self.invariant.2)
+
+pub returns : goal.returns
+returns c = record { items = all c ∙ ap (λ (v : Peers). map cleared v.items) c.self.view_is }

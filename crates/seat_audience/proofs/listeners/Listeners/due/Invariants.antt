@@ -1,0 +1,9 @@
+use Rattle.std.proofs.Common.{◌≡◌, ◌≤◌, ◌<◌, ℕ, true, false, length, get_or, take, None}
+use Rattle.seat_audience.specs.declared.live.Live.{Live}
+use Rattle.seat_audience.specs.Marks.{is_marked}
+use Rattle.seat_audience.specs.Visits.{cause_of}
+use Rattle.seat_audience.proofs.listeners.Listeners.due.Given as goal
+
+-- none at the marked places so far has to be ended
+abbrev pub invariant-loop-place : goal.invariant-loop-place
+invariant-loop-place l = (k : ℕ) (d : Live) → is_marked k (take l.place-index l.place-items) ≡ true → cause_of (get_or l.self.items k d) ≡ None

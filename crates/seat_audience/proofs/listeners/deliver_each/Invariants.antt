@@ -1,0 +1,11 @@
+use Rattle.std.proofs.Common.{◌≡◌, take}
+use Rattle.seat_audience.specs.Lives.{delivered}
+use Rattle.seat_audience.specs.Visits.{map_at, at_marked}
+use Rattle.seat_audience.proofs.listeners.deliver_each.Given as goal
+
+-- those at the marked places so far are visited
+abbrev pub invariant-loop-place : goal.invariant-loop-place
+invariant-loop-place l = record {
+  items : l.peers.items ≡ map_at (at_marked (take l.place-index l.told) delivered) 0 l.fn.peers.items;
+  room : l.peers.room ≡ l.fn.peers.room;
+}
