@@ -7,3 +7,4 @@ pub mod Marking
 pub mod Visiting
 pub mod Placing
 pub mod Listening
+pub mod Seating

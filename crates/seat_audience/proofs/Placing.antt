@@ -16,17 +16,17 @@ use Rattle.seat_audience.specs.Gathered.{with_message}
 use Rattle.seat_audience.specs.Lives.{AreOver, hears_message, delivered, has_room}
 use Rattle.seat_audience.specs.Visits.{changed_at, IsAt, HasNone, IsAboveAll, AreInOrder}
 
-module _ (key : Live → ℕ) where
-  over_sooner : (live : List Live) (p q : ℕ) → AreOver key q live → p ≤ q → AreOver key p live
+module _ {X : Type 0} (key : X → ℕ) where
+  over_sooner : (live : List X) (p q : ℕ) → AreOver key q live → p ≤ q → AreOver key p live
   over_sooner [] p q over le = tt
   over_sooner (l ∷ live) p q over le = (omega (arith, over.0), over.1)
 
-  pub key_over : (live : List Live) (q i : ℕ) (d : Live) → AreOver key q live → i < length live → q < key (get_or live i d)
+  pub key_over : (live : List X) (q i : ℕ) (d : X) → AreOver key q live → i < length live → q < key (get_or live i d)
   key_over [] q i d over lt = absurd (omega arith)
   key_over (l ∷ live) q zero d over lt = over.0
   key_over (l ∷ live) q (suc i) d over lt = omega (arith, over.0, key_over live (key l) i d over.1 (omega arith))
 
-  pub keys_rise : (live : List Live) (q i j : ℕ) (d : Live) → AreOver key q live → i < j → j < length live → key (get_or live i d) < key (get_or live j d)
+  pub keys_rise : (live : List X) (q i j : ℕ) (d : X) → AreOver key q live → i < j → j < length live → key (get_or live i d) < key (get_or live j d)
   keys_rise [] q i j d over lt within = absurd (omega arith)
   keys_rise (l ∷ live) q zero zero d over lt within = absurd (omega arith)
   keys_rise (l ∷ live) q zero (suc j) d over lt within = key_over live (key l) j d over.1 (omega arith)
@@ -34,26 +34,21 @@ module _ (key : Live → ℕ) where
   keys_rise (l ∷ live) q (suc i) (suc j) d over lt within = keys_rise live (key l) i j d over.1 (omega arith) (omega arith)
 
   -- no two are counted alike
-  pub keys_apart : (live : List Live) (q i j : ℕ) (d : Live) → AreOver key q live → i < length live → j < length live → (i ≡ j → ⊥) →
+  pub keys_apart : (live : List X) (q i j : ℕ) (d : X) → AreOver key q live → i < length live → j < length live → (i ≡ j → ⊥) →
       key (get_or live i d) ≡ key (get_or live j d) → ⊥
   keys_apart live q i j d over in_i in_j differs same = grind (arith, keys_rise live q i j d over, keys_rise live q j i d over)
 
-  pub over_changed : (f : Live → Live) → ((l : Live) → key (f l) ≡ key l) → (place : ℕ) (live : List Live) (q : ℕ) → AreOver key q live → AreOver key q (changed_at place f live)
-  over_changed f same place [] q over = tt
-  over_changed f same zero (l ∷ live) q over = rw (same l) (over.0, over.1)
-  over_changed f same (suc place) (l ∷ live) q over = (over.0, over_changed f same place live (key l) over.1)
-
-  pub over_removed : (place : ℕ) (live : List Live) (q : ℕ) → AreOver key q live → AreOver key q (remove live place)
+  pub over_removed : (place : ℕ) (live : List X) (q : ℕ) → AreOver key q live → AreOver key q (remove live place)
   over_removed zero [] q over = tt
   over_removed (suc place) [] q over = tt
   over_removed zero (l ∷ live) q over = over_sooner live q (key l) over.1 (omega (arith, over.0))
   over_removed (suc place) (l ∷ live) q over = (over.0, over_removed place live (key l) over.1)
 
-  pub over_pushed : (x : Live) (live : List Live) (q : ℕ) → AreOver key q live → q < key x → AllByRecursion (λ (m : Live). key m < key x) live → AreOver key q (live ++ x ∷ [])
+  pub over_pushed : (x : X) (live : List X) (q : ℕ) → AreOver key q live → q < key x → AllByRecursion (λ (m : X). key m < key x) live → AreOver key q (live ++ x ∷ [])
   over_pushed x [] q over lt all = (lt, tt)
   over_pushed x (l ∷ live) q over lt all = (over.0, over_pushed x live (key l) over.1 all.0 all.1)
 
-  module _ (live : List Live) (over : AreOver key 0 live) (x : ℕ) (none : Live) where
+  module _ (live : List X) (over : AreOver key 0 live) (x : ℕ) (none : X) where
     comparisons_rise : IsNonDecreasingBy (λ l. ordering_index (nat_cmp (key l) x)) live
     comparisons_rise = IsNonDecreasingBy-from_default (λ l. ordering_index (nat_cmp (key l) x)) live none (λ i j le within.
         let keys : key (get_or live i none) ≤ key (get_or live j none) =
@@ -61,7 +56,7 @@ module _ (key : Live → ℕ) where
         grind (arith, nat_tests))
 
   -- what a search by halves answers
-  pub searched : (live : List Live) → AreOver key 0 live → (x : ℕ) (r : Result ℕ ℕ) → IsSearchInRange r (length live) → IsBinarySearchResult (λ l. nat_cmp (key l) x) live r →
+  pub searched : (live : List X) → AreOver key 0 live → (x : ℕ) (r : Result ℕ ℕ) → IsSearchInRange r (length live) → IsBinarySearchResult (λ l. nat_cmp (key l) x) live r →
       record { found : IfOk r (IsAt key x live); absent : IfErr r (λ i. HasNone key x live) }
   searched live over x (Ok at) in_range equal = record { found = record { within = in_range; has = λ d. ranked _ x _ (sym (equal d)) }; absent = tt }
   searched live over x (Err at) in_range parted = record {
@@ -71,6 +66,11 @@ module _ (key : Live → ℕ) where
         let above = λ (l : at ≤ i). ranked (key (get_or live i d)) x _ (sym ((parted (comparisons_rise live over x d)).1 i d l lt)) in
         grind (arith, below, above);
   }
+
+pub over_changed : (key : Live → ℕ) (f : Live → Live) → ((l : Live) → key (f l) ≡ key l) → (place : ℕ) (live : List Live) (q : ℕ) → AreOver key q live → AreOver key q (changed_at place f live)
+over_changed key f same place [] q over = tt
+over_changed key f same zero (l ∷ live) q over = rw (same l) (over.0, over.1)
+over_changed key f same (suc place) (l ∷ live) q over = (over.0, over_changed key f same place live (key l) over.1)
 
 -- a change of one that keeps its number and label
 pub order_changed : (f : Live → Live) (place : ℕ) (live : List Live) → ((l : Live) → (f l).number ≡ l.number) → ((l : Live) → (f l).label ≡ l.label) → AreInOrder live →

@@ -6,3 +6,4 @@ pub mod Tells
 pub mod Changes
 pub mod Marks
 pub mod Visits
+pub mod Seated

@@ -56,7 +56,7 @@ number_of q [] = None
 number_of q (l ∷ rest) = (if is_number q l then Some l else number_of q rest)
 
 -- what is counted of each is above this number and those before
-abbrev pub AreOver : (Live → ℕ) → ℕ → List Live → Type 0
+abbrev pub AreOver : {X : Type 0} → (X → ℕ) → ℕ → List X → Type 0
 AreOver key q [] = Unit {0}
 AreOver key q (l ∷ rest) = (q < key l) × AreOver key (key l) rest
 

@@ -39,13 +39,13 @@ at_marked marked f k l = (if is_marked k marked then f l else l)
 abbrev pub cause_of : Live → Option (ℕ × EndCause)
 cause_of l = (if l.is_refused then Some (l.number, Bad) else (if l.is_choked then Some (l.number, Full) else None))
 
--- a peer for which this is counted stands at the place
-pub record IsAt (key : Live → ℕ) (x : ℕ) (live : List Live) (place : ℕ) : Type 0 where
+-- one for which this is counted stands at the place
+pub record IsAt {X : Type 0} (key : X → ℕ) (x : ℕ) (live : List X) (place : ℕ) : Type 0 where
   pub within : place < length live
-  pub has : (d : Live) → key (get_or live place d) ≡ x
+  pub has : (d : X) → key (get_or live place d) ≡ x
 
 -- it is counted for none
-abbrev pub HasNone : (Live → ℕ) → ℕ → List Live → Type 0
+abbrev pub HasNone : {X : Type 0} → (X → ℕ) → ℕ → List X → Type 0
 HasNone key x live = All (λ l. key l ≡ x → ⊥) live
 
 -- its number and label are above those of all others

@@ -9,6 +9,7 @@ mod listeners;
 mod live;
 mod marks;
 mod peers;
+mod place;
 
 pub use audience::Audience;
 pub use directory::{Directory, Named};

@@ -15,8 +15,10 @@ ghost use Rattle.seat_audience.specs.Visits.{changed_at, refusing, rewritten, ta
 
 use crate::directory::Named;
 use crate::live::Live;
+use crate::place::Place;
 use relay_model::Label;
 use seat_wire::Meaning;
+use slab::Slab;
 use std::alloc::Global;
 use std::marker::Model;
 use wio_core::NoMemory;
@@ -27,20 +29,27 @@ use wl_proto::Event;
 /// In contracts it is the list of them, and for how many more there is room. A place is found by halves.
 #[derive(Drop)]
 pub(crate) struct Peers {
-    live: Vec<Live>,
+    slab: Slab<Live>,
+    // By rising number and label.
+    places: Vec<Place>,
 }
 
 impl Model for Peers {
-    ghost use Rattle.std.specs.Prelude.{◌-◌, vec_len, vec_capacity};
-    ghost use Rattle.seat_audience.specs.Visits.{Peers, peers_code, AreInOrder};
+    ghost use Rattle.std.specs.Prelude.{◌-◌, vec_len, vec_capacity, min};
+    ghost use Rattle.slab.specs.Slab.{slab_len};
+    ghost use Rattle.seat_audience.specs.Visits.{Peers, peers_code};
+    ghost use Rattle.seat_audience.specs.Seated.{seated, AreSeated};
 
     ghost Value = { Peers };
 
     ghost coded = { peers_code };
 
-    ghost view = { λ p. record { items = p.live.items; room = vec_capacity p.live - vec_len p.live } };
+    ghost view = { λ p. record {
+      items = seated p.slab p.places.items;
+      room = min (p.slab.capacity - slab_len p.slab) (vec_capacity p.places - vec_len p.places);
+    } };
 
-    ghost invariant = { λ p. AreInOrder p.live.items };
+    ghost invariant = { λ p. AreSeated p.slab p.places.items };
 }
 
 impl Peers {
@@ -49,7 +58,8 @@ impl Peers {
         ensures nobody { result.items ≡ [] }
     {
         Peers {
-            live: Vec::new(alloc),
+            slab: Slab::new(alloc),
+            places: Vec::new(alloc),
         }
     }
 
@@ -57,14 +67,14 @@ impl Peers {
     pub(crate) fn len(&self) -> usize
         ensures { result ≡ length self.now.items }
     {
-        self.live.len()
+        self.places.len()
     }
 
     /// How many they will be once there is one more.
     pub(crate) fn next_len(&self) -> usize
         ensures { result ≡ length self.now.items + 1 }
     {
-        self.live.len() + 1
+        self.places.len() + 1
     }
 
     /// Makes room for one more. `NoMemory` is its one error, after which there is the room that there was.
@@ -73,7 +83,8 @@ impl Peers {
         ensures room { OnOk result (0 < self.new.room) }
         ensures never_less { self.old.room ≤ self.new.room }
     {
-        self.live.reserve(1)?;
+        self.slab.reserve(1)?;
+        self.places.reserve(1)?;
         Ok(())
     }
 
@@ -84,7 +95,10 @@ impl Peers {
         ensures put { self.new.items ≡ self.old.items ++ peer ∷ [] }
         ensures room_left { self.old.room ≤ self.new.room + 1 }
     {
-        self.live.push_reserved(peer);
+        let number = peer.number;
+        let label = peer.label;
+        let key = self.slab.insert_reserved(peer);
+        self.places.push_reserved(Place { number, label, key });
     }
 
     /// The peer at the place.
@@ -92,7 +106,7 @@ impl Peers {
         requires place { place < length self.now.items }
         ensures { slice_get self.now.items place ≡ Some result.now }
     {
-        &self.live[place]
+        &self.slab[self.places[place].key]
     }
 
     /// The place of the peer with the number.
@@ -101,7 +115,7 @@ impl Peers {
         ensures none { IfNone result (HasNone (λ l. l.number) number self.now.items) }
         ensures order { AreInOrder self.now.items }
     {
-        match self.live.binary_search_by_key(&number, |peer| peer.number) {
+        match self.places.binary_search_by_key(&number, |place| place.number) {
             Ok(place) => Some(place),
             Err(_) => None,
         }
@@ -113,7 +127,7 @@ impl Peers {
         ensures none { IfNone result (HasNone (λ l. l.label) label self.now.items) }
         ensures order { AreInOrder self.now.items }
     {
-        match self.live.binary_search_by_key(&label, |peer| peer.label) {
+        match self.places.binary_search_by_key(&label, |place| place.label) {
             Ok(place) => Some(place),
             Err(_) => None,
         }
@@ -126,7 +140,8 @@ impl Peers {
         ensures items { self.new.items ≡ remove self.old.items place }
         ensures room { self.old.room ≤ self.new.room }
     {
-        self.live.remove(place)
+        let place = self.places.remove(place);
+        self.slab.remove(place.key)
     }
 
     /// Nothing is gathered for the peer at the place any more.
@@ -135,7 +150,8 @@ impl Peers {
         ensures items { self.new.items ≡ changed_at place cleared self.old.items }
         ensures room { self.new.room ≡ self.old.room }
     {
-        self.live[place].clear();
+        let key = self.places[place].key;
+        self.slab[key].clear();
     }
 
     /// The peer at the place gathers the event, where the object is its own.
@@ -146,7 +162,8 @@ impl Peers {
         ensures items { self.new.items ≡ changed_at place (hears_message to.now (event_message event.now)) self.old.items }
         ensures room { self.new.room ≡ self.old.room }
     {
-        self.live[place].hear(to, event, token);
+        let key = self.places[place].key;
+        self.slab[key].hear(to, event, token);
     }
 
     /// What is gathered for the peer at the place goes whole into its store, or is left out whole, which chokes it.
@@ -155,7 +172,8 @@ impl Peers {
         ensures items { self.new.items ≡ changed_at place delivered self.old.items }
         ensures room { self.new.room ≡ self.old.room }
     {
-        self.live[place].deliver();
+        let key = self.places[place].key;
+        self.slab[key].deliver();
     }
 
     /// The last message of the peer at the place was refused.
@@ -164,7 +182,8 @@ impl Peers {
         ensures items { self.new.items ≡ changed_at place refusing self.old.items }
         ensures room { self.new.room ≡ self.old.room }
     {
-        self.live[place].is_refused = true;
+        let key = self.places[place].key;
+        self.slab[key].is_refused = true;
     }
 
     /// What a message to the object with the id makes of the peer at the place. `NoMemory` is its one error, after which all is as before.
@@ -182,7 +201,8 @@ impl Peers {
         ensures err { OnErr result (self.new.items ≡ self.old.items) }
         ensures room { self.new.room ≡ self.old.room }
     {
-        self.live[place].change(id, label, meaning)
+        let key = self.places[place].key;
+        self.slab[key].change(id, label, meaning)
     }
 
     /// Takes from the store of the peer at the place, as `Store::take` does.
@@ -202,6 +222,7 @@ impl Peers {
         ensures rest { self.new.items ≡ changed_at place (taken result.0) self.old.items }
         ensures room { self.new.room ≡ self.old.room }
     {
-        self.live[place].store.take(buf, tokens)
+        let key = self.places[place].key;
+        self.slab[key].store.take(buf, tokens)
     }
 }
