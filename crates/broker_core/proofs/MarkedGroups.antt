@@ -94,8 +94,11 @@ all_from : (f : Live → List Watched) (ms : List ℕ) (k : ℕ) (live : List Li
     ((j : ℕ) (d : Live) → j < length live → is_marked (k + j) ms ≡ false → f (get_or live j d) ≡ []) → put_at f ms k live ≡ flat_map f live
 all_from f ms k [] rest = refl
 all_from f ms k (l ∷ live) rest =
-    rw (step (is_marked k ms) refl, all_from f ms (suc k) live
-    (λ j d lt off. let next : k + suc j ≡ suc k + j = omega arith in rest (suc j) d (omega arith) (rw next off))) refl
+    rw (
+      step (is_marked k ms) refl,
+      all_from f ms (suc k) live
+          (λ j d lt off. let next : k + suc j ≡ suc k + j = omega arith in rest (suc j) d (omega arith) (rw next off)),
+    ) refl
   where
     step : (b : Bool) → is_marked k ms ≡ b → (if b then f l else []) ≡ f l
     step true is = refl

@@ -101,10 +101,6 @@ found_at q place searched live l same first within is =
       numbered = sym (subst (λ (ls : List Live). slice_get ls place ≡ number_of q ls) same first) ∙ here;
     }
 
--- it is one
-pub one_found : (q place : ℕ) (live : List Live) (a b : Live) → IsFoundAt q place live a → IsFoundAt q place live b → a ≡ b
-one_found q place live a b f g = same_Some a b (sym f.here ∙ g.here)
-
 -- somebody with the number is there
 pub somebody : (q : ℕ) (live : List Live) (o : Option Live) → number_of q live ≡ o → IsSome o → (l : Live) × (number_of q live ≡ Some l)
 somebody q live None e h = cc

@@ -1,10 +1,8 @@
 -- What a message makes of one of all live peers.
-use Rattle.std.proofs.Common.{◌≡◌, ℕ, ◌<◌, List, ◌∷◌, ◌++◌, length, get_or, set, slice_get, Option, Some, IfSome, refl, ap, sym, subst, ◌∙◌}
+use Rattle.std.proofs.Common.{◌≡◌, ℕ, ◌<◌, List, length, get_or, set, slice_get, Option, Some, IfSome, refl, sym, subst}
 use Rattle.std.proofs.lemmas.Option.{slice_get_read}
 use Rattle.relay_model.specs.declared.act.Act.{Act}
-use Rattle.broker_model.specs.Ids.{Made}
 use Rattle.broker_model.specs.Requests.{Argument}
-use Rattle.broker_model.specs.Resolve.{made_new}
 use Rattle.seat_audience.specs.declared.live.Live.{Live}
 use Rattle.seat_audience.specs.Changes.{IsChanged, IsChangedAt}
 
@@ -19,12 +17,3 @@ changed_at place id n act new live before after within read changed = record {
   others = refl;
   changed = subst (λ (o : Option Live). IfSome o (λ l. IsChanged id n act new l after)) (sym (there place live before within read)) changed;
 }
-
--- what it asked for is made for it
-pub made_at : (place id n : ℕ) (act : Act) (new : Argument) (live : List Live) (before after : Live) (old now : List Made) → place < length live →
-    before ≡ get_or live place before → IsChanged id n act (Some new) before after →
-    now ≡ record { peer = after.label; id = new.id; label = n; interface = new.interface } ∷ old →
-    IfSome (slice_get live place) (λ l. now ≡ made_new l.label n (Some new) ++ old)
-made_at place id n act new live before after old now within read changed made =
-    subst (λ (o : Option Live). IfSome o (λ l. now ≡ made_new l.label n (Some new) ++ old)) (sym (there place live before within read))
-    (made ∙ ap (λ (l : Live). made_new l.label n (Some new) ++ old) changed.same)

@@ -1,8 +1,9 @@
 -- Who isn't marked is quiet and calm: each change keeps that.
-use Rattle.std.proofs.Common.{◌≡◌, ℕ, zero, suc, ◌+◌, ◌<◌, ◌≤◌, Bool, true, false, ◌||◌, ◌&&◌, not, eqb, ltb, leb, List, [], ◌∷◌, ◌++◌, length, get_or, take, drop, map, filter, Option, Some, None, slice_get, if◌then◌else◌, refl, sym, ap, ◌∙◌, subst, arith, inl, inr}
-use Rattle.std.specs.Prelude.{◌==◌, nat_le}
-use Rattle.std.specs.List.{remove, All}
+use Rattle.std.proofs.Common.{◌≡◌, ℕ, zero, suc, ◌+◌, ◌<◌, Bool, true, false, ◌||◌, ◌&&◌, not, eqb, ltb, leb, List, [], ◌∷◌, ◌++◌, length, get_or, take, map, filter, Some, None, slice_get, if◌then◌else◌, refl, sym, ap, ◌∙◌, arith, inl, inr}
+use Rattle.std.specs.Prelude.{◌==◌}
+use Rattle.std.specs.List.{remove}
 use Rattle.std.proofs.lemmas.Bool.{cases_eq, cases_lt, eq-eqb, ne_eqb, lt-ltb, le-ltb, le-leb, leb-true, eqb-true, and_parts}
+use Rattle.std.proofs.lemmas.Option.{get_or_from_slice_get}
 use Rattle.std.proofs.lemmas.List.{get_or-map, length-map, length-append, get_or_append_left, get_or_push, take_more, append-nil}
 use Rattle.std.proofs.lemmas.List.Edits.{length-remove, get_or-remove_below, get_or-remove_above}
 use Rattle.relay_model.specs.declared.act.EndCause.TheVariants.{Bad, Full}
@@ -12,13 +13,13 @@ use Rattle.wl_proto.specs.Rows.{Message}
 use Rattle.broker_model.specs.Groups.{pair_of}
 use Rattle.seat_audience.specs.declared.directory.Named.{Named}
 use Rattle.seat_audience.specs.declared.live.Live.{Live}
-use Rattle.seat_audience.specs.Gathered.{empty, with_message}
+use Rattle.seat_audience.specs.Gathered.{with_message}
 use Rattle.seat_audience.specs.Changes.{first_due}
 use Rattle.seat_audience.specs.Lives.{AreOver, cleared, hears_message, delivered, has_room, is_number, number_of}
 use Rattle.seat_audience.specs.Marks.{is_marked, AreWithin}
 use Rattle.seat_audience.specs.Visits.{changed_at, rewritten, cause_of, IsAt, HasNone, AreInOrder, IsQuiet, IsCalm, IsBounded, IsNew, AreListening}
 use Rattle.seat_audience.proofs.Marking.{within_later, below, marked_before, marked_more}
-use Rattle.seat_audience.proofs.Visiting.{got, one_changed, changed_length, changed_here, changed_others}
+use Rattle.seat_audience.proofs.Visiting.{one_changed, changed_length, changed_here, changed_others}
 use Rattle.seat_audience.proofs.Placing.{key_over, keys_apart}
 
 -- nothing is gathered any more
@@ -226,7 +227,7 @@ pub noted : (live : List Live) (told due : List ℕ) (i p k : ℕ) (d l : Live) 
 noted live told due i p k d l is on off before = elim (cases_eq p k) [
   | inl same ↦
       let test : eqb p k ≡ true = eq-eqb p k same in
-      let here : get_or live k d ≡ l = rw (← same) (got live p l d is) in
+      let here : get_or live k d ≡ l = rw (← same) (get_or_from_slice_get live p l d is) in
       rw here (unchoked l.is_choked (is_marked k due) (rw test at off))
   | inr other ↦
       let test : eqb p k ≡ false = ne_eqb p k other in
@@ -244,7 +245,7 @@ noted live told due i p k d l is on off before = elim (cases_eq p k) [
 pub refused_at : (after x : Live) (place : ℕ) (live : List Live) → place < length live → slice_get (changed_at place (rewritten after) live) place ≡ Some x →
     after.is_refused ≡ x.is_refused
 refused_at after x place live lt is =
-    ap (λ (l : Live). l.is_refused) (sym (changed_here (rewritten after) place live x lt) ∙ got (changed_at place (rewritten after) live) place x x is)
+    ap (λ (l : Live). l.is_refused) (sym (changed_here (rewritten after) place live x lt) ∙ get_or_from_slice_get (changed_at place (rewritten after) live) place x x is)
 
 pub not_here : (b c : Bool) (place : ℕ) → ((b && eqb place place) || c) ≡ false → b ≡ false
 not_here true c place off = absurd (no (rw (eq-eqb place place refl) at off))
@@ -279,7 +280,7 @@ pub heard_there : (to : Named) (m : Message) (place : ℕ) (live : List Live) �
 heard_there to m place live order at =
     one_changed (hears_message to m) place live
     (λ j d lt other. unheard_by to m (get_or live j d) (λ same.
-        keys_apart (λ l. l.label) live 0 place j d order.labels at.within lt other (at.has d ∙ sym same)))
+    keys_apart (λ l. l.label) live 0 place j d order.labels at.within lt other (at.has d ∙ sym same)))
 
 pub heard_nowhere : (to : Named) (m : Message) (live : List Live) → HasNone (λ l. l.label) to.peer live → live ≡ map (hears_message to m) live
 heard_nowhere to m [] none = refl
@@ -308,7 +309,7 @@ pub due_there : (live : List Live) (told due : List ℕ) → AreListening live t
 due_there live told due l i lt before x is not_none =
     let p = get_or due i 0 in
     let within : p < length live = below due 0 (length live) i 0 l.due_within lt in
-    let here : get_or live p x ≡ x = got live p x x is in
+    let here : get_or live p x ≡ x = get_or_from_slice_get live p x x is in
     ap cause_of (sym here) ∙ first_at live p x within (λ k less. at k less (is_marked k due) refl) (λ none. not_none (ap cause_of (sym here) ∙ none))
   where
     at : (k : ℕ) → k < get_or due i 0 → (b : Bool) → is_marked k due ≡ b → cause_of (get_or live k x) ≡ None
@@ -325,7 +326,7 @@ due_more live due i k d x lt is none before on =
     by true in_front on = before in_front
     by false new on =
         let same : get_or due i 0 ≡ k = eqb-true _ _ (rw new at on) in
-        let here : get_or live k d ≡ x = rw (← same) (got live (get_or due i 0) x d is) in
+        let here : get_or live k d ≡ x = rw (← same) (get_or_from_slice_get live (get_or due i 0) x d is) in
         ap cause_of here ∙ none
 
 -- where no marked place has a cause, nobody has

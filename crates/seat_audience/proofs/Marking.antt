@@ -4,7 +4,7 @@ use Rattle.std.specs.List.{insert}
 use Rattle.std.specs.List.Sorted.{IsSearchInRange, IsBinarySearchResult, IsNonDecreasingBy}
 use Rattle.std.specs.Ordering.{nat_cmp, ordering_index}
 use Rattle.std.proofs.lemmas.Cmp.{ranked}
-use Rattle.std.proofs.lemmas.Bool.{both_ways, cases_eq, cases_lt, cases_order, eq-eqb, ne_eqb, lt-ltb, le-ltb, ltb-true, ltb-false}
+use Rattle.std.proofs.lemmas.Bool.{both_ways, cases_eq, cases_order, eq-eqb, ne_eqb, lt-ltb, le-ltb}
 use Rattle.std.proofs.lemmas.List.Sorted.{IsNonDecreasingBy-from_default}
 use Rattle.std.proofs.lemmas.Bool.Decides.{nat_tests}
 use Rattle.seat_audience.specs.Marks.{is_marked, lowered, AreWithin}
@@ -37,10 +37,6 @@ rises (m ∷ ms) k n (suc i) (suc j) d w le lt = rises ms (suc m) n i j d w.2 (o
 pub unmarked_below : (ms : List ℕ) (p k n : ℕ) → AreWithin k n ms → p < k → is_marked p ms ≡ false
 unmarked_below [] p k n w lt = refl
 unmarked_below (m ∷ ms) p k n w lt = rw (ne_eqb m p (λ e. absurd (omega (arith, w.0)))) (unmarked_below ms p (suc m) n w.2 (omega (arith, w.0)))
-
-pub unmarked_past : (ms : List ℕ) (p k n : ℕ) → AreWithin k n ms → n ≤ p → is_marked p ms ≡ false
-unmarked_past [] p k n w le = refl
-unmarked_past (m ∷ ms) p k n w le = rw (ne_eqb m p (λ e. absurd (omega (arith, w.1)))) (unmarked_past ms p (suc m) n w.2 le)
 
 -- there are no more than there are places
 pub few : (ms : List ℕ) (k n : ℕ) → AreWithin k n ms → k ≤ n → length ms + k ≤ n
@@ -80,9 +76,12 @@ pub insert_within : (ms : List ℕ) (k n p at : ℕ) → AreWithin k n ms → k 
 insert_within [] k n p zero w le lt low high = (le, lt, tt)
 insert_within [] k n p (suc at) w le lt low high = (le, lt, tt)
 insert_within (m ∷ ms) k n p zero w le lt low high = (le, lt, (high 0 m (omega arith) (omega arith), w.1, w.2))
-insert_within (m ∷ ms) k n p (suc at) w le lt low high =
-    (w.0, w.1, insert_within ms (suc m) n p at w.2 (low 0 m (omega arith) (omega arith)) lt
-    (λ i d l h. low (suc i) d (omega arith) (omega arith)) (λ i d l h. high (suc i) d (omega arith) (omega arith)))
+insert_within (m ∷ ms) k n p (suc at) w le lt low high = (
+  w.0,
+  w.1,
+  insert_within ms (suc m) n p at w.2 (low 0 m (omega arith) (omega arith)) lt
+      (λ i d l h. low (suc i) d (omega arith) (omega arith)) (λ i d l h. high (suc i) d (omega arith) (omega arith)),
+)
 
 pub insert_marked : (ms : List ℕ) (p at k : ℕ) → is_marked k (insert ms at p) ≡ (eqb p k || is_marked k ms)
 insert_marked ms p zero k = refl
@@ -135,12 +134,12 @@ out_within (m ∷ ms) k n p w le from = elim (cases_order m p) [
       let is : eqb m p ≡ true = eq-eqb m p same in
       rw is (within_sooner (left_out p ms) k p n (out_past ms p n p (rw same at w.2) (omega arith)) from)
   | inr differs ↦ elim differs [
-      | inl less ↦
-          let other : eqb m p ≡ false = ne_eqb m p (λ e. absurd (omega arith)) in
-          let above : ltb p m ≡ false = le-ltb p m (omega arith) in
-          rw (other, above) (w.0, omega arith, out_within ms (suc m) n p w.2 le less)
-      | inr more ↦ within_sooner (left_out p (m ∷ ms)) k p n (out_past (m ∷ ms) p n p (more, w.1, w.2) (omega arith)) from
-    ]
+    | inl less ↦
+        let other : eqb m p ≡ false = ne_eqb m p (λ e. absurd (omega arith)) in
+        let above : ltb p m ≡ false = le-ltb p m (omega arith) in
+        rw (other, above) (w.0, omega arith, out_within ms (suc m) n p w.2 le less)
+    | inr more ↦ within_sooner (left_out p (m ∷ ms)) k p n (out_past (m ∷ ms) p n p (more, w.1, w.2) (omega arith)) from
+  ]
 ]
 
 pub out_marked : (ms : List ℕ) (p k : ℕ) → is_marked k (left_out p ms) ≡ is_marked (if ltb k p then k else suc k) ms
@@ -151,7 +150,7 @@ out_marked (m ∷ ms) p k = elim (cases_order m p) [
       let other : eqb m (if ltb k p then k else suc k) ≡ false = grind (arith, nat_tests) in
       rw (is, other) (out_marked ms p k)
   | inr differs ↦
-      let other : eqb m p ≡ false = ne_eqb m p (λ e. elim differs [ | inl l ↦ absurd (omega arith) | inr g ↦ absurd (omega arith) ]) in
+      let other : eqb m p ≡ false = ne_eqb m p (λ e. elim differs [ inl l ↦ absurd (omega arith) | inr g ↦ absurd (omega arith) ]) in
       let same : eqb (lowered p m) k ≡ eqb m (if ltb k p then k else suc k) = test differs in
       rw (other, same, out_marked ms p k) refl
 ]

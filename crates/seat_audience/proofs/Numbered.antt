@@ -1,52 +1,12 @@
 -- Where the live peer with a number stands among all, by rising number.
-use Rattle.std.proofs.Common.{◌≡◌, ℕ, zero, suc, ◌+◌, ◌<◌, Bool, true, false, List, [], ◌∷◌, Option, Some, None, refl, sym, ap, ◌∙◌, subst, arith}
-use Rattle.std.specs.Prelude.{not, filter, IfSome, IfNone}
-use Rattle.std.specs.List.{slice_get, position_from, remove}
+use Rattle.std.proofs.Common.{◌≡◌, ℕ, zero, suc, ◌+◌, ◌<◌, Bool, true, false, List, [], ◌∷◌, Some, None, refl, ap, ◌∙◌, subst, arith}
+use Rattle.std.specs.Prelude.{not, filter}
+use Rattle.std.specs.List.{slice_get, remove}
 use Rattle.std.proofs.lemmas.Bool.{eq-eqb, ne_eqb}
 use Rattle.seat_audience.specs.declared.live.Live.{Live}
 use Rattle.seat_audience.specs.Lives.{is_number, number_of, AreAbove, AreRising}
 
--- the first with the number, counted from a place
-first_from : (q from place : ℕ) (live : List Live) → position_from (is_number q) from live ≡ Some place →
-    (k : ℕ) × (place ≡ k + from) × (slice_get live k ≡ number_of q live)
-first_from q from place [] h = cc
-first_from q from place (l ∷ rest) h = step q from place l rest (is_number q l) refl h (first_from q (from + 1) place rest)
-  where
-    step : (q from place : ℕ) (l : Live) (rest : List Live) (b : Bool) → is_number q l ≡ b → position_from (is_number q) from (l ∷ rest) ≡ Some place →
-        (position_from (is_number q) (from + 1) rest ≡ Some place → (k : ℕ) × (place ≡ k + (from + 1)) × (slice_get rest k ≡ number_of q rest)) →
-        (k : ℕ) × (place ≡ k + from) × (slice_get (l ∷ rest) k ≡ number_of q (l ∷ rest))
-    step q from place l rest true e h more =
-        let here : Some from ≡ Some place = rw e at h in
-        let same : from ≡ place = cc in
-        (0, omega arith, rw e refl)
-    step q from place l rest false e h more =
-        let found = more (rw e at h) in
-        (suc found.0, omega (arith, found.1), rw e found.2)
-
--- the first with the number
-pub first_place : (q : ℕ) (live : List Live) (place : Option ℕ) → place ≡ position_from (is_number q) 0 live →
-    IfSome place (λ k. slice_get live k ≡ number_of q live)
-first_place q live None h = tt
-first_place q live (Some place) h =
-    let found = first_from q 0 place live (sym h) in
-    let same : found.0 ≡ place = omega (arith, found.1) in
-    subst (λ k. slice_get live k ≡ number_of q live) same found.2
-
-no_place_from : (q from : ℕ) (live : List Live) → position_from (is_number q) from live ≡ None → filter (is_number q) live ≡ []
-no_place_from q from [] h = refl
-no_place_from q from (l ∷ rest) h = step q from l rest (is_number q l) refl h (no_place_from q (from + 1) rest)
-  where
-    step : (q from : ℕ) (l : Live) (rest : List Live) (b : Bool) → is_number q l ≡ b → position_from (is_number q) from (l ∷ rest) ≡ None →
-        (position_from (is_number q) (from + 1) rest ≡ None → filter (is_number q) rest ≡ []) → filter (is_number q) (l ∷ rest) ≡ []
-    step q from l rest true e h more = let found : Some from ≡ None = rw e at h in cc
-    step q from l rest false e h more = rw e (more (rw e at h))
-
--- where no place has the number, nobody has
-pub no_place : (q : ℕ) (live : List Live) (place : Option ℕ) → place ≡ position_from (is_number q) 0 live → IfNone place (filter (is_number q) live ≡ [])
-no_place q live None h = no_place_from q 0 live (sym h)
-no_place q live (Some place) h = tt
-
--- then there is nobody to find
+-- where nobody has the number there is nobody to find
 pub nobody_found : (q : ℕ) (live : List Live) → filter (is_number q) live ≡ [] → number_of q live ≡ None
 nobody_found q [] h = refl
 nobody_found q (l ∷ rest) h = step q l rest (is_number q l) refl h (nobody_found q rest)

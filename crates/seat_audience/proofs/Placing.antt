@@ -1,5 +1,5 @@
 -- Live peers in order: what a search finds, and that each change keeps the order.
-use Rattle.std.proofs.Common.{◌≡◌, ℕ, zero, suc, ◌+◌, ◌<◌, ◌≤◌, List, [], ◌∷◌, ◌++◌, length, get_or, map, Bool, true, false, if◌then◌else◌, Result, Ok, Err, IfOk, IfErr, sym, ap, refl, ◌∙◌, subst, arith}
+use Rattle.std.proofs.Common.{◌≡◌, ℕ, zero, suc, ◌<◌, ◌≤◌, List, [], ◌∷◌, ◌++◌, length, get_or, map, Bool, true, false, if◌then◌else◌, Result, Ok, Err, IfOk, IfErr, sym, ap, refl, arith}
 use Rattle.std.specs.List.{AllByRecursion, remove}
 use Rattle.std.specs.List.Sorted.{IsSearchInRange, IsBinarySearchResult, IsNonDecreasingBy}
 use Rattle.std.specs.Ordering.{nat_cmp, ordering_index}
@@ -14,7 +14,7 @@ use Rattle.seat_audience.specs.declared.directory.Named.{Named}
 use Rattle.seat_audience.specs.declared.live.Live.{Live}
 use Rattle.seat_audience.specs.Gathered.{with_message}
 use Rattle.seat_audience.specs.Lives.{AreOver, hears_message, delivered, has_room}
-use Rattle.seat_audience.specs.Visits.{changed_at, IsAt, HasNone, IsAboveAll, AreInOrder}
+use Rattle.seat_audience.specs.Visits.{IsAt, HasNone}
 
 module _ {X : Type 0} (key : X → ℕ) where
   over_sooner : (live : List X) (p q : ℕ) → AreOver key q live → p ≤ q → AreOver key p live
@@ -67,38 +67,7 @@ module _ {X : Type 0} (key : X → ℕ) where
         grind (arith, below, above);
   }
 
-pub over_changed : (key : Live → ℕ) (f : Live → Live) → ((l : Live) → key (f l) ≡ key l) → (place : ℕ) (live : List Live) (q : ℕ) → AreOver key q live → AreOver key q (changed_at place f live)
-over_changed key f same place [] q over = tt
-over_changed key f same zero (l ∷ live) q over = rw (same l) (over.0, over.1)
-over_changed key f same (suc place) (l ∷ live) q over = (over.0, over_changed key f same place live (key l) over.1)
-
--- a change of one that keeps its number and label
-pub order_changed : (f : Live → Live) (place : ℕ) (live : List Live) → ((l : Live) → (f l).number ≡ l.number) → ((l : Live) → (f l).label ≡ l.label) → AreInOrder live →
-    AreInOrder (changed_at place f live)
-order_changed f place live number label order =
-    record {
-      numbers = over_changed (λ l. l.number) f number place live 0 order.numbers;
-      labels = over_changed (λ l. l.label) f label place live 0 order.labels;
-    }
-
-pub order_removed : (place : ℕ) (live : List Live) → AreInOrder live → AreInOrder (remove live place)
-order_removed place live order =
-    record { numbers = over_removed (λ l. l.number) place live 0 order.numbers; labels = over_removed (λ l. l.label) place live 0 order.labels }
-
-pub order_pushed : (x : Live) (live : List Live) → AreInOrder live → IsAboveAll x live → AreInOrder (live ++ x ∷ [])
-order_pushed x live order above =
-    record {
-      numbers = over_pushed (λ l. l.number) x live 0 order.numbers above.number (firsts live above.others);
-      labels = over_pushed (λ l. l.label) x live 0 order.labels above.label (seconds live above.others);
-    }
-  where
-    firsts : (ls : List Live) → AllByRecursion (λ (m : Live). (m.number < x.number) × (m.label < x.label)) ls → AllByRecursion (λ (m : Live). m.number < x.number) ls
-    firsts [] all = tt
-    firsts (l ∷ ls) all = (all.0.0, firsts ls all.1)
-
-    seconds : (ls : List Live) → AllByRecursion (λ (m : Live). (m.number < x.number) × (m.label < x.label)) ls → AllByRecursion (λ (m : Live). m.label < x.label) ls
-    seconds [] all = tt
-    seconds (l ∷ ls) all = (all.0.1, seconds ls all.1)
+-- what an event and a delivery leave as it was
 
 pub hears_number : (to : Named) (m : Message) (l : Live) → (hears_message to m l).number ≡ l.number
 hears_number to m l = step (l.label == to.peer)

@@ -1,5 +1,5 @@
 -- What happens to one peer of the slab happens to one of the list.
-use Rattle.std.proofs.Common.{◌≡◌, ◌≢◌, ℕ, zero, suc, ◌+◌, ◌<◌, ◌≤◌, List, [], ◌∷◌, ◌++◌, length, get_or, Option, Some, None, IsSomeAnd, cond, is_some, slice_get, refl, sym, ap, ◌∙◌, subst, arith, inl, inr}
+use Rattle.std.proofs.Common.{◌≡◌, ◌≢◌, ℕ, zero, suc, ◌+◌, ◌<◌, List, [], ◌∷◌, ◌++◌, length, get_or, Option, Some, None, IsSomeAnd, cond, is_some, slice_get, refl, sym, ap, ◌∙◌, subst, arith, inl, inr}
 use Rattle.std.specs.List.{remove, AllByRecursion}
 use Rattle.std.proofs.lemmas.List.Sums.{sum_by-set}
 use Rattle.std.proofs.lemmas.Bool.{cases_eq, cases_lt}
@@ -161,9 +161,10 @@ pub wrote_seat : (f : Live → Live) → ((l : Live) → (f l).number ≡ l.numb
 wrote_seat f number label s places seats place within p read l new found is =
     let updates : Updates s (with_value s p.key new) p.key (Some (f l)) =
     subst (λ (v : Live). Updates s (with_value s p.key new) p.key (Some v)) is (Updates-with_value s p.key new (rw found refl)) in
-    let len = same_count s p.key l new found in
-    (seats_changed f number label s (with_value s p.key new) places seats place within p read l found updates len,
-    seated_changed f number label s (with_value s p.key new) places seats place within p read l found updates len)
+    let len = same_count s p.key l new found in (
+      seats_changed f number label s (with_value s p.key new) places seats place within p read l found updates len,
+      seated_changed f number label s (with_value s p.key new) places seats place within p read l found updates len,
+    )
 
 -- one leaves: its slot is empty, and its place is gone
 module _ (s t : Slab Live) (places : List Place) (seats : AreSeated s places) (place : ℕ) (within : place < length places) (p : Place) (read : p ≡ get_or places place p)

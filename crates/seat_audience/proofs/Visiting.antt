@@ -1,11 +1,11 @@
 -- A visit to marked places makes what a pass over all would.
-use Rattle.std.proofs.Common.{◌≡◌, ℕ, zero, suc, ◌+◌, ◌<◌, ◌≤◌, Bool, true, false, ◌||◌, eqb, List, [], ◌∷◌, ◌++◌, length, get_or, set, take, map, Option, Some, slice_get, IfSome, if◌then◌else◌, refl, sym, ap, ◌∙◌, subst, arith, inl, inr}
-use Rattle.std.proofs.lemmas.Bool.{cases_eq, eq-eqb, ne_eqb}
+use Rattle.std.proofs.Common.{◌≡◌, ℕ, zero, suc, ◌+◌, ◌<◌, ◌≤◌, Bool, true, false, ◌||◌, eqb, List, [], ◌∷◌, length, get_or, set, take, map, if◌then◌else◌, refl, sym, ap, ◌∙◌, arith}
+use Rattle.std.proofs.lemmas.Bool.{eq-eqb, ne_eqb}
 use Rattle.std.proofs.lemmas.List.{take_more}
 use Rattle.seat_audience.specs.declared.live.Live.{Live}
 use Rattle.seat_audience.specs.Marks.{is_marked, AreWithin}
 use Rattle.seat_audience.specs.Visits.{map_at, at_marked, changed_at}
-use Rattle.seat_audience.proofs.Marking.{marked_more, not_before, below}
+use Rattle.seat_audience.proofs.Marking.{marked_more, not_before}
 
 -- one element that is written is changed at its place
 pub changed_set : (f : Live → Live) (place : ℕ) (live : List Live) (l : Live) → place < length live → l ≡ get_or live place l →
@@ -13,10 +13,6 @@ pub changed_set : (f : Live → Live) (place : ℕ) (live : List Live) (l : Live
 changed_set f place [] l lt read = refl
 changed_set f zero (x ∷ live) l lt read = rw read refl
 changed_set f (suc place) (x ∷ live) l lt read = ap (λ ls. x ∷ ls) (changed_set f place live l (omega arith) read)
-
-pub wrote : (f : Live → Live) (place : ℕ) (live : List Live) (l new : Live) → place < length live → l ≡ get_or live place l → new ≡ f l →
-    set live place new ≡ changed_at place f live
-wrote f place live l new lt read is = ap (set live place) is ∙ changed_set f place live l lt read
 
 pub changed_length : (f : Live → Live) (place : ℕ) (live : List Live) → length (changed_at place f live) ≡ length live
 changed_length f place [] = refl
@@ -82,8 +78,11 @@ all_from : (f : Live → Live) (told : List ℕ) (k : ℕ) (live : List Live) �
 all_from f told k [] rest = refl
 all_from f told k (l ∷ live) rest =
     let here : k + 0 ≡ k = omega arith in
-    rw (step (is_marked k told) refl, all_from f told (suc k) live
-    (λ j d lt off. let next : k + suc j ≡ suc k + j = omega arith in rest (suc j) d (omega arith) (rw next off))) refl
+    rw (
+      step (is_marked k told) refl,
+      all_from f told (suc k) live
+          (λ j d lt off. let next : k + suc j ≡ suc k + j = omega arith in rest (suc j) d (omega arith) (rw next off)),
+    ) refl
   where
     step : (b : Bool) → is_marked k told ≡ b → (if b then f l else l) ≡ f l
     step true is = refl
@@ -104,8 +103,3 @@ one_changed f zero (l ∷ live) others = ap (λ ls. f l ∷ ls) (sym (stay live 
     stay (x ∷ ls) h = rw (h 0 x (omega arith), stay ls (λ j d lt. h (suc j) d (omega arith))) refl
 one_changed f (suc place) (l ∷ live) others =
     rw (others 0 l (omega arith) (λ e. absurd (omega arith)), one_changed f place live (λ j d lt other. others (suc j) d (omega arith) (λ e. other (omega arith)))) refl
-
-pub got : (live : List Live) (place : ℕ) (l d : Live) → slice_get live place ≡ Some l → get_or live place d ≡ l
-got [] place l d is = absurd (cc)
-got (x ∷ live) zero l d is = cc
-got (x ∷ live) (suc place) l d is = got live place l d is

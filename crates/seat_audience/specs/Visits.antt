@@ -1,5 +1,5 @@
 -- Live peers in order, and a change of one of them.
-use Rattle.std.specs.Prelude.{refl, ◌≡◌, ℕ, zero, suc, ◌<◌, ◌≤◌, ◌∷◌, [], List, length, drop, Bool, true, false, get_or, Option, Some, None, if◌then◌else◌}
+use Rattle.std.specs.Prelude.{refl, ◌≡◌, ℕ, zero, suc, ◌<◌, ◌≤◌, ◌∷◌, [], List, length, drop, true, false, get_or, Option, Some, None, if◌then◌else◌}
 use Rattle.std.specs.List.{All, AllByRecursion}
 use Rattle.out_store.specs.Queue.{queue}
 use Rattle.relay_model.specs.declared.act.EndCause.{EndCause}

@@ -115,7 +115,10 @@ impl Peers {
         ensures none { IfNone result (HasNone (λ l. l.number) number self.now.items) }
         ensures order { AreInOrder self.now.items }
     {
-        match self.places.binary_search_by_key(&number, |place| place.number) {
+        match self
+            .places
+            .binary_search_by_key(&number, |place| place.number)
+        {
             Ok(place) => Some(place),
             Err(_) => None,
         }
@@ -127,7 +130,10 @@ impl Peers {
         ensures none { IfNone result (HasNone (λ l. l.label) label self.now.items) }
         ensures order { AreInOrder self.now.items }
     {
-        match self.places.binary_search_by_key(&label, |place| place.label) {
+        match self
+            .places
+            .binary_search_by_key(&label, |place| place.label)
+        {
             Ok(place) => Some(place),
             Err(_) => None,
         }

@@ -1,6 +1,5 @@
-use Rattle.std.proofs.Common.{rules, ◌≡◌, ℕ, suc, ◌+◌, ◌<◌, ◌≤◌, ◌||◌, ◌&&◌, Bool, true, false, not, eqb, List, [], ◌∷◌, ◌++◌, length, get_or, take, map, filter, Option, Some, None, slice_get, IfSome, IfNone, Ok, Err, refl, sym, ap, ◌∙◌, subst, arith}
+use Rattle.std.proofs.Common.{ℕ, List, length, get_or, take, refl, ap, ◌∙◌}
 use Rattle.std.proofs.lemmas.List.{take_all}
-use Rattle.seat_audience.specs.declared.live.Live.{Live}
 use Rattle.seat_audience.specs.Lives.{cleared}
 use Rattle.seat_audience.specs.Visits.{map_at, at_marked, changed_at}
 use Rattle.seat_audience.proofs.Marking.{below}

@@ -1,4 +1,4 @@
-use Rattle.std.proofs.Common.{rules, ◌≡◌, ℕ, suc, ◌+◌, ◌<◌, ◌≤◌, ◌||◌, ◌&&◌, Bool, true, false, not, eqb, List, [], ◌∷◌, ◌++◌, length, get_or, take, map, filter, Option, Some, None, slice_get, IfSome, IfNone, Ok, Err, refl, sym, ap, ◌∙◌, subst, arith}
+use Rattle.std.proofs.Common.{◌≡◌, ◌<◌, List, length, slice_get, sym, ap, ◌∙◌, subst, arith}
 use Rattle.seat_audience.specs.Visits.{Peers, changed_at, rewritten, AreListening}
 use Rattle.seat_audience.specs.declared.live.Live.{Live}
 use Rattle.seat_audience.proofs.Visiting.{changed_length}

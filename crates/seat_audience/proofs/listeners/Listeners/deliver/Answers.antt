@@ -1,4 +1,4 @@
-use Rattle.std.proofs.Common.{rules, ◌≡◌, ℕ, suc, ◌+◌, ◌<◌, ◌≤◌, ◌||◌, ◌&&◌, Bool, true, false, not, eqb, List, [], ◌∷◌, ◌++◌, length, get_or, take, map, filter, Option, Some, None, slice_get, IfSome, IfNone, Ok, Err, refl, sym, ap, ◌∙◌, subst, arith}
+use Rattle.std.proofs.Common.{◌≡◌, ℕ, false, List, length, get_or, map, sym, ap, ◌∙◌, subst, arith}
 use Rattle.seat_audience.specs.Visits.{Peers, map_at, at_marked, AreListening}
 use Rattle.std.proofs.lemmas.List.{length-map}
 use Rattle.seat_audience.specs.declared.live.Live.{Live}

@@ -1,8 +1,7 @@
-use Rattle.std.proofs.Common.{rules, ◌≡◌, ℕ, suc, ◌+◌, ◌<◌, ◌≤◌, ◌||◌, ◌&&◌, Bool, true, false, not, eqb, List, [], ◌∷◌, ◌++◌, length, get_or, take, map, filter, Option, Some, None, slice_get, IfSome, IfNone, Ok, Err, refl, sym, ap, ◌∙◌, subst, arith}
+use Rattle.std.proofs.Common.{◌≡◌, length, get_or, take, Some, None, sym, ap, ◌∙◌, subst}
 use Rattle.std.proofs.lemmas.List.{take_all}
-use Rattle.seat_audience.specs.declared.live.Live.{Live}
 use Rattle.seat_audience.specs.Changes.{first_due}
-use Rattle.seat_audience.specs.Marks.{is_marked, AreWithin}
+use Rattle.seat_audience.specs.Marks.{is_marked}
 use Rattle.seat_audience.specs.Visits.{Peers, cause_of, AreListening}
 use Rattle.seat_audience.proofs.Marking.{below}
 use Rattle.seat_audience.proofs.Listening.{due_there, due_more, due_none}

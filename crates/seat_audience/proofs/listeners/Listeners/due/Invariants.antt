@@ -1,4 +1,4 @@
-use Rattle.std.proofs.Common.{◌≡◌, ◌≤◌, ◌<◌, ℕ, true, false, length, get_or, take, None}
+use Rattle.std.proofs.Common.{◌≡◌, ℕ, true, get_or, take, None}
 use Rattle.seat_audience.specs.declared.live.Live.{Live}
 use Rattle.seat_audience.specs.Marks.{is_marked}
 use Rattle.seat_audience.specs.Visits.{cause_of}

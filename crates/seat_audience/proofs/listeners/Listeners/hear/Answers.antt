@@ -1,5 +1,5 @@
-use Rattle.std.proofs.Common.{rules, ◌≡◌, ℕ, suc, ◌+◌, ◌<◌, ◌≤◌, ◌||◌, ◌&&◌, Bool, true, false, not, eqb, List, [], ◌∷◌, ◌++◌, length, get_or, take, map, filter, Option, Some, None, slice_get, IfSome, IfNone, Ok, Err, refl, sym, ap, ◌∙◌, subst, arith}
-use Rattle.seat_audience.specs.Visits.{Peers, changed_at, HasNone, IsBounded, AreListening}
+use Rattle.std.proofs.Common.{◌<◌, ◌≤◌, length, get_or, map, sym, ap, ◌∙◌, subst, arith}
+use Rattle.seat_audience.specs.Visits.{Peers, changed_at, HasNone, AreListening}
 use Rattle.wl_proto.specs.Rows.{event_message}
 use Rattle.seat_audience.specs.declared.live.Live.{Live}
 use Rattle.seat_audience.specs.Lives.{hears_message}

@@ -1,4 +1,4 @@
-use Rattle.std.proofs.Common.{rules, ◌≡◌, ℕ, suc, ◌+◌, ◌<◌, ◌≤◌, ◌||◌, ◌&&◌, Bool, true, false, not, eqb, List, [], ◌∷◌, ◌++◌, length, get_or, take, map, filter, Option, Some, None, slice_get, IfSome, IfNone, Ok, Err, refl, sym, ap, ◌∙◌, subst, arith}
+use Rattle.std.proofs.Common.{◌≡◌, ℕ, [], filter, Option, Some, None, slice_get, IfSome, IfNone, subst}
 use Rattle.seat_audience.specs.Visits.{Peers, IsAt, HasNone, AreInOrder}
 use Rattle.seat_audience.specs.Lives.{number_of, is_number}
 use Rattle.seat_audience.proofs.Listening.{number_there, number_nowhere}

@@ -1,5 +1,5 @@
-use Rattle.std.proofs.Common.{rules, ◌≡◌, ℕ, suc, ◌+◌, ◌<◌, ◌≤◌, ◌||◌, ◌&&◌, Bool, true, false, not, eqb, List, [], ◌∷◌, ◌++◌, length, get_or, take, map, filter, Option, Some, None, slice_get, IfSome, IfNone, Ok, Err, refl, sym, ap, ◌∙◌, subst, arith}
-use Rattle.seat_audience.specs.Visits.{Peers, IsAboveAll, AreListening}
+use Rattle.std.proofs.Common.{◌≡◌, ◌+◌, ◌<◌, [], ◌∷◌, ◌++◌, length, sym, subst, arith}
+use Rattle.seat_audience.specs.Visits.{Peers}
 use Rattle.std.specs.Prelude.{min, ◌-◌}
 use Rattle.std.proofs.lemmas.List.{length-append}
 use Rattle.seat_audience.proofs.Listening.{listening_pushed}

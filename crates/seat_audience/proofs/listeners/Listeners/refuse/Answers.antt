@@ -1,4 +1,4 @@
-use Rattle.std.proofs.Common.{rules, ◌≡◌, ℕ, suc, ◌+◌, ◌<◌, ◌≤◌, ◌||◌, ◌&&◌, Bool, true, false, not, eqb, List, [], ◌∷◌, ◌++◌, length, get_or, take, map, filter, Option, Some, None, slice_get, IfSome, IfNone, Ok, Err, refl, sym, ap, ◌∙◌, subst, arith}
+use Rattle.std.proofs.Common.{◌<◌, length, sym, ◌∙◌, subst, arith}
 use Rattle.seat_audience.specs.Visits.{Peers, changed_at, refusing, AreListening}
 use Rattle.seat_audience.proofs.Visiting.{changed_length}
 use Rattle.seat_audience.proofs.Listening.{listening_changed, is_here, or_right}

@@ -1,6 +1,5 @@
-use Rattle.std.proofs.Common.{rules, ◌≡◌, ℕ, suc, ◌+◌, ◌<◌, ◌≤◌, ◌||◌, ◌&&◌, Bool, true, false, not, eqb, List, [], ◌∷◌, ◌++◌, length, get_or, take, map, filter, Option, Some, None, slice_get, IfSome, IfNone, Ok, Err, refl, sym, ap, ◌∙◌, subst, arith}
+use Rattle.std.proofs.Common.{◌<◌, length, sym, subst, arith}
 use Rattle.seat_audience.specs.Visits.{Peers, changed_at, taken, AreListening}
-use Rattle.std.specs.Prelude.{drop}
 use Rattle.std.proofs.lemmas.List.{length-drop}
 use Rattle.seat_audience.proofs.Visiting.{changed_length}
 use Rattle.seat_audience.proofs.Listening.{listening_changed}

@@ -1,11 +1,11 @@
-use Rattle.std.proofs.Common.{rules, ◌≡◌, ℕ, suc, ◌+◌, ◌<◌, ◌≤◌, ◌||◌, ◌&&◌, Bool, true, false, not, eqb, List, [], ◌∷◌, ◌++◌, length, get_or, take, map, filter, Option, Some, None, slice_get, IfSome, IfNone, Ok, Err, refl, sym, ap, ◌∙◌, subst, arith}
+use Rattle.std.proofs.Common.{◌≡◌, suc, ◌+◌, ◌<◌, not, [], length, filter, sym, ap, ◌∙◌, subst, arith}
 use Rattle.std.specs.List.{remove}
 use Rattle.std.proofs.lemmas.List.Edits.{length-remove}
 use Rattle.std.proofs.lemmas.Option.{get_or_from_slice_get}
 use Rattle.seat_audience.specs.declared.live.Live.{Live}
 use Rattle.seat_audience.specs.Lives.{is_number, number_of}
 use Rattle.seat_audience.specs.Marks.{AreWithin}
-use Rattle.seat_audience.specs.Visits.{Peers, AreListening}
+use Rattle.seat_audience.specs.Visits.{Peers}
 use Rattle.seat_audience.proofs.Listening.{listening_removed, number_there, number_nowhere}
 use Rattle.seat_audience.proofs.Numbered.{nobody_found, nobody_left_out, removed}
 use Rattle.seat_audience.proofs.listeners.Listeners.take_away.Goals as goal
@@ -31,10 +31,12 @@ invariant_of-self c =
     c.leave_out.ensures.within (length (remove live place)) (subst (λ n. AreWithin 0 n c.self.inside.told.places) longer l.told_within) (omega arith) in
     let due : AreWithin 0 (length (remove live place)) c.leave_out-2.new.self.places =
     c.leave_out-2.ensures.within (length (remove live place)) (subst (λ n. AreWithin 0 n c.self.inside.due.places) longer l.due_within) (omega arith) in
-    rw c.remove.ensures.items
-    (listening_removed place live c.self.inside.told.places c.self.inside.due.places c.leave_out.new.self.places c.leave_out-2.new.self.places within l told due
-    c.leave_out.ensures.marked c.leave_out-2.ensures.marked,
-    omega (arith, c.self.invariant.1, c.leave_out.ensures.bound), omega (arith, c.self.invariant.2, c.leave_out-2.ensures.bound))
+    rw c.remove.ensures.items (
+      listening_removed place live c.self.inside.told.places c.self.inside.due.places c.leave_out.new.self.places c.leave_out-2.new.self.places within l told due
+          c.leave_out.ensures.marked c.leave_out-2.ensures.marked,
+      omega (arith, c.self.invariant.1, c.leave_out.ensures.bound),
+      omega (arith, c.self.invariant.2, c.leave_out-2.ensures.bound),
+    )
 
 pub returns-clause-taken : goal.returns-clause-taken
 returns-clause-taken c =

@@ -1,4 +1,4 @@
-use Rattle.std.proofs.Common.{rules, ◌≡◌, true, is_ok, not, eqb, filter, ◌+◌, ◌<◌, ◌≤◌, ℕ, suc, drop, ◌++◌, Ok, Err, List, length, take, map, refl, sym, ap, ◌∙◌, subst, arith}
+use Rattle.std.proofs.Common.{rules, ◌≡◌, not, eqb, filter, ◌<◌, suc, drop, ◌++◌, length, take, map, sym, ap, ◌∙◌, subst, arith}
 use Rattle.std.specs.Vec.{vec_capacity}
 use Rattle.std.proofs.lemmas.Grind.{common_steps}
 use Rattle.std.proofs.lemmas.Fn.{filter_same}

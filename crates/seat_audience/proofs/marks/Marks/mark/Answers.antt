@@ -1,6 +1,5 @@
-use Rattle.std.proofs.Common.{rules, ◌≡◌, true, is_ok, not, eqb, filter, ◌+◌, ◌<◌, ◌≤◌, ℕ, Ok, Err, List, length, take, map, refl, sym, ap, ◌∙◌, subst, arith}
+use Rattle.std.proofs.Common.{rules, ◌≡◌, true, is_ok, ◌+◌, ◌<◌, ◌≤◌, ℕ, Ok, Err, length, sym, ap, ◌∙◌, subst, arith}
 use Rattle.std.specs.List.{insert}
-use Rattle.std.specs.Prelude.{IfOk, IfErr}
 use Rattle.std.specs.Vec.{vec_capacity}
 use Rattle.std.proofs.lemmas.List.Edits.{length-insert}
 use Rattle.std.proofs.lemmas.List.Sorted.{answers_always}

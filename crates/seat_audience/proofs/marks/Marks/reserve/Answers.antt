@@ -1,4 +1,4 @@
-use Rattle.std.proofs.Common.{rules, ◌≡◌, true, is_ok, not, eqb, filter, ◌+◌, ◌<◌, ◌≤◌, ℕ, Ok, Err, List, length, take, map, refl, sym, ap, ◌∙◌, subst, arith}
+use Rattle.std.proofs.Common.{sym, subst, arith}
 use Rattle.std.specs.Vec.{vec_capacity}
 use Rattle.seat_audience.specs.Marks.{AreWithin}
 use Rattle.seat_audience.proofs.Marking.{within_later}

@@ -1,10 +1,10 @@
-use Rattle.std.proofs.Common.{rules, ◌≡◌, ◌+◌, ◌<◌, ◌≤◌, ◌++◌, ◌∷◌, [], ℕ, Option, Some, None, Ok, Err, IfSome, List, length, slice_get, get_or, set, min, take, drop, map, refl, sym, ap, ◌∙◌, subst, arith}
+use Rattle.std.proofs.Common.{◌≡◌, ◌<◌, Option, Some, None, IfSome, List, length, slice_get, get_or, set, refl, sym, ap, ◌∙◌, subst, arith}
 use Rattle.slab.specs.Slab.{with_value}
 use Rattle.seat_audience.specs.declared.live.Live.{Live}
 use Rattle.seat_audience.specs.Seated.{seated, AreSeated}
 use Rattle.seat_audience.specs.Visits.{Peers, changed_at, rewritten}
 use Rattle.seat_audience.proofs.Seating.{place_within, key_held, wrote_seat}
-use Rattle.std.specs.Prelude.{OnOk, option_map}
+use Rattle.std.specs.Prelude.{option_map}
 use Rattle.std.specs.FinMap as finite
 use Rattle.std.proofs.lemmas.Option.{get_or_from_slice_get}
 use Rattle.std.proofs.lemmas.Result.{on_ok_weaker}

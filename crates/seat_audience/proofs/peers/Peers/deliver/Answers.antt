@@ -1,6 +1,5 @@
-use Rattle.std.proofs.Common.{rules, ◌≡◌, ◌+◌, ◌<◌, ◌≤◌, ◌++◌, ◌∷◌, [], ℕ, Option, Some, Ok, Err, IfSome, List, length, slice_get, get_or, min, take, drop, map, refl, sym, ap, ◌∙◌, subst, arith}
+use Rattle.std.proofs.Common.{◌≡◌, ◌<◌, length, sym, ap, ◌∙◌, subst, arith}
 use Rattle.slab.specs.Slab.{with_value}
-use Rattle.seat_audience.specs.declared.live.Live.{Live}
 use Rattle.seat_audience.specs.Seated.{seated, AreSeated}
 use Rattle.seat_audience.specs.Visits.{Peers, changed_at}
 use Rattle.seat_audience.proofs.Seating.{place_within, key_held, wrote_seat}

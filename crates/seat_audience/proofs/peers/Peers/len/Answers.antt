@@ -1,4 +1,4 @@
-use Rattle.std.proofs.Common.{rules, ◌≡◌, ◌+◌, ◌<◌, ◌≤◌, ◌++◌, ◌∷◌, [], ℕ, Option, Some, Ok, Err, IfSome, List, length, slice_get, get_or, min, take, drop, map, refl, sym, ap, ◌∙◌, subst, arith}
+use Rattle.std.proofs.Common.{◌≡◌, length, ap, arith}
 use Rattle.seat_audience.specs.Visits.{Peers}
 use Rattle.seat_audience.specs.Seated.{seated}
 use Rattle.seat_audience.proofs.Seating.{seated_length}

@@ -1,4 +1,4 @@
-use Rattle.std.proofs.Common.{rules, ◌≡◌, Ok, Err, subst}
+use Rattle.std.proofs.Common.{rules, Ok, Err, subst}
 use Rattle.std.proofs.lemmas.List.Sorted.{answers_always}
 use Rattle.seat_audience.specs.Visits.{Peers, IsAt, HasNone, AreInOrder}
 use Rattle.seat_audience.proofs.Placing.{searched}

@@ -1,4 +1,4 @@
-use Rattle.std.proofs.Common.{rules, ◌≡◌, ◌+◌, ◌<◌, ◌≤◌, ◌++◌, ◌∷◌, [], ℕ, Option, Some, Ok, Err, IfSome, List, length, slice_get, get_or, min, take, drop, map, refl, sym, ap, ◌∙◌, subst, arith}
+use Rattle.std.proofs.Common.{◌++◌, ◌∷◌, [], sym, ap, ◌∙◌, subst}
 use Rattle.seat_audience.specs.Visits.{Peers, IsAboveAll}
 use Rattle.seat_audience.specs.Seated.{seated, AreSeated}
 use Rattle.seat_audience.proofs.Seating.{seats_more, seated_more_peers}

@@ -1,4 +1,4 @@
-use Rattle.std.proofs.Common.{rules, ◌≡◌, ◌+◌, ◌<◌, ◌≤◌, ◌++◌, ◌∷◌, [], ℕ, Option, Some, Ok, Err, IfSome, List, length, slice_get, get_or, min, take, drop, map, refl, sym, ap, ◌∙◌, subst, arith}
+use Rattle.std.proofs.Common.{◌≡◌, ◌<◌, ◌++◌, Option, Some, IfSome, length, slice_get, min, take, drop, refl, sym, ap, ◌∙◌, subst, arith}
 use Rattle.slab.specs.Slab.{with_value}
 use Rattle.seat_audience.specs.declared.live.Live.{Live}
 use Rattle.seat_audience.specs.Seated.{seated, AreSeated}
