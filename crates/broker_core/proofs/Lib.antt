@@ -41,3 +41,4 @@ pub mod KeysDownFew
 pub mod OneEndEach
 pub mod MarkedGroups
 pub mod NewestPeer
+pub mod AcceptedIds

@@ -2,6 +2,7 @@
 ghost use Rattle.std.specs.Prelude.{◌≡◌, ◌<◌, ◌++◌, length, map, None, option_map, IfSome, OnOk, OnErr};
 ghost use Rattle.std.specs.List.{slice_get};
 ghost use Rattle.std.specs.FinMap as finite;
+ghost use Rattle.im_objects.specs.Objects.{refusal_of};
 ghost use Rattle.relay_model.specs.declared.said.Told.{Told};
 ghost use Rattle.broker_model.specs.Ids.{made_as};
 ghost use Rattle.broker_model.specs.Groups.{id_of};
@@ -47,6 +48,7 @@ impl Audience {
         requires room { 0 < self.old.directory.room }
         requires newest { IsNewest label self.old.directory.made }
         requires unused { IfSome (slice_get self.old.live.items place) (λ l. finite.get l.table.ids label ≡ None) }
+        requires accepted { IfSome (slice_get self.old.live.items place) (λ l. IfSome meaning.now.made (λ new. refusal_of l.table new.id ≡ None)) }
         ensures changed { OnOk result (IsChangedAt place id label meaning.now.act (option_map asked meaning.now.made) self.old.live.items self.new.live.items) }
         ensures made { IfSome (slice_get self.old.live.items place) (λ l. OnOk result (self.new.directory.made ≡ made_new l.label label (option_map asked meaning.now.made) ++ self.old.directory.made)) }
         ensures err { OnErr result (self.new.live.items ≡ self.old.live.items) }

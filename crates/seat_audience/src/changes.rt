@@ -1,19 +1,20 @@
 // What a message makes of its sender's objects.
-ghost use Rattle.std.specs.Prelude.{◌≡◌, [], ◌++◌, List, None, option_map, OnOk, OnErr};
+ghost use Rattle.std.specs.Prelude.{◌≡◌, [], ◌++◌, List, None, option_map, IfSome, OnOk, OnErr};
 ghost use Rattle.std.specs.FinMap as map;
 ghost use Rattle.im_objects.specs.Calls.{Call};
-ghost use Rattle.im_objects.specs.Objects.{Stands};
+ghost use Rattle.im_objects.specs.Objects.{Stands, refusal_of};
 ghost use Rattle.seat_wire.specs.Asked.{asked};
 ghost use Rattle.seat_audience.specs.Changes.{make_calls, own_calls};
 
-use im_objects::Table;
+use im_objects::{MakeRefusal, Table};
 use relay_model::{Act, Label};
 use seat_wire::{Argument, Meaning};
 use wio_core::NoMemory;
 
-// Makes what is asked for, if anything is.
+// Makes what is asked for, if anything is: its id was tested. `NoMemory` is its one error.
 fn make(table: &mut Table, label: Label, new: Option<Argument>) -> Result<(), NoMemory>
     requires unused { map.get table.old.ids label ≡ None }
+    requires accepted { IfSome new (λ a. refusal_of table.old a.id ≡ None) }
     ensures ok { (calls : List Call) → Stands calls table.old → OnOk result (Stands (make_calls label (option_map asked new) ++ calls) table.new) }
     ensures err { OnErr result (table.new ≡ table.old) }
 {
@@ -22,7 +23,8 @@ fn make(table: &mut Table, label: Label, new: Option<Argument>) -> Result<(), No
     };
     match table.make(new.id, new.interface, label) {
         Ok(()) => Ok(()),
-        Err(_) => Err(NoMemory),
+        Err(MakeRefusal::NoMemory) => Err(NoMemory),
+        Err(MakeRefusal::IdRange | MakeRefusal::IdTaken | MakeRefusal::TooMany) => unreachable!(),
     }
 }
 
@@ -35,6 +37,7 @@ pub(crate) fn change(
     meaning: &Meaning,
 ) -> Result<(), NoMemory>
     requires unused { map.get table.old.ids label ≡ None }
+    requires accepted { IfSome meaning.now.made (λ a. refusal_of table.old a.id ≡ None) }
     ensures ok { (calls : List Call) → Stands calls table.old → OnOk result (Stands (own_calls id label meaning.now.act (option_map asked meaning.now.made) ++ calls) table.new) }
     ensures err { OnErr result (table.new ≡ table.old) }
 {

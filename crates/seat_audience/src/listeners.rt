@@ -2,6 +2,7 @@
 ghost use Rattle.std.specs.Prelude.{◌≡◌, ℕ, true, ◌≤◌, ◌<◌, ◌++◌, ◌∷◌, [], false, length, filter, map, min, not, take, drop, get_or, None, option_map, IfSome, IfNone, OnOk, OnErr};
 ghost use Rattle.std.specs.List.{slice_get};
 ghost use Rattle.std.specs.FinMap as finite;
+ghost use Rattle.im_objects.specs.Objects.{refusal_of};
 ghost use Rattle.wl_proto.specs.Rows.{event_message};
 ghost use Rattle.wl_proto.specs.Spelling.{message_len};
 ghost use Rattle.out_store.specs.Queue.{bytes_of, tokens_of};
@@ -250,6 +251,7 @@ impl Listeners {
     ) -> Result<(), NoMemory>
         requires place { place < length self.old.items }
         requires unused { IfSome (slice_get self.old.items place) (λ l. finite.get l.table.ids label ≡ None) }
+        requires accepted { IfSome (slice_get self.old.items place) (λ l. IfSome meaning.now.made (λ new. refusal_of l.table new.id ≡ None)) }
         ensures changed { OnOk result (IsChangedAt place id label meaning.now.act (option_map asked meaning.now.made) self.old.items self.new.items) }
         ensures err { OnErr result (self.new.items ≡ self.old.items) }
     {

@@ -1,6 +1,7 @@
 // The state of one live peer.
-ghost use Rattle.std.specs.Prelude.{◌≡◌, ◌≤◌, None, option_map, IfOk, OnOk, OnErr};
+ghost use Rattle.std.specs.Prelude.{◌≡◌, ◌≤◌, None, option_map, IfSome, IfOk, OnOk, OnErr};
 ghost use Rattle.std.specs.FinMap as finite;
+ghost use Rattle.im_objects.specs.Objects.{refusal_of};
 ghost use Rattle.wl_proto.specs.Rows.{event_message};
 ghost use Rattle.wl_proto.specs.Spelling.{message_len};
 ghost use Rattle.broker_model.specs.Groups.{tokens_in};
@@ -69,6 +70,7 @@ impl Live {
     /// all is as before.
     pub fn change(&mut self, id: u32, label: Label, meaning: &Meaning) -> Result<(), NoMemory>
         requires unused { finite.get self.old.table.ids label ≡ None }
+        requires accepted { IfSome meaning.now.made (λ new. refusal_of self.old.table new.id ≡ None) }
         ensures changed { OnOk result (IsChanged id label meaning.now.act (option_map asked meaning.now.made) self.old self.new) }
         ensures kept { self.new ≡ rewritten self.new self.old }
         ensures err { OnErr result (self.new ≡ self.old) }

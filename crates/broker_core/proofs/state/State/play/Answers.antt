@@ -5,7 +5,6 @@ use Rattle.relay_model.specs.Told.{told}
 use Rattle.seat_objects.specs.Reached.{Reached}
 use Rattle.seat_objects.proofs.Reaches.{reached_append}
 use Rattle.relay_core.specs.Stands as relay
-use Rattle.seat_audience.specs.declared.audience.Audience.{Audience}
 use Rattle.seat_audience.specs.declared.live.Live.{Live}
 use Rattle.seat_audience.specs.Lives.{Numbered, who, cleared, delivered, has_heard}
 use Rattle.seat_audience.specs.Tells.{IsShort}

@@ -1,4 +1,4 @@
-use Rattle.std.proofs.Common.{◌≡◌, ◌≤◌, ◌<◌, ◌+◌, ℕ, List, length}
+use Rattle.std.proofs.Common.{◌≡◌, ◌≤◌, ◌<◌, ◌+◌, ℕ, length}
 use Rattle.seat_objects.specs.Reached.{Reached}
 use Rattle.broker_model.specs.Settle.{settle}
 use Rattle.broker_core.specs.Stands.{Stands}

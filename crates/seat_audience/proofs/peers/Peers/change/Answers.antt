@@ -6,6 +6,7 @@ use Rattle.seat_audience.specs.Visits.{Peers, changed_at, rewritten}
 use Rattle.seat_audience.proofs.Seating.{place_within, key_held, wrote_seat}
 use Rattle.std.specs.Prelude.{option_map}
 use Rattle.std.specs.FinMap as finite
+use Rattle.im_objects.specs.Objects.{refusal_of}
 use Rattle.std.proofs.lemmas.Option.{get_or_from_slice_get}
 use Rattle.std.proofs.lemmas.Result.{on_ok_weaker}
 use Rattle.seat_wire.specs.Asked.{asked}
@@ -71,4 +72,7 @@ change-requires c =
     (peer_there c.self.inside.slab c.self.inside.places.items c.args.place c.index.result.now c.index_mut.result.now c.self.invariant
     (place_within c.self.inside.slab c.self.inside.places.items c.args.place c.self.invariant
     (subst (λ (v : Peers). c.args.place < length v.items) (sym c.self.view_is) c.requires.place)) c.index.ensures c.index_mut.ensures.value) in
-    record { unused = subst (λ (o : Option Live). IfSome o (λ l. finite.get l.table.ids c.args.label ≡ None)) here c.requires.unused }
+    record {
+      unused = subst (λ (o : Option Live). IfSome o (λ l. finite.get l.table.ids c.args.label ≡ None)) here c.requires.unused;
+      accepted = subst (λ (o : Option Live). IfSome o (λ l. IfSome c.args.meaning.now.made (λ new. refusal_of l.table new.id ≡ None))) here c.requires.accepted;
+    }
