@@ -48,7 +48,8 @@ impl Audience {
         requires room { 0 < self.old.directory.room }
         requires newest { IsNewest label self.old.directory.made }
         requires unused { IfSome (slice_get self.old.live.items place) (λ l. finite.get l.table.ids label ≡ None) }
-        requires accepted { IfSome (slice_get self.old.live.items place) (λ l. IfSome meaning.now.made (λ new. refusal_of l.table new.id ≡ None)) }
+        requires accepted { IfSome (slice_get self.old.live.items place)
+            (λ l. IfSome meaning.now.made (λ new. refusal_of l.table new.id ≡ None)) }
         ensures changed { OnOk result (IsChangedAt place id label meaning.now.act (option_map asked meaning.now.made) self.old.live.items self.new.live.items) }
         ensures made { IfSome (slice_get self.old.live.items place) (λ l. OnOk result (self.new.directory.made ≡ made_new l.label label (option_map asked meaning.now.made) ++ self.old.directory.made)) }
         ensures err { OnErr result (self.new.live.items ≡ self.old.live.items) }

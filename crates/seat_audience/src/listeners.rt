@@ -82,9 +82,12 @@ fn deliver_each(peers: &mut Peers, told: &[usize])
 fn note_choked(peers: &Peers, told: &[usize], due: &mut Marks)
     requires within { AreWithin 0 (length peers.now.items) told.now }
     requires room { length peers.now.items ≤ due.old.bound }
-    ensures kept { (k : ℕ) → is_marked k due.new.places ≡ false → is_marked k due.old.places ≡ false }
-    ensures choked { (k : ℕ) (d : Live) → is_marked k told.now ≡ true → is_marked k due.new.places ≡ false → (get_or peers.now.items k d).is_choked ≡ false }
-    ensures within { AreWithin 0 (length peers.now.items) due.old.places → AreWithin 0 (length peers.now.items) due.new.places }
+    ensures kept { (k : ℕ) → is_marked k due.new.places ≡ false →
+        is_marked k due.old.places ≡ false }
+    ensures choked { (k : ℕ) (d : Live) → is_marked k told.now ≡ true →
+        is_marked k due.new.places ≡ false → (get_or peers.now.items k d).is_choked ≡ false }
+    ensures within { AreWithin 0 (length peers.now.items) due.old.places →
+        AreWithin 0 (length peers.now.items) due.new.places }
     ensures bound { due.old.bound ≤ due.new.bound }
 {
     for place in told {
@@ -155,9 +158,11 @@ impl Listeners {
 
     /// The place of the peer with the number.
     pub fn place_of(&self, number: u32) -> Option<usize>
-        ensures found { IfSome result (λ place. IfSome (slice_get self.now.items place) (λ l. l.number ≡ number)) }
+        ensures found { IfSome result (λ place. IfSome (slice_get self.now.items place)
+            (λ l. l.number ≡ number)) }
         ensures within { IfSome result (λ place. place < length self.now.items) }
-        ensures first { IfSome result (λ place. slice_get self.now.items place ≡ number_of number self.now.items) }
+        ensures first { IfSome result (λ place. slice_get self.now.items place
+            ≡ number_of number self.now.items) }
         ensures none { IfNone result (filter (is_number number) self.now.items ≡ []) }
     {
         self.peers.place_of(number)
@@ -195,7 +200,8 @@ impl Listeners {
     pub(crate) fn hear(&mut self, to: &Named, event: &Event, token: Option<u32>)
         requires short { message_len (event_message event.now) ≤ 4096 }
         requires token { tokens_in (event_message event.now).values ≡ first_token token }
-        ensures items { self.new.items ≡ map (hears_message to.now (event_message event.now)) self.old.items }
+        ensures items { self.new.items ≡ map (hears_message to.now
+            (event_message event.now)) self.old.items }
     {
         if let Some(place) = self.peers.place_with(to.peer) {
             self.peers.hear(place, to, event, token);
@@ -206,7 +212,8 @@ impl Listeners {
     /// The places of those for whom something may be gathered, the lowest first.
     pub fn told(&self) -> &[usize]
         ensures within { AreWithin 0 (length self.now.items) result.now }
-        ensures quiet { (k : ℕ) (d : Live) → k < length self.now.items → is_marked k result.now ≡ false → IsQuiet (get_or self.now.items k d) }
+        ensures quiet { (k : ℕ) (d : Live) → k < length self.now.items →
+            is_marked k result.now ≡ false → IsQuiet (get_or self.now.items k d) }
     {
         self.told.places()
     }
@@ -250,9 +257,12 @@ impl Listeners {
         meaning: &Meaning,
     ) -> Result<(), NoMemory>
         requires place { place < length self.old.items }
-        requires unused { IfSome (slice_get self.old.items place) (λ l. finite.get l.table.ids label ≡ None) }
-        requires accepted { IfSome (slice_get self.old.items place) (λ l. IfSome meaning.now.made (λ new. refusal_of l.table new.id ≡ None)) }
-        ensures changed { OnOk result (IsChangedAt place id label meaning.now.act (option_map asked meaning.now.made) self.old.items self.new.items) }
+        requires unused { IfSome (slice_get self.old.items place) (λ l. finite.get l.table.ids label
+            ≡ None) }
+        requires accepted { IfSome (slice_get self.old.items place) (λ l. IfSome meaning.now.made
+            (λ new. refusal_of l.table new.id ≡ None)) }
+        ensures changed { OnOk result (IsChangedAt place id label meaning.now.act
+            (option_map asked meaning.now.made) self.old.items self.new.items) }
         ensures err { OnErr result (self.new.items ≡ self.old.items) }
     {
         self.peers.change(place, id, label, meaning)?;
@@ -266,10 +276,14 @@ impl Listeners {
         requires place { place < length self.old.items }
         requires piece { length buf.old ≤ 4096 }
         requires places { 256 ≤ length tokens.old }
-        ensures count { IfSome (slice_get self.old.items place) (λ l. result.0 ≡ min (length buf.old) (length l.store.cells)) }
-        ensures bytes { IfSome (slice_get self.old.items place) (λ l. buf.new ≡ bytes_of (take result.0 l.store.cells) ++ drop result.0 buf.old) }
-        ensures token_count { IfSome (slice_get self.old.items place) (λ l. result.1 ≡ length (tokens_of (take result.0 l.store.cells))) }
-        ensures tokens { IfSome (slice_get self.old.items place) (λ l. tokens.new ≡ tokens_of (take result.0 l.store.cells) ++ drop result.1 tokens.old) }
+        ensures count { IfSome (slice_get self.old.items place) (λ l. result.0
+            ≡ min (length buf.old) (length l.store.cells)) }
+        ensures bytes { IfSome (slice_get self.old.items place) (λ l. buf.new
+            ≡ bytes_of (take result.0 l.store.cells) ++ drop result.0 buf.old) }
+        ensures token_count { IfSome (slice_get self.old.items place) (λ l. result.1
+            ≡ length (tokens_of (take result.0 l.store.cells))) }
+        ensures tokens { IfSome (slice_get self.old.items place) (λ l. tokens.new
+            ≡ tokens_of (take result.0 l.store.cells) ++ drop result.1 tokens.old) }
         ensures rest { self.new.items ≡ changed_at place (taken result.0) self.old.items }
     {
         self.peers.take(place, buf, tokens)

@@ -64,8 +64,10 @@ impl Marks {
     /// Marks the place, for which there is room.
     pub(crate) fn mark(&mut self, place: usize)
         requires place { place < self.old.bound }
-        ensures marked { (k : ℕ) → is_marked k self.new.places ≡ ((place == k) || is_marked k self.old.places) }
-        ensures within { (n : ℕ) → AreWithin 0 n self.old.places → place < n → AreWithin 0 n self.new.places }
+        ensures marked { (k : ℕ) →
+            is_marked k self.new.places ≡ ((place == k) || is_marked k self.old.places) }
+        ensures within { (n : ℕ) → AreWithin 0 n self.old.places → place < n →
+            AreWithin 0 n self.new.places }
         ensures bound { self.old.bound ≤ self.new.bound }
     {
         match self.places.binary_search_by_key(&place, |each| *each) {
@@ -79,8 +81,11 @@ impl Marks {
     /// Marks the place, for which there is room, if so it is wanted.
     pub(crate) fn mark_if(&mut self, place: usize, is_wanted: bool)
         requires place { place < self.old.bound }
-        ensures marked { (k : ℕ) → is_marked k self.new.places ≡ ((is_wanted && place == k) || is_marked k self.old.places) }
-        ensures within { (n : ℕ) → AreWithin 0 n self.old.places → place < n → AreWithin 0 n self.new.places }
+        ensures marked { (k : ℕ) →
+            is_marked k self.new.places ≡
+            ((is_wanted && place == k) || is_marked k self.old.places) }
+        ensures within { (n : ℕ) → AreWithin 0 n self.old.places → place < n →
+            AreWithin 0 n self.new.places }
         ensures bound { self.old.bound ≤ self.new.bound }
     {
         if is_wanted {
@@ -91,8 +96,11 @@ impl Marks {
     /// The element at the place leaves the list, and its mark with it; those behind it move up.
     pub(crate) fn leave_out(&mut self, place: usize)
         requires place { place < self.old.bound }
-        ensures marked { (k : ℕ) → is_marked k self.new.places ≡ is_marked (if nat_lt k place then k else suc k) self.old.places }
-        ensures within { (n : ℕ) → AreWithin 0 (suc n) self.old.places → place ≤ n → AreWithin 0 n self.new.places }
+        ensures marked { (k : ℕ) →
+            is_marked k self.new.places ≡ is_marked
+            (if nat_lt k place then k else suc k) self.old.places }
+        ensures within { (n : ℕ) → AreWithin 0 (suc n) self.old.places → place ≤ n →
+            AreWithin 0 n self.new.places }
         ensures bound { self.new.bound ≡ self.old.bound }
     {
         self.places.retain(|each| *each != place);

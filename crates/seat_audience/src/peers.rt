@@ -166,7 +166,8 @@ impl Peers {
         requires place { place < length self.old.items }
         requires short { message_len (event_message event.now) ≤ 4096 }
         requires token { tokens_in (event_message event.now).values ≡ first_token token }
-        ensures items { self.new.items ≡ changed_at place (hears_message to.now (event_message event.now)) self.old.items }
+        ensures items { self.new.items ≡ changed_at place (hears_message to.now
+            (event_message event.now)) self.old.items }
         ensures room { self.new.room ≡ self.old.room }
     {
         let key = self.places[place].key;
@@ -202,10 +203,14 @@ impl Peers {
         meaning: &Meaning,
     ) -> Result<(), NoMemory>
         requires place { place < length self.old.items }
-        requires unused { IfSome (slice_get self.old.items place) (λ l. finite.get l.table.ids label ≡ None) }
-        requires accepted { IfSome (slice_get self.old.items place) (λ l. IfSome meaning.now.made (λ new. refusal_of l.table new.id ≡ None)) }
-        ensures changed { OnOk result (IsChangedAt place id label meaning.now.act (option_map asked meaning.now.made) self.old.items self.new.items) }
-        ensures kept { (after : Live) × (self.new.items ≡ changed_at place (rewritten after) self.old.items) }
+        requires unused { IfSome (slice_get self.old.items place) (λ l. finite.get l.table.ids label
+            ≡ None) }
+        requires accepted { IfSome (slice_get self.old.items place) (λ l. IfSome meaning.now.made
+            (λ new. refusal_of l.table new.id ≡ None)) }
+        ensures changed { OnOk result (IsChangedAt place id label meaning.now.act
+            (option_map asked meaning.now.made) self.old.items self.new.items) }
+        ensures kept { (after : Live) × (self.new.items
+            ≡ changed_at place (rewritten after) self.old.items) }
         ensures err { OnErr result (self.new.items ≡ self.old.items) }
         ensures room { self.new.room ≡ self.old.room }
     {
@@ -223,10 +228,14 @@ impl Peers {
         requires place { place < length self.old.items }
         requires piece { length buf.old ≤ 4096 }
         requires places { 256 ≤ length tokens.old }
-        ensures count { IfSome (slice_get self.old.items place) (λ l. result.0 ≡ min (length buf.old) (length l.store.cells)) }
-        ensures bytes { IfSome (slice_get self.old.items place) (λ l. buf.new ≡ bytes_of (take result.0 l.store.cells) ++ drop result.0 buf.old) }
-        ensures token_count { IfSome (slice_get self.old.items place) (λ l. result.1 ≡ length (tokens_of (take result.0 l.store.cells))) }
-        ensures tokens { IfSome (slice_get self.old.items place) (λ l. tokens.new ≡ tokens_of (take result.0 l.store.cells) ++ drop result.1 tokens.old) }
+        ensures count { IfSome (slice_get self.old.items place) (λ l. result.0
+            ≡ min (length buf.old) (length l.store.cells)) }
+        ensures bytes { IfSome (slice_get self.old.items place) (λ l. buf.new
+            ≡ bytes_of (take result.0 l.store.cells) ++ drop result.0 buf.old) }
+        ensures token_count { IfSome (slice_get self.old.items place) (λ l. result.1
+            ≡ length (tokens_of (take result.0 l.store.cells))) }
+        ensures tokens { IfSome (slice_get self.old.items place) (λ l. tokens.new
+            ≡ tokens_of (take result.0 l.store.cells) ++ drop result.1 tokens.old) }
         ensures rest { self.new.items ≡ changed_at place (taken result.0) self.old.items }
         ensures room { self.new.room ≡ self.old.room }
     {

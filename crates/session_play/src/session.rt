@@ -208,12 +208,7 @@ impl Session {
 
     // By way of a buffer for as many bytes as a take may ask for, which is made for this alone.
     #[inline(never)]
-    fn take_many<W: Watch>(
-        &mut self,
-        number: u32,
-        most: u32,
-        watch: &mut W,
-    ) -> Result<(), Stop>
+    fn take_many<W: Watch>(&mut self, number: u32, most: u32, watch: &mut W) -> Result<(), Stop>
         requires some { 1 ≤ most }
         requires piece { most ≤ 4096 }
         ensures limits { self.new.limits ≡ self.old.limits }
@@ -228,12 +223,7 @@ impl Session {
 
     // By way of a small buffer, where no more are stored than it has room for.
     #[inline(never)]
-    fn take_few<W: Watch>(
-        &mut self,
-        number: u32,
-        most: u32,
-        watch: &mut W,
-    ) -> Result<(), Stop>
+    fn take_few<W: Watch>(&mut self, number: u32, most: u32, watch: &mut W) -> Result<(), Stop>
         requires some { 1 ≤ most }
         requires few { IfSome (out_at self.old.limits.store self.old.play.journal number)
             (λ out. length (stored out) ≤ 256) }
