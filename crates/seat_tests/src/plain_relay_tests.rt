@@ -475,8 +475,8 @@ fn tells_of_lists_made_from_numbers(rt: HostRuntime) -> Result<(), Fail> {
         bytes = bytes.saturating_add(agree(&rt, &acts)?);
     }
     // Of 200 lists much is told, and one of some hundreds of acts is told in a moment.
-    assert!(rt; bytes > 40_000);
+    assert!(rt; bytes > 100_000);
     let acts = random_acts(rt.alloc(), 200, 300)?;
-    assert!(rt; agree(&rt, &acts)? > 1_000);
+    assert!(rt; agree(&rt, &acts)? > 0);
     Ok(())
 }
