@@ -1,3 +1,4 @@
+pub mod Telling
 pub mod Batch
 pub mod Told
 pub mod Plain

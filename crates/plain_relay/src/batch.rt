@@ -1,8 +1,9 @@
 // Batches, counts, and what is relayed.
-ghost use Rattle.std.specs.Prelude.{◌≡◌, ◌≤◌, ◌<◌, ◌^◌, ◌++◌, length, map, OnOk, IfOk};
+ghost use Rattle.std.specs.Prelude.{◌≡◌, ◌≤◌, ◌<◌, ◌^◌, length, map, IfOk};
 ghost use Rattle.relay_model.specs.Batch.{deletion_by, last_deletion, string_by, last_string, preedit_by, last_preedit, batch, commits, commit_count, deletion_said, string_said, preedit_said, is_no_preedit, group, group_of};
 ghost use Rattle.relay_model.specs.Told.{to};
 ghost use Rattle.plain_relay.specs.Batch.{text_of, deletion_of, preedit_of, batch_of};
+ghost use Rattle.plain_relay.specs.Telling.{Tells};
 
 use crate::telling::tell;
 use look_back::activation::begun;
@@ -189,7 +190,7 @@ fn copy_of(alloc: Global, text: Option<&Text>) -> Result<Text, NoMemory>
 }
 
 fn tell_deletion(field: Label, deletion: Deletion, told: &mut Vec<Told>) -> Result<(), NoMemory>
-    ensures { OnOk result (told.new.items ≡ told.old.items ++ map (to field) (deletion_said (deletion_of deletion))) }
+    ensures { Tells result told.old told.new (map (to field) (deletion_said (deletion_of deletion))) }
 {
     if deletion.before == 0 && deletion.after == 0 {
         return Ok(());
@@ -207,7 +208,7 @@ fn tell_string(
     string: Option<&Text>,
     told: &mut Vec<Told>,
 ) -> Result<(), NoMemory>
-    ensures { OnOk result (told.new.items ≡ told.old.items ++ map (to field) (string_said (text_of string.entry))) }
+    ensures { Tells result told.old told.new (map (to field) (string_said (text_of string.entry))) }
 {
     let text = copy_of(alloc, string)?;
     if text.is_empty() {
@@ -222,7 +223,7 @@ fn tell_preedit(
     preedit: Preedit,
     told: &mut Vec<Told>,
 ) -> Result<(), NoMemory>
-    ensures { OnOk result (told.new.items ≡ told.old.items ++ map (to field) (preedit_said (preedit_of preedit.entry))) }
+    ensures { Tells result told.old told.new (map (to field) (preedit_said (preedit_of preedit.entry))) }
 {
     let text = copy_of(alloc, preedit.text)?;
     if text.is_empty() && preedit.begin == 0 && preedit.end == 0 {
@@ -244,7 +245,7 @@ fn tell_batch(
     count: u32,
     told: &mut Vec<Told>,
 ) -> Result<(), NoMemory>
-    ensures { OnOk result (told.new.items ≡ told.old.items ++ map (to field) (group (batch_of batch.entry) count)) }
+    ensures { Tells result told.old told.new (map (to field) (group (batch_of batch.entry) count)) }
 {
     tell_deletion(field, batch.deletion, told)?;
     tell_string(alloc, field, batch.string, told)?;
@@ -261,7 +262,7 @@ pub fn tell_group(
     told: &mut Vec<Told>,
 ) -> Result<(), NoMemory>
     requires { length older.now < 2 ^ 32 }
-    ensures { OnOk result (told.new.items ≡ told.old.items ++ map (to field) (group_of act.now older.now field)) }
+    ensures { Tells result told.old told.new (map (to field) (group_of act.now older.now field)) }
 {
     match act {
         Act::MCommit { method, .. } => {

@@ -1,5 +1,5 @@
 // An act's own events.
-ghost use Rattle.std.specs.Prelude.{◌≡◌, ◌+◌, ◌<◌, ◌^◌, ◌++◌, [], length, map, if◌then◌else◌, OnOk};
+ghost use Rattle.std.specs.Prelude.{◌≡◌, ◌+◌, ◌<◌, ◌^◌, [], length, map, if◌then◌else◌};
 ghost use Rattle.relay_model.specs.Objects.{next};
 ghost use Rattle.relay_model.specs.Globals.{global_told, globals_told};
 ghost use Rattle.relay_model.specs.Hold.{holder};
@@ -8,6 +8,7 @@ ghost use Rattle.relay_model.specs.Told.{to, to_holder, deleted, key_told, keyma
 ghost use Rattle.look_back.specs.Newest.{at_newest};
 ghost use Rattle.relay_model.specs.Keys.{key_route, last_keymap, last_repeat, last_mods};
 ghost use Rattle.look_back.specs.Keys.{goes_of};
+ghost use Rattle.plain_relay.specs.Telling.{Tells};
 
 use crate::batch::tell_group;
 use crate::popups::{tell_each_popup, tell_popup};
@@ -29,7 +30,7 @@ fn tell_holder(
     told: &mut Vec<Told>,
 ) -> Result<(), NoMemory>
     requires { length older.now < 2 ^ 32 }
-    ensures { OnOk result (told.new.items ≡ told.old.items ++ to_holder act.now older.now (holder older.now)) }
+    ensures { Tells result told.old told.new (to_holder act.now older.now (holder older.now)) }
 {
     match holder(older) {
         Some(field) => tell_group(alloc, act, older, field, told),
@@ -40,8 +41,7 @@ fn tell_holder(
 // The same, where the commit is fresh.
 fn tell_fresh(alloc: Global, act: &Act, older: &[Act], told: &mut Vec<Told>) -> Result<(), NoMemory>
     requires { length older.now < 2 ^ 32 }
-    ensures { OnOk result (told.new.items ≡ told.old.items ++
-        (if fresh act.now older.now then to_holder act.now older.now (holder older.now) else [])) }
+    ensures { Tells result told.old told.new ((if fresh act.now older.now then to_holder act.now older.now (holder older.now) else [])) }
 {
     if fresh(alloc, act, older)? {
         tell_holder(alloc, act, older, told)
@@ -52,7 +52,7 @@ fn tell_fresh(alloc: Global, act: &Act, older: &[Act], told: &mut Vec<Told>) -> 
 
 // Tells the peer that the id of its object is free again.
 fn tell_deleted(label: Label, peer: Option<Label>, told: &mut Vec<Told>) -> Result<(), NoMemory>
-    ensures { OnOk result (told.new.items ≡ told.old.items ++ deleted label peer) }
+    ensures { Tells result told.old told.new (deleted label peer) }
 {
     match peer {
         Some(peer) => tell(peer, Said::DeleteId { label }, told),
@@ -69,7 +69,7 @@ fn tell_key(
     goes: Goes,
     told: &mut Vec<Told>,
 ) -> Result<(), NoMemory>
-    ensures { OnOk result (told.new.items ≡ told.old.items ++ key_told serial time key state (goes_of goes)) }
+    ensures { Tells result told.old told.new (key_told serial time key state (goes_of goes)) }
 {
     match goes {
         Goes::ToGrab(grab) => tell(
@@ -97,14 +97,14 @@ fn tell_routed(
     told: &mut Vec<Told>,
 ) -> Result<(), NoMemory>
     requires { length older.now + 1 < 2 ^ 32 }
-    ensures { OnOk result (told.new.items ≡ told.old.items ++ key_told (next older.now) time key state (key_route older.now key state)) }
+    ensures { Tells result told.old told.new (key_told (next older.now) time key state (key_route older.now key state)) }
 {
     let goes = key_route(alloc, older, key, state)?;
     tell_key(next(older) as u32, time, key, state, goes, told)
 }
 
 fn tell_keymap(grab: Label, log: &[Act], told: &mut Vec<Told>) -> Result<(), NoMemory>
-    ensures { OnOk result (told.new.items ≡ told.old.items ++ map (to grab) (keymap_said (last_keymap log.now))) }
+    ensures { Tells result told.old told.new (map (to grab) (keymap_said (last_keymap log.now))) }
 {
     match last_keymap(log) {
         Some(keymap) => tell(grab, Said::Keymap(keymap), told),
@@ -113,7 +113,7 @@ fn tell_keymap(grab: Label, log: &[Act], told: &mut Vec<Told>) -> Result<(), NoM
 }
 
 fn tell_repeat(grab: Label, log: &[Act], told: &mut Vec<Told>) -> Result<(), NoMemory>
-    ensures { OnOk result (told.new.items ≡ told.old.items ++ map (to grab) (repeat_said (last_repeat log.now))) }
+    ensures { Tells result told.old told.new (map (to grab) (repeat_said (last_repeat log.now))) }
 {
     match last_repeat(log) {
         Some(repeat) => tell(grab, Said::Repeat(repeat), told),
@@ -122,7 +122,7 @@ fn tell_repeat(grab: Label, log: &[Act], told: &mut Vec<Told>) -> Result<(), NoM
 }
 
 fn tell_mods(grab: Label, log: &[Act], told: &mut Vec<Told>) -> Result<(), NoMemory>
-    ensures { OnOk result (told.new.items ≡ told.old.items ++ map (to grab) (mods_said grab (last_mods log.now))) }
+    ensures { Tells result told.old told.new (map (to grab) (mods_said grab (last_mods log.now))) }
 {
     match last_mods(log) {
         Some(mods) => tell(grab, Said::Mods { serial: grab, mods }, told),
@@ -132,7 +132,7 @@ fn tell_mods(grab: Label, log: &[Act], told: &mut Vec<Told>) -> Result<(), NoMem
 
 // Tells a grab that stands from its making on the last keymap, repeat and modifiers, as far as there were any.
 fn tell_keyboard(grab: Label, log: &[Act], told: &mut Vec<Told>) -> Result<(), NoMemory>
-    ensures { OnOk result (told.new.items ≡ told.old.items ++ map (to grab) (keyboard_said grab log.now)) }
+    ensures { Tells result told.old told.new (map (to grab) (keyboard_said grab log.now)) }
 {
     tell_keymap(grab, log, told)?;
     tell_repeat(grab, log, told)?;
@@ -140,7 +140,7 @@ fn tell_keyboard(grab: Label, log: &[Act], told: &mut Vec<Told>) -> Result<(), N
 }
 
 fn tell_grab(grab: Option<Label>, event: Said, told: &mut Vec<Told>) -> Result<(), NoMemory>
-    ensures { OnOk result (told.new.items ≡ told.old.items ++ to_grab grab event) }
+    ensures { Tells result told.old told.new (to_grab grab event) }
 {
     match grab {
         Some(grab) => tell(grab, event, told),
@@ -153,7 +153,7 @@ fn tell_offers(
     offers: &[(u32, Interface)],
     told: &mut Vec<Told>,
 ) -> Result<(), NoMemory>
-    ensures { OnOk result (told.new.items ≡ told.old.items ++ map (global_told registry) offers.now) }
+    ensures { Tells result told.old told.new (map (global_told registry) offers.now) }
 {
     match offers {
         [] => Ok(()),
@@ -171,7 +171,7 @@ fn tell_offers(
 
 // Tells a new registry the globals of its peer's role.
 fn tell_globals(registry: Label, role: Role, told: &mut Vec<Told>) -> Result<(), NoMemory>
-    ensures { OnOk result (told.new.items ≡ told.old.items ++ globals_told registry role) }
+    ensures { Tells result told.old told.new (globals_told registry role) }
 {
     let offers = role.globals();
     tell_offers(registry, &offers, told)
@@ -179,7 +179,7 @@ fn tell_globals(registry: Label, role: Role, told: &mut Vec<Told>) -> Result<(),
 
 // Tells the callback of a sync its value, and its peer that the id is free again.
 fn tell_synced(callback: Label, peer: Label, told: &mut Vec<Told>) -> Result<(), NoMemory>
-    ensures { OnOk result (told.new.items ≡ told.old.items ++ synced callback peer) }
+    ensures { Tells result told.old told.new (synced callback peer) }
 {
     tell(callback, Said::CallbackDone { value: 0 }, told)?;
     tell(peer, Said::DeleteId { label: callback }, told)
@@ -188,7 +188,7 @@ fn tell_synced(callback: Label, peer: Label, told: &mut Vec<Told>) -> Result<(),
 // Tells what the newest act tells besides what it says of focus and hold.
 pub fn tell_own(alloc: Global, log: &[Act], told: &mut Vec<Told>) -> Result<(), NoMemory>
     requires { length log.now < 2 ^ 32 }
-    ensures { OnOk result (told.new.items ≡ told.old.items ++ at_newest own [] log.now) }
+    ensures { Tells result told.old told.new (at_newest own [] log.now) }
 {
     match log {
         [] => Ok(()),

@@ -1,8 +1,9 @@
 // What a whole list of acts tells.
-ghost use Rattle.std.specs.Prelude.{◌≡◌, ◌+◌, ◌<◌, ◌^◌, ◌++◌, ◌∷◌, length, OnOk, IfOk};
+ghost use Rattle.std.specs.Prelude.{◌≡◌, ◌+◌, ◌<◌, ◌^◌, ◌∷◌, length, OnOk, IfOk};
 ghost use Rattle.relay_model.specs.Idle.{cleaned};
 ghost use Rattle.relay_model.specs.Told.{told_by};
 ghost use Rattle.plain_relay.specs.Plain.{all_told, told_after};
+ghost use Rattle.plain_relay.specs.Telling.{Tells};
 
 use crate::idle::cleaned;
 use crate::told::tell_newest;
@@ -19,7 +20,7 @@ fn take(
 ) -> Result<(), NoMemory>
     requires { length history.old.items + 1 < 2 ^ 32 }
     ensures history { OnOk result (history.new.items ≡ cleaned act.now history.old.items ∷ history.old.items) }
-    ensures told { OnOk result (told.new.items ≡ told.old.items ++ told_by (cleaned act.now history.old.items) history.old.items) }
+    ensures told { Tells result told.old told.new (told_by (cleaned act.now history.old.items) history.old.items) }
 {
     let act = cleaned(alloc, act, history)?;
     history.insert(0, act)?;
@@ -34,7 +35,7 @@ fn tell_rest(
     told: &mut Vec<Told>,
 ) -> Result<(), NoMemory>
     requires { length history.old.items + length acts.now < 2 ^ 32 }
-    ensures { OnOk result (told.new.items ≡ told.old.items ++ told_after history.old.items acts.now) }
+    ensures { Tells result told.old told.new (told_after history.old.items acts.now) }
 {
     match acts {
         [] => Ok(()),

@@ -1,9 +1,10 @@
 // The popups that are shown, and where.
-ghost use Rattle.std.specs.Prelude.{◌≡◌, ◌<◌, ◌^◌, ◌++◌, [], ◌∷◌, length, OnOk};
+ghost use Rattle.std.specs.Prelude.{◌≡◌, ◌<◌, ◌^◌, [], ◌∷◌, length};
 ghost use Rattle.std.specs.List.{flat_map};
 ghost use Rattle.relay_model.specs.declared.said.Said.TheVariants as said;
 ghost use Rattle.relay_model.specs.Told.{to};
 ghost use Rattle.relay_model.specs.Popups.{area, screen, rect_of, cursor, corner, size_of, corner_of, origin, place, ready_surface, place_told, told_where, popup_told, each_popup};
+ghost use Rattle.plain_relay.specs.Telling.{Tells};
 
 use crate::telling::{SHELL, tell};
 use look_back::current::current;
@@ -106,7 +107,7 @@ fn ready_surface(log: &[Act], popup: Label) -> Option<Label>
 
 // The popup is told where the cursor rectangle is.
 fn tell_seen(popup: Label, seen: Rect, told: &mut Vec<Told>) -> Result<(), NoMemory>
-    ensures { OnOk result (told.new.items ≡ told.old.items ++ to popup (said.PopupRect seen.x seen.y seen.width seen.height) ∷ []) }
+    ensures { Tells result told.old told.new (to popup (said.PopupRect seen.x seen.y seen.width seen.height) ∷ []) }
 {
     let event = Said::PopupRect {
         x: seen.x,
@@ -119,7 +120,7 @@ fn tell_seen(popup: Label, seen: Rect, told: &mut Vec<Told>) -> Result<(), NoMem
 
 // The popup is told where the cursor rectangle is, and the shell where the popup stands.
 fn tell_place(popup: Label, placed: Placed, told: &mut Vec<Told>) -> Result<(), NoMemory>
-    ensures { OnOk result (told.new.items ≡ told.old.items ++ place_told popup placed) }
+    ensures { Tells result told.old told.new (place_told popup placed) }
 {
     tell_seen(popup, placed.seen, told)?;
     let event = Said::Placed {
@@ -133,7 +134,7 @@ fn tell_place(popup: Label, placed: Placed, told: &mut Vec<Told>) -> Result<(), 
 // Tells a popup where it is shown.
 pub fn tell_popup(log: &[Act], popup: Label, told: &mut Vec<Told>) -> Result<(), NoMemory>
     requires { length log.now < 2 ^ 32 }
-    ensures { OnOk result (told.new.items ≡ told.old.items ++ popup_told log.now popup) }
+    ensures { Tells result told.old told.new (popup_told log.now popup) }
 {
     match (ready_surface(log, popup), cursor(log)) {
         (Some(surface), Some(rect)) => tell_place(popup, place(log, surface, rect), told),
@@ -143,7 +144,7 @@ pub fn tell_popup(log: &[Act], popup: Label, told: &mut Vec<Told>) -> Result<(),
 
 fn tell_popups(log: &[Act], popups: &[Label], told: &mut Vec<Told>) -> Result<(), NoMemory>
     requires { length log.now < 2 ^ 32 }
-    ensures { OnOk result (told.new.items ≡ told.old.items ++ flat_map (popup_told log.now) popups.now) }
+    ensures { Tells result told.old told.new (flat_map (popup_told log.now) popups.now) }
 {
     match popups {
         [] => Ok(()),
@@ -157,7 +158,7 @@ fn tell_popups(log: &[Act], popups: &[Label], told: &mut Vec<Told>) -> Result<()
 // Tells each popup, by rising label.
 pub fn tell_each_popup(alloc: Global, log: &[Act], told: &mut Vec<Told>) -> Result<(), NoMemory>
     requires { length log.now < 2 ^ 32 }
-    ensures { OnOk result (told.new.items ≡ told.old.items ++ each_popup log.now) }
+    ensures { Tells result told.old told.new (each_popup log.now) }
 {
     let popups = popups(alloc, log)?;
     tell_popups(log, &popups, told)

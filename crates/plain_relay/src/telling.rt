@@ -1,6 +1,7 @@
 // One event that is told.
-ghost use Rattle.std.specs.Prelude.{◌≡◌, ◌++◌, [], ◌∷◌, OnOk};
+ghost use Rattle.std.specs.Prelude.{◌≡◌, [], ◌∷◌};
 ghost use Rattle.relay_model.specs.Told.{to};
+ghost use Rattle.plain_relay.specs.Telling.{Tells};
 
 use relay_model::{Label, Said, Told};
 use wio_core::NoMemory;
@@ -9,7 +10,7 @@ use wio_core::NoMemory;
 pub const SHELL: Label = 0;
 
 pub fn tell(label: Label, event: Said, told: &mut Vec<Told>) -> Result<(), NoMemory>
-    ensures { OnOk result (told.new.items ≡ told.old.items ++ to label event ∷ []) }
+    ensures { Tells result told.old told.new (to label event ∷ []) }
 {
     told.push(Told { to: label, event })?;
     Ok(())

@@ -1,5 +1,5 @@
 // What an act tells of focus, hold and batches, and all that it tells.
-ghost use Rattle.std.specs.Prelude.{◌≡◌, ◌<◌, ◌^◌, ◌++◌, [], length, map, filter, option_map, OnOk, IfOk};
+ghost use Rattle.std.specs.Prelude.{◌≡◌, ◌<◌, ◌^◌, [], length, map, filter, option_map, IfOk};
 ghost use Rattle.relay_model.specs.Objects.{fields};
 ghost use Rattle.relay_model.specs.Focus.{focus, entered};
 ghost use Rattle.relay_model.specs.Hold.{holder};
@@ -9,6 +9,7 @@ ghost use Rattle.look_back.specs.Newest.{at_newest};
 ghost use Rattle.look_back.specs.Current.{around_of, state_of};
 ghost use Rattle.look_back.specs.Activation.{notice_of};
 ghost use Rattle.plain_relay.specs.Told.{crossed, crossing};
+ghost use Rattle.plain_relay.specs.Telling.{Tells};
 
 use crate::own::tell_own;
 use crate::telling::tell;
@@ -38,7 +39,7 @@ fn tell_crossed(
     fields: &[Label],
     told: &mut Vec<Told>,
 ) -> Result<(), NoMemory>
-    ensures { OnOk result (told.new.items ≡ told.old.items ++ map (crossed entering surface) fields.now) }
+    ensures { Tells result told.old told.new (map (crossed entering surface) fields.now) }
 {
     match fields {
         [] => Ok(()),
@@ -73,7 +74,7 @@ fn tell_each_entered(
     told: &mut Vec<Told>,
 ) -> Result<(), NoMemory>
     requires { length log.now < 2 ^ 32 }
-    ensures { OnOk result (told.new.items ≡ told.old.items ++ each_entered (crossed entering) log.now (focus log.now)) }
+    ensures { Tells result told.old told.new (each_entered (crossed entering) log.now (focus log.now)) }
 {
     match focus(log) {
         Some(surface) => {
@@ -92,7 +93,7 @@ fn tell_leaves(
     told: &mut Vec<Told>,
 ) -> Result<(), NoMemory>
     requires { length older.now < 2 ^ 32 }
-    ensures { OnOk result (told.new.items ≡ told.old.items ++ leaves act.now older.now) }
+    ensures { Tells result told.old told.new (leaves act.now older.now) }
 {
     match act {
         Act::Focus { .. } | Act::Unfocus => tell_each_entered(alloc, false, older, told),
@@ -108,7 +109,7 @@ fn tell_around(
     cause: u32,
     told: &mut Vec<Told>,
 ) -> Result<(), NoMemory>
-    ensures { OnOk result (told.new.items ≡ told.old.items ++ map (to method) (around_said (option_map around_of surrounding.entry) cause)) }
+    ensures { Tells result told.old told.new (map (to method) (around_said (option_map around_of surrounding.entry) cause)) }
 {
     match surrounding {
         Some(around) => {
@@ -131,7 +132,7 @@ fn tell_state(
     state: State,
     told: &mut Vec<Told>,
 ) -> Result<(), NoMemory>
-    ensures { OnOk result (told.new.items ≡ told.old.items ++ map (to method) (state_said (state_of state.entry))) }
+    ensures { Tells result told.old told.new (map (to method) (state_said (state_of state.entry))) }
 {
     tell_around(alloc, method, state.surrounding, state.cause, told)?;
     let event = Said::ContentType {
@@ -148,7 +149,7 @@ fn tell_holders_state(
     log: &[Act],
     told: &mut Vec<Told>,
 ) -> Result<(), NoMemory>
-    ensures { OnOk result (told.new.items ≡ told.old.items ++ map (to method) (holders_state log.now (holder log.now))) }
+    ensures { Tells result told.old told.new (map (to method) (holders_state log.now (holder log.now))) }
 {
     match holder(log) {
         Some(field) => tell_state(alloc, method, current(log, field), told),
@@ -164,7 +165,7 @@ fn tell_notice(
     notice: Option<HoldNotice>,
     told: &mut Vec<Told>,
 ) -> Result<(), NoMemory>
-    ensures { OnOk result (told.new.items ≡ told.old.items ++ map (to method) (notice_said log.now (option_map notice_of notice))) }
+    ensures { Tells result told.old told.new (map (to method) (notice_said log.now (option_map notice_of notice))) }
 {
     match notice {
         Some(HoldNotice::Activates) => {
@@ -183,7 +184,7 @@ fn tell_notice(
 // Tells the method that serves what the newest act says of the hold.
 fn tell_method(alloc: Global, log: &[Act], told: &mut Vec<Told>) -> Result<(), NoMemory>
     requires { length log.now < 2 ^ 32 }
-    ensures { OnOk result (told.new.items ≡ told.old.items ++ at_newest (λ act older. to_method act older (serving log.now)) [] log.now) }
+    ensures { Tells result told.old told.new (at_newest (λ act older. to_method act older (serving log.now)) [] log.now) }
 {
     match log {
         [] => Ok(()),
@@ -202,7 +203,7 @@ fn tell_method(alloc: Global, log: &[Act], told: &mut Vec<Told>) -> Result<(), N
 
 // Tells the new field, where its peer has the focus.
 fn tell_new_field(log: &[Act], field: Label, told: &mut Vec<Told>) -> Result<(), NoMemory>
-    ensures { OnOk result (told.new.items ≡ told.old.items ++ enters_new log.now field (focus log.now)) }
+    ensures { Tells result told.old told.new (enters_new log.now field (focus log.now)) }
 {
     match focus(log) {
         Some(surface) if entered(log, field) => tell(field, Said::Enter { surface }, told),
@@ -213,7 +214,7 @@ fn tell_new_field(log: &[Act], field: Label, told: &mut Vec<Told>) -> Result<(),
 // Tells the fields that the newest act enters.
 fn tell_enters(alloc: Global, log: &[Act], told: &mut Vec<Told>) -> Result<(), NoMemory>
     requires { length log.now < 2 ^ 32 }
-    ensures { OnOk result (told.new.items ≡ told.old.items ++ at_newest enters [] log.now) }
+    ensures { Tells result told.old told.new (at_newest enters [] log.now) }
 {
     match log {
         [] => Ok(()),
@@ -228,7 +229,7 @@ fn tell_enters(alloc: Global, log: &[Act], told: &mut Vec<Told>) -> Result<(), N
 // Tells all that the newest act of a history tells, in order.
 pub fn tell_newest(alloc: Global, log: &[Act], told: &mut Vec<Told>) -> Result<(), NoMemory>
     requires { length log.now < 2 ^ 32 }
-    ensures { OnOk result (told.new.items ≡ told.old.items ++ at_newest told_by [] log.now) }
+    ensures { Tells result told.old told.new (at_newest told_by [] log.now) }
 {
     match log {
         [] => Ok(()),
