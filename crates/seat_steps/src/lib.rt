@@ -2,7 +2,13 @@
 #![tactic(auto)]
 
 mod limits;
+mod stamp;
 mod step;
+mod tokens;
 
-pub use limits::{ENTRY_LIMIT, Limits, STORE_LIMIT};
+pub use limits::{
+    ENTRY_LIMIT, FORM_1_ENTRY_LIMIT, FORM_1_WEIGHT, Limits, STORE_LIMIT, WEIGHT_LIMIT,
+};
+pub use stamp::Stamp;
 pub use step::{PeerStep, ShellStep, Step};
+pub use tokens::{TOKEN_LIMIT, TokenList};

@@ -1,4 +1,5 @@
 // The steps of a session.
+use crate::tokens::TokenList;
 use relay_model::{Keymap, Mods, Rect, Repeat, Role, Size};
 use std::alloc::Global;
 use wio_core::NoMemory;
@@ -25,6 +26,9 @@ pub enum PeerStep {
     Message { id: u32, opcode: u16, body: Bytes },
     /// The header of a message whose size is under 8, above 4,096 or no multiple of 4.
     BadSize { head: [u8; 8] },
+    /// The tokens of the descriptors that came with one frame, 1 to 256. They wait for the messages
+    /// that take them.
+    Tokens(TokenList),
     /// The peer's link ends.
     Gone,
 }
@@ -48,6 +52,8 @@ pub enum ShellStep {
     Keymap(Keymap),
     /// How keys repeat.
     Repeat(Repeat),
+    /// A moment has come. It tells nobody anything.
+    At { moment: u64 },
 }
 
 impl PeerStep {
@@ -64,6 +70,7 @@ impl PeerStep {
                 body: body.copy(alloc)?,
             }),
             PeerStep::BadSize { head } => Ok(PeerStep::BadSize { head: *head }),
+            PeerStep::Tokens(tokens) => Ok(PeerStep::Tokens(tokens.copy(alloc)?)),
             PeerStep::Gone => Ok(PeerStep::Gone),
         }
     }
