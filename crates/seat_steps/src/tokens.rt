@@ -44,8 +44,8 @@ impl TokenList {
 
     /// Puts a token after those that are there. `NoMemory` leaves the list as it was.
     pub fn push(&mut self, token: u32) -> Result<(), NoMemory>
-        ensures pushed { OnOk result (self.next ≡ self.now ++ (token ∷ [])) }
-        ensures same { OnErr result (self.next ≡ self.now) }
+        ensures pushed { OnOk result (self.new ≡ self.old ++ (token ∷ [])) }
+        ensures same { OnErr result (self.new ≡ self.old) }
     {
         self.tokens.push(token)?;
         Ok(())
