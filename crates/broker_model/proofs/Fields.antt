@@ -55,12 +55,12 @@ two_are : (a c : Value) (bs ds vs : List Value) (id seat : ℕ) → a ∷ bs ≡
     vs ≡ word id ∷ word seat ∷ []
 two_are a c bs ds vs id seat whole last none is_id is_seat = cc
 
-two_words : (body : List ℕ) (vs : List Value) → values_at [] (NewId ∷ ObjectKind ∷ []) body ≡ Some vs → AreTwoWords vs
-two_words body vs e =
-    let a = bind_some (value_at [] NewId body) (λ v. values_at [] (ObjectKind ∷ []) v.1 >>= (λ ws. Some (v.0 ∷ ws))) vs e in
-    let b = bind_some (values_at [] (ObjectKind ∷ []) a.0.1) (λ ws. Some (a.0.0 ∷ ws)) vs a.2 in
-    let c = bind_some (value_at [] ObjectKind a.0.1) (λ v. values_at [] [] v.1 >>= (λ ws. Some (v.0 ∷ ws))) b.0 b.1 in
-    let d = bind_some (values_at [] [] c.0.1) (λ ws. Some (c.0.0 ∷ ws)) b.0 c.2 in
+two_words : (tokens : List ℕ) (body : List ℕ) (vs : List Value) → values_at tokens (NewId ∷ ObjectKind ∷ []) body ≡ Some vs → AreTwoWords vs
+two_words tokens body vs e =
+    let a = bind_some (value_at tokens NewId body) (λ v. values_at tokens (ObjectKind ∷ []) v.1 >>= (λ ws. Some (v.0 ∷ ws))) vs e in
+    let b = bind_some (values_at tokens (ObjectKind ∷ []) a.0.1) (λ ws. Some (a.0.0 ∷ ws)) vs a.2 in
+    let c = bind_some (value_at tokens ObjectKind a.0.1) (λ v. values_at tokens [] v.1 >>= (λ ws. Some (v.0 ∷ ws))) b.0 b.1 in
+    let d = bind_some (values_at tokens [] c.0.1) (λ ws. Some (c.0.0 ∷ ws)) b.0 c.2 in
     let id : (n : ℕ) × (a.0.0 ≡ word n) = word_value (word_at body) a.0 a.1 in
     let seat : (n : ℕ) × (c.0.0 ≡ word n) = word_value (word_at a.0.1) c.0 c.1 in (
       id.0,
@@ -73,27 +73,27 @@ two_words body vs e =
 abbrev IsAsked : Message → Type 0
 IsAsked m = m.interface ≡ interface.TextInputManager → m.opcode ≡ 1 → AreTwoWords m.values
 
-asked_values : (i : Interface) (n : ℕ) (body : List ℕ) (m : Message) (ks : List Kind) (o : Option (List Value)) → values_at [] ks body ≡ o →
+asked_values : (tokens : List ℕ) (i : Interface) (n : ℕ) (body : List ℕ) (m : Message) (ks : List Kind) (o : Option (List Value)) → values_at tokens ks body ≡ o →
     request_kinds i n ≡ Some ks → all_read i n o ≡ Ok m → IsAsked m
-asked_values i n body m ks None v q e = cc
-asked_values i n body m ks (Some vs) v q e =
+asked_values tokens i n body m ks None v q e = cc
+asked_values tokens i n body m ks (Some vs) v q e =
     let d : message i n vs ≡ m = cc in
     λ is_i is_n.
     let same_i : i ≡ interface.TextInputManager = ap (λ (u : Message). u.interface) d ∙ is_i in
     let same_n : n ≡ 1 = ap (λ (u : Message). u.opcode) d ∙ is_n in
     let kinds : Some (NewId ∷ ObjectKind ∷ []) ≡ Some ks = ap₂ request_kinds (sym same_i) (sym same_n) ∙ q in
     let k : NewId ∷ ObjectKind ∷ [] ≡ ks = same_Some (NewId ∷ ObjectKind ∷ []) ks kinds in
-    let read : AreTwoWords vs = two_words body vs (ap (λ x. values_at [] x body) k ∙ v) in
+    let read : AreTwoWords vs = two_words tokens body vs (ap (λ x. values_at tokens x body) k ∙ v) in
     subst (λ (u : Message). AreTwoWords u.values) d read
 
-asked_kinds : (i : Interface) (n : ℕ) (body : List ℕ) (m : Message) (o : Option (List Kind)) → request_kinds i n ≡ o →
-    by_row i n [] body o ≡ Ok m → IsAsked m
-asked_kinds i n body m None q e = cc
-asked_kinds i n body m (Some ks) q e = asked_values i n body m ks (values_at [] ks body) refl q e
+asked_kinds : (tokens : List ℕ) (i : Interface) (n : ℕ) (body : List ℕ) (m : Message) (o : Option (List Kind)) → request_kinds i n ≡ o →
+    by_row i n tokens body o ≡ Ok m → IsAsked m
+asked_kinds tokens i n body m None q e = cc
+asked_kinds tokens i n body m (Some ks) q e = asked_values tokens i n body m ks (values_at tokens ks body) refl q e
 
-asked : (i : Interface) (n : ℕ) (body : List ℕ) (m : Message) → request_reading i n [] body ≡ Ok m → IsAsked m
+asked : (tokens : List ℕ) (i : Interface) (n : ℕ) (body : List ℕ) (m : Message) → request_reading i n tokens body ≡ Ok m → IsAsked m
 unfolding request_reading
-asked i n body m e = asked_kinds i n body m (request_kinds i n) refl e
+asked tokens i n body m e = asked_kinds tokens i n body m (request_kinds i n) refl e
 
 -- what was made with a label of a peer
 pub record IsMade (made : List Made) (x p : ℕ) : Type 0 where
@@ -142,7 +142,7 @@ field_of_message : (past : Past) (n : ℕ) (peer : Joined) (opcode : ℕ) (body 
     field_peer (of_message past n peer opcode body o).act ≡ Some p → IsMade ((of_message past n peer opcode body o).made ++ rest) n p
 field_of_message past n peer opcode body None p rest e = cc
 field_of_message past n peer opcode body (Some x) p rest e =
-    field_of_reading past n peer x.label (request_reading x.interface opcode [] body) p rest (λ m q. asked x.interface opcode body m q) e
+    field_of_reading past n peer x.label (request_reading x.interface opcode (past.waiting peer.label) body) p rest (λ m q. asked (past.waiting peer.label) x.interface opcode body m q) e
 
 field_of_peer : (o : Option Joined) (f : Joined → Meaning) (n p : ℕ) (rest : List Made) →
     ((peer : Joined) → field_peer (f peer).act ≡ Some p → IsMade ((f peer).made ++ rest) n p) →
@@ -165,6 +165,7 @@ field_of_entry (entries.Join role) n past p rest e = cc
 field_of_entry (entries.Message q id opcode body) n past p rest e =
     field_of_peer (peer_at past q) (λ peer. of_message past n peer opcode body (object_at past peer.label id)) n p rest
     (λ peer h. field_of_message past n peer opcode body (object_at past peer.label id) p rest h) e
+field_of_entry (entries.Tokens q tokens) n past p rest e = cc
 field_of_entry (entries.BadSize q head) n past p rest e = field_of_peer (peer_at past q) _ n p rest (λ peer h. cc) e
 field_of_entry (entries.End q why) n past p rest e = field_of_peer (peer_at past q) _ n p rest (λ peer h. cc) e
 field_of_entry (entries.Shell step) n past p rest e = absurd (field_of_shell past step p e)
@@ -191,7 +192,7 @@ other_message : (past : Past) (n : ℕ) (peer : Joined) (opcode : ℕ) (body : L
     made_as ((of_message past n peer opcode body o).made ++ rest) x ≡ made_as rest x
 other_message past n peer opcode body None rest x h = refl
 other_message past n peer opcode body (Some y) rest x h =
-    other_reading past n peer y.label (request_reading y.interface opcode [] body) rest x h
+    other_reading past n peer y.label (request_reading y.interface opcode (past.waiting peer.label) body) rest x h
 
 other_peer : (o : Option Joined) (f : Joined → Meaning) (rest : List Made) (x : ℕ) →
     ((peer : Joined) → made_as ((f peer).made ++ rest) x ≡ made_as rest x) → made_as ((of_peer o f).made ++ rest) x ≡ made_as rest x
@@ -204,6 +205,7 @@ other_entry (entries.Join role) n past rest x h = rw h refl
 other_entry (entries.Message q id opcode body) n past rest x h =
     other_peer (peer_at past q) (λ peer. of_message past n peer opcode body (object_at past peer.label id)) rest x
     (λ peer. other_message past n peer opcode body (object_at past peer.label id) rest x h)
+other_entry (entries.Tokens q tokens) n past rest x h = refl
 other_entry (entries.BadSize q head) n past rest x h = other_peer (peer_at past q) _ rest x (λ peer. refl)
 other_entry (entries.End q why) n past rest x h = other_peer (peer_at past q) _ rest x (λ peer. refl)
 other_entry (entries.Shell step) n past rest x h = refl

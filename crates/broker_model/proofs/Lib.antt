@@ -16,3 +16,5 @@ pub mod Counts
 pub mod Spaced
 pub mod Stored
 pub mod Taken
+pub mod StampsAgain
+pub mod FewTokensWait

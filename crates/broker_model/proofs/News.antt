@@ -225,7 +225,7 @@ one_message : (past : Past) (n bound : ℕ) (peer : Joined) (opcode : ℕ) (body
 one_message past n bound peer opcode body id None s e w = inl refl
 one_message past n bound peer opcode body id (Some x) s e w =
     let f : IsFound (log_of past) past.made peer.label id x = found (log_of past) past.made peer.label id x e in
-    one_reading past n peer x.label (request_reading x.interface opcode [] body) w ((s x f.among).own f.lives ∙ ap Some f.peer)
+    one_reading past n peer x.label (request_reading x.interface opcode (past.waiting peer.label) body) w ((s x f.among).own f.lives ∙ ap Some f.peer)
 
 one_peer : (log : List Act) (made : List Made) (n : ℕ) (o : Option Joined) (f : Joined → Meaning) →
     ((peer : Joined) → o ≡ Some peer → AtMostOne log made n (f peer)) → AtMostOne log made n (of_peer o f)
@@ -259,6 +259,7 @@ one_entry (entries.Message q id opcode body) older s =
     (λ peer. of_message (past_of older) (length older + 1) peer opcode body (object_at (past_of older) peer.label id))
     (λ peer e. one_message (past_of older) (length older + 1) (length older) peer opcode body id (object_at (past_of older) peer.label id) s refl
     (let w : peer.label ≤ length older = label_within older q peer e in omega arith))
+one_entry (entries.Tokens q tokens) older s = inl refl
 one_entry (entries.BadSize q head) older s = one_peer _ _ (length older + 1) (peer_at (past_of older) q) _ (λ peer e. inl refl)
 one_entry (entries.End q why) older s = one_peer _ _ (length older + 1) (peer_at (past_of older) q) _ (λ peer e. inl refl)
 one_entry (entries.Shell step) older s = inl refl

@@ -123,7 +123,7 @@ plain_reading past n peer x (Ok m) = plain_request past n peer x m (request_faul
 
 plain_message : (past : Past) (n : ℕ) (peer : Joined) (opcode : ℕ) (body : List ℕ) (o : Option Made) → is_join (of_message past n peer opcode body o).act ≡ false
 plain_message past n peer opcode body None = refl
-plain_message past n peer opcode body (Some x) = plain_reading past n peer x.label (request_reading x.interface opcode [] body)
+plain_message past n peer opcode body (Some x) = plain_reading past n peer x.label (request_reading x.interface opcode (past.waiting peer.label) body)
 
 plain_peer : (o : Option Joined) (f : Joined → Meaning) → ((peer : Joined) → is_join (f peer).act ≡ false) → is_join (of_peer o f).act ≡ false
 plain_peer None f h = refl
@@ -200,6 +200,7 @@ join_entry (entries.Message q id opcode body) n past h =
     absurd (true≢false (sym h
     ∙ plain_peer (peer_at past q) (λ peer. of_message past n peer opcode body (object_at past peer.label id))
     (λ peer. plain_message past n peer opcode body (object_at past peer.label id))))
+join_entry (entries.Tokens q tokens) n past h = cc
 join_entry (entries.BadSize q head) n past h = absurd (true≢false (sym h ∙ plain_peer (peer_at past q) _ (λ peer. refl)))
 join_entry (entries.End q why) n past h = absurd (true≢false (sym h ∙ plain_peer (peer_at past q) _ (λ peer. refl)))
 join_entry (entries.Shell step) n past h = absurd (true≢false (sym h ∙ plain_shell past step))

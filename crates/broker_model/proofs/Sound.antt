@@ -163,6 +163,7 @@ shown_entry (entries.Join role) n past h j k =
       | inr new ↦ inl (ap (λ (u : Joined). display_of u.label) new)
     ]
 shown_entry (entries.Message q id opcode body) n past h j k = in_more (means (entries.Message q id opcode body) n past).made past.made _ (h j k)
+shown_entry (entries.Tokens q tokens) n past h j k = h j k
 shown_entry (entries.BadSize q head) n past h j k = in_more (means (entries.BadSize q head) n past).made past.made _ (h j k)
 shown_entry (entries.End q why) n past h j k = in_more (means (entries.End q why) n past).made past.made _ (h j k)
 shown_entry (entries.Shell step) n past h j k = h j k

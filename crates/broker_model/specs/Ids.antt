@@ -19,11 +19,13 @@ pub record Joined : Type 0 where
   pub label : ℕ
   pub role : Role
 
--- what entries come to: their acts, the newest first; what was made under ids, the newest first; and who joined, in order
+-- what entries come to: their acts, the newest first; what was made under ids, the newest first; who joined, in order; and for each label the tokens that wait
+-- for the peer, in order
 pub record Past : Type 0 where
   pub acts : List Act
   pub made : List Made
   pub joined : List Joined
+  pub waiting : ℕ → List ℕ
 
 -- the acts with Idle in the place of each that is idle
 abbrev pub log_of : Past → List Act

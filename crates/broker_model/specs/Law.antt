@@ -8,6 +8,7 @@ use Rattle.relay_model.specs.declared.said.Said.{Said}
 use Rattle.relay_model.specs.Objects.{next, peer_of}
 use Rattle.relay_model.specs.Batch.{group_of, relayed}
 use Rattle.relay_model.specs.Idle as idle
+use Rattle.seat_steps.specs.declared.stamp.Stamp.{Stamp}
 use Rattle.broker_model.specs.declared.journal.Entry.{Entry}
 use Rattle.broker_model.specs.declared.journal.Entry.TheVariants.{End}
 use Rattle.broker_model.specs.Ids.{Made, Joined, log_of, peer_at, made_as}
@@ -15,6 +16,8 @@ use Rattle.broker_model.specs.Resolve.{past_of, resolve}
 use Rattle.broker_model.specs.Groups.{said_piece}
 use Rattle.broker_model.specs.Out.{act_now, group_at, stored, out_for}
 use Rattle.broker_model.specs.Settle.{is_due, history}
+use Rattle.broker_model.specs.Waiting.{takes_token}
+use Rattle.broker_model.specs.Stamps.{latest, given_before, stamps, step_stamps}
 use Rattle.broker_model.specs.Queued.{relays, queued}
 
 -- the peer of the field that the act makes
@@ -68,3 +71,24 @@ WholeGroups = (e : Entry) (older : List Entry) (f : ℕ) → relays e older f �
 -- no more bytes are stored than the capacity
 abbrev pub StoresHold : Type 0
 StoresHold = (capacity : ℕ) (journal : List Entry) (p : ℕ) → length (stored (out_for capacity journal p)) ≤ capacity
+
+-- at most 256 tokens wait for a peer
+abbrev pub FewWait : Type 0
+FewWait = (journal : List Entry) (p : ℕ) → length ((past_of journal).waiting p) ≤ 256
+
+-- no request of today's rows has a descriptor, so no message takes a token
+abbrev pub NoneTaken : Type 0
+NoneTaken = (o : Option Made) (opcode : ℕ) → takes_token o opcode ≡ false
+
+-- a journal has as many stamps as entries, whatever was given
+abbrev pub StampEach : Type 0
+StampEach = (journal : List Entry) (given : List Stamp) → length (stamps journal given) ≡ length journal
+
+-- no moment is below that of the entry before
+abbrev pub MomentsRise : Type 0
+MomentsRise =
+    (e : Entry) (older : List Entry) (given : List Stamp) → latest (stamps older (given_before e given)) ≤ latest (stamps (e ∷ older) given)
+
+-- the stamps that the steps have give all the stamps again, as they do where a recorded session is read
+abbrev pub StampsAgain : Type 0
+StampsAgain = (journal : List Entry) (given : List Stamp) → stamps journal (step_stamps journal (stamps journal given)) ≡ stamps journal given

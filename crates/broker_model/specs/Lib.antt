@@ -1,4 +1,5 @@
 pub mod Ids
+pub mod Waiting
 pub mod Requests
 pub mod Refusals
 pub mod Resolve
@@ -8,8 +9,10 @@ pub mod Tables
 pub mod Settle
 pub mod Queued
 pub mod Limits
+pub mod Stamps
 pub mod Recorded
 pub mod Law
 pub mod Rows
 pub mod BaseRows
+pub mod TokenRows
 pub mod Stored

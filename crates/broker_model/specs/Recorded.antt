@@ -7,7 +7,7 @@ pub record Recorded : Type 0 where
   pub entries : List Entry
   pub room : ℕ
 
--- the entry with a number; the oldest has the number 1
-abbrev pub entry_at : List Entry → ℕ → Option Entry
+-- what has a number in such a list; the oldest has the number 1
+abbrev pub entry_at : {A : Type 0} → List A → ℕ → Option A
 entry_at [] number = None
 entry_at (e ∷ older) number = (if number == length older + 1 then Some e else entry_at older number)

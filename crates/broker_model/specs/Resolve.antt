@@ -13,6 +13,7 @@ use Rattle.seat_steps.specs.declared.step.ShellStep.TheVariants as shell
 use Rattle.broker_model.specs.declared.journal.Entry.{Entry}
 use Rattle.broker_model.specs.declared.journal.Entry.TheVariants as entries
 use Rattle.broker_model.specs.Ids.{Made, Joined, Past, peer_at, object_at}
+use Rattle.broker_model.specs.Waiting.{waiting_with}
 use Rattle.broker_model.specs.Requests.{Argument, new_of, act_of}
 use Rattle.broker_model.specs.Refusals.{is_of, request_fault, refuse_fault, is_of_addressed}
 
@@ -56,10 +57,10 @@ abbrev pub of_reading : Past → ℕ → Joined → ℕ → Result Message Refus
 of_reading past n peer x (Err r) = refused_for peer.label x (refuse_fault r)
 of_reading past n peer x (Ok m) = of_request past n peer x m (request_fault past peer.label peer.role (label_at past peer.label) m)
 
--- a message to an object, if the id names one
+-- a message to an object, if the id names one; where its row has a descriptor, that is the first token that waits for the peer
 abbrev pub of_message : Past → ℕ → Joined → ℕ → List ℕ → Option Made → Meaning
 of_message past n peer opcode body None = refused_for peer.label peer.label fault.Object
-of_message past n peer opcode body (Some x) = of_reading past n peer x.label (request_reading x.interface opcode [] body)
+of_message past n peer opcode body (Some x) = of_reading past n peer x.label (request_reading x.interface opcode (past.waiting peer.label) body)
 
 -- an entry of a peer that joined
 abbrev pub of_peer : Option Joined → (Joined → Meaning) → Meaning
@@ -91,6 +92,7 @@ shell_act past (shell.Key time key state) = acts.Key time key state
 shell_act past (shell.Mods mods) = acts.Mods mods
 shell_act past (shell.Keymap keymap) = acts.Keymap keymap
 shell_act past (shell.Repeat repeat) = acts.Repeat repeat
+shell_act past (shell.At moment) = acts.Idle
 
 -- what the entry with the number n comes to, after all before it
 abbrev pub means : Entry → ℕ → Past → Meaning
@@ -98,6 +100,7 @@ means (entries.Join role) n past =
     record { act = acts.Peer; made = record { peer = n; id = 1; label = n; interface = interface.Display } ∷ [] }
 means (entries.Message q id opcode body) n past =
     of_peer (peer_at past q) (λ peer. of_message past n peer opcode body (object_at past peer.label id))
+means (entries.Tokens q tokens) n past = only acts.Idle
 means (entries.BadSize q head) n past = of_peer (peer_at past q) (λ peer. refused_for peer.label peer.label fault.Size)
 means (entries.End q cause) n past = of_peer (peer_at past q) (λ peer. only (acts.Gone peer.label cause))
 means (entries.Shell step) n past = only (shell_act past step)
@@ -112,11 +115,16 @@ with_joined _ n joined = joined
 abbrev pub with_entry : Entry → ℕ → Past → Past
 with_entry e n past =
     let meaning = means e n past in
-    record { acts = meaning.act ∷ past.acts; made = meaning.made ++ past.made; joined = with_joined e n past.joined }
+    record {
+      acts = meaning.act ∷ past.acts;
+      made = meaning.made ++ past.made;
+      joined = with_joined e n past.joined;
+      waiting = waiting_with e past;
+    }
 
 -- what the entries of a journal, the newest first, come to
 abbrev pub past_of : List Entry → Past
-past_of [] = record { acts = []; made = []; joined = [] }
+past_of [] = record { acts = []; made = []; joined = []; waiting = λ p. [] }
 past_of (e ∷ older) = with_entry e (length older + 1) (past_of older)
 
 -- the acts that they are

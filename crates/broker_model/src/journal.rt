@@ -1,13 +1,10 @@
 // What happened, step by step.
 use relay_model::{EndCause, Role};
-use seat_steps::ShellStep;
+use seat_steps::{Limits, ShellStep, TokenList};
 use std::alloc::Global;
 use std::marker::Model;
 use wio_core::NoMemory;
 use wl_wire::Bytes;
-
-// The most that a journal weighs.
-const MOST_WEIGHT: u64 = 134_217_728;
 
 /// One step of all that happened. Peers are numbered from 1 in the order in which they joined.
 #[derive(Debug, Drop)]
@@ -21,6 +18,11 @@ pub enum Entry {
         id: u32,
         opcode: u16,
         body: Bytes,
+    },
+    /// The tokens of the descriptors that came with one frame of a peer.
+    Tokens {
+        peer: u32,
+        tokens: TokenList,
     },
     /// The header of a message with a bad size.
     BadSize {
@@ -62,6 +64,10 @@ impl Entry {
                 opcode: *opcode,
                 body: body.copy(alloc)?,
             }),
+            Entry::Tokens { peer, tokens } => Ok(Entry::Tokens {
+                peer: *peer,
+                tokens: tokens.copy(alloc)?,
+            }),
             Entry::BadSize { peer, head } => Ok(Entry::BadSize {
                 peer: *peer,
                 head: *head,
@@ -90,6 +96,7 @@ impl Entry {
         match self {
             Entry::End { .. } => 0,
             Entry::Message { body, .. } => 16 + body.as_slice().len() as u64,
+            Entry::Tokens { tokens, .. } => 16 + 4 * tokens.as_slice().len() as u64,
             Entry::Join(_) | Entry::BadSize { .. } | Entry::Shell(_) | Entry::Took { .. } => 16,
         }
     }
@@ -100,8 +107,8 @@ impl Entry {
 pub struct Kept {
     /// The entries that aren't ends of peers.
     pub entries: u32,
-    /// What all entries weigh: 16 each and a message the bytes of its body besides; an end weighs
-    /// nothing. At most 134,217,728.
+    /// What all entries weigh: 16 each, a message the bytes of its body besides, tokens 4 each
+    /// besides; an end weighs nothing. At most 536,870,912.
     pub weight: u64,
 }
 
@@ -130,7 +137,7 @@ impl Model for Journal {
     ghost invariant = { λ j. (length j.entries.items < 4294967296)
         × (j.kept.entries ≡ number_counted (reverse j.entries.items))
         × (j.kept.weight ≡ weight (reverse j.entries.items))
-        × (j.kept.weight ≤ 134217728) };
+        × (j.kept.weight ≤ 536870912) };
 }
 
 impl Journal {
@@ -189,13 +196,15 @@ impl Journal {
         self.kept
     }
 
-    /// Whether the entry is one too many for a limit of counted entries, or too heavy. Never so of
-    /// an end.
-    pub fn is_full(&self, limit: u32, entry: &Entry) -> bool
-        ensures { result ≡ is_full limit self.now.entries entry.now }
+    /// Whether the entry is one too many for the limit of counted entries, or too heavy for that of
+    /// weight. Never so of an end.
+    pub fn is_full(&self, limits: &Limits, entry: &Entry) -> bool
+        ensures { result ≡ is_full limits.now self.now.entries entry.now }
     {
         !entry.is_end()
-            && (limit <= self.kept.entries || entry.weight() > MOST_WEIGHT - self.kept.weight)
+            && (limits.entries <= self.kept.entries
+                || limits.weight < self.kept.weight
+                || entry.weight() > limits.weight - self.kept.weight)
     }
 
     /// Makes room for so many more entries. `NoMemory` is its one error, after which there is the
@@ -215,7 +224,7 @@ impl Journal {
         requires room { 0 < self.old.room }
         requires number { length self.old.entries < 4294967295 }
         requires light { is_end entry ≡ false →
-            weight self.old.entries + weight_of entry ≤ 134217728 }
+            weight self.old.entries + weight_of entry ≤ 536870912 }
         ensures put { self.new.entries ≡ entry ∷ self.old.entries }
         ensures room_left { self.old.room ≤ self.new.room + 1 }
     {

@@ -3,6 +3,7 @@ ghost use Rattle.broker_model.specs.Law.{RelayLaw, WholeGroups, NobodyIsDue, Sto
 ghost use Rattle.broker_model.specs.Tables.{FoundById, FoundByLabel, CountedLive};
 ghost use Rattle.broker_model.specs.Stored.{GroupsAreSpaced, CellsArePut, CellsAreTaken};
 ghost use Rattle.broker_model.specs.Stored.{BytesAreOut, TokensAreOut};
+ghost use Rattle.broker_model.specs.Law.{FewWait, NoneTaken, StampEach, MomentsRise, StampsAgain};
 
 /// After any outer steps, what is queued for each field is what is relayed to it, in order and once
 /// each; or all of that but the last group, which did not fit the store of the field's peer, and
@@ -37,4 +38,18 @@ pub fn store_law()
     ensures taken { CellsAreTaken }
     ensures bytes { BytesAreOut }
     ensures tokens { TokensAreOut }
+{}
+
+/// At most 256 tokens wait for a peer, and no request of today's rows takes one.
+pub fn token_law()
+    ensures few { FewWait }
+    ensures none_taken { NoneTaken }
+{}
+
+/// After any entries, whatever their calls gave: each has one stamp, no moment falls, and the
+/// stamps that the steps have give all of them again.
+pub fn stamp_law()
+    ensures each { StampEach }
+    ensures rise { MomentsRise }
+    ensures again { StampsAgain }
 {}

@@ -4,7 +4,9 @@
 mod journal;
 mod laws;
 mod rows;
+mod stamps;
 
 pub use journal::{Entry, Journal, Kept};
-pub use laws::{relay_law, store_law, table_law};
-pub use rows::{base_session, small_sessions};
+pub use laws::{relay_law, stamp_law, store_law, table_law, token_law};
+pub use rows::{base_session, small_sessions, tokens_and_stamps};
+pub use stamps::StampList;

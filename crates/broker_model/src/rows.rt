@@ -8,6 +8,8 @@ ghost use Rattle.broker_model.specs.BaseRows.{BaseActs, BatchIsQueued, BatchIsTo
 ghost use Rattle.broker_model.specs.BaseRows.{AllIsOut, MethodIsTold, LastByteFits, OneByteTooMany};
 ghost use Rattle.broker_model.specs.BaseRows.{TakenMakesRoom, EndsFollow, BatchIsLeftOut};
 ghost use Rattle.broker_model.specs.BaseRows.{TokenIsPlaced, SurfaceHasARole};
+ghost use Rattle.broker_model.specs.TokenRows.{TokensWait, TokensWeigh, LastTokenIsDropped};
+ghost use Rattle.broker_model.specs.TokenRows.{FirstIsTaken, MomentsAreSaid, EndsHaveNoAuthor};
 
 /// What the definitions make of small sessions is what was worked out by hand.
 pub fn small_sessions()
@@ -44,4 +46,14 @@ pub fn base_session()
     ensures batch_is_left_out { BatchIsLeftOut }
     ensures token_is_placed { TokenIsPlaced }
     ensures surface_has_a_role { SurfaceHasARole }
+{}
+
+/// The same of tokens that wait, and of the moments and authors of a session.
+pub fn tokens_and_stamps()
+    ensures tokens_wait { TokensWait }
+    ensures tokens_weigh { TokensWeigh }
+    ensures last_token_is_dropped { LastTokenIsDropped }
+    ensures first_is_taken { FirstIsTaken }
+    ensures moments_are_said { MomentsAreSaid }
+    ensures ends_have_no_author { EndsHaveNoAuthor }
 {}
