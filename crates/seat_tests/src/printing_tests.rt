@@ -1,10 +1,10 @@
 // Lines that are printed: of what is told, of a session's steps, of its transcript.
 use crate::reading_tests::SHELL_LINES;
 use relay_model::{EndCause, Said, Told};
-use seat_steps::{PeerStep, Step};
+use seat_steps::{PeerStep, Stamp, Step, TokenList};
 use session_text::{
-    Form, Line, print_ended, print_out, print_pass, print_placed, print_step, print_told,
-    print_took, read_line,
+    Form, Line, print_ended, print_out, print_pass, print_placed, print_stamped, print_step,
+    print_told, print_took, read_line,
 };
 use std::process::Abort;
 use std::test::Fail;
@@ -57,6 +57,21 @@ fn prints_what_the_shell_says(rt: HostRuntime) -> Result<(), Fail> {
         };
         prints(&rt, print_step(rt.alloc(), &Step::Shell(step))?, text);
     }
+    Ok(())
+}
+
+// Tokens are printed without a stamp, and with one.
+#[test]
+fn prints_tokens_behind_a_stamp(rt: HostRuntime) -> Result<(), Fail> {
+    let tokens = TokenList::from_slice(rt.alloc(), &[7, 8])?;
+    let step = Step::Peer(1, PeerStep::Tokens(tokens));
+    prints(&rt, print_step(rt.alloc(), &step)?, "tokens 1 7 8");
+    let stamp = Stamp {
+        moment: 5,
+        author: 3,
+    };
+    let line = print_stamped(rt.alloc(), stamp, &step)?;
+    prints(&rt, line, "5 3 tokens 1 7 8");
     Ok(())
 }
 

@@ -1,5 +1,5 @@
 // Lines that are read, and what each says; and lines that are refused.
-use session_text::Form::{self, Acts, Session, Shell};
+use session_text::Form::{self, Acts, Session, Session2, Shell};
 use session_text::{BadLine, read_line};
 use std::alloc::{AllocGlobal, Global};
 use std::process::Abort;
@@ -74,9 +74,12 @@ static ACTS: [(&str, &str); 28] = [
 static SESSION_LINES: [(&str, &str); 10] = [
     (
         "session 1 1000000 1048576",
-        "Header(Limits { entries: 1000000, store: 1048576 })",
+        "Header(Limits { entries: 1000000, store: 1048576, weight: 134217728 })",
     ),
-    ("session 1 1 1", "Header(Limits { entries: 1, store: 1 })"),
+    (
+        "session 1 1 1",
+        "Header(Limits { entries: 1, store: 1, weight: 134217728 })",
+    ),
     ("join app", "Session(Join(App))"),
     ("join method", "Session(Join(Method))"),
     ("bytes 1 0700", "Session(Bytes(1, Bytes { bytes: [7, 0] }))"),
@@ -87,7 +90,43 @@ static SESSION_LINES: [(&str, &str); 10] = [
     ("end", "End"),
 ];
 
-pub static SHELL_LINES: [(&str, &str); 8] = [
+static STAMPED_LINES: [(&str, &str); 9] = [
+    (
+        "session 2 4000000 1048576 536870912",
+        "Header(Limits { entries: 4000000, store: 1048576, weight: 536870912 })",
+    ),
+    (
+        "session 2 1 1 1",
+        "Header(Limits { entries: 1, store: 1, weight: 1 })",
+    ),
+    (
+        "0 0 join app",
+        "Stamped(Stamp { moment: 0, author: 0 }, Join(App))",
+    ),
+    (
+        "5 3 bytes 1 0700",
+        "Stamped(Stamp { moment: 5, author: 3 }, Bytes(1, Bytes { bytes: [7, 0] }))",
+    ),
+    (
+        "18446744073709551615 9999999999999999999 unfocus",
+        "Stamped(Stamp { moment: 18446744073709551615, author: 9999999999999999999 }, Shell(Unfocus))",
+    ),
+    (
+        "0 0 area 1 6 -2 20 3 0",
+        "Stamped(Stamp { moment: 0, author: 0 }, Shell(Area { peer: 1, id: 6, rect: Rect { x: -2, y: 20, width: 3, height: 0 } }))",
+    ),
+    (
+        "0 0 tokens 1 7 4294967295",
+        "Stamped(Stamp { moment: 0, author: 0 }, Tokens(1, TokenList { tokens: [7, 4294967295] }))",
+    ),
+    (
+        "10 2 at 20",
+        "Stamped(Stamp { moment: 10, author: 2 }, Shell(At { moment: 20 }))",
+    ),
+    ("end", "End"),
+];
+
+pub static SHELL_LINES: [(&str, &str); 9] = [
     ("focus 1 6", "Shell(Focus { peer: 1, id: 6 })"),
     ("unfocus", "Shell(Unfocus)"),
     (
@@ -111,10 +150,11 @@ pub static SHELL_LINES: [(&str, &str); 8] = [
         "repeat 25 -6",
         "Shell(Repeat(Repeat { rate: 25, delay: -6 }))",
     ),
+    ("at 5000000000", "Shell(At { moment: 5000000000 })"),
 ];
 
 // Lines that are one change away from a line, or a line of another form.
-static OTHERS: [(Form, &str); 38] = [
+static OTHERS: [(Form, &str); 56] = [
     (Acts, ""),
     (Acts, "Peer"),
     (Acts, "peer "),
@@ -153,6 +193,24 @@ static OTHERS: [(Form, &str); 38] = [
     (Session, "peer"),
     (Shell, "join app"),
     (Shell, "session 1 1 1"),
+    (Shell, "at 18446744073709551616"),
+    (Shell, "tokens 1 7"),
+    (Session, "0 0 join app"),
+    (Session, "at 5"),
+    (Session, "tokens 1 7"),
+    (Session2, "session 1 1 1"),
+    (Session2, "session 2 1 1"),
+    (Session2, "session 2 4000001 1 1"),
+    (Session2, "session 2 1 1 0"),
+    (Session2, "session 2 1 1 536870913"),
+    (Session2, "0 0 session 2 1 1 1"),
+    (Session2, "join app"),
+    (Session2, "0 join app"),
+    (Session2, "00 0 join app"),
+    (Session2, "18446744073709551616 0 join app"),
+    (Session2, "0 0 0 join app"),
+    (Session2, "0 0 tokens 1"),
+    (Session2, "0 0 end"),
 ];
 
 fn reads(rt: &(impl Abort + AllocGlobal), form: Form, lines: &[(&str, &str)]) -> Result<(), Fail> {
@@ -168,6 +226,7 @@ fn reads(rt: &(impl Abort + AllocGlobal), form: Form, lines: &[(&str, &str)]) ->
 fn reads_each_line(rt: HostRuntime) -> Result<(), Fail> {
     reads(&rt, Acts, &ACTS)?;
     reads(&rt, Session, &SESSION_LINES)?;
+    reads(&rt, Session2, &STAMPED_LINES)?;
     reads(&rt, Shell, &SHELL_LINES)
 }
 
@@ -206,5 +265,18 @@ fn keeps_long_words_within_their_limits(rt: HostRuntime) -> Result<(), Fail> {
         let longer = long_line(rt.alloc(), front, limit + 1, back)?;
         assert!(rt; is_refused(rt.alloc(), form, longer.as_str()), "{front}");
     }
+    Ok(())
+}
+
+// 256 tokens are read, and one more is not.
+#[test]
+fn keeps_tokens_within_their_limit(rt: HostRuntime) -> Result<(), Fail> {
+    let mut line = String::from_str(rt.alloc(), "0 0 tokens 1")?;
+    for _ in 0..256 {
+        line.push_str(" 4294967295")?;
+    }
+    assert!(rt; !is_refused(rt.alloc(), Session2, line.as_str()));
+    line.push_str(" 0")?;
+    assert!(rt; is_refused(rt.alloc(), Session2, line.as_str()));
     Ok(())
 }
