@@ -48,40 +48,40 @@ first_by limits q e rest play alive full =
 
 pub first_is : (limits : Limits) (q : ℕ) (e : Entry) (rest : List Entry) (play : Play) (full : Bool) →
     lives play.journal q ≡ true →
-    is_full limits.entries play.journal e ≡ full → steps_played limits q (e ∷ rest) play ≡ first_by limits q e rest play
+    is_full limits play.journal e ≡ full → steps_played limits q (e ∷ rest) play ≡ first_by limits q e rest play
     true full
 first_is limits q e rest play full h f =
-    ap (λ t. first_by limits q e rest play t (is_full limits.entries play.journal e)) h
+    ap (λ t. first_by limits q e rest play t (is_full limits play.journal e)) h
     ∙ ap (first_by limits q e rest play true) f
 
 steps_dead : (limits : Limits) (q : ℕ) (steps : List Entry) (play : Play) → lives play.journal q ≡ false →
     steps_played limits q steps play ≡ went play
 steps_dead limits q [] play h = refl
 steps_dead limits q (e ∷ rest) play h = ap (λ t. first_by limits q e rest play t
-    (is_full limits.entries play.journal e)) h
+    (is_full limits play.journal e)) h
 
 -- a step that isn't played to its end
 
 err_by : (limits : Limits) (q : ℕ) (e : Entry) (rest : List Entry) (play now after : Play) (stop : Stop) (full : Bool) →
     lives play.journal q ≡ true →
-    now.journal ≡ play.journal → is_full limits.entries play.journal e ≡ full →
+    now.journal ≡ play.journal → is_full limits play.journal e ≡ full →
     IsPlayed (step_played limits e now) (Err stop) after →
     IsPlayed (steps_played limits q (e ∷ rest) play) (Err stop) after
 err_by limits q e rest play now after (stops.Full kept) true h j f p =
-    let full = ap (λ (l : List Entry). is_full limits.entries l e) j ∙ f in
+    let full = ap (λ (l : List Entry). is_full limits l e) j ∙ f in
     let here = subst (λ (x : Played). IsPlayed x (Err (stops.Full kept)) after) (ap (by_full limits e now) full) p in
     subst (λ (x : Played). IsPlayed x (Err (stops.Full kept)) after) (sym (first_is limits q e rest play true h f))
     (refl, here.1 ∙ ap (λ l. kept_in l) j, here.2 ∙ j)
 err_by limits q e rest play now after (stops.Full kept) false h j f p =
-    let full = ap (λ (l : List Entry). is_full limits.entries l e) j ∙ f in
+    let full = ap (λ (l : List Entry). is_full limits l e) j ∙ f in
     let no = sym (ap (λ (x : Played). x.is_full) (ap (by_full limits e now) full)) ∙ p.0 in cc
 err_by limits q e rest play now after stops.NoMemory true h j f p =
-    let full = ap (λ (l : List Entry). is_full limits.entries l e) j ∙ f in
+    let full = ap (λ (l : List Entry). is_full limits l e) j ∙ f in
     let here = subst (λ (x : Played). IsMore after.journal x.play.journal) (ap (by_full limits e now) full) p in
     subst (λ (x : Played). IsMore after.journal x.play.journal) (sym (first_is limits q e rest play true h f))
     (subst (λ (l : List Entry). IsMore after.journal l) j here)
 err_by limits q e rest play now after stops.NoMemory false h j f p =
-    let full = ap (λ (l : List Entry). is_full limits.entries l e) j ∙ f in
+    let full = ap (λ (l : List Entry). is_full limits l e) j ∙ f in
     let here = subst (λ (x : Played). IsMore after.journal x.play.journal) (ap (by_full limits e now) full) p in
     subst (λ (x : Played). IsMore after.journal x.play.journal) (sym (first_is limits q e rest play false h f))
     (more_both after.journal (settle limits.store (e ∷ play.journal))
@@ -103,7 +103,7 @@ message_err limits q piece left play now after step used stop h f j p =
     (sym (live_bytes limits q piece play h ∙ ap (λ (l : List Entry). steps_played limits q l
     (left_as q (behind bytes) play)) f.steps))
     (err_by limits q (peer_entry q step) (steps_in q (drop used piece)) (left_as q (behind bytes) play) now after stop
-    (is_full limits.entries play.journal (peer_entry q step)) h j refl p)
+    (is_full limits play.journal (peer_entry q step)) h j refl p)
 
 goes_by : (limits : Limits) (q : ℕ) (e : Entry) (rest : List ℕ) (play : Play) (alive : Bool) →
     lives (settle limits.store (e ∷ play.journal)) q ≡ alive →
@@ -126,7 +126,7 @@ goes_by limits q e rest play true h =
 
 ok_by : (limits : Limits) (q : ℕ) (e : Entry) (rest : List ℕ) (play after : Play) (full : Bool) →
     lives play.journal q ≡ true →
-    is_full limits.entries play.journal e ≡ full → IsPlayed (step_played limits e (left_as q [] play)) (Ok tt) after →
+    is_full limits play.journal e ≡ full → IsPlayed (step_played limits e (left_as q [] play)) (Ok tt) after →
     steps_played limits q (e ∷ steps_in q rest) (left_as q (behind rest) play) ≡ bytes_played limits q rest after
 ok_by limits q e rest play after true h f p =
     (let no = sym (ap (λ (x : Played). x.is_full) (ap (by_full limits e (left_as q [] play)) f)) ∙ p.0 in cc)
@@ -147,14 +147,14 @@ message_ok limits q piece left play now after step used h f n p =
     live_bytes limits q piece play h
     ∙ ap₂ (λ (l : List Entry) (b : List ℕ). steps_played limits q l (left_as q b play)) f.steps f.behind_same
     ∙ ok_by limits q (peer_entry q step) (drop used piece) play after
-    (is_full limits.entries play.journal (peer_entry q step)) h refl
+    (is_full limits play.journal (peer_entry q step)) h refl
     (subst (λ (x : Play). IsPlayed (step_played limits (peer_entry q step) x) (Ok tt) after) was p)
 
 -- a bad size, behind which nothing is read
 
 last_by : (limits : Limits) (q : ℕ) (head left bytes : List ℕ) (play after : Play) (full : Bool) →
     lives play.journal q ≡ true →
-    is_full limits.entries play.journal (entries.BadSize q head) ≡ full →
+    is_full limits play.journal (entries.BadSize q head) ≡ full →
     IsPlayed (step_played limits (entries.BadSize q head) (left_as q left play)) (Ok tt) after →
     IsPlayed (steps_played limits q (entries.BadSize q head ∷ []) (left_as q bytes play)) (Ok tt) after
 last_by limits q head left bytes play after true h f p =
@@ -177,10 +177,10 @@ bad_by : (limits : Limits) (q : ℕ) (head left bytes : List ℕ) (play now afte
     IsPlayed (steps_played limits q (entries.BadSize q head ∷ []) (left_as q bytes play)) r after
 bad_by limits q head left bytes play now after (Err stop) h n p =
     err_by limits q (entries.BadSize q head) [] (left_as q bytes play) now after stop
-    (is_full limits.entries play.journal (entries.BadSize q head)) h
+    (is_full limits play.journal (entries.BadSize q head)) h
     (ap (λ (x : Play). x.journal) n) refl p
 bad_by limits q head left bytes play now after (Ok done) h n p =
-    last_by limits q head left bytes play after (is_full limits.entries play.journal (entries.BadSize q head)) h refl
+    last_by limits q head left bytes play after (is_full limits play.journal (entries.BadSize q head)) h refl
     (subst (λ (x : Play). IsPlayed (step_played limits (entries.BadSize q head) x) (Ok tt) after) n p)
 
 pub bad_size : (limits : Limits) (q : ℕ) (piece left : List ℕ) (play now after : Play) (step : PeerStep)

@@ -7,8 +7,8 @@ use Rattle.broker_model.specs.declared.journal.Entry.TheVariants as entries
 use Rattle.broker_model.specs.declared.journal.Kept.{Kept}
 use Rattle.broker_model.specs.Limits.{is_full}
 use Rattle.broker_model.specs.Settle.{number_alive}
-use Rattle.broker_core.specs.declared.shared.JoinRefusal.{JoinRefusal}
-use Rattle.broker_core.specs.declared.shared.JoinRefusal.TheVariants as join
+use Rattle.broker_core.specs.declared.answers.JoinRefusal.{JoinRefusal}
+use Rattle.broker_core.specs.declared.answers.JoinRefusal.TheVariants as join
 use Rattle.broker_core.specs.Broker.{Broker, kept_in, join_refusal}
 use Rattle.seat_steps.specs.declared.limits.Limits.{Limits}
 use Rattle.session_play.specs.declared.session.Stop.TheVariants as stops
@@ -43,10 +43,10 @@ refused_by false false kept r why e s n = short (unless_is r why e n)
 pub join_refused : {T : Type 0} (b : Broker) (role : Role) (r : Result T JoinRefusal) (why : JoinRefusal) →
     r ≡ Err why →
     IfSome (join_refusal b role) (λ w. r ≡ Err w) → IfNone (join_refusal b role) (IsOkUnless r join.NoMemory) →
-    IsRefused (nat_le 64 (number_alive b.journal)) (is_full b.limits.entries b.journal (entries.Join role))
+    IsRefused (nat_le 64 (number_alive b.journal)) (is_full b.limits b.journal (entries.Join role))
     (kept_in b.journal) why
 join_refused b role r why e s n =
-    refused_by (nat_le 64 (number_alive b.journal)) (is_full b.limits.entries b.journal (entries.Join role))
+    refused_by (nat_le 64 (number_alive b.journal)) (is_full b.limits b.journal (entries.Join role))
     (kept_in b.journal) r why e s n
 
 taken_by : {T : Type 0} (many full : Bool) (kept : Kept) (r : Result T JoinRefusal) (x : T) → r ≡ Ok x →
@@ -58,9 +58,9 @@ taken_by false false kept r x e s = (refl, refl)
 
 pub join_taken : {T : Type 0} (b : Broker) (role : Role) (r : Result T JoinRefusal) (x : T) → r ≡ Ok x →
     IfSome (join_refusal b role) (λ w. r ≡ Err w) →
-    (nat_le 64 (number_alive b.journal) ≡ false) × (is_full b.limits.entries b.journal (entries.Join role) ≡ false)
+    (nat_le 64 (number_alive b.journal) ≡ false) × (is_full b.limits b.journal (entries.Join role) ≡ false)
 join_taken b role r x e s = taken_by (nat_le 64 (number_alive b.journal))
-    (is_full b.limits.entries b.journal (entries.Join role)) (kept_in b.journal) r x e s
+    (is_full b.limits b.journal (entries.Join role)) (kept_in b.journal) r x e s
 
 -- what is played
 
@@ -74,7 +74,7 @@ many_joined limits e play after m a = subst (λ (p : Played). IsPlayed p (Ok tt)
     (sym (ap (by_many limits e play) m)) (refl, a)
 
 pub joined_ok : (limits : Limits) (e : Entry) (play after : Play) → nat_le 64 (number_alive play.journal) ≡ false →
-    is_full limits.entries play.journal e ≡ false → after ≡ with_step limits e (with_peer play) →
+    is_full limits play.journal e ≡ false → after ≡ with_step limits e (with_peer play) →
     IsPlayed (join_played limits e play) (Ok tt) after
 joined_ok limits e play after m f a =
     subst (λ (p : Played). IsPlayed p (Ok tt) after) (sym (ap (by_many limits e play) m))
@@ -82,7 +82,7 @@ joined_ok limits e play after m f a =
 
 pub joined_full : (limits : Limits) (e : Entry) (play after : Play) (kept : Kept) →
     nat_le 64 (number_alive play.journal) ≡ false →
-    is_full limits.entries play.journal e ≡ true → kept ≡ kept_in play.journal → after.journal ≡ play.journal →
+    is_full limits play.journal e ≡ true → kept ≡ kept_in play.journal → after.journal ≡ play.journal →
     IsPlayed (join_played limits e play) (Err (stops.Full kept)) after
 joined_full limits e play after kept m f k a =
     subst (λ (p : Played). IsPlayed p (Err (stops.Full kept)) after) (sym (ap (by_many limits e play) m))

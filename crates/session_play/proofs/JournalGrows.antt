@@ -14,7 +14,7 @@ use Rattle.broker_core.specs.Watched.{Watched, watched_since}
 use Rattle.seat_objects.proofs.Reaches.{reached_append}
 use Rattle.broker_core.proofs.WatchedSince.{since_none, since_append, settled_more}
 use Rattle.session_play.specs.Steps.{steps_in, behind}
-use Rattle.session_play.specs.Played.{Play, went, with_step, step_played, steps_played, unread_of, with_unread, bytes_played, with_peer, join_played, take_played}
+use Rattle.session_play.specs.Played.{Play, went, with_step, step_played, steps_played, unread_of, with_unread, bytes_played, with_peer, join_played, tokens_played, take_played}
 use Rattle.session_play.specs.Playing.{IsMore, IsWatched}
 
 pub no_more : (journal : List Entry) → IsMore journal journal
@@ -44,7 +44,7 @@ step_more capacity e journal =
 
 pub step_grows : (limits : Limits) (e : Entry) (play : Play) →
     IsMore play.journal (step_played limits e play).play.journal
-step_grows limits e play = by (is_full limits.entries play.journal e)
+step_grows limits e play = by (is_full limits play.journal e)
   where
     by : (b : Bool) → IsMore play.journal (if b then record { play = play; is_full = true } else went
         (with_step limits e play)).play.journal
@@ -55,7 +55,7 @@ pub steps_grow : (limits : Limits) (q : ℕ) (steps : List Entry) (play : Play) 
     IsMore play.journal (steps_played limits q steps play).play.journal
 steps_grow limits q [] play = no_more play.journal
 steps_grow limits q (e ∷ rest) play =
-    by (lives play.journal q) (is_full limits.entries play.journal e)
+    by (lives play.journal q) (is_full limits play.journal e)
     (steps_grow limits q rest (with_step limits e play))
   where
     by : (b c : Bool) → IsMore (with_step limits e play).journal
@@ -102,6 +102,15 @@ take_grows limits q n play (Some peer) = by (min n (length (stored (out_for limi
     by true = no_more play.journal
     by false = step_grows limits (entries.Took q (min n (length
         (stored (out_for limits.store play.journal peer.label))))) play
+
+pub tokens_grow : (limits : Limits) (q : ℕ) (tokens : List ℕ) (play : Play) →
+    IsMore play.journal (tokens_played limits q tokens play).play.journal
+tokens_grow limits q tokens play = by (lives play.journal q)
+  where
+    by : (b : Bool) → IsMore play.journal
+        (if b then step_played limits (entries.Tokens q tokens) play else went play).play.journal
+    by true = step_grows limits (entries.Tokens q tokens) play
+    by false = no_more play.journal
 
 -- who watches
 

@@ -10,6 +10,7 @@ pub mod BytesGoOn
 pub mod JoinAnswers
 pub mod TakeAnswers
 pub mod SharedSteps
+pub mod StepsStamped
 pub mod BytesLoop
 pub mod SessionHistory
 pub mod PrintedStepsAlone

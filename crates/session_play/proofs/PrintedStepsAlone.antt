@@ -46,14 +46,14 @@ none_stays q (w ∷ rest) h = by (w.number == q) h (none_stays q rest)
 -- one step of a live peer is played as any step
 
 one_by : (limits : Limits) (q : ℕ) (e : Entry) (play : Play) (full : Bool) → lives play.journal q ≡ true →
-    is_full limits.entries play.journal e ≡ full →
+    is_full limits play.journal e ≡ full →
     steps_played limits q (e ∷ []) play ≡ step_played limits e play
 one_by limits q e play true h f = first_is limits q e [] play true h f ∙ sym (ap (by_full limits e play) f)
 one_by limits q e play false h f = first_is limits q e [] play false h f ∙ sym (ap (by_full limits e play) f)
 
 one_step : (limits : Limits) (q : ℕ) (e : Entry) (play : Play) → lives play.journal q ≡ true →
     steps_played limits q (e ∷ []) play ≡ step_played limits e play
-one_step limits q e play h = one_by limits q e play (is_full limits.entries play.journal e) h refl
+one_step limits q e play h = one_by limits q e play (is_full limits play.journal e) h refl
 
 -- a piece that is one step
 piece_is : (limits : Limits) (q : ℕ) (e : Entry) (piece : List ℕ) (play : Play) → IsIdle play q →
@@ -95,7 +95,7 @@ message_alone limits q id opcode body play i s =
 -- a bad size, behind which nothing is read
 
 bad_by : (limits : Limits) (q : ℕ) (head left : List ℕ) (play : Play) (full : Bool) → lives play.journal q ≡ true →
-    is_full limits.entries play.journal (entries.BadSize q head) ≡ full →
+    is_full limits play.journal (entries.BadSize q head) ≡ full →
     IsSame (step_played limits (entries.BadSize q head) (left_as q left play))
     (step_played limits (entries.BadSize q head) play)
 bad_by limits q head left play true h f =
@@ -121,7 +121,7 @@ bad_alone limits q head play i s =
     bad_size_steps q head (subst IsBad (sym whole) s.0) ∙ ap (λ (h : List ℕ). entries.BadSize q h ∷ []) whole in
     subst (λ (p : Played). IsSame p (step_played limits (entries.BadSize q head) play))
     (sym (piece_is limits q (entries.BadSize q head) head play i one))
-    (bad_by limits q head (behind head) play (is_full limits.entries play.journal (entries.BadSize q head)) i.live refl)
+    (bad_by limits q head (behind head) play (is_full limits play.journal (entries.BadSize q head)) i.live refl)
 
 -- a take of what is stored
 take_alone : (limits : Limits) (q n : ℕ) (play : Play) (a : AreStored limits play q n) →
@@ -142,6 +142,8 @@ printed_steps limits (steps.Join role) play c =
 printed_steps limits (steps.Peer q (peers.Message id opcode body)) play c = same _ _
     (message_alone limits q id opcode body play c.0 c.1)
 printed_steps limits (steps.Peer q (peers.BadSize head)) play c = bad_alone limits q head play c.0 c.1
+printed_steps limits (steps.Peer q (peers.Tokens tokens)) play c =
+    same _ _ (ap (λ (b : Bool). (if b then step_played limits (entries.Tokens q tokens) play else went play)) c.0.live)
 printed_steps limits (steps.Peer q peers.Gone) play c =
     same _ _ (ap (λ (b : Bool). (if b then step_played limits (entries.End q Gone) play else went play)) c.0.live)
 printed_steps limits (steps.Shell step) play c = same _ _ refl

@@ -34,7 +34,7 @@ step_history limits e journal o h = history_stays limits.store e journal o h
 
 step_is : (limits : Limits) (e : Entry) (play : Play) → IsOuter e → IsHistory limits play.journal →
     IsHistory limits (step_played limits e play).play.journal
-step_is limits e play o h = by (is_full limits.entries play.journal e)
+step_is limits e play o h = by (is_full limits play.journal e)
   where
     by : (b : Bool) → IsHistory limits (if b then record { play = play; is_full = true } else went
         (with_step limits e play)).play.journal
@@ -46,7 +46,7 @@ steps_are : (limits : Limits) (q : ℕ) (steps : List Entry) (play : Play) → A
     IsHistory limits (steps_played limits q steps play).play.journal
 steps_are limits q [] play o h = h
 steps_are limits q (e ∷ rest) play o h =
-    by (lives play.journal q) (is_full limits.entries play.journal e)
+    by (lives play.journal q) (is_full limits play.journal e)
     (steps_are limits q rest (with_step limits e play) o.1 (step_history limits e play.journal o.0 h))
   where
     by : (b c : Bool) → IsHistory limits (steps_played limits q rest (with_step limits e play)).play.journal →
@@ -111,6 +111,12 @@ line_is limits (lines.Gone q) play h = by (lives play.journal q)
     by true = step_is limits (entries.End q Gone) play refl h
     by false = h
 line_is limits (lines.Take q n) play h = take_is limits q n play (peer_at (past_of play.journal) q) h
+line_is limits (lines.Tokens q tokens) play h = by (lives play.journal q)
+  where
+    by : (b : Bool) → IsHistory limits (if b then step_played limits (entries.Tokens q tokens) play else went
+        play).play.journal
+    by true = step_is limits (entries.Tokens q tokens) play refl h
+    by false = h
 line_is limits (lines.Shell step) play h = step_is limits (entries.Shell step) play refl h
 
 lines_are : (limits : Limits) (all : List SessionLine) (play : Play) → IsHistory limits play.journal →

@@ -3,18 +3,19 @@ use Rattle.std.proofs.Common.{◌≡◌, ℕ, ◌+◌, ◌≤◌, List, [], ◌�
 use Rattle.std.specs.Prelude.{Result, IfSome, IfNone, IsOkUnless, nat_le, filter, position, ◌==◌, IfOk}
 use Rattle.std.proofs.lemmas.List.{map-append}
 use Rattle.relay_model.specs.declared.role.Role.{Role}
+use Rattle.seat_steps.specs.declared.stamp.Stamp.{Stamp}
 use Rattle.seat_steps.specs.declared.step.Step.{Step}
 use Rattle.broker_model.specs.declared.journal.Entry.{Entry}
 use Rattle.broker_model.specs.declared.journal.Entry.TheVariants as entries
 use Rattle.broker_model.specs.Ids.{peer_at}
 use Rattle.broker_model.specs.Resolve.{past_of}
 use Rattle.broker_model.specs.Settle.{number_alive, settle}
-use Rattle.broker_core.specs.declared.shared.Took.TheVariants as took
-use Rattle.broker_core.specs.declared.shared.JoinRefusal.{JoinRefusal}
-use Rattle.broker_core.specs.declared.shared.JoinRefusal.TheVariants as join
+use Rattle.broker_core.specs.declared.answers.Took.TheVariants as took
+use Rattle.broker_core.specs.declared.answers.JoinRefusal.{JoinRefusal}
+use Rattle.broker_core.specs.declared.answers.JoinRefusal.TheVariants as join
 use Rattle.broker_model.specs.declared.journal.Kept.{Kept}
 use Rattle.broker_model.specs.Limits.{is_full}
-use Rattle.broker_core.specs.declared.shared.Refused.{Refused}
+use Rattle.broker_core.specs.declared.answers.Refused.{Refused}
 use Rattle.broker_core.specs.Broker as broker
 use Rattle.broker_core.specs.Broker.{Broker, kept_in, entry_of, refusal, join_refusal, take_refusal, IsSaid}
 use Rattle.broker_core.specs.Taking.{out_at, IsTaken}
@@ -40,7 +41,7 @@ abbrev pub play_in : Broker → List Unread → Play
 play_in b us = record { journal = b.journal; unread = map waiting us }
 
 abbrev pub view_of : Broker → List Unread → Ongoing
-view_of b us = record { limits = b.limits; play = play_in b us }
+view_of b us = record { limits = b.limits; play = play_in b us; stamps = b.stamps }
 
 -- what is left of those that were there
 abbrev pub AreLeft : Broker → List Unread → List Unread → Type 0
@@ -48,42 +49,42 @@ AreLeft b was now = now ≡ filter (λ u. lives b.journal u.number) was
 
 -- a step that was taken
 
-stepped : (e : Entry) (b after : Broker) (was now : List Unread) → after ≡ broker.with_step e b →
+stepped : (given : Stamp) (e : Entry) (b after : Broker) (was now : List Unread) → after ≡ broker.with_step e given b →
     AreLeft after was now →
     play_in after now ≡ with_step b.limits e (play_in b was)
-stepped e b after was now a l =
+stepped given e b after was now a l =
     let j : after.journal ≡ settle b.limits.store (e ∷ b.journal) = ap (λ (x : Broker). x.journal) a in
     ap₂ (λ (journal : List Entry) (unread : List Waiting). record { journal = journal; unread = unread }) j
     (given_back after.journal was now l ∙ ap (λ (journal : List Entry). of_live journal (map waiting was)) j)
 
-pub step_ok : {T : Type 0} (s : Ongoing) (b after : Broker) (was now : List Unread) (step : Step) (x : T) →
+pub step_ok : {T : Type 0} (given : Stamp) (s : Ongoing) (b after : Broker) (was now : List Unread) (step : Step) (x : T) →
     view_of b was ≡ s → IsSaid step →
     IsThere step s.play.journal → IfSome (refusal b step) (λ (w : Refused). Ok x ≡ Err w) →
-    after ≡ broker.with_step (entry_of step) b → AreLeft after was now →
+    after ≡ broker.with_step (entry_of step) given b → AreLeft after was now →
     IsPlayed (step_played s.limits (entry_of step) s.play) (Ok tt) (play_in after now)
-step_ok s b after was now step x v said there r a l =
+step_ok given s b after was now step x v said there r a l =
     let at : IsThere step b.journal → IsPlayed (step_played b.limits (entry_of step) (play_in b was)) (Ok tt)
     (play_in after now) =
     λ t. played_ok b.limits (entry_of step) (play_in b was) (play_in after now)
-    (step_taken b step (Ok x) x said t refl r) (stepped (entry_of step) b after was now a l) in
+    (step_taken b step (Ok x) x said t refl r) (stepped given (entry_of step) b after was now a l) in
     subst (λ (y : Ongoing). IsThere step y.play.journal → IsPlayed (step_played y.limits (entry_of step) y.play) (Ok tt)
     (play_in after now)) v at there
 
-pub step_waits : (s : Ongoing) (b after : Broker) (was now : List Unread) (step : Step) → view_of b was ≡ s →
+pub step_waits : (given : Stamp) (s : Ongoing) (b after : Broker) (was now : List Unread) (step : Step) → view_of b was ≡ s →
     IsSaid step → IsThere step s.play.journal →
-    after ≡ broker.with_step (entry_of step) b → AreLeft after was now → AreWaiting b.journal (map waiting was) →
+    after ≡ broker.with_step (entry_of step) given b → AreLeft after was now → AreWaiting b.journal (map waiting was) →
     AreWaiting after.journal (map waiting now)
-step_waits s b after was now step v said there a l w =
+step_waits given s b after was now step v said there a l w =
     let t : IsThere step b.journal = subst (λ (y : Ongoing). IsThere step y.play.journal) (sym v) there in
     stays_waiting b.journal after.journal was now w
     (subst (λ (x : Broker). NoMoreLive b.journal x.journal) (sym a) (said_before b.limits.store step b.journal said t))
     l
 
-pub step_watched : {W : Type 0} (R : W → Watched → W → Type 0) (s : Ongoing) (b after : Broker) (was : List Unread)
+pub step_watched : {W : Type 0} (given : Stamp) (R : W → Watched → W → Type 0) (s : Ongoing) (b after : Broker) (was : List Unread)
     (e : Entry) (w u : W) → view_of b was ≡ s →
-    after ≡ broker.with_step e b → broker.IsWatched R b w after u →
+    after ≡ broker.with_step e given b → broker.IsWatched R b w after u →
     IsWatched R s.limits.store s.play.journal w after.journal u
-step_watched {W} R s b after was e w u v a h =
+step_watched {W} given R s b after was e w u v a h =
     subst (λ (y : Ongoing). IsWatched R y.limits.store y.play.journal w after.journal u) v (record {
       grew = subst (λ (x : Broker). IsMore b.journal x.journal) (sym a) (step_more b.limits.store e b.journal);
       told = h;
@@ -106,13 +107,13 @@ none_watched {W} R s b was w v = subst (λ (y : Ongoing). IsWatched R y.limits.s
 
 -- one more joined
 
-pub join_ok : {T : Type 0} (s : Ongoing) (b after : Broker) (was now : List Unread) (u : Unread) (role : Role) (x : T) →
+pub join_ok : {T : Type 0} (given : Stamp) (s : Ongoing) (b after : Broker) (was now : List Unread) (u : Unread) (role : Role) (x : T) →
     view_of b was ≡ s →
-    IfSome (join_refusal b role) (λ (w : JoinRefusal). Ok x ≡ Err w) → after ≡ broker.with_step (entries.Join role) b →
+    IfSome (join_refusal b role) (λ (w : JoinRefusal). Ok x ≡ Err w) → after ≡ broker.with_step (entries.Join role) given b →
     u.number ≡ length (past_of after.journal).joined →
     waiting u ≡ record { number = u.number; bytes = [] } → AreLeft after (was ++ u ∷ []) now →
     IsPlayed (join_played s.limits (entries.Join role) s.play) (Ok tt) (play_in after now)
-join_ok s b after was now u role x v r a n z l =
+join_ok given s b after was now u role x v r a n z l =
     let e : Entry = entries.Join role in
     let taken = join_taken b role (Ok x) x refl r in
     let number : u.number ≡ length (past_of b.journal).joined + 1 =
@@ -121,17 +122,17 @@ join_ok s b after was now u role x v r a n z l =
     map-append waiting was (u ∷ []) ∙ ap (λ (w : Waiting). map waiting was ++ w ∷ [])
     (z ∙ ap (λ k. record { number = k; bytes = [] }) number) in
     let next : play_in after now ≡ with_step b.limits e (with_peer (play_in b was)) =
-    stepped e b after (was ++ u ∷ []) now a l
+    stepped given e b after (was ++ u ∷ []) now a l
     ∙ ap (λ (unread : List Waiting). with_step b.limits e (record { journal = b.journal; unread = unread })) more in
     subst (λ (y : Ongoing). IsPlayed (join_played y.limits e y.play) (Ok tt) (play_in after now)) v
     (joined_ok b.limits e (play_in b was) (play_in after now) taken.0 taken.1 next)
 
-pub join_waits : (s : Ongoing) (b after : Broker) (was now : List Unread) (u : Unread) (role : Role) →
-    after ≡ broker.with_step (entries.Join role) b →
+pub join_waits : (given : Stamp) (s : Ongoing) (b after : Broker) (was now : List Unread) (u : Unread) (role : Role) →
+    after ≡ broker.with_step (entries.Join role) given b →
     u.number ≡ length (past_of after.journal).joined → AreLeft after (was ++ u ∷ []) now →
     AreWaiting b.journal (map waiting was) →
     AreWaiting after.journal (map waiting now)
-join_waits s b after was now u role a n l w =
+join_waits given s b after was now u role a n l w =
     join_waiting b.limits.store role b.journal after.journal was now u w (ap (λ (x : Broker). x.journal) a) n l
 
 -- room was made for it
@@ -169,13 +170,13 @@ join_many s b after was now role r why n v e w f o a u =
     let same : play_in b was ≡ play_in after now = ap₂ play_in (sym a) (sym u) in
     subst (λ (p : Play). IsPlayed (join_played s.limits (entries.Join role) s.play) (Ok tt) p) same
     (subst (λ (y : Ongoing). IsPlayed (join_played y.limits (entries.Join role) y.play) (Ok tt) (play_in b was)) v
-    (many_by b was role (nat_le 64 (number_alive b.journal)) (is_full b.limits.entries b.journal (entries.Join role))
+    (many_by b was role (nat_le 64 (number_alive b.journal)) (is_full b.limits b.journal (entries.Join role))
     (kept_in b.journal) n why w refl
     (join_refused b role r why e f o)))
 
 full_by : (b : Broker) (was : List Unread) (role : Role) (many full : Bool) (kept : Kept) (why : JoinRefusal) →
     why ≡ join.JournalFull kept →
-    nat_le 64 (number_alive b.journal) ≡ many → is_full b.limits.entries b.journal (entries.Join role) ≡ full →
+    nat_le 64 (number_alive b.journal) ≡ many → is_full b.limits b.journal (entries.Join role) ≡ full →
     IsRefused many full (kept_in b.journal) why →
     IsPlayed (join_played b.limits (entries.Join role) (play_in b was)) (Err (stops.Full kept)) (play_in b was)
 full_by b was role many full kept why w e g (too_many m t) = (let no = sym w ∙ t in cc)
@@ -194,16 +195,16 @@ join_full s b after was now role r why kept v e w f o a u =
     subst (λ (p : Play). IsPlayed (join_played s.limits (entries.Join role) s.play) (Err (stops.Full kept)) p) same
     (subst (λ (y : Ongoing). IsPlayed (join_played y.limits (entries.Join role) y.play) (Err (stops.Full kept))
     (play_in b was)) v
-    (full_by b was role (nat_le 64 (number_alive b.journal)) (is_full b.limits.entries b.journal (entries.Join role))
+    (full_by b was role (nat_le 64 (number_alive b.journal)) (is_full b.limits b.journal (entries.Join role))
     kept why w refl refl
     (join_refused b role r why e f o)))
 
 -- bytes were taken
 
-pub take_waits : (b after : Broker) (was now : List Unread) (q n : ℕ) → after ≡ broker.with_step (entries.Took q n) b →
+pub take_waits : (given : Stamp) (b after : Broker) (was now : List Unread) (q n : ℕ) → after ≡ broker.with_step (entries.Took q n) given b →
     AreLeft after was now →
     AreWaiting b.journal (map waiting was) → AreWaiting after.journal (map waiting now)
-take_waits b after was now q n a l w =
+take_waits given b after was now q n a l w =
     stays_waiting b.journal after.journal was now w (subst (λ (x : Broker). NoMoreLive b.journal x.journal) (sym a)
     (took_before b.limits.store q n b.journal)) l
 
@@ -216,19 +217,19 @@ take_short s b after was q n v a =
     (peer_at (past_of b.journal) q)).play.journal) (sym a)
     (take_grows b.limits q n (play_in b was) (peer_at (past_of b.journal) q)))
 
-pub take_ok : (s : Ongoing) (b after : Broker) (was now : List Unread) (q n k t : ℕ)
+pub take_ok : (given : Stamp) (s : Ongoing) (b after : Broker) (was now : List Unread) (q n k t : ℕ)
     (buf places buf_after places_after : List ℕ) → view_of b was ≡ s →
     1 ≤ n → IfSome (out_at s.limits.store s.play.journal q) (IsEnough (length buf) n) → IfSome (take_refusal b q) (λ why. took.Bytes k t ≡ why) →
     IfSome (out_at b.limits.store b.journal q) (λ out. IsTaken out b.journal q buf places (k, t) buf_after places_after
     (entries.Took q k ∷ b.journal)) →
-    after ≡ broker.with_step (entries.Took q k) b → AreLeft after was now →
+    after ≡ broker.with_step (entries.Took q k) given b → AreLeft after was now →
     IsPlayed (take_played s.limits q n s.play (peer_at (past_of s.play.journal) q)) (Ok tt) (play_in after now)
-take_ok s b after was now q n k t buf places buf_after places_after v l enough r i a left =
+take_ok given s b after was now q n k t buf places buf_after places_after v l enough r i a left =
     subst (λ (y : Ongoing). IsPlayed (take_played y.limits q n y.play (peer_at (past_of y.play.journal) q)) (Ok tt)
     (play_in after now)) v
     (bytes_taken b (map waiting was) q n k t buf places buf_after places_after (took.Bytes k t) (play_in after now) l
     (subst (λ (y : Ongoing). IfSome (out_at y.limits.store y.play.journal q) (IsEnough (length buf) n)) (sym v) enough) refl r i
-    (stepped (entries.Took q k) b after was now a left))
+    (stepped given (entries.Took q k) b after was now a left))
 
 -- a piece was read
 

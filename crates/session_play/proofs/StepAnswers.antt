@@ -7,8 +7,8 @@ use Rattle.seat_steps.specs.declared.step.Step.TheVariants as steps
 use Rattle.broker_model.specs.declared.journal.Entry.{Entry}
 use Rattle.broker_model.specs.declared.journal.Kept.{Kept}
 use Rattle.broker_model.specs.Limits.{is_full}
-use Rattle.broker_core.specs.declared.shared.Refused.{Refused}
-use Rattle.broker_core.specs.declared.shared.Refused.TheVariants as refused
+use Rattle.broker_core.specs.declared.answers.Refused.{Refused}
+use Rattle.broker_core.specs.declared.answers.Refused.TheVariants as refused
 use Rattle.broker_core.specs.Broker.{Broker, kept_in, entry_of, peer_entry, peer_refusal, refusal_if_full, refusal, IsSaid}
 use Rattle.session_play.specs.declared.session.Stop.TheVariants as stops
 use Rattle.session_play.specs.Played.{Play, Played, went, with_step, step_played}
@@ -32,9 +32,9 @@ taken_by false kept r x e s = refl
 
 pub step_taken : {T : Type 0} (b : Broker) (step : Step) (r : Result T Refused) (x : T) → IsSaid step →
     IsThere step b.journal → r ≡ Ok x →
-    IfSome (refusal b step) (λ w. r ≡ Err w) → is_full b.limits.entries b.journal (entry_of step) ≡ false
+    IfSome (refusal b step) (λ w. r ≡ Err w) → is_full b.limits b.journal (entry_of step) ≡ false
 step_taken b step r x said there e s =
-    taken_by (is_full b.limits.entries b.journal (entry_of step)) (kept_in b.journal) r x e
+    taken_by (is_full b.limits b.journal (entry_of step)) (kept_in b.journal) r x e
     (subst (λ (o : Option Refused). IfSome o (λ w. r ≡ Err w)) (refusal_is b step said there) s)
 
 -- what is played
@@ -42,14 +42,14 @@ step_taken b step r x said there e s =
 abbrev pub by_full : Limits → Entry → Play → Bool → Played
 by_full limits e play t = (if t then record { play = play; is_full = true } else went (with_step limits e play))
 
-pub played_ok : (limits : Limits) (e : Entry) (play after : Play) → is_full limits.entries play.journal e ≡ false →
+pub played_ok : (limits : Limits) (e : Entry) (play after : Play) → is_full limits play.journal e ≡ false →
     after ≡ with_step limits e play →
     IsPlayed (step_played limits e play) (Ok tt) after
 played_ok limits e play after f a = subst (λ (p : Played). IsPlayed p (Ok tt) after)
     (sym (ap (by_full limits e play) f)) (refl, a)
 
 pub played_full : (limits : Limits) (e : Entry) (play after : Play) (kept : Kept) →
-    is_full limits.entries play.journal e ≡ true → kept ≡ kept_in play.journal →
+    is_full limits play.journal e ≡ true → kept ≡ kept_in play.journal →
     after.journal ≡ play.journal → IsPlayed (step_played limits e play) (Err (stops.Full kept)) after
 played_full limits e play after kept f k a =
     subst (λ (p : Played). IsPlayed p (Err (stops.Full kept)) after) (sym (ap (by_full limits e play) f)) (refl, k, a)

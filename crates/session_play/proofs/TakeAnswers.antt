@@ -9,8 +9,8 @@ use Rattle.broker_model.specs.Ids.{Joined, peer_at}
 use Rattle.broker_model.specs.Limits.{is_full}
 use Rattle.broker_model.specs.Out.{Outgoing, stored, out_for}
 use Rattle.broker_model.specs.Resolve.{past_of}
-use Rattle.broker_core.specs.declared.shared.Took.{Took}
-use Rattle.broker_core.specs.declared.shared.Took.TheVariants as took
+use Rattle.broker_core.specs.declared.answers.Took.{Took}
+use Rattle.broker_core.specs.declared.answers.Took.TheVariants as took
 use Rattle.broker_core.specs.Broker.{Broker, kept_in, nothing_left, take_refusal_from, take_refusal}
 use Rattle.broker_core.specs.Stands.{end_of}
 use Rattle.broker_core.specs.Taking.{out_at, IsTaken}
@@ -61,7 +61,7 @@ some_peer b unread q n peer l e =
 bytes_peer : (b : Broker) (unread : List Waiting) (q n k t : ℕ) (peer : Joined) (r : Took) (after : Play)
     (none full : Bool) → 1 ≤ n → r ≡ took.Bytes k t →
     (length (stored (out_for b.limits.store b.journal peer.label)) == 0) ≡ none →
-    is_full b.limits.entries b.journal (entries.Took q 0) ≡ full →
+    is_full b.limits b.journal (entries.Took q 0) ≡ full →
     IfSome (refusal_by b q none full) (λ why. r ≡ why) → k ≡ min n
     (length (stored (out_for b.limits.store b.journal peer.label))) →
     after ≡ with_step b.limits (entries.Took q k) (play_in b unread) →
@@ -86,7 +86,7 @@ bytes_by_peer : (b : Broker) (unread : List Waiting) (q n k t : ℕ) (buf places
 bytes_by_peer b unread q n k t buf places buf_after places_after None r after l len j s i h = (let no = sym j ∙ s in cc)
 bytes_by_peer b unread q n k t buf places buf_after places_after (Some peer) r after l len j s i h =
     bytes_peer b unread q n k t peer r after (length (stored (out_for b.limits.store b.journal peer.label)) == 0)
-    (is_full b.limits.entries b.journal (entries.Took q 0)) l j refl refl s
+    (is_full b.limits b.journal (entries.Took q 0)) l j refl refl s
     (i.count ∙ len) h
 
 pub bytes_taken : (b : Broker) (unread : List Waiting) (q n k t : ℕ) (buf places buf_after places_after : List ℕ)

@@ -43,6 +43,7 @@ pub record IsIdle (play : Play) (q : ℕ) : Type 0 where
 abbrev pub IsSent : PeerStep → Type 0
 IsSent (peers.Message id opcode body) = (id < 2 ^ 32) × (opcode < 2 ^ 16) × IsBody body
 IsSent (peers.BadSize head) = IsBad head × (length head ≡ 8)
+IsSent (peers.Tokens tokens) = Unit {0}
 IsSent peers.Gone = Unit {0}
 
 -- as many bytes are stored for the peer, and at least one

@@ -3,3 +3,4 @@ pub mod Played
 pub mod Unread
 pub mod Playing
 pub mod Laws
+pub mod Recorded

@@ -45,7 +45,7 @@ with_step limits e play =
 -- a step that is taken if the journal isn't full for it
 abbrev pub step_played : Limits → Entry → Play → Played
 step_played limits e play =
-    (if is_full limits.entries play.journal e then record { play = play; is_full = true } else went
+    (if is_full limits play.journal e then record { play = play; is_full = true } else went
     (with_step limits e play))
 
 -- steps of the peer q, as long as it is alive and the journal isn't full
@@ -53,7 +53,7 @@ abbrev pub steps_played : Limits → ℕ → List Entry → Play → Played
 steps_played limits q [] play = went play
 steps_played limits q (e ∷ rest) play =
     (if lives play.journal q
-    then (if is_full limits.entries play.journal e
+    then (if is_full limits play.journal e
     then record { play = play; is_full = true }
     else steps_played limits q rest (with_step limits e play))
     else went play)
@@ -95,6 +95,11 @@ join_played limits e play = (if nat_le 64 (number_alive play.journal) then went 
 abbrev pub gone_played : Limits → ℕ → Play → Played
 gone_played limits q play = (if lives play.journal q then step_played limits (entries.End q Gone) play else went play)
 
+-- tokens of the peer q, if it is alive
+abbrev pub tokens_played : Limits → ℕ → List ℕ → Play → Played
+tokens_played limits q tokens play =
+    (if lives play.journal q then step_played limits (entries.Tokens q tokens) play else went play)
+
 -- the first n bytes that are stored for the peer, or all where fewer are; nothing where none is
 abbrev pub take_played : Limits → ℕ → ℕ → Play → Option Joined → Played
 take_played limits q n play None = went play
@@ -108,4 +113,5 @@ line_played limits (lines.Join role) play = join_played limits (entries.Join rol
 line_played limits (lines.Bytes q piece) play = bytes_played limits q piece play
 line_played limits (lines.Gone q) play = gone_played limits q play
 line_played limits (lines.Take q n) play = take_played limits q n play (peer_at (past_of play.journal) q)
+line_played limits (lines.Tokens q tokens) play = tokens_played limits q tokens play
 line_played limits (lines.Shell step) play = step_played limits (entries.Shell step) play

@@ -1,12 +1,15 @@
 -- A session as far as it is played.
-use Rattle.std.specs.Prelude.{◌≡◌, ℕ, ◌==◌, List, [], ◌++◌, length, min, Bool, true, false, string_bytes, Option, Result, Ok, Err, String}
+use Rattle.std.specs.Prelude.{◌≡◌, ℕ, ◌+◌, ◌==◌, List, [], ◌++◌, length, replicate, min, Bool, true, false, string_bytes, Option, Result, Ok, Err, String}
 use Rattle.std.specs.List.{list_any}
 use Rattle.std.specs.Global.{Global}
 use Rattle.seat_steps.specs.declared.limits.Limits.{Limits}
+use Rattle.seat_steps.specs.declared.stamp.Stamp.{Stamp}
 use Rattle.seat_steps.specs.declared.step.Step.{Step}
 use Rattle.seat_steps.specs.declared.step.Step.TheVariants as steps
 use Rattle.broker_model.specs.declared.journal.Entry.{Entry}
 use Rattle.broker_model.specs.Out.{Outgoing, stored}
+use Rattle.broker_model.specs.Settle.{outer}
+use Rattle.broker_model.specs.Stamps.{stamps}
 use Rattle.broker_core.specs.Broker.{kept_in}
 use Rattle.broker_core.specs.declared.taking.Standing.TheVariants.{Alive}
 use Rattle.broker_core.specs.Taking.{standing_of}
@@ -22,15 +25,18 @@ use Rattle.session_play.specs.declared.unread.Found.{Found}
 use Rattle.session_play.specs.Played.{Waiting, Play, Played, unread_of, with_unread}
 use Rattle.session_play.specs.Unread.{Finds}
 
--- a session that goes on: what was allowed, and what was played so far
+-- a session that goes on: what was allowed, what was played so far, and the stamps of its journal, the newest first
 pub record Ongoing : Type 0 where
   pub limits : Limits
   pub play : Play
+  pub stamps : List Stamp
 
--- what a player's callers see: what was allowed, what was played so far, whether nothing more can be played, and why
+-- what a player's callers see: what was allowed, what was played so far with its stamps, whether nothing more can be
+-- played, and why
 pub record Playing : Type 0 where
   pub limits : Limits
   pub play : Play
+  pub stamps : List Stamp
   pub is_spent : Bool
   pub stopped : Option Stop
 
@@ -55,6 +61,14 @@ IsThere _ journal = Unit {0}
 pub record IsMore (before after : List Entry) : Type 0 where
   pub more : List Entry
   pub is : after ≡ more ++ before
+
+-- The stamp was given with each step that the journal has more, and with no other: whatever was given with the steps
+-- before, the stamps are those for that and this.
+pub record AreStamped (given : Stamp) (before : List Entry) (was : List Stamp) (after : List Entry) (now : List Stamp) :
+    Type 0 where
+  pub number : ℕ
+  pub more : length (outer after) ≡ number + length (outer before)
+  pub stamped : (gave : List Stamp) → stamps before gave ≡ was → stamps after (replicate number given ++ gave) ≡ now
 
 -- who watched was told of each entry that the journal has more, and of nothing else
 pub record IsWatched {W : Type 0} (may_follow : W → Watched → W → Type 0) (store : ℕ) (before : List Entry) (watch : W)

@@ -2,14 +2,14 @@
 use crate::session::{Session, Stop};
 use crate::unread::{Found, place_of};
 use broker_core::Watch;
-use seat_steps::Step;
+use seat_steps::{Stamp, Step};
 use wio_core::NoMemory;
 
 impl Session {
     ghost use Rattle.std.specs.Prelude.{◌≡◌, ◌++◌, true, IfOk, OnErr};
     ghost use Rattle.broker_core.specs.Taking.{lives};
     ghost use Rattle.session_play.specs.Played.{unread_of, bytes_played};
-    ghost use Rattle.session_play.specs.Playing.{IsPlayed, IsWatched, IsRead};
+    ghost use Rattle.session_play.specs.Playing.{AreStamped, IsPlayed, IsWatched, IsRead};
 
     // The next step that the piece gives behind the unread bytes of a live peer.
     fn read(&mut self, number: u32, piece: &[u8]) -> Result<Found, NoMemory>
@@ -17,6 +17,7 @@ impl Session {
         ensures read { IfOk result (λ found. IsRead self.old number piece.now found self.new) }
         ensures limits { self.new.limits ≡ self.old.limits }
         ensures journal { self.new.play.journal ≡ self.old.play.journal }
+        ensures stamps { self.new.stamps ≡ self.old.stamps }
     {
         let Some(place) = place_of(&self.unread, number) else {
             unreachable!()
@@ -29,11 +30,14 @@ impl Session {
         &mut self,
         number: u32,
         piece: &[u8],
+        stamp: Stamp,
         watch: &mut W,
     ) -> Result<(), Stop>
         ensures limits { self.new.limits ≡ self.old.limits }
         ensures played { IsPlayed (bytes_played self.old.limits number piece.now self.old.play)
             result self.new.play }
+        ensures stamped { AreStamped stamp self.old.play.journal self.old.stamps
+            self.new.play.journal self.new.stamps }
         ensures watched { IsWatched W.may_follow self.old.limits.store self.old.play.journal
             watch.old self.new.play.journal watch.new }
     {
@@ -41,12 +45,12 @@ impl Session {
         while self.lives(number) {
             match self.read(number, rest)? {
                 Found::Message(step, used) => {
-                    self.step(&Step::Peer(number, step), watch)?;
+                    self.step(&Step::Peer(number, step), stamp, watch)?;
                     let (_, more) = rest.split_at(used);
                     rest = more;
                 }
                 Found::Nothing => return Ok(()),
-                Found::BadSize(step) => return self.step(&Step::Peer(number, step), watch),
+                Found::BadSize(step) => return self.step(&Step::Peer(number, step), stamp, watch),
             }
         }
         Ok(())

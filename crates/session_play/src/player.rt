@@ -3,9 +3,9 @@ ghost use Rattle.std.specs.Prelude.{◌≡◌};
 ghost use Rattle.session_play.specs.Playing.{end_with};
 
 use crate::session::{Session, Stop};
-use broker_core::{Journal, Kept, Watch};
+use broker_core::{Journal, Kept, StampList, Watch};
 use seat_printer::Printer;
-use seat_steps::Limits;
+use seat_steps::{Limits, Stamp};
 use session_text::SessionLine;
 use std::alloc::Global;
 use std::marker::Model;
@@ -40,6 +40,7 @@ impl Model for Player {
     ghost view = { λ p. record {
       limits = p.session.limits;
       play = p.session.play;
+      stamps = p.session.stamps;
       is_spent = is_some p.stopped;
       stopped = p.stopped;
     } };
@@ -60,8 +61,9 @@ impl Player {
     ghost use Rattle.seat_steps.specs.Ranges.{IsLimits};
     ghost use Rattle.session_text.specs.Steps.{IsSessionLine};
     ghost use Rattle.broker_model.specs.Settle.{history, outer};
+    ghost use Rattle.broker_model.specs.Stamps.{stamps, step_stamps};
     ghost use Rattle.session_play.specs.Played.{line_played};
-    ghost use Rattle.session_play.specs.Playing.{IsPlayed, IsWatched, IsMore, IsWritten, IsStopped, IsAgain, stop_of};
+    ghost use Rattle.session_play.specs.Playing.{AreStamped, IsPlayed, IsWatched, IsMore, IsWritten, IsStopped, IsAgain, stop_of};
 
     /// Nobody joined yet. Asks for limits in their ranges. `NoMemory` is its one error.
     pub fn new(alloc: Global, limits: Limits) -> Result<Player, NoMemory>
@@ -69,6 +71,7 @@ impl Player {
         ensures new { IfOk result (λ p. p ≡ record {
           limits = limits;
           play = record { journal = []; unread = [] };
+          stamps = [];
           is_spent = false;
           stopped = None;
         }) }
@@ -85,23 +88,33 @@ impl Player {
     /// `Full` comes where the journal is full for a step of the line, before which it stopped.
     /// `NoMemory` may come at any time, and then a front of the line's steps was played. After an
     /// error each line answers the same, and nothing is played.
-    pub fn line_watched<W: Watch>(&mut self, line: &SessionLine, watch: &mut W) -> Result<(), Stop>
+    pub fn line_watched<W: Watch>(
+        &mut self,
+        line: &SessionLine,
+        stamp: Stamp,
+        watch: &mut W,
+    ) -> Result<(), Stop>
         requires valid { IsSessionLine line.now }
         ensures played { self.old.is_spent ≡ false →
             IsPlayed (line_played self.old.limits line.now self.old.play) result self.new.play }
-        ensures ok { OnOk result (self.new ≡ record self.old { play = self.new.play }) }
+        ensures ok { OnOk result (self.new ≡ record self.old {
+          play = self.new.play;
+          stamps = self.new.stamps;
+        }) }
         ensures stopped { IfErr result (λ stop. self.new.stopped ≡ Some stop) }
         ensures spent { OnErr result (self.new.is_spent ≡ true) }
         ensures again { IfSome self.old.stopped (λ stop. result ≡ Err stop) }
         ensures stays { self.old.is_spent ≡ true → self.new ≡ self.old }
         ensures limits { self.new.limits ≡ self.old.limits }
+        ensures stamped { AreStamped stamp self.old.play.journal self.old.stamps
+            self.new.play.journal self.new.stamps }
         ensures watched { IsWatched W.may_follow self.old.limits.store self.old.play.journal
             watch.old self.new.play.journal watch.new }
     {
         if let Some(stop) = self.stopped {
             return Err(stop);
         }
-        let played = self.session.line(line, watch);
+        let played = self.session.line(line, stamp, watch);
         if let Err(stop) = played {
             self.stopped = Some(stop);
         }
@@ -109,20 +122,25 @@ impl Player {
     }
 
     // A line, and its part of the transcript if there was memory for it.
-    fn printed(&mut self, line: &SessionLine) -> (Result<(), Stop>, Option<String>)
+    fn printed(&mut self, line: &SessionLine, stamp: Stamp) -> (Result<(), Stop>, Option<String>)
         requires valid { IsSessionLine line.now }
         ensures played { self.old.is_spent ≡ false →
             IsPlayed (line_played self.old.limits line.now self.old.play) result.0 self.new.play }
-        ensures ok { OnOk result.0 (self.new ≡ record self.old { play = self.new.play }) }
+        ensures ok { OnOk result.0 (self.new ≡ record self.old {
+          play = self.new.play;
+          stamps = self.new.stamps;
+        }) }
         ensures stopped { IfErr result.0 (λ stop. self.new.stopped ≡ Some stop) }
         ensures spent { OnErr result.0 (self.new.is_spent ≡ true) }
         ensures limits { self.new.limits ≡ self.old.limits }
+        ensures stamped { AreStamped stamp self.old.play.journal self.old.stamps
+            self.new.play.journal self.new.stamps }
         ensures grew { IsMore self.old.play.journal self.new.play.journal }
         ensures text { IfSome result.1
             (IsWritten self.old.limits.store self.old.play self.new.play) }
     {
         let mut printer = Printer::new(self.alloc);
-        let played = self.line_watched(line, &mut printer);
+        let played = self.line_watched(line, stamp, &mut printer);
         (played, printer.finish())
     }
 
@@ -131,11 +149,11 @@ impl Player {
     /// `JournalFull` comes where the journal is full for a step of the line, before which it
     /// stopped. `NoMemory` may come at any time, and then the text is a front of what was played.
     /// After an error each line answers the same with an empty text, and nothing is played.
-    pub fn line(&mut self, line: &SessionLine) -> Result<String, PlayEnd>
+    pub fn line(&mut self, line: &SessionLine, stamp: Stamp) -> Result<String, PlayEnd>
         requires valid { IsSessionLine line.now }
         ensures ok { self.old.is_spent ≡ false → IfOk result (λ text.
             let p = line_played self.old.limits line.now self.old.play in
-            (p.is_full ≡ false) × (self.new ≡ record self.old { play = p.play })
+            (p.is_full ≡ false) × (self.new ≡ record self.old { play = p.play; stamps = self.new.stamps })
             × IsWritten self.old.limits.store self.old.play p.play text) }
         ensures full { self.old.is_spent ≡ false → IfErr result (IsStopped self.old.limits.store
             (line_played self.old.limits line.now self.old.play) self.old.play self.new.play) }
@@ -144,11 +162,13 @@ impl Player {
         ensures again { IfSome self.old.stopped (λ stop. IsAgain stop result) }
         ensures stays { self.old.is_spent ≡ true → self.new ≡ self.old }
         ensures limits { self.new.limits ≡ self.old.limits }
+        ensures stamped { AreStamped stamp self.old.play.journal self.old.stamps
+            self.new.play.journal self.new.stamps }
     {
         if let Some(stop) = self.stopped {
             return Err(ended(stop, String::new(self.alloc)));
         }
-        match self.printed(line) {
+        match self.printed(line, stamp) {
             (Ok(()), Some(text)) => Ok(text),
             (Err(stop), Some(text)) => Err(ended(stop, text)),
             (_, None) => {
@@ -172,5 +192,15 @@ impl Player {
             ≡ self.now.play.journal }
     {
         self.session.journal()
+    }
+    /// The stamps of the journal's entries, also after an error. Each step has the author that was
+    /// given with its line.
+    pub fn stamps(&self) -> &StampList
+        ensures stamps { result.now.stamps ≡ self.now.stamps }
+        ensures each { length self.now.stamps ≡ length self.now.play.journal }
+        ensures stamped { stamps self.now.play.journal (step_stamps self.now.play.journal
+            self.now.stamps) ≡ self.now.stamps }
+    {
+        self.session.stamps()
     }
 }

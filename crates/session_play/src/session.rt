@@ -1,8 +1,8 @@
 // The lines of a session that are one step each, played through the shared state.
 use crate::unread::{Unread, forget_ended, lives};
-use broker_core::{JoinRefusal, Journal, Kept, Refused, Shared, Took, Watch};
+use broker_core::{JoinRefusal, Journal, Kept, Refused, Shared, StampList, Took, Watch};
 use relay_model::Role;
-use seat_steps::{Limits, PeerStep, Step};
+use seat_steps::{Limits, PeerStep, Stamp, Step, TokenList};
 use session_text::SessionLine;
 use std::alloc::{AllocError, Global};
 use std::marker::Model;
@@ -62,6 +62,7 @@ impl Model for Session {
     ghost view = { λ s. record {
       limits = s.shared.limits;
       play = record { journal = s.shared.journal; unread = map waiting s.unread.items };
+      stamps = s.shared.stamps;
     } };
 
     ghost invariant = { λ s. AreWaiting s.shared.journal (map waiting s.unread.items) };
@@ -71,18 +72,19 @@ impl Session {
     ghost use Rattle.std.specs.Prelude.{◌≡◌, ◌≤◌, [], length, IfOk, IfSome, true, if◌then◌else◌, Ok};
     ghost use Rattle.relay_model.specs.declared.act.EndCause.TheVariants.{Gone};
     ghost use Rattle.seat_steps.specs.declared.step.Step.TheVariants as steps;
-    ghost use Rattle.seat_steps.specs.Ranges.{IsLimits, IsStep};
+    ghost use Rattle.seat_steps.specs.Ranges.{IsLimits, IsStep, IsWithin, token_limit};
     ghost use Rattle.session_text.specs.Steps.{IsSessionLine};
     ghost use Rattle.broker_model.specs.declared.journal.Entry.TheVariants as entries;
     ghost use Rattle.broker_model.specs.Ids.{peer_at};
     ghost use Rattle.broker_model.specs.Resolve.{past_of};
     ghost use Rattle.broker_model.specs.Settle.{history, outer};
+    ghost use Rattle.broker_model.specs.Stamps.{stamps, step_stamps};
     ghost use Rattle.broker_core.specs.Broker.{entry_of, IsSaid};
     ghost use Rattle.broker_core.specs.declared.taking.Standing.TheVariants.{Alive};
     ghost use Rattle.broker_model.specs.Out.{stored};
     ghost use Rattle.broker_core.specs.Taking.{lives, out_at, standing_of};
-    ghost use Rattle.session_play.specs.Played.{step_played, gone_played, join_played, take_played, line_played};
-    ghost use Rattle.session_play.specs.Playing.{IsPlayed, IsWatched, IsThere, IsEnough};
+    ghost use Rattle.session_play.specs.Played.{step_played, gone_played, join_played, take_played, tokens_played, line_played};
+    ghost use Rattle.session_play.specs.Playing.{AreStamped, IsPlayed, IsWatched, IsThere, IsEnough};
 
     /// Nobody joined yet. `NoMemory` is its one error.
     pub(crate) fn new(alloc: Global, limits: Limits) -> Result<Session, NoMemory>
@@ -90,6 +92,7 @@ impl Session {
         ensures new { IfOk result (λ s. s ≡ record {
           limits = limits;
           play = record { journal = []; unread = [] };
+          stamps = [];
         }) }
     {
         Ok(Session {
@@ -116,18 +119,35 @@ impl Session {
         self.shared.journal()
     }
 
+    /// The stamps of the journal.
+    pub(crate) fn stamps(&self) -> &StampList
+        ensures stamps { result.now.stamps ≡ self.now.stamps }
+        ensures each { length self.now.stamps ≡ length self.now.play.journal }
+        ensures stamped { stamps self.now.play.journal (step_stamps self.now.play.journal
+            self.now.stamps) ≡ self.now.stamps }
+    {
+        self.shared.stamps()
+    }
+
     /// A step of a live peer or of the shell.
-    pub(crate) fn step<W: Watch>(&mut self, step: &Step, watch: &mut W) -> Result<(), Stop>
+    pub(crate) fn step<W: Watch>(
+        &mut self,
+        step: &Step,
+        stamp: Stamp,
+        watch: &mut W,
+    ) -> Result<(), Stop>
         requires step { IsStep step.now }
         requires said { IsSaid step.now }
         requires there { IsThere step.now self.old.play.journal }
         ensures limits { self.new.limits ≡ self.old.limits }
         ensures played { IsPlayed (step_played self.old.limits (entry_of step.now) self.old.play)
             result self.new.play }
+        ensures stamped { AreStamped stamp self.old.play.journal self.old.stamps
+            self.new.play.journal self.new.stamps }
         ensures watched { IsWatched W.may_follow self.old.limits.store self.old.play.journal
             watch.old self.new.play.journal watch.new }
     {
-        match self.shared.apply_watched(step, watch) {
+        match self.shared.apply_watched(step, stamp, watch) {
             Ok(_) => {
                 forget_ended(&self.shared, &mut self.unread);
                 Ok(())
@@ -139,16 +159,23 @@ impl Session {
     }
 
     /// A peer joins, unless so many are alive.
-    pub(crate) fn join<W: Watch>(&mut self, role: Role, watch: &mut W) -> Result<(), Stop>
+    pub(crate) fn join<W: Watch>(
+        &mut self,
+        role: Role,
+        stamp: Stamp,
+        watch: &mut W,
+    ) -> Result<(), Stop>
         ensures limits { self.new.limits ≡ self.old.limits }
         ensures played { IsPlayed (join_played self.old.limits (entries.Join role) self.old.play)
             result self.new.play }
+        ensures stamped { AreStamped stamp self.old.play.journal self.old.stamps
+            self.new.play.journal self.new.stamps }
         ensures watched { IsWatched W.may_follow self.old.limits.store self.old.play.journal
             watch.old self.new.play.journal watch.new }
     {
         let assembler = Assembler::new(self.alloc)?;
         self.unread.reserve(1)?;
-        match self.shared.join_watched(role, watch) {
+        match self.shared.join_watched(role, stamp, watch) {
             Ok(number) => {
                 let _ = self.unread.push(Unread { number, assembler });
                 forget_ended(&self.shared, &mut self.unread);
@@ -161,17 +188,48 @@ impl Session {
     }
 
     /// The link of a peer ends, if it is alive.
-    pub(crate) fn gone<W: Watch>(&mut self, number: u32, watch: &mut W) -> Result<(), Stop>
+    pub(crate) fn gone<W: Watch>(
+        &mut self,
+        number: u32,
+        stamp: Stamp,
+        watch: &mut W,
+    ) -> Result<(), Stop>
         ensures limits { self.new.limits ≡ self.old.limits }
         ensures played { IsPlayed (gone_played self.old.limits number self.old.play)
             result self.new.play }
+        ensures stamped { AreStamped stamp self.old.play.journal self.old.stamps
+            self.new.play.journal self.new.stamps }
         ensures watched { IsWatched W.may_follow self.old.limits.store self.old.play.journal
             watch.old self.new.play.journal watch.new }
     {
         if !self.lives(number) {
             return Ok(());
         }
-        self.step(&Step::Peer(number, PeerStep::Gone), watch)
+        self.step(&Step::Peer(number, PeerStep::Gone), stamp, watch)
+    }
+
+    /// Tokens of a peer, if it is alive.
+    pub(crate) fn tokens<W: Watch>(
+        &mut self,
+        number: u32,
+        tokens: &TokenList,
+        stamp: Stamp,
+        watch: &mut W,
+    ) -> Result<(), Stop>
+        requires { IsWithin token_limit (length tokens.now) }
+        ensures limits { self.new.limits ≡ self.old.limits }
+        ensures played { IsPlayed (tokens_played self.old.limits number tokens.now self.old.play)
+            result self.new.play }
+        ensures stamped { AreStamped stamp self.old.play.journal self.old.stamps
+            self.new.play.journal self.new.stamps }
+        ensures watched { IsWatched W.may_follow self.old.limits.store self.old.play.journal
+            watch.old self.new.play.journal watch.new }
+    {
+        if !self.lives(number) {
+            return Ok(());
+        }
+        let step = Step::Peer(number, PeerStep::Tokens(tokens.copy(self.alloc)?));
+        self.step(&step, stamp, watch)
     }
 
     // The first bytes that are stored for a peer go into the buffer, which nobody reads. It has room for
@@ -181,6 +239,7 @@ impl Session {
         number: u32,
         most: u32,
         bytes: &mut [u8],
+        stamp: Stamp,
         watch: &mut W,
     ) -> Result<(), Stop>
         requires most { 1 ≤ most }
@@ -191,11 +250,16 @@ impl Session {
         ensures limits { self.new.limits ≡ self.old.limits }
         ensures played { IsPlayed (take_played self.old.limits number most self.old.play
             (peer_at (past_of self.old.play.journal) number)) result self.new.play }
+        ensures stamped { AreStamped stamp self.old.play.journal self.old.stamps
+            self.new.play.journal self.new.stamps }
         ensures watched { IsWatched W.may_follow self.old.limits.store self.old.play.journal
             watch.old self.new.play.journal watch.new }
     {
         let mut tokens = [0u32; 256];
-        match self.shared.take_watched(number, bytes, &mut tokens, watch) {
+        match self
+            .shared
+            .take_watched(number, bytes, &mut tokens, stamp, watch)
+        {
             Took::Bytes(..) => {
                 forget_ended(&self.shared, &mut self.unread);
                 Ok(())
@@ -208,41 +272,11 @@ impl Session {
 
     // By way of a buffer for as many bytes as a take may ask for, which is made for this alone.
     #[inline(never)]
-    fn take_many<W: Watch>(&mut self, number: u32, most: u32, watch: &mut W) -> Result<(), Stop>
-        requires some { 1 ≤ most }
-        requires piece { most ≤ 4096 }
-        ensures limits { self.new.limits ≡ self.old.limits }
-        ensures played { IsPlayed (take_played self.old.limits number most self.old.play
-            (peer_at (past_of self.old.play.journal) number)) result self.new.play }
-        ensures watched { IsWatched W.may_follow self.old.limits.store self.old.play.journal
-            watch.old self.new.play.journal watch.new }
-    {
-        let mut bytes = [0u8; MESSAGE_LIMIT];
-        self.take_into(number, most, &mut bytes[..most as usize], watch)
-    }
-
-    // By way of a small buffer, where no more are stored than it has room for.
-    #[inline(never)]
-    fn take_few<W: Watch>(&mut self, number: u32, most: u32, watch: &mut W) -> Result<(), Stop>
-        requires some { 1 ≤ most }
-        requires few { IfSome (out_at self.old.limits.store self.old.play.journal number)
-            (λ out. length (stored out) ≤ 256) }
-        ensures limits { self.new.limits ≡ self.old.limits }
-        ensures played { IsPlayed (take_played self.old.limits number most self.old.play
-            (peer_at (past_of self.old.play.journal) number)) result self.new.play }
-        ensures watched { IsWatched W.may_follow self.old.limits.store self.old.play.journal
-            watch.old self.new.play.journal watch.new }
-    {
-        let mut bytes = [0u8; FEW];
-        let length = FEW.min(most as usize);
-        self.take_into(number, most, &mut bytes[..length], watch)
-    }
-
-    /// The first bytes that are stored for a peer are taken.
-    pub(crate) fn take<W: Watch>(
+    fn take_many<W: Watch>(
         &mut self,
         number: u32,
         most: u32,
+        stamp: Stamp,
         watch: &mut W,
     ) -> Result<(), Stop>
         requires some { 1 ≤ most }
@@ -250,30 +284,89 @@ impl Session {
         ensures limits { self.new.limits ≡ self.old.limits }
         ensures played { IsPlayed (take_played self.old.limits number most self.old.play
             (peer_at (past_of self.old.play.journal) number)) result self.new.play }
+        ensures stamped { AreStamped stamp self.old.play.journal self.old.stamps
+            self.new.play.journal self.new.stamps }
+        ensures watched { IsWatched W.may_follow self.old.limits.store self.old.play.journal
+            watch.old self.new.play.journal watch.new }
+    {
+        let mut bytes = [0u8; MESSAGE_LIMIT];
+        self.take_into(number, most, &mut bytes[..most as usize], stamp, watch)
+    }
+
+    // By way of a small buffer, where no more are stored than it has room for.
+    #[inline(never)]
+    fn take_few<W: Watch>(
+        &mut self,
+        number: u32,
+        most: u32,
+        stamp: Stamp,
+        watch: &mut W,
+    ) -> Result<(), Stop>
+        requires some { 1 ≤ most }
+        requires few { IfSome (out_at self.old.limits.store self.old.play.journal number)
+            (λ out. length (stored out) ≤ 256) }
+        ensures limits { self.new.limits ≡ self.old.limits }
+        ensures played { IsPlayed (take_played self.old.limits number most self.old.play
+            (peer_at (past_of self.old.play.journal) number)) result self.new.play }
+        ensures stamped { AreStamped stamp self.old.play.journal self.old.stamps
+            self.new.play.journal self.new.stamps }
+        ensures watched { IsWatched W.may_follow self.old.limits.store self.old.play.journal
+            watch.old self.new.play.journal watch.new }
+    {
+        let mut bytes = [0u8; FEW];
+        let length = FEW.min(most as usize);
+        self.take_into(number, most, &mut bytes[..length], stamp, watch)
+    }
+
+    /// The first bytes that are stored for a peer are taken.
+    pub(crate) fn take<W: Watch>(
+        &mut self,
+        number: u32,
+        most: u32,
+        stamp: Stamp,
+        watch: &mut W,
+    ) -> Result<(), Stop>
+        requires some { 1 ≤ most }
+        requires piece { most ≤ 4096 }
+        ensures limits { self.new.limits ≡ self.old.limits }
+        ensures played { IsPlayed (take_played self.old.limits number most self.old.play
+            (peer_at (past_of self.old.play.journal) number)) result self.new.play }
+        ensures stamped { AreStamped stamp self.old.play.journal self.old.stamps
+            self.new.play.journal self.new.stamps }
         ensures watched { IsWatched W.may_follow self.old.limits.store self.old.play.journal
             watch.old self.new.play.journal watch.new }
     {
         match self.shared.stored(number) {
-            Some(stored) if stored > FEW => self.take_many(number, most, watch),
-            _ => self.take_few(number, most, watch),
+            Some(stored) if stored > FEW => self.take_many(number, most, stamp, watch),
+            _ => self.take_few(number, most, stamp, watch),
         }
     }
 
     /// One line.
-    pub(crate) fn line<W: Watch>(&mut self, line: &SessionLine, watch: &mut W) -> Result<(), Stop>
+    pub(crate) fn line<W: Watch>(
+        &mut self,
+        line: &SessionLine,
+        stamp: Stamp,
+        watch: &mut W,
+    ) -> Result<(), Stop>
         requires valid { IsSessionLine line.now }
         ensures limits { self.new.limits ≡ self.old.limits }
         ensures played { IsPlayed (line_played self.old.limits line.now self.old.play)
             result self.new.play }
+        ensures stamped { AreStamped stamp self.old.play.journal self.old.stamps
+            self.new.play.journal self.new.stamps }
         ensures watched { IsWatched W.may_follow self.old.limits.store self.old.play.journal
             watch.old self.new.play.journal watch.new }
     {
         match line {
-            SessionLine::Join(role) => self.join(*role, watch),
-            SessionLine::Bytes(number, piece) => self.bytes(*number, piece.as_slice(), watch),
-            SessionLine::Gone(number) => self.gone(*number, watch),
-            SessionLine::Take(number, most) => self.take(*number, *most, watch),
-            SessionLine::Shell(step) => self.step(&Step::Shell(*step), watch),
+            SessionLine::Join(role) => self.join(*role, stamp, watch),
+            SessionLine::Bytes(number, piece) => {
+                self.bytes(*number, piece.as_slice(), stamp, watch)
+            }
+            SessionLine::Gone(number) => self.gone(*number, stamp, watch),
+            SessionLine::Take(number, most) => self.take(*number, *most, stamp, watch),
+            SessionLine::Tokens(number, tokens) => self.tokens(*number, tokens, stamp, watch),
+            SessionLine::Shell(step) => self.step(&Step::Shell(*step), stamp, watch),
         }
     }
 }

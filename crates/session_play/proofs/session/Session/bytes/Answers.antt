@@ -3,6 +3,7 @@ use Rattle.std.proofs.lemmas.Result.{err_from_is_err_and}
 use Rattle.session_play.specs.declared.unread.Found.{Found}
 use Rattle.session_play.specs.Playing.{IsRead}
 use Rattle.session_play.proofs.BytesLoop.{read_short, message_stops, message_goes, bad_size_ends, step_more_watched}
+use Rattle.session_play.proofs.StepsStamped.{none_stamped, stamped_read, stamped_on}
 use Rattle.session_play.proofs.JournalGrows.{watched_none}
 use Rattle.session_play.proofs.session.Session.bytes.Goals as goal
 
@@ -10,6 +11,7 @@ pub loop-rest-init : goal.loop-rest-init
 loop-rest-init g c = record {
   limits = refl;
   left = refl;
+  stamped = none_stamped c.args.stamp c.args.self.now.play.journal c.args.self.now.stamps;
   watched = watched_none g.W.Watch.may_follow c.args.self.now.limits.store c.args.self.now.play.journal
       c.args.watch.now;
 }
@@ -35,6 +37,16 @@ returns-in_err-step-in-Message-clause-played g c =
     (subst (λ (f : Found). IsRead c.loop-rest.self c.args.number c.loop-rest.rest.now f c.read.new.self) c.in-Message.is
     c.in_ok-step.ensures.read) c.read.ensures.journal c.in_err-step-in-Message.ensures.played)
 
+pub returns-in_err-step-clause-stamped : goal.returns-in_err-step-clause-stamped
+returns-in_err-step-clause-stamped g c =
+    stamped_read c.args.stamp c.args.self.now c.loop-rest.self c.read.new.self c.read.ensures.journal c.read.ensures.stamps
+    c.loop-rest.invariant.stamped
+
+pub returns-in_err-step-in-Message-clause-stamped : goal.returns-in_err-step-in-Message-clause-stamped
+returns-in_err-step-in-Message-clause-stamped g c =
+    stamped_on c.args.stamp c.args.self.now c.loop-rest.self c.read.new.self c.step.new.self c.read.ensures.journal c.read.ensures.stamps
+    c.loop-rest.invariant.stamped c.step.ensures.stamped
+
 pub returns-in_err-step-in-Message-clause-watched : goal.returns-in_err-step-in-Message-clause-watched
 returns-in_err-step-in-Message-clause-watched g c =
     step_more_watched g.W.Watch.may_follow c.args.self.now c.loop-rest.self c.read.new.self c.step.new.self.play.journal
@@ -53,6 +65,9 @@ loop-rest-preserved g c = record {
       (subst (λ (f : Found). IsRead c.loop-rest.self c.args.number c.loop-rest.rest.now f c.read.new.self)
       c.in-Message.is c.in_ok-step.ensures.read) c.read.ensures.journal c.split_at.ensures.back
       c.in_ok-step-in-Message.ensures.played;
+  stamped =
+      stamped_on c.args.stamp c.args.self.now c.loop-rest.self c.read.new.self c.step.new.self c.read.ensures.journal c.read.ensures.stamps
+      c.loop-rest.invariant.stamped c.step.ensures.stamped;
   watched =
       step_more_watched g.W.Watch.may_follow c.args.self.now c.loop-rest.self c.read.new.self
       c.step.new.self.play.journal c.args.watch.now
@@ -70,6 +85,11 @@ returns-in-BadSize-clause-played g c =
     (sym c.lives.ensures.value ∙ c.loop-rest-test.true)
     (subst (λ (f : Found). IsRead c.loop-rest.self c.args.number c.loop-rest.rest.now f c.read.new.self) c.in-BadSize.is
     c.in_ok-step.ensures.read) c.read.ensures.journal c.step-in-BadSize.ensures.played
+
+pub returns-in-BadSize-clause-stamped : goal.returns-in-BadSize-clause-stamped
+returns-in-BadSize-clause-stamped g c =
+    stamped_on c.args.stamp c.args.self.now c.loop-rest.self c.read.new.self c.step-in-BadSize.new.self c.read.ensures.journal
+    c.read.ensures.stamps c.loop-rest.invariant.stamped c.step-in-BadSize.ensures.stamped
 
 pub returns-in-BadSize-clause-watched : goal.returns-in-BadSize-clause-watched
 returns-in-BadSize-clause-watched g c =

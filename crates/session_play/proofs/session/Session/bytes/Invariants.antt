@@ -1,6 +1,6 @@
 use Rattle.std.proofs.Common.{◌≡◌, length}
 use Rattle.session_play.specs.Played.{bytes_played}
-use Rattle.session_play.specs.Playing.{IsWatched}
+use Rattle.session_play.specs.Playing.{AreStamped, IsWatched}
 use Rattle.session_play.proofs.session.Session.bytes.Given as goal
 
 -- what is left of the piece leads to the same
@@ -9,6 +9,7 @@ invariant-loop-rest g l = record {
   limits : l.self.limits ≡ l.fn.self.limits;
   left : bytes_played l.fn.self.limits l.number l.rest l.self.play
       ≡ bytes_played l.fn.self.limits l.number l.fn.piece l.fn.self.play;
+  stamped : AreStamped l.stamp l.fn.self.play.journal l.fn.self.stamps l.self.play.journal l.self.stamps;
   watched : IsWatched g.W.Watch.may_follow l.fn.self.limits.store l.fn.self.play.journal l.fn.watch
       l.self.play.journal l.watch;
 }

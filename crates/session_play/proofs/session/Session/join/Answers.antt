@@ -6,6 +6,7 @@ use Rattle.broker_model.specs.declared.journal.Entry.TheVariants as entries
 use Rattle.session_play.proofs.JournalGrows.{join_grows, watched_none}
 use Rattle.session_play.proofs.SharedSteps.{join_ok, join_waits, join_many, join_full, join_short, pushed, left_of, none_watched, step_watched}
 use Rattle.session_play.proofs.StaysWaiting.{is_put}
+use Rattle.session_play.proofs.StepsStamped.{step_given}
 use Rattle.session_play.proofs.session.Session.join.Goals as goal
 
 pub returns-in_err-assembler-clause-played : goal.returns-in_err-assembler-clause-played
@@ -34,7 +35,7 @@ invariant_of-self-in-Ok g c =
     let put = is_put c.push.result _ _ c.push.ensures.full (omega arith) in
     let made = pushed c.self.inside.unread.items c.reserve.new.self.items c.push.new.self.items _ (is_ok c.push.result)
     c.in_ok-reserve.ensures.items put c.push.ensures.items in
-    join_waits c.args.self.now c.self.inside.shared c.join_watched.new.self c.self.inside.unread.items
+    join_waits c.args.stamp c.args.self.now c.self.inside.shared c.join_watched.new.self c.self.inside.unread.items
     c.forget_ended.new.unread.items _ c.args.role
     c.in-Ok.ensures.ok c.in-Ok.ensures.number (left_of c.join_watched.new.self _ c.push.new.self.items
     c.forget_ended.new.unread.items c.forget_ended.ensures made)
@@ -46,7 +47,7 @@ returns-in-Ok-clause-played g c =
     let put = is_put c.push.result _ _ c.push.ensures.full (omega arith) in
     let made = pushed c.self.inside.unread.items c.reserve.new.self.items c.push.new.self.items _ (is_ok c.push.result)
     c.in_ok-reserve.ensures.items put c.push.ensures.items in
-    join_ok c.args.self.now c.self.inside.shared c.join_watched.new.self c.self.inside.unread.items
+    join_ok c.args.stamp c.args.self.now c.self.inside.shared c.join_watched.new.self c.self.inside.unread.items
     c.forget_ended.new.unread.items _ c.args.role c.in-Ok.number
     c.self.view_is c.in-Ok.ensures.refused c.in-Ok.ensures.ok c.in-Ok.ensures.number
     (ap (λ (a : Assembly). record { number = c.in-Ok.number; bytes = begun a }) c.in_ok-assembler.ensures.empty)
@@ -55,7 +56,7 @@ returns-in-Ok-clause-played g c =
 
 pub returns-in-Ok-clause-watched : goal.returns-in-Ok-clause-watched
 returns-in-Ok-clause-watched g c =
-    step_watched g.W.Watch.may_follow c.args.self.now c.self.inside.shared c.join_watched.new.self
+    step_watched c.args.stamp g.W.Watch.may_follow c.args.self.now c.self.inside.shared c.join_watched.new.self
     c.self.inside.unread.items (entries.Join c.args.role)
     c.args.watch.now c.join_watched.new.watch c.self.view_is c.in-Ok.ensures.ok c.in-Ok.ensures.watched
 
@@ -80,3 +81,8 @@ returns-clause-played g c =
     join_short c.args.self.now c.self.inside.shared c.join_watched.new.self c.self.inside.unread.items c.args.role
     c.self.view_is
     c.in-Err-NoMemory.ensures.err
+
+pub returns-in-Ok-clause-stamped : goal.returns-in-Ok-clause-stamped
+returns-in-Ok-clause-stamped g c =
+    step_given c.args.self.now c.self.inside.shared c.join_watched.new.self c.self.inside.unread.items
+    (entries.Join c.args.role) c.args.stamp c.self.view_is (record { step = refl; own = refl }) c.in-Ok.ensures.ok
