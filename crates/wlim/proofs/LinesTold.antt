@@ -11,7 +11,6 @@ use Rattle.wio_core.specs.declared.line_reader.NextLine.{NextLine}
 use Rattle.wio_core.specs.declared.line_reader.NextLine.TheVariants as answers
 use Rattle.wlim.specs.declared.last_line.LastLine.{LastLine as End}
 use Rattle.wlim.specs.declared.last_line.LastLine.TheVariants as last
-use Rattle.wlim.specs.declared.reading.TheConstants.{INPUT_LIMIT}
 use Rattle.wlim.specs.Endings.{Answer, with_front, ending}
 use Rattle.wlim.specs.Lines.{lines_of, lines_read, is_cut, bytes_of}
 use Rattle.wlim.specs.Scripts.{Follows, Settles, NamesNext}
@@ -31,12 +30,12 @@ by_settled o before after g0 g1 l0 l1 result e h =
     (λ why. (stop_of result ≡ Some why) × (after ≡ before))) e h
 
 -- a reader that reads up to a line is settled at the end alone
-pub open_or_ended : (gf lf g l : Option (List ℕ)) (reader : LinesAhead) (done : List (List ℕ)) (read : List ℕ)
-    → IsReadTo gf lf g l reader done read
+pub open_or_ended : {limit : ℕ} (gf lf g l : Option (List ℕ)) (reader : LinesAhead) (done : List (List ℕ)) (read : List ℕ)
+    → IsReadTo limit gf lf g l reader done read
     → (reader.settled ≡ None) ⊎ (reader.settled ≡ Some stop.End)
-open_or_ended gf lf g l reader done read r = by reader.settled refl r.divided
+open_or_ended {limit} gf lf g l reader done read r = by reader.settled refl r.divided
   where
-    by : (o : Option LineStop) → reader.settled ≡ o → IsDivided o reader.held l done read
+    by : (o : Option LineStop) → reader.settled ≡ o → IsDivided limit o reader.held l done read
         → (reader.settled ≡ None) ⊎ (reader.settled ≡ Some stop.End)
     by None e d = inl e
     by (Some stop.End) e d = inr e
@@ -45,51 +44,51 @@ open_or_ended gf lf g l reader done read r = by reader.settled refl r.divided
     by (Some stop.ReadFault) e d = absurd d
 
 -- where it answers anything but the end, it went on
-pub goes : (gf lf g0 l0 g1 l1 : Option (List ℕ)) (before after : LinesAhead) (result : NextLine) (done : List (List ℕ))
+pub goes : {limit : ℕ} (gf lf g0 l0 g1 l1 : Option (List ℕ)) (before after : LinesAhead) (result : NextLine) (done : List (List ℕ))
     (read : List ℕ)
-    → IsReadTo gf lf g0 l0 before done read → Answers before after g0 g1 l0 l1 result → stop_of result ≢ Some stop.End
+    → IsReadTo limit gf lf g0 l0 before done read → Answers before after g0 g1 l0 l1 result → stop_of result ≢ Some stop.End
     → (before.settled ≡ None) × ((more : List ℕ) × GoesOn before after g0 g1 l0 l1 result more)
-goes gf lf g0 l0 g1 l1 before after result done read r h other =
+goes {limit} gf lf g0 l0 g1 l1 before after result done read r h other =
     elim (open_or_ended gf lf g0 l0 before done read r) [
       | inl e ↦ (e, by_settled None before after g0 g1 l0 l1 result e h)
       | inr e ↦ absurd (other (by_settled (Some stop.End) before after g0 g1 l0 l1 result e h).0)
     ]
 
-near_of : (gf lf g0 l0 g1 l1 : Option (List ℕ)) (before after : LinesAhead) (done : List (List ℕ))
+near_of : {limit : ℕ} (gf lf g0 l0 g1 l1 : Option (List ℕ)) (before after : LinesAhead) (done : List (List ℕ))
     (read more bytes : List ℕ)
-    → IsReadTo gf lf g0 l0 before done read → TookFrom g0 g1 l0 l1 more
-    → ReadBytes gf lf g1 l1 after done bytes (read ++ more)
+    → IsReadTo limit gf lf g0 l0 before done read → TookFrom g0 g1 l0 l1 more
+    → ReadBytes limit gf lf g1 l1 after done bytes (read ++ more)
     → (¬ IsOpen before.held → l1 ≡ l0) → StaysNear lf before done read (read ++ more)
-near_of gf lf g0 l0 g1 l1 before after done read more bytes r took b waits = record {
+near_of {limit} gf lf g0 l0 g1 l1 before after done read more bytes r took b waits = record {
   near = b.near;
   waits = λ held. none_came lf l0 l1 read more r.took.left took.left (waits held);
 }
 
 -- a line came
-pub record LineCame (gf lf g l : Option (List ℕ)) (before after : LinesAhead) (done : List (List ℕ))
+pub record LineCame (limit : ℕ) (gf lf g l : Option (List ℕ)) (before after : LinesAhead) (done : List (List ℕ))
     (raw read : List ℕ) : Type 0 where
   pub read_after : List ℕ
-  pub up_to : IsReadTo gf lf g l after (done ++ raw ∷ []) read_after
+  pub up_to : IsReadTo limit gf lf g l after (done ++ raw ∷ []) read_after
   pub near : StaysNear lf before done read read_after
   pub fewer : bytes_ahead after < bytes_ahead before
   pub whole : ((rest : List (List ℕ)) × (lines_of true read_after ≡ (done ++ raw ∷ []) ++ rest))
       ⊎ (IsAtEnd l × (lines_of false read_after ≡ done ++ raw ∷ []))
 
-fewer_ahead : (before after : LinesAhead) (read more raw : List ℕ) (k : ℕ)
-    → before.room ≡ Some (INPUT_LIMIT - length read) → after.room ≡ Some (INPUT_LIMIT - length (read ++ more))
-    → length (read ++ more) ≤ INPUT_LIMIT → length before.held + length more ≡ k + length after.held → 0 < k
+fewer_ahead : {limit : ℕ} (before after : LinesAhead) (read more raw : List ℕ) (k : ℕ)
+    → before.room ≡ Some (limit - length read) → after.room ≡ Some (limit - length (read ++ more))
+    → length (read ++ more) ≤ limit → length before.held + length more ≡ k + length after.held → 0 < k
     → bytes_ahead after < bytes_ahead before
-fewer_ahead before after read more raw k room room_after within count some =
-    let a : unwrap_or before.room 0 ≡ INPUT_LIMIT - length read = ap (λ o. unwrap_or o 0) room in
-    let b : unwrap_or after.room 0 ≡ INPUT_LIMIT - length (read ++ more) = ap (λ o. unwrap_or o 0) room_after in
+fewer_ahead {limit} before after read more raw k room room_after within count some =
+    let a : unwrap_or before.room 0 ≡ limit - length read = ap (λ o. unwrap_or o 0) room in
+    let b : unwrap_or after.room 0 ≡ limit - length (read ++ more) = ap (λ o. unwrap_or o 0) room_after in
     omega (arith, a, b, length-append read more)
 
-pub line_came : (gf lf g0 l0 g1 l1 : Option (List ℕ)) (before after : LinesAhead) (raw : Bor (List ℕ))
+pub line_came : {limit : ℕ} (gf lf g0 l0 g1 l1 : Option (List ℕ)) (before after : LinesAhead) (raw : Bor (List ℕ))
     (done : List (List ℕ)) (read : List ℕ)
-    → IsReadTo gf lf g0 l0 before done read → Answers before after g0 g1 l0 l1 (answers.Line raw)
+    → IsReadTo limit gf lf g0 l0 before done read → Answers before after g0 g1 l0 l1 (answers.Line raw)
     → (¬ IsOpen before.held → l1 ≡ l0)
-    → LineCame gf lf g1 l1 before after done raw.now read
-line_came gf lf g0 l0 g1 l1 before after raw done read r h waits =
+    → LineCame limit gf lf g1 l1 before after done raw.now read
+line_came {limit} gf lf g0 l0 g1 l1 before after raw done read r h waits =
     let w = goes gf lf g0 l0 g1 l1 before after (answers.Line raw) done read r h (λ e. cc e) in
     let more = w.1.0 in
     let b = went_on gf lf g0 l0 g1 l1 before after (answers.Line raw) done read more r w.0 w.1.1 in
@@ -122,24 +121,24 @@ line_came gf lf g0 l0 g1 l1 before after raw done read r h waits =
     ]
   where
     whole_lines : (after : LinesAhead) (done : List (List ℕ)) (line read : List ℕ)
-        → IsReadTo gf lf g1 l1 after (done ++ line ∷ []) read → after.settled ≡ None
+        → IsReadTo limit gf lf g1 l1 after (done ++ line ∷ []) read → after.settled ≡ None
         → (rest : List (List ℕ)) × (lines_of true read ≡ (done ++ line ∷ []) ++ rest)
     whole_lines after done line read up_to e =
-        let d = subst (λ o. IsDivided o after.held l1 (done ++ line ∷ []) read) e up_to.divided in
+        let d = subst (λ o. IsDivided limit o after.held l1 (done ++ line ∷ []) read) e up_to.divided in
         (lines_of true after.held, ap (lines_of true) d.0 ∙ lines_front true (done ++ line ∷ []) after.held d.1)
 
     all_lines : (after : LinesAhead) (done : List (List ℕ)) (line read : List ℕ)
-        → IsReadTo gf lf g1 l1 after (done ++ line ∷ []) read → after.settled ≡ Some stop.End
+        → IsReadTo limit gf lf g1 l1 after (done ++ line ∷ []) read → after.settled ≡ Some stop.End
         → IsAtEnd l1 × (lines_of false read ≡ done ++ line ∷ [])
     all_lines after done line read up_to e =
-        let d = subst (λ o. IsDivided o after.held l1 (done ++ line ∷ []) read) e up_to.divided in (d.0, d.2)
+        let d = subst (λ o. IsDivided limit o after.held l1 (done ++ line ∷ []) read) e up_to.divided in (d.0, d.2)
 
 -- the line decided
-pub told_by_line : (answer : Bool → List (List ℕ) → Answer) (gf lf g l : Option (List ℕ)) (before after : LinesAhead)
+pub told_by_line : {limit : ℕ} (answer : Bool → List (List ℕ) → Answer) (gf lf g l : Option (List ℕ)) (before after : LinesAhead)
     (done : List (List ℕ)) (raw read : List ℕ) (whole : Answer)
-    → (came : LineCame gf lf g l before after done raw read) → Settles answer (done ++ raw ∷ []) whole
-    → IsTold answer lf l done came.read_after whole
-told_by_line answer gf lf g l before after done raw read whole came s =
+    → (came : LineCame limit gf lf g l before after done raw read) → Settles answer (done ++ raw ∷ []) whole
+    → IsTold limit answer lf l done came.read_after whole
+told_by_line {limit} answer gf lf g l before after done raw read whole came s =
     let ahead = leads gf lf g l after (done ++ raw ∷ []) came.read_after came.up_to in
     record {
       all = all lf ahead;
@@ -147,12 +146,12 @@ told_by_line answer gf lf g l before after done raw read whole came s =
       early = early came.whole;
     }
   where
-    all : (o : Option (List ℕ)) → LeadsOff o (done ++ raw ∷ [])
-        → IfSome o (λ bytes. answer (is_cut bytes) (lines_read bytes) ≡ whole)
+    all : (o : Option (List ℕ)) → LeadsOff limit o (done ++ raw ∷ [])
+        → IfSome o (λ bytes. answer (is_cut limit bytes) (lines_read limit bytes) ≡ whole)
     all None ahead = tt
-    all (Some bytes) ahead = ap (answer (is_cut bytes)) ahead.1 ∙ s.same (is_cut bytes) ahead.0
+    all (Some bytes) ahead = ap (answer (is_cut limit bytes)) ahead.1 ∙ s.same (is_cut limit bytes) ahead.0
 
-    front : (o : Option (List ℕ)) → LeadsOff o (done ++ raw ∷ []) → LeadsOff o done
+    front : (o : Option (List ℕ)) → LeadsOff limit o (done ++ raw ∷ []) → LeadsOff limit o done
     front None ahead = tt
     front (Some bytes) ahead = (raw ∷ ahead.0, ahead.1 ∙ append_assoc done (raw ∷ []) ahead.0)
 
@@ -165,11 +164,11 @@ told_by_line answer gf lf g l before after done raw read whole came s =
         inr (end.0, ap (answer false) (end.1 ∙ sym (append-nil (done ++ raw ∷ []))) ∙ s.same false [])
 
 -- the source ended
-told_end : (answer : Bool → List (List ℕ) → Answer) (lf l : Option (List ℕ)) (done : List (List ℕ)) (read : List ℕ)
+told_end : {limit : ℕ} (answer : Bool → List (List ℕ) → Answer) (lf l : Option (List ℕ)) (done : List (List ℕ)) (read : List ℕ)
     (whole : Answer)
-    → Consumes lf l read → IsAtEnd l → length read < INPUT_LIMIT → lines_of false read ≡ done
-    → answer false done ≡ whole → IsTold answer lf l done read whole
-told_end answer lf l done read whole took end short lines is = record {
+    → Consumes lf l read → IsAtEnd l → length read < limit → lines_of false read ≡ done
+    → answer false done ≡ whole → IsTold limit answer lf l done read whole
+told_end {limit} answer lf l done read whole took end short lines is = record {
   all = all lf l took end;
   leads = front lf l took end;
   early = inr (end, ap (answer false) lines ∙ is);
@@ -179,48 +178,48 @@ told_end answer lf l done read whole took end short lines is = record {
     same bytes rest e none = e ∙ ap (λ t. read ++ t) none ∙ append-nil read
 
     all : (o p : Option (List ℕ)) → Consumes o p read → IsAtEnd p
-        → IfSome o (λ bytes. answer (is_cut bytes) (lines_read bytes) ≡ whole)
+        → IfSome o (λ bytes. answer (is_cut limit bytes) (lines_read limit bytes) ≡ whole)
     all None p took end = tt
     all (Some bytes) None took end = absurd took
     all (Some bytes) (Some rest) took end =
         let e = input_ended done read bytes (same bytes rest took end) short lines in
-        ap (λ c. answer c (lines_read bytes)) e.0 ∙ ap (answer false) e.1 ∙ is
+        ap (λ c. answer c (lines_read limit bytes)) e.0 ∙ ap (answer false) e.1 ∙ is
 
-    front : (o p : Option (List ℕ)) → Consumes o p read → IsAtEnd p → LeadsOff o done
+    front : (o p : Option (List ℕ)) → Consumes o p read → IsAtEnd p → LeadsOff limit o done
     front None p took end = tt
     front (Some bytes) None took end = absurd took
     front (Some bytes) (Some rest) took end =
         ([], (input_ended done read bytes (same bytes rest took end) short lines).1 ∙ sym (append-nil done))
 
 -- what was told, and the bytes read
-pub record Came (answer : Bool → List (List ℕ) → Answer) (gf lf g l : Option (List ℕ)) (before : LinesAhead)
+pub record Came (limit : ℕ) (answer : Bool → List (List ℕ) → Answer) (gf lf g l : Option (List ℕ)) (before : LinesAhead)
     (done : List (List ℕ)) (read : List ℕ) (whole : Answer) : Type 0 where
   pub read_after : List ℕ
   pub took : TookFrom gf g lf l read_after
-  pub told : IsTold answer lf l done read_after whole
+  pub told : IsTold limit answer lf l done read_after whole
   pub near : StaysNear lf before done read read_after
 
-pub end_came : (answer : Bool → List (List ℕ) → Answer) (gf lf g0 l0 g1 l1 : Option (List ℕ))
+pub end_came : {limit : ℕ} (answer : Bool → List (List ℕ) → Answer) (gf lf g0 l0 g1 l1 : Option (List ℕ))
     (before after : LinesAhead) (done : List (List ℕ)) (read output : List ℕ) (end : End)
-    → IsReadTo gf lf g0 l0 before done read → Answers before after g0 g1 l0 l1 answers.End
+    → IsReadTo limit gf lf g0 l0 before done read → Answers before after g0 g1 l0 l1 answers.End
     → (¬ IsOpen before.held → l1 ≡ l0)
     → (before.settled ≡ Some stop.End → (g1 ≡ g0) × (l1 ≡ l0)) → NamesNext answer done output end
-    → Came answer gf lf g1 l1 before done read (with_front output (ending end))
-end_came answer gf lf g0 l0 g1 l1 before after done read output end r h waits still names =
+    → Came limit answer gf lf g1 l1 before done read (with_front output (ending end))
+end_came {limit} answer gf lf g0 l0 g1 l1 before after done read output end r h waits still names =
     elim (open_or_ended gf lf g0 l0 before done read r) [
       | inl e ↦ went e (by_settled None before after g0 g1 l0 l1 answers.End e h)
       | inr e ↦ stayed e (still e)
     ]
   where
     went : before.settled ≡ None → (more : List ℕ) × GoesOn before after g0 g1 l0 l1 answers.End more
-        → Came answer gf lf g1 l1 before done read (with_front output (ending end))
+        → Came limit answer gf lf g1 l1 before done read (with_front output (ending end))
     went e (more, on) =
         let b = went_on gf lf g0 l0 g1 l1 before after answers.End done read more r e on in
         let cause = on.tells.0.cause in
         let lines : lines_of false (read ++ more) ≡ done =
         ap (lines_of false) (b.split ∙ ap (λ t. bytes_of done ++ t) on.tells.1) ∙ lines_front false done [] b.lack
         ∙ ap (λ t. done ++ t) (lines_nil false) ∙ append-nil done in
-        let other : length (read ++ more) ≢ INPUT_LIMIT = λ full. cause.2 (b.room ∙ ap (λ n. Some n) (omega arith)) in
+        let other : length (read ++ more) ≢ limit = λ full. cause.2 (b.room ∙ ap (λ n. Some n) (omega arith)) in
         let within = b.within in
         record {
           read_after = read ++ more;
@@ -231,9 +230,9 @@ end_came answer gf lf g0 l0 g1 l1 before after done read output end r h waits st
         }
 
     stayed : before.settled ≡ Some stop.End → (g1 ≡ g0) × (l1 ≡ l0)
-        → Came answer gf lf g1 l1 before done read (with_front output (ending end))
+        → Came limit answer gf lf g1 l1 before done read (with_front output (ending end))
     stayed e same =
-        let d = subst (λ o. IsDivided o before.held l0 done read) e r.divided in
+        let d = subst (λ o. IsDivided limit o before.held l0 done read) e r.divided in
         let took : TookFrom gf g1 lf l1 read = subst (λ (o : Option (List ℕ)). TookFrom gf o lf l1 read) (sym same.0)
         (subst (λ (o : Option (List ℕ)). TookFrom gf g0 lf o read) (sym same.1) r.took) in
         let long = d.3 in
@@ -250,20 +249,20 @@ end_came answer gf lf g0 l0 g1 l1 before after done read output end r h waits st
         unread (Some bytes) = refl
 
 -- the limit was reached
-pub limit_came : (answer : Bool → List (List ℕ) → Answer) (gf lf g0 l0 g1 l1 : Option (List ℕ))
+pub limit_came : {limit : ℕ} (answer : Bool → List (List ℕ) → Answer) (gf lf g0 l0 g1 l1 : Option (List ℕ))
     (before after : LinesAhead) (done : List (List ℕ)) (read output : List ℕ)
-    → IsReadTo gf lf g0 l0 before done read → Answers before after g0 g1 l0 l1 answers.Limit
+    → IsReadTo limit gf lf g0 l0 before done read → Answers before after g0 g1 l0 l1 answers.Limit
     → (¬ IsOpen before.held → l1 ≡ l0) → Follows answer done output
-    → Came answer gf lf g1 l1 before done read (with_front output (ending last.Long))
-limit_came answer gf lf g0 l0 g1 l1 before after done read output r h waits follows =
+    → Came limit answer gf lf g1 l1 before done read (with_front output (ending last.Long))
+limit_came {limit} answer gf lf g0 l0 g1 l1 before after done read output r h waits follows =
     let w = goes gf lf g0 l0 g1 l1 before after answers.Limit done read r h (λ e. cc e) in
     let more = w.1.0 in
     let b = went_on gf lf g0 l0 g1 l1 before after answers.Limit done read more r w.0 w.1.1 in
     let cause = w.1.1.tells.cause in
-    let none : Some (INPUT_LIMIT - length (read ++ more)) ≡ Some 0 = sym b.room ∙ cause.1 in
-    let left : INPUT_LIMIT - length (read ++ more) ≡ 0 = cc in
+    let none : Some (limit - length (read ++ more)) ≡ Some 0 = sym b.room ∙ cause.1 in
+    let left : limit - length (read ++ more) ≡ 0 = cc in
     let within = b.within in
-    let full : length (read ++ more) ≡ INPUT_LIMIT = omega arith in
+    let full : length (read ++ more) ≡ limit = omega arith in
     let lines : lines_of true (read ++ more) ≡ done =
     ap (lines_of true) b.split ∙ lines_front true done (before.held ++ more) b.lack
     ∙ ap (λ t. done ++ t) (lines_open (before.held ++ more) cause.0) ∙ append-nil done in
@@ -281,29 +280,29 @@ limit_came answer gf lf g0 l0 g1 l1 before after done read output r h waits foll
       near = near_of gf lf g0 l0 g1 l1 before after done read more (before.held ++ more) r w.1.1.took b waits;
     }
   where
-    all : (now : List ℕ) (o p : Option (List ℕ)) → Consumes o p now → length now ≡ INPUT_LIMIT
+    all : (now : List ℕ) (o p : Option (List ℕ)) → Consumes o p now → length now ≡ limit
         → answer true (lines_of true now) ≡ with_front output (ending last.Long)
-        → IfSome o (λ bytes. answer (is_cut bytes) (lines_read bytes) ≡ with_front output (ending last.Long))
+        → IfSome o (λ bytes. answer (is_cut limit bytes) (lines_read limit bytes) ≡ with_front output (ending last.Long))
     all now None p took full is = tt
     all now (Some bytes) None took full is = absurd took
     all now (Some bytes) (Some rest) took full is =
         let e = input_cut now rest bytes took full in
-        ap (λ c. answer c (lines_read bytes)) e.0 ∙ ap (answer true) e.1 ∙ is
+        ap (λ c. answer c (lines_read limit bytes)) e.0 ∙ ap (answer true) e.1 ∙ is
 
-    front : (now : List ℕ) (o p : Option (List ℕ)) → Consumes o p now → length now ≡ INPUT_LIMIT
-        → lines_of true now ≡ done → LeadsOff o done
+    front : (now : List ℕ) (o p : Option (List ℕ)) → Consumes o p now → length now ≡ limit
+        → lines_of true now ≡ done → LeadsOff limit o done
     front now None p took full lines = tt
     front now (Some bytes) None took full lines = absurd took
     front now (Some bytes) (Some rest) took full lines =
         ([], (input_cut now rest bytes took full).1 ∙ lines ∙ sym (append-nil done))
 
 -- the next line has too many bytes
-pub long_came : (answer : Bool → List (List ℕ) → Answer) (gf lf g0 l0 g1 l1 : Option (List ℕ))
+pub long_came : {limit : ℕ} (answer : Bool → List (List ℕ) → Answer) (gf lf g0 l0 g1 l1 : Option (List ℕ))
     (before after : LinesAhead) (done : List (List ℕ)) (read output : List ℕ) (end : End)
-    → IsReadTo gf lf g0 l0 before done read → Answers before after g0 g1 l0 l1 answers.Long
+    → IsReadTo limit gf lf g0 l0 before done read → Answers before after g0 g1 l0 l1 answers.Long
     → (¬ IsOpen before.held → l1 ≡ l0) → NamesNext answer done output end
-    → Came answer gf lf g1 l1 before done read (with_front output (ending end))
-long_came answer gf lf g0 l0 g1 l1 before after done read output end r h waits names =
+    → Came limit answer gf lf g1 l1 before done read (with_front output (ending end))
+long_came {limit} answer gf lf g0 l0 g1 l1 before after done read output end r h waits names =
     let w = goes gf lf g0 l0 g1 l1 before after answers.Long done read r h (λ e. cc e) in
     let more = w.1.0 in
     let b = went_on gf lf g0 l0 g1 l1 before after answers.Long done read more r w.0 w.1.1 in
@@ -337,23 +336,23 @@ long_came answer gf lf g0 l0 g1 l1 before after done read output end r h waits n
     lack = (went_lack (goes gf lf g0 l0 g1 l1 before after answers.Long done read r h (λ e. cc e)).0)
       where
         went_lack : before.settled ≡ None → LackFeeds done
-        went_lack e = (subst (λ o. IsDivided o before.held l0 done read) e r.divided).1
+        went_lack e = (subst (λ o. IsDivided limit o before.held l0 done read) e r.divided).1
 
-    all : (bytes now : List ℕ) → IsTooLong bytes → length now ≤ INPUT_LIMIT → now ≡ bytes_of done ++ bytes
+    all : (bytes now : List ℕ) → IsTooLong bytes → length now ≤ limit → now ≡ bytes_of done ++ bytes
         → (o p : Option (List ℕ)) → Consumes o p now
-        → IfSome o (λ input. answer (is_cut input) (lines_read input) ≡ whole)
+        → IfSome o (λ input. answer (is_cut limit input) (lines_read limit input) ≡ whole)
     all bytes now long within split None p took = tt
     all bytes now long within split (Some input) None took = absurd took
     all bytes now long within split (Some input) (Some rest) took =
-        ap (answer (is_cut input)) (input_lines done bytes now rest input took within split lack)
-        ∙ by_long (is_cut input) bytes (take (INPUT_LIMIT - length now) rest) long
+        ap (answer (is_cut limit input)) (input_lines done bytes now rest input took within split lack)
+        ∙ by_long (is_cut limit input) bytes (take (limit - length now) rest) long
 
-    front : (bytes now : List ℕ) → IsTooLong bytes → length now ≤ INPUT_LIMIT → now ≡ bytes_of done ++ bytes
-        → (o p : Option (List ℕ)) → Consumes o p now → LeadsOff o done
+    front : (bytes now : List ℕ) → IsTooLong bytes → length now ≤ limit → now ≡ bytes_of done ++ bytes
+        → (o p : Option (List ℕ)) → Consumes o p now → LeadsOff limit o done
     front bytes now long within split None p took = tt
     front bytes now long within split (Some input) None took = absurd took
     front bytes now long within split (Some input) (Some rest) took = (
-      lines_of (is_cut input) (bytes ++ take (INPUT_LIMIT - length now) rest),
+      lines_of (is_cut limit input) (bytes ++ take (limit - length now) rest),
       input_lines done bytes now rest input
           took within split lack,
     )
@@ -377,11 +376,11 @@ pub record FaultCame (gf lf g l : Option (List ℕ)) (before : LinesAhead) (done
   pub begun : IsOpen before.held
   pub near : StaysNear lf before done read read_after
 
-pub fault_came : (gf lf g0 l0 g1 l1 : Option (List ℕ)) (before after : LinesAhead) (done : List (List ℕ))
+pub fault_came : {limit : ℕ} (gf lf g0 l0 g1 l1 : Option (List ℕ)) (before after : LinesAhead) (done : List (List ℕ))
     (read : List ℕ)
-    → IsReadTo gf lf g0 l0 before done read → Answers before after g0 g1 l0 l1 answers.ReadFault
+    → IsReadTo limit gf lf g0 l0 before done read → Answers before after g0 g1 l0 l1 answers.ReadFault
     → (¬ IsOpen before.held → l1 ≡ l0) → FaultCame gf lf g1 l1 before done read
-fault_came gf lf g0 l0 g1 l1 before after done read r h waits =
+fault_came {limit} gf lf g0 l0 g1 l1 before after done read r h waits =
     let w = goes gf lf g0 l0 g1 l1 before after answers.ReadFault done read r h (λ e. cc e) in
     let more = w.1.0 in
     let b = went_on gf lf g0 l0 g1 l1 before after answers.ReadFault done read more r w.0 w.1.1 in
@@ -395,15 +394,15 @@ fault_came gf lf g0 l0 g1 l1 before after done read r h waits =
     }
 
 -- the source ended, or the next line has too many bytes
-pub end_or_long_came : (answer : Bool → List (List ℕ) → Answer) (gf lf g0 l0 g1 l1 : Option (List ℕ))
+pub end_or_long_came : {limit : ℕ} (answer : Bool → List (List ℕ) → Answer) (gf lf g0 l0 g1 l1 : Option (List ℕ))
     (before after : LinesAhead) (result : NextLine) (done : List (List ℕ)) (read output : List ℕ) (end : End)
     → (result ≡ answers.End) ⊎ (result ≡ answers.Long)
-    → IsReadTo gf lf g0 l0 before done read → Answers before after g0 g1 l0 l1 result → (¬ IsOpen before.held → l1 ≡ l0)
+    → IsReadTo limit gf lf g0 l0 before done read → Answers before after g0 g1 l0 l1 result → (¬ IsOpen before.held → l1 ≡ l0)
     → (before.settled ≡ Some stop.End → (g1 ≡ g0) × (l1 ≡ l0)) → NamesNext answer done output end
-    → Came answer gf lf g1 l1 before done read (with_front output (ending end))
-end_or_long_came answer gf lf g0 l0 g1 l1 before after result done read output end (inl e) r h waits still names =
+    → Came limit answer gf lf g1 l1 before done read (with_front output (ending end))
+end_or_long_came {limit} answer gf lf g0 l0 g1 l1 before after result done read output end (inl e) r h waits still names =
     end_came answer gf lf g0 l0 g1 l1 before after done read output end r
     (subst (Answers before after g0 g1 l0 l1) e h) waits still names
-end_or_long_came answer gf lf g0 l0 g1 l1 before after result done read output end (inr e) r h waits still names =
+end_or_long_came {limit} answer gf lf g0 l0 g1 l1 before after result done read output end (inr e) r h waits still names =
     long_came answer gf lf g0 l0 g1 l1 before after done read output end r
     (subst (Answers before after g0 g1 l0 l1) e h) waits names

@@ -109,41 +109,41 @@ reaches P base rest lines read e near none before line after split holds =
     ]
 
 -- what was read is near to the line that decides, and to the first of which not all was written
-pub record IsNear (answer : Bool → List (List ℕ) → Answer) (lf held0 held : Option (List ℕ)) (read : List ℕ) :
+pub record IsNear (limit : ℕ) (answer : Bool → List (List ℕ) → Answer) (lf held0 held : Option (List ℕ)) (read : List ℕ) :
     Type 0 where
   pub deciding : IfSome lf (λ bytes.
-      ReachesNear (lines_read bytes) read (λ lines. is_long (answer true lines).1 ≡ false))
+      ReachesNear (lines_read limit bytes) read (λ lines. is_long (answer true lines).1 ≡ false))
   pub unwritten : IfSome lf (λ bytes. IfSome held0 (λ was. IfSome held (λ now.
-      ReachesNear (lines_read bytes) read
+      ReachesNear (lines_read limit bytes) read
       (λ lines. length now < length was + length (shown (answer true lines))))))
 
 -- it is near to those of which so many bytes were written
-pub is_near : (answer : Bool → List (List ℕ) → Answer) (lf held0 held : Option (List ℕ)) (base : List (List ℕ))
-    (read gained : List ℕ) (n : ℕ) → LeadsOff lf base → IfSome lf (λ bytes. length read ≤ size_of base + 16384)
-    → Within answer base n → Appends held0 held gained → n ≤ length gained → IsNear answer lf held0 held read
-is_near answer lf held0 held base read gained n ahead near w grew enough = record {
+pub is_near : {limit : ℕ} (answer : Bool → List (List ℕ) → Answer) (lf held0 held : Option (List ℕ)) (base : List (List ℕ))
+    (read gained : List ℕ) (n : ℕ) → LeadsOff limit lf base → IfSome lf (λ bytes. length read ≤ size_of base + 16384)
+    → Within answer base n → Appends held0 held gained → n ≤ length gained → IsNear limit answer lf held0 held read
+is_near {limit} answer lf held0 held base read gained n ahead near w grew enough = record {
   deciding = deciding lf ahead near;
   unwritten = unwritten lf ahead near held0 held grew;
 }
   where
-    deciding : (o : Option (List ℕ)) → LeadsOff o base → IfSome o (λ bytes. length read ≤ size_of base + 16384)
-        → IfSome o (λ bytes. ReachesNear (lines_read bytes) read (λ lines. is_long (answer true lines).1 ≡ false))
+    deciding : (o : Option (List ℕ)) → LeadsOff limit o base → IfSome o (λ bytes. length read ≤ size_of base + 16384)
+        → IfSome o (λ bytes. ReachesNear (lines_read limit bytes) read (λ lines. is_long (answer true lines).1 ≡ false))
     deciding None ahead near = tt
     deciding (Some bytes) ahead near =
-        reaches (λ lines. is_long (answer true lines).1 ≡ false) base ahead.0 (lines_read bytes) read ahead.1 near
+        reaches (λ lines. is_long (answer true lines).1 ≡ false) base ahead.0 (lines_read limit bytes) read ahead.1 near
         (λ before line after e h. let other = w.undecided before line after e in cc)
 
-    unwritten : (o : Option (List ℕ)) → LeadsOff o base → IfSome o (λ bytes. length read ≤ size_of base + 16384)
+    unwritten : (o : Option (List ℕ)) → LeadsOff limit o base → IfSome o (λ bytes. length read ≤ size_of base + 16384)
         → (a b : Option (List ℕ)) → Appends a b gained
         → IfSome o (λ bytes. IfSome a (λ was. IfSome b (λ now.
-        ReachesNear (lines_read bytes) read
+        ReachesNear (lines_read limit bytes) read
         (λ lines. length now < length was + length (shown (answer true lines))))))
     unwritten None ahead near a b grew = tt
     unwritten (Some bytes) ahead near None b grew = tt
     unwritten (Some bytes) ahead near (Some was) None grew = absurd grew
     unwritten (Some bytes) ahead near (Some was) (Some now) grew =
         reaches (λ lines. length now < length was + length (shown (answer true lines)))
-        base ahead.0 (lines_read bytes) read ahead.1 near
+        base ahead.0 (lines_read limit bytes) read ahead.1 near
         (λ before line after e h.
         let old = w.said before line after e in
         let len = ap length grew in

@@ -13,44 +13,44 @@ use Rattle.wio_core.specs.declared.line_reader.LineStop.{LineStop}
 use Rattle.wio_core.specs.declared.line_reader.LineStop.TheVariants as stop
 use Rattle.wio_core.specs.declared.line_reader.NextLine.{NextLine}
 use Rattle.wio_core.proofs.Gathered.{TookFrom-both}
-use Rattle.wlim.specs.declared.reading.TheConstants.{INPUT_LIMIT}
 use Rattle.wlim.specs.Lines.{lines_of, lines_read, taken, is_cut, bytes_of, size_of}
 use Rattle.wlim.specs.Reading.{LackFeeds, IsDivided, IsReadTo, LeadsOff}
 use Rattle.wlim.proofs.Splits.{lines_front, lines_last, length_of, size_both, bytes_both, lack_both, few_lines}
 
 -- the bytes read by now, where the reader goes on: the lines before, and those at which it looks
-pub record ReadBytes (given_first left_first given left : Option (List ℕ)) (after : LinesAhead) (done : List (List ℕ))
+pub record ReadBytes (limit : ℕ) (given_first left_first given left : Option (List ℕ)) (after : LinesAhead) (done : List (List ℕ))
     (bytes read : List ℕ) : Type 0 where
   pub took : TookFrom given_first given left_first left read
-  pub room : after.room ≡ Some (INPUT_LIMIT - length read)
-  pub within : length read ≤ INPUT_LIMIT
+  pub room : after.room ≡ Some (limit - length read)
+  pub within : length read ≤ limit
+  pub small : limit ≤ 4294967296
   pub split : read ≡ bytes_of done ++ bytes
   pub lack : LackFeeds done
   pub near : length read ≤ size_of done + 16384
 
-room_left : (room room_after : Option ℕ) (read more : List ℕ) → room ≡ Some (INPUT_LIMIT - length read)
-    → length read ≤ INPUT_LIMIT
+room_left : {limit : ℕ} (room room_after : Option ℕ) (read more : List ℕ) → room ≡ Some (limit - length read)
+    → length read ≤ limit
     → room_after ≡ option_map (λ n. n - length more) room → IfSome room (λ n. length more ≤ n)
-    → (room_after ≡ Some (INPUT_LIMIT - length (read ++ more))) × (length (read ++ more) ≤ INPUT_LIMIT)
-room_left None room_after read more e within after fits = cc
-room_left (Some n) room_after read more e within after fits =
-    let is : n ≡ INPUT_LIMIT - length read = cc in
+    → (room_after ≡ Some (limit - length (read ++ more))) × (length (read ++ more) ≤ limit)
+room_left {limit} None room_after read more e within after fits = cc
+room_left {limit} (Some n) room_after read more e within after fits =
+    let is : n ≡ limit - length read = cc in
     let len = length-append read more in
-    let count : n - length more ≡ INPUT_LIMIT - length (read ++ more) = omega (arith, len) in
+    let count : n - length more ≡ limit - length (read ++ more) = omega (arith, len) in
     (after ∙ ap (λ k. Some k) count, omega (arith, len))
 
-divided_open : (settled : Option LineStop) (held : List ℕ) (left : Option (List ℕ)) (done : List (List ℕ))
+divided_open : (limit : ℕ) (settled : Option LineStop) (held : List ℕ) (left : Option (List ℕ)) (done : List (List ℕ))
     (read : List ℕ) → settled ≡ None
-    → IsDivided settled held left done read → (read ≡ bytes_of done ++ held) × LackFeeds done
-divided_open settled held left done read e h = subst (λ o. IsDivided o held left done read) e h
+    → IsDivided limit settled held left done read → (read ≡ bytes_of done ++ held) × LackFeeds done
+divided_open limit settled held left done read e h = subst (λ o. IsDivided limit o held left done read) e h
 
-pub went_on : (gf lf g0 l0 g1 l1 : Option (List ℕ)) (before after : LinesAhead) (result : NextLine)
+pub went_on : {limit : ℕ} (gf lf g0 l0 g1 l1 : Option (List ℕ)) (before after : LinesAhead) (result : NextLine)
     (done : List (List ℕ)) (read more : List ℕ)
-    → IsReadTo gf lf g0 l0 before done read → before.settled ≡ None → GoesOn before after g0 g1 l0 l1 result more
-    → ReadBytes gf lf g1 l1 after done (before.held ++ more) (read ++ more)
-went_on gf lf g0 l0 g1 l1 before after result done read more r e goes =
+    → IsReadTo limit gf lf g0 l0 before done read → before.settled ≡ None → GoesOn before after g0 g1 l0 l1 result more
+    → ReadBytes limit gf lf g1 l1 after done (before.held ++ more) (read ++ more)
+went_on {limit} gf lf g0 l0 g1 l1 before after result done read more r e goes =
     let room = room_left before.room after.room read more r.room r.within goes.gathers.room goes.gathers.within in
-    let d = divided_open before.settled before.held l0 done read e r.divided in
+    let d = divided_open limit before.settled before.held l0 done read e r.divided in
     let split : read ++ more ≡ bytes_of done ++ (before.held ++ more) = ap (λ l. l ++ more) d.0
     ∙ append_assoc (bytes_of done) before.held more in
     let near = goes.near in
@@ -58,6 +58,7 @@ went_on gf lf g0 l0 g1 l1 before after result done read more r e goes =
       took = TookFrom-both gf g0 g1 lf l0 l1 read more r.took goes.took;
       room = room.0;
       within = room.1;
+      small = r.small;
       split = split;
       lack = d.1;
       near = omega (
@@ -73,12 +74,12 @@ went_on gf lf g0 l0 g1 l1 before after result done read more r e goes =
 
 -- what the lines of the whole input begin with
 
-taken_split : (read rest : List ℕ) → length read ≤ INPUT_LIMIT
-    → taken (read ++ rest) ≡ read ++ take (INPUT_LIMIT - length read) rest
+taken_split : {limit : ℕ} (read rest : List ℕ) → length read ≤ limit
+    → taken limit (read ++ rest) ≡ read ++ take (limit - length read) rest
 unfolding taken
-taken_split read rest within =
-    let n : INPUT_LIMIT ≡ length read + (INPUT_LIMIT - length read) = omega arith in
-    ap (λ k. take k (read ++ rest)) n ∙ take-append-add read rest (INPUT_LIMIT - length read)
+taken_split {limit} read rest within =
+    let n : limit ≡ length read + (limit - length read) = omega arith in
+    ap (λ k. take k (read ++ rest)) n ∙ take-append-add read rest (limit - length read)
 
 lines_split : (cut : Bool) (done : List (List ℕ)) (bytes read rest : List ℕ) → read ≡ bytes_of done ++ bytes
     → LackFeeds done
@@ -87,46 +88,47 @@ lines_split cut done bytes read rest split lack =
     ap (λ l. lines_of cut (l ++ rest)) split ∙ ap (lines_of cut) (append_assoc (bytes_of done) bytes rest)
     ∙ lines_front cut done (bytes ++ rest) lack
 
-pub input_lines : (done : List (List ℕ)) (bytes read rest all : List ℕ) → all ≡ read ++ rest
-    → length read ≤ INPUT_LIMIT → read ≡ bytes_of done ++ bytes → LackFeeds done
-    → lines_read all ≡ done ++ lines_of (is_cut all) (bytes ++ take (INPUT_LIMIT - length read) rest)
+pub input_lines : {limit : ℕ} (done : List (List ℕ)) (bytes read rest all : List ℕ) → all ≡ read ++ rest
+    → length read ≤ limit → read ≡ bytes_of done ++ bytes → LackFeeds done
+    → lines_read limit all ≡ done ++ lines_of (is_cut limit all) (bytes ++ take (limit - length read) rest)
 unfolding lines_read
-input_lines done bytes read rest all e within split lack =
-    ap (λ l. lines_of (is_cut all) (taken l)) e ∙ ap (lines_of (is_cut all)) (taken_split read rest within)
-    ∙ lines_split (is_cut all) done bytes read (take (INPUT_LIMIT - length read) rest) split lack
+input_lines {limit} done bytes read rest all e within split lack =
+    ap (λ l. lines_of (is_cut limit all) (taken limit l)) e ∙ ap (lines_of (is_cut limit all)) (taken_split read rest within)
+    ∙ lines_split (is_cut limit all) done bytes read (take (limit - length read) rest) split lack
 
 -- the whole input was read
-pub input_ended : (done : List (List ℕ)) (read all : List ℕ) → all ≡ read → length read < INPUT_LIMIT
+pub input_ended : {limit : ℕ} (done : List (List ℕ)) (read all : List ℕ) → all ≡ read → length read < limit
     → lines_of false read ≡ done
-    → (is_cut all ≡ false) × (lines_read all ≡ done)
+    → (is_cut limit all ≡ false) × (lines_read limit all ≡ done)
 unfolding lines_read is_cut taken
-input_ended done read all e short lines =
-    let whole : take INPUT_LIMIT all ≡ read = ap (take INPUT_LIMIT) e ∙ take_all INPUT_LIMIT read (omega arith) in
-    let open_end : eqb (length (take INPUT_LIMIT all)) INPUT_LIMIT ≡ false =
-    rw whole (let ne : length read ≢ INPUT_LIMIT = omega arith in grind (arith, nat_tests)) in
+input_ended {limit} done read all e short lines =
+    let whole : take limit all ≡ read = ap (take limit) e ∙ take_all limit read (omega arith) in
+    let open_end : eqb (length (take limit all)) limit ≡ false =
+    rw whole (let ne : length read ≢ limit = omega arith in grind (arith, nat_tests)) in
     (open_end, rw (open_end, whole) lines)
 
 -- the limit was read
-pub input_cut : (read rest all : List ℕ) → all ≡ read ++ rest → length read ≡ INPUT_LIMIT
-    → (is_cut all ≡ true) × (lines_read all ≡ lines_of true read)
+pub input_cut : {limit : ℕ} (read rest all : List ℕ) → all ≡ read ++ rest → length read ≡ limit
+    → (is_cut limit all ≡ true) × (lines_read limit all ≡ lines_of true read)
 unfolding lines_read is_cut taken
-input_cut read rest all e full =
-    let whole : take INPUT_LIMIT all ≡ read = ap (take INPUT_LIMIT) e ∙ ap (λ n. take n (read ++ rest)) (sym full)
+input_cut {limit} read rest all e full =
+    let whole : take limit all ≡ read = ap (take limit) e ∙ ap (λ n. take n (read ++ rest)) (sym full)
     ∙ take-append_seam read rest in
-    let cut : eqb (length (take INPUT_LIMIT all)) INPUT_LIMIT ≡ true = rw whole (rw full refl) in
+    let cut : eqb (length (take limit all)) limit ≡ true =
+    rw whole (let same : length read ≡ limit = full in grind (arith, nat_tests)) in
     (cut, rw (cut, whole) refl)
 
 -- the lines that were given, at the front of those of the whole input
-pub leads : (gf lf g l : Option (List ℕ)) (reader : LinesAhead) (done : List (List ℕ)) (read : List ℕ)
-    → IsReadTo gf lf g l reader done read → LeadsOff lf done
-leads gf None g l reader done read r = tt
-leads gf (Some all) g None reader done read r = absurd r.took.left
-leads gf (Some all) g (Some rest) reader done read r = by reader.settled r.divided
+pub leads : {limit : ℕ} (gf lf g l : Option (List ℕ)) (reader : LinesAhead) (done : List (List ℕ)) (read : List ℕ)
+    → IsReadTo limit gf lf g l reader done read → LeadsOff limit lf done
+leads {limit} gf None g l reader done read r = tt
+leads {limit} gf (Some all) g None reader done read r = absurd r.took.left
+leads {limit} gf (Some all) g (Some rest) reader done read r = by reader.settled r.divided
   where
-    by : (o : Option LineStop) → IsDivided o reader.held (Some rest) done read → (more : List (List ℕ))
-        × (lines_read all ≡ done ++ more)
+    by : (o : Option LineStop) → IsDivided limit o reader.held (Some rest) done read → (more : List (List ℕ))
+        × (lines_read limit all ≡ done ++ more)
     by None d = (
-      lines_of (is_cut all) (reader.held ++ take (INPUT_LIMIT - length read) rest),
+      lines_of (is_cut limit all) (reader.held ++ take (limit - length read) rest),
       input_lines done reader.held read rest all r.took.left r.within d.0 d.1,
     )
     by (Some stop.End) d = (
@@ -153,10 +155,10 @@ none_came (Some all) (Some rest) l1 read more first next same =
     empty_behind read (x ∷ more) e = absurd (omega arith)
 
 -- a line with its line feed
-pub whole_line : (gf lf g l : Option (List ℕ)) (after : LinesAhead) (done : List (List ℕ)) (raw bytes read : List ℕ)
-    → ReadBytes gf lf g l after done bytes read → WholeLine bytes raw after
-    → IsReadTo gf lf g l after (done ++ raw ∷ []) read
-whole_line gf lf g l after done raw bytes read b w =
+pub whole_line : {limit : ℕ} (gf lf g l : Option (List ℕ)) (after : LinesAhead) (done : List (List ℕ)) (raw bytes read : List ℕ)
+    → ReadBytes limit gf lf g l after done bytes read → WholeLine bytes raw after
+    → IsReadTo limit gf lf g l after (done ++ raw ∷ []) read
+whole_line {limit} gf lf g l after done raw bytes read b w =
     let more : bytes_of (done ++ raw ∷ []) ≡ bytes_of done ++ (raw ++ 10 ∷ []) = bytes_both done (raw ∷ []) in
     let split : read ≡ bytes_of (done ++ raw ∷ []) ++ after.held =
     b.split ∙ ap (λ t. bytes_of done ++ t) (w.begins.split ∙ sym (append_assoc raw (10 ∷ []) after.held))
@@ -165,20 +167,21 @@ whole_line gf lf g l after done raw bytes read b w =
       took = b.took;
       room = b.room;
       within = b.within;
-      divided = subst (λ o. IsDivided o after.held l (done ++ raw ∷ []) read) (sym w.goes_on)
+      small = b.small;
+      divided = subst (λ o. IsDivided limit o after.held l (done ++ raw ∷ []) read) (sym w.goes_on)
           (split, lack_both done (raw ∷ []) b.lack (w.begins.lacks, tt));
     }
 
 -- the last line, without one
-pub last_line_read : (gf lf g l : Option (List ℕ)) (after : LinesAhead) (done : List (List ℕ)) (raw bytes read : List ℕ)
-    → ReadBytes gf lf g l after done bytes read → LastLine bytes raw after l
-    → IsReadTo gf lf g l after (done ++ raw ∷ []) read
-last_line_read gf lf g l after done raw bytes read b w =
+pub last_line_read : {limit : ℕ} (gf lf g l : Option (List ℕ)) (after : LinesAhead) (done : List (List ℕ)) (raw bytes read : List ℕ)
+    → ReadBytes limit gf lf g l after done bytes read → LastLine bytes raw after l
+    → IsReadTo limit gf lf g l after (done ++ raw ∷ []) read
+last_line_read {limit} gf lf g l after done raw bytes read b w =
     let lacks : LacksFeed raw = subst LacksFeed w.all w.cause.0.lacks in
     let split : read ≡ bytes_of done ++ raw = b.split ∙ ap (λ t. bytes_of done ++ t) w.all in
     let lines : lines_of false read ≡ done ++ raw ∷ [] =
     ap (lines_of false) split ∙ lines_front false done raw b.lack ∙ ap (λ t. done ++ t) (lines_last raw lacks w.some) in
-    let other : length read ≢ INPUT_LIMIT = λ full. w.cause.2 (b.room ∙ ap (λ n. Some n) (omega arith)) in
+    let other : length read ≢ limit = λ full. w.cause.2 (b.room ∙ ap (λ n. Some n) (omega arith)) in
     let within = b.within in
     let some = w.some in
     let long : length read ≡ size_of done + length raw =
@@ -189,18 +192,20 @@ last_line_read gf lf g l after done raw bytes read b w =
       took = b.took;
       room = b.room;
       within = b.within;
-      divided = subst (λ o. IsDivided o after.held l (done ++ raw ∷ []) read) (sym w.settled)
+      small = b.small;
+      divided = subst (λ o. IsDivided limit o after.held l (done ++ raw ∷ []) read) (sym w.settled)
           (w.cause.1, omega arith, lines, omega (arith, size_both done (raw ∷ [])), omega arith);
     }
 
 -- nothing was read yet
-pub first_read : (given left : Option (List ℕ)) (reader : LinesAhead)
-    → reader ≡ record { held = []; room = Some INPUT_LIMIT; settled = None }
-    → IsReadTo given left given left reader [] []
-first_read given left reader e = subst (λ r. IsReadTo given left given left r [] []) (sym e) (record {
+pub first_read : {limit : ℕ} (given left : Option (List ℕ)) (reader : LinesAhead)
+    → limit ≤ 4294967296 → reader ≡ record { held = []; room = Some limit; settled = None }
+    → IsReadTo limit given left given left reader [] []
+first_read {limit} given left reader small e = subst (λ r. IsReadTo limit given left given left r [] []) (sym e) (record {
   took = record { given = Appends-nil given; left = consumes_none left };
-  room = refl;
+  room = ap (λ n. Some n) (omega arith);
   within = omega arith;
+  small = small;
   divided = (refl, tt);
 })
   where

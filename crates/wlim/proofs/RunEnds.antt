@@ -41,11 +41,11 @@ no_read_fault s short = cut_short (λ x. x ≡ status.ReadFault → ⊥) s short
 no_bad_words : (s : Status) → IsCutShort s → s ≡ status.BadWords → ⊥
 no_bad_words s short = cut_short (λ x. x ≡ status.BadWords → ⊥) s short (λ e. cc e) (λ e. cc e)
 
-ran_short : (answer : Bool → List (List ℕ) → Answer) (lf held0 held : Option (List ℕ)) (reads reads' writes writes' : ℕ)
-    (s : Status) → IsCutShort s → IfSome lf (λ bytes. GrowsByFront held0 held (answer_read answer bytes).0)
+ran_short : (limit : ℕ) (answer : Bool → List (List ℕ) → Answer) (lf held0 held : Option (List ℕ)) (reads reads' writes writes' : ℕ)
+    (s : Status) → IsCutShort s → IfSome lf (λ bytes. GrowsByFront held0 held (answer_read limit answer bytes).0)
     → (s ≡ status.WriteFault → Rose writes writes')
-    → Ran (answer_read answer) lf reads reads' held0 held writes writes' s
-ran_short answer lf held0 held reads reads' writes writes' s short front cause = record {
+    → Ran (answer_read limit answer) lf reads reads' held0 held writes writes' s
+ran_short limit answer lf held0 held reads reads' writes writes' s short front cause = record {
   front = front;
   decided = λ h. absurd (undecided s short h);
   read_fault = λ e. absurd (no_read_fault s short e);
@@ -53,9 +53,9 @@ ran_short answer lf held0 held reads reads' writes writes' s short front cause =
   good_words = λ e. no_bad_words s short e;
 }
 
-law_short : (answer : Bool → List (List ℕ) → Answer) (lf l held0 held : Option (List ℕ)) (s : Status) (read : List ℕ)
-    → IsCutShort s → IsNear answer lf held0 held read → LineByLine answer lf l held0 held s read
-law_short answer lf l held0 held s read short near = record {
+law_short : {limit : ℕ} (answer : Bool → List (List ℕ) → Answer) (lf l held0 held : Option (List ℕ)) (s : Status) (read : List ℕ)
+    → IsCutShort s → IsNear limit answer lf held0 held read → LineByLine limit answer lf l held0 held s read
+law_short {limit} answer lf l held0 held s read short near = record {
   read_failed = λ e. absurd (no_read_fault s short e);
   decided = λ h. absurd (undecided s short h);
   near_deciding = near.deciding;
@@ -68,16 +68,16 @@ take_front : (a b c : List ℕ) (n : ℕ) → n ≤ length b → take (length a 
 take_front a b c n le =
     ap (take (length a + n)) (append_assoc a b c) ∙ take-append-add a (b ++ c) n ∙ ap (λ t. a ++ t) (rw take-append-le)
 
-front_written : (answer : Bool → List (List ℕ) → Answer) (lf held0 held held' : Option (List ℕ)) (done : List (List ℕ))
+front_written : (limit : ℕ) (answer : Bool → List (List ℕ) → Answer) (lf held0 held held' : Option (List ℕ)) (done : List (List ℕ))
     (written ready : List ℕ) (n : ℕ) → n ≤ length ready → Appends held0 held written
-    → Appends held held' (take n ready) → Follows answer done (written ++ ready) → LeadsOff lf done
-    → IfSome lf (λ bytes. GrowsByFront held0 held' (answer_read answer bytes).0)
-front_written answer None held0 held held' done written ready n le wrote part follows ahead = tt
-front_written answer (Some bytes) held0 held held' done written ready n le wrote part follows ahead =
-    let b = follows.begins (is_cut bytes) ahead.0 in
-    let text : (answer_read answer bytes).0 ≡ (written ++ ready) ++ b.0.0 =
-    ap (λ a. a.0) (ap (answer (is_cut bytes)) ahead.1 ∙ b.1) in
-    let front : take (length written + n) (answer_read answer bytes).0 ≡ written ++ take n ready =
+    → Appends held held' (take n ready) → Follows answer done (written ++ ready) → LeadsOff limit lf done
+    → IfSome lf (λ bytes. GrowsByFront held0 held' (answer_read limit answer bytes).0)
+front_written limit answer None held0 held held' done written ready n le wrote part follows ahead = tt
+front_written limit answer (Some bytes) held0 held held' done written ready n le wrote part follows ahead =
+    let b = follows.begins (is_cut limit bytes) ahead.0 in
+    let text : (answer_read limit answer bytes).0 ≡ (written ++ ready) ++ b.0.0 =
+    ap (λ a. a.0) (ap (answer (is_cut limit bytes)) ahead.1 ∙ b.1) in
+    let front : take (length written + n) (answer_read limit answer bytes).0 ≡ written ++ take n ready =
     ap (take (length written + n)) text ∙ take_front written ready b.0.0 n le in
     let len = ap length text in (
       length written + n,
@@ -87,23 +87,23 @@ front_written answer (Some bytes) held0 held held' done written ready n le wrote
 
 -- the run ends where what is ready is cut short
 
-pub short_ran : {answer : Bool → List (List ℕ) → Answer} {stands : List (List ℕ) → List ℕ → Type 0}
+pub short_ran : {limit : ℕ} {answer : Bool → List (List ℕ) → Answer} {stands : List (List ℕ) → List ℕ → Type 0}
     {holds : List ℕ → Type 0} {gf lf g l held0 held : Option (List ℕ)} {reader : LinesAhead}
     (held' : Option (List ℕ)) (reads reads' writes writes' : ℕ) (s : Status)
-    → (at : Going answer stands holds gf lf g l held0 held reader) → WritesPart held held' at.ready s
+    → (at : Going limit answer stands holds gf lf g l held0 held reader) → WritesPart held held' at.ready s
     → (s ≡ status.WriteFault → Rose writes writes')
-    → Ran (answer_read answer) lf reads reads' held0 held' writes writes' s
-short_ran {answer} {lf} {held0} {held} held' reads reads' writes writes' s at part cause =
-    ran_short answer lf held0 held' reads reads' writes writes' s part.3
-    (front_written answer lf held0 held held' at.done at.written at.ready part.0 part.1 at.gained part.2 at.follows
+    → Ran (answer_read limit answer) lf reads reads' held0 held' writes writes' s
+short_ran {limit} {answer} {lf} {held0} {held} held' reads reads' writes writes' s at part cause =
+    ran_short limit answer lf held0 held' reads reads' writes writes' s part.3
+    (front_written limit answer lf held0 held held' at.done at.written at.ready part.0 part.1 at.gained part.2 at.follows
     (leads_done at)) cause
 
-pub short_law : {answer : Bool → List (List ℕ) → Answer} {stands : List (List ℕ) → List ℕ → Type 0}
+pub short_law : {limit : ℕ} {answer : Bool → List (List ℕ) → Answer} {stands : List (List ℕ) → List ℕ → Type 0}
     {holds : List ℕ → Type 0} {gf lf g l held0 held : Option (List ℕ)} {reader : LinesAhead}
     (held' : Option (List ℕ)) (s : Status)
-    → (at : Going answer stands holds gf lf g l held0 held reader) → WritesPart held held' at.ready s
-    → LineByLine answer lf l held0 held' s at.read
-short_law {answer} {lf} {l} {held0} {held} held' s at part =
+    → (at : Going limit answer stands holds gf lf g l held0 held reader) → WritesPart held held' at.ready s
+    → LineByLine limit answer lf l held0 held' s at.read
+short_law {limit} {answer} {lf} {l} {held0} {held} held' s at part =
     law_short answer lf l held0 held' s at.read part.3
     (is_near answer lf held0 held' at.first at.read (at.written ++ take part.0 at.ready) (length at.written)
     (leads_first at) at.near at.first_within
@@ -112,14 +112,14 @@ short_law {answer} {lf} {l} {held0} {held} held' s at part =
 
 -- it ends where the answer is told: its output is what was written and what is still to be written
 
-front_told : (answer : Bool → List (List ℕ) → Answer) (lf held0 held held' : Option (List ℕ)) (written : List ℕ)
+front_told : (limit : ℕ) (answer : Bool → List (List ℕ) → Answer) (lf held0 held held' : Option (List ℕ)) (written : List ℕ)
     (end : Answer) (n : ℕ) → n ≤ length end.0 → Appends held0 held written → Appends held held' (take n end.0)
-    → IfSome lf (λ bytes. answer_read answer bytes ≡ with_front written end)
-    → IfSome lf (λ bytes. GrowsByFront held0 held' (answer_read answer bytes).0)
-front_told answer None held0 held held' written end n le wrote part is = tt
-front_told answer (Some bytes) held0 held held' written end n le wrote part is =
-    let text : (answer_read answer bytes).0 ≡ written ++ end.0 = ap (λ a. a.0) is in
-    let front : take (length written + n) (answer_read answer bytes).0 ≡ written ++ take n end.0 =
+    → IfSome lf (λ bytes. answer_read limit answer bytes ≡ with_front written end)
+    → IfSome lf (λ bytes. GrowsByFront held0 held' (answer_read limit answer bytes).0)
+front_told limit answer None held0 held held' written end n le wrote part is = tt
+front_told limit answer (Some bytes) held0 held held' written end n le wrote part is =
+    let text : (answer_read limit answer bytes).0 ≡ written ++ end.0 = ap (λ a. a.0) is in
+    let front : take (length written + n) (answer_read limit answer bytes).0 ≡ written ++ take n end.0 =
     ap (take (length written + n)) text ∙ take-append-add written end.0 n in
     let len = ap length text in (
       length written + n,
@@ -127,34 +127,34 @@ front_told answer (Some bytes) held0 held held' written end n le wrote part is =
       subst (Appends held0 held') (sym front) (Appends-trans held0 held held' written (take n end.0) wrote part),
     )
 
-decided_told : (answer : Bool → List (List ℕ) → Answer) (lf held0 held : Option (List ℕ)) (whole : Answer)
+decided_told : (limit : ℕ) (answer : Bool → List (List ℕ) → Answer) (lf held0 held : Option (List ℕ)) (whole : Answer)
     (result : Status) → result ≡ whole.1 → Appends held0 held whole.0
-    → IfSome lf (λ bytes. answer_read answer bytes ≡ whole)
-    → IfSome lf (λ bytes. ((answer_read answer bytes).1 ≡ result) × Appends held0 held (answer_read answer bytes).0)
-decided_told answer None held0 held whole result e wrote is = tt
-decided_told answer (Some bytes) held0 held whole result e wrote is =
+    → IfSome lf (λ bytes. answer_read limit answer bytes ≡ whole)
+    → IfSome lf (λ bytes. ((answer_read limit answer bytes).1 ≡ result) × Appends held0 held (answer_read limit answer bytes).0)
+decided_told limit answer None held0 held whole result e wrote is = tt
+decided_told limit answer (Some bytes) held0 held whole result e wrote is =
     (ap (λ a. a.1) is ∙ sym e, subst (Appends held0 held) (sym (ap (λ a. a.0) is)) wrote)
 
-ran_end : (answer : Bool → List (List ℕ) → Answer) (lf held0 held held' : Option (List ℕ))
+ran_end : (limit : ℕ) (answer : Bool → List (List ℕ) → Answer) (lf held0 held held' : Option (List ℕ))
     (reads reads' writes writes' : ℕ) (written : List ℕ) (end : Answer) (result : Status)
     → Appends held0 held written → WritesEnd held held' end result
-    → IfSome lf (λ bytes. answer_read answer bytes ≡ with_front written end)
+    → IfSome lf (λ bytes. answer_read limit answer bytes ≡ with_front written end)
     → (result ≡ status.WriteFault → Rose writes writes')
-    → Ran (answer_read answer) lf reads reads' held0 held' writes writes' result
-ran_end answer lf held0 held held' reads reads' writes writes' written end result before (inl wrote) is cause =
+    → Ran (answer_read limit answer) lf reads reads' held0 held' writes writes' result
+ran_end limit answer lf held0 held held' reads reads' writes writes' written end result before (inl wrote) is cause =
     let both = Appends-trans held0 held held' written end.0 before wrote.0 in
     let all : take (length end.0) end.0 ≡ end.0 = take_all (length end.0) end.0 (omega arith) in
     let rest = subst (Appends held held') (sym all) wrote.0 in
     record {
-      front = front_told answer lf held0 held held' written end (length end.0) (omega arith) before rest is;
-      decided = λ h. decided_told answer lf held0 held' (with_front written end) result wrote.1 both is;
+      front = front_told limit answer lf held0 held held' written end (length end.0) (omega arith) before rest is;
+      decided = λ h. decided_told limit answer lf held0 held' (with_front written end) result wrote.1 both is;
       read_fault = λ e. absurd (subst IsDecided e wrote.2);
       write_fault = λ e. absurd (subst IsDecided e wrote.2);
       good_words = λ e. subst IsDecided e wrote.2;
     }
-ran_end answer lf held0 held held' reads reads' writes writes' written end result before (inr part) is cause =
-    ran_short answer lf held0 held' reads reads' writes writes' result part.3
-    (front_told answer lf held0 held held' written end part.0 part.1 before part.2 is) cause
+ran_end limit answer lf held0 held held' reads reads' writes writes' written end result before (inr part) is cause =
+    ran_short limit answer lf held0 held' reads reads' writes writes' result part.3
+    (front_told limit answer lf held0 held held' written end part.0 part.1 before part.2 is) cause
 
 -- by the lines of the bytes read
 decided_by : (answer : Bool → List (List ℕ) → Answer) (cut : Bool) (held0 held : Option (List ℕ)) (read : List ℕ)
@@ -163,14 +163,14 @@ decided_by : (answer : Bool → List (List ℕ) → Answer) (cut : Bool) (held0 
 decided_by answer cut held0 held read whole result is e wrote =
     (ap (λ a. a.1) is ∙ sym e, subst (Appends held0 held) (sym (ap (λ a. a.0) is)) wrote)
 
-law_end : (answer : Bool → List (List ℕ) → Answer) (lf l held0 held held' : Option (List ℕ)) (read written : List ℕ)
+law_end : {limit : ℕ} (answer : Bool → List (List ℕ) → Answer) (lf l held0 held held' : Option (List ℕ)) (read written : List ℕ)
     (end : Answer) (result : Status) → Appends held0 held written → WritesEnd held held' end result
     → (answer true (lines_of true read) ≡ with_front written end)
     ⊎ (IsAtEnd l × (answer false (lines_of false read) ≡ with_front written end))
     → ((gained : List ℕ) → Appends held0 held' gained → length written ≤ length gained
-    → IsNear answer lf held0 held' read)
-    → LineByLine answer lf l held0 held' result read
-law_end answer lf l held0 held held' read written end result before (inl wrote) early near =
+    → IsNear limit answer lf held0 held' read)
+    → LineByLine limit answer lf l held0 held' result read
+law_end {limit} answer lf l held0 held held' read written end result before (inl wrote) early near =
     let both = Appends-trans held0 held held' written end.0 before wrote.0 in
     let here = near (written ++ end.0) both (omega (arith, length-append written end.0)) in
     let by = λ (cut : Bool) (is : answer cut (lines_of cut read) ≡ with_front written end).
@@ -181,20 +181,20 @@ law_end answer lf l held0 held held' read written end result before (inl wrote) 
       near_deciding = here.deciding;
       near_unwritten = here.unwritten;
     }
-law_end answer lf l held0 held held' read written end result before (inr part) early near =
+law_end {limit} answer lf l held0 held held' read written end result before (inr part) early near =
     law_short answer lf l held0 held' result read part.3
     (near (written ++ take part.0 end.0)
     (Appends-trans held0 held held' written (take part.0 end.0) before part.2)
     (omega (arith, length-append written (take part.0 end.0))))
 
 -- the lines near to which it was read
-near_first : {answer : Bool → List (List ℕ) → Answer} {stands : List (List ℕ) → List ℕ → Type 0}
+near_first : {limit : ℕ} {answer : Bool → List (List ℕ) → Answer} {stands : List (List ℕ) → List ℕ → Type 0}
     {holds : List ℕ → Type 0} {gf lf g l held0 held : Option (List ℕ)} {reader : LinesAhead} (held' : Option (List ℕ))
-    → (at : Going answer stands holds gf lf g l held0 held reader) (read : List ℕ)
+    → (at : Going limit answer stands holds gf lf g l held0 held reader) (read : List ℕ)
     → IfSome lf (λ bytes. length read ≤ size_of at.first + 16384)
     → (gained : List ℕ) → Appends held0 held' gained → length at.written ≤ length gained
-    → IsNear answer lf held0 held' read
-near_first {answer} {lf} {held0} held' at read near gained grew enough =
+    → IsNear limit answer lf held0 held' read
+near_first {limit} {answer} {lf} {held0} held' at read near gained grew enough =
     is_near answer lf held0 held' at.first read gained (length at.written) (leads_first at) near at.first_within grew
     enough
 
@@ -204,36 +204,36 @@ whole_text written ready more end =
     ap (λ t. (t, end.1))
     (ap (λ t. t ++ end.0) (append_assoc written ready more) ∙ append_assoc written (ready ++ more) end.0)
 
-pub told_ran : {answer : Bool → List (List ℕ) → Answer} {stands : List (List ℕ) → List ℕ → Type 0}
+pub told_ran : {limit : ℕ} {answer : Bool → List (List ℕ) → Answer} {stands : List (List ℕ) → List ℕ → Type 0}
     {holds : List ℕ → Type 0} {gf lf g l held0 held : Option (List ℕ)} {reader : LinesAhead}
     (stands_after : List (List ℕ) → List ℕ → Type 0) (holds_after : List ℕ → Type 0)
     (g' l' held' : Option (List ℕ)) (after : LinesAhead) (reads reads' writes writes' : ℕ) (end : LastLine)
     (result : Status)
-    → (r : Ready answer stands holds gf lf g l held0 held reader)
-    → (come : ComesTo answer stands_after holds_after gf lf g' l' reader after
+    → (r : Ready limit answer stands holds gf lf g l held0 held reader)
+    → (come : ComesTo limit answer stands_after holds_after gf lf g' l' reader after
     r.going.done r.going.read (r.going.written ++ r.going.ready) r.going.ready (Ok (Some end)))
     → WritesEnd held held' (with_front (r.going.ready ++ come.0) (ending end)) result
     → (result ≡ status.WriteFault → Rose writes writes')
-    → Ran (answer_read answer) lf reads reads' held0 held' writes writes' result
-told_ran {answer} {lf} {held0} {held} stands_after holds_after g' l' held' after reads reads' writes writes' end result
+    → Ran (answer_read limit answer) lf reads reads' held0 held' writes writes' result
+told_ran {limit} {answer} {lf} {held0} {held} stands_after holds_after g' l' held' after reads reads' writes writes' end result
     r come wrote cause =
     let at = r.going in
     let rest : Answer = with_front (at.ready ++ come.0) (ending end) in
-    ran_end answer lf held0 held held' reads reads' writes writes' at.written rest result at.gained wrote
-    (subst (λ a. IfSome lf (λ bytes. answer_read answer bytes ≡ a))
+    ran_end limit answer lf held0 held held' reads reads' writes writes' at.written rest result at.gained wrote
+    (subst (λ a. IfSome lf (λ bytes. answer_read limit answer bytes ≡ a))
     (whole_text at.written at.ready come.0 (ending end)) come.4.all)
     cause
 
-pub told_law : {answer : Bool → List (List ℕ) → Answer} {stands : List (List ℕ) → List ℕ → Type 0}
+pub told_law : {limit : ℕ} {answer : Bool → List (List ℕ) → Answer} {stands : List (List ℕ) → List ℕ → Type 0}
     {holds : List ℕ → Type 0} {gf lf g l held0 held : Option (List ℕ)} {reader : LinesAhead}
     (stands_after : List (List ℕ) → List ℕ → Type 0) (holds_after : List ℕ → Type 0)
     (g' l' held' : Option (List ℕ)) (after : LinesAhead) (end : LastLine) (result : Status)
-    → (r : Ready answer stands holds gf lf g l held0 held reader)
-    → (come : ComesTo answer stands_after holds_after gf lf g' l' reader after
+    → (r : Ready limit answer stands holds gf lf g l held0 held reader)
+    → (come : ComesTo limit answer stands_after holds_after gf lf g' l' reader after
     r.going.done r.going.read (r.going.written ++ r.going.ready) r.going.ready (Ok (Some end)))
     → WritesEnd held held' (with_front (r.going.ready ++ come.0) (ending end)) result
-    → (read : List ℕ) × TookFrom gf g' lf l' read × LineByLine answer lf l' held0 held' result read
-told_law {answer} {lf} {held0} {held} stands_after holds_after g' l' held' after end result r come wrote =
+    → (read : List ℕ) × TookFrom gf g' lf l' read × LineByLine limit answer lf l' held0 held' result read
+told_law {limit} {answer} {lf} {held0} {held} stands_after holds_after g' l' held' after end result r come wrote =
     let at = r.going in
     let rest : Answer = with_front (at.ready ++ come.0) (ending end) in
     let text = whole_text at.written at.ready come.0 (ending end) in (
@@ -248,16 +248,16 @@ told_law {answer} {lf} {held0} {held} stands_after holds_after g' l' held' after
 -- it ends where a read failed, or there was no memory
 
 -- what happens there, by the status: nothing else is an error of the next line
-by_error : (answer : Bool → List (List ℕ) → Answer) (stands : List (List ℕ) → List ℕ → Type 0)
+by_error : (limit : ℕ) (answer : Bool → List (List ℕ) → Answer) (stands : List (List ℕ) → List ℕ → Type 0)
     (holds : List ℕ → Type 0) (gf lf g l : Option (List ℕ)) (before after : LinesAhead) (done : List (List ℕ))
     (read output gathered : List ℕ) (P : Status → Type 0) (s : Status)
-    → ComesTo answer stands holds gf lf g l before after done read output gathered (Err s)
-    → (ComesTo answer stands holds gf lf g l before after done read output gathered (Err status.ReadFault)
+    → ComesTo limit answer stands holds gf lf g l before after done read output gathered (Err s)
+    → (ComesTo limit answer stands holds gf lf g l before after done read output gathered (Err status.ReadFault)
     → P status.ReadFault)
     → P status.NoMemory → P s
-by_error answer stands holds gf lf g l before after done read output gathered P s come fault memory = by s come
+by_error limit answer stands holds gf lf g l before after done read output gathered P s come fault memory = by s come
   where
-    by : (s : Status) → ComesTo answer stands holds gf lf g l before after done read output gathered (Err s) → P s
+    by : (s : Status) → ComesTo limit answer stands holds gf lf g l before after done read output gathered (Err s) → P s
     by status.ReadFault come = fault come
     by status.Ok come = subst P (sym come) memory
     by status.BadWords come = subst P (sym come) memory
@@ -267,21 +267,21 @@ by_error answer stands holds gf lf g l before after done read output gathered P 
     by status.JournalFull come = subst P (sym come) memory
     by status.InputLong come = subst P (sym come) memory
 
-pub failed_ran : {answer : Bool → List (List ℕ) → Answer} {stands : List (List ℕ) → List ℕ → Type 0}
+pub failed_ran : {limit : ℕ} {answer : Bool → List (List ℕ) → Answer} {stands : List (List ℕ) → List ℕ → Type 0}
     {holds : List ℕ → Type 0} {gf lf g l held0 held : Option (List ℕ)} {reader : LinesAhead}
     (stands_after : List (List ℕ) → List ℕ → Type 0) (holds_after : List ℕ → Type 0)
     (g' l' : Option (List ℕ)) (after : LinesAhead) (reads reads' writes writes' : ℕ) (s : Status)
-    → (r : Ready answer stands holds gf lf g l held0 held reader)
-    → ComesTo answer stands_after holds_after gf lf g' l' reader after
+    → (r : Ready limit answer stands holds gf lf g l held0 held reader)
+    → ComesTo limit answer stands_after holds_after gf lf g' l' reader after
     r.going.done r.going.read (r.going.written ++ r.going.ready) r.going.ready (Err s)
     → (s ≡ status.ReadFault → Rose reads reads')
-    → Ran (answer_read answer) lf reads reads' held0 held writes writes' s
-failed_ran {answer} {gf} {lf} {held0} {held} {reader} stands_after holds_after g' l' after reads reads' writes writes' s
+    → Ran (answer_read limit answer) lf reads reads' held0 held writes writes' s
+failed_ran {limit} {answer} {gf} {lf} {held0} {held} {reader} stands_after holds_after g' l' after reads reads' writes writes' s
     r come rose =
-    by_error answer stands_after holds_after gf lf g' l' reader after r.going.done r.going.read
+    by_error limit answer stands_after holds_after gf lf g' l' reader after r.going.done r.going.read
     (r.going.written ++ r.going.ready) r.going.ready
     (λ x. (x ≡ status.ReadFault → Rose reads reads')
-    → Ran (answer_read answer) lf reads reads' held0 held writes writes' x)
+    → Ran (answer_read limit answer) lf reads reads' held0 held writes writes' x)
     s come
     (λ come rose. record {
       front = front;
@@ -290,19 +290,19 @@ failed_ran {answer} {gf} {lf} {held0} {held} {reader} stands_after holds_after g
       write_fault = λ e. absurd (cc e);
       good_words = λ e. cc e;
     })
-    (λ rose. ran_short answer lf held0 held reads reads' writes writes' status.NoMemory (inr refl) front
+    (λ rose. ran_short limit answer lf held0 held reads reads' writes writes' status.NoMemory (inr refl) front
     (λ e. absurd (cc e)))
     rose
   where
-    front : IfSome lf (λ bytes. GrowsByFront held0 held (answer_read answer bytes).0)
+    front : IfSome lf (λ bytes. GrowsByFront held0 held (answer_read limit answer bytes).0)
     front =
-        front_written answer lf held0 held held r.going.done r.going.written r.going.ready 0 (omega arith)
+        front_written limit answer lf held0 held held r.going.done r.going.written r.going.ready 0 (omega arith)
         r.going.gained (Appends-nil held) r.going.follows (leads_done r.going)
 
-fault_law : (answer : Bool → List (List ℕ) → Answer) (lf l held0 held : Option (List ℕ)) (done : List (List ℕ))
+fault_law : {limit : ℕ} (answer : Bool → List (List ℕ) → Answer) (lf l held0 held : Option (List ℕ)) (done : List (List ℕ))
     (read output : List ℕ) → lines_of true read ≡ done → Follows answer done output → Appends held0 held output
-    → IsNear answer lf held0 held read → LineByLine answer lf l held0 held status.ReadFault read
-fault_law answer lf l held0 held done read output lines follows wrote near =
+    → IsNear limit answer lf held0 held read → LineByLine limit answer lf l held0 held status.ReadFault read
+fault_law {limit} answer lf l held0 held done read output lines follows wrote near =
     let is : answer true (lines_of true read) ≡ with_front output (ending last.Long) =
     ap (answer true) lines ∙ follows.undecided in
     record {
@@ -314,29 +314,29 @@ fault_law answer lf l held0 held done read output lines follows wrote near =
     }
 
 -- what was ready had been written
-nothing_ready : {answer : Bool → List (List ℕ) → Answer} {stands : List (List ℕ) → List ℕ → Type 0}
+nothing_ready : {limit : ℕ} {answer : Bool → List (List ℕ) → Answer} {stands : List (List ℕ) → List ℕ → Type 0}
     {holds : List ℕ → Type 0} {gf lf g l held0 held : Option (List ℕ)} {reader : LinesAhead}
-    → (r : Ready answer stands holds gf lf g l held0 held reader) → IsOpen reader.held
+    → (r : Ready limit answer stands holds gf lf g l held0 held reader) → IsOpen reader.held
     → Appends held0 held (r.going.written ++ r.going.ready)
-nothing_ready {held0} {held} r open_line =
+nothing_ready {limit} {held0} {held} r open_line =
     let at = r.going in
     let none : at.ready ≡ [] = elim r.waits [ inl n ↦ n.0 | inr h ↦ absurd (h open_line) ] in
     subst (Appends held0 held) (sym (ap (λ t. at.written ++ t) none ∙ append-nil at.written)) at.gained
 
-pub failed_law : {answer : Bool → List (List ℕ) → Answer} {stands : List (List ℕ) → List ℕ → Type 0}
+pub failed_law : {limit : ℕ} {answer : Bool → List (List ℕ) → Answer} {stands : List (List ℕ) → List ℕ → Type 0}
     {holds : List ℕ → Type 0} {gf lf g l held0 held : Option (List ℕ)} {reader : LinesAhead}
     (stands_after : List (List ℕ) → List ℕ → Type 0) (holds_after : List ℕ → Type 0)
     (g' l' : Option (List ℕ)) (after : LinesAhead) (s : Status)
-    → (r : Ready answer stands holds gf lf g l held0 held reader)
-    → ComesTo answer stands_after holds_after gf lf g' l' reader after
+    → (r : Ready limit answer stands holds gf lf g l held0 held reader)
+    → ComesTo limit answer stands_after holds_after gf lf g' l' reader after
     r.going.done r.going.read (r.going.written ++ r.going.ready) r.going.ready (Err s)
     → s ≢ status.NoMemory
-    → (read : List ℕ) × TookFrom gf g' lf l' read × LineByLine answer lf l' held0 held s read
-failed_law {answer} {gf} {lf} {held0} {held} {reader} stands_after holds_after g' l' after s r come other =
+    → (read : List ℕ) × TookFrom gf g' lf l' read × LineByLine limit answer lf l' held0 held s read
+failed_law {limit} {answer} {gf} {lf} {held0} {held} {reader} stands_after holds_after g' l' after s r come other =
     let at = r.going in
-    by_error answer stands_after holds_after gf lf g' l' reader after at.done at.read (at.written ++ at.ready) at.ready
+    by_error limit answer stands_after holds_after gf lf g' l' reader after at.done at.read (at.written ++ at.ready) at.ready
     (λ x. x ≢ status.NoMemory
-    → (read : List ℕ) × TookFrom gf g' lf l' read × LineByLine answer lf l' held0 held x read)
+    → (read : List ℕ) × TookFrom gf g' lf l' read × LineByLine limit answer lf l' held0 held x read)
     s come
     (λ come other. (
       come.0,
@@ -350,12 +350,12 @@ failed_law {answer} {gf} {lf} {held0} {held} {reader} stands_after holds_after g
 
 -- nothing was written
 
-pub none_ran : (answer : Bool → List (List ℕ) → Answer) (lf held0 : Option (List ℕ)) (reads reads' writes writes' : ℕ)
-    → Ran (answer_read answer) lf reads reads' held0 held0 writes writes' status.NoMemory
-none_ran answer lf held0 reads reads' writes writes' =
-    ran_short answer lf held0 held0 reads reads' writes writes' status.NoMemory (inr refl) (front lf)
+pub none_ran : (limit : ℕ) (answer : Bool → List (List ℕ) → Answer) (lf held0 : Option (List ℕ)) (reads reads' writes writes' : ℕ)
+    → Ran (answer_read limit answer) lf reads reads' held0 held0 writes writes' status.NoMemory
+none_ran limit answer lf held0 reads reads' writes writes' =
+    ran_short limit answer lf held0 held0 reads reads' writes writes' status.NoMemory (inr refl) (front lf)
     (λ e. absurd (cc e))
   where
-    front : (o : Option (List ℕ)) → IfSome o (λ bytes. GrowsByFront held0 held0 (answer_read answer bytes).0)
+    front : (o : Option (List ℕ)) → IfSome o (λ bytes. GrowsByFront held0 held0 (answer_read limit answer bytes).0)
     front None = tt
     front (Some bytes) = (0, omega arith, Appends-nil held0)

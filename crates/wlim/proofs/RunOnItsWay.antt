@@ -18,7 +18,7 @@ use Rattle.wlim.proofs.LinesWithin.{Within, within_none, within_more}
 
 -- A run at the head of its loop. These lines were played; the output of the first of them was written, and that of
 -- the others is ready.
-pub record Going
+pub record Going (limit : ℕ)
     (answer : Bool → List (List ℕ) → Answer)
     (stands : List (List ℕ) → List ℕ → Type 0)
     (holds : List ℕ → Type 0)
@@ -30,7 +30,7 @@ pub record Going
   pub read : List ℕ
   pub written : List ℕ
   pub ready : List ℕ
-  pub up_to : IsReadTo given_first left_first given left reader done read
+  pub up_to : IsReadTo limit given_first left_first given left reader done read
   pub parts : done ≡ first ++ others
   pub said : stands done (written ++ ready)
   pub kept : holds ready
@@ -41,13 +41,13 @@ pub record Going
   pub near : IfSome left_first (λ bytes. length read ≤ size_of first + 16384)
 
 -- The same before the next line is read: nothing is ready, or the reader holds that line.
-pub record Ready
+pub record Ready (limit : ℕ)
     (answer : Bool → List (List ℕ) → Answer)
     (stands : List (List ℕ) → List ℕ → Type 0)
     (holds : List ℕ → Type 0)
     (given_first left_first given left held_first held : Option (List ℕ))
     (reader : LinesAhead) : Type 0 where
-  pub going : Going answer stands holds given_first left_first given left held_first held reader
+  pub going : Going limit answer stands holds given_first left_first given left held_first held reader
   pub waits : ((going.ready ≡ []) × (going.first ≡ going.done)) ⊎ (¬ IsOpen reader.held)
 
 if_near : (lf : Option (List ℕ)) (read n : ℕ) → read ≤ n → IfSome lf (λ bytes. read ≤ n)
@@ -66,11 +66,11 @@ near_as_before None read read_after n h e = tt
 near_as_before (Some bytes) read read_after n h e = let len = ap length e in omega (arith, len)
 
 -- nothing was read, played or written yet
-pub at_first : (answer : Bool → List (List ℕ) → Answer) (stands : List (List ℕ) → List ℕ → Type 0)
+pub at_first : {limit : ℕ} (answer : Bool → List (List ℕ) → Answer) (stands : List (List ℕ) → List ℕ → Type 0)
     (holds : List ℕ → Type 0) (given left held : Option (List ℕ)) (reader : LinesAhead)
-    → IsReadTo given left given left reader [] [] → stands [] [] → holds [] → Follows answer [] []
-    → Going answer stands holds given left given left held held reader
-at_first answer stands holds given left held reader up_to said kept follows = record {
+    → IsReadTo limit given left given left reader [] [] → stands [] [] → holds [] → Follows answer [] []
+    → Going limit answer stands holds given left given left held held reader
+at_first {limit} answer stands holds given left held reader up_to said kept follows = record {
   done = [];
   first = [];
   others = [];
@@ -89,20 +89,20 @@ at_first answer stands holds given left held reader up_to said kept follows = re
 }
 
 -- the reader may be called
-pub may_read : {answer : Bool → List (List ℕ) → Answer} {stands : List (List ℕ) → List ℕ → Type 0}
+pub may_read : {limit : ℕ} {answer : Bool → List (List ℕ) → Answer} {stands : List (List ℕ) → List ℕ → Type 0}
     {holds : List ℕ → Type 0} {gf lf g l held0 held : Option (List ℕ)} {reader : LinesAhead}
-    → Going answer stands holds gf lf g l held0 held reader → reader.settled ≡ Some ReadFault → ⊥
-may_read {gf} {lf} {g} {l} {reader} at e =
+    → Going limit answer stands holds gf lf g l held0 held reader → reader.settled ≡ Some ReadFault → ⊥
+may_read {limit} {gf} {lf} {g} {l} {reader} at e =
     elim (open_or_ended gf lf g l reader at.done at.read at.up_to) [ inl n ↦ cc | inr n ↦ cc ]
 
 -- what is ready was written, or the next line is held
-pub was_due : {answer : Bool → List (List ℕ) → Answer} {stands : List (List ℕ) → List ℕ → Type 0}
+pub was_due : {limit : ℕ} {answer : Bool → List (List ℕ) → Answer} {stands : List (List ℕ) → List ℕ → Type 0}
     {holds : List ℕ → Type 0} {gf lf g l held0 held : Option (List ℕ)} {reader : LinesAhead}
     (stands_after : List (List ℕ) → List ℕ → Type 0) (holds_after : List ℕ → Type 0) (held_after : Option (List ℕ))
-    → (at : Going answer stands holds gf lf g l held0 held reader)
+    → (at : Going limit answer stands holds gf lf g l held0 held reader)
     → stands_after at.done (at.written ++ at.ready) → WritesDue holds_after reader held held_after at.ready
-    → Ready answer stands_after holds_after gf lf g l held0 held_after reader
-was_due {answer} {lf} {held0} {held} stands_after holds_after held_after at said (inl wrote) =
+    → Ready limit answer stands_after holds_after gf lf g l held0 held_after reader
+was_due {limit} {answer} {lf} {held0} {held} stands_after holds_after held_after at said (inl wrote) =
     let output : List ℕ = at.written ++ at.ready in
     let same : output ≡ output ++ [] = sym (append-nil output) in
     record {
@@ -125,7 +125,7 @@ was_due {answer} {lf} {held0} {held} stands_after holds_after held_after at said
       };
       waits = inl (refl, refl);
     }
-was_due {lf} {held0} {held} stands_after holds_after held_after at said (inr holding) =
+was_due {limit} {lf} {held0} {held} stands_after holds_after held_after at said (inr holding) =
     record {
       going = record {
         done = at.done;
@@ -149,12 +149,12 @@ was_due {lf} {held0} {held} stands_after holds_after held_after at said (inr hol
     }
 
 -- however the next line is read, it stays near to the lines whose output was written
-pub stays_near : {answer : Bool → List (List ℕ) → Answer} {stands : List (List ℕ) → List ℕ → Type 0}
+pub stays_near : {limit : ℕ} {answer : Bool → List (List ℕ) → Answer} {stands : List (List ℕ) → List ℕ → Type 0}
     {holds : List ℕ → Type 0} {gf lf g l held0 held : Option (List ℕ)} {reader : LinesAhead}
-    → (r : Ready answer stands holds gf lf g l held0 held reader) (read_after : List ℕ)
+    → (r : Ready limit answer stands holds gf lf g l held0 held reader) (read_after : List ℕ)
     → StaysNear lf reader r.going.done r.going.read read_after
     → IfSome lf (λ bytes. length read_after ≤ size_of r.going.first + 16384)
-stays_near {lf} r read_after stays =
+stays_near {limit} {lf} r read_after stays =
     elim r.waits [
       | inl none ↦
           subst (λ lines. IfSome lf (λ bytes. length read_after ≤ size_of lines + 16384)) (sym none.1)
@@ -164,15 +164,15 @@ stays_near {lf} r read_after stays =
     ]
 
 -- one line more was played
-pub went_on : {answer : Bool → List (List ℕ) → Answer} {stands : List (List ℕ) → List ℕ → Type 0}
+pub went_on : {limit : ℕ} {answer : Bool → List (List ℕ) → Answer} {stands : List (List ℕ) → List ℕ → Type 0}
     {holds : List ℕ → Type 0} {gf lf g l held0 held : Option (List ℕ)} {reader : LinesAhead}
     (stands_after : List (List ℕ) → List ℕ → Type 0) (holds_after : List ℕ → Type 0)
     (g_after l_after : Option (List ℕ)) (after : LinesAhead)
-    → (r : Ready answer stands holds gf lf g l held0 held reader)
-    → ComesTo answer stands_after holds_after gf lf g_after l_after reader after
+    → (r : Ready limit answer stands holds gf lf g l held0 held reader)
+    → ComesTo limit answer stands_after holds_after gf lf g_after l_after reader after
     r.going.done r.going.read (r.going.written ++ r.going.ready) r.going.ready (Ok None)
-    → Going answer stands_after holds_after gf lf g_after l_after held0 held after
-went_on {answer} stands_after holds_after g_after l_after after r come =
+    → Going limit answer stands_after holds_after gf lf g_after l_after held0 held after
+went_on {limit} {answer} stands_after holds_after g_after l_after after r come =
     let at = r.going in
     let raw : List ℕ = come.0 in
     let played = come.3 in
@@ -202,18 +202,18 @@ went_on {answer} stands_after holds_after g_after l_after after r come =
 
 -- what the lines of the input begin with
 
-pub leads_done : {answer : Bool → List (List ℕ) → Answer} {stands : List (List ℕ) → List ℕ → Type 0}
+pub leads_done : {limit : ℕ} {answer : Bool → List (List ℕ) → Answer} {stands : List (List ℕ) → List ℕ → Type 0}
     {holds : List ℕ → Type 0} {gf lf g l held0 held : Option (List ℕ)} {reader : LinesAhead}
-    → (at : Going answer stands holds gf lf g l held0 held reader) → LeadsOff lf at.done
-leads_done {gf} {lf} {g} {l} {reader} at = leads gf lf g l reader at.done at.read at.up_to
+    → (at : Going limit answer stands holds gf lf g l held0 held reader) → LeadsOff limit lf at.done
+leads_done {limit} {gf} {lf} {g} {l} {reader} at = leads gf lf g l reader at.done at.read at.up_to
 
-leads_front : (lf : Option (List ℕ)) (done first others : List (List ℕ)) → done ≡ first ++ others → LeadsOff lf done
-    → LeadsOff lf first
-leads_front None done first others e h = tt
-leads_front (Some bytes) done first others e h =
+leads_front : (limit : ℕ) (lf : Option (List ℕ)) (done first others : List (List ℕ)) → done ≡ first ++ others → LeadsOff limit lf done
+    → LeadsOff limit lf first
+leads_front limit None done first others e h = tt
+leads_front limit (Some bytes) done first others e h =
     (others ++ h.0, h.1 ∙ ap (λ l. l ++ h.0) e ∙ append_assoc first others h.0)
 
-pub leads_first : {answer : Bool → List (List ℕ) → Answer} {stands : List (List ℕ) → List ℕ → Type 0}
+pub leads_first : {limit : ℕ} {answer : Bool → List (List ℕ) → Answer} {stands : List (List ℕ) → List ℕ → Type 0}
     {holds : List ℕ → Type 0} {gf lf g l held0 held : Option (List ℕ)} {reader : LinesAhead}
-    → (at : Going answer stands holds gf lf g l held0 held reader) → LeadsOff lf at.first
-leads_first {lf} at = leads_front lf at.done at.first at.others at.parts (leads_done at)
+    → (at : Going limit answer stands holds gf lf g l held0 held reader) → LeadsOff limit lf at.first
+leads_first {limit} {lf} at = leads_front limit lf at.done at.first at.others at.parts (leads_done at)

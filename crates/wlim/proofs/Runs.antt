@@ -14,20 +14,21 @@ use Rattle.wlim.specs.Transcript.{answer_from, answer_of}
 use Rattle.wlim.specs.Session.{session_of_lines, session_answer}
 use Rattle.wlim.specs.Ran.{GrowsByFront, Ran, answer_read}
 use Rattle.wlim.specs.LineByLine.{LineByLine}
-use Rattle.wlim.specs.Run.{command_of, status_of, output_of, answer_by, answer_lines, answer_where}
+use Rattle.wlim.specs.declared.reading.TheConstants.{INPUT_LIMIT}
+use Rattle.wlim.specs.Run.{command_of, limit_of, status_of, output_of, answer_by, answer_lines, answer_where}
 
 -- by its lines, the answer for an input is that of its command
 
 acts_read : (left : Option (List ℕ)) (reads reads' : ℕ) (held held' : Option (List ℕ)) (writes writes' : ℕ)
     (result : Status)
-    → Ran (answer_read (λ cut lines. answer_from cut [] lines)) left reads reads' held held' writes writes' result
+    → Ran (answer_read INPUT_LIMIT (λ cut lines. answer_from cut [] lines)) left reads reads' held held' writes writes' result
     → Ran (answer_by commands.ReplayActs) left reads reads' held held' writes writes' result
 unfolding answer_by answer_of lines_read
 acts_read left reads reads' held held' writes writes' result ran = ran
 
 pub acts_ran : (command : Command) (left : Option (List ℕ)) (reads reads' : ℕ) (held held' : Option (List ℕ))
     (writes writes' : ℕ) (result : Status) → command ≡ commands.ReplayActs
-    → Ran (answer_read (λ cut lines. answer_from cut [] lines)) left reads reads' held held' writes writes' result
+    → Ran (answer_read INPUT_LIMIT (λ cut lines. answer_from cut [] lines)) left reads reads' held held' writes writes' result
     → Ran (answer_by command) left reads reads' held held' writes writes' result
 acts_ran command left reads reads' held held' writes writes' result is ran =
     subst (λ c. Ran (answer_by c) left reads reads' held held' writes writes' result) (sym is)
@@ -35,14 +36,14 @@ acts_ran command left reads reads' held held' writes writes' result is ran =
 
 session_read : (left : Option (List ℕ)) (reads reads' : ℕ) (held held' : Option (List ℕ)) (writes writes' : ℕ)
     (result : Status)
-    → Ran (answer_read session_of_lines) left reads reads' held held' writes writes' result
+    → Ran (answer_read INPUT_LIMIT session_of_lines) left reads reads' held held' writes writes' result
     → Ran (answer_by commands.Replay) left reads reads' held held' writes writes' result
 unfolding answer_by session_answer lines_read
 session_read left reads reads' held held' writes writes' result ran = ran
 
 pub session_ran : (command : Command) (left : Option (List ℕ)) (reads reads' : ℕ) (held held' : Option (List ℕ))
     (writes writes' : ℕ) (result : Status) → command ≡ commands.Replay
-    → Ran (answer_read session_of_lines) left reads reads' held held' writes writes' result
+    → Ran (answer_read INPUT_LIMIT session_of_lines) left reads reads' held held' writes writes' result
     → Ran (answer_by command) left reads reads' held held' writes writes' result
 session_ran command left reads reads' held held' writes writes' result is ran =
     subst (λ c. Ran (answer_by c) left reads reads' held held' writes writes' result) (sym is)
@@ -50,16 +51,16 @@ session_ran command left reads reads' held held' writes writes' result is ran =
 
 pub acts_law : (command : Command) (left left' held held' : Option (List ℕ)) (result : Status) (read : List ℕ)
     → command ≡ commands.ReplayActs
-    → LineByLine (λ cut lines. answer_from cut [] lines) left left' held held' result read
-    → LineByLine (answer_lines command) left left' held held' result read
+    → LineByLine INPUT_LIMIT (λ cut lines. answer_from cut [] lines) left left' held held' result read
+    → LineByLine (limit_of command) (answer_lines command) left left' held held' result read
 acts_law command left left' held held' result read is law =
-    subst (λ c. LineByLine (answer_lines c) left left' held held' result read) (sym is) law
+    subst (λ c. LineByLine (limit_of c) (answer_lines c) left left' held held' result read) (sym is) law
 
 pub session_law : (command : Command) (left left' held held' : Option (List ℕ)) (result : Status) (read : List ℕ)
-    → command ≡ commands.Replay → LineByLine session_of_lines left left' held held' result read
-    → LineByLine (answer_lines command) left left' held held' result read
+    → command ≡ commands.Replay → LineByLine INPUT_LIMIT session_of_lines left left' held held' result read
+    → LineByLine (limit_of command) (answer_lines command) left left' held held' result read
 session_law command left left' held held' result read is law =
-    subst (λ c. LineByLine (answer_lines c) left left' held held' result read) (sym is) law
+    subst (λ c. LineByLine (limit_of c) (answer_lines c) left left' held held' result read) (sym is) law
 
 -- the call with its words
 

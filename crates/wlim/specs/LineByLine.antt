@@ -20,10 +20,11 @@ abbrev pub IsDecidedBy :
 IsDecidedBy answer cut read held held_after result =
     ((answer cut (lines_of cut read)).1 ≡ result) × Appends held held_after (answer cut (lines_of cut read)).0
 
--- What a run owes to its lines: by the answers of its command, what the source had left and has, what the sink held and
+-- What a run owes to its lines: by how many bytes it reads at most, the answers of its command, what the source had left and has, what the sink held and
 -- holds, the status, and the bytes that were read. The lines that are whole in these are those of an input that is cut
 -- off behind them.
 pub record LineByLine
+    (limit : ℕ)
     (answer : Bool → List (List ℕ) → Answer)
     (left left_after held held_after : Option (List ℕ))
     (result : Status)
@@ -36,7 +37,7 @@ pub record LineByLine
       ⊎ (IsAtEnd left_after × IsDecidedBy answer false read held held_after result)
   -- the line that decides a status is near
   pub near_deciding : IfSome left
-      (λ bytes. ReachesNear (lines_read bytes) read (λ lines. is_long (answer true lines).1 ≡ false))
+      (λ bytes. ReachesNear (lines_read limit bytes) read (λ lines. is_long (answer true lines).1 ≡ false))
   -- so is the first line with which the output is longer than what was written
   pub near_unwritten : IfSome left (λ bytes. IfSome held (λ was. IfSome held_after (λ now.
-      ReachesNear (lines_read bytes) read (λ lines. length now < length was + length (shown (answer true lines))))))
+      ReachesNear (lines_read limit bytes) read (λ lines. length now < length was + length (shown (answer true lines))))))

@@ -2,7 +2,6 @@
 use Rattle.std.specs.Prelude.{ℕ, ◌+◌, ◌==◌, ◌&&◌, ◌||◌, nat_le, Bool, if◌then◌else◌, List, [], ◌∷◌, ◌++◌, length, take}
 use Rattle.std.specs.List.{slice_split}
 use Rattle.session_text.specs.Reading.{line_limit}
-use Rattle.wlim.specs.declared.reading.TheConstants.{INPUT_LIMIT}
 
 -- the bytes after the last line feed are no line: there are none, or the input was cut off in them
 abbrev pub is_no_line : Bool → List ℕ → Bool
@@ -20,17 +19,17 @@ lines_of_parts cut (part ∷ next ∷ parts) = part ∷ lines_of_parts cut (next
 unfoldable pub lines_of : Bool → List ℕ → List (List ℕ)
 lines_of cut bytes = lines_of_parts cut (slice_split (λ b. b == 10) bytes)
 
--- what is read of an input
-unfoldable pub taken : List ℕ → List ℕ
-taken bytes = take INPUT_LIMIT bytes
+-- what is read of an input, of which so many bytes are read at most
+unfoldable pub taken : ℕ → List ℕ → List ℕ
+taken limit bytes = take limit bytes
 
 -- the input has as many bytes as are read at most
-unfoldable pub is_cut : List ℕ → Bool
-is_cut bytes = length (taken bytes) == INPUT_LIMIT
+unfoldable pub is_cut : ℕ → List ℕ → Bool
+is_cut limit bytes = length (taken limit bytes) == limit
 
 -- the lines that are read of an input
-unfoldable pub lines_read : List ℕ → List (List ℕ)
-lines_read bytes = lines_of (is_cut bytes) (taken bytes)
+unfoldable pub lines_read : ℕ → List ℕ → List (List ℕ)
+lines_read limit bytes = lines_of (is_cut limit bytes) (taken limit bytes)
 
 -- lines with their line feeds
 abbrev pub bytes_of : List (List ℕ) → List ℕ

@@ -7,9 +7,9 @@ use Rattle.wlim.specs.declared.status.Status.TheVariants as status
 use Rattle.wlim.specs.Lines.{is_cut, lines_read}
 use Rattle.wlim.specs.Endings.{Answer, IsDecided}
 
--- the answer for an input by the lines that are read of it
-abbrev pub answer_read : (Bool → List (List ℕ) → Answer) → List ℕ → Answer
-answer_read answer bytes = answer (is_cut bytes) (lines_read bytes)
+-- the answer for an input by the lines that are read of it, of which so many bytes are read at most
+abbrev pub answer_read : ℕ → (Bool → List (List ℕ) → Answer) → List ℕ → Answer
+answer_read limit answer bytes = answer (is_cut limit bytes) (lines_read limit bytes)
 
 -- known bytes grow by a front of a text
 abbrev pub GrowsByFront : Option (List ℕ) → Option (List ℕ) → List ℕ → Type 0

@@ -5,6 +5,7 @@ use Rattle.wlim.specs.declared.status.Status.{Status}
 use Rattle.wlim.specs.declared.status.Status.TheVariants as status
 use Rattle.wlim.specs.declared.command.Command.{Command}
 use Rattle.wlim.specs.declared.command.Command.TheVariants as commands
+use Rattle.wlim.specs.declared.reading.TheConstants.{INPUT_LIMIT}
 use Rattle.wlim.specs.Lines.{taken, is_cut}
 use Rattle.wlim.specs.Endings.{Answer}
 use Rattle.wlim.specs.Transcript.{answer_of, answer_from}
@@ -31,6 +32,11 @@ abbrev pub answer_lines : Command → Bool → List (List ℕ) → Answer
 answer_lines commands.Replay cut lines = session_of_lines cut lines
 answer_lines commands.ReplayActs cut lines = answer_from cut [] lines
 
+-- the most bytes of its input that a command reads
+abbrev pub limit_of : Command → ℕ
+limit_of commands.Replay = INPUT_LIMIT
+limit_of commands.ReplayActs = INPUT_LIMIT
+
 -- what a command makes of an input of which at most the limit was read
 abbrev pub answer_to : Command → Bool → List ℕ → Answer
 answer_to commands.Replay cut input = session_answer cut input
@@ -38,7 +44,7 @@ answer_to commands.ReplayActs cut input = answer_of cut input
 
 -- what a command writes for the bytes of an input, and its status
 unfoldable pub answer_by : Command → List ℕ → Answer
-answer_by command bytes = answer_to command (is_cut bytes) (taken bytes)
+answer_by command bytes = answer_to command (is_cut (limit_of command) bytes) (taken (limit_of command) bytes)
 
 -- the answer of words that name a command, or none
 abbrev pub answer_where : Option Command → List ℕ → Answer

@@ -10,7 +10,7 @@ use crate::status::Status;
 use wio_core::{LineReader, NextLine, NoMemory, Source};
 
 /// The most bytes that are read of an input.
-pub const INPUT_LIMIT: u64 = 1073741824;
+pub const INPUT_LIMIT: u64 = 4_294_967_296;
 
 /// Reads the next line and plays it. Tells how the output ends where the line decides it, or none
 /// is left.

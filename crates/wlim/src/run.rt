@@ -7,11 +7,12 @@ ghost use Rattle.wlim.specs.Endings.{IsDecided};
 ghost use Rattle.wlim.specs.LineByLine.{LineByLine};
 ghost use Rattle.wlim.specs.Ran.{GrowsByFront, Ran};
 ghost use Rattle.wlim.specs.Run.{is_command, status_of, output_of};
-ghost use Rattle.wlim.specs.Run.{command_of, answer_by, answer_lines};
+ghost use Rattle.wlim.specs.Run.{command_of, limit_of, answer_by, answer_lines};
 
 use crate::act_list::ActList;
 use crate::command::{Command, command_of};
 use crate::follow::play_input;
+use crate::reading::INPUT_LIMIT;
 use crate::session::SessionPlay;
 use crate::status::Status;
 use std::alloc::Global;
@@ -31,22 +32,25 @@ fn replay<S: Source, K: Sink>(
     ensures line_by_line { result ≢ Status.NoMemory → (read : List ℕ)
         × TookFrom (S.given input.old) (S.given input.new)
         (S.left input.old) (S.left input.new) read
-        × LineByLine (answer_lines command) (S.left input.old) (S.left input.new)
+        × LineByLine (limit_of command) (answer_lines command) (S.left input.old) (S.left input.new)
         (K.held output.old) (K.held output.new) result read }
     ensures reads_never_fall { S.fault_count input.old ≤ S.fault_count input.new }
     ensures writes_never_fall { K.fault_count output.old ≤ K.fault_count output.new }
 {
     match command {
-        Command::Replay => play_input(alloc, &mut SessionPlay::new(alloc), input, output),
+        Command::Replay => {
+            let mut session = SessionPlay::new(alloc);
+            play_input(alloc, INPUT_LIMIT, &mut session, input, output)
+        }
         Command::ReplayActs => match ActList::new(alloc) {
-            Ok(mut acts) => play_input(alloc, &mut acts, input, output),
+            Ok(mut acts) => play_input(alloc, INPUT_LIMIT, &mut acts, input, output),
             Err(NoMemory) => Status::NoMemory,
         },
     }
 }
 
 /// Runs the command that the words name over an input and an output: `replay` reads a session, and `replay-acts` an act list of at most 100,000 acts, and each writes
-/// its transcript. At most 1,073,741,824 bytes are read. Always returns. What status comes when is the clauses' to say; `NoMemory` alone may come at any time.
+/// its transcript. At most 4,294,967,296 bytes are read. Always returns. What status comes when is the clauses' to say; `NoMemory` alone may come at any time.
 pub fn run_plain<S: Source, K: Sink>(
     alloc: Global,
     words: &[String],
@@ -80,7 +84,7 @@ pub fn run_plain<S: Source, K: Sink>(
         result ≢ Status.NoMemory → (read : List ℕ)
         × TookFrom (S.given input.old) (S.given input.new)
         (S.left input.old) (S.left input.new) read
-        × LineByLine (answer_lines command) (S.left input.old) (S.left input.new)
+        × LineByLine (limit_of command) (answer_lines command) (S.left input.old) (S.left input.new)
         (K.held output.old) (K.held output.new) result read) }
 {
     match command_of(words) {

@@ -23,14 +23,14 @@ pub trait Script {
     /// Plays the next line, which comes without its line feed. Tells how the output ends if the
     /// line decides it.
     fn line(&mut self, raw: &[u8]) -> Result<Option<LastLine>, NoMemory>
-        ensures { (done : List (List ℕ)) (output gathered : List ℕ) → length done < 2 ^ 32
+        ensures { (done : List (List ℕ)) (output gathered : List ℕ) → length done < 2 ^ 33
             → stands self.old done output → holds self.old gathered
             → IfOk result (Played answer (stands self.new) (holds self.new)
             done raw.now output gathered) };
 
     /// How the output ends where the next line is outside the grammar, or isn't there.
     fn bad_line(&self) -> LastLine
-        ensures { (done : List (List ℕ)) (output : List ℕ) → length done < 2 ^ 32
+        ensures { (done : List (List ℕ)) (output : List ℕ) → length done < 2 ^ 33
             → stands self.now done output → NamesNext answer done output result };
 
     /// Puts all that was gathered into the buffer.

@@ -79,7 +79,7 @@ fn play_line(
     before: u64,
     raw: &[u8],
 ) -> Result<Option<LastLine>, NoMemory>
-    ensures { (done : List (List ℕ)) (output gathered : List ℕ) → length done < 2 ^ 32
+    ensures { (done : List (List ℕ)) (output gathered : List ℕ) → length done < 2 ^ 33
         → PlayerStands player.old before done output
         → PlayerHolds player.old printer.old gathered
         → IfOk result (Played session_of_lines (PlayerStands player.new (before + 1))

@@ -5,11 +5,11 @@ use Rattle.wlim.proofs.RunEnds.{rose_later, none_ran, short_ran, short_law, told
 use Rattle.wlim.proofs.follow.play_input.Goals as goal
 
 pub returns-in-Err-clause-ran : goal.returns-in-Err-clause-ran
-returns-in-Err-clause-ran g c = none_ran g.P.Script.answer _ _ _ _ _ _
+returns-in-Err-clause-ran g c = none_ran _ g.P.Script.answer _ _ _ _ _ _
 
 pub lines-init : goal.lines-init
 lines-init g c = record {
-  going = at_first g.P.Script.answer _ _ _ _ _ c.in-Ok.reader (first_read _ _ c.in-Ok.reader c.in-Ok.ensures)
+  going = at_first g.P.Script.answer _ _ _ _ _ c.in-Ok.reader (first_read _ _ c.in-Ok.reader c.requires.small c.in-Ok.ensures)
       c.requires.stands c.requires.holds c.requires.follows;
   reads_grow = omega arith;
   writes_grow = omega arith;
@@ -42,7 +42,7 @@ lines-preserved g c =
     let r = was_due (g.P.Script.stands c.write_due.new.script) (g.P.Script.holds c.write_due.new.script) _ i.going
     (c.in_default.ensures.stays i.going.done (i.going.written ++ i.going.ready) i.going.said)
     (c.in_default.ensures.due i.going.ready i.going.kept) in
-    let come = (rw c.in-Ok-None.field-0-is at c.in-Ok-None.ensures.comes) _ _ r.going.done r.going.read
+    let come = (rw c.in-Ok-None.field-0-is at c.in-Ok-None.ensures.comes) _ _ _ r.going.done r.going.read
     (r.going.written ++ r.going.ready) r.going.ready r.going.up_to r.going.said r.going.kept r.going.follows in
     record {
       going = went_on (g.P.Script.stands c.next_line.new.script) (g.P.Script.holds c.next_line.new.script) _ _
@@ -57,7 +57,7 @@ lines-smaller g c =
     let r = was_due (g.P.Script.stands c.write_due.new.script) (g.P.Script.holds c.write_due.new.script) _ i.going
     (c.in_default.ensures.stays i.going.done (i.going.written ++ i.going.ready) i.going.said)
     (c.in_default.ensures.due i.going.ready i.going.kept) in
-    let come = (rw c.in-Ok-None.field-0-is at c.in-Ok-None.ensures.comes) _ _ r.going.done r.going.read
+    let come = (rw c.in-Ok-None.field-0-is at c.in-Ok-None.ensures.comes) _ _ _ r.going.done r.going.read
     (r.going.written ++ r.going.ready) r.going.ready r.going.up_to r.going.said r.going.kept r.going.follows in
     come.5
 
@@ -69,7 +69,7 @@ returns-in-Ok-Some-clause-ran g c =
     let r = was_due (g.P.Script.stands c.write_due.new.script) (g.P.Script.holds c.write_due.new.script) _ i.going
     (c.in_default.ensures.stays i.going.done (i.going.written ++ i.going.ready) i.going.said)
     (c.in_default.ensures.due i.going.ready i.going.kept) in
-    let come = (rw c.in-Ok-Some.field-0-is at c.in-Ok-Some.ensures.comes) _ _ r.going.done r.going.read
+    let come = (rw c.in-Ok-Some.field-0-is at c.in-Ok-Some.ensures.comes) _ _ _ r.going.done r.going.read
     (r.going.written ++ r.going.ready) r.going.ready r.going.up_to r.going.said r.going.kept r.going.follows in
     told_ran (g.P.Script.stands c.next_line.new.script) (g.P.Script.holds c.next_line.new.script) _ _ _
     c.next_line.new.reader _ _ _ _ c.in-Ok-Some.last c.write_end.result r come
@@ -83,7 +83,7 @@ returns-in-Ok-Some-clause-line_by_line g c = λ other.
     let r = was_due (g.P.Script.stands c.write_due.new.script) (g.P.Script.holds c.write_due.new.script) _ i.going
     (c.in_default.ensures.stays i.going.done (i.going.written ++ i.going.ready) i.going.said)
     (c.in_default.ensures.due i.going.ready i.going.kept) in
-    let come = (rw c.in-Ok-Some.field-0-is at c.in-Ok-Some.ensures.comes) _ _ r.going.done r.going.read
+    let come = (rw c.in-Ok-Some.field-0-is at c.in-Ok-Some.ensures.comes) _ _ _ r.going.done r.going.read
     (r.going.written ++ r.going.ready) r.going.ready r.going.up_to r.going.said r.going.kept r.going.follows in
     told_law (g.P.Script.stands c.next_line.new.script) (g.P.Script.holds c.next_line.new.script) _ _ _
     c.next_line.new.reader c.in-Ok-Some.last c.write_end.result r come
@@ -97,7 +97,7 @@ returns-in-Err-next_line-clause-ran g c =
     let r = was_due (g.P.Script.stands c.write_due.new.script) (g.P.Script.holds c.write_due.new.script) _ i.going
     (c.in_default.ensures.stays i.going.done (i.going.written ++ i.going.ready) i.going.said)
     (c.in_default.ensures.due i.going.ready i.going.kept) in
-    let come = c.in-Err-next_line.ensures.comes _ _ r.going.done r.going.read
+    let come = c.in-Err-next_line.ensures.comes _ _ _ r.going.done r.going.read
     (r.going.written ++ r.going.ready) r.going.ready r.going.up_to r.going.said r.going.kept r.going.follows in
     failed_ran (g.P.Script.stands c.next_line.new.script) (g.P.Script.holds c.next_line.new.script) _ _
     c.next_line.new.reader _ _ _ _ c.in-Err-next_line.status r come
@@ -109,7 +109,7 @@ returns-in-Err-next_line-clause-line_by_line g c = λ other.
     let r = was_due (g.P.Script.stands c.write_due.new.script) (g.P.Script.holds c.write_due.new.script) _ i.going
     (c.in_default.ensures.stays i.going.done (i.going.written ++ i.going.ready) i.going.said)
     (c.in_default.ensures.due i.going.ready i.going.kept) in
-    let come = c.in-Err-next_line.ensures.comes _ _ r.going.done r.going.read
+    let come = c.in-Err-next_line.ensures.comes _ _ _ r.going.done r.going.read
     (r.going.written ++ r.going.ready) r.going.ready r.going.up_to r.going.said r.going.kept r.going.follows in
     failed_law (g.P.Script.stands c.next_line.new.script) (g.P.Script.holds c.next_line.new.script) _ _
     c.next_line.new.reader c.in-Err-next_line.status r come other

@@ -6,7 +6,7 @@ use Rattle.wlim.proofs.follow.play_input.Given as goal
 -- the input is read up to the lines that were played, and what they came to is written or ready
 abbrev pub invariant-lines : goal.invariant-lines
 invariant-lines g l = record {
-  going : Going g.P.Script.answer (g.P.Script.stands l.script) (g.P.Script.holds l.script)
+  going : Going l.limit g.P.Script.answer (g.P.Script.stands l.script) (g.P.Script.holds l.script)
       (g.S.Source.given l.initial.input) (g.S.Source.left l.initial.input)
       (g.S.Source.given l.input) (g.S.Source.left l.input)
       (g.K.Sink.held l.initial.output) (g.K.Sink.held l.output) l.reader;

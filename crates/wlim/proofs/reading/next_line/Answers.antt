@@ -4,7 +4,7 @@ use Rattle.wlim.proofs.LinesTold.{line_came, end_or_long_came, limit_came, fault
 use Rattle.wlim.proofs.reading.next_line.Goals as goal
 
 pub returns-in-Ok-clause-comes : goal.returns-in-Ok-clause-comes
-returns-in-Ok-clause-comes g c = λ given left done read output gathered r st ho follows.
+returns-in-Ok-clause-comes g c = λ limit given left done read output gathered r st ho follows.
     let came = line_came given left _ _ _ _ _ c.next.follows.lender-at-none c.in-Line.raw done read r
     (rw c.in-Line.is at c.next.follows.holds-at-none)
     (λ held. ap g.S.Source.left (c.next.ensures.waits held)) in
@@ -13,7 +13,7 @@ returns-in-Ok-clause-comes g c = λ given left done read output gathered r st ho
     came (c.in-Ok.ensures done output gathered (few_done given left _ _ _ done read r) st ho)
 
 pub returns-in-End-clause-comes : goal.returns-in-End-clause-comes
-returns-in-End-clause-comes g c = λ given left done read output gathered r st ho follows.
+returns-in-End-clause-comes g c = λ limit given left done read output gathered r st ho follows.
     let came = end_or_long_came g.P.Script.answer given left _ _ _ _ _ c.next.follows.lender-at-none c.next.result done
     read output c.bad_line.result c.in-End.is r c.next.follows.holds-at-none
     (λ held. ap g.S.Source.left (c.next.ensures.waits held))
@@ -29,7 +29,7 @@ returns-in-End-clause-comes g c = λ given left done read output gathered r st h
     )
 
 pub returns-in-Limit-clause-comes : goal.returns-in-Limit-clause-comes
-returns-in-Limit-clause-comes g c = λ given left done read output gathered r st ho follows.
+returns-in-Limit-clause-comes g c = λ limit given left done read output gathered r st ho follows.
     let came = limit_came g.P.Script.answer given left _ _ _ _ _ c.next.follows.lender-at-none done read output r
     (rw c.in-Limit.is at c.next.follows.holds-at-none)
     (λ held. ap g.S.Source.left (c.next.ensures.waits held)) follows in (
@@ -43,7 +43,7 @@ returns-in-Limit-clause-comes g c = λ given left done read output gathered r st
     )
 
 pub returns-in-ReadFault-clause-comes : goal.returns-in-ReadFault-clause-comes
-returns-in-ReadFault-clause-comes g c = λ given left done read output gathered r st ho follows.
+returns-in-ReadFault-clause-comes g c = λ limit given left done read output gathered r st ho follows.
     let came = fault_came given left _ _ _ _ _ c.next.follows.lender-at-none done read r
     (rw c.in-ReadFault.is at c.next.follows.holds-at-none)
     (λ held. ap g.S.Source.left (c.next.ensures.waits held)) in
