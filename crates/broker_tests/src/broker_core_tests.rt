@@ -2,11 +2,16 @@
 use broker_core::{Applied, JoinRefusal, Kept, Refused, Shared, Took};
 use relay_core::Route;
 use relay_model::{EndCause, Role};
-use seat_steps::{Limits, PeerStep, ShellStep, Step};
+use seat_steps::{FORM_1_WEIGHT, Limits, PeerStep, ShellStep, Stamp, Step, TokenList};
 use std::alloc::Global;
 use std::process::Abort;
 use std::test::Fail;
 use wl_wire::Bytes;
+
+const GIVEN: Stamp = Stamp {
+    moment: 7,
+    author: 3,
+};
 
 // An application joins and asks for its registry, and a key passes.
 fn all_calls(rt: &impl Abort, alloc: Global, shared: &mut Shared) -> Result<(), Fail> {
@@ -22,30 +27,36 @@ fn all_calls(rt: &impl Abort, alloc: Global, shared: &mut Shared) -> Result<(), 
     };
     let mut bytes = [0; 200];
     let mut tokens = [0; 256];
-    assert_eq!(rt; shared.join(Role::App), Ok(1));
-    assert!(rt; shared.apply(&Step::Peer(1, registry)).is_ok());
+    assert_eq!(rt; shared.join(Role::App, GIVEN), Ok(1));
+    assert!(rt; shared.apply(&Step::Peer(1, registry), GIVEN).is_ok());
     assert_eq!(rt; shared.stored(1), Some(112));
     assert_eq!(rt;
-        shared.take(1, &mut bytes, &mut tokens),
+        shared.take(1, &mut bytes, &mut tokens, GIVEN),
         Took::Bytes(112, 0)
     );
     assert_eq!(rt;
-        shared.apply(&Step::Shell(key)),
+        shared.apply(&Step::Shell(key), GIVEN),
         Ok(Applied {
             entry: 4,
             route: Some(Route::Pass)
         })
     );
+    let tokens = PeerStep::Tokens(TokenList::from_slice(alloc, &[7, 8])?);
+    assert!(rt; shared.apply(&Step::Peer(1, tokens), GIVEN).is_ok());
     assert_eq!(rt; shared.peers(), 1);
-    assert_eq!(rt; shared.journal().len(), 4);
+    assert_eq!(rt; shared.journal().len(), 5);
+    assert_eq!(rt; shared.journal().kept().weight, 92);
+    assert_eq!(rt; shared.stamps().len(), 5);
+    assert_eq!(rt; shared.stamps().entry(5), Some(&GIVEN));
     Ok(())
 }
 
 #[test]
 fn each_call_answers(rt: HostRuntime) -> Result<(), Fail> {
     let limits = Limits {
-        entries: 4,
+        entries: 5,
         store: 128,
+        weight: FORM_1_WEIGHT,
     };
     let alloc = rt.alloc();
     let mut shared = Shared::new(alloc, limits)?;
@@ -59,14 +70,26 @@ fn all_refusals(rt: &impl Abort, shared: &mut Shared) {
         weight: 16,
     };
     let gone = Step::Peer(1, PeerStep::Gone);
-    assert_eq!(rt; shared.apply(&gone), Err(Refused::NoPeer));
-    assert_eq!(rt; shared.take(1, &mut [0], &mut [0; 256]), Took::NoPeer);
-    assert_eq!(rt; shared.join(Role::App), Ok(1));
-    assert_eq!(rt; shared.take(1, &mut [0], &mut [0; 256]), Took::Empty);
-    assert_eq!(rt; shared.join(Role::App), Err(JoinRefusal::JournalFull(full)));
-    assert!(rt; shared.apply(&gone).is_ok());
-    assert_eq!(rt; shared.apply(&gone), Err(Refused::Ended(EndCause::Gone)));
-    assert_eq!(rt; shared.take(1, &mut [0], &mut [0; 256]), Took::Closed);
+    assert_eq!(rt; shared.apply(&gone, GIVEN), Err(Refused::NoPeer));
+    assert_eq!(rt;
+        shared.take(1, &mut [0], &mut [0; 256], GIVEN),
+        Took::NoPeer
+    );
+    assert_eq!(rt; shared.join(Role::App, GIVEN), Ok(1));
+    assert_eq!(rt; shared.take(1, &mut [0], &mut [0; 256], GIVEN), Took::Empty);
+    assert_eq!(rt;
+        shared.join(Role::App, GIVEN),
+        Err(JoinRefusal::JournalFull(full))
+    );
+    assert!(rt; shared.apply(&gone, GIVEN).is_ok());
+    assert_eq!(rt;
+        shared.apply(&gone, GIVEN),
+        Err(Refused::Ended(EndCause::Gone))
+    );
+    assert_eq!(rt;
+        shared.take(1, &mut [0], &mut [0; 256], GIVEN),
+        Took::Closed
+    );
 }
 
 #[test]
@@ -74,6 +97,7 @@ fn each_refusal_has_its_cause(rt: HostRuntime) -> Result<(), Fail> {
     let limits = Limits {
         entries: 1,
         store: 64,
+        weight: FORM_1_WEIGHT,
     };
     let mut shared = Shared::new(rt.alloc(), limits)?;
     all_refusals(&rt, &mut shared);
@@ -83,9 +107,12 @@ fn each_refusal_has_its_cause(rt: HostRuntime) -> Result<(), Fail> {
 // 64 join.
 fn fill(rt: &impl Abort, shared: &mut Shared) {
     for number in 1..65 {
-        assert_eq!(rt; shared.join(Role::Method), Ok(number));
+        assert_eq!(rt; shared.join(Role::Method, GIVEN), Ok(number));
     }
-    assert_eq!(rt; shared.join(Role::App), Err(JoinRefusal::TooManyPeers(64)));
+    assert_eq!(rt;
+        shared.join(Role::App, GIVEN),
+        Err(JoinRefusal::TooManyPeers(64))
+    );
 }
 
 #[test]
@@ -93,6 +120,7 @@ fn the_65th_peer_is_refused(rt: HostRuntime) -> Result<(), Fail> {
     let limits = Limits {
         entries: 100,
         store: 64,
+        weight: FORM_1_WEIGHT,
     };
     let mut shared = Shared::new(rt.alloc(), limits)?;
     fill(&rt, &mut shared);

@@ -1,5 +1,6 @@
 // What no clause tells: that memory is found, and that a group is gathered as its callers gather it.
-use seat_audience::Gathering;
+use relay_model::Role;
+use seat_audience::{Gathering, Live};
 use std::test::Fail;
 use wl_proto::Event;
 
@@ -55,5 +56,15 @@ fn what_follows_one_that_was_left_out_is_left_out(rt: HostRuntime) -> Result<(),
     gathering.put(9, &COMMIT_STRING, None);
     assert_eq!(rt; gathering.bytes(), COMMIT_STRING_BYTES);
     assert!(rt; gathering.tokens().is_empty());
+    Ok(())
+}
+
+#[test]
+fn no_more_than_256_tokens_wait(rt: HostRuntime) -> Result<(), Fail> {
+    let live = Live::new(rt.alloc(), 64, 1, 1, Role::App)?;
+    let waiting = live.waiting_with(rt.alloc(), &[7; 257])?;
+    assert_eq!(rt; waiting.len(), 256);
+    let two = live.waiting_with(rt.alloc(), &[7, 8])?;
+    assert_eq!(rt; two.as_slice(), [7, 8].as_slice());
     Ok(())
 }

@@ -14,6 +14,7 @@ fn a_new_peer_syncs(rt: HostRuntime) -> Result<(), Fail> {
         label: 1,
         role: Role::App,
         table: &table,
+        tokens: &[],
     };
     let meaning = meaning_of(rt.alloc(), &relay, &sender, DISPLAY_ID, 0, &[2, 0, 0, 0])?;
     assert!(rt;
@@ -45,6 +46,7 @@ fn an_act_has_a_text_of_its_own(rt: HostRuntime) -> Result<(), Fail> {
         label: 1,
         role: Role::Method,
         table: &table,
+        tokens: &[],
     };
     let meaning = meaning_of(rt.alloc(), &relay, &sender, 2, 1, &PREEDIT)?;
     match &meaning.act {
