@@ -15,12 +15,26 @@ pub struct Place {
     pub key: usize,
 }
 
+// The place at the label's distance from the first one, where it is the label's: so it is as long as
+// the objects are alive that were made from the first one on.
+fn at_distance(places: &[Place], label: Label) -> Option<usize>
+    ensures { IfSome result (IsPlaceOf places.now label) }
+{
+    let first = places.first()?;
+    let at = label.checked_sub(first.label)? as usize;
+    let place = places.get(at)?;
+    if place.label == label { Some(at) } else { None }
+}
+
 /// Which place is the label's.
 pub fn place_of(places: &[Place], label: Label) -> Option<usize>
     requires { LabelsRise places.now }
     ensures found { IfSome result (IsPlaceOf places.now label) }
     ensures absent { IfNone result (HasNoPlace places.now label) }
 {
+    if let Some(at) = at_distance(places, label) {
+        return Some(at);
+    }
     match places.binary_search_by_key(&label, |place| place.label) {
         Ok(at) => Some(at),
         Err(_) => None,
