@@ -1,11 +1,15 @@
 mod LowerHex
+mod LowerDigits
 mod DecimalDigits
 mod FirstSpace
+mod LongLines
 pub mod WrittenNumbers
 pub mod Arms
 pub mod Texts
 pub mod Separators
 pub mod WordKinds
+mod LowerRead
+mod PieceLines
 pub mod Parts
 pub mod SpelledActs
 pub mod ReadActs

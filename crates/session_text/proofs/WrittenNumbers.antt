@@ -1,7 +1,7 @@
 -- A word reads as the number that it spells, and as no other.
-use Rattle.std.proofs.Common.{◌≡◌, ℕ, ◌^◌, ◌<◌, Bool, true, false, cond, eqb, ltb, ◌&&◌, List, [], ◌∷◌, zero, suc, ◌≤◌, length, drop, get_or, if◌then◌else◌, Option, Some, None, Result, Ok, Err, sym, refl, ap, ◌∙◌, subst, inl, inr, arith}
-use Rattle.std.specs.Str.{bytes_eq, IsUtf8}
-use Rattle.std.specs.Str.Parse.{digits_value, signed_digits_value, AllDigits, ParsesUnsigned, ParsesSigned}
+use Rattle.std.proofs.Common.{◌≡◌, ℕ, ◌^◌, ◌<◌, Bool, true, false, cond, eqb, ltb, ◌&&◌, List, [], ◌∷◌, zero, suc, length, drop, get_or, if◌then◌else◌, Option, Some, None, sym, refl, ap, ◌∙◌, subst, inl, inr, arith}
+use Rattle.std.specs.Str.{bytes_eq}
+use Rattle.std.specs.Str.Parse.{digits_value, signed_digits_value, AllDigits}
 use Rattle.std.specs.Fmt.{decimal, signed_decimal}
 use Rattle.std.specs.Int.{IsInRange}
 use Rattle.std.proofs.lemmas.Bool.{and_parts, ltb-true, lt-ltb}
@@ -10,7 +10,6 @@ use Rattle.std.proofs.lemmas.Fmt.{digits_value-decimal, decimal-digits_value, di
 use Rattle.std.proofs.lemmas.Int.{ints}
 use Rattle.std.proofs.lemmas.Option.{cond_some}
 use Rattle.std.proofs.lemmas.Slice.Eq.{bytes_eq-Decides}
-use Rattle.std.proofs.lemmas.Str.{IsUtf8-from_ascii}
 use Rattle.std.proofs.lemmas.Str.Parse.{IsNumeralModel, numerals_by_value, tells_digits, not_in_digits, digits_value_short}
 use lib.IntN.{ℤ, pos, negsuc, neg_ℤ}
 use lib.Signed.{mag}

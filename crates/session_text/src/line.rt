@@ -112,8 +112,10 @@ pub fn read_line(alloc: Global, form: Form, line: &[u8]) -> Result<Line, BadLine
     if line.len() > LINE_LIMIT {
         return Err(BadLine::Grammar);
     }
-    let words = words_of(alloc, line)?;
-    read_words(alloc, form, words.as_slice())
+    let Some(words) = words_of(line) else {
+        return Err(BadLine::Grammar);
+    };
+    read_words(alloc, form, &words.words[..words.count])
 }
 
 /// A law without work: bytes that read as a line are its one spelling, and each line's spelling

@@ -1,4 +1,4 @@
-use Rattle.std.proofs.Common.{◌≡◌, ◌+◌, ◌-◌, ◌*◌, ◌<◌, ◌∙◌, ap, slice_index_or, arith}
+use Rattle.std.proofs.Common.{◌+◌, ◌*◌, ◌∙◌, ap, slice_index_or, arith}
 use Rattle.std.specs.Int.{IsInRange}
 use Rattle.session_text.proofs.DecimalDigits.{digits_more, digit_among, value_more, value_small}
 use Rattle.session_text.proofs.numerals.digits_number.Goals as goal
