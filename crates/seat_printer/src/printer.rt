@@ -53,6 +53,9 @@ fn move_behind(text: &mut String, shell: &mut String) -> Result<(), NoMemory>
     ensures shell { OnOk result (string_bytes shell.new ≡ []) }
     ensures err { OnErr result (string_bytes text.new ≡ string_bytes text.old) }
 {
+    if shell.is_empty() {
+        return Ok(());
+    }
     text.push_str(shell.as_str())?;
     shell.clear();
     Ok(())

@@ -1,16 +1,23 @@
 -- A piece of bytes that is played step by step, from where it began.
-use Rattle.std.proofs.Common.{◌≡◌, ℕ, List, drop, true, Ok, Err, sym, ap, ap₂, subst, ◌∙◌}
-use Rattle.std.specs.Prelude.{Result}
+use Rattle.std.proofs.Common.{◌≡◌, ℕ, ◌≤◌, List, [], ◌∷◌, ◌++◌, length, drop, Bool, true, false, Ok, Err, refl, sym, ap, ap₂, subst, ◌∙◌, arith}
+use Rattle.std.specs.Prelude.{Result, ◌==◌, if◌then◌else◌}
+use Rattle.std.proofs.lemmas.Bool.{eqb-true}
 use Rattle.seat_steps.specs.declared.limits.Limits.{Limits}
 use Rattle.seat_steps.specs.declared.step.PeerStep.{PeerStep}
 use Rattle.broker_model.specs.declared.journal.Entry.{Entry}
+use Rattle.broker_model.specs.Limits.{is_full}
+use Rattle.broker_model.specs.Settle.{settle}
 use Rattle.broker_core.specs.Broker.{peer_entry}
 use Rattle.broker_core.specs.Taking.{lives}
 use Rattle.broker_core.specs.Watched.{Watched}
 use Rattle.session_play.specs.declared.session.Stop.{Stop}
 use Rattle.session_play.specs.declared.unread.Found.TheVariants.{Message, BadSize}
-use Rattle.session_play.specs.Played.{Waiting, Play, Played, step_played, bytes_played}
+use Rattle.session_play.specs.Steps.{steps_in, behind}
+use Rattle.session_play.specs.Unread.{IsUnfinished}
+use Rattle.session_play.specs.Played.{Waiting, Play, Played, went, of_live, unread_by, unread_of, with_unread, with_step, step_played, steps_played, bytes_played}
 use Rattle.session_play.specs.Playing.{Ongoing, IsMore, IsPlayed, IsWatched, IsRead}
+use Rattle.session_play.proofs.FirstSteps.{found_nothing}
+use Rattle.session_play.proofs.UnreadLists.{none_left}
 use Rattle.session_play.proofs.BytesGoOn.{left_as, message_err, message_ok, bad_size}
 use Rattle.session_play.proofs.JournalGrows.{bytes_grow, watched_both}
 
@@ -55,6 +62,63 @@ message_goes begin at read after q piece rest more step used l m w h r j d p =
     (left_is q r.left at.play read.play j r.unread)
     (subst (λ (x : Limits). IsPlayed (step_played x (peer_entry q step) read.play) (Ok tt) after.play) (m ∙ l) p))
     ∙ w
+
+-- behind the last whole message nothing is left
+
+all_read : (limits : Limits) (e : Entry) (q : ℕ) (was : List Waiting) (play after : Play) →
+    play.unread ≡ with_unread q [] was → IsPlayed (step_played limits e play) (Ok tt) after → unread_of after q ≡ []
+all_read limits e q was play after u p = by (is_full limits play.journal e) p
+  where
+    by : (b : Bool) → IsPlayed (if b then record { play = play; is_full = true } else went (with_step limits e play))
+        (Ok tt) after → unread_of after q ≡ []
+    by true h = (let no = h.0 in cc)
+    by false h =
+        let journal : List Entry = settle limits.store (e ∷ play.journal) in
+        ap (λ (x : Play). unread_of x q) h.1 ∙ ap (λ (us : List Waiting). unread_by (of_live journal us) q) u
+        ∙ none_left journal q was
+
+nothing_left : (q : ℕ) (unread : List Waiting) → unread_by unread q ≡ [] → with_unread q [] unread ≡ unread
+nothing_left q [] h = refl
+nothing_left q (w ∷ rest) h = by (w.number == q) h (nothing_left q rest)
+  where
+    by : (b : Bool) → (if b then w.bytes else unread_by rest q) ≡ [] →
+        (unread_by rest q ≡ [] → with_unread q [] rest ≡ rest) →
+        (if b then record w { bytes = [] } ∷ rest else w ∷ with_unread q [] rest) ≡ w ∷ rest
+    by true e k = ap (λ (bytes : List ℕ). record w { bytes = bytes } ∷ rest) (sym e)
+    by false e k = ap (λ (ws : List Waiting). w ∷ ws) (k e)
+
+abbrev goes_on : Limits → ℕ → List ℕ → Play → Played
+goes_on limits q bytes play =
+    steps_played limits q (steps_in q bytes) (record play { unread = with_unread q (behind bytes) play.unread })
+
+nothing_played : (limits : Limits) (q : ℕ) (play : Play) → unread_of play q ≡ [] → bytes_played limits q [] play ≡ went play
+nothing_played limits q play h = by (lives play.journal q)
+  where
+    by : (b : Bool) → (if b then goes_on limits q (unread_of play q ++ []) play else went play) ≡ went play
+    by true =
+        let none : IsUnfinished q [] [] = found_nothing q [] [] (λ long. absurd (omega arith)) refl in
+        ap (λ (bytes : List ℕ). goes_on limits q (bytes ++ []) play) h
+        ∙ ap (λ (es : List Entry). steps_played limits q es (record play { unread = with_unread q (behind []) play.unread }))
+        none.steps
+        ∙ ap (λ (us : List Waiting). went (record play { unread = us }))
+        (ap (λ (bytes : List ℕ). with_unread q bytes play.unread) none.all_behind ∙ nothing_left q play.unread h)
+    by false = refl
+
+pub none_of : (bytes : List ℕ) → (length bytes == 0) ≡ true → bytes ≡ []
+none_of [] h = refl
+none_of (b ∷ bytes) h = (let e = eqb-true (length (b ∷ bytes)) 0 h in absurd (omega arith))
+
+pub message_last : (begin at read after : Ongoing) (q : ℕ) (piece rest more : List ℕ) (step : PeerStep) (used : ℕ) →
+    IsOnWay begin q piece after more → more ≡ [] → IsRead at q rest (Message step used) read →
+    IsPlayed (step_played read.limits (peer_entry q step) read.play) (Ok tt) after.play →
+    IsPlayed (bytes_played begin.limits q piece begin.play) (Ok tt) after.play
+message_last begin at read after q piece rest more step used w m r p =
+    let none : read.play.unread ≡ with_unread q [] at.play.unread =
+    r.unread ∙ ap (λ (bytes : List ℕ). with_unread q bytes at.play.unread) r.finds.none_left in
+    let done = nothing_played begin.limits q after.play
+    (all_read read.limits (peer_entry q step) q at.play.unread read.play after.play none p) in
+    subst (λ (x : Played). IsPlayed x (Ok tt) after.play)
+    (sym done ∙ ap (λ (bytes : List ℕ). bytes_played begin.limits q bytes after.play) (sym m) ∙ w) (refl, refl)
 
 pub bad_size_ends : (begin at read : Ongoing) (q : ℕ) (piece rest : List ℕ) (step : PeerStep)
     (r : Result (Unit {0}) Stop) (after : Play) →

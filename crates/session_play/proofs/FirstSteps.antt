@@ -10,7 +10,7 @@ use Rattle.seat_steps.specs.declared.step.PeerStep.TheVariants as peers
 use Rattle.seat_steps.specs.Ranges.{IsBody}
 use Rattle.broker_model.specs.declared.journal.Entry.{Entry}
 use Rattle.broker_model.specs.declared.journal.Entry.TheVariants as entries
-use Rattle.session_play.specs.Steps.{message_entry, bad_entries, behind, steps_in}
+use Rattle.session_play.specs.Steps.{message_entry, bad_entries, behind, steps_in, IsFront}
 use Rattle.session_play.specs.Unread.{IsFirst, IsUnfinished, IsLast}
 
 -- a whole message has a header
@@ -202,6 +202,14 @@ found_message q id opcode used held piece m body left some within is whole i o b
       behind_same = ap (λ (x : List ℕ). behind x) split ∙ first.1;
       none_left = none;
     }
+
+-- as a piece begins with it, behind no others
+pub front_message : (q id opcode used : ℕ) (held piece raw body left : List ℕ) → held ≡ [] → left ≡ [] → body ≡ raw →
+    IsFront id opcode raw piece used → IsFirst q (held ++ piece) piece (peers.Message id opcode body) used left
+front_message q id opcode used held piece raw body left h l b f =
+    subst (λ (x : List ℕ). IsFirst q (x ++ piece) piece (peers.Message id opcode body) used left) (sym h)
+    (found_message q id opcode used [] piece (take used piece) body left f.some f.within refl f.whole f.same_id
+    f.same_opcode (b ∙ f.same_body) l)
 
 -- bytes that begin with no message and no bad size
 

@@ -1,4 +1,5 @@
 pub mod LivesBefore
+pub mod NobodyEnded
 pub mod DeadAfterBadSize
 pub mod UnreadLists
 pub mod UnreadPlaces

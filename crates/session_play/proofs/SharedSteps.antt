@@ -24,7 +24,7 @@ use Rattle.broker_core.specs.Watched.{Watched}
 use Rattle.session_play.specs.declared.session.Stop.TheVariants as stops
 use Rattle.session_play.specs.declared.unread.Unread.{Unread}
 use Rattle.session_play.specs.Played.{Waiting, Play, unread_by, unread_of, with_unread, of_live, with_step, step_played, with_peer, join_played, take_played}
-use Rattle.session_play.specs.Playing.{Ongoing, is_waiting, AreWaiting, IsThere, IsMore, IsPlayed, IsWatched, IsRead, IsEnough}
+use Rattle.session_play.specs.Playing.{Ongoing, is_waiting, AreWaiting, AreLive, IsThere, IsMore, IsPlayed, IsWatched, IsRead, IsEnough}
 use Rattle.session_play.specs.declared.unread.Found.{Found}
 use Rattle.wl_wire.specs.Streams.{begun}
 use Rattle.session_play.specs.Unread.{waiting, Finds}
@@ -264,6 +264,13 @@ pub read_waits : (journal : List Entry) (was : List Unread) (q place : ℕ) (old
 read_waits journal was q place old new h n w k l =
     ap (is_waiting k) (set_at q was place new h.at (n ∙ h.number))
     ∙ waiting_with q (begun new.assembler) k (map waiting was) ∙ w k l
+
+pub read_live : (journal : List Entry) (was : List Unread) (q place : ℕ) (old new : Unread) → IsHeld was q place old →
+    new.number ≡ old.number →
+    AreLive journal (map waiting was) → AreLive journal (map waiting (set was place new))
+read_live journal was q place old new h n w k l =
+    w k (sym (ap (is_waiting k) (set_at q was place new h.at (n ∙ h.number))
+    ∙ waiting_with q (begun new.assembler) k (map waiting was)) ∙ l)
 
 read_by : (s after : Ongoing) (b : Broker) (was : List Unread) (q place : ℕ) (old new : Unread) (piece : List ℕ)
     (found : Found) → view_of b was ≡ s →

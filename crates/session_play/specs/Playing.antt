@@ -1,5 +1,5 @@
 -- A session as far as it is played.
-use Rattle.std.specs.Prelude.{◌≡◌, ℕ, ◌+◌, ◌==◌, List, [], ◌++◌, length, replicate, min, Bool, true, false, string_bytes, Option, Result, Ok, Err, String}
+use Rattle.std.specs.Prelude.{◌≡◌, ℕ, ◌+◌, ◌==◌, List, [], ◌∷◌, ◌++◌, length, replicate, min, Bool, true, false, string_bytes, Option, Result, Ok, Err, String}
 use Rattle.std.specs.List.{list_any}
 use Rattle.std.specs.Global.{Global}
 use Rattle.seat_steps.specs.declared.limits.Limits.{Limits}
@@ -7,6 +7,7 @@ use Rattle.seat_steps.specs.declared.stamp.Stamp.{Stamp}
 use Rattle.seat_steps.specs.declared.step.Step.{Step}
 use Rattle.seat_steps.specs.declared.step.Step.TheVariants as steps
 use Rattle.broker_model.specs.declared.journal.Entry.{Entry}
+use Rattle.broker_model.specs.Limits.{is_end}
 use Rattle.broker_model.specs.Out.{Outgoing, stored}
 use Rattle.broker_model.specs.Settle.{outer}
 use Rattle.broker_model.specs.Stamps.{stamps}
@@ -47,6 +48,15 @@ is_waiting q unread = list_any (λ w. w.number == q) unread
 -- each live peer has its unread bytes
 abbrev pub AreWaiting : List Entry → List Waiting → Type 0
 AreWaiting journal unread = (q : ℕ) → lives journal q ≡ true → is_waiting q unread ≡ true
+
+-- and nobody else has
+abbrev pub AreLive : List Entry → List Waiting → Type 0
+AreLive journal unread = (q : ℕ) → is_waiting q unread ≡ true → lives journal q ≡ true
+
+-- the newest entry is the end of a peer
+abbrev pub ends_in_end : List Entry → Bool
+ends_in_end [] = false
+ends_in_end (e ∷ older) = is_end e
 
 -- a buffer has room for as many of the stored bytes as are asked for at most
 abbrev pub IsEnough : (room most : ℕ) → Outgoing → Type 0

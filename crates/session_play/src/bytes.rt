@@ -47,6 +47,9 @@ impl Session {
                 Found::Message(step, used) => {
                     self.step(&Step::Peer(number, step), stamp, watch)?;
                     let (_, more) = rest.split_at(used);
+                    if more.is_empty() {
+                        return Ok(());
+                    }
                     rest = more;
                 }
                 Found::Nothing => return Ok(()),

@@ -2,6 +2,7 @@
 #![tactic(auto)]
 
 mod bytes;
+mod ending;
 mod laws;
 mod player;
 mod session;

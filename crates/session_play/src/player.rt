@@ -60,6 +60,7 @@ impl Player {
     ghost use Rattle.std.specs.Prelude.{◌≡◌, [], length, false, true, Some, None, Err, IfOk, IfErr, IfSome, OnOk, OnErr};
     ghost use Rattle.seat_steps.specs.Ranges.{IsLimits};
     ghost use Rattle.session_text.specs.Steps.{IsSessionLine};
+    ghost use Rattle.session_text.specs.declared.line.SessionLine.TheVariants as lines;
     ghost use Rattle.broker_model.specs.Settle.{history, outer};
     ghost use Rattle.broker_model.specs.Stamps.{stamps, step_stamps};
     ghost use Rattle.session_play.specs.Played.{line_played};
@@ -117,6 +118,41 @@ impl Player {
         let played = self.session.line(line, stamp, watch);
         if let Err(stop) = played {
             self.stopped = Some(stop);
+        }
+        played
+    }
+
+    /// Plays the line of a peer's bytes, as `line_watched` does.
+    pub fn bytes_watched<W: Watch>(
+        &mut self,
+        number: u32,
+        piece: &[u8],
+        stamp: Stamp,
+        watch: &mut W,
+    ) -> Result<(), Stop>
+        ensures played { self.old.is_spent ≡ false →
+            IsPlayed (line_played self.old.limits (lines.Bytes number piece.now) self.old.play)
+            result self.new.play }
+        ensures ok { OnOk result (self.new ≡ record self.old {
+          play = self.new.play;
+          stamps = self.new.stamps;
+        }) }
+        ensures stopped { IfErr result (λ stop. self.new.stopped ≡ Some stop) }
+        ensures spent { OnErr result (self.new.is_spent ≡ true) }
+        ensures again { IfSome self.old.stopped (λ stop. result ≡ Err stop) }
+        ensures stays { self.old.is_spent ≡ true → self.new ≡ self.old }
+        ensures limits { self.new.limits ≡ self.old.limits }
+        ensures stamped { AreStamped stamp self.old.play.journal self.old.stamps
+            self.new.play.journal self.new.stamps }
+        ensures watched { IsWatched W.may_follow self.old.limits.store self.old.play.journal
+            watch.old self.new.play.journal watch.new }
+    {
+        if let Some(stop) = self.stopped {
+            return Err(stop);
+        }
+        let played = self.session.bytes(number, piece, stamp, watch);
+        if let Err(why) = played {
+            self.stopped = Some(why);
         }
         played
     }

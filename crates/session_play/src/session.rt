@@ -1,5 +1,6 @@
 // The lines of a session that are one step each, played through the shared state.
-use crate::unread::{Unread, forget_ended, lives};
+use crate::ending::{forget_ended, keep_live};
+use crate::unread::{Unread, lives};
 use broker_core::{JoinRefusal, Journal, Kept, Refused, Shared, StampList, Took, Watch};
 use relay_model::Role;
 use seat_steps::{Limits, PeerStep, Stamp, Step, TokenList};
@@ -55,7 +56,7 @@ pub(crate) struct Session {
 impl Model for Session {
     ghost use Rattle.std.specs.Prelude.{map};
     ghost use Rattle.session_play.specs.Unread.{waiting};
-    ghost use Rattle.session_play.specs.Playing.{Ongoing, AreWaiting};
+    ghost use Rattle.session_play.specs.Playing.{Ongoing, AreWaiting, AreLive};
 
     ghost Value = { Ongoing };
 
@@ -65,7 +66,8 @@ impl Model for Session {
       stamps = s.shared.stamps;
     } };
 
-    ghost invariant = { λ s. AreWaiting s.shared.journal (map waiting s.unread.items) };
+    ghost invariant = { λ s. AreWaiting s.shared.journal (map waiting s.unread.items)
+        × AreLive s.shared.journal (map waiting s.unread.items) };
 }
 
 impl Session {
@@ -177,8 +179,12 @@ impl Session {
         self.unread.reserve(1)?;
         match self.shared.join_watched(role, stamp, watch) {
             Ok(number) => {
-                let _ = self.unread.push(Unread { number, assembler });
-                forget_ended(&self.shared, &mut self.unread);
+                let _ = self.unread.push(Unread {
+                    number,
+                    assembler,
+                    is_clear: true,
+                });
+                keep_live(&self.shared, &mut self.unread);
                 Ok(())
             }
             Err(JoinRefusal::TooManyPeers(_)) => Ok(()),

@@ -10,7 +10,7 @@ use Rattle.hex.specs.Hex.{lower_digits, encode_lower, encode_with, hex_digit_val
 use Rattle.hex.specs.declared.error.FromHexError.{FromHexError}
 use Rattle.hex.specs.declared.error.FromHexError.TheVariants.{OddLength}
 
-low_digit : (v : ℕ) → v < 10 → slice_index lower_digits v ≡ 48 + v
+pub low_digit : (v : ℕ) → v < 10 → slice_index lower_digits v ≡ 48 + v
 low_digit zero lt = refl
 low_digit (suc zero) lt = refl
 low_digit (suc (suc zero)) lt = refl
@@ -23,7 +23,7 @@ low_digit (suc (suc (suc (suc (suc (suc (suc (suc zero)))))))) lt = refl
 low_digit (suc (suc (suc (suc (suc (suc (suc (suc (suc zero))))))))) lt = refl
 low_digit (suc (suc (suc (suc (suc (suc (suc (suc (suc (suc v)))))))))) lt = absurd (omega arith)
 
-letter_digit : (v : ℕ) → v < 6 → slice_index lower_digits (10 + v) ≡ 97 + v
+pub letter_digit : (v : ℕ) → v < 6 → slice_index lower_digits (10 + v) ≡ 97 + v
 letter_digit zero lt = refl
 letter_digit (suc zero) lt = refl
 letter_digit (suc (suc zero)) lt = refl

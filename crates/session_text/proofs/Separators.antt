@@ -73,7 +73,7 @@ join_lacks b [] other h = refl
 join_lacks b (w ∷ []) other h = h.0
 join_lacks b (w ∷ v ∷ ws) other h = rw (list_all-append, h.0, other, join_lacks b (v ∷ ws) other h.1) refl
 
-lacks_all : (b : ℕ) (w : List ℕ) → lacks b w ≡ true → All (λ x. eqb x b ≡ false) w
+pub lacks_all : (b : ℕ) (w : List ℕ) → lacks b w ≡ true → All (λ x. eqb x b ≡ false) w
 lacks_all b [] h = All-nil (λ x. eqb x b ≡ false)
 lacks_all b (x ∷ xs) h =
     let p = and_parts (not (eqb x b)) (lacks b xs) h in

@@ -1,5 +1,5 @@
 -- The words of a line: decimal numbers, hex texts and bytes, and what each word reads as.
-use Rattle.std.specs.Prelude.{◌≡◌, ℕ, zero, suc, ℤ, pos, negsuc, ◌^◌, ◌≤◌, ◌&&◌, Bool, nat_lt, nat_le, if◌then◌else◌, List, [], ◌∷◌, length, get_or, codes, IsTrue, Option, Some, None, Result, Ok, Err}
+use Rattle.std.specs.Prelude.{◌≡◌, ℕ, zero, suc, ℤ, pos, negsuc, ◌-◌, ◌^◌, ◌≤◌, ◌&&◌, Bool, nat_lt, nat_le, if◌then◌else◌, List, [], ◌∷◌, length, get_or, codes, IsTrue, Option, Some, None, Result, Ok, Err}
 use Rattle.std.specs.Str.{bytes_eq}
 use Rattle.std.specs.Str.Parse.{digits_value, signed_digits_value}
 use Rattle.std.specs.Fmt.{decimal, signed_decimal}
@@ -131,6 +131,10 @@ abbrev pub decoded : ℕ → List ℕ → Result (List ℕ) FromHexError → Opt
 decoded limit word (Ok bytes) =
     if nat_lt 0 (length bytes) && nat_le (length bytes) limit && bytes_eq (encode_lower bytes) word then Some bytes else None
 decoded limit word (Err e) = None
+
+-- the value of a digit in lower case; 256 for any other byte
+abbrev pub value_of : ℕ → ℕ
+value_of c = if nat_le 48 c && nat_le c 57 then c - 48 else if nat_le 97 c && nat_le c 102 then c - 87 else 256
 
 -- the bytes, from one to so many, that are written so
 unfoldable pub bytes_of : ℕ → List ℕ → Option (List ℕ)

@@ -4,7 +4,7 @@ ghost use Rattle.session_text.specs.Reading.{one_word, two_words, three_words, f
 ghost use Rattle.session_text.specs.Reading.{five_words, six_words, act_of, Reads};
 
 use crate::line::BadLine;
-use crate::words::{cursor_text, number, signed, size, state, text};
+use crate::words::{cursor_text, is, number, signed, size, state, text};
 use relay_model::{Act, EndCause, Keymap, Mods, Rect, Repeat, Size};
 use std::alloc::Global;
 
@@ -12,9 +12,9 @@ use std::alloc::Global;
 fn read_one(key: &[u8]) -> Result<Act, BadLine>
     ensures { Reads result (one_word key.now) }
 {
-    if key == b"peer".as_slice() {
+    if is(key, b"peer".as_slice()) {
         Ok(Act::Peer)
-    } else if key == b"unfocus".as_slice() {
+    } else if is(key, b"unfocus".as_slice()) {
         Ok(Act::Unfocus)
     } else {
         Err(BadLine::Grammar)
@@ -25,30 +25,30 @@ fn read_one(key: &[u8]) -> Result<Act, BadLine>
 fn read_two(key: &[u8], a: &[u8]) -> Result<Act, BadLine>
     ensures { Reads result (two_words key.now a.now) }
 {
-    if key == b"gone".as_slice() {
+    if is(key, b"gone".as_slice()) {
         Ok(Act::Gone {
             peer: number(a)?,
             cause: EndCause::Gone,
         })
-    } else if key == b"surface".as_slice() {
+    } else if is(key, b"surface".as_slice()) {
         Ok(Act::Surface { peer: number(a)? })
-    } else if key == b"field".as_slice() {
+    } else if is(key, b"field".as_slice()) {
         Ok(Act::Field { peer: number(a)? })
-    } else if key == b"method".as_slice() {
+    } else if is(key, b"method".as_slice()) {
         Ok(Act::Method { peer: number(a)? })
-    } else if key == b"grab".as_slice() {
+    } else if is(key, b"grab".as_slice()) {
         Ok(Act::Grab { method: number(a)? })
-    } else if key == b"drop".as_slice() {
+    } else if is(key, b"drop".as_slice()) {
         Ok(Act::Drop { label: number(a)? })
-    } else if key == b"focus".as_slice() {
+    } else if is(key, b"focus".as_slice()) {
         Ok(Act::Focus {
             surface: number(a)?,
         })
-    } else if key == b"enable".as_slice() {
+    } else if is(key, b"enable".as_slice()) {
         Ok(Act::Enable { field: number(a)? })
-    } else if key == b"disable".as_slice() {
+    } else if is(key, b"disable".as_slice()) {
         Ok(Act::Disable { field: number(a)? })
-    } else if key == b"commit".as_slice() {
+    } else if is(key, b"commit".as_slice()) {
         Ok(Act::Commit { field: number(a)? })
     } else {
         Err(BadLine::Grammar)
@@ -59,29 +59,29 @@ fn read_two(key: &[u8], a: &[u8]) -> Result<Act, BadLine>
 fn read_three(alloc: Global, key: &[u8], a: &[u8], b: &[u8]) -> Result<Act, BadLine>
     ensures { Reads result (three_words key.now a.now b.now) }
 {
-    if key == b"popup".as_slice() {
+    if is(key, b"popup".as_slice()) {
         let method = number(a)?;
         let surface = number(b)?;
         Ok(Act::Popup { method, surface })
-    } else if key == b"screen".as_slice() {
+    } else if is(key, b"screen".as_slice()) {
         let width = size(a)?;
         let height = size(b)?;
         Ok(Act::Screen {
             size: Size { width, height },
         })
-    } else if key == b"cause".as_slice() {
+    } else if is(key, b"cause".as_slice()) {
         let field = number(a)?;
         let cause = number(b)?;
         Ok(Act::Cause { field, cause })
-    } else if key == b"mstring".as_slice() {
+    } else if is(key, b"mstring".as_slice()) {
         let method = number(a)?;
         let text = text(alloc, b)?;
         Ok(Act::MString { method, text })
-    } else if key == b"mcommit".as_slice() {
+    } else if is(key, b"mcommit".as_slice()) {
         let method = number(a)?;
         let serial = number(b)?;
         Ok(Act::MCommit { method, serial })
-    } else if key == b"repeat".as_slice() {
+    } else if is(key, b"repeat".as_slice()) {
         let rate = signed(a)?;
         let delay = signed(b)?;
         Ok(Act::Repeat(Repeat { rate, delay }))
@@ -94,7 +94,7 @@ fn read_three(alloc: Global, key: &[u8], a: &[u8], b: &[u8]) -> Result<Act, BadL
 fn read_four(key: &[u8], a: &[u8], b: &[u8], c: &[u8]) -> Result<Act, BadLine>
     ensures { Reads result (four_words key.now a.now b.now c.now) }
 {
-    if key == b"content".as_slice() {
+    if is(key, b"content".as_slice()) {
         let field = number(a)?;
         let hint = number(b)?;
         let purpose = number(c)?;
@@ -103,7 +103,7 @@ fn read_four(key: &[u8], a: &[u8], b: &[u8], c: &[u8]) -> Result<Act, BadLine>
             hint,
             purpose,
         })
-    } else if key == b"mdelete".as_slice() {
+    } else if is(key, b"mdelete".as_slice()) {
         let method = number(a)?;
         let before = number(b)?;
         let after = number(c)?;
@@ -112,12 +112,12 @@ fn read_four(key: &[u8], a: &[u8], b: &[u8], c: &[u8]) -> Result<Act, BadLine>
             before,
             after,
         })
-    } else if key == b"key".as_slice() {
+    } else if is(key, b"key".as_slice()) {
         let time = number(a)?;
         let key = number(b)?;
         let state = state(c)?;
         Ok(Act::Key { time, key, state })
-    } else if key == b"keymap".as_slice() {
+    } else if is(key, b"keymap".as_slice()) {
         let format = number(a)?;
         let token = number(b)?;
         let size = number(c)?;
@@ -142,7 +142,7 @@ fn read_five(
 ) -> Result<Act, BadLine>
     ensures { Reads result (five_words key.now a.now b.now c.now d.now) }
 {
-    if key == b"surround".as_slice() {
+    if is(key, b"surround".as_slice()) {
         let field = number(a)?;
         let text = cursor_text(alloc, b)?;
         let cursor = signed(c)?;
@@ -153,7 +153,7 @@ fn read_five(
             cursor,
             anchor,
         })
-    } else if key == b"mpreedit".as_slice() {
+    } else if is(key, b"mpreedit".as_slice()) {
         let method = number(a)?;
         let text = cursor_text(alloc, b)?;
         let begin = signed(c)?;
@@ -164,7 +164,7 @@ fn read_five(
             begin,
             end,
         })
-    } else if key == b"mods".as_slice() {
+    } else if is(key, b"mods".as_slice()) {
         let depressed = number(a)?;
         let latched = number(b)?;
         let locked = number(c)?;
@@ -184,7 +184,7 @@ fn read_five(
 fn read_six(key: &[u8], a: &[u8], b: &[u8], c: &[u8], d: &[u8], e: &[u8]) -> Result<Act, BadLine>
     ensures { Reads result (six_words key.now a.now b.now c.now d.now e.now) }
 {
-    if key == b"area".as_slice() {
+    if is(key, b"area".as_slice()) {
         let surface = number(a)?;
         let x = signed(b)?;
         let y = signed(c)?;
@@ -199,7 +199,7 @@ fn read_six(key: &[u8], a: &[u8], b: &[u8], c: &[u8], d: &[u8], e: &[u8]) -> Res
                 height,
             },
         })
-    } else if key == b"rect".as_slice() {
+    } else if is(key, b"rect".as_slice()) {
         let field = number(a)?;
         let x = signed(b)?;
         let y = signed(c)?;

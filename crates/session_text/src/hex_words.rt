@@ -1,5 +1,5 @@
 // Texts and bytes in lower-case hex digits.
-ghost use Rattle.std.specs.Prelude.{◌≡◌, ◌≢◌, ◌≤◌, ◌⊎◌, ◌&&◌, Some, length, nat_lt, nat_le, IfOk, IfErr};
+ghost use Rattle.std.specs.Prelude.{◌≡◌, ◌≢◌, ◌≤◌, ◌⊎◌, ◌&&◌, Some, length, nat_lt, nat_le, IfOk, IfErr, IfSome};
 ghost use Rattle.std.specs.List.{list_any};
 ghost use Rattle.std.specs.Char.{is_ascii_uppercase};
 ghost use Rattle.std.specs.Str.{bytes_eq};
@@ -10,7 +10,9 @@ ghost use Rattle.session_text.specs.Reading.{Reads};
 ghost use Rattle.session_text.specs.Words.{bytes_of, kept, text_of};
 ghost use Rattle.wl_wire.specs.Texts.{is_text};
 
+use crate::hex_digits::decode_lower;
 use crate::line::BadLine;
+use crate::words::is;
 use hex::FromHexError;
 use std::alloc::Global;
 use wl_wire::{Bytes, Text};
@@ -102,13 +104,33 @@ fn checked_text(bytes: Vec<u8>) -> Result<Text, BadLine>
     }
 }
 
+// From one to so many bytes, where the word is pairs of digits in lower case.
+fn lower_bytes(alloc: Global, limit: usize, word: &[u8]) -> Result<Option<Vec<u8>>, BadLine>
+    ensures read { IfOk result (λ found. IfSome found (λ v. bytes_of limit word.now ≡ Some v.items)) }
+    ensures memory { IfErr result (λ e. e ≡ NoMemory) }
+{
+    let length = word.len() / 2;
+    if length == 0 || length > limit || word.len() % 2 != 0 {
+        return Ok(None);
+    }
+    let mut bytes = vec![in alloc; 0; length]?;
+    if decode_lower(word, &mut bytes) {
+        Ok(Some(bytes))
+    } else {
+        Ok(None)
+    }
+}
+
 /// A text of at most `limit` bytes in lower-case hex, or `-` where it is empty.
 #[tactic(auto, unfolding(crate::specs::Words::text_of, crate::specs::Words::bytes_of))]
 pub fn text_within(alloc: Global, limit: usize, word: &[u8]) -> Result<Text, BadLine>
     ensures { Reads result (text_of limit word.now) }
 {
-    if word == b"-".as_slice() {
+    if is(word, b"-".as_slice()) {
         return Ok(Text::empty(alloc));
+    }
+    if let Some(bytes) = lower_bytes(alloc, limit, word)? {
+        return checked_text(bytes);
     }
     match hex::decode(alloc, word) {
         Ok(bytes) if is_printed(limit, &bytes, word) => checked_text(bytes),

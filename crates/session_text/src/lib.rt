@@ -4,9 +4,11 @@
 
 mod act_line;
 mod cutting;
+mod hex_digits;
 mod hex_words;
 mod line;
 mod numerals;
+mod piece_line;
 mod printing;
 mod session_line;
 mod shell_line;
@@ -19,6 +21,7 @@ pub mod words;
 pub use line::{
     BadLine, Form, LINE_LIMIT, Line, SessionLine, one_spelling, read_line, worked_lines,
 };
+pub use piece_line::{read_piece, read_stamped_piece};
 pub use step_line::{messages_are_whole, print_stamped, print_step};
 pub use told_line::{print_told, write_told};
 pub use transcript_line::{

@@ -1,5 +1,6 @@
 // A line, and how it is read.
-ghost use Rattle.std.specs.Prelude.{◌≡◌, map, IfOk};
+ghost use Rattle.std.specs.Prelude.{◌≡◌, ◌≢◌, ◌==◌, map, IfOk};
+ghost use Rattle.std.specs.List.{slice_split};
 ghost use Rattle.session_text.specs.declared.line.BadLine.TheVariants.{NoMemory};
 ghost use Rattle.session_text.specs.Grammar.{IsLine};
 ghost use Rattle.session_text.specs.Laws.{ReadsOnlySpellings, ReadsEachSpelling};
@@ -8,7 +9,7 @@ ghost use Rattle.session_text.specs.Worked.{WorkedLines, WorkedStamps, OtherLine
 ghost use Rattle.session_text.specs.Worked.{WorkedSteps, WorkedEvents};
 
 use crate::act_line::read_act;
-use crate::cutting::words_of;
+use crate::cutting::{all_words, words_of};
 use crate::session_line::read_session;
 use crate::stamped_line::{read_link, read_session_2};
 use relay_model::{Act, Role};
@@ -117,6 +118,38 @@ fn read_words(alloc: Global, form: Form, words: &[&[u8]]) -> Result<Line, BadLin
     }
 }
 
+// A line of form 2, which has as many words as it has tokens and some more.
+fn read_many(alloc: Global, line: &[u8]) -> Result<Line, BadLine>
+    ensures { reading.Reads result (reading.line_of_words Form.Session2
+        (slice_split (λ b. b == 32) line.now)) }
+{
+    let words = all_words(alloc, line)?;
+    read_session_2(alloc, words.as_slice())
+}
+
+// A line of another form, which has eight words at most.
+fn read_few(alloc: Global, form: Form, line: &[u8]) -> Result<Line, BadLine>
+    requires { form ≢ Form.Session2 }
+    ensures { reading.Reads result (reading.line_of_words form
+        (slice_split (λ b. b == 32) line.now)) }
+{
+    let Some(words) = words_of(line) else {
+        return Err(BadLine::Grammar);
+    };
+    read_words(alloc, form, &words.words[..words.count])
+}
+
+// The line of the bytes, of which there may be any number.
+fn read_split(alloc: Global, form: Form, line: &[u8]) -> Result<Line, BadLine>
+    ensures { reading.Reads result (reading.line_of_words form
+        (slice_split (λ b. b == 32) line.now)) }
+{
+    match form {
+        Form::Session2 => read_many(alloc, line),
+        Form::Acts | Form::Session | Form::Shell => read_few(alloc, form, line),
+    }
+}
+
 /// Reads a line without its line feed. `Grammar` comes exactly where the form has no such line.
 /// Words are separated by one space. Numbers are decimal, in the range of their type, without a
 /// leading zero, and only those with a sign may begin with `-`. A text is pairs of lower-case hex
@@ -132,8 +165,7 @@ pub fn read_line(alloc: Global, form: Form, line: &[u8]) -> Result<Line, BadLine
     if line.len() > LINE_LIMIT {
         return Err(BadLine::Grammar);
     }
-    let words = words_of(alloc, line)?;
-    read_words(alloc, form, words.as_slice())
+    read_split(alloc, form, line)
 }
 
 /// A law without work: bytes that read as a line are its one spelling, and each line's spelling

@@ -8,7 +8,7 @@ ghost use Rattle.session_text.specs.SessionReading.{session_of};
 use crate::hex_words::bytes_within;
 use crate::line::{BadLine, Line, SessionLine};
 use crate::shell_line;
-use crate::words::{count, number, role};
+use crate::words::{count, is, number, role};
 use seat_steps::{FORM_1_ENTRY_LIMIT, FORM_1_WEIGHT, Limits, STORE_LIMIT};
 use std::alloc::Global;
 use wl_wire::MESSAGE_LIMIT;
@@ -17,7 +17,7 @@ use wl_wire::MESSAGE_LIMIT;
 fn read_one(key: &[u8]) -> Result<Line, BadLine>
     ensures { Reads result (one_session_word key.now) }
 {
-    if key == b"end".as_slice() {
+    if is(key, b"end".as_slice()) {
         Ok(Line::End)
     } else {
         let step = shell_line::read_one(key)?;
@@ -29,10 +29,10 @@ fn read_one(key: &[u8]) -> Result<Line, BadLine>
 fn read_two(key: &[u8], a: &[u8]) -> Result<Line, BadLine>
     ensures { Reads result (two_session_words key.now a.now) }
 {
-    if key == b"join".as_slice() {
+    if is(key, b"join".as_slice()) {
         let role = role(a)?;
         Ok(Line::Session(SessionLine::Join(role)))
-    } else if key == b"gone".as_slice() {
+    } else if is(key, b"gone".as_slice()) {
         let peer = number(a)?;
         Ok(Line::Session(SessionLine::Gone(peer)))
     } else {
@@ -44,11 +44,11 @@ fn read_two(key: &[u8], a: &[u8]) -> Result<Line, BadLine>
 fn read_three(alloc: Global, key: &[u8], a: &[u8], b: &[u8]) -> Result<Line, BadLine>
     ensures { Reads result (three_session_words key.now a.now b.now) }
 {
-    if key == b"bytes".as_slice() {
+    if is(key, b"bytes".as_slice()) {
         let peer = number(a)?;
         let bytes = bytes_within(alloc, MESSAGE_LIMIT, b)?;
         Ok(Line::Session(SessionLine::Bytes(peer, bytes)))
-    } else if key == b"take".as_slice() {
+    } else if is(key, b"take".as_slice()) {
         let peer = number(a)?;
         let taken = count(MESSAGE_LIMIT as u32, b)?;
         Ok(Line::Session(SessionLine::Take(peer, taken)))
@@ -79,7 +79,7 @@ fn read_header(form: &[u8], a: &[u8], b: &[u8]) -> Result<Line, BadLine>
 fn read_four(key: &[u8], a: &[u8], b: &[u8], c: &[u8]) -> Result<Line, BadLine>
     ensures { Reads result (four_session_words key.now a.now b.now c.now) }
 {
-    if key == b"session".as_slice() {
+    if is(key, b"session".as_slice()) {
         read_header(a, b, c)
     } else {
         let step = shell_line::read_four(key, a, b, c)?;

@@ -6,7 +6,7 @@ ghost use Rattle.session_text.specs.SessionReading.{four_shell_words, five_shell
 ghost use Rattle.session_text.specs.SessionReading.{seven_shell_words, shell_of};
 
 use crate::line::BadLine;
-use crate::words::{number, signed, size, state};
+use crate::words::{is, number, signed, size, state};
 use relay_model::{Keymap, Mods, Rect, Repeat, Size};
 use seat_steps::ShellStep;
 
@@ -14,7 +14,7 @@ use seat_steps::ShellStep;
 pub fn read_one(key: &[u8]) -> Result<ShellStep, BadLine>
     ensures { Reads result (one_shell_word key.now) }
 {
-    if key == b"unfocus".as_slice() {
+    if is(key, b"unfocus".as_slice()) {
         Ok(ShellStep::Unfocus)
     } else {
         Err(BadLine::Grammar)
@@ -25,17 +25,17 @@ pub fn read_one(key: &[u8]) -> Result<ShellStep, BadLine>
 pub fn read_three(key: &[u8], a: &[u8], b: &[u8]) -> Result<ShellStep, BadLine>
     ensures { Reads result (three_shell_words key.now a.now b.now) }
 {
-    if key == b"focus".as_slice() {
+    if is(key, b"focus".as_slice()) {
         let peer = number(a)?;
         let id = number(b)?;
         Ok(ShellStep::Focus { peer, id })
-    } else if key == b"screen".as_slice() {
+    } else if is(key, b"screen".as_slice()) {
         let width = size(a)?;
         let height = size(b)?;
         Ok(ShellStep::Screen {
             size: Size { width, height },
         })
-    } else if key == b"repeat".as_slice() {
+    } else if is(key, b"repeat".as_slice()) {
         let rate = signed(a)?;
         let delay = signed(b)?;
         Ok(ShellStep::Repeat(Repeat { rate, delay }))
@@ -48,12 +48,12 @@ pub fn read_three(key: &[u8], a: &[u8], b: &[u8]) -> Result<ShellStep, BadLine>
 pub fn read_four(key: &[u8], a: &[u8], b: &[u8], c: &[u8]) -> Result<ShellStep, BadLine>
     ensures { Reads result (four_shell_words key.now a.now b.now c.now) }
 {
-    if key == b"key".as_slice() {
+    if is(key, b"key".as_slice()) {
         let time = number(a)?;
         let key = number(b)?;
         let state = state(c)?;
         Ok(ShellStep::Key { time, key, state })
-    } else if key == b"keymap".as_slice() {
+    } else if is(key, b"keymap".as_slice()) {
         let format = number(a)?;
         let token = number(b)?;
         let size = number(c)?;
@@ -71,7 +71,7 @@ pub fn read_four(key: &[u8], a: &[u8], b: &[u8], c: &[u8]) -> Result<ShellStep, 
 fn read_five(key: &[u8], a: &[u8], b: &[u8], c: &[u8], d: &[u8]) -> Result<ShellStep, BadLine>
     ensures { Reads result (five_shell_words key.now a.now b.now c.now d.now) }
 {
-    if key == b"mods".as_slice() {
+    if is(key, b"mods".as_slice()) {
         let depressed = number(a)?;
         let latched = number(b)?;
         let locked = number(c)?;
@@ -99,7 +99,7 @@ fn read_seven(
 ) -> Result<ShellStep, BadLine>
     ensures { Reads result (seven_shell_words key.now a.now b.now c.now d.now e.now f.now) }
 {
-    if key == b"area".as_slice() {
+    if is(key, b"area".as_slice()) {
         let peer = number(a)?;
         let id = number(b)?;
         let x = signed(c)?;

@@ -1,4 +1,6 @@
 //! What single words of a line read as: numbers, texts and bytes, each in its one spelling.
+ghost use Rattle.std.specs.Prelude.{◌≡◌};
+ghost use Rattle.std.specs.Str.{bytes_eq};
 ghost use Rattle.session_text.specs.Reading.{Reads};
 ghost use Rattle.session_text.specs.Words.{count_of, cursor_text_limit, long_number_of};
 ghost use Rattle.session_text.specs.Words.{number_of, role_of, signed_of, size_of, state_of};
@@ -10,6 +12,14 @@ use crate::numerals::{parsed_long_number, parsed_number, parsed_signed};
 use relay_model::Role;
 use std::alloc::Global;
 use wl_wire::{CURSOR_TEXT_LIMIT, TEXT_LIMIT, Text};
+
+// Whether the word is the name, which most words differ from in length.
+#[inline(always)]
+pub(crate) fn is(word: &[u8], name: &[u8]) -> bool
+    ensures { result ≡ bytes_eq word.now name.now }
+{
+    word.len() == name.len() && word == name
+}
 
 /// A decimal number below 2^32, without a leading zero.
 pub fn number(word: &[u8]) -> Result<u32, BadLine>
@@ -73,9 +83,9 @@ pub fn count(most: u32, word: &[u8]) -> Result<u32, BadLine>
 pub fn role(word: &[u8]) -> Result<Role, BadLine>
     ensures { Reads result (role_of word.now) }
 {
-    if word == b"app".as_slice() {
+    if is(word, b"app".as_slice()) {
         Ok(Role::App)
-    } else if word == b"method".as_slice() {
+    } else if is(word, b"method".as_slice()) {
         Ok(Role::Method)
     } else {
         Err(BadLine::Grammar)

@@ -56,6 +56,12 @@ text_grows capacity before after m =
     ap (journal_text capacity) m.is ∙ more_since capacity m.more before
     ∙ ap (λ (j : List Entry). journal_text capacity before ++ text_since capacity (length before) j) (sym m.is)
 
+-- the line of a peer's bytes is played
+pub piece_meaning : (raw : List ℕ) (q : ℕ) (piece : List ℕ)
+    → line_of Session raw ≡ Some (line.Session (lines.Bytes q piece)) → meaning_of raw ≡ meaning.Play (lines.Bytes q piece)
+unfolding meaning_of
+piece_meaning raw q piece e = ap meaning_of_line e
+
 -- a line only adds entries
 pub line_grows : (limits : Limits) (found : SessionLine) (play : Play)
     → IsMore play.journal (line_played limits found play).play.journal

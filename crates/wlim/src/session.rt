@@ -3,6 +3,7 @@ ghost use Rattle.std.specs.Prelude.{◌≡◌, ◌<◌, ◌+◌, ◌^◌, ℕ, [
 ghost use Rattle.std.specs.Option.{option_map};
 ghost use Rattle.seat_steps.specs.Ranges.{IsLimits};
 ghost use Rattle.session_text.specs.Steps.{IsSessionLine};
+ghost use Rattle.session_text.specs.declared.line.SessionLine.TheVariants as lines;
 ghost use Rattle.wlim.specs.Scripts.{Played};
 ghost use Rattle.wlim.specs.Session.{meaning_of, header_of, session_of_lines};
 ghost use Rattle.wlim.specs.PlayerScript.{fresh, PlayerStands, PlayerHolds};
@@ -13,9 +14,12 @@ use crate::script::Script;
 use seat_printer::Printer;
 use seat_steps::Limits;
 use session_play::{Player, Stop};
-use session_text::{BadLine, Form, Line, SessionLine, read_line};
+use session_text::{BadLine, Form, Line, SessionLine, read_line, read_piece};
 use std::alloc::Global;
 use wio_core::NoMemory;
+
+// As many bytes as most lines of a peer have at most.
+const FEW: usize = 64;
 
 /// What a line after the header is.
 #[derive(Debug, Drop)]
@@ -71,8 +75,28 @@ fn play(
     }
 }
 
-// Plays the line after so many.
-fn play_line(
+// Plays the line of a peer's bytes, as `play` does.
+fn play_bytes(
+    player: &mut Player,
+    number: u32,
+    piece: &[u8],
+    printer: &mut Printer,
+) -> Result<Option<LastLine>, NoMemory>
+    ensures { player.old.is_spent ≡ false
+        → IfOk result (Went player.old player.new printer.old printer.new
+        (lines.Bytes number piece.now)) }
+{
+    match player.bytes_watched(number, piece, printer) {
+        Ok(()) => Ok(None),
+        Err(Stop::Full(full)) => Ok(Some(LastLine::Full(full.entries))),
+        Err(Stop::NoMemory) => Err(NoMemory),
+    }
+}
+
+// Plays any line after so many. Stands apart, so that the line of a few bytes makes no room for
+// others.
+#[inline(never)]
+fn play_any(
     alloc: Global,
     player: &mut Player,
     printer: &mut Printer,
@@ -89,6 +113,27 @@ fn play_line(
         Meaning::Play(line) => play(player, &line, printer),
         Meaning::End => Ok(Some(LastLine::End(player.entries()))),
         Meaning::Bad => Ok(Some(LastLine::Bad(before.saturating_add(1)))),
+    }
+}
+
+// Plays the line after so many.
+fn play_line(
+    alloc: Global,
+    player: &mut Player,
+    printer: &mut Printer,
+    before: u64,
+    raw: &[u8],
+) -> Result<Option<LastLine>, NoMemory>
+    ensures { (done : List (List ℕ)) (output gathered : List ℕ) → length done < 2 ^ 32
+        → PlayerStands player.old before done output
+        → PlayerHolds player.old printer.old gathered
+        → IfOk result (Played session_of_lines (PlayerStands player.new (before + 1))
+        (PlayerHolds player.new printer.new) done raw.now output gathered) }
+{
+    let mut piece = [0u8; FEW];
+    match read_piece(raw, &mut piece) {
+        Some((number, length)) => play_bytes(player, number, &piece[..length], printer),
+        None => play_any(alloc, player, printer, before, raw),
     }
 }
 
@@ -112,7 +157,8 @@ pub struct SessionPlay {
 }
 
 impl SessionPlay {
-    ghost use Rattle.wlim.specs.SessionScript.{SessionStands, SessionHolds};
+    ghost use Rattle.wlim.specs.Session.{session_of_lines};
+    ghost use Rattle.wlim.specs.SessionScript.{SessionStands, SessionHolds, HoldsBy};
 
     /// No line was played yet.
     pub fn new(alloc: Global) -> SessionPlay
@@ -124,6 +170,25 @@ impl SessionPlay {
             player: None,
             printer: Printer::new(alloc),
             before: 0,
+        }
+    }
+
+    // Plays the first line, which has to be a header. Stands apart, so that no other line makes
+    // room for a player.
+    #[inline(never)]
+    fn start(&mut self, raw: &[u8]) -> Result<Option<LastLine>, NoMemory>
+        ensures { (done : List (List ℕ)) (output gathered : List ℕ) → self.old.player ≡ None →
+            (self.old.before ≡ 1) × (done ≡ []) × (output ≡ []) →
+            HoldsBy None self.old.printer gathered →
+            IfOk result (Played session_of_lines (SessionStands self.new) (SessionHolds self.new)
+            done raw.now output gathered) }
+    {
+        match begin(self.alloc, raw)? {
+            Some(player) => {
+                self.player = Some(player);
+                Ok(None)
+            }
+            None => Ok(Some(LastLine::Bad(1))),
         }
     }
 }
@@ -145,13 +210,7 @@ impl Script for SessionPlay {
         self.before = before.saturating_add(1);
         match &mut self.player {
             Some(player) => play_line(self.alloc, player, &mut self.printer, before, raw),
-            None => match begin(self.alloc, raw)? {
-                Some(player) => {
-                    self.player = Some(player);
-                    Ok(None)
-                }
-                None => Ok(Some(LastLine::Bad(1))),
-            },
+            None => self.start(raw),
         }
     }
 

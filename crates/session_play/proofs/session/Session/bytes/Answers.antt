@@ -2,7 +2,7 @@ use Rattle.std.proofs.Common.{refl, sym, subst, ◌∙◌}
 use Rattle.std.proofs.lemmas.Result.{err_from_is_err_and}
 use Rattle.session_play.specs.declared.unread.Found.{Found}
 use Rattle.session_play.specs.Playing.{IsRead}
-use Rattle.session_play.proofs.BytesLoop.{read_short, message_stops, message_goes, bad_size_ends, step_more_watched}
+use Rattle.session_play.proofs.BytesLoop.{read_short, message_stops, message_goes, none_of, message_last, bad_size_ends, step_more_watched}
 use Rattle.session_play.proofs.StepsStamped.{none_stamped, stamped_read, stamped_on}
 use Rattle.session_play.proofs.JournalGrows.{watched_none}
 use Rattle.session_play.proofs.session.Session.bytes.Goals as goal
@@ -53,6 +53,34 @@ returns-in_err-step-in-Message-clause-watched g c =
     c.args.watch.now c.loop-rest.watch
     c.step.new.watch c.loop-rest.invariant.limits c.read.ensures.limits c.read.ensures.journal
     c.loop-rest.invariant.watched c.step.ensures.watched
+
+pub returns-then-is_empty-clause-played : goal.returns-then-is_empty-clause-played
+returns-then-is_empty-clause-played g c =
+    let read = subst (λ (f : Found). IsRead c.loop-rest.self c.args.number c.loop-rest.rest.now f c.read.new.self)
+    c.in-Message.is c.in_ok-step.ensures.read in
+    let way =
+    message_goes c.args.self.now c.loop-rest.self c.read.new.self c.step.new.self c.args.number c.args.piece.now
+    c.loop-rest.rest.now c.split_at.result.1.now
+    c.in-Message.step c.in-Message.used c.loop-rest.invariant.limits c.read.ensures.limits c.loop-rest.invariant.left
+    (sym c.lives.ensures.value ∙ c.loop-rest-test.true) read c.read.ensures.journal c.split_at.ensures.back
+    c.in_ok-step-in-Message.ensures.played in
+    message_last c.args.self.now c.loop-rest.self c.read.new.self c.step.new.self c.args.number c.args.piece.now
+    c.loop-rest.rest.now c.split_at.result.1.now c.in-Message.step c.in-Message.used way
+    (none_of c.split_at.result.1.now (sym c.is_empty.ensures ∙ c.if-is_empty.true)) read
+    c.in_ok-step-in-Message.ensures.played
+
+pub returns-then-is_empty-clause-stamped : goal.returns-then-is_empty-clause-stamped
+returns-then-is_empty-clause-stamped g c =
+    stamped_on c.args.stamp c.args.self.now c.loop-rest.self c.read.new.self c.step.new.self c.read.ensures.journal c.read.ensures.stamps
+    c.loop-rest.invariant.stamped c.step.ensures.stamped
+
+pub returns-then-is_empty-clause-watched : goal.returns-then-is_empty-clause-watched
+returns-then-is_empty-clause-watched g c =
+    step_more_watched g.W.Watch.may_follow c.args.self.now c.loop-rest.self c.read.new.self
+    c.step.new.self.play.journal c.args.watch.now
+    c.loop-rest.watch c.step.new.watch c.loop-rest.invariant.limits c.read.ensures.limits c.read.ensures.journal
+    c.loop-rest.invariant.watched
+    c.step.ensures.watched
 
 pub loop-rest-preserved : goal.loop-rest-preserved
 loop-rest-preserved g c = record {

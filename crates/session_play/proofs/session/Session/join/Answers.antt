@@ -5,6 +5,7 @@ use Rattle.wl_wire.specs.Streams.{Assembly, begun}
 use Rattle.broker_model.specs.declared.journal.Entry.TheVariants as entries
 use Rattle.session_play.proofs.JournalGrows.{join_grows, watched_none}
 use Rattle.session_play.proofs.SharedSteps.{join_ok, join_waits, join_many, join_full, join_short, pushed, left_of, none_watched, step_watched}
+use Rattle.session_play.proofs.NobodyEnded.{left_live}
 use Rattle.session_play.proofs.StaysWaiting.{is_put}
 use Rattle.session_play.proofs.StepsStamped.{step_given}
 use Rattle.session_play.proofs.session.Session.join.Goals as goal
@@ -34,12 +35,14 @@ invariant_of-self-in-Ok g c =
     let room = c.in_ok-reserve.ensures.ok in
     let put = is_put c.push.result _ _ c.push.ensures.full (omega arith) in
     let made = pushed c.self.inside.unread.items c.reserve.new.self.items c.push.new.self.items _ (is_ok c.push.result)
-    c.in_ok-reserve.ensures.items put c.push.ensures.items in
-    join_waits c.args.stamp c.args.self.now c.self.inside.shared c.join_watched.new.self c.self.inside.unread.items
-    c.forget_ended.new.unread.items _ c.args.role
-    c.in-Ok.ensures.ok c.in-Ok.ensures.number (left_of c.join_watched.new.self _ c.push.new.self.items
-    c.forget_ended.new.unread.items c.forget_ended.ensures made)
-    c.self.invariant
+    c.in_ok-reserve.ensures.items put c.push.ensures.items in (
+      join_waits c.args.stamp c.args.self.now c.self.inside.shared c.join_watched.new.self c.self.inside.unread.items
+          c.keep_live.new.unread.items _ c.args.role
+          c.in-Ok.ensures.ok c.in-Ok.ensures.number (left_of c.join_watched.new.self _ c.push.new.self.items
+          c.keep_live.new.unread.items c.keep_live.ensures made)
+          c.self.invariant.0,
+      left_live c.join_watched.new.self.journal c.push.new.self.items c.keep_live.new.unread.items c.keep_live.ensures,
+    )
 
 pub returns-in-Ok-clause-played : goal.returns-in-Ok-clause-played
 returns-in-Ok-clause-played g c =
@@ -48,10 +51,10 @@ returns-in-Ok-clause-played g c =
     let made = pushed c.self.inside.unread.items c.reserve.new.self.items c.push.new.self.items _ (is_ok c.push.result)
     c.in_ok-reserve.ensures.items put c.push.ensures.items in
     join_ok c.args.stamp c.args.self.now c.self.inside.shared c.join_watched.new.self c.self.inside.unread.items
-    c.forget_ended.new.unread.items _ c.args.role c.in-Ok.number
+    c.keep_live.new.unread.items _ c.args.role c.in-Ok.number
     c.self.view_is c.in-Ok.ensures.refused c.in-Ok.ensures.ok c.in-Ok.ensures.number
     (ap (λ (a : Assembly). record { number = c.in-Ok.number; bytes = begun a }) c.in_ok-assembler.ensures.empty)
-    (left_of c.join_watched.new.self _ c.push.new.self.items c.forget_ended.new.unread.items c.forget_ended.ensures
+    (left_of c.join_watched.new.self _ c.push.new.self.items c.keep_live.new.unread.items c.keep_live.ensures
     made)
 
 pub returns-in-Ok-clause-watched : goal.returns-in-Ok-clause-watched

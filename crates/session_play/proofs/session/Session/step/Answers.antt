@@ -1,13 +1,22 @@
 use Rattle.session_play.proofs.SharedSteps.{step_ok, step_waits, step_watched, step_short}
+use Rattle.session_play.proofs.NobodyEnded.{said_live, left_live}
 use Rattle.broker_core.specs.Broker.{entry_of}
 use Rattle.session_play.proofs.StepsStamped.{said_given, none_given}
 use Rattle.session_play.proofs.session.Session.step.Goals as goal
 
 pub invariant_of-self : goal.invariant_of-self
-invariant_of-self g c =
-    step_waits c.args.stamp c.args.self.now c.self.inside.shared c.apply_watched.new.self c.self.inside.unread.items
-    c.forget_ended.new.unread.items c.args.step.now
-    c.self.view_is c.requires.said c.requires.there c.in-Ok.ensures.ok c.forget_ended.ensures c.self.invariant
+invariant_of-self g c = (
+  step_waits c.args.stamp c.args.self.now c.self.inside.shared c.apply_watched.new.self c.self.inside.unread.items
+      c.forget_ended.new.unread.items c.args.step.now
+      c.self.view_is c.requires.said c.requires.there c.in-Ok.ensures.ok c.forget_ended.ensures c.self.invariant.0,
+  left_live c.apply_watched.new.self.journal c.self.inside.unread.items c.forget_ended.new.unread.items
+      c.forget_ended.ensures,
+)
+
+pub forget_ended-requires : goal.forget_ended-requires
+forget_ended-requires g c =
+    said_live c.args.stamp c.self.inside.shared c.apply_watched.new.self c.self.inside.unread.items c.args.step.now c.requires.said
+    c.in-Ok.ensures.ok c.self.invariant.1
 
 pub returns-in-Ok-clause-played : goal.returns-in-Ok-clause-played
 returns-in-Ok-clause-played g c =

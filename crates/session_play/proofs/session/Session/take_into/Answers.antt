@@ -1,14 +1,24 @@
 use Rattle.session_play.proofs.SharedSteps.{take_waits, take_ok, take_short, step_watched}
+use Rattle.session_play.proofs.NobodyEnded.{took_live, left_live}
 use Rattle.broker_model.specs.declared.journal.Entry.TheVariants as entries
 use Rattle.std.proofs.Common.{refl}
 use Rattle.session_play.proofs.StepsStamped.{step_given}
 use Rattle.session_play.proofs.session.Session.take_into.Goals as goal
 
 pub invariant_of-self : goal.invariant_of-self
-invariant_of-self g c =
-    take_waits c.args.stamp c.self.inside.shared c.take_watched.new.self c.self.inside.unread.items c.forget_ended.new.unread.items
-    c.args.number c.in-Bytes.field-0
-    c.in-Bytes.ensures.settled c.forget_ended.ensures c.self.invariant
+invariant_of-self g c = (
+  take_waits c.args.stamp c.self.inside.shared c.take_watched.new.self c.self.inside.unread.items c.forget_ended.new.unread.items
+      c.args.number
+      c.in-Bytes.field-0
+      c.in-Bytes.ensures.settled c.forget_ended.ensures c.self.invariant.0,
+  left_live c.take_watched.new.self.journal c.self.inside.unread.items c.forget_ended.new.unread.items
+      c.forget_ended.ensures,
+)
+
+pub forget_ended-requires : goal.forget_ended-requires
+forget_ended-requires g c =
+    took_live c.args.stamp c.self.inside.shared c.take_watched.new.self c.self.inside.unread.items c.args.number c.in-Bytes.field-0
+    c.in-Bytes.ensures.settled c.self.invariant.1
 
 pub returns-in-Bytes-clause-played : goal.returns-in-Bytes-clause-played
 returns-in-Bytes-clause-played g c =

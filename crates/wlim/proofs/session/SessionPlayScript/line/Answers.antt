@@ -4,7 +4,6 @@ use Rattle.wlim.specs.Scripts.{Played}
 use Rattle.wlim.specs.Session.{session_of_lines}
 use Rattle.wlim.specs.PlayerScript.{PlayerStands, PlayerHolds}
 use Rattle.wlim.specs.SessionScript.{StandsBy, HoldsBy}
-use Rattle.wlim.proofs.SessionsPlayed.{begun}
 use Rattle.wlim.proofs.session.SessionPlayScript.line.Goals as goal
 
 pub returns-in-Some : goal.returns-in-Some
@@ -17,10 +16,9 @@ returns-in-Some c = λ done output gathered few stood held.
     (PlayerHolds c.play_line.new.player c.play_line.new.printer) done c.args.raw.now output gathered))
     next (c.play_line.ensures done output gathered few s h)
 
-pub returns-in-Some-2 : goal.returns-in-Some-2
-returns-in-Some-2 c = λ done output gathered few stood held.
+pub returns-in-None : goal.returns-in-None
+returns-in-None c = λ done output gathered few stood held.
     let s = subst (λ o. StandsBy o c.args.self.now.before done output) c.in-None.is stood in
     let h = subst (λ o. HoldsBy o c.args.self.now.printer gathered) c.in-None.is held in
     let next : c.saturating_add-self.result ≡ 1 = omega (arith, s.0, c.saturating_add-self.ensures) in
-    begun c.in-Some-2.player c.saturating_add-self.result c.args.self.now.printer done c.args.raw.now output gathered
-    (sym c.in-Some-2.is ∙ c.in_ok-player-in-None.ensures) (next, s.1, s.2) h
+    c.start.ensures done output gathered c.in-None.is (next, s.1, s.2) h

@@ -1,0 +1,50 @@
+// Pairs of hex digits in lower case, each looked up in a table.
+ghost use Rattle.std.specs.Prelude.{◌≡◌, ◌*◌, length, true};
+ghost use Rattle.hex.specs.Hex.{encode_lower};
+ghost use Rattle.session_text.specs.Words.{value_of};
+ghost use Rattle.wl_wire.specs.Texts.{IsBytes};
+
+// What a byte that is no digit comes to: more than any pair of digits.
+const NO_DIGIT: u16 = 256;
+
+// The value of each byte that is a digit or a letter from `a` to `f`.
+const VALUES: [u16; 256] = [
+    256, 256, 256, 256, 256, 256, 256, 256, 256, 256, 256, 256, 256, 256, 256, 256, 256, 256, 256,
+    256, 256, 256, 256, 256, 256, 256, 256, 256, 256, 256, 256, 256, 256, 256, 256, 256, 256, 256,
+    256, 256, 256, 256, 256, 256, 256, 256, 256, 256, 0, 1, 2, 3, 4, 5, 6, 7, 8, 9, 256, 256, 256,
+    256, 256, 256, 256, 256, 256, 256, 256, 256, 256, 256, 256, 256, 256, 256, 256, 256, 256, 256,
+    256, 256, 256, 256, 256, 256, 256, 256, 256, 256, 256, 256, 256, 256, 256, 256, 256, 10, 11,
+    12, 13, 14, 15, 256, 256, 256, 256, 256, 256, 256, 256, 256, 256, 256, 256, 256, 256, 256, 256,
+    256, 256, 256, 256, 256, 256, 256, 256, 256, 256, 256, 256, 256, 256, 256, 256, 256, 256, 256,
+    256, 256, 256, 256, 256, 256, 256, 256, 256, 256, 256, 256, 256, 256, 256, 256, 256, 256, 256,
+    256, 256, 256, 256, 256, 256, 256, 256, 256, 256, 256, 256, 256, 256, 256, 256, 256, 256, 256,
+    256, 256, 256, 256, 256, 256, 256, 256, 256, 256, 256, 256, 256, 256, 256, 256, 256, 256, 256,
+    256, 256, 256, 256, 256, 256, 256, 256, 256, 256, 256, 256, 256, 256, 256, 256, 256, 256, 256,
+    256, 256, 256, 256, 256, 256, 256, 256, 256, 256, 256, 256, 256, 256, 256, 256, 256, 256, 256,
+    256, 256, 256, 256, 256, 256, 256, 256, 256, 256, 256, 256, 256, 256, 256, 256, 256, 256, 256,
+    256, 256, 256, 256,
+];
+
+fn value_of(digit: u8) -> u16
+    ensures { result ≡ value_of digit }
+{
+    VALUES[digit as usize]
+}
+
+/// Decodes pairs of digits into the buffer, which has a byte for each. True where there are only
+/// digits in lower case; else what stands in the buffer says nothing.
+pub(crate) fn decode_lower(word: &[u8], bytes: &mut [u8]) -> bool
+    requires pairs { length word.now ≡ 2 * length bytes.old }
+    ensures read { result ≡ true → word.now ≡ encode_lower bytes.new }
+    ensures bytes { IsBytes bytes.new }
+{
+    let mut all = 0u16;
+    let mut at = 0;
+    while at < bytes.len() {
+        let value = 16 * value_of(word[2 * at]) + value_of(word[2 * at + 1]);
+        bytes[at] = (value % 256) as u8;
+        all |= value;
+        at += 1;
+    }
+    all < NO_DIGIT
+}
