@@ -5,3 +5,4 @@ pub mod EditSends
 pub mod EventsInTurn
 pub mod LogGoesOn
 pub mod MethodLogGoesOn
+pub mod PieceRefused

@@ -4,6 +4,7 @@ use Rattle.std.specs.Prelude.{◌≡◌, ℕ, Bool, true, false, List, [], ◌�
 use Rattle.wl_proto.specs.declared.interface.Interface.{Interface}
 use Rattle.wl_proto.specs.declared.event.Event.{Event}
 use Rattle.wl_wire.specs.Messages.{IsMessage, IsPartial, IsBad, id_of, joined}
+use Rattle.wl_wire.specs.Texts.{IsBytes}
 use Rattle.client_side.specs.Events.{object_in, IsEventOf, AreEvents}
 
 -- a client whose events change a state
@@ -51,8 +52,11 @@ pub record GoesWrong {S : Type 0} (objects : List Interface) (step : Step S) (ol
   pub takes : Takes objects step old new bytes rest
   pub wrong : IsWrong objects rest
 
+-- all bytes so far stay
 pub record Refuses {S : Type 0} (objects : List Interface) (step : Step S) (old new : Client S) (piece : List ℕ)
     : Type 0 where
   pub was_good : old.is_bad ≡ false
   pub goes_wrong : GoesWrong objects step old.state new.state (old.held ++ piece)
+  pub held : new.held ≡ old.held ++ piece
+  pub bytes : IsBytes new.held
   pub bad : new.is_bad ≡ true

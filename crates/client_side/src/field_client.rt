@@ -72,7 +72,7 @@ impl FieldClient {
     /// taken, and a cut one waits for its rest.
     ///
     /// `BadEvent` where the bytes so far aren't events of the client's objects and a part of one;
-    /// what stood before is taken, and from then on each piece is answered so. After `NoMemory` the
+    /// what stood before is taken, the bytes stay, and from then on each piece is answered so. After `NoMemory` the
     /// client is as before.
     pub fn receive(&mut self, piece: &[u8]) -> Result<(), ClientFault>
         ensures ok { OnOk result (Accepts field_objects after_event self.old self.new piece.now) }

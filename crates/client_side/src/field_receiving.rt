@@ -2,6 +2,7 @@
 ghost use Rattle.std.specs.Prelude.{◌≡◌, ◌+◌, ◌*◌, ◌≤◌, List, ℕ, ◌++◌, length, drop, vec_len, IfSome, IfNone, OnOk, OnErr};
 ghost use Rattle.std.specs.Bool.{OnTrue, OnFalse};
 ghost use Rattle.wl_wire.specs.Messages.{IsMessage, IsPartial, id_of};
+ghost use Rattle.wl_wire.specs.Texts.{IsBytes};
 ghost use Rattle.client_side.specs.Events.{object_in, field_objects, IsEventOf};
 ghost use Rattle.client_side.specs.FieldState.{after_event};
 ghost use Rattle.client_side.specs.Client.{Takes, GoesWrong};
@@ -50,6 +51,7 @@ fn take_events(state: &mut FieldState, bytes: &[u8]) -> Option<usize>
         × IsPartial (drop n bytes.now)) }
     ensures wrong { IfNone result
         (GoesWrong field_objects after_event state.old.state state.new.state bytes.now) }
+    ensures fits { IfNone result (IsBytes bytes.now) }
 {
     let mut at = 0;
     'events: loop {
@@ -102,6 +104,8 @@ pub(crate) fn take_held(state: &mut FieldState, held: &mut Vec<u8>) -> bool
         (Takes field_objects after_event state.old.state state.new.state held.old.items
         held.new.items) }
     ensures part { OnTrue result (IsPartial held.new.items) }
+    ensures kept { OnFalse result (held.new.items ≡ held.old.items) }
+    ensures fits { OnFalse result (IsBytes held.new.items) }
     ensures wrong { OnFalse result
         (GoesWrong field_objects after_event state.old.state state.new.state held.old.items) }
 {

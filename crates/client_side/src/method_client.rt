@@ -77,7 +77,7 @@ impl MethodClient {
     /// commits a batch.
     ///
     /// `BadEvent` where the bytes so far aren't events of the client's objects and a part of one;
-    /// what stood before is taken, and from then on each piece is answered so. A client is given no
+    /// what stood before is taken, the bytes stay, and from then on each piece is answered so. A client is given no
     /// descriptors, so a keymap is such an event. After `NoMemory` the client is as before.
     pub fn receive(&mut self, piece: &[u8]) -> Result<(), ClientFault>
         ensures ok { OnOk result (Accepts method_objects after_event self.old self.new piece.now) }

@@ -1,6 +1,8 @@
-use Rattle.std.proofs.Common.{◌≡◌, ◌∙◌, ap}
+use Rattle.std.proofs.Common.{◌≡◌, ◌++◌, ◌∙◌, ap, refl}
 use Rattle.client_side.specs.Client.{Client, after_all}
+use Rattle.client_side.specs.Events.{method_objects}
 use Rattle.client_side.specs.MethodState.{State, after_event}
+use Rattle.client_side.proofs.PieceRefused.{piece_refused}
 use Rattle.client_side.proofs.MethodLogGoesOn.{method_goes_on}
 use Rattle.client_side.proofs.method_client.MethodClient.receive.Goals as goal
 
@@ -17,3 +19,12 @@ returns-clause-log c table log sent has =
     c.hold.ensures.state ∙ ap (λ (k : Client State). k.state) c.self.view_is in
     let takes = c.if-not-take_held.ensures.taken in
     method_goes_on _ _ takes.events table log sent (takes.state-is ∙ ap (after_all after_event takes.events) was) has
+
+pub returns-then-not-take_held-clause-bad : goal.returns-then-not-take_held-clause-bad
+returns-then-not-take_held-clause-bad c e good =
+    let was : c.hold.new.state.state ≡ c.args.self.now.state =
+    c.hold.ensures.state ∙ ap (λ (k : Client State). k.state) c.self.view_is in
+    let held : c.hold.new.held.items ≡ c.args.self.now.held ++ c.args.piece.now =
+    c.in_ok-hold.ensures.held ∙ ap (λ (k : Client State). k.held ++ c.args.piece.now) c.self.view_is in
+    let told = c.if-not-take_held.ensures in
+    piece_refused method_objects after_event _ _ _ _ _ good was held told.kept told.fits told.wrong refl

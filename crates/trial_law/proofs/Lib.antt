@@ -1,0 +1,2 @@
+pub mod BrokerKept
+pub mod JournalIsHistory

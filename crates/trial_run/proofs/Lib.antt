@@ -1,0 +1,10 @@
+pub mod FirstMessages
+pub mod FrontOfBytes
+pub mod EventsBack
+pub mod EventsKnown
+pub mod PieceHeard
+pub mod RunsInTurn
+pub mod StepsTaken
+pub mod FieldsChanged
+pub mod LoopsRun
+pub mod PhasesRun

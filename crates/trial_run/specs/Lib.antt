@@ -1,0 +1,9 @@
+pub mod Events
+pub mod Hearing
+pub mod Ran
+pub mod Steps
+pub mod Play
+pub mod Rounds
+pub mod Lines
+pub mod Trial
+pub mod Working

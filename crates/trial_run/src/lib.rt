@@ -1,0 +1,20 @@
+//! Trials: what a script types, with fields that edit themselves and a method that composes, as
+//! peers of one shared state.
+#![tactic(auto)]
+
+mod clients;
+mod joining;
+mod lines;
+mod messages;
+mod rounds;
+mod run;
+mod showing;
+mod steps;
+mod stop;
+#[cfg(test)]
+mod tests;
+mod trial;
+mod whose;
+
+pub use run::{TrialEnd, run_trial};
+pub use whose::Whose;
