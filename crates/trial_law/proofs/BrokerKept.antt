@@ -11,6 +11,7 @@ use Rattle.broker_model.specs.declared.journal.Entry.{Entry}
 use Rattle.broker_model.specs.declared.journal.Entry.TheVariants as entries
 use Rattle.broker_model.specs.Settle.{number_alive, step_of}
 use Rattle.broker_model.specs.Limits.{is_full}
+use Rattle.broker_model.specs.Stamps.{no_stamp}
 use Rattle.broker_core.specs.Broker.{Broker, with_step}
 use Rattle.broker_core.specs.Taking.{lives}
 use Rattle.trial_script.specs.declared.action.Action.{Action}
@@ -29,7 +30,7 @@ use Rattle.trial_run.specs.Trial.{unplayed, method_joined, field_joined, fields_
 abbrev pub IsOuter : Entry → Type 0
 IsOuter e = step_of e ≡ e ∷ []
 
-module _ (Q : Broker → Type 0) (step : (e : Entry) (b : Broker) → IsOuter e → Q b → Q (with_step e b)) where
+module _ (Q : Broker → Type 0) (step : (e : Entry) (b : Broker) → IsOuter e → Q b → Q (with_step e no_stamp b)) where
   -- ---- of the shared state
 
   broker_then : (r : Ran Broker) (next : Broker → Ran Broker) → Q r.now → ((b : Broker) → Q b → Q (next b).now) →
@@ -42,9 +43,9 @@ module _ (Q : Broker → Type 0) (step : (e : Entry) (b : Broker) → IsOuter e 
 
   stepped_keeps : (e : Entry) (b : Broker) → IsOuter e → Q b → Q (stepped e b).now
   unfolding stepped
-  stepped_keeps e b o h = by (is_full b.limits.entries b.journal e)
+  stepped_keeps e b o h = by (is_full b.limits b.journal e)
     where
-      by : (full : Bool) → Q (if full then halted b else went (with_step e b)).now
+      by : (full : Bool) → Q (if full then halted b else went (with_step e no_stamp b)).now
       by true = h
       by false = step e b o h
 

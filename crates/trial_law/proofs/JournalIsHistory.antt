@@ -5,6 +5,7 @@ use Rattle.trial_script.specs.declared.script.Script.{Script}
 use Rattle.broker_model.specs.declared.journal.Entry.{Entry}
 use Rattle.broker_model.specs.Settle.{history, outer}
 use Rattle.broker_model.proofs.Settling.{history_stays}
+use Rattle.broker_model.specs.Stamps.{no_stamp}
 use Rattle.broker_core.specs.Broker.{Broker, with_step}
 use Rattle.trial_law.specs.TrialLaws.{TrialHistory}
 use Rattle.trial_run.specs.Trial.{trial_played}
@@ -14,7 +15,7 @@ record IsHistory (limits : Limits) (b : Broker) : Type 0 where
   same : b.limits ≡ limits
   steps : history b.limits.store (outer b.journal) ≡ b.journal
 
-step_keeps : (limits : Limits) (e : Entry) (b : Broker) → IsOuter e → IsHistory limits b → IsHistory limits (with_step e b)
+step_keeps : (limits : Limits) (e : Entry) (b : Broker) → IsOuter e → IsHistory limits b → IsHistory limits (with_step e no_stamp b)
 step_keeps limits e b o h = record { same = h.same; steps = history_stays b.limits.store e b.journal o h.steps }
 
 by_limits : (limits : Limits) (b : Broker) → IsHistory limits b → history limits.store (outer b.journal) ≡ b.journal

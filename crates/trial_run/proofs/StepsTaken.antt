@@ -12,12 +12,13 @@ use Rattle.broker_model.specs.declared.journal.Kept.{Kept}
 use Rattle.broker_model.specs.Limits.{is_full}
 use Rattle.broker_model.specs.Out.{Outgoing, stored}
 use Rattle.broker_model.specs.Settle.{number_alive}
-use Rattle.broker_core.specs.declared.shared.JoinRefusal.{JoinRefusal}
-use Rattle.broker_core.specs.declared.shared.JoinRefusal.TheVariants as join
-use Rattle.broker_core.specs.declared.shared.Refused.{Refused}
-use Rattle.broker_core.specs.declared.shared.Refused.TheVariants as refused
-use Rattle.broker_core.specs.declared.shared.Took.{Took}
-use Rattle.broker_core.specs.declared.shared.Took.TheVariants as took
+use Rattle.broker_core.specs.declared.answers.JoinRefusal.{JoinRefusal}
+use Rattle.broker_core.specs.declared.answers.JoinRefusal.TheVariants as join
+use Rattle.broker_core.specs.declared.answers.Refused.{Refused}
+use Rattle.broker_core.specs.declared.answers.Refused.TheVariants as refused
+use Rattle.broker_core.specs.declared.answers.Took.{Took}
+use Rattle.broker_core.specs.declared.answers.Took.TheVariants as took
+use Rattle.broker_model.specs.Stamps.{no_stamp}
 use Rattle.broker_core.specs.Broker.{Broker, with_step, kept_in, join_refusal, entry_of, peer_entry, peer_refusal, refusal_if_full, refusal, IsSaid, IsAccepted, nothing_left, take_refusal_from, take_refusal, IsBytesUnlessMemory}
 use Rattle.broker_core.specs.Stands.{end_of}
 use Rattle.broker_core.specs.Taking.{out_at, IsTaken}
@@ -28,17 +29,17 @@ use Rattle.trial_run.specs.Working.{IsThere, IsStop, IsStepped}
 
 -- ---- whether the journal is full
 
-pub stepped_goes : (e : Entry) (b after : Broker) → is_full b.limits.entries b.journal e ≡ false →
-    after ≡ with_step e b → stepped e b ≡ went after
+pub stepped_goes : (e : Entry) (b after : Broker) → is_full b.limits b.journal e ≡ false →
+    after ≡ with_step e no_stamp b → stepped e b ≡ went after
 unfolding stepped
 stepped_goes e b after f a =
-    ap (λ (full : Bool). if full then halted b else went (with_step e b)) f ∙ ap (λ (x : Broker). went x) (sym a)
+    ap (λ (full : Bool). if full then halted b else went (with_step e no_stamp b)) f ∙ ap (λ (x : Broker). went x) (sym a)
 
-pub stepped_halts : (e : Entry) (b : Broker) (kept : Kept) → is_full b.limits.entries b.journal e ≡ true →
+pub stepped_halts : (e : Entry) (b : Broker) (kept : Kept) → is_full b.limits b.journal e ≡ true →
     kept ≡ kept_in b.journal → IsStop (stepped e b) (stops.Full kept)
 unfolding stepped
 stepped_halts e b kept f k =
-    let is = ap (λ (full : Bool). if full then halted b else went (with_step e b)) f in
+    let is = ap (λ (full : Bool). if full then halted b else went (with_step e no_stamp b)) f in
     subst (λ (r : Ran Broker). IsStop r (stops.Full kept)) (sym is) (refl, k)
 
 -- ---- a step
@@ -59,11 +60,11 @@ taken_by true kept x s = cc
 taken_by false kept x s = refl
 
 pub step_went : {T : Type 0} (b after : Broker) (step : Step) (x : T) → IsSaid step → IsThere step b.journal →
-    IfSome (refusal b step) (λ w. let r : Result T Refused = Ok x in r ≡ Err w) → after ≡ with_step (entry_of step) b →
+    IfSome (refusal b step) (λ w. let r : Result T Refused = Ok x in r ≡ Err w) → after ≡ with_step (entry_of step) no_stamp b →
     stepped (entry_of step) b ≡ went after
 step_went {T} b after step x said there s a =
     stepped_goes (entry_of step) b after
-    (taken_by (is_full b.limits.entries b.journal (entry_of step)) (kept_in b.journal) x
+    (taken_by (is_full b.limits b.journal (entry_of step)) (kept_in b.journal) x
     (subst (λ (o : Option Refused). IfSome o (λ w. let r : Result T Refused = Ok x in r ≡ Err w))
     (refusal_is b step said there) s)) a
 
@@ -72,6 +73,7 @@ short_is : (T : Type 0) (step : Step) (w : Refused) →
 short_is T (steps.Join role) w h = h
 short_is T (steps.Peer q (peers.Message id opcode body)) w h = h
 short_is T (steps.Peer q (peers.BadSize head)) w h = h
+short_is T (steps.Peer q (peers.Tokens tokens)) w h = h
 short_is T (steps.Peer q peers.Gone) w h = (let no : (let b : Bool = false in b ≡ true) = h in cc)
 short_is T (steps.Shell step) w h = h
 short_is T (steps.Take q n) w h = h
@@ -79,11 +81,11 @@ short_is T (steps.Take q n) w h = h
 -- the journal is full, or memory was short
 abbrev pub IsWhy : Broker → Step → Refused → Type 0
 IsWhy b step why =
-    ((is_full b.limits.entries b.journal (entry_of step) ≡ true) × (why ≡ refused.JournalFull (kept_in b.journal)))
+    ((is_full b.limits b.journal (entry_of step) ≡ true) × (why ≡ refused.JournalFull (kept_in b.journal)))
     ⊎ (why ≡ refused.NoMemory)
 
 why_by : (T : Type 0) (full : Bool) (b : Broker) (step : Step) (w : Refused) →
-    is_full b.limits.entries b.journal (entry_of step) ≡ full →
+    is_full b.limits b.journal (entry_of step) ≡ full →
     IfSome (refusal_by full (kept_in b.journal)) (λ v. let r : Result T Refused = Err w in r ≡ Err v) →
     IfNone (refusal_by full (kept_in b.journal)) (IsAccepted refused.NoMemory step (let r : Result T Refused = Err w in r)) →
     IsWhy b step w
@@ -96,7 +98,7 @@ pub step_why : (T : Type 0) (b : Broker) (step : Step) (w : Refused) → IsSaid 
     IsWhy b step w
 step_why T b step w said there s n =
     let is = refusal_is b step said there in
-    why_by T (is_full b.limits.entries b.journal (entry_of step)) b step w refl
+    why_by T (is_full b.limits b.journal (entry_of step)) b step w refl
     (subst (λ (o : Option Refused). IfSome o (λ v. let r : Result T Refused = Err w in r ≡ Err v)) is s)
     (subst (λ (o : Option Refused).
     IfNone o (IsAccepted refused.NoMemory step (let r : Result T Refused = Err w in r))) is n)
@@ -129,9 +131,9 @@ join_taken false false kept x s = (refl, refl)
 
 pub join_went : {T : Type 0} (role : Role) (b after : Broker) (x : T) →
     IfSome (join_refusal b role) (λ w. let r : Result T JoinRefusal = Ok x in r ≡ Err w) →
-    after ≡ with_step (entries.Join role) b → joined role b ≡ went after
+    after ≡ with_step (entries.Join role) no_stamp b → joined role b ≡ went after
 join_went role b after x s a =
-    let can = join_taken (nat_le 64 (number_alive b.journal)) (is_full b.limits.entries b.journal (entries.Join role))
+    let can = join_taken (nat_le 64 (number_alive b.journal)) (is_full b.limits b.journal (entries.Join role))
     (kept_in b.journal) x s in
     join_at role b false can.0 ∙ stepped_goes (entries.Join role) b after can.1 a
 
@@ -151,7 +153,7 @@ many_joined : (T : Type 0) (role : Role) (b after : Broker) (n : ℕ) →
     after ≡ b → joined role b ≡ went after
 many_joined T role b after n s h a =
     join_at role b true (many_by T (nat_le 64 (number_alive b.journal))
-    (is_full b.limits.entries b.journal (entries.Join role)) (kept_in b.journal) n s h)
+    (is_full b.limits b.journal (entries.Join role)) (kept_in b.journal) n s h)
     ∙ ap (λ (x : Broker). went x) (sym a)
 
 full_by : (T : Type 0) (many full : Bool) (is kept : Kept) →
@@ -170,7 +172,7 @@ full_joined : (T : Type 0) (role : Role) (b : Broker) (kept : Kept) →
     IsStop (joined role b) (stops.Full kept)
 full_joined T role b kept s h =
     let why = full_by T (nat_le 64 (number_alive b.journal))
-    (is_full b.limits.entries b.journal (entries.Join role)) (kept_in b.journal) kept s h in
+    (is_full b.limits b.journal (entries.Join role)) (kept_in b.journal) kept s h in
     subst (λ (r : Ran Broker). IsStop r (stops.Full kept)) (sym (join_at role b false why.0))
     (stepped_halts (entries.Join role) b kept why.1 why.2)
 
@@ -221,11 +223,11 @@ abbrev take_by : Bool → Kept → Option Took
 take_by full kept = option_map (λ k. took.JournalFull k) (if full then Some kept else None)
 
 take_refusal_is : (q : ℕ) (b : Broker) → IsStored q b →
-    take_refusal b q ≡ take_by (is_full b.limits.entries b.journal (entries.Took q 0)) (kept_in b.journal)
+    take_refusal b q ≡ take_by (is_full b.limits b.journal (entries.Took q 0)) (kept_in b.journal)
 take_refusal_is q b s =
     ap (take_refusal_from b q) s.is
     ∙ ap (λ (none : Bool). if none then Some (nothing_left (end_of b.journal q))
-    else take_by (is_full b.limits.entries b.journal (entries.Took q 0)) (kept_in b.journal)) s.some
+    else take_by (is_full b.limits b.journal (entries.Took q 0)) (kept_in b.journal)) s.some
 
 free_by : (full : Bool) (kept : Kept) (n m : ℕ) → IfSome (take_by full kept) (λ w. took.Bytes n m ≡ w) → full ≡ false
 free_by true kept n m s = cc
@@ -255,13 +257,13 @@ pub take_went : (q : ℕ) (b after : Broker) (n m : ℕ) (buf places buf_after p
     has_stored q b ≡ true → length buf ≡ 4096 → IfSome (take_refusal b q) (λ w. took.Bytes n m ≡ w) →
     IfSome (out_at b.limits.store b.journal q) (λ out. IsTaken out b.journal q buf places (n, m) buf_after places_after
     (entries.Took q n ∷ b.journal)) →
-    after ≡ with_step (entries.Took q n) b → IsNext q b after n buf_after
+    after ≡ with_step (entries.Took q n) no_stamp b → IsNext q b after n buf_after
 take_went q b after n m buf places buf_after places_after h room refusal taken a =
     let s = is_stored q b h in
     let t : IsTaken s.out b.journal q buf places (n, m) buf_after places_after (entries.Took q n ∷ b.journal) =
     subst (λ (o : Option Outgoing). IfSome o (λ out. IsTaken out b.journal q buf places (n, m) buf_after places_after
     (entries.Took q n ∷ b.journal))) s.is taken in
-    let free = free_by (is_full b.limits.entries b.journal (entries.Took q 0)) (kept_in b.journal) n m
+    let free = free_by (is_full b.limits b.journal (entries.Took q 0)) (kept_in b.journal) n m
     (subst (λ (o : Option Took). IfSome o (λ w. took.Bytes n m ≡ w)) (take_refusal_is q b s) refusal) in
     let front = front_of n buf (stored s.out) (drop n buf) room t.count in
     let count : n ≡ length (next_bytes q b) = front.0 ∙ ap length (sym (next_is q b s)) in
@@ -283,7 +285,7 @@ pub take_full : (q : ℕ) (b : Broker) (kept : Kept) → has_stored q b ≡ true
     IsStop (stepped (entries.Took q (length (next_bytes q b))) b) (stops.Full kept)
 take_full q b kept h s n =
     let is = take_refusal_is q b (is_stored q b h) in
-    let why = kept_by (is_full b.limits.entries b.journal (entries.Took q 0)) (kept_in b.journal) kept
+    let why = kept_by (is_full b.limits b.journal (entries.Took q 0)) (kept_in b.journal) kept
     (subst (λ (o : Option Took). IfSome o (λ w. took.JournalFull kept ≡ w)) is s)
     (subst (λ (o : Option Took). IfNone o (IsBytesUnlessMemory (took.JournalFull kept))) is n) in
     stepped_halts (entries.Took q (length (next_bytes q b))) b kept why.0 why.1
@@ -311,6 +313,6 @@ pub take_there : (q : ℕ) (b : Broker) (w : Took) → IsNothing w → has_store
     IfSome (take_refusal b q) (λ v. w ≡ v) → IfNone (take_refusal b q) (IsBytesUnlessMemory w) → ⊥
 take_there q b w i h s n =
     let is = take_refusal_is q b (is_stored q b h) in
-    not_nothing (is_full b.limits.entries b.journal (entries.Took q 0)) (kept_in b.journal) w i
+    not_nothing (is_full b.limits b.journal (entries.Took q 0)) (kept_in b.journal) w i
     (subst (λ (o : Option Took). IfSome o (λ v. w ≡ v)) is s)
     (subst (λ (o : Option Took). IfNone o (IsBytesUnlessMemory w)) is n)

@@ -7,13 +7,14 @@ use Rattle.broker_model.specs.declared.journal.Entry.TheVariants as entries
 use Rattle.broker_model.specs.Out.{Outgoing, stored}
 use Rattle.broker_model.specs.Settle.{number_alive}
 use Rattle.broker_model.specs.Limits.{is_full}
+use Rattle.broker_model.specs.Stamps.{no_stamp}
 use Rattle.broker_core.specs.Broker.{Broker, with_step}
 use Rattle.broker_core.specs.Taking.{out_at, lives}
 use Rattle.trial_run.specs.Ran.{Ran, went, halted, ◌>>=◌}
 
 -- one step, and the ends that follow from it
 unfoldable pub stepped : Entry → Broker → Ran Broker
-stepped e b = if is_full b.limits.entries b.journal e then halted b else went (with_step e b)
+stepped e b = if is_full b.limits b.journal e then halted b else went (with_step e no_stamp b)
 
 -- a peer joins, unless 64 are alive
 unfoldable pub joined : Role → Broker → Ran Broker

@@ -3,6 +3,7 @@ use Rattle.std.specs.Prelude.{◌≡◌, ℕ, zero, suc, ◌+◌, ◌%◌, ◌^�
 use Rattle.std.specs.Global.{Global}
 use Rattle.relay_model.specs.declared.role.Role.TheVariants.{App, Method}
 use Rattle.seat_steps.specs.declared.limits.Limits.{Limits}
+use Rattle.seat_steps.specs.Ranges.{form_1_weight}
 use Rattle.compose_method.specs.Table.{Table}
 use Rattle.trial_script.specs.declared.action.Action.{Action}
 use Rattle.trial_script.specs.declared.script.Script.{Script}
@@ -26,7 +27,7 @@ use Rattle.trial_run.specs.Lines.{actions_played}
 abbrev pub unplayed : Limits → Table → TrialPlay
 unplayed limits table = record {
   most = limits.entries + 1;
-  broker = record { limits = limits; journal = [] };
+  broker = record { limits = limits; journal = []; stamps = [] };
   method = new_method table;
   fields = [];
   shown = [];
@@ -83,7 +84,7 @@ shown_by ending r = record {
 
 -- the limits of a trial
 unfoldable pub trial_limits : Limits
-trial_limits = record { entries = 1000000; store = 65536 }
+trial_limits = record { entries = 1000000; store = 65536; weight = form_1_weight }
 
 -- the same within other limits
 abbrev pub trial_within : Limits → List ℕ → Shown

@@ -12,7 +12,7 @@ ghost use Rattle.trial_run.specs.Working.{IsRun};
 use crate::stop::Stop;
 use crate::trial::Trial;
 use broker_core::Kept;
-use seat_steps::Limits;
+use seat_steps::{FORM_1_WEIGHT, Limits};
 use std::alloc::Global;
 use trial_script::{Actions, Ending, Script, read_script};
 use wio_core::NoMemory;
@@ -49,6 +49,7 @@ fn trial_limits() -> Limits
     Limits {
         entries: 1_000_000,
         store: 65_536,
+        weight: FORM_1_WEIGHT,
     }
 }
 

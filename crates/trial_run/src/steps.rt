@@ -15,16 +15,22 @@ use crate::messages::{raw_of, take_message};
 use crate::stop::Stop;
 use broker_core::{JoinRefusal, Refused, Shared, Standing, Took};
 use relay_model::Role;
-use seat_steps::{PeerStep, Step};
+use seat_steps::{PeerStep, Stamp, Step};
 use std::alloc::Global;
 use wio_core::NoMemory;
 use wl_wire::Bytes;
+
+// Of a step of a trial neither moment nor author is known.
+const NO_STAMP: Stamp = Stamp {
+    moment: 0,
+    author: 0,
+};
 
 /// A peer joins, unless as many as can be are alive.
 pub(crate) fn join(shared: &mut Shared, role: Role) -> Result<(), Stop>
     ensures { IsStepped (joined role shared.old) result shared.new }
 {
-    match shared.join(role) {
+    match shared.join(role, NO_STAMP) {
         Ok(_) => Ok(()),
         Err(JoinRefusal::TooManyPeers(_)) => Ok(()),
         Err(JoinRefusal::JournalFull(kept)) => Err(Stop::Full(kept)),
@@ -39,7 +45,7 @@ pub(crate) fn step(shared: &mut Shared, step: &Step) -> Result<(), Stop>
     requires there { IsThere step.now shared.old.journal }
     ensures { IsStepped (stepped (entry_of step.now) shared.old) result shared.new }
 {
-    match shared.apply(step) {
+    match shared.apply(step, NO_STAMP) {
         Ok(_) => Ok(()),
         Err(Refused::JournalFull(kept)) => Err(Stop::Full(kept)),
         Err(Refused::NoMemory) => Err(Stop::NoMemory),
@@ -62,7 +68,7 @@ pub(crate) fn take(shared: &mut Shared, number: u32, bytes: &mut [u8]) -> Result
         (stepped (entries.Took number (length (next_bytes number shared.old))) shared.old)) }
 {
     let mut tokens = [0u32; 256];
-    match shared.take(number, bytes, &mut tokens) {
+    match shared.take(number, bytes, &mut tokens, NO_STAMP) {
         Took::Bytes(count, _) => Ok(count),
         Took::JournalFull(kept) => Err(Stop::Full(kept)),
         Took::NoMemory => Err(Stop::NoMemory),

@@ -1,6 +1,6 @@
 use crate::run::{TrialEnd, run_within};
 use crate::run_trial;
-use seat_steps::Limits;
+use seat_steps::{FORM_1_WEIGHT, Limits};
 use std::test::Fail;
 
 #[test]
@@ -33,6 +33,7 @@ fn stops_before_a_step_for_which_the_journal_is_full(rt: HostRuntime) -> Result<
     let limits = Limits {
         entries: 20,
         store: 65_536,
+        weight: FORM_1_WEIGHT,
     };
     let script = b"trial 1\nfields 1\nshow 1\nuse 1\nshow 1\nuse 1\nleave\nshow 1\nshow 2\n";
     match run_within(rt.alloc(), limits, script) {
