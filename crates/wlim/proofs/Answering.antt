@@ -54,6 +54,7 @@ play_line_by count act raw None e h = cc
 play_line_by count act raw (Some line.End) e h = cc
 play_line_by count act raw (Some (line.Header limits)) e h = cc
 play_line_by count act raw (Some (line.Session found)) e h = cc
+play_line_by count act raw (Some (line.Stamped stamp found)) e h = cc
 play_line_by count act raw (Some (line.Shell step)) e h = cc
 play_line_by count act raw (Some (line.Act found)) e h =
     play_act_by count act found (nat_lt count ACT_LIMIT) refl

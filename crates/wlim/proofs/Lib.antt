@@ -12,3 +12,6 @@ pub mod Answering
 pub mod ActsPlayed
 pub mod Sessions
 pub mod SessionsPlayed
+pub mod MigratedLines
+pub mod WholeLines
+pub mod MigrationReplays

@@ -12,9 +12,10 @@ use Rattle.wlim.specs.Lines.{lines_read}
 use Rattle.wlim.specs.Endings.{IsDecided}
 use Rattle.wlim.specs.Transcript.{answer_from, answer_of}
 use Rattle.wlim.specs.Session.{session_of_lines, session_answer}
+use Rattle.wlim.specs.Migrating.{migrated_lines, migrated_answer}
 use Rattle.wlim.specs.Ran.{GrowsByFront, Ran, answer_read}
 use Rattle.wlim.specs.LineByLine.{LineByLine}
-use Rattle.wlim.specs.declared.reading.TheConstants.{INPUT_LIMIT}
+use Rattle.wlim.specs.declared.reading.TheConstants.{INPUT_LIMIT, MIGRATE_LIMIT}
 use Rattle.wlim.specs.Run.{command_of, limit_of, status_of, output_of, answer_by, answer_lines, answer_where}
 
 -- by its lines, the answer for an input is that of its command
@@ -49,6 +50,21 @@ session_ran command left reads reads' held held' writes writes' result is ran =
     subst (λ c. Ran (answer_by c) left reads reads' held held' writes writes' result) (sym is)
     (session_read left reads reads' held held' writes writes' result ran)
 
+migrated_read : (left : Option (List ℕ)) (reads reads' : ℕ) (held held' : Option (List ℕ)) (writes writes' : ℕ)
+    (result : Status)
+    → Ran (answer_read MIGRATE_LIMIT migrated_lines) left reads reads' held held' writes writes' result
+    → Ran (answer_by commands.Migrate) left reads reads' held held' writes writes' result
+unfolding answer_by migrated_answer lines_read
+migrated_read left reads reads' held held' writes writes' result ran = ran
+
+pub migrated_ran : (command : Command) (left : Option (List ℕ)) (reads reads' : ℕ) (held held' : Option (List ℕ))
+    (writes writes' : ℕ) (result : Status) → command ≡ commands.Migrate
+    → Ran (answer_read MIGRATE_LIMIT migrated_lines) left reads reads' held held' writes writes' result
+    → Ran (answer_by command) left reads reads' held held' writes writes' result
+migrated_ran command left reads reads' held held' writes writes' result is ran =
+    subst (λ c. Ran (answer_by c) left reads reads' held held' writes writes' result) (sym is)
+    (migrated_read left reads reads' held held' writes writes' result ran)
+
 pub acts_law : (command : Command) (left left' held held' : Option (List ℕ)) (result : Status) (read : List ℕ)
     → command ≡ commands.ReplayActs
     → LineByLine INPUT_LIMIT (λ cut lines. answer_from cut [] lines) left left' held held' result read
@@ -60,6 +76,12 @@ pub session_law : (command : Command) (left left' held held' : Option (List ℕ)
     → command ≡ commands.Replay → LineByLine INPUT_LIMIT session_of_lines left left' held held' result read
     → LineByLine (limit_of command) (answer_lines command) left left' held held' result read
 session_law command left left' held held' result read is law =
+    subst (λ c. LineByLine (limit_of c) (answer_lines c) left left' held held' result read) (sym is) law
+
+pub migrated_law : (command : Command) (left left' held held' : Option (List ℕ)) (result : Status) (read : List ℕ)
+    → command ≡ commands.Migrate → LineByLine MIGRATE_LIMIT migrated_lines left left' held held' result read
+    → LineByLine (limit_of command) (answer_lines command) left left' held held' result read
+migrated_law command left left' held held' result read is law =
     subst (λ c. LineByLine (limit_of c) (answer_lines c) left left' held held' result read) (sym is) law
 
 -- the call with its words

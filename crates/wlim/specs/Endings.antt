@@ -29,6 +29,7 @@ long_line = codes "input too long\n"
 -- a last line alone, and its status
 abbrev pub ending : LastLine → Answer
 ending (last.End n) = (end_line n, status.Ok)
+ending last.Migrated = (codes "end\n", status.Ok)
 ending (last.Bad n) = (bad_line n, status.BadSession)
 ending (last.Full n) = (full_line n, status.JournalFull)
 ending last.Long = (long_line, status.InputLong)

@@ -7,10 +7,13 @@ pub mod Writing
 pub mod Transcript
 pub mod Printing
 pub mod Session
+pub mod Migrating
 pub mod ActScript
+pub mod MigrationScript
 pub mod Watching
 pub mod PlayerScript
 pub mod SessionScript
 pub mod Ran
 pub mod Run
+pub mod Migrates
 pub mod LineByLine

@@ -3,16 +3,17 @@ use Rattle.std.specs.Prelude.{◌≡◌, ℕ, List, [], Option, Some, None}
 use Rattle.seat_printer.specs.Printed.{Printing, blank}
 use Rattle.session_play.specs.Playing.{Playing}
 use Rattle.wlim.specs.declared.session.SessionPlay.{SessionPlay}
+use Rattle.wlim.specs.declared.session_line.Stage.{Stage}
 use Rattle.wlim.specs.PlayerScript.{PlayerStands, PlayerHolds}
 
 -- before its header and behind it
-abbrev pub StandsBy : Option Playing → ℕ → List (List ℕ) → List ℕ → Type 0
-StandsBy None before done output = (before ≡ 0) × (done ≡ []) × (output ≡ [])
-StandsBy (Some player) before done output = PlayerStands player before done output
+abbrev pub StandsBy : Stage → Option Playing → ℕ → List (List ℕ) → List ℕ → Type 0
+StandsBy stage None before done output = (before ≡ 0) × (done ≡ []) × (output ≡ [])
+StandsBy stage (Some player) before done output = PlayerStands stage player before done output
 
 -- these lines were played, and came to this output
 abbrev pub SessionStands : SessionPlay → List (List ℕ) → List ℕ → Type 0
-SessionStands session done output = StandsBy session.player session.before done output
+SessionStands session done output = StandsBy session.stage session.player session.before done output
 
 -- before its header nothing is gathered
 abbrev pub HoldsBy : Option Playing → Printing → List ℕ → Type 0

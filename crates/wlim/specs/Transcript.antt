@@ -26,6 +26,7 @@ verdict_of_line count (Some line.End) = verdict.End
 verdict_of_line count (Some (line.Act act)) = verdict_of_act count act
 verdict_of_line count (Some (line.Header limits)) = verdict.Bad
 verdict_of_line count (Some (line.Session found)) = verdict.Bad
+verdict_of_line count (Some (line.Stamped stamp found)) = verdict.Bad
 verdict_of_line count (Some (line.Shell step)) = verdict.Bad
 
 -- what a line is, after so many acts

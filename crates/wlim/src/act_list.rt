@@ -47,7 +47,9 @@ fn judge(alloc: Global, raw: &[u8], count: u32) -> Result<Verdict, NoMemory>
     match read_line(alloc, Form::Acts, raw) {
         Ok(Line::End) => Ok(Verdict::End),
         Ok(Line::Act(act)) => Ok(judge_act(act, count)),
-        Ok(Line::Header(_) | Line::Session(_) | Line::Shell(_)) => Ok(Verdict::Bad),
+        Ok(Line::Header(_) | Line::Session(_) | Line::Stamped(..) | Line::Shell(_)) => {
+            Ok(Verdict::Bad)
+        }
         Err(BadLine::Grammar) => Ok(Verdict::Bad),
         Err(BadLine::NoMemory) => Err(NoMemory),
     }
@@ -134,8 +136,8 @@ impl Script for ActList {
         Ok(())
     }
 
-    fn text(&self) -> &str {
-        self.printer.text.as_str()
+    fn text(&self) -> &[u8] {
+        self.printer.text.as_str().as_bytes()
     }
 
     fn clear(&mut self) {

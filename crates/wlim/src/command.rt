@@ -1,4 +1,4 @@
-// The commands that read an input and write its transcript.
+// The commands that read an input and write an output.
 ghost use Rattle.std.specs.Prelude.{◌≡◌, map, string_bytes};
 ghost use Rattle.wlim.specs.Run.{command_named, command_of};
 
@@ -9,6 +9,8 @@ pub enum Command {
     Replay,
     /// `replay-acts`: an act list.
     ReplayActs,
+    /// `migrate`: a session of form 1, which becomes one of form 2.
+    Migrate,
 }
 
 fn command_named(word: &str) -> Option<Command>
@@ -18,6 +20,8 @@ fn command_named(word: &str) -> Option<Command>
         Some(Command::Replay)
     } else if word == "replay-acts" {
         Some(Command::ReplayActs)
+    } else if word == "migrate" {
+        Some(Command::Migrate)
     } else {
         None
     }

@@ -10,6 +10,8 @@ use wio_core::NoMemory;
 pub enum LastLine {
     /// `end N`: the line `end` came after so many acts or entries.
     End(u32),
+    /// `end`: the line `end` of a session that is migrated.
+    Migrated,
     /// `bad line N`: the line with that number, from 1, is outside its grammar, or isn't there.
     Bad(u64),
     /// `journal full N`: a step met a journal that is full with so many acts or counted entries.
@@ -26,6 +28,10 @@ pub fn close(text: &mut String, last: LastLine) -> Result<Status, NoMemory>
     match last {
         LastLine::End(n) => {
             write!(text, "end {n}\n")?;
+            Ok(Status::Ok)
+        }
+        LastLine::Migrated => {
+            text.push_str("end\n")?;
             Ok(Status::Ok)
         }
         LastLine::Bad(n) => {

@@ -11,11 +11,15 @@ mod hostile_tests;
 mod last_line;
 #[cfg(test)]
 mod line_tests;
+#[cfg(test)]
+mod migrate_tests;
+mod migration;
 mod printer;
 mod reading;
 mod run;
 mod script;
 mod session;
+mod session_line;
 #[cfg(test)]
 mod session_tests;
 mod status;

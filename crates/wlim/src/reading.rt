@@ -9,8 +9,11 @@ use crate::script::Script;
 use crate::status::Status;
 use wio_core::{LineReader, NextLine, NoMemory, Source};
 
-/// The most bytes that are read of an input.
+/// The most bytes that are read of an input that is replayed.
 pub const INPUT_LIMIT: u64 = 4_294_967_296;
+
+/// The most bytes that are read of a session that is migrated. What is written of them can be read.
+pub const MIGRATE_LIMIT: u64 = 1_073_741_824;
 
 /// Reads the next line and plays it. Tells how the output ends where the line decides it, or none
 /// is left.

@@ -7,12 +7,14 @@ ghost use Rattle.wlim.specs.Endings.{IsDecided};
 ghost use Rattle.wlim.specs.LineByLine.{LineByLine};
 ghost use Rattle.wlim.specs.Ran.{GrowsByFront, Ran};
 ghost use Rattle.wlim.specs.Run.{is_command, status_of, output_of};
+ghost use Rattle.wlim.specs.Migrates.{Migrates};
 ghost use Rattle.wlim.specs.Run.{command_of, limit_of, answer_by, answer_lines};
 
 use crate::act_list::ActList;
 use crate::command::{Command, command_of};
 use crate::follow::play_input;
-use crate::reading::INPUT_LIMIT;
+use crate::migration::Migration;
+use crate::reading::{INPUT_LIMIT, MIGRATE_LIMIT};
 use crate::session::SessionPlay;
 use crate::status::Status;
 use std::alloc::Global;
@@ -42,6 +44,10 @@ fn replay<S: Source, K: Sink>(
             let mut session = SessionPlay::new(alloc);
             play_input(alloc, INPUT_LIMIT, &mut session, input, output)
         }
+        Command::Migrate => {
+            let mut migration = Migration::new(alloc);
+            play_input(alloc, MIGRATE_LIMIT, &mut migration, input, output)
+        }
         Command::ReplayActs => match ActList::new(alloc) {
             Ok(mut acts) => play_input(alloc, INPUT_LIMIT, &mut acts, input, output),
             Err(NoMemory) => Status::NoMemory,
@@ -50,7 +56,7 @@ fn replay<S: Source, K: Sink>(
 }
 
 /// Runs the command that the words name over an input and an output: `replay` reads a session, and `replay-acts` an act list of at most 100,000 acts, and each writes
-/// its transcript. At most 4,294,967,296 bytes are read. Always returns. What status comes when is the clauses' to say; `NoMemory` alone may come at any time.
+/// its transcript; `migrate` writes a session of form 1 as one of form 2. At most 4,294,967,296 bytes are read, and 1,073,741,824 of a session that is migrated. Always returns. What status comes when is the clauses' to say; `NoMemory` alone may come at any time.
 pub fn run_plain<S: Source, K: Sink>(
     alloc: Global,
     words: &[String],
@@ -72,6 +78,9 @@ pub fn run_plain<S: Source, K: Sink>(
     // A status that lines decide is that of words and bytes, and then the whole output was written, also beside faults.
     ensures decided { IsDecided result → IfSome (S.left input.old) (λ bytes. (status_of (map string_bytes words.now) bytes ≡ result)
         × Appends (K.held output.old) (K.held output.new) (output_of (map string_bytes words.now) bytes)) }
+
+    // What `migrate` writes of a session replays as that session does.
+    ensures migrates { Migrates }
 
     // A fault has its cause.
     ensures read_fault { result ≡ Status.ReadFault → Rose (S.fault_count input.old) (S.fault_count input.new) }

@@ -41,7 +41,7 @@ pub trait Script {
             → OnOk result (text self.new ≡ gathered) };
 
     /// The bytes in the buffer.
-    fn text(&self) -> &str
+    fn text(&self) -> &[u8]
         ensures { result.now ≡ text self.now };
 
     /// Empties the buffer, whose memory it keeps.

@@ -1,74 +1,38 @@
 // A session, played line by line.
-ghost use Rattle.std.specs.Prelude.{◌≡◌, ◌<◌, ◌+◌, ◌^◌, ℕ, [], false, None, List, length, IfOk};
-ghost use Rattle.std.specs.Option.{option_map};
-ghost use Rattle.seat_steps.specs.Ranges.{IsLimits};
+ghost use Rattle.std.specs.Prelude.{◌≡◌, ◌<◌, ◌+◌, ◌^◌, ℕ, [], false, List, length, IfOk};
 ghost use Rattle.session_text.specs.Steps.{IsSessionLine};
 ghost use Rattle.session_text.specs.declared.line.SessionLine.TheVariants as lines;
 ghost use Rattle.wlim.specs.Scripts.{Played};
-ghost use Rattle.wlim.specs.Session.{meaning_of, header_of, session_of_lines};
-ghost use Rattle.wlim.specs.PlayerScript.{fresh, PlayerStands, PlayerHolds};
+ghost use Rattle.wlim.specs.Session.{session_of_lines};
+ghost use Rattle.wlim.specs.PlayerScript.{PlayerStands, PlayerHolds};
 ghost use Rattle.wlim.specs.Watching.{Went};
 
 use crate::last_line::LastLine;
 use crate::script::Script;
+use crate::session_line::{Meaning, Stage, judge, judge_piece, read_opening};
 use seat_printer::Printer;
-use seat_steps::Limits;
+use seat_steps::Stamp;
 use session_play::{Player, Stop};
-use session_text::{BadLine, Form, Line, SessionLine, read_line, read_piece};
+use session_text::{Form, SessionLine};
 use std::alloc::Global;
 use wio_core::NoMemory;
 
 // As many bytes as most lines of a peer have at most.
 const FEW: usize = 64;
 
-/// What a line after the header is.
-#[derive(Debug, Drop)]
-pub enum Meaning {
-    Play(SessionLine),
-    /// The session ends.
-    End,
-    /// Outside the grammar, or a second header.
-    Bad,
-}
-
-#[tactic(auto, unfolding(crate::specs::Session::meaning_of))]
-fn judge(alloc: Global, raw: &[u8]) -> Result<Meaning, NoMemory>
-    ensures { IfOk result (λ meaning. meaning ≡ meaning_of raw.now) }
-{
-    match read_line(alloc, Form::Session, raw) {
-        Ok(Line::Session(line)) => Ok(Meaning::Play(line)),
-        Ok(Line::End) => Ok(Meaning::End),
-        Ok(Line::Header(_) | Line::Act(_) | Line::Shell(_)) => Ok(Meaning::Bad),
-        Err(BadLine::Grammar) => Ok(Meaning::Bad),
-        Err(BadLine::NoMemory) => Err(NoMemory),
-    }
-}
-
-// The limits that a line sets, if it is a header.
-#[tactic(auto, unfolding(crate::specs::Session::header_of))]
-fn header(alloc: Global, raw: &[u8]) -> Result<Option<Limits>, NoMemory>
-    ensures { IfOk result (λ limits. limits ≡ header_of raw.now) }
-{
-    match read_line(alloc, Form::Session, raw) {
-        Ok(Line::Header(limits)) => Ok(Some(limits)),
-        Ok(Line::Session(_) | Line::Act(_) | Line::Shell(_) | Line::End) => Ok(None),
-        Err(BadLine::Grammar) => Ok(None),
-        Err(BadLine::NoMemory) => Err(NoMemory),
-    }
-}
-
 // Plays one line, and prints what it tells. Tells how the output ends where the journal was full
 // for a step of it.
 fn play(
     player: &mut Player,
     line: &SessionLine,
+    stamp: Stamp,
     printer: &mut Printer,
 ) -> Result<Option<LastLine>, NoMemory>
     requires valid { IsSessionLine line.now }
     ensures { player.old.is_spent ≡ false
         → IfOk result (Went player.old player.new printer.old printer.new line.now) }
 {
-    match player.line_watched(line, printer) {
+    match player.line_watched(line, stamp, printer) {
         Ok(()) => Ok(None),
         Err(Stop::Full(kept)) => Ok(Some(LastLine::Full(kept.entries))),
         Err(Stop::NoMemory) => Err(NoMemory),
@@ -80,13 +44,14 @@ fn play_bytes(
     player: &mut Player,
     number: u32,
     piece: &[u8],
+    stamp: Stamp,
     printer: &mut Printer,
 ) -> Result<Option<LastLine>, NoMemory>
     ensures { player.old.is_spent ≡ false
         → IfOk result (Went player.old player.new printer.old printer.new
         (lines.Bytes number piece.now)) }
 {
-    match player.bytes_watched(number, piece, printer) {
+    match player.bytes_watched(number, piece, stamp, printer) {
         Ok(()) => Ok(None),
         Err(Stop::Full(full)) => Ok(Some(LastLine::Full(full.entries))),
         Err(Stop::NoMemory) => Err(NoMemory),
@@ -98,19 +63,23 @@ fn play_bytes(
 #[inline(never)]
 fn play_any(
     alloc: Global,
+    stage: &mut Stage,
     player: &mut Player,
     printer: &mut Printer,
     before: u64,
     raw: &[u8],
 ) -> Result<Option<LastLine>, NoMemory>
     ensures { (done : List (List ℕ)) (output gathered : List ℕ) → length done < 2 ^ 33
-        → PlayerStands player.old before done output
+        → PlayerStands stage.old player.old before done output
         → PlayerHolds player.old printer.old gathered
-        → IfOk result (Played session_of_lines (PlayerStands player.new (before + 1))
+        → IfOk result (Played session_of_lines (PlayerStands stage.new player.new (before + 1))
         (PlayerHolds player.new printer.new) done raw.now output gathered) }
 {
-    match judge(alloc, raw)? {
-        Meaning::Play(line) => play(player, &line, printer),
+    match judge(alloc, *stage, raw)? {
+        Meaning::Play(stamp, line) => {
+            *stage = stage.after(stamp);
+            play(player, &line, stamp, printer)
+        }
         Meaning::End => Ok(Some(LastLine::End(player.entries()))),
         Meaning::Bad => Ok(Some(LastLine::Bad(before.saturating_add(1)))),
     }
@@ -119,31 +88,25 @@ fn play_any(
 // Plays the line after so many.
 fn play_line(
     alloc: Global,
+    stage: &mut Stage,
     player: &mut Player,
     printer: &mut Printer,
     before: u64,
     raw: &[u8],
 ) -> Result<Option<LastLine>, NoMemory>
-    ensures { (done : List (List ℕ)) (output gathered : List ℕ) → length done < 2 ^ 32
-        → PlayerStands player.old before done output
+    ensures { (done : List (List ℕ)) (output gathered : List ℕ) → length done < 2 ^ 33
+        → PlayerStands stage.old player.old before done output
         → PlayerHolds player.old printer.old gathered
-        → IfOk result (Played session_of_lines (PlayerStands player.new (before + 1))
+        → IfOk result (Played session_of_lines (PlayerStands stage.new player.new (before + 1))
         (PlayerHolds player.new printer.new) done raw.now output gathered) }
 {
     let mut piece = [0u8; FEW];
-    match read_piece(raw, &mut piece) {
-        Some((number, length)) => play_bytes(player, number, &piece[..length], printer),
-        None => play_any(alloc, player, printer, before, raw),
-    }
-}
-
-// A player with the limits that a line sets, if it is a header.
-fn begin(alloc: Global, raw: &[u8]) -> Result<Option<Player>, NoMemory>
-    ensures { IfOk result (λ player. player ≡ option_map fresh (header_of raw.now)) }
-{
-    match header(alloc, raw)? {
-        Some(limits) => Ok(Some(Player::new(alloc, limits)?)),
-        None => Ok(None),
+    match judge_piece(*stage, raw, &mut piece) {
+        Some((stamp, number, length)) => {
+            *stage = stage.after(stamp);
+            play_bytes(player, number, &piece[..length], stamp, printer)
+        }
+        None => play_any(alloc, stage, player, printer, before, raw),
     }
 }
 
@@ -151,14 +114,14 @@ fn begin(alloc: Global, raw: &[u8]) -> Result<Option<Player>, NoMemory>
 #[derive(Drop)]
 pub struct SessionPlay {
     alloc: Global,
+    stage: Stage,
     player: Option<Player>,
     printer: Printer,
     before: u64,
 }
 
 impl SessionPlay {
-    ghost use Rattle.wlim.specs.Session.{session_of_lines};
-    ghost use Rattle.wlim.specs.SessionScript.{SessionStands, SessionHolds, HoldsBy};
+    ghost use Rattle.wlim.specs.SessionScript.{SessionStands, SessionHolds};
 
     /// No line was played yet.
     pub fn new(alloc: Global) -> SessionPlay
@@ -167,28 +130,10 @@ impl SessionPlay {
     {
         SessionPlay {
             alloc,
+            stage: Stage::of(Form::Session),
             player: None,
             printer: Printer::new(alloc),
             before: 0,
-        }
-    }
-
-    // Plays the first line, which has to be a header. Stands apart, so that no other line makes
-    // room for a player.
-    #[inline(never)]
-    fn start(&mut self, raw: &[u8]) -> Result<Option<LastLine>, NoMemory>
-        ensures { (done : List (List ℕ)) (output gathered : List ℕ) → self.old.player ≡ None →
-            (self.old.before ≡ 1) × (done ≡ []) × (output ≡ []) →
-            HoldsBy None self.old.printer gathered →
-            IfOk result (Played session_of_lines (SessionStands self.new) (SessionHolds self.new)
-            done raw.now output gathered) }
-    {
-        match begin(self.alloc, raw)? {
-            Some(player) => {
-                self.player = Some(player);
-                Ok(None)
-            }
-            None => Ok(Some(LastLine::Bad(1))),
         }
     }
 }
@@ -209,8 +154,23 @@ impl Script for SessionPlay {
         let before = self.before;
         self.before = before.saturating_add(1);
         match &mut self.player {
-            Some(player) => play_line(self.alloc, player, &mut self.printer, before, raw),
-            None => self.start(raw),
+            Some(player) => play_line(
+                self.alloc,
+                &mut self.stage,
+                player,
+                &mut self.printer,
+                before,
+                raw,
+            ),
+            None => match read_opening(self.alloc, raw)? {
+                Some(opening) => {
+                    let player = Player::new(self.alloc, opening.limits)?;
+                    self.stage = Stage::of(opening.form);
+                    self.player = Some(player);
+                    Ok(None)
+                }
+                None => Ok(Some(LastLine::Bad(1))),
+            },
         }
     }
 
@@ -226,8 +186,8 @@ impl Script for SessionPlay {
         Ok(())
     }
 
-    fn text(&self) -> &str {
-        self.printer.text()
+    fn text(&self) -> &[u8] {
+        self.printer.text().as_bytes()
     }
 
     fn clear(&mut self) {

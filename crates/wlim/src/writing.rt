@@ -1,5 +1,5 @@
 // The output of a script goes out.
-ghost use Rattle.std.specs.Prelude.{◌≡◌, ◌≤◌, ℕ, List, [], OnOk, IfOk, IfErr, string_bytes};
+ghost use Rattle.std.specs.Prelude.{◌≡◌, ◌≤◌, ℕ, List, [], OnOk, IfOk, IfErr};
 ghost use Rattle.std.specs.Io.KnownBytes.{Appends};
 ghost use Rattle.wio_core.specs.Io.{Rose};
 ghost use Rattle.wlim.specs.Endings.{with_front, ending, IsDecided};
@@ -27,7 +27,7 @@ fn write_out<P: Script, K: Sink>(script: &mut P, output: &mut K) -> Result<(), S
     if script.close().is_err() {
         return Err(Status::NoMemory);
     }
-    if write_all(output, script.text().as_bytes()).is_err() {
+    if write_all(output, script.text()).is_err() {
         return Err(Status::WriteFault);
     }
     script.clear();
@@ -66,15 +66,17 @@ fn last_output<P: Script>(
     alloc: Global,
     script: &mut P,
     last: LastLine,
-) -> Result<(String, Status), NoMemory>
+) -> Result<(Vec<u8>, Status), NoMemory>
     ensures text { (gathered : List ℕ) → P.holds script.old gathered
-        → IfOk result (λ p. (string_bytes p.0, p.1) ≡ with_front gathered (ending last)) }
+        → IfOk result (λ p. (p.0.items, p.1) ≡ with_front gathered (ending last)) }
     ensures decided { IfOk result (λ p. IsDecided p.1) }
 {
     script.close()?;
-    let mut text = String::new(alloc);
-    text.push_str(script.text())?;
-    let status = close(&mut text, last)?;
+    let mut line = String::new(alloc);
+    let status = close(&mut line, last)?;
+    let mut text = Vec::new(alloc);
+    text.extend_from_slice(script.text())?;
+    text.extend_from_slice(line.as_bytes())?;
     Ok((text, status))
 }
 
@@ -93,7 +95,7 @@ pub fn write_end<P: Script, K: Sink>(
         → Rose (K.fault_count output.old) (K.fault_count output.new) }
 {
     match last_output(alloc, script, last) {
-        Ok((text, status)) => match write_all(output, text.as_bytes()) {
+        Ok((text, status)) => match write_all(output, &text) {
             Ok(()) => status,
             Err(Failed) => Status::WriteFault,
         },

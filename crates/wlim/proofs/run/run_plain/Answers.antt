@@ -1,3 +1,4 @@
+use Rattle.wlim.proofs.MigrationReplays.{migrates}
 use Rattle.std.proofs.Common.{sym}
 use Rattle.wlim.proofs.Runs.{front_of, decided_of, decides, other_words}
 use Rattle.wlim.proofs.run.run_plain.Goals as goal
@@ -14,3 +15,9 @@ returns-in-Some-clause-decided g c = λ h. decided_of _ _ _ _ _ _ _ _ _ _ (sym c
 
 pub returns-in-None-clause-exact : goal.returns-in-None-clause-exact
 returns-in-None-clause-exact g c = λ r w m. other_words _ _ _ (sym c.in-None.ensures)
+
+pub returns-in-Some-clause-migrates : goal.returns-in-Some-clause-migrates
+returns-in-Some-clause-migrates g c = migrates
+
+pub returns-in-None-clause-migrates : goal.returns-in-None-clause-migrates
+returns-in-None-clause-migrates g c = migrates
