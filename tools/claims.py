@@ -14,7 +14,7 @@ import sys
 ROOT = os.path.join(os.path.dirname(os.path.abspath(__file__)), "..")
 FUNCTION = re.compile(r"\bfn\s+(\w+)")
 ENSURES = re.compile(r"\bensures\s*\*?\s*(\w+)\s*\{")
-GHOST = re.compile(r"\bghost\s+(\w+)\s*[:=]")
+GHOST = re.compile(r"\b(?:ghost|struct|enum|trait)\s+(\w+)\s*[:={<(]")
 DEFINED = re.compile(r"^\s*(?:(?:abbrev|unfoldable|record|data)\s+)*pub\s+(?:record\s+)?(\w+)", re.M)
 WORDS_OF_NO_CLAUSE = {"ensures", "requires", "result"}
 
@@ -35,7 +35,7 @@ def clauses_of(folder):
 
 
 def words_of(folder):
-    """What a crate's specifications define, fields of records with them, and its ghost members."""
+    """What a crate's specifications define, fields of records with them, its ghost members and its types."""
     found = set()
     for path in glob.glob(f"{folder}/specs/**/*.antt", recursive=True):
         found.update(DEFINED.findall(open(path, encoding="utf-8").read()))
