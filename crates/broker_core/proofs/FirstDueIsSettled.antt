@@ -130,7 +130,7 @@ found_due s q why v e =
     first_is_due s.capacity s.journal.entries s.audience.live.items v.who v.live ∙ ap (option_map (λ (d : ℕ × EndCause). d.0)) e
 
 -- its end follows from a step
-cause_follows : (q : ℕ) (b : Bool) → follows (entries.End q (if b then Bad else Full)) ≡ true
+pub cause_follows : (q : ℕ) (b : Bool) → follows (entries.End q (if b then Bad else Full)) ≡ true
 cause_follows q true = refl
 cause_follows q false = refl
 

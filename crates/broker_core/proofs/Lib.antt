@@ -43,3 +43,4 @@ pub mod MarkedGroups
 pub mod NewestPeer
 pub mod AcceptedIds
 mod TokensThatWait
+pub mod StampsOfCalls

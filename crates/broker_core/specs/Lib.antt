@@ -4,3 +4,4 @@ pub mod Telling
 pub mod Taking
 pub mod Broker
 pub mod Ends
+pub mod Calls

@@ -2,6 +2,7 @@
 #![tactic(auto)]
 
 mod answers;
+mod laws;
 mod limits;
 mod shared;
 mod state;
@@ -11,6 +12,7 @@ mod watch;
 
 pub use answers::{Applied, JoinRefusal, Refused, Took};
 pub use broker_model::{Entry, Journal, Kept, StampList};
+pub use laws::call_law;
 pub use shared::{MOST_PEERS, Shared};
 pub use taking::Standing;
 pub use watch::Watch;

@@ -1,19 +1,19 @@
 -- The steps that a line plays have the stamp that was given with it.
-use Rattle.std.proofs.Common.{◌≡◌, ℕ, zero, suc, ◌+◌, List, [], ◌∷◌, ◌++◌, length, Bool, true, false, Option, Some, None, refl, sym, ap, subst, ◌∙◌, arith, append_assoc}
-use Rattle.std.specs.Prelude.{replicate, if◌then◌else◌}
+use Rattle.std.proofs.Common.{◌≡◌, ℕ, suc, ◌+◌, List, [], ◌∷◌, ◌++◌, length, false, refl, sym, ap, subst, ◌∙◌, arith, append_assoc}
+use Rattle.std.specs.Prelude.{replicate}
 use Rattle.std.proofs.lemmas.List.{replicate-append-replicate}
-use Rattle.relay_model.specs.declared.act.EndCause.TheVariants.{Gone, Bad, Full}
+use Rattle.relay_model.specs.declared.act.EndCause.TheVariants.{Gone}
 use Rattle.seat_steps.specs.declared.stamp.Stamp.{Stamp}
 use Rattle.seat_steps.specs.declared.step.Step.{Step}
 use Rattle.seat_steps.specs.declared.step.Step.TheVariants as steps
 use Rattle.seat_steps.specs.declared.step.PeerStep.TheVariants as peers
 use Rattle.broker_model.specs.declared.journal.Entry.{Entry}
 use Rattle.broker_model.specs.declared.journal.Entry.TheVariants as entries
-use Rattle.broker_model.specs.Settle.{refused, due, cause_of, with_end, settled, settle, number_alive, step_of, outer}
-use Rattle.broker_model.specs.Stamps.{follows, stamp_of, no_stamp, stamps, step_stamps}
+use Rattle.broker_model.specs.Settle.{number_alive, step_of, outer}
+use Rattle.broker_model.specs.Stamps.{follows, stamps}
 use Rattle.broker_model.proofs.Settling.{outer_settled}
-use Rattle.broker_model.proofs.StampsAgain.{step_stamped, end_stamped, again}
 use Rattle.broker_core.specs.Broker as broker
+use Rattle.broker_core.proofs.StampsOfCalls.{step_given}
 use Rattle.broker_core.specs.Broker.{Broker, entry_of, IsSaid}
 use Rattle.session_play.specs.declared.unread.Unread.{Unread}
 use Rattle.session_play.specs.Playing.{Ongoing, AreStamped}
@@ -38,36 +38,6 @@ both_stamped given a b c u v w h k = record {
       ap (λ (ss : List Stamp). stamps c ss) (replicated h.number k.number given gave)
       ∙ k.stamped (replicate h.number given ++ gave) (h.stamped gave e);
 }
-
--- the ends that follow have what stands before them
-
-cause_follows : (q : ℕ) (b : Bool) → follows (entries.End q (if b then Bad else Full)) ≡ true
-cause_follows q true = refl
-cause_follows q false = refl
-
-end_same : (journal : List Entry) (o : Option ℕ) (a b : List Stamp) → stamps journal a ≡ stamps journal b →
-    stamps (with_end journal o) a ≡ stamps (with_end journal o) b
-end_same journal None a b h = h
-end_same journal (Some q) a b h =
-    let e : Entry = entries.End q (cause_of journal q) in
-    let f : follows e ≡ true = cause_follows q (refused journal q) in
-    end_stamped e journal no_stamp a f
-    ∙ ap (λ (before : List Stamp). stamp_of e no_stamp before ∷ before) h
-    ∙ sym (end_stamped e journal no_stamp b f)
-
-settled_same : (capacity n : ℕ) (journal : List Entry) (a b : List Stamp) → stamps journal a ≡ stamps journal b →
-    stamps (settled capacity n journal) a ≡ stamps (settled capacity n journal) b
-settled_same capacity zero journal a b h = h
-settled_same capacity (suc n) journal a b h =
-    settled_same capacity n (with_end journal (due capacity journal)) a b (end_same journal (due capacity journal) a b h)
-
-step_same : (capacity : ℕ) (e : Entry) (journal : List Entry) (given : Stamp) (a b : List Stamp) → follows e ≡ false →
-    stamps journal a ≡ stamps journal b →
-    stamps (settle capacity (e ∷ journal)) (given ∷ a) ≡ stamps (settle capacity (e ∷ journal)) (given ∷ b)
-step_same capacity e journal given a b f h =
-    settled_same capacity (number_alive (e ∷ journal)) (e ∷ journal) (given ∷ a) (given ∷ b)
-    (step_stamped e journal given a f ∙ ap (λ (before : List Stamp). stamp_of e given before ∷ before) h
-    ∙ sym (step_stamped e journal given b f))
 
 -- an outer step
 pub record IsOuter (e : Entry) : Type 0 where
@@ -95,19 +65,17 @@ stepped_given e given b after o a =
       more =
           one_more _ (outer J)
           (ap length (outer_settled b.limits.store (number_alive (e ∷ J)) (e ∷ J)) ∙ ap (λ (es : List Entry). length (es ++ outer J)) o.step);
-      stamped = λ gave h.
-          step_same b.limits.store e J given gave (step_stamps J b.stamps) o.own
-          (sym (again J gave) ∙ ap (λ (ss : List Stamp). stamps J (step_stamps J ss)) h);
+      stamped = λ gave h. step_given b.limits.store e J given gave b.stamps o.own h;
     })
 
-pub step_given : (s : Ongoing) (b after : Broker) (was : List Unread) (e : Entry) (given : Stamp) → view_of b was ≡ s → IsOuter e →
+pub entry_given : (s : Ongoing) (b after : Broker) (was : List Unread) (e : Entry) (given : Stamp) → view_of b was ≡ s → IsOuter e →
     after ≡ broker.with_step e given b → AreStamped given s.play.journal s.stamps after.journal after.stamps
-step_given s b after was e given v o a =
+entry_given s b after was e given v o a =
     subst (λ (y : Ongoing). AreStamped given y.play.journal y.stamps after.journal after.stamps) v (stepped_given e given b after o a)
 
 pub said_given : (s : Ongoing) (b after : Broker) (was : List Unread) (step : Step) (given : Stamp) → view_of b was ≡ s → IsSaid step →
     after ≡ broker.with_step (entry_of step) given b → AreStamped given s.play.journal s.stamps after.journal after.stamps
-said_given s b after was step given v said a = step_given s b after was (entry_of step) given v (said_outer step said) a
+said_given s b after was step given v said a = entry_given s b after was (entry_of step) given v (said_outer step said) a
 
 pub none_given : (s : Ongoing) (b after : Broker) (was : List Unread) (given : Stamp) → view_of b was ≡ s → after ≡ b →
     AreStamped given s.play.journal s.stamps after.journal after.stamps

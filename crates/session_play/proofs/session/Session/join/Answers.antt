@@ -6,7 +6,7 @@ use Rattle.broker_model.specs.declared.journal.Entry.TheVariants as entries
 use Rattle.session_play.proofs.JournalGrows.{join_grows, watched_none}
 use Rattle.session_play.proofs.SharedSteps.{join_ok, join_waits, join_many, join_full, join_short, pushed, left_of, none_watched, step_watched}
 use Rattle.session_play.proofs.StaysWaiting.{is_put}
-use Rattle.session_play.proofs.StepsStamped.{step_given}
+use Rattle.session_play.proofs.StepsStamped.{entry_given}
 use Rattle.session_play.proofs.session.Session.join.Goals as goal
 
 pub returns-in_err-assembler-clause-played : goal.returns-in_err-assembler-clause-played
@@ -84,5 +84,5 @@ returns-clause-played g c =
 
 pub returns-in-Ok-clause-stamped : goal.returns-in-Ok-clause-stamped
 returns-in-Ok-clause-stamped g c =
-    step_given c.args.self.now c.self.inside.shared c.join_watched.new.self c.self.inside.unread.items
+    entry_given c.args.self.now c.self.inside.shared c.join_watched.new.self c.self.inside.unread.items
     (entries.Join c.args.role) c.args.stamp c.self.view_is (record { step = refl; own = refl }) c.in-Ok.ensures.ok

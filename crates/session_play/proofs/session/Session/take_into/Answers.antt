@@ -1,7 +1,7 @@
 use Rattle.session_play.proofs.SharedSteps.{take_waits, take_ok, take_short, step_watched}
 use Rattle.broker_model.specs.declared.journal.Entry.TheVariants as entries
 use Rattle.std.proofs.Common.{refl}
-use Rattle.session_play.proofs.StepsStamped.{step_given}
+use Rattle.session_play.proofs.StepsStamped.{entry_given}
 use Rattle.session_play.proofs.session.Session.take_into.Goals as goal
 
 pub invariant_of-self : goal.invariant_of-self
@@ -34,6 +34,6 @@ returns-in-NoMemory-clause-played g c =
 
 pub returns-in-Bytes-clause-stamped : goal.returns-in-Bytes-clause-stamped
 returns-in-Bytes-clause-stamped g c =
-    step_given c.args.self.now c.self.inside.shared c.take_watched.new.self c.self.inside.unread.items
+    entry_given c.args.self.now c.self.inside.shared c.take_watched.new.self c.self.inside.unread.items
     (entries.Took c.args.number c.in-Bytes.field-0) c.args.stamp c.self.view_is (record { step = refl; own = refl })
     c.in-Bytes.ensures.settled
