@@ -4,7 +4,7 @@
   tools/cost.py            builds nothing: measures crates/wlim/out/wlim, which `rt run` in crates/wlim builds
   tools/cost.py PROGRAM    measures another build
 
-It prints, by valgrind's callgrind, instructions a step of `replay`, an act of `replay-acts`, and of one honest step (an
+It prints, by valgrind's callgrind, instructions a step of `replay` in both forms, an act of `replay-acts`, and of one honest step (an
 application types by way of a method) alone and beside 62 peers of 240 surfaces each. The start of the program is
 taken off by measuring two lengths of each input.
 """
@@ -98,6 +98,12 @@ def session(steps):
     return lines + ["end"]
 
 
+def stamped(steps):
+    """The same session in form 2."""
+    lines = session(steps)
+    return ["session 2 1000000 65536 134217728"] + [f"0 0 {line}" for line in lines[1:-1]] + lines[-1:]
+
+
 def act_list(acts):
     """Sixteen peers with 200 fields among them, and a method that grabs the keyboard."""
     draw = random.Random(6)
@@ -182,6 +188,7 @@ def main():
         sys.exit(__doc__)
     program = sys.argv[1] if len(sys.argv) == 2 else BUILT
     print(f"a step of replay:        {each(program, 'replay', session, 2000, 20000):8.0f}")
+    print(f"the same in form 2:      {each(program, 'replay', stamped, 2000, 20000):8.0f}")
     print(f"an act of replay-acts:   {each(program, 'replay-acts', act_list, 2000, 20000):8.0f}")
     alone = each(program, "replay", lambda n: pair(0, n), 1000, 5000, 3)
     beside = each(program, "replay", lambda n: pair(62, n), 1000, 5000, 3)
