@@ -10,9 +10,10 @@ fn a_step_is_copied(rt: HostRuntime) -> Result<(), Fail> {
         opcode: 1,
         body,
     };
-    match Step::Peer(3, message).copy(rt.alloc())? {
+    let copied = Step::Peer(3, message).copy(rt.alloc())?;
+    match &copied {
         Step::Peer(peer, PeerStep::Message { id, opcode, body }) => {
-            assert_eq!(rt; (peer, id, opcode, body.len()), (3, 1, 1, 4));
+            assert_eq!(rt; (*peer, *id, *opcode, body.len()), (3, 1, 1, 4));
         }
         _ => assert!(rt; false),
     }
