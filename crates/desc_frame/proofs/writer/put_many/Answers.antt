@@ -1,6 +1,6 @@
 use Rattle.std.proofs.lemmas.Result.{on_err_weaker}
 use Rattle.desc_frame.proofs.Pieces.{OnErr-any, GainsPrefix-head, GainsPrefix-bytes}
-use Rattle.desc_frame.proofs.writer.FrameWriter.put.Goals as goal
+use Rattle.desc_frame.proofs.writer.put_many.Goals as goal
 
 pub returns-in_err-write_all-clause-prefix : goal.returns-in_err-write_all-clause-prefix
 returns-in_err-write_all-clause-prefix g c =
