@@ -54,6 +54,7 @@ module _ {E C : Type 0} (c : C) (h : List (ℕ × E)) (vs : List (View E C)) (id
     fresh = λ n big. let d = (p.first id v at zero).drawn in
         none-front n v.seen s.0 (subst (NoneOf n) s.1 (p.made n (omega arith)));
     apart = apart;
+    once = (p.first id v at zero).once;
     few =
         let t = total-few (0 ∷ v.taken) v.seen once in
         let l = ap length s.1 in let a = length-append v.seen s.0 in omega arith;

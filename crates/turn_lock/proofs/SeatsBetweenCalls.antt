@@ -18,6 +18,7 @@ module _ {S E C : Type 0} where
     tallied = λ zero turn. let t = k.tallied zero turn in record {
       fresh = λ n big. t.fresh n (omega arith);
       apart = t.apart;
+      once = t.once;
       few = t.few;
       all = λ none_out. absurd (omega arith);
     };

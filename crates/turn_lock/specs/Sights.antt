@@ -1,7 +1,7 @@
 -- What contracts see of a seat, and what the calls of a turn lock tell
 use Rattle.std.specs.Prelude.{◌≡◌, ◌≤◌, ◌<◌, ◌+◌, ◌-◌, ◌^◌, ℕ, List, [], ◌∷◌, ◌++◌, length, Option, Some}
 use Rattle.atomic_table.specs.Seated.{TableId}
-use Rattle.turn_lock.specs.Pairs.{NoneOf, HasSeen, IsGrown, IsIn, longer, total}
+use Rattle.turn_lock.specs.Pairs.{NoneOf, HasSeen, IsGrown, IsIn, IsDistinct, longer, total}
 
 -- a seat: the lock that it is of, its number, the story's constant and the beginning of the history that it has seen;
 -- of the first seat besides: the number that its next split gives away, how many split seats are out, and the numbers
@@ -45,10 +45,12 @@ module _ {E C : Type 0} where
     pub theirs : HasSeen h other.number other.seen
 
   -- what the first seat knows of the history that it has seen: no pair has a number that is still to be given away; it
-  -- has not taken itself in; the pairs of it and of the seats taken in can be counted, and with none out they are all
+  -- has taken in neither itself nor a number twice; the pairs of it and of the seats taken in can be counted, and with
+  -- none out they are all
   pub record IsTallied (s : Sight E C) : Type 0 where
     pub fresh : (n : ℕ) → s.next ≤ n → NoneOf n s.seen
     pub apart : IsIn 0 s.taken → ⊥
+    pub once : IsDistinct s.taken
     pub few : total (0 ∷ s.taken) s.seen < 2 ^ 64
     pub all : s.out ≡ 0 → total (0 ∷ s.taken) s.seen ≡ length s.seen
 
