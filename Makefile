@@ -1,9 +1,16 @@
-# `make demo` proves and builds the program and replays an act list and a session; `make test` is the gate; `make gate-cost` runs
-# the gate from nothing and prints what each crate costs it; `make cost` counts the instructions of a step.
-.PHONY: demo test gate-cost cost
+# `make demo` replays two examples, unproved; `make build` proves and builds the program; `make examples` replays all examples;
+# `make test` is the gate; `make gate-cost` runs the gate from nothing and prints what each crate costs it; `make cost` counts the
+# instructions of a step; `make claims` checks that each README names calls and clauses that are there.
+.PHONY: demo build examples test gate-cost cost claims
 demo:
-	cd crates/wlim && rt run -- replay-acts < ../../examples/one_string.acts
+	cd crates/wlim && rt try -- replay-acts < ../../examples/one_string.acts
+	cd crates/wlim && rt try -- replay < ../../examples/one_batch.session
+
+build:
 	cd crates/wlim && rt run -- replay < ../../examples/one_batch.session
+
+examples:
+	tests/examples.sh
 
 test:
 	rt ci
@@ -14,3 +21,6 @@ gate-cost:
 cost:
 	cd crates/wlim && rt run -- replay < ../../examples/one_batch.session > /dev/null
 	python3 tools/cost.py
+
+claims:
+	python3 tools/claims.py

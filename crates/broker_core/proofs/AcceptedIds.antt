@@ -73,7 +73,7 @@ module _ (past : Past) (p : ℕ) (table : Objects) (its : IsTableOf past p table
 
   accepted_message : (n opcode : ℕ) (body : List ℕ) (peer : Joined) (o : Option Made) → peer.label ≡ p → Accepts table (of_message past n peer opcode body o).made
   accepted_message n opcode body peer None is = tt
-  accepted_message n opcode body peer (Some x) is = accepted_reading n x.label peer (request_reading x.interface opcode [] body) is
+  accepted_message n opcode body peer (Some x) is = accepted_reading n x.label peer (request_reading x.interface opcode (past.waiting peer.label) body) is
 
 asked_for : (table : Objects) (p n : ℕ) (o : Option requests.Argument) → Accepts table (made_new p n (option_map asked o)) → IfSome o (λ new. refusal_of table new.id ≡ None)
 asked_for table p n None h = tt

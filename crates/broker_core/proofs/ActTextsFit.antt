@@ -113,7 +113,7 @@ fits_message : (past : Past) (n : ℕ) (peer : Joined) (opcode : ℕ) (body : Li
     FitsMessage (of_message past n peer opcode body o).act
 fits_message past n peer opcode body None h = tt
 fits_message past n peer opcode body (Some x) h =
-    fits_reading past n peer x.label (length body) (request_reading x.interface opcode [] body) h (request_within x.interface opcode [] body)
+    fits_reading past n peer x.label (length body) (request_reading x.interface opcode (past.waiting peer.label) body) h (request_within x.interface opcode (past.waiting peer.label) body)
 
 fits_peer : (o : Option Joined) (f : Joined → Meaning) → ((peer : Joined) → FitsMessage (f peer).act) → FitsMessage (of_peer o f).act
 fits_peer None f h = tt
@@ -134,6 +134,7 @@ act_fits (entries.Join role) older h = tt
 act_fits (entries.Message q id opcode body) older h =
     fits_peer (peer_at (past_of older) q) (λ peer. of_message (past_of older) (length older + 1) peer opcode body (object_at (past_of older) peer.label id))
     (λ peer. fits_message (past_of older) (length older + 1) peer opcode body (object_at (past_of older) peer.label id) h)
+act_fits (entries.Tokens q tokens) older h = tt
 act_fits (entries.BadSize q head) older h = fits_peer (peer_at (past_of older) q) _ (λ peer. tt)
 act_fits (entries.End q why) older h = fits_peer (peer_at (past_of older) q) _ (λ peer. tt)
 act_fits (entries.Shell step) older h = fits_shell (past_of older) step

@@ -100,7 +100,7 @@ new_message : (older : List Entry) (p n : ℕ) (peer : Joined) (id opcode : ℕ)
     AllByRecursion (IsOther p) (of_message (past_of older) n peer opcode body o).made
 new_message older p n peer id opcode body None dead e = tt
 new_message older p n peer id opcode body (Some x) dead e =
-    new_reading (past_of older) p n peer x.label (request_reading x.interface opcode [] body) other
+    new_reading (past_of older) p n peer x.label (request_reading x.interface opcode ((past_of older).waiting peer.label) body) other
   where
     other : peer.label ≡ p → ⊥
     other d =
@@ -121,6 +121,7 @@ new_entry (entries.Join role) older p dead new = ((λ d. new (sym d)), tt)
 new_entry (entries.Message q id opcode body) older p dead new =
     new_peer p (peer_at (past_of older) q) (λ peer. of_message (past_of older) (length older + 1) peer opcode body (object_at (past_of older) peer.label id))
     (λ peer. new_message older p (length older + 1) peer id opcode body (object_at (past_of older) peer.label id) dead refl)
+new_entry (entries.Tokens q tokens) older p dead new = tt
 new_entry (entries.BadSize q head) older p dead new = new_peer p (peer_at (past_of older) q) _ (λ peer. tt)
 new_entry (entries.End q why) older p dead new = new_peer p (peer_at (past_of older) q) _ (λ peer. tt)
 new_entry (entries.Shell step) older p dead new = tt
@@ -281,6 +282,8 @@ was_alive (entries.End q why) older x l d =
 was_alive (entries.Join role) older x l d = absurd (true≢false (sym l ∙ sym (peer_kept (entries.Join role) older x refl (lives_within older x l)) ∙ d))
 was_alive (entries.Message q id opcode body) older x l d =
     absurd (true≢false (sym l ∙ sym (peer_kept (entries.Message q id opcode body) older x refl (lives_within older x l)) ∙ d))
+was_alive (entries.Tokens q tokens) older x l d =
+    absurd (true≢false (sym l ∙ sym (peer_kept (entries.Tokens q tokens) older x refl (lives_within older x l)) ∙ d))
 was_alive (entries.BadSize q head) older x l d =
     absurd (true≢false (sym l ∙ sym (peer_kept (entries.BadSize q head) older x refl (lives_within older x l)) ∙ d))
 was_alive (entries.Shell step) older x l d =
@@ -295,6 +298,7 @@ joins_alive (entries.Join role) older q peer at n = ap (is_peer (log_of (past_of
 joins_alive (entries.Message p id opcode body) older q peer at n = let w : peer.label ≤ length older = label_within older q peer at in absurd (omega arith)
 joins_alive (entries.BadSize p head) older q peer at n = let w : peer.label ≤ length older = label_within older q peer at in absurd (omega arith)
 joins_alive (entries.End p why) older q peer at n = let w : peer.label ≤ length older = label_within older q peer at in absurd (omega arith)
+joins_alive (entries.Tokens p tokens) older q peer at n = let w : peer.label ≤ length older = label_within older q peer at in absurd (omega arith)
 joins_alive (entries.Shell step) older q peer at n = let w : peer.label ≤ length older = label_within older q peer at in absurd (omega arith)
 joins_alive (entries.Took p bytes) older q peer at n = let w : peer.label ≤ length older = label_within older q peer at in absurd (omega arith)
 

@@ -102,6 +102,7 @@ left_still quiet capacity e older ended b joined ends none left = record {
 -- the entry is a message, a bad header, or what the shell says
 abbrev pub IsSpoken : Entry → Type 0
 IsSpoken (entries.Message q id opcode body) = Unit {0}
+IsSpoken (entries.Tokens q tokens) = Unit {0}
 IsSpoken (entries.BadSize q head) = Unit {0}
 IsSpoken (entries.Shell step) = Unit {0}
 IsSpoken _ = ⊥
@@ -111,6 +112,8 @@ pub left_plain : AreQuiet → (capacity : ℕ) (e : Entry) (older : List Entry) 
 left_plain quiet capacity (entries.Join role) older ended s left = absurd s
 left_plain quiet capacity (entries.Message q id opcode body) older ended s left =
     left_still quiet capacity (entries.Message q id opcode body) older ended refl refl (λ q. refl) (λ p d. refl) left
+left_plain quiet capacity (entries.Tokens q tokens) older ended s left =
+    left_still quiet capacity (entries.Tokens q tokens) older ended refl refl (λ q. refl) (λ p d. refl) left
 left_plain quiet capacity (entries.BadSize q head) older ended s left =
     left_still quiet capacity (entries.BadSize q head) older ended refl refl (λ q. refl) (λ p d. refl) left
 left_plain quiet capacity (entries.End q why) older ended s left = absurd s

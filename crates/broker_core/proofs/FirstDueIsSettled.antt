@@ -8,6 +8,7 @@ use Rattle.std.proofs.lemmas.Option.{some_pair_parts}
 use Rattle.relay_model.specs.declared.act.EndCause.{EndCause}
 use Rattle.relay_model.specs.declared.act.EndCause.TheVariants.{Bad, Full}
 use Rattle.relay_model.specs.Objects.{is_peer}
+use Rattle.seat_steps.specs.declared.stamp.Stamp.{Stamp}
 use Rattle.broker_model.specs.declared.journal.Entry.{Entry}
 use Rattle.broker_model.specs.Ids.{Joined, log_of}
 use Rattle.broker_model.specs.Resolve.{past_of}
@@ -19,6 +20,8 @@ use Rattle.broker_core.specs.Stands.{numbered, is_alive, roster, IsLive, Stands}
 use Rattle.seat_audience.specs.Changes.{first_due}
 use Rattle.std.proofs.lemmas.List.{length-map}
 use Rattle.broker_model.specs.declared.journal.Entry.TheVariants as entries
+use Rattle.broker_model.specs.Stamps.{follows, stamp_of, stamps}
+use Rattle.broker_model.proofs.StampsAgain.{end_stamped}
 use Rattle.broker_model.proofs.Settling.{ends_fewer, settle_done, settle_next}
 use Rattle.broker_core.specs.declared.state.State.{State}
 use Rattle.broker_core.proofs.RosterAfterEntry.{roster_count}
@@ -126,14 +129,20 @@ pub found_due : (s : State) (q : ℕ) (why : EndCause) → Stands s → first_du
 found_due s q why v e =
     first_is_due s.capacity s.journal.entries s.audience.live.items v.who v.live ∙ ap (option_map (λ (d : ℕ × EndCause). d.0)) e
 
+-- its end follows from a step
+cause_follows : (q : ℕ) (b : Bool) → follows (entries.End q (if b then Bad else Full)) ≡ true
+cause_follows q true = refl
+cause_follows q false = refl
+
 -- after its end the same is left to settle, and fewer are alive
-pub record IsNearer (s t : State) : Type 0 where
+pub record IsNearer (q : ℕ) (why : EndCause) (s t : State) : Type 0 where
   pub rest : settle t.capacity t.journal.entries ≡ settle s.capacity s.journal.entries
   pub fewer : length t.audience.live.items < length s.audience.live.items
   pub more : length t.journal.entries ≡ length s.journal.entries + 1
+  pub follows : follows (entries.End q why) ≡ true
 
 pub next_end : (s t : State) (q : ℕ) (why : EndCause) → Stands s → Stands t → t.capacity ≡ s.capacity →
-    t.journal.entries ≡ entries.End q why ∷ s.journal.entries → first_due s.audience.live.items ≡ Some (q, why) → IsNearer s t
+    t.journal.entries ≡ entries.End q why ∷ s.journal.entries → first_due s.audience.live.items ≡ Some (q, why) → IsNearer q why s t
 next_end s t q why v w c j e =
     let is : due s.capacity s.journal.entries ≡ Some q = found_due s q why v e in
     let cause : why ≡ cause_of s.journal.entries q = first_cause s.capacity s.journal.entries s.audience.live.items v.live q why e in
@@ -146,7 +155,19 @@ next_end s t q why v w c j e =
       rest = ap₂ settle c (j ∙ ap (λ (k : EndCause). entries.End q k ∷ s.journal.entries) cause) ∙ sym (settle_next s.capacity s.journal.entries q is);
       fewer = omega arith;
       more = omega arith;
+      follows = ap (λ (k : EndCause). follows (entries.End q k)) cause ∙ cause_follows q (refused s.journal.entries q);
     }
+
+-- the stamp of its end is not given
+pub end_stamps : (s t : State) (q : ℕ) (why : EndCause) (none : Stamp) (gave : List Stamp) → follows (entries.End q why) ≡ true →
+    t.journal.entries ≡ entries.End q why ∷ s.journal.entries →
+    t.stamps.stamps ≡ stamp_of (entries.End q why) none s.stamps.stamps ∷ s.stamps.stamps →
+    stamps s.journal.entries gave ≡ s.stamps.stamps → stamps t.journal.entries gave ≡ t.stamps.stamps
+end_stamps s t q why none gave f j p h =
+    ap (λ (journal : List Entry). stamps journal gave) j
+    ∙ end_stamped (entries.End q why) s.journal.entries none gave f
+    ∙ ap (λ (before : List Stamp). stamp_of (entries.End q why) none before ∷ before) h
+    ∙ sym p
 
 -- where none is found, nothing is left to settle
 pub none_due : (s : State) → Stands s → first_due s.audience.live.items ≡ None → s.journal.entries ≡ settle s.capacity s.journal.entries

@@ -42,3 +42,4 @@ pub mod OneEndEach
 pub mod MarkedGroups
 pub mod NewestPeer
 pub mod AcceptedIds
+mod TokensThatWait

@@ -7,6 +7,7 @@ use Rattle.im_objects.specs.Objects as table
 use Rattle.relay_model.specs.Objects.{is_peer}
 use Rattle.broker_model.specs.declared.journal.Entry.{Entry}
 use Rattle.broker_model.specs.Ids.{log_of, peer_at}
+use Rattle.broker_model.specs.Waiting.{waiting_with}
 use Rattle.broker_model.specs.Resolve.{past_of}
 use Rattle.broker_model.specs.Out.{Outgoing, took_at, before_group, out_for}
 use Rattle.broker_model.specs.Settle.{refused}
@@ -31,13 +32,14 @@ ready_holds capacity e older l v t =
 
 pub ready_still : (capacity : ℕ) (e : Entry) (older : List Entry) (l : Live) → IsLive capacity older l →
     calls_for (e ∷ older) l.label ≡ calls_for older l.label → refused (e ∷ older) l.number ≡ refused older l.number → took_at e (past_of older) l.label ≡ 0 →
-    IsReady capacity e older l
-ready_still capacity e older l v c r t = record {
+    waiting_with e (past_of older) l.label ≡ (past_of older).waiting l.label → IsReady capacity e older l
+ready_still capacity e older l v c r t w = record {
   holds = (ready_holds capacity e older l v t).holds;
   choked = v.choked;
   room = v.room;
   table = subst (λ (calls : List Call). table.Stands calls l.table) (sym c) v.table;
   refused = v.refused ∙ sym r;
+  waiting = v.waiting ∙ sym w;
 }
 
 -- a live peer is the one that joined with its number

@@ -219,13 +219,13 @@ row_values i n kinds (Some vs) m q e =
     let d : message i n vs ≡ m = cc in
     subst (λ (u : Message). IsRow i u) d (record { interface-is = refl; kinds = kinds; row = q })
 
-row_kinds : (i : Interface) (n : ℕ) (body : List ℕ) (o : Option (List Kind)) (m : Message) → request_kinds i n ≡ o → by_row i n [] body o ≡ Ok m → IsRow i m
-row_kinds i n body None m q e = cc
-row_kinds i n body (Some kinds) m q e = row_values i n kinds (values_at [] kinds body) m q e
+row_kinds : (tokens : List ℕ) (i : Interface) (n : ℕ) (body : List ℕ) (o : Option (List Kind)) (m : Message) → request_kinds i n ≡ o → by_row i n tokens body o ≡ Ok m → IsRow i m
+row_kinds tokens i n body None m q e = cc
+row_kinds tokens i n body (Some kinds) m q e = row_values i n kinds (values_at tokens kinds body) m q e
 
-row_of : (i : Interface) (n : ℕ) (body : List ℕ) (m : Message) → request_reading i n [] body ≡ Ok m → IsRow i m
+row_of : (tokens : List ℕ) (i : Interface) (n : ℕ) (body : List ℕ) (m : Message) → request_reading i n tokens body ≡ Ok m → IsRow i m
 unfolding request_reading
-row_of i n body m e = row_kinds i n body (request_kinds i n) m refl e
+row_of tokens i n body m e = row_kinds tokens i n body (request_kinds i n) m refl e
 
 -- all that a meaning can be as an act and what is new
 
@@ -271,7 +271,7 @@ own_message : (past : Past) (n id : ℕ) (peer : Joined) (opcode : ℕ) (body : 
     IsOwn past peer.label id n (of_message past n peer opcode body o)
 own_message past n id peer opcode body None h = own_refused past peer.label id n peer.label fault.Object
 own_message past n id peer opcode body (Some x) h =
-    own_reading past n id peer x (request_reading x.interface opcode [] body) (h x refl) (λ m e. row_of x.interface opcode body m e)
+    own_reading past n id peer x (request_reading x.interface opcode (past.waiting peer.label) body) (h x refl) (λ m e. row_of (past.waiting peer.label) x.interface opcode body m e)
 
 -- what an id of a live peer names
 

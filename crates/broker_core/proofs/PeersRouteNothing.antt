@@ -109,7 +109,7 @@ other_reading past n peer x (Ok m) = other_request past n peer x m (request_faul
 
 other_message : (past : Past) (n : ℕ) (peer : Joined) (opcode : ℕ) (body : List ℕ) (o : Option Made) → IsOther (of_message past n peer opcode body o).act
 other_message past n peer opcode body None = tt
-other_message past n peer opcode body (Some x) = other_reading past n peer x.label (request_reading x.interface opcode [] body)
+other_message past n peer opcode body (Some x) = other_reading past n peer x.label (request_reading x.interface opcode (past.waiting peer.label) body)
 
 other_peer : (o : Option Joined) (f : Joined → Meaning) → ((peer : Joined) → IsOther (f peer).act) → IsOther (of_peer o f).act
 other_peer None f h = tt
@@ -119,6 +119,7 @@ other_act : (q : ℕ) (step : PeerStep) (older : List Entry) → IsOther (act_at
 other_act q (peers.Message id opcode body) older =
     other_peer (peer_at (past_of older) q) (λ peer. of_message (past_of older) (length older + 1) peer opcode body (object_at (past_of older) peer.label id))
     (λ peer. other_message (past_of older) (length older + 1) peer opcode body (object_at (past_of older) peer.label id))
+other_act q (peers.Tokens tokens) older = tt
 other_act q (peers.BadSize head) older = other_peer (peer_at (past_of older) q) _ (λ peer. tt)
 other_act q peers.Gone older = other_peer (peer_at (past_of older) q) _ (λ peer. tt)
 

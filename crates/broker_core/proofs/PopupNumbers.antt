@@ -54,6 +54,7 @@ all_labelled (entries.Join role ∷ older) =
 all_labelled (entries.Message q id opcode body ∷ older) = all_labelled older
 all_labelled (entries.BadSize q head ∷ older) = all_labelled older
 all_labelled (entries.End q why ∷ older) = all_labelled older
+all_labelled (entries.Tokens q tokens ∷ older) = all_labelled older
 all_labelled (entries.Shell step ∷ older) = all_labelled older
 all_labelled (entries.Took q bytes ∷ older) = all_labelled older
 

@@ -29,6 +29,7 @@ pub record IsSame (before after : Live) : Type 0 where
   pub role : after.role ≡ before.role
   pub table : after.table ≡ before.table
   pub refused : after.is_refused ≡ before.is_refused
+  pub waiting : after.waiting ≡ before.waiting
   pub who : who after ≡ who before
 
 -- a live peer that was told a group, after which this is out for it
@@ -86,7 +87,7 @@ put_whole capacity group out l spaced h r f =
       holds = next;
       choked = choked;
       room = h.gathered.room;
-      same = record { number = refl; label = refl; role = refl; table = refl; refused = refl; who = refl };
+      same = record { number = refl; label = refl; role = refl; table = refl; refused = refl; waiting = refl; who = refl };
     })
 
 left_out : (capacity : ℕ) (group : Piece) (out : Outgoing) (l : Live) → IsHeard capacity group out l → has_room l ≡ false →
@@ -99,7 +100,7 @@ left_out capacity group out l h r f =
       holds = next;
       choked = choked;
       room = h.gathered.room;
-      same = record { number = refl; label = refl; role = refl; table = refl; refused = refl; who = refl };
+      same = record { number = refl; label = refl; role = refl; table = refl; refused = refl; waiting = refl; who = refl };
     })
 
 put_heard : (capacity : ℕ) (group : Piece) (out : Outgoing) (l : Live) → AreSpaced out.put → IsHeard capacity group out l →
@@ -134,6 +135,7 @@ since_before capacity made told next l after p = record {
     role = p.same.role;
     table = p.same.table;
     refused = p.same.refused;
+    waiting = p.same.waiting;
     who = p.same.who;
   };
 }
@@ -158,6 +160,7 @@ live_after capacity e older l after r p = record {
       subst (λ (q : ℕ). table.Stands (calls_for (e ∷ older) q) after.table) (sym p.same.label)
       (subst (λ (t : table.Objects). table.Stands (calls_for (e ∷ older) l.label) t) (sym p.same.table) r.table);
   refused = p.same.refused ∙ r.refused ∙ ap (refused (e ∷ older)) (sym p.same.number);
+  waiting = p.same.waiting ∙ r.waiting ∙ ap (past_of (e ∷ older)).waiting (sym p.same.label);
 }
 
 -- a live peer that was as the definitions say is so after the newest entry's act is told

@@ -45,6 +45,8 @@ pub record IsEntered (e : Entry) (s t : State) : Type 0 where
   pub ended : t.ended ≡ s.ended
   pub capacity : t.capacity ≡ s.capacity
   pub room : s.journal.room ≤ t.journal.room + 1
+  pub stamp_room : s.stamps.room ≤ t.stamps.room + 1
+  pub stamped : length t.stamps.stamps ≡ length s.stamps.stamps + 1
 
 pub stands_entered : (e : Entry) (s t : State) → IsReadyFor e s → IsEntered e s t → Stands t
 stands_entered e s t r n =
@@ -66,6 +68,8 @@ stands_entered e s t r n =
       fit = r.fit;
       store = n.capacity;
       room = (let a = r.room in let b = n.room in omega arith);
+      stamp_room = (let a = r.stamp_room in let b = n.stamp_room in omega arith);
+      stamped = (let a = r.stamped in let b = n.stamped in omega arith);
       ends = (let a = r.ends in omega arith);
       joins = r.joins;
     } in

@@ -35,6 +35,7 @@ pub record IsEnding (q : ℕ) (why : EndCause) (l : Live) (s t : State) : Type 0
   pub directory : t.audience.directory ≡ s.audience.directory
   pub relay : t.relay ≡ s.relay
   pub journal : t.journal ≡ s.journal
+  pub stamps : t.stamps ≡ s.stamps
   pub capacity : t.capacity ≡ s.capacity
   pub labels : t.labels ≡ s.labels
   pub store : Option Queue
@@ -101,6 +102,7 @@ ready_end q why l s t v e small n =
     let fewer_now : length (filter (λ x. not (is_number q x)) s.audience.live.items) < length s.audience.live.items = fewer q l s.audience.live.items e in
     let many : length t.audience.live.items ≡ length (filter (λ x. not (is_number q x)) s.audience.live.items) = ap length n.live in
     let room : s.journal.room ≡ t.journal.room = ap (λ j. j.room) (sym n.journal) in
+    let stamp_room : s.stamps.room ≡ t.stamps.room = ap (λ l. l.room) (sym n.stamps) in
     let it_is : Ready c now J t = record {
       recorded = ap (λ j. j.entries) n.journal;
       relayed = subst (λ r. relay.StandsFor r (resolve J)) (sym n.relay) v.relayed;
@@ -111,7 +113,7 @@ ready_end q why l s t v e small n =
       live = subst (λ (ls : List Live). AllByRecursion (IsReady c now J) ls) (sym n.live)
           (all_kept (IsReady c now J) (λ x. not (is_number q x)) s.audience.live.items
           (all_ready c now J s.audience.live.items v.who
-          (λ x k i. ready_still c now J x k (calls_other now J x.label (label_within J x.number _ i.0) tt) refl refl) v.live));
+          (λ x k i. ready_still c now J x k (calls_other now J x.label (label_within J x.number _ i.0) tt) refl refl refl) v.live));
       labels = ap (λ ls. ls.items) n.labels ∙ v.labels;
       left = subst (λ (ends : List (Option Ended)). AreLeft c (now ∷ J) ends) (sym n.ended)
           (left_end quiet last_told c q why J peer n.store s.ended.items joined lives
@@ -119,6 +121,8 @@ ready_end q why l s t v e small n =
       fit = (subst FitsMessage (sym act) tt, v.fit);
       store = n.capacity;
       room = (let a = v.room in omega arith);
+      stamp_room = (let a = v.stamp_room in omega arith);
+      stamped = ap (λ l. length l.stamps) n.stamps ∙ v.stamped;
       ends = (let a = v.ends in omega arith);
       joins = v.joins;
       few = small;

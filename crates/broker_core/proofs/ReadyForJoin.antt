@@ -32,6 +32,7 @@ use Rattle.broker_core.specs.Stands.{Holds, Stands, AreLeft, IsReady, CanTake, R
 use Rattle.broker_core.proofs.TableAfterAct.{calls_joined, calls_other}
 use Rattle.broker_core.proofs.DeadPeersToldNothing.{quiet}
 use Rattle.broker_core.proofs.EndedPeersKept.{left_join}
+use Rattle.broker_core.proofs.TokensThatWait.{none_waits}
 use Rattle.broker_core.proofs.LivePeersKept.{ready_still, all_ready, all_more}
 use Rattle.broker_core.proofs.RosterAfterEntry.{roster_join}
 use Rattle.broker_core.proofs.NewLabels.{unborn}
@@ -47,6 +48,8 @@ pub record IsJoining (role : Role) (l : Live) (s t : State) : Type 0 where
   pub reserved : IsReserved t.relay Peer
   pub recorded : t.journal.entries ≡ s.journal.entries
   pub room : length s.audience.live.items + 2 ≤ t.journal.room
+  pub stamp_room : length s.audience.live.items + 2 ≤ t.stamps.room
+  pub stamps : t.stamps.stamps ≡ s.stamps.stamps
   pub labels : t.labels.items ≡ s.labels.items ++ (length s.journal.entries + 1) ∷ []
   pub ended : t.ended.items ≡ s.ended.items ++ None ∷ []
   pub capacity : t.capacity ≡ s.capacity
@@ -54,7 +57,7 @@ pub record IsJoining (role : Role) (l : Live) (s t : State) : Type 0 where
 -- how long a journal is
 
 -- there are at most as many ends as other entries
-pub few_entries : (s : State) → Stands s → number_counted s.journal.entries < 1000000 → length s.journal.entries < 2000000
+pub few_entries : (s : State) → Stands s → number_counted s.journal.entries < 4000000 → length s.journal.entries < 8000000
 few_entries s v h = let a = v.ends in let b = v.joins in omega arith
 
 -- one more entry that is no end
@@ -87,6 +90,7 @@ refused_none (entries.Join role ∷ older) q l =
 refused_none (entries.Message n id opcode body ∷ older) q l =
     refused_by (n == q) _ (refused older q) n q refl
     (λ d. none_bad (peer_at (past_of older) n) _ (ap (peer_at (past_of older)) d ∙ later_none (past_of older).joined q l)) (refused_none older q l)
+refused_none (entries.Tokens n tokens ∷ older) q l = refused_none older q l
 refused_none (entries.BadSize n head ∷ older) q l =
     refused_by (n == q) _ (refused older q) n q refl
     (λ d. none_bad (peer_at (past_of older) n) _ (ap (peer_at (past_of older)) d ∙ later_none (past_of older).joined q l)) (refused_none older q l)
@@ -111,6 +115,7 @@ new_ready capacity number role older l w n =
       table = subst (λ (calls : List Call). table.Stands calls l.table)
           (sym (calls_joined role older) ∙ ap (calls_for (entries.Join role ∷ older)) (sym label)) n.table;
       refused = n.refused ∙ sym (ap (refused older) (ap (λ (m : Numbered). m.number) n.is) ∙ refused_none older number w);
+      waiting = n.waiting ∙ sym (none_waits older l.label (omega arith));
     }
 
 pub ready_join : (role : Role) (l : Live) (s t : State) → Stands s → CanTake (entries.Join role) s.journal.entries → IsJoining role l s t →
@@ -122,7 +127,7 @@ ready_join role l s t v k n =
     let peer : Joined = record { label = length J + 1; role = role } in
     let label_of : Joined → ℕ = (λ p. p.label) in
     let new : IsReady c now J l = new_ready c (length (past_of J).joined + 1) role J l (omega arith) n.new in
-    let short : length J < 2000000 = few_entries s v k.few in
+    let short : length J < 8000000 = few_entries s v k.few in
     let many : length t.audience.live.items ≡ length s.audience.live.items + 1 =
     ap length n.live ∙ length-append s.audience.live.items (l ∷ []) in
     let longer : length (past_of (now ∷ J)).joined ≡ length (past_of J).joined + 1 = length-append (past_of J).joined (peer ∷ []) in
@@ -137,12 +142,14 @@ ready_join role l s t v k n =
       live = subst (λ (ls : List Live). AllByRecursion (IsReady c now J) ls) (sym n.live)
           (all_more (IsReady c now J) s.audience.live.items l
           (all_ready c now J s.audience.live.items v.who
-          (λ x i it. ready_still c now J x i (calls_other now J x.label (label_within J x.number _ it.0) tt) refl refl) v.live) new);
+          (λ x i it. ready_still c now J x i (calls_other now J x.label (label_within J x.number _ it.0) tt) refl refl refl) v.live) new);
       labels = n.labels ∙ ap (λ (ls : List ℕ). ls ++ (length J + 1) ∷ []) v.labels ∙ sym (map-append label_of (past_of J).joined (peer ∷ []));
       left = subst (λ (ends : List (Option Ended)). AreLeft c (now ∷ J) ends) (sym n.ended) (left_join quiet c role J s.ended.items v.left);
       fit = (tt, v.fit);
       store = n.capacity;
       room = (let a = n.room in omega arith);
+      stamp_room = (let a = n.stamp_room in omega arith);
+      stamped = ap length n.stamps ∙ v.stamped;
       ends = (let a = v.ends in omega arith);
       joins = (let a = v.joins in omega arith);
       few = omega arith;

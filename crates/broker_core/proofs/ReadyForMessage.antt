@@ -33,6 +33,7 @@ use Rattle.seat_wire.specs.Asked.{asked}
 use Rattle.seat_wire.specs.Meant.{meant}
 use Rattle.broker_model.specs.Settle.{is_bad, refused}
 use Rattle.broker_model.specs.Tables.{calls_for}
+use Rattle.broker_model.specs.Waiting.{with_tokens}
 use Rattle.broker_model.proofs.Numbers.{label_within}
 use Rattle.seat_audience.specs.declared.live.Live.{Live}
 use Rattle.seat_audience.specs.Changes.{own_calls, IsChanged}
@@ -40,6 +41,7 @@ use Rattle.broker_core.proofs.MessageCalls.{calls_own}
 use Rattle.broker_core.proofs.TableAfterAct.{IsNotFrom, calls_other}
 use Rattle.broker_core.proofs.ActTextsFit.{act_fits}
 use Rattle.broker_core.proofs.ReadyForEnd.{of_number}
+use Rattle.broker_core.proofs.TokensThatWait.{message_waits, tokens_own, tokens_other}
 use Rattle.broker_core.proofs.LivePeersKept.{IsItself, ready_holds, ready_still, all_ready, both}
 
 -- what is prepared beside live peers and what is made
@@ -48,12 +50,15 @@ pub record IsPrepared (act : Act) (s t : State) : Type 0 where
   pub reserved : IsReserved t.relay act
   pub recorded : t.journal.entries ≡ s.journal.entries
   pub room : length s.audience.live.items + 2 ≤ t.journal.room
+  pub stamp_room : length s.audience.live.items + 2 ≤ t.stamps.room
+  pub stamps : t.stamps.stamps ≡ s.stamps.stamps
   pub labels : t.labels ≡ s.labels
   pub ended : t.ended ≡ s.ended
   pub capacity : t.capacity ≡ s.capacity
 
 spoken_joined : (e : Entry) (older : List Entry) → IsSpoken e → (past_of (e ∷ older)).joined ≡ (past_of older).joined
 spoken_joined (entries.Message q id opcode body) older h = refl
+spoken_joined (entries.Tokens q tokens) older h = refl
 spoken_joined (entries.BadSize q head) older h = refl
 spoken_joined (entries.Shell step) older h = refl
 spoken_joined (entries.Join role) older h = absurd h
@@ -62,6 +67,7 @@ spoken_joined (entries.Took q n) older h = absurd h
 
 pub plain_spoken : (e : Entry) → IsSpoken e → IsPlain e
 plain_spoken (entries.Message q id opcode body) h = tt
+plain_spoken (entries.Tokens q tokens) h = tt
 plain_spoken (entries.BadSize q head) h = tt
 plain_spoken (entries.Shell step) h = tt
 plain_spoken (entries.Join role) h = absurd h
@@ -73,6 +79,7 @@ one_more_by e older h = sum_by-cons (λ (x : Entry). cond (is_counted x) 1 0) e 
 
 one_more : (e : Entry) (older : List Entry) → IsSpoken e → number_counted (e ∷ older) ≡ 1 + number_counted older
 one_more (entries.Message q id opcode body) older h = one_more_by (entries.Message q id opcode body) older refl
+one_more (entries.Tokens q tokens) older h = one_more_by (entries.Tokens q tokens) older refl
 one_more (entries.BadSize q head) older h = one_more_by (entries.BadSize q head) older refl
 one_more (entries.Shell step) older h = one_more_by (entries.Shell step) older refl
 one_more (entries.Join role) older h = absurd h
@@ -105,6 +112,8 @@ ready_spoken e s t v spoken can n fits made same live =
       fit = (fits, v.fit);
       store = n.capacity;
       room = (let a = n.room in omega arith);
+      stamp_room = (let a = n.stamp_room in omega arith);
+      stamped = ap length n.stamps ∙ v.stamped;
       ends = (let a = v.ends in omega arith);
       joins = (let a = v.joins in omega arith);
       few = (let a = v.ends in let b = v.joins in let d = can.few in omega arith);
@@ -127,7 +136,7 @@ ready_shell step s t v can n made live =
     ready_spoken e s t v tt can n (act_fits e J tt) (made ∙ v.made) (ap (map who) same)
     (subst (λ (ls : List Live). AllByRecursion (IsReady s.capacity e J) ls) (sym same)
     (all_ready s.capacity e J s.audience.live.items v.who
-    (λ l k i. ready_still s.capacity e J l k (calls_other e J l.label (label_within J l.number _ i.0) tt) refl refl) v.live))
+    (λ l k i. ready_still s.capacity e J l k (calls_other e J l.label (label_within J l.number _ i.0) tt) refl refl refl) v.live))
 
 -- one live peer is another, and keeps its number: what holds then of the one and of all others
 
@@ -211,13 +220,14 @@ ready_bad q head place l s t v can f at n made live =
       room = is.room;
       table = still;
       refused = sym (bad_refused q head J peer l.number joined it.2);
+      waiting = is.waiting;
     } in
     ready_spoken e s t v tt can n (act_fits e J tt) (made ∙ v.made ∙ sym (bad_makes q head J peer joined))
     (ap (map who) live ∙ set_who place l after s.audience.live.items at refl)
     (subst (λ (ls : List Live). AllByRecursion (IsReady s.capacity e J) ls) (sym live)
     (change_all (IsReady s.capacity e J) place l after s.audience.live.items at here
     (others_ready e q l s v f
-    (λ x k i d. ready_still s.capacity e J x k (calls_other e J x.label (label_within J x.number _ i.0) tt) (bad_others q head J x.number d) refl))
+    (λ x k i d. ready_still s.capacity e J x k (calls_other e J x.label (label_within J x.number _ i.0) tt) (bad_others q head J x.number d) refl refl))
     0 (rising J s.audience.live.items v.who)))
 
 -- the act of a message
@@ -273,6 +283,7 @@ ready_message q id opcode body place l after m s t v can short f at meaning n ma
       room = is.room;
       table = subst (λ (cs : List Call). table.Stands cs after.table) (sym calls) (change.table (calls_for J l.label) is.table);
       refused = sym (message_refused q id opcode body J l.label m l.number meaning it.2);
+      waiting = is.waiting ∙ sym (message_waits q id opcode body (past_of J) l.label);
     } in
     ready_spoken e s t v tt can (subst (λ a. IsPrepared a s t) (sym act) n) (act_fits e J short)
     (made ∙ ap (λ (ms : List Made). made_new l.label (length J + 1) (option_map asked m.made) ++ ms) v.made ∙ sym (message_makes q id opcode body J l.label m meaning))
@@ -281,5 +292,41 @@ ready_message q id opcode body place l after m s t v can short f at meaning n ma
     (change_all (IsReady s.capacity e J) place l after s.audience.live.items at (subst (IsReady s.capacity e J) (sym change.same) here)
     (others_ready e q l s v f
     (λ x k i d. ready_still s.capacity e J x k (calls_other e J x.label (label_within J x.number _ i.0) (not_from q id opcode body J peer x joined i d))
-    (message_others q id opcode body J x.number d) refl))
+    (message_others q id opcode body J x.number d) refl
+    (message_waits q id opcode body (past_of J) x.label)))
+    0 (rising J s.audience.live.items v.who)))
+
+-- tokens of a live peer: they wait for it
+
+pub ready_tokens : (q : ℕ) (tokens : List ℕ) (place : ℕ) (l : Live) (s t : State) → Stands s → CanTake (entries.Tokens q tokens) s.journal.entries →
+    number_of q s.audience.live.items ≡ Some l → slice_get s.audience.live.items place ≡ Some l → IsPrepared acts.Idle s t →
+    t.audience.directory.made ≡ s.audience.directory.made →
+    t.audience.live.items ≡ set s.audience.live.items place (record l { waiting = with_tokens l.waiting tokens }) →
+    IsReadyFor (entries.Tokens q tokens) t
+ready_tokens q tokens place l s t v can f at n made live =
+    let J : List Entry = s.journal.entries in
+    let e : Entry = entries.Tokens q tokens in
+    let after : Live = record l { waiting = with_tokens l.waiting tokens } in
+    let peer : Joined = record { label = l.label; role = l.role } in
+    let it = at_number J s.audience.live.items v.who q l f in
+    let joined : peer_at (past_of J) q ≡ Some peer = it.0 in
+    let is : IsLive s.capacity J l = of_number (IsLive s.capacity J) q l s.audience.live.items v.live f in
+    let still : table.Stands (calls_for (e ∷ J) l.label) l.table =
+    subst (λ (calls : List Call). table.Stands calls l.table) (sym (calls_other e J l.label (label_within J q peer joined) tt)) is.table in
+    let here : IsReady s.capacity e J after = record {
+      holds = (ready_holds s.capacity e J l is refl).holds;
+      choked = is.choked;
+      room = is.room;
+      table = still;
+      refused = is.refused;
+      waiting = ap (λ (w : List ℕ). with_tokens w tokens) is.waiting ∙ sym (tokens_own q tokens (past_of J) peer joined);
+    } in
+    ready_spoken e s t v tt can n (act_fits e J tt) (made ∙ v.made)
+    (ap (map who) live ∙ set_who place l after s.audience.live.items at refl)
+    (subst (λ (ls : List Live). AllByRecursion (IsReady s.capacity e J) ls) (sym live)
+    (change_all (IsReady s.capacity e J) place l after s.audience.live.items at here
+    (others_ready e q l s v f
+    (λ x k i d. ready_still s.capacity e J x k (calls_other e J x.label (label_within J x.number _ i.0) tt) refl refl
+    (tokens_other q tokens (past_of J) peer x.label joined
+    (label_number J q x.number peer (record { label = x.label; role = x.role }) joined i.0 ∙ d))))
     0 (rising J s.audience.live.items v.who)))

@@ -44,6 +44,8 @@ pub record IsTaking (act : Act) (s t : State) : Type 0 where
   pub reserved : IsReserved t.relay act
   pub recorded : t.journal.entries ≡ s.journal.entries
   pub room : length s.audience.live.items + 1 ≤ t.journal.room
+  pub stamp_room : length s.audience.live.items + 1 ≤ t.stamps.room
+  pub stamps : t.stamps.stamps ≡ s.stamps.stamps
   pub labels : t.labels.items ≡ s.labels.items
   pub capacity : t.capacity ≡ s.capacity
 
@@ -118,7 +120,7 @@ other_ready : (capacity q n : ℕ) (older : List Entry) (peer : Joined) (x : Liv
     IsLive capacity older x → IsItself older x → IsReady capacity (entries.Took q n) older x
 other_ready capacity q n older peer x e d is it =
     ready_still capacity (entries.Took q n) older x is (calls_other (entries.Took q n) older x.label (label_within older x.number _ it.0) tt) refl
-    (took_other q n older peer x.label e d)
+    (took_other q n older peer x.label e d) refl
 
 -- the live peer whose bytes they are
 own_ready : (capacity q n : ℕ) (older : List Entry) (l : Live) → peer_at (past_of older) q ≡ Some (record { label = l.label; role = l.role }) →
@@ -139,6 +141,7 @@ own_ready capacity q n older l e h is =
       room = is.room;
       table = subst (λ (calls : List Call). table.Stands calls l.table) (sym (calls_other (entries.Took q n) older l.label (label_within older q peer e) tt)) is.table;
       refused = is.refused;
+      waiting = is.waiting;
     }
 
 -- one of those that rise is changed
@@ -185,7 +188,7 @@ ready_took q n peer s t v k joined whos live left it =
     let act : act_at now J ≡ acts.Took peer.label n = ap (λ o. (of_peer o (λ p. only (acts.Took p.label n))).act) joined in
     let makes : (past_of (now ∷ J)).made ≡ (past_of J).made =
     ap (λ o. (of_peer o (λ p. only (acts.Took p.label n))).made ++ (past_of J).made) joined in
-    let short : length J < 2000000 = few_entries s v k.few in
+    let short : length J < 8000000 = few_entries s v k.few in
     let many : length t.audience.live.items ≡ length s.audience.live.items =
     sym (length-map t.audience.live.items who) ∙ ap length whos ∙ length-map s.audience.live.items who in
     let counted : number_counted (now ∷ J) ≡ 1 + number_counted J = counted_one now J refl in
@@ -201,6 +204,8 @@ ready_took q n peer s t v k joined whos live left it =
       fit = (subst FitsMessage (sym act) tt, v.fit);
       store = it.capacity;
       room = (let a = it.room in omega arith);
+      stamp_room = (let a = it.stamp_room in omega arith);
+      stamped = ap length it.stamps ∙ v.stamped;
       ends = (let a = v.ends in omega arith);
       joins = (let a = v.joins in omega arith);
       few = omega arith;

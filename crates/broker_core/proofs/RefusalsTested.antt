@@ -15,11 +15,11 @@ use Rattle.broker_model.specs.declared.journal.Kept.{Kept}
 use Rattle.broker_model.specs.Out.{Outgoing, stored}
 use Rattle.broker_model.specs.Limits.{is_end, weight_of}
 use Rattle.broker_model.specs.Settle.{number_alive}
-use Rattle.broker_core.specs.declared.shared.JoinRefusal.{JoinRefusal}
-use Rattle.broker_core.specs.declared.shared.JoinRefusal.TheVariants as join
-use Rattle.broker_core.specs.declared.shared.Refused.{Refused}
-use Rattle.broker_core.specs.declared.shared.Took.{Took}
-use Rattle.broker_core.specs.declared.shared.Took.TheVariants as took
+use Rattle.broker_core.specs.declared.answers.JoinRefusal.{JoinRefusal}
+use Rattle.broker_core.specs.declared.answers.JoinRefusal.TheVariants as join
+use Rattle.broker_core.specs.declared.answers.Refused.{Refused}
+use Rattle.broker_core.specs.declared.answers.Took.{Took}
+use Rattle.broker_core.specs.declared.answers.Took.TheVariants as took
 use Rattle.broker_core.specs.declared.state.State.{State}
 use Rattle.seat_audience.specs.Lives.{who}
 use Rattle.broker_core.specs.Stands.{Stands, end_of}

@@ -70,6 +70,7 @@ roster_kept e older h =
 pub roster_plain : (e : Entry) (older : List Entry) → IsPlain e → roster (e ∷ older) ≡ roster older
 roster_plain (entries.Join role) older p = absurd p
 roster_plain (entries.Message q id opcode body) older p = roster_kept (entries.Message q id opcode body) older refl
+roster_plain (entries.Tokens q tokens) older p = roster_kept (entries.Tokens q tokens) older refl
 roster_plain (entries.BadSize q head) older p = roster_kept (entries.BadSize q head) older refl
 roster_plain (entries.End q why) older p = absurd p
 roster_plain (entries.Shell step) older p = roster_kept (entries.Shell step) older refl

@@ -1,5 +1,5 @@
 -- The surface that an id of a peer names, as a live peer's table has it.
-use Rattle.std.proofs.Common.{◌≡◌, ℕ, List, Bool, true, false, Option, Some, None, ap, refl, sym, ◌∙◌, ◌<◌, [], length, IsSome, IfSome, subst, zero, suc, ◌+◌, ◌∷◌}
+use Rattle.std.proofs.Common.{◌≡◌, ℕ, List, Bool, true, false, Option, Some, None, ap, refl, sym, ◌∙◌, ◌<◌, ◌≤◌, [], length, IsSome, IfSome, subst, zero, suc, ◌+◌, ◌∷◌}
 use Rattle.std.specs.Prelude.{if◌then◌else◌, option_map, slice_index_or, filter, Result, IfOk}
 use Rattle.std.specs.FinMap as map
 use Rattle.std.proofs.lemmas.Bool.{true≢false}
@@ -13,6 +13,7 @@ use Rattle.broker_model.specs.Refusals.{is_interface}
 use Rattle.broker_model.specs.Resolve.{surface_in, surface_at, past_of, resolve, Meaning, of_peer, of_message, means}
 use Rattle.broker_model.proofs.Named.{IsFound, found}
 use Rattle.broker_model.proofs.Sound.{sound}
+use Rattle.broker_model.proofs.FewTokensWait.{few_wait}
 use Rattle.seat_wire.specs.Meant.{IsTableOf, meant}
 use Rattle.seat_wire.proofs.Tabled.{table_of}
 use Rattle.seat_audience.specs.declared.live.Live.{Live}
@@ -145,14 +146,14 @@ surface_at_place s v q id place l shown same within first read =
     surface_of_live s v q id l (sym found ∙ slice_get_read all (length all) place l refl inside read)
 
 -- what a message of the peer at the place means, where its meaning was found by the peer's table
-pub meaning_at_place : (s : State) → Stands s → (place id opcode : ℕ) (body : List ℕ) (l : Live) (found : Result declared.Meaning NoMemory) →
-    slice_get s.audience.live.items place ≡ Some l →
-    ((past : Past) (n : ℕ) → IsTableOf past l.label l.table → relay.StandsFor s.relay past.acts →
+pub meaning_at_place : (s : State) → Stands s → (place id opcode : ℕ) (body tokens : List ℕ) (l : Live) (found : Result declared.Meaning NoMemory) →
+    slice_get s.audience.live.items place ≡ Some l → tokens ≡ l.waiting →
+    ((past : Past) (n : ℕ) → IsTableOf past l.label l.table → relay.StandsFor s.relay past.acts → tokens ≡ past.waiting l.label →
     IfOk found (λ m. meant l.label n m ≡ of_message past n (record { label = l.label; role = l.role }) opcode body (object_at past l.label id))) →
     IfOk found (λ m.
     meant l.label (length s.journal.entries + 1) m
     ≡ means (entries.Message l.number id opcode body) (length s.journal.entries + 1) (past_of s.journal.entries))
-meaning_at_place s v place id opcode body l found here by_table =
+meaning_at_place s v place id opcode body tokens l found here waits by_table =
     let journal : List Entry = s.journal.entries in
     let n : ℕ = length journal + 1 in
     let past : Past = past_of journal in
@@ -162,7 +163,13 @@ meaning_at_place s v place id opcode body l found here by_table =
     let its : IsTableOf past l.label l.table = table_of journal l.label l.table alive.1 is.table in
     let of_it : Joined → Meaning = λ p. of_message past n p opcode body (object_at past p.label id) in
     let joined : of_peer (peer_at past l.number) of_it ≡ of_it peer = ap (λ o. of_peer o of_it) alive.0 in
-    IfOk-weaker found _ _ (λ m e. e ∙ sym joined) (by_table past n its v.relayed)
+    IfOk-weaker found _ _ (λ m e. e ∙ sym joined) (by_table past n its v.relayed (waits ∙ is.waiting))
+
+-- at most 256 tokens wait for the peer at the place
+pub few_at_place : (s : State) → Stands s → (place : ℕ) (l : Live) → slice_get s.audience.live.items place ≡ Some l → length l.waiting ≤ 256
+few_at_place s v place l here =
+    let is : IsLive s.capacity s.journal.entries l = at_place (IsLive s.capacity s.journal.entries) place s.audience.live.items l v.live here in
+    subst (λ (waiting : List ℕ). length waiting ≤ 256) (sym is.waiting) (few_wait s.journal.entries l.label)
 
 -- The sender of a message as the code finds it, and what its message means.
 

@@ -5,6 +5,7 @@ use Rattle.std.proofs.lemmas.Bool.{leb-false, ltb-false}
 use Rattle.relay_model.specs.declared.act.EndCause.TheVariants.{Gone}
 use Rattle.relay_model.specs.declared.role.Role.{Role}
 use Rattle.seat_steps.specs.declared.limits.Limits.{Limits}
+use Rattle.seat_steps.specs.declared.stamp.Stamp.{Stamp}
 use Rattle.broker_model.specs.declared.journal.Entry.{Entry}
 use Rattle.broker_model.specs.declared.journal.Entry.TheVariants as entries
 use Rattle.broker_model.specs.declared.journal.Kept.{Kept}
@@ -12,6 +13,8 @@ use Rattle.broker_model.specs.Ids.{Joined, peer_at}
 use Rattle.broker_model.specs.Resolve.{past_of}
 use Rattle.broker_model.specs.Limits.{is_end, is_counted, number_counted, weight_of, weight, is_full}
 use Rattle.broker_model.specs.Settle.{is_due, number_alive, settle, history, step_of, outer}
+use Rattle.broker_model.specs.Stamps.{follows, stamp_of, stamps, step_stamps}
+use Rattle.broker_model.proofs.StampsAgain.{step_stamped, again}
 use Rattle.broker_model.proofs.Settling.{IsSettled, history_settled, history_stays}
 use Rattle.broker_core.specs.declared.state.State.{State}
 use Rattle.broker_core.specs.declared.taking.Standing.TheVariants.{Alive}
@@ -24,31 +27,49 @@ use Rattle.broker_core.proofs.WhoIsAlive.{IsAlive, alive_is}
 
 -- what the callers see of a state
 abbrev pub shown : Limits → State → Broker
-shown limits s = record { limits = limits; journal = s.journal.entries }
+shown limits s = record { limits = limits; journal = s.journal.entries; stamps = s.stamps.stamps }
 
 -- the entry is an outer step, and all is within the limits with it
 pub record IsWithin (limits : Limits) (e : Entry) (older : List Entry) : Type 0 where
   pub step : step_of e ≡ e ∷ []
   pub counted : number_counted (e ∷ older) ≤ limits.entries
-  pub light : weight (e ∷ older) ≤ 134217728
+  pub light : weight (e ∷ older) ≤ limits.weight
   pub few : number_alive (e ∷ older) ≤ 64
 
+-- the stamps that stand for what was given with the steps of the one do so of the other
+abbrev pub StampsOn : State → State → Type 0
+StampsOn s t = (given : List Stamp) → stamps s.journal.entries given ≡ s.stamps.stamps → stamps t.journal.entries given ≡ t.stamps.stamps
+
 -- what the entry and the ends that follow make of the state
-pub record IsStepped (e : Entry) (s t : State) : Type 0 where
+pub record IsStepped (e : Entry) (given : Stamp) (s t : State) : Type 0 where
   pub stands : Stands t
   pub capacity : t.capacity ≡ s.capacity
   pub entered : t.journal.entries ≡ settle s.capacity (e ∷ s.journal.entries)
+  pub stamped : (gave : List Stamp) → stamps s.journal.entries gave ≡ s.stamps.stamps → stamps t.journal.entries (given ∷ gave) ≡ t.stamps.stamps
 
-pub stepped : (e : Entry) (s m t : State) → m.capacity ≡ s.capacity → m.journal.entries ≡ e ∷ s.journal.entries → Stands t → t.capacity ≡ m.capacity →
-    t.journal.entries ≡ settle m.capacity m.journal.entries → IsStepped e s t
-stepped e s m t c j v d k = record {
+pub stepped : (e : Entry) (given : Stamp) (s m t : State) → follows e ≡ false → m.capacity ≡ s.capacity → m.journal.entries ≡ e ∷ s.journal.entries →
+    m.stamps.stamps ≡ stamp_of e given s.stamps.stamps ∷ s.stamps.stamps → Stands t → t.capacity ≡ m.capacity →
+    t.journal.entries ≡ settle m.capacity m.journal.entries → StampsOn m t → IsStepped e given s t
+stepped e given s m t f c j p v d k on = record {
   stands = v;
   capacity = d ∙ c;
   entered = k ∙ ap (λ n. settle n m.journal.entries) c ∙ ap (settle s.capacity) j;
+  stamped = λ gave h.
+      on (given ∷ gave)
+      (ap (λ (journal : List Entry). stamps journal (given ∷ gave)) j
+      ∙ step_stamped e s.journal.entries given gave f
+      ∙ ap (λ (before : List Stamp). stamp_of e given before ∷ before) h
+      ∙ sym p);
 }
 
-pub stays : (limits : Limits) (e : Entry) (s t : State) → IsBroker limits s → IsWithin limits e s.journal.entries → IsStepped e s t → IsBroker limits t
-stays limits e s t b w h =
+-- the stamps that the steps have give the same again
+same_again : (journal : List Entry) (gave now : List Stamp) → stamps journal gave ≡ now → stamps journal (step_stamps journal now) ≡ now
+same_again journal gave now h =
+    ap (λ (ss : List Stamp). stamps journal (step_stamps journal ss)) (sym h) ∙ again journal gave ∙ h
+
+pub stays : (limits : Limits) (e : Entry) (given : Stamp) (s t : State) → IsBroker limits s → IsWithin limits e s.journal.entries → IsStepped e given s t →
+    IsBroker limits t
+stays limits e given s t b w h =
     let J : List Entry = e ∷ s.journal.entries in
     let now : t.journal.entries ≡ settle limits.store J = h.entered ∙ ap (λ n. settle n J) b.capacity in
     let same : IsNoMore (settle limits.store J) J = same_settled limits.store J in
@@ -65,14 +86,20 @@ stays limits e s t b w h =
       limited = b.limited;
       steps = ap (λ journal. history limits.store (outer journal)) now ∙ history_stays limits.store e s.journal.entries w.step b.steps ∙ sym now;
       counted = subst (λ n. n ≤ limits.entries) (sym counted) wc;
-      light = subst (λ n. n ≤ 134217728) (sym weighs) wl;
+      light = subst (λ n. n ≤ limits.weight) (sym weighs) wl;
       few = subst (λ n. n ≤ 64) (sym lives) (omega arith);
+      stamped = same_again t.journal.entries (given ∷ step_stamps s.journal.entries s.stamps.stamps) t.stamps.stamps
+          (h.stamped (step_stamps s.journal.entries s.stamps.stamps) b.stamped);
     }
 
-pub becomes : (limits : Limits) (e : Entry) (b : Broker) (s t : State) → shown limits s ≡ b → IsBroker limits s → IsStepped e s t →
-    shown limits t ≡ with_step e b
-becomes limits e b s t v i h =
-    ap (λ journal. record { limits = limits; journal = journal }) (h.entered ∙ ap (λ n. settle n (e ∷ s.journal.entries)) i.capacity) ∙ ap (with_step e) v
+pub becomes : (limits : Limits) (e : Entry) (given : Stamp) (b : Broker) (s t : State) → shown limits s ≡ b → IsBroker limits s → IsStepped e given s t →
+    shown limits t ≡ with_step e given b
+becomes limits e given b s t v i h =
+    let gave : List Stamp = step_stamps s.journal.entries s.stamps.stamps in
+    let now : t.journal.entries ≡ settle limits.store (e ∷ s.journal.entries) = h.entered ∙ ap (λ n. settle n (e ∷ s.journal.entries)) i.capacity in
+    ap (λ (ss : List Stamp). record { limits = limits; journal = t.journal.entries; stamps = ss }) (sym (h.stamped gave i.stamped))
+    ∙ ap (λ (journal : List Entry). record { limits = limits; journal = journal; stamps = stamps journal (given ∷ gave) }) now
+    ∙ ap (with_step e given) v
 
 -- how many peers joined, the ends that follow don't change
 pub joined_stays : (e : Entry) (s m t : State) → m.journal.entries ≡ e ∷ s.journal.entries → t.journal.entries ≡ settle m.capacity m.journal.entries →
@@ -105,14 +132,14 @@ neither false false false e h = (refl, refl)
 -- there is place for it
 pub record HasPlace (limits : Limits) (e : Entry) (journal : List Entry) : Type 0 where
   pub few : number_counted journal < limits.entries
-  pub light : weight journal + weight_of e ≤ 134217728
+  pub light : weight journal + weight_of e ≤ limits.weight
 
 pub has_place : (limits : Limits) (e : Entry) (b : Broker) (s : State) → shown limits s ≡ b → is_end e ≡ false → full_for b e ≡ None →
     HasPlace limits e s.journal.entries
 has_place limits e b s v n f =
     let J : List Entry = s.journal.entries in
-    let full : is_full limits.entries J e ≡ false = none_full (is_full limits.entries J e) _ (ap (λ x. full_for x e) v ∙ f) in
-    let two = neither (is_end e) (nat_le limits.entries (number_counted J)) (nat_lt 134217728 (weight J + weight_of e)) n full in
+    let full : is_full limits J e ≡ false = none_full (is_full limits J e) _ (ap (λ x. full_for x e) v ∙ f) in
+    let two = neither (is_end e) (nat_le limits.entries (number_counted J)) (nat_lt limits.weight (weight J + weight_of e)) n full in
     record { few = leb-false _ _ two.0; light = ltb-false _ _ two.1 }
 
 at_most_one : (b : Bool) → cond b 1 0 ≤ 1

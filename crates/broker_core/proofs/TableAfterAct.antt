@@ -84,6 +84,7 @@ quiet_shell past p (shell.Key time key state) = quiet_only past p (acts.Key time
 quiet_shell past p (shell.Mods mods) = quiet_only past p (acts.Mods mods) refl
 quiet_shell past p (shell.Keymap keymap) = quiet_only past p (acts.Keymap keymap) refl
 quiet_shell past p (shell.Repeat repeat) = quiet_only past p (acts.Repeat repeat) refl
+quiet_shell past p (shell.At moment) = quiet_only past p acts.Idle refl
 
 quiet_new : (log : List Act) (q p n : ℕ) (o : Option Argument) → (q == p) ≡ false → make_calls log p (made_new q n o) ≡ []
 quiet_new log q p n None h = refl
@@ -115,7 +116,7 @@ quiet_message : (past : Past) (n bound p : ℕ) (peer : Joined) (opcode : ℕ) (
 quiet_message past n bound p peer opcode body id None s e g = quiet_refused past p peer.label peer.label fault.Object
 quiet_message past n bound p peer opcode body id (Some x) s e g =
     let f : IsFound (log_of past) past.made peer.label id x = found (log_of past) past.made peer.label id x e in
-    quiet_reading past n p peer x (request_reading x.interface opcode [] body) (s x f.among).known (ap (λ (y : ℕ). y == p) f.peer ∙ g) g
+    quiet_reading past n p peer x (request_reading x.interface opcode (past.waiting peer.label) body) (s x f.among).known (ap (λ (y : ℕ). y == p) f.peer ∙ g) g
 
 quiet_peer : (past : Past) (p : ℕ) (o : Option Joined) (f : Joined → Meaning) → ((peer : Joined) → o ≡ Some peer → IsQuiet past p (f peer)) →
     IsQuiet past p (of_peer o f)
@@ -135,6 +136,7 @@ quiet_entry (entries.Message q id opcode body) older p w h =
     (λ peer e.
     quiet_message (past_of older) (length older + 1) (length older) p peer opcode body id (object_at (past_of older) peer.label id) (sound older) refl
     (sym (ap (λ (o : Option Joined). is_label o p) e) ∙ h))
+quiet_entry (entries.Tokens q tokens) older p w h = quiet_only (past_of older) p acts.Idle refl
 quiet_entry (entries.BadSize q head) older p w h =
     quiet_peer (past_of older) p (peer_at (past_of older) q) _ (λ peer e. quiet_refused (past_of older) p peer.label peer.label fault.Size)
 quiet_entry (entries.End q cause) older p w h =

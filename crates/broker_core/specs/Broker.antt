@@ -4,6 +4,7 @@ use Rattle.relay_model.specs.declared.act.EndCause.{EndCause}
 use Rattle.relay_model.specs.declared.act.EndCause.TheVariants.{Gone}
 use Rattle.relay_model.specs.declared.role.Role.{Role}
 use Rattle.seat_steps.specs.declared.limits.Limits.{Limits}
+use Rattle.seat_steps.specs.declared.stamp.Stamp.{Stamp}
 use Rattle.seat_steps.specs.declared.step.Step.{Step}
 use Rattle.seat_steps.specs.declared.step.Step.TheVariants as steps
 use Rattle.seat_steps.specs.declared.step.PeerStep.{PeerStep}
@@ -15,13 +16,14 @@ use Rattle.broker_model.specs.declared.journal.Entry.TheVariants as entries
 use Rattle.broker_model.specs.declared.journal.Kept.{Kept}
 use Rattle.broker_model.specs.Out.{Outgoing, stored}
 use Rattle.broker_model.specs.Settle.{settle, history, outer, number_alive}
+use Rattle.broker_model.specs.Stamps.{stamps, step_stamps}
 use Rattle.broker_model.specs.Limits.{number_counted, weight, is_full}
-use Rattle.broker_core.specs.declared.shared.JoinRefusal.{JoinRefusal}
-use Rattle.broker_core.specs.declared.shared.JoinRefusal.TheVariants as join
-use Rattle.broker_core.specs.declared.shared.Refused.{Refused}
-use Rattle.broker_core.specs.declared.shared.Refused.TheVariants as refused
-use Rattle.broker_core.specs.declared.shared.Took.{Took}
-use Rattle.broker_core.specs.declared.shared.Took.TheVariants as took
+use Rattle.broker_core.specs.declared.answers.JoinRefusal.{JoinRefusal}
+use Rattle.broker_core.specs.declared.answers.JoinRefusal.TheVariants as join
+use Rattle.broker_core.specs.declared.answers.Refused.{Refused}
+use Rattle.broker_core.specs.declared.answers.Refused.TheVariants as refused
+use Rattle.broker_core.specs.declared.answers.Took.{Took}
+use Rattle.broker_core.specs.declared.answers.Took.TheVariants as took
 use Rattle.broker_core.specs.declared.state.State.{State}
 use Rattle.broker_core.specs.declared.taking.Standing.{Standing}
 use Rattle.broker_core.specs.declared.taking.Standing.TheVariants.{Nobody, Alive, Over}
@@ -29,36 +31,41 @@ use Rattle.broker_core.specs.Stands.{Stands, end_of}
 use Rattle.broker_core.specs.Taking.{out_at, standing_of}
 use Rattle.broker_core.specs.Watched.{Watched, watched_since}
 
--- what was allowed, and all that happened, the newest first
+-- what was allowed, and all that happened with its stamps, the newest first
 pub record Broker : Type 0 where
   pub limits : Limits
   pub journal : List Entry
+  pub stamps : List Stamp
 
--- What its state keeps: it stands for a journal that is the history of its outer steps, within the limits, and at most 64 peers are alive.
+-- What its state keeps: it stands for a journal that is the history of its outer steps, within the limits, at most 64 peers are alive, and the stamps are those
+-- for which the steps' were given.
 pub record IsBroker (limits : Limits) (s : State) : Type 0 where
   pub stands : Stands s
   pub capacity : s.capacity ≡ limits.store
   pub limited : IsLimits limits
   pub steps : history limits.store (outer s.journal.entries) ≡ s.journal.entries
   pub counted : number_counted s.journal.entries ≤ limits.entries
-  pub light : weight s.journal.entries ≤ 134217728
+  pub light : weight s.journal.entries ≤ limits.weight
   pub few : number_alive s.journal.entries ≤ 64
+  pub stamped : stamps s.journal.entries (step_stamps s.journal.entries s.stamps.stamps) ≡ s.stamps.stamps
 
--- after one more step, and the ends that follow from it
-abbrev pub with_step : Entry → Broker → Broker
-with_step e b = record b { journal = settle b.limits.store (e ∷ b.journal) }
+-- after one more step, and the ends that follow from it: its call gave the stamp
+abbrev pub with_step : Entry → Stamp → Broker → Broker
+with_step e given b =
+    let after = settle b.limits.store (e ∷ b.journal) in
+    record b { journal = after; stamps = stamps after (given ∷ step_stamps b.journal b.stamps) }
 
 -- how much a journal holds
 abbrev pub kept_in : List Entry → Kept
 kept_in journal = record { entries = number_counted journal; weight = weight journal }
 
--- how much a journal with a limit of entries holds, where it is full for the entry
-abbrev pub full_in : ℕ → List Entry → Entry → Option Kept
-full_in limit journal e = (if is_full limit journal e then Some (kept_in journal) else None)
+-- how much a journal with these limits holds, where it is full for the entry
+abbrev pub full_in : Limits → List Entry → Entry → Option Kept
+full_in limits journal e = (if is_full limits journal e then Some (kept_in journal) else None)
 
 -- the same of the broker's journal
 abbrev pub full_for : Broker → Entry → Option Kept
-full_for b e = full_in b.limits.entries b.journal e
+full_for b e = full_in b.limits b.journal e
 
 -- why no peer can join, if so: 64 are alive, or else the journal is full
 abbrev pub join_refusal : Broker → Role → Option JoinRefusal
@@ -68,6 +75,7 @@ join_refusal b role =
 -- the entry of a step of the peer q
 abbrev pub peer_entry : ℕ → PeerStep → Entry
 peer_entry q (peers.Message id opcode body) = entries.Message q id opcode body
+peer_entry q (peers.Tokens tokens) = entries.Tokens q tokens
 peer_entry q (peers.BadSize head) = entries.BadSize q head
 peer_entry q peers.Gone = entries.End q Gone
 

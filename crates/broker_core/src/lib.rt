@@ -1,6 +1,7 @@
 // The shared state of all peers of a seat: one journal, and for each peer what is stored for it.
 #![tactic(auto)]
 
+mod answers;
 mod limits;
 mod shared;
 mod state;
@@ -8,7 +9,8 @@ mod steps;
 mod taking;
 mod watch;
 
-pub use broker_model::{Entry, Journal, Kept};
-pub use shared::{Applied, JoinRefusal, MOST_PEERS, Refused, Shared, Took};
+pub use answers::{Applied, JoinRefusal, Refused, Took};
+pub use broker_model::{Entry, Journal, Kept, StampList};
+pub use shared::{MOST_PEERS, Shared};
 pub use taking::Standing;
 pub use watch::Watch;

@@ -1,12 +1,13 @@
 // The shared state of all peers as its callers see it.
+use crate::answers::{Applied, JoinRefusal, Refused, Took};
 use crate::limits::{ENTRY_WEIGHT, full};
 use crate::state::State;
 use crate::taking::Standing;
 use crate::watch::Watch;
-use broker_model::{Journal, Kept};
+use broker_model::{Journal, Kept, StampList};
 use relay_core::Route;
 use relay_model::{EndCause, Role};
-use seat_steps::{Limits, PeerStep, ShellStep, Step};
+use seat_steps::{Limits, PeerStep, ShellStep, Stamp, Step, TokenList};
 use std::alloc::Global;
 use std::marker::Model;
 use wio_core::NoMemory;
@@ -14,56 +15,6 @@ use wl_wire::Bytes;
 
 /// The most peers that are alive at once.
 pub const MOST_PEERS: u32 = 64;
-
-/// Why no peer joined.
-#[derive(Clone, Copy, Debug, PartialEq, Eq)]
-pub enum JoinRefusal {
-    /// `MOST_PEERS` are alive, the number that it says.
-    TooManyPeers(u32),
-    /// The journal is full for a join: so much it holds.
-    JournalFull(Kept),
-    /// There was no memory.
-    NoMemory,
-}
-
-/// Why a step of a peer or of the shell wasn't taken.
-#[derive(Clone, Copy, Debug, PartialEq, Eq)]
-pub enum Refused {
-    /// No peer has the number.
-    NoPeer,
-    /// The peer ended, for this cause.
-    Ended(EndCause),
-    /// The journal is full for the step: so much it holds.
-    JournalFull(Kept),
-    /// There was no memory.
-    NoMemory,
-}
-
-/// What became of a step.
-#[derive(Clone, Copy, Debug, PartialEq, Eq)]
-pub struct Applied {
-    /// The number of its entry in the journal, from 1.
-    pub entry: u32,
-    /// Where a key of the shell went; none for any other step.
-    pub route: Option<Route>,
-}
-
-/// What was taken of what is stored for a peer.
-#[derive(Clone, Copy, Debug, PartialEq, Eq)]
-pub enum Took {
-    /// So many bytes, and so many tokens with them.
-    Bytes(usize, usize),
-    /// Nothing: no peer has the number.
-    NoPeer,
-    /// Nothing: nothing is stored, and the peer ended.
-    Closed,
-    /// Nothing: nothing is stored yet.
-    Empty,
-    /// Nothing: the journal is full for a take. So much it holds.
-    JournalFull(Kept),
-    /// Nothing: there was no memory.
-    NoMemory,
-}
 
 /// The shared state of all peers of a seat: one journal of what happened, and for each peer what is stored for it.
 ///
@@ -81,7 +32,7 @@ impl Model for Shared {
 
     ghost Value = { Broker };
 
-    ghost view = { λ s. record { limits = s.limits; journal = s.state.journal.entries } };
+    ghost view = { λ s. record { limits = s.limits; journal = s.state.journal.entries; stamps = s.state.stamps.stamps } };
 
     ghost invariant = { λ s. IsBroker s.limits s.state };
 }
@@ -101,6 +52,7 @@ impl Shared {
     ghost use Rattle.broker_model.specs.Resolve.{past_of, resolve};
     ghost use Rattle.broker_model.specs.Out.{act_at, out_for, stored};
     ghost use Rattle.broker_model.specs.Settle.{history, outer, is_due, number_alive};
+    ghost use Rattle.broker_model.specs.Stamps.{stamps, step_stamps};
     ghost use Rattle.broker_model.specs.Limits.{is_end, weight_of, number_counted, weight};
     ghost use Rattle.broker_core.specs.declared.taking.Standing.TheVariants.{Alive};
     ghost use Rattle.broker_core.specs.Ends.{is_end_of};
@@ -110,7 +62,7 @@ impl Shared {
     /// Nobody joined yet, and the journal is empty. Asks for limits in their ranges. `NoMemory` is its one error.
     pub fn new(alloc: Global, limits: Limits) -> Result<Shared, NoMemory>
         requires limits { IsLimits limits }
-        ensures { IfOk result (λ shared. shared ≡ record { limits = limits; journal = [] }) }
+        ensures { IfOk result (λ shared. shared ≡ record { limits = limits; journal = []; stamps = [] }) }
     {
         Ok(Shared {
             state: State::new(alloc, limits.store as usize)?,
@@ -151,7 +103,7 @@ impl Shared {
         ensures nobody_is_due { (number : ℕ) (peer : Joined) → peer_at (past_of self.now.journal) number ≡ Some peer → is_due self.now.limits.store self.now.journal number peer ≡ false }
         ensures few_peers { number_alive self.now.journal ≤ 64 }
         ensures counted { number_counted self.now.journal ≤ self.now.limits.entries }
-        ensures light { weight self.now.journal ≤ 134217728 }
+        ensures light { weight self.now.journal ≤ self.now.limits.weight }
         ensures stores { (label : ℕ) → length (stored (out_for self.now.limits.store self.now.journal label)) ≤ self.now.limits.store }
         ensures few_objects { (number : ℕ) (peer : Joined) → peer_at (past_of self.now.journal) number ≡ Some peer → is_peer (log_of (past_of self.now.journal)) peer.label ≡ true → number_live (past_of self.now.journal) peer.label ≤ 256 }
         ensures few_keys { number_down (log_of (past_of self.now.journal)) ≤ 64 }
@@ -161,11 +113,21 @@ impl Shared {
         &self.state.journal
     }
 
+    /// The stamps of the journal's entries. A step's has the author that its call gave, and as moment the greatest of the one that the call gave, the one that
+    /// the step says, and that of the entry before. An end that follows has author 0, and the moment of the entry before.
+    pub fn stamps(&self) -> &StampList
+        ensures stamps { result.now.stamps ≡ self.now.stamps }
+        ensures each { length self.now.stamps ≡ length self.now.journal }
+        ensures stamped { stamps self.now.journal (step_stamps self.now.journal self.now.stamps) ≡ self.now.stamps }
+    {
+        &self.state.stamps
+    }
+
     // How much the journal holds, where it is full for an entry that isn't an end and adds so much to its weight.
     fn full(&self, added: u64) -> Option<Kept>
         ensures { (e : Entry) → is_end e ≡ false → weight_of e ≡ added → result ≡ full_for self.now e }
     {
-        full(&self.state.journal, self.limits.entries, added)
+        full(&self.state.journal, &self.limits, added)
     }
 
     // Why no peer can join, if so.
@@ -183,22 +145,27 @@ impl Shared {
     ///
     /// `TooManyPeers` comes where `MOST_PEERS` are alive, else `JournalFull` where the journal is full for a join, else `NoMemory` may come. After each all is
     /// as before.
-    pub fn join(&mut self, role: Role) -> Result<u32, JoinRefusal>
+    pub fn join(&mut self, role: Role, stamp: Stamp) -> Result<u32, JoinRefusal>
         ensures refused { IfSome (join_refusal self.old role) (λ why. result ≡ Err why) }
         ensures accepted { IfNone (join_refusal self.old role) (IsOkUnless result JoinRefusal.NoMemory) }
-        ensures ok { OnOk result (self.new ≡ with_step (entries.Join role) self.old) }
+        ensures ok { OnOk result (self.new ≡ with_step (entries.Join role) stamp self.old) }
         ensures number { IfOk result (λ number. number ≡ length (past_of self.new.journal).joined) }
         ensures err { OnErr result (self.new ≡ self.old) }
     {
-        self.join_watched(role, &mut ())
+        self.join_watched(role, stamp, &mut ())
     }
 
     /// As `join`; and `watch` is told of the entries that the call makes, of none where no peer
     /// joins.
-    pub fn join_watched<W: Watch>(&mut self, role: Role, watch: &mut W) -> Result<u32, JoinRefusal>
+    pub fn join_watched<W: Watch>(
+        &mut self,
+        role: Role,
+        stamp: Stamp,
+        watch: &mut W,
+    ) -> Result<u32, JoinRefusal>
         ensures refused { IfSome (join_refusal self.old role) (λ why. result ≡ Err why) }
         ensures accepted { IfNone (join_refusal self.old role) (IsOkUnless result JoinRefusal.NoMemory) }
-        ensures ok { OnOk result (self.new ≡ with_step (entries.Join role) self.old) }
+        ensures ok { OnOk result (self.new ≡ with_step (entries.Join role) stamp self.old) }
         ensures number { IfOk result (λ number. number ≡ length (past_of self.new.journal).joined) }
         ensures err { OnErr result (self.new ≡ self.old) }
         ensures watched { IsWatched W.may_follow self.old watch.old self.new watch.new }
@@ -206,7 +173,7 @@ impl Shared {
         if let Some(why) = self.join_refusal(role) {
             return Err(why);
         }
-        let Ok(number) = self.state.join(role, watch) else {
+        let Ok(number) = self.state.join(role, stamp, watch) else {
             return Err(JoinRefusal::NoMemory);
         };
         self.state.settle(watch);
@@ -233,6 +200,9 @@ impl Shared {
                 PeerStep::Message { body, .. } => {
                     self.refusal_if_full(ENTRY_WEIGHT + body.as_slice().len() as u64)
                 }
+                PeerStep::Tokens(tokens) => {
+                    self.refusal_if_full(ENTRY_WEIGHT + 4 * tokens.as_slice().len() as u64)
+                }
                 PeerStep::BadSize { .. } => self.refusal_if_full(ENTRY_WEIGHT),
                 PeerStep::Gone => None,
             },
@@ -257,16 +227,36 @@ impl Shared {
         id: u32,
         opcode: u16,
         body: &Bytes,
+        stamp: Stamp,
         watch: &mut W,
     ) -> Result<(), NoMemory>
         requires live { standing_of self.old.journal number ≡ Alive }
         requires short { length body.now ≤ 4088 }
         requires place { full_for self.old (entries.Message number id opcode body.now) ≡ None }
-        ensures ok { OnOk result (self.new ≡ with_step (entries.Message number id opcode body.now) self.old) }
+        ensures ok { OnOk result (self.new ≡ with_step (entries.Message number id opcode body.now) stamp self.old) }
         ensures err { OnErr result (self.new ≡ self.old) }
         ensures watched { IsWatched W.may_follow self.old watch.old self.new watch.new }
     {
-        self.state.message(number, id, opcode, body, watch)?;
+        self.state.message(number, id, opcode, body, stamp, watch)?;
+        self.state.settle(watch);
+        Ok(())
+    }
+
+    // Tokens of a live peer.
+    fn tokens<W: Watch>(
+        &mut self,
+        number: u32,
+        tokens: &TokenList,
+        stamp: Stamp,
+        watch: &mut W,
+    ) -> Result<(), NoMemory>
+        requires live { standing_of self.old.journal number ≡ Alive }
+        requires place { full_for self.old (entries.Tokens number tokens.now) ≡ None }
+        ensures ok { OnOk result (self.new ≡ with_step (entries.Tokens number tokens.now) stamp self.old) }
+        ensures err { OnErr result (self.new ≡ self.old) }
+        ensures watched { IsWatched W.may_follow self.old watch.old self.new watch.new }
+    {
+        self.state.tokens(number, tokens, stamp, watch)?;
         self.state.settle(watch);
         Ok(())
     }
@@ -276,26 +266,27 @@ impl Shared {
         &mut self,
         number: u32,
         head: [u8; 8],
+        stamp: Stamp,
         watch: &mut W,
     ) -> Result<(), NoMemory>
         requires live { standing_of self.old.journal number ≡ Alive }
         requires place { full_for self.old (entries.BadSize number head) ≡ None }
-        ensures ok { OnOk result (self.new ≡ with_step (entries.BadSize number head) self.old) }
+        ensures ok { OnOk result (self.new ≡ with_step (entries.BadSize number head) stamp self.old) }
         ensures err { OnErr result (self.new ≡ self.old) }
         ensures watched { IsWatched W.may_follow self.old watch.old self.new watch.new }
     {
-        self.state.bad_size(number, head, watch)?;
+        self.state.bad_size(number, head, stamp, watch)?;
         self.state.settle(watch);
         Ok(())
     }
 
     // The link of a live peer ends.
-    fn gone<W: Watch>(&mut self, number: u32, watch: &mut W)
+    fn gone<W: Watch>(&mut self, number: u32, stamp: Stamp, watch: &mut W)
         requires { standing_of self.old.journal number ≡ Alive }
-        ensures ended { self.new ≡ with_step (entries.End number Gone) self.old }
+        ensures ended { self.new ≡ with_step (entries.End number Gone) stamp self.old }
         ensures watched { IsWatched W.may_follow self.old watch.old self.new watch.new }
     {
-        self.state.end(number, EndCause::Gone, watch);
+        self.state.end(number, EndCause::Gone, stamp, watch);
         self.state.settle(watch);
     }
 
@@ -304,22 +295,24 @@ impl Shared {
         &mut self,
         number: u32,
         step: &PeerStep,
+        stamp: Stamp,
         watch: &mut W,
     ) -> Result<(), NoMemory>
         requires step { IsStep (steps.Peer number step.now) }
         requires accepted { refusal self.old (steps.Peer number step.now) ≡ None }
         ensures accepted { IsAccepted (record {}) (steps.Peer number step.now) result }
-        ensures ok { OnOk result (self.new ≡ with_step (entry_of (steps.Peer number step.now)) self.old) }
+        ensures ok { OnOk result (self.new ≡ with_step (entry_of (steps.Peer number step.now)) stamp self.old) }
         ensures err { OnErr result (self.new ≡ self.old) }
         ensures watched { IsWatched W.may_follow self.old watch.old self.new watch.new }
     {
         match step {
             PeerStep::Message { id, opcode, body } => {
-                self.message(number, *id, *opcode, body, watch)
+                self.message(number, *id, *opcode, body, stamp, watch)
             }
-            PeerStep::BadSize { head } => self.bad_size(number, *head, watch),
+            PeerStep::BadSize { head } => self.bad_size(number, *head, stamp, watch),
+            PeerStep::Tokens(tokens) => self.tokens(number, tokens, stamp, watch),
             PeerStep::Gone => {
-                self.gone(number, watch);
+                self.gone(number, stamp, watch);
                 Ok(())
             }
         }
@@ -329,36 +322,42 @@ impl Shared {
     fn shell<W: Watch>(
         &mut self,
         step: &ShellStep,
+        stamp: Stamp,
         watch: &mut W,
     ) -> Result<Option<Route>, NoMemory>
         requires place { full_for self.old (entries.Shell step.now) ≡ None }
-        ensures ok { OnOk result (self.new ≡ with_step (entries.Shell step.now) self.old) }
+        ensures ok { OnOk result (self.new ≡ with_step (entries.Shell step.now) stamp self.old) }
         ensures route { IfOk result (λ route. route ≡ route_told (act_at (entries.Shell step.now) self.old.journal) (resolve self.old.journal)) }
         ensures err { OnErr result (self.new ≡ self.old) }
         ensures watched { IsWatched W.may_follow self.old watch.old self.new watch.new }
     {
-        let route = self.state.shell(step, watch)?;
+        let route = self.state.shell(step, stamp, watch)?;
         self.state.settle(watch);
         Ok(route)
     }
 
     // A step of a peer or of the shell that can be taken.
-    fn enter<W: Watch>(&mut self, step: &Step, watch: &mut W) -> Result<Option<Route>, NoMemory>
+    fn enter<W: Watch>(
+        &mut self,
+        step: &Step,
+        stamp: Stamp,
+        watch: &mut W,
+    ) -> Result<Option<Route>, NoMemory>
         requires step { IsStep step.now }
         requires said { IsSaid step.now }
         requires accepted { refusal self.old step.now ≡ None }
         ensures accepted { IsAccepted (record {}) step.now result }
-        ensures ok { OnOk result (self.new ≡ with_step (entry_of step.now) self.old) }
+        ensures ok { OnOk result (self.new ≡ with_step (entry_of step.now) stamp self.old) }
         ensures route { IfOk result (λ route. route ≡ route_told (act_at (entry_of step.now) self.old.journal) (resolve self.old.journal)) }
         ensures err { OnErr result (self.new ≡ self.old) }
         ensures watched { IsWatched W.may_follow self.old watch.old self.new watch.new }
     {
         match step {
             Step::Peer(number, step) => {
-                self.peer_step(*number, step, watch)?;
+                self.peer_step(*number, step, stamp, watch)?;
                 Ok(None)
             }
-            Step::Shell(step) => self.shell(step, watch),
+            Step::Shell(step) => self.shell(step, stamp, watch),
             Step::Join(_) | Step::Take(..) => unreachable!(),
         }
     }
@@ -367,17 +366,17 @@ impl Shared {
     ///
     /// For a peer's step `NoPeer` comes where no peer has the number, and `Ended` where the peer ended, with the cause. Else `JournalFull` comes where the
     /// journal is full for the step, else `NoMemory` may come. After each all is as before. The end of a live peer's link is always taken.
-    pub fn apply(&mut self, step: &Step) -> Result<Applied, Refused>
+    pub fn apply(&mut self, step: &Step, stamp: Stamp) -> Result<Applied, Refused>
         requires step { IsStep step.now }
         requires said { IsSaid step.now }
         ensures refused { IfSome (refusal self.old step.now) (λ why. result ≡ Err why) }
         ensures accepted { IfNone (refusal self.old step.now) (IsAccepted Refused.NoMemory step.now result) }
-        ensures ok { OnOk result (self.new ≡ with_step (entry_of step.now) self.old) }
+        ensures ok { OnOk result (self.new ≡ with_step (entry_of step.now) stamp self.old) }
         ensures entry { IfOk result (λ applied. applied.entry ≡ length self.old.journal + 1) }
         ensures route { IfOk result (λ applied. applied.route ≡ route_told (act_at (entry_of step.now) self.old.journal) (resolve self.old.journal)) }
         ensures err { OnErr result (self.new ≡ self.old) }
     {
-        self.apply_watched(step, &mut ())
+        self.apply_watched(step, stamp, &mut ())
     }
 
     /// As `apply`; and `watch` is told of the entries that the call makes, of none where the step
@@ -385,13 +384,14 @@ impl Shared {
     pub fn apply_watched<W: Watch>(
         &mut self,
         step: &Step,
+        stamp: Stamp,
         watch: &mut W,
     ) -> Result<Applied, Refused>
         requires step { IsStep step.now }
         requires said { IsSaid step.now }
         ensures refused { IfSome (refusal self.old step.now) (λ why. result ≡ Err why) }
         ensures accepted { IfNone (refusal self.old step.now) (IsAccepted Refused.NoMemory step.now result) }
-        ensures ok { OnOk result (self.new ≡ with_step (entry_of step.now) self.old) }
+        ensures ok { OnOk result (self.new ≡ with_step (entry_of step.now) stamp self.old) }
         ensures entry { IfOk result (λ applied. applied.entry ≡ length self.old.journal + 1) }
         ensures route { IfOk result (λ applied. applied.route ≡ route_told (act_at (entry_of step.now) self.old.journal) (resolve self.old.journal)) }
         ensures err { OnErr result (self.new ≡ self.old) }
@@ -401,7 +401,7 @@ impl Shared {
             return Err(why);
         }
         let entry = self.state.journal.len() + 1;
-        match self.enter(step, watch) {
+        match self.enter(step, stamp, watch) {
             Ok(route) => Ok(Applied { entry, route }),
             Err(NoMemory) => Err(Refused::NoMemory),
         }
@@ -429,19 +429,19 @@ impl Shared {
     ///
     /// `NoPeer` comes where no peer has the number. Where nothing is stored, `Closed` comes if the peer ended, and else `Empty`. Where something is,
     /// `JournalFull` comes if the journal is full for a take, else `NoMemory` may come. After each of these all is as before, the buffers too.
-    pub fn take(&mut self, peer: u32, buf: &mut [u8], tokens: &mut [u32]) -> Took
+    pub fn take(&mut self, peer: u32, buf: &mut [u8], tokens: &mut [u32], stamp: Stamp) -> Took
         requires piece { length buf.old ≤ 4096 }
         requires some { 1 ≤ length buf.old }
         requires places { 256 ≤ length tokens.old }
         ensures refused { IfSome (take_refusal self.old peer) (λ why. result ≡ why) }
         ensures accepted { IfNone (take_refusal self.old peer) (IsBytesUnlessMemory result) }
         ensures bytes { IfSome (out_at self.old.limits.store self.old.journal peer) (λ out. IfBytes result (λ counts. IsTaken out self.old.journal peer buf.old tokens.old counts buf.new tokens.new (entries.Took peer counts.0 ∷ self.old.journal))) }
-        ensures settled { IfBytes result (λ counts. self.new ≡ with_step (entries.Took peer counts.0) self.old) }
+        ensures settled { IfBytes result (λ counts. self.new ≡ with_step (entries.Took peer counts.0) stamp self.old) }
         ensures same { IfNoBytes result (self.new ≡ self.old) }
         ensures same_bytes { IfNoBytes result (buf.new ≡ buf.old) }
         ensures same_tokens { IfNoBytes result (tokens.new ≡ tokens.old) }
     {
-        self.take_watched(peer, buf, tokens, &mut ())
+        self.take_watched(peer, buf, tokens, stamp, &mut ())
     }
 
     /// As `take`; and `watch` is told of the entries that the call makes, of none where nothing is
@@ -451,6 +451,7 @@ impl Shared {
         peer: u32,
         buf: &mut [u8],
         tokens: &mut [u32],
+        stamp: Stamp,
         watch: &mut W,
     ) -> Took
         requires piece { length buf.old ≤ 4096 }
@@ -459,7 +460,7 @@ impl Shared {
         ensures refused { IfSome (take_refusal self.old peer) (λ why. result ≡ why) }
         ensures accepted { IfNone (take_refusal self.old peer) (IsBytesUnlessMemory result) }
         ensures bytes { IfSome (out_at self.old.limits.store self.old.journal peer) (λ out. IfBytes result (λ counts. IsTaken out self.old.journal peer buf.old tokens.old counts buf.new tokens.new (entries.Took peer counts.0 ∷ self.old.journal))) }
-        ensures settled { IfBytes result (λ counts. self.new ≡ with_step (entries.Took peer counts.0) self.old) }
+        ensures settled { IfBytes result (λ counts. self.new ≡ with_step (entries.Took peer counts.0) stamp self.old) }
         ensures same { IfNoBytes result (self.new ≡ self.old) }
         ensures same_bytes { IfNoBytes result (buf.new ≡ buf.old) }
         ensures same_tokens { IfNoBytes result (tokens.new ≡ tokens.old) }
@@ -468,7 +469,7 @@ impl Shared {
         if let Some(why) = self.take_refusal(peer) {
             return why;
         }
-        let Ok((bytes, places)) = self.state.take(peer, buf, tokens, watch) else {
+        let Ok((bytes, places)) = self.state.take(peer, buf, tokens, stamp, watch) else {
             return Took::NoMemory;
         };
         self.state.settle(watch);

@@ -7,6 +7,8 @@ ghost use Rattle.relay_core.specs.Kept.{IsReserved};
 ghost use Rattle.relay_core.specs.Stands as relay;
 ghost use Rattle.broker_model.specs.declared.journal.Entry.TheVariants as entries;
 ghost use Rattle.broker_model.specs.Settle.{settle};
+ghost use Rattle.broker_model.specs.Stamps.{stamp_of, stamps};
+ghost use Rattle.seat_steps.specs.declared.stamp.Stamp.{Stamp};
 ghost use Rattle.broker_model.specs.Resolve.{past_of, resolve};
 ghost use Rattle.broker_model.specs.Out.{act_at};
 ghost use Rattle.seat_audience.specs.Lives.{told_all, number_of};
@@ -16,13 +18,20 @@ ghost use Rattle.seat_audience.specs.Tells.{IsShort};
 ghost use Rattle.broker_core.specs.Watched.{told_live, watched, watched_since};
 
 use crate::watch::{Watch, show_groups, speak};
-use broker_model::{Entry, Journal};
+use broker_model::{Entry, Journal, StampList};
 use out_store::Store;
 use relay_core::{Relay, Route};
 use relay_model::{Act, EndCause, Label};
 use seat_audience::{Audience, Directory, Listeners};
+use seat_steps::Stamp;
 use std::alloc::Global;
 use wio_core::NoMemory;
+
+// What is given with an end that follows from a step.
+const NOT_GIVEN: Stamp = Stamp {
+    moment: 0,
+    author: 0,
+};
 
 /// What stays of a peer that ended.
 #[derive(Drop)]
@@ -47,6 +56,8 @@ pub(crate) struct State {
     pub capacity: usize,
     pub relay: Relay,
     pub journal: Journal,
+    /// Of each entry of the journal.
+    pub stamps: StampList,
     pub audience: Audience,
     /// By the number of each peer that joined.
     pub labels: Vec<Label>,
@@ -59,6 +70,7 @@ impl State {
     pub(crate) fn new(alloc: Global, capacity: usize) -> Result<State, NoMemory>
         ensures stands { IfOk result Stands }
         ensures empty { IfOk result (λ state. state.journal.entries ≡ []) }
+        ensures no_stamps { IfOk result (λ state. state.stamps.stamps ≡ []) }
         ensures capacity { IfOk result (λ state. state.capacity ≡ capacity) }
     {
         Ok(State {
@@ -66,6 +78,7 @@ impl State {
             capacity,
             relay: Relay::new(alloc)?,
             journal: Journal::new(alloc),
+            stamps: StampList::new(alloc),
             audience: Audience {
                 live: Listeners::new(alloc),
                 directory: Directory::new(alloc),
@@ -88,6 +101,7 @@ impl State {
             (told_live number self.old.audience.directory.made self.old.audience.live.items (told act.now log))
             watch.new }
         ensures journal { self.new.journal ≡ self.old.journal }
+        ensures stamps { self.new.stamps ≡ self.old.stamps }
         ensures labels { self.new.labels ≡ self.old.labels }
         ensures ended { self.new.ended ≡ self.old.ended }
         ensures capacity { self.new.capacity ≡ self.old.capacity }
@@ -99,17 +113,20 @@ impl State {
         route
     }
 
-    // One more entry, for which all is made ready: its act is told. Takes no memory.
+    // One more entry, for which all is made ready: its act is told. Its call gave the stamp. Takes no memory.
     pub(crate) fn enter<W: Watch>(
         &mut self,
         entry: Entry,
         act: &Act,
+        given: Stamp,
         watch: &mut W,
     ) -> Option<Route>
         requires ready { IsReadyFor entry self.old }
         requires act { act.now ≡ act_at entry self.old.journal.entries }
         ensures stands { Stands self.new }
         ensures entered { self.new.journal.entries ≡ entry ∷ self.old.journal.entries }
+        ensures stamped { self.new.stamps.stamps
+            ≡ stamp_of entry given self.old.stamps.stamps ∷ self.old.stamps.stamps }
         ensures capacity { self.new.capacity ≡ self.old.capacity }
         ensures route { result ≡ relay.route_told act.now (resolve self.old.journal.entries) }
         ensures watched { Reached W.may_follow watch.old
@@ -118,18 +135,28 @@ impl State {
         let number = self.journal.len() + 1;
         watch.entered(number, &entry);
         let route = self.play(number, act, watch);
+        let stamp = self.stamps.next(&entry, given);
+        self.stamps.push(stamp);
         self.journal.push(entry);
         route
     }
 
     /// A live peer ends. Takes no memory.
-    pub(crate) fn end<W: Watch>(&mut self, number: u32, cause: EndCause, watch: &mut W)
+    pub(crate) fn end<W: Watch>(
+        &mut self,
+        number: u32,
+        cause: EndCause,
+        given: Stamp,
+        watch: &mut W,
+    )
         requires stands { Stands self.old }
         requires live { IsSome (number_of number self.old.audience.live.items) }
         requires few { length self.old.journal.entries < 4294967295 }
         ensures stands { Stands self.new }
         ensures capacity { self.new.capacity ≡ self.old.capacity }
         ensures ended { self.new.journal.entries ≡ entries.End number cause ∷ self.old.journal.entries }
+        ensures stamped { self.new.stamps.stamps ≡ stamp_of (entries.End number cause) given
+            self.old.stamps.stamps ∷ self.old.stamps.stamps }
         ensures watched { Reached W.may_follow watch.old
             (watched self.old.capacity (entries.End number cause) self.old.journal.entries) watch.new }
     {
@@ -150,6 +177,7 @@ impl State {
                 cause,
             },
             &act,
+            given,
             watch,
         );
     }
@@ -161,12 +189,15 @@ impl State {
         ensures stands { Stands self.new }
         ensures capacity { self.new.capacity ≡ self.old.capacity }
         ensures settled { self.new.journal.entries ≡ settle self.old.capacity self.old.journal.entries }
+        ensures stamped { (given : List Stamp) →
+            stamps self.old.journal.entries given ≡ self.old.stamps.stamps →
+            stamps self.new.journal.entries given ≡ self.new.stamps.stamps }
         ensures watched { (k : ℕ) (from : W) → k ≤ length self.old.journal.entries →
             Reached W.may_follow from (watched_since self.old.capacity k self.old.journal.entries) watch.old →
             Reached W.may_follow from (watched_since self.old.capacity k self.new.journal.entries) watch.new }
     {
         while let Some((number, cause)) = self.audience.live.due() {
-            self.end(number, cause, watch);
+            self.end(number, cause, NOT_GIVEN, watch);
         }
     }
 }

@@ -9,6 +9,8 @@ ghost use Rattle.seat_wire.specs.Meant.{meant};
 ghost use Rattle.broker_model.specs.declared.journal.Entry.TheVariants as entries;
 ghost use Rattle.broker_model.specs.Resolve.{means, past_of, resolve, surface_at};
 ghost use Rattle.broker_model.specs.Ids.{peer_at};
+ghost use Rattle.broker_model.specs.Waiting.{with_tokens};
+ghost use Rattle.broker_model.specs.Stamps.{stamp_of};
 ghost use Rattle.broker_model.specs.Out.{act_at};
 ghost use Rattle.seat_audience.specs.Lives.{number_of};
 ghost use Rattle.broker_core.specs.Stands.{Stands, CanTake};
@@ -22,7 +24,7 @@ use im_objects::DISPLAY_ID;
 use relay_core::Route;
 use relay_model::{Act, Fault, Label, Role};
 use seat_audience::{Live, Named};
-use seat_steps::ShellStep;
+use seat_steps::{ShellStep, Stamp, TokenList};
 use seat_wire::{Meaning, Sender, meaning_of, shell_act};
 use wio_core::NoMemory;
 use wl_proto::Interface;
@@ -40,24 +42,37 @@ impl State {
         ensures labels { self.new.labels ≡ self.old.labels }
         ensures ended { self.new.ended ≡ self.old.ended }
         ensures capacity { self.new.capacity ≡ self.old.capacity }
+        ensures stamps { self.new.stamps.stamps ≡ self.old.stamps.stamps }
         ensures room { OnOk result (length self.old.audience.live.items + 2 ≤ self.new.journal.room) }
+        ensures stamp_room { OnOk result (length self.old.audience.live.items + 2
+            ≤ self.new.stamps.room) }
         ensures place { OnOk result (0 < self.new.audience.directory.room) }
         ensures reserved { OnOk result (IsReserved self.new.relay act.now) }
     {
-        self.journal.reserve(self.audience.live.len() + 2)?;
+        let more = self.audience.live.len() + 2;
+        self.journal.reserve(more)?;
+        self.stamps.reserve(more)?;
         self.audience.directory.reserve(1)?;
         self.relay.reserve(act)
     }
 
     /// A peer joins. Answers its number.
-    pub(crate) fn join<W: Watch>(&mut self, role: Role, watch: &mut W) -> Result<u32, NoMemory>
+    pub(crate) fn join<W: Watch>(
+        &mut self,
+        role: Role,
+        given: Stamp,
+        watch: &mut W,
+    ) -> Result<u32, NoMemory>
         requires stands { Stands self.old }
         requires place { CanTake (entries.Join role) self.old.journal.entries }
         ensures stands { Stands self.new }
         ensures capacity { self.new.capacity ≡ self.old.capacity }
         ensures ok { OnOk result (self.new.journal.entries ≡ entries.Join role ∷ self.old.journal.entries) }
+        ensures stamped { OnOk result (self.new.stamps.stamps ≡ stamp_of (entries.Join role) given
+            self.old.stamps.stamps ∷ self.old.stamps.stamps) }
         ensures number { IfOk result (λ number. number ≡ length (past_of self.new.journal.entries).joined) }
         ensures err { OnErr result (self.new.journal.entries ≡ self.old.journal.entries) }
+        ensures unstamped { OnErr result (self.new.stamps.stamps ≡ self.old.stamps.stamps) }
         ensures watched { OnOk result (Reached W.may_follow watch.old
             (watched self.old.capacity (entries.Join role) self.old.journal.entries) watch.new) }
         ensures unwatched { OnErr result (watch.new ≡ watch.old) }
@@ -78,7 +93,7 @@ impl State {
         self.audience.live.push(live);
         let _ = self.labels.push(label);
         let _ = self.ended.push(None);
-        let _ = self.enter(Entry::Join(role), &Act::Peer, watch);
+        let _ = self.enter(Entry::Join(role), &Act::Peer, given, watch);
         Ok(number)
     }
 
@@ -89,10 +104,12 @@ impl State {
         ensures { IfSome (slice_get self.now.audience.live.items place) (λ l. IfOk result (λ m. meant l.label (length self.now.journal.entries + 1) m ≡ means (entries.Message l.number id opcode body.now) (length self.now.journal.entries + 1) (past_of self.now.journal.entries))) }
     {
         let peer = self.audience.live.at(place);
+        let tokens = peer.waiting.as_slice();
         let sender = Sender {
             label: peer.label,
             role: peer.role,
             table: &peer.table,
+            tokens,
         };
         meaning_of(self.alloc, &self.relay, &sender, id, opcode, body)
     }
@@ -104,6 +121,7 @@ impl State {
         id: u32,
         opcode: u16,
         body: &Bytes,
+        given: Stamp,
         watch: &mut W,
     ) -> Result<(), NoMemory>
         requires stands { Stands self.old }
@@ -113,7 +131,10 @@ impl State {
         ensures stands { Stands self.new }
         ensures capacity { self.new.capacity ≡ self.old.capacity }
         ensures ok { OnOk result (self.new.journal.entries ≡ entries.Message number id opcode body.now ∷ self.old.journal.entries) }
+        ensures stamped { OnOk result (self.new.stamps.stamps ≡ stamp_of (entries.Message number id opcode body.now) given
+            self.old.stamps.stamps ∷ self.old.stamps.stamps) }
         ensures err { OnErr result (self.new.journal.entries ≡ self.old.journal.entries) }
+        ensures unstamped { OnErr result (self.new.stamps.stamps ≡ self.old.stamps.stamps) }
         ensures watched { OnOk result (Reached W.may_follow watch.old
             (watched self.old.capacity (entries.Message number id opcode body.now) self.old.journal.entries) watch.new) }
         ensures unwatched { OnErr result (watch.new ≡ watch.old) }
@@ -131,7 +152,57 @@ impl State {
         self.make_room(&meaning.act)?;
         self.audience
             .change(place, id, self.journal.len() + 1, &meaning)?;
-        let _ = self.enter(entry, &meaning.act, watch);
+        let _ = self.enter(entry, &meaning.act, given, watch);
+        Ok(())
+    }
+
+    // What waits for the peer at the place with more tokens behind.
+    fn waiting(&self, place: usize, tokens: &TokenList) -> Result<TokenList, NoMemory>
+        requires stands { Stands self.now }
+        requires place { place < length self.now.audience.live.items }
+        ensures { IfSome (slice_get self.now.audience.live.items place) (λ l. IfOk result (λ list.
+            list ≡ with_tokens l.waiting tokens.now)) }
+    {
+        self.audience
+            .live
+            .at(place)
+            .waiting_with(self.alloc, tokens.as_slice())
+    }
+
+    /// A live peer sends tokens, which wait for its messages.
+    pub(crate) fn tokens<W: Watch>(
+        &mut self,
+        number: u32,
+        tokens: &TokenList,
+        given: Stamp,
+        watch: &mut W,
+    ) -> Result<(), NoMemory>
+        requires stands { Stands self.old }
+        requires live { IsSome (number_of number self.old.audience.live.items) }
+        requires place { CanTake (entries.Tokens number tokens.now) self.old.journal.entries }
+        ensures stands { Stands self.new }
+        ensures capacity { self.new.capacity ≡ self.old.capacity }
+        ensures ok { OnOk result (self.new.journal.entries ≡ entries.Tokens number tokens.now
+            ∷ self.old.journal.entries) }
+        ensures stamped { OnOk result (self.new.stamps.stamps ≡ stamp_of (entries.Tokens number tokens.now) given
+            self.old.stamps.stamps ∷ self.old.stamps.stamps) }
+        ensures err { OnErr result (self.new.journal.entries ≡ self.old.journal.entries) }
+        ensures unstamped { OnErr result (self.new.stamps.stamps ≡ self.old.stamps.stamps) }
+        ensures watched { OnOk result (Reached W.may_follow watch.old
+            (watched self.old.capacity (entries.Tokens number tokens.now) self.old.journal.entries) watch.new) }
+        ensures unwatched { OnErr result (watch.new ≡ watch.old) }
+    {
+        let Some(place) = self.audience.live.place_of(number) else {
+            unreachable!()
+        };
+        let entry = Entry::Tokens {
+            peer: number,
+            tokens: tokens.copy(self.alloc)?,
+        };
+        let waiting = self.waiting(place, tokens)?;
+        self.make_room(&Act::Idle)?;
+        self.audience.live.wait(place, waiting);
+        let _ = self.enter(entry, &Act::Idle, given, watch);
         Ok(())
     }
 
@@ -140,6 +211,7 @@ impl State {
         &mut self,
         number: u32,
         head: [u8; 8],
+        given: Stamp,
         watch: &mut W,
     ) -> Result<(), NoMemory>
         requires stands { Stands self.old }
@@ -148,7 +220,10 @@ impl State {
         ensures stands { Stands self.new }
         ensures capacity { self.new.capacity ≡ self.old.capacity }
         ensures ok { OnOk result (self.new.journal.entries ≡ entries.BadSize number head ∷ self.old.journal.entries) }
+        ensures stamped { OnOk result (self.new.stamps.stamps ≡ stamp_of (entries.BadSize number head) given
+            self.old.stamps.stamps ∷ self.old.stamps.stamps) }
         ensures err { OnErr result (self.new.journal.entries ≡ self.old.journal.entries) }
+        ensures unstamped { OnErr result (self.new.stamps.stamps ≡ self.old.stamps.stamps) }
         ensures watched { OnOk result (Reached W.may_follow watch.old
             (watched self.old.capacity (entries.BadSize number head) self.old.journal.entries) watch.new) }
         ensures unwatched { OnErr result (watch.new ≡ watch.old) }
@@ -164,7 +239,8 @@ impl State {
         };
         self.make_room(&act)?;
         self.audience.live.refuse(place);
-        let _ = self.enter(Entry::BadSize { peer: number, head }, &act, watch);
+        let entry = Entry::BadSize { peer: number, head };
+        let _ = self.enter(entry, &act, given, watch);
         Ok(())
     }
 
@@ -199,6 +275,7 @@ impl State {
     pub(crate) fn shell<W: Watch>(
         &mut self,
         step: &ShellStep,
+        given: Stamp,
         watch: &mut W,
     ) -> Result<Option<Route>, NoMemory>
         requires stands { Stands self.old }
@@ -206,14 +283,17 @@ impl State {
         ensures stands { Stands self.new }
         ensures capacity { self.new.capacity ≡ self.old.capacity }
         ensures ok { OnOk result (self.new.journal.entries ≡ entries.Shell step.now ∷ self.old.journal.entries) }
+        ensures stamped { OnOk result (self.new.stamps.stamps ≡ stamp_of (entries.Shell step.now) given
+            self.old.stamps.stamps ∷ self.old.stamps.stamps) }
         ensures route { IfOk result (λ route. route ≡ relay.route_told (act_at (entries.Shell step.now) self.old.journal.entries) (resolve self.old.journal.entries)) }
         ensures err { OnErr result (self.new.journal.entries ≡ self.old.journal.entries) }
+        ensures unstamped { OnErr result (self.new.stamps.stamps ≡ self.old.stamps.stamps) }
         ensures watched { OnOk result (Reached W.may_follow watch.old
             (watched self.old.capacity (entries.Shell step.now) self.old.journal.entries) watch.new) }
         ensures unwatched { OnErr result (watch.new ≡ watch.old) }
     {
         let act = shell_act(step, self.surface(step));
         self.make_room(&act)?;
-        Ok(self.enter(Entry::Shell(*step), &act, watch))
+        Ok(self.enter(Entry::Shell(*step), &act, given, watch))
     }
 }

@@ -1,9 +1,10 @@
 // Who is there, and what is taken of what is stored for each.
-ghost use Rattle.std.specs.Prelude.{◌≡◌, ◌≤◌, ◌<◌, ◌-◌, ℕ, ◌++◌, [], List, length, min, take, drop, set, Option, option_map, IsSome, IsSomeAnd, IfSome, IfNone, IfOk, OnErr};
+ghost use Rattle.std.specs.Prelude.{◌≡◌, ◌≤◌, ◌<◌, ◌-◌, ℕ, ◌++◌, ◌∷◌, [], List, length, min, take, drop, set, Option, option_map, IsSome, IsSomeAnd, IfSome, IfNone, IfOk, OnErr};
 ghost use Rattle.std.specs.List.{slice_get};
 ghost use Rattle.out_store.specs.Queue.{Queue, queue, bytes_of, tokens_of};
 ghost use Rattle.broker_model.specs.declared.journal.Entry.TheVariants as entries;
 ghost use Rattle.broker_model.specs.Out.{stored};
+ghost use Rattle.broker_model.specs.Stamps.{stamp_of};
 ghost use Rattle.broker_core.specs.declared.taking.Standing.TheVariants.{Alive};
 ghost use Rattle.seat_audience.specs.Lives.{number_of};
 ghost use Rattle.broker_core.specs.Stands.{Stands, CanTake, store_of};
@@ -16,6 +17,7 @@ use crate::watch::Watch;
 use broker_model::Entry;
 use out_store::Store;
 use relay_model::{Act, EndCause};
+use seat_steps::Stamp;
 use wio_core::NoMemory;
 
 /// Whether a peer is there.
@@ -72,6 +74,7 @@ impl State {
         number: u32,
         buf: &mut [u8],
         tokens: &mut [u32],
+        given: Stamp,
         watch: &mut W,
     ) -> Result<(usize, usize), NoMemory>
         requires stands { Stands self.old }
@@ -82,7 +85,10 @@ impl State {
         ensures stands { Stands self.new }
         ensures capacity { self.new.capacity ≡ self.old.capacity }
         ensures ok { IfSome (out_at self.old.capacity self.old.journal.entries number) (λ out. IfOk result (λ counts. IsTaken out self.old.journal.entries number buf.old tokens.old counts buf.new tokens.new self.new.journal.entries)) }
+        ensures stamped { IfOk result (λ counts. self.new.stamps.stamps ≡ stamp_of
+            (entries.Took number counts.0) given self.old.stamps.stamps ∷ self.old.stamps.stamps) }
         ensures err { OnErr result (self.new.journal.entries ≡ self.old.journal.entries) }
+        ensures unstamped { OnErr result (self.new.stamps.stamps ≡ self.old.stamps.stamps) }
         ensures watched { IfOk result (λ counts. Reached W.may_follow watch.old
             (watched self.old.capacity (entries.Took number counts.0) self.old.journal.entries) watch.new) }
         ensures unwatched { OnErr result (watch.new ≡ watch.old) }
@@ -99,6 +105,7 @@ impl State {
                 bytes,
             },
             &Act::Took { peer, bytes },
+            given,
             watch,
         );
         Ok(counts)
@@ -123,6 +130,7 @@ impl State {
         ensures directory { self.new.audience.directory ≡ self.old.audience.directory }
         ensures relay { self.new.relay ≡ self.old.relay }
         ensures journal { self.new.journal ≡ self.old.journal }
+        ensures stamps { self.new.stamps ≡ self.old.stamps }
         ensures labels { self.new.labels ≡ self.old.labels }
         ensures capacity { self.new.capacity ≡ self.old.capacity }
     {

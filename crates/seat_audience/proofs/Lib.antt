@@ -8,3 +8,4 @@ pub mod Visiting
 pub mod Placing
 pub mod Listening
 pub mod Seating
+mod TokensFit

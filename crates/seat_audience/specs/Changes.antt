@@ -50,6 +50,7 @@ pub record IsNewcomer (capacity number label : ℕ) (role : Role) (l : Live) : T
   pub gathering : l.gathering ≡ empty capacity
   pub choked : l.is_choked ≡ false
   pub refused : l.is_refused ≡ false
+  pub waiting : l.waiting ≡ []
 
 -- the first that has to be ended, with the cause
 abbrev pub first_due : List Live → Option (ℕ × EndCause)

@@ -63,6 +63,10 @@ pub record AreInOrder (live : List Live) : Type 0 where
 abbrev pub refusing : Live → Live
 refusing l = record l { is_refused = true }
 
+-- these tokens wait for it
+abbrev pub waits : List ℕ → Live → Live
+waits tokens l = record l { waiting = tokens }
+
 -- its objects are as that peer's, and whether its last message was refused
 abbrev pub rewritten : (after : Live) → Live → Live
 rewritten after l = record l { table = after.table; is_refused = after.is_refused }

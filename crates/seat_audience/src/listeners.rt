@@ -13,13 +13,14 @@ ghost use Rattle.seat_audience.specs.declared.live.Live.{Live};
 ghost use Rattle.seat_audience.specs.Changes.{IsChangedAt, first_due};
 ghost use Rattle.seat_audience.specs.Lives.{cleared, hears_message, delivered, is_number, number_of, AreRising};
 ghost use Rattle.seat_audience.specs.Marks.{is_marked, AreWithin};
-ghost use Rattle.seat_audience.specs.Visits.{map_at, at_marked, cause_of, changed_at, refusing, taken, IsAt, HasNone, IsAboveAll, AreInOrder, IsNew, IsQuiet};
+ghost use Rattle.seat_audience.specs.Visits.{map_at, at_marked, cause_of, changed_at, refusing, waits, taken, IsAt, HasNone, IsAboveAll, AreInOrder, IsNew, IsQuiet};
 
 use crate::directory::Named;
 use crate::live::Live;
 use crate::marks::Marks;
 use crate::peers::Peers;
 use relay_model::{EndCause, Label};
+use seat_steps::TokenList;
 use seat_wire::Meaning;
 use std::alloc::Global;
 use std::marker::Model;
@@ -245,6 +246,14 @@ impl Listeners {
     {
         self.peers.refuse(place);
         self.due.mark(place);
+    }
+
+    /// These tokens wait for the peer at the place from now on.
+    pub fn wait(&mut self, place: usize, tokens: TokenList)
+        requires place { place < length self.old.items }
+        ensures items { self.new.items ≡ changed_at place (waits tokens) self.old.items }
+    {
+        self.peers.wait(place, tokens);
     }
 
     /// What a message to the object with the id makes of the peer at the place, and whether it was refused. `label` is the message's number. `NoMemory` is its

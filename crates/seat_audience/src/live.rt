@@ -1,10 +1,11 @@
 // The state of one live peer.
-ghost use Rattle.std.specs.Prelude.{◌≡◌, ◌≤◌, None, option_map, IfSome, IfOk, OnOk, OnErr};
+ghost use Rattle.std.specs.Prelude.{◌≡◌, ◌≤◌, length, None, option_map, IfSome, IfOk, OnOk, OnErr};
 ghost use Rattle.std.specs.FinMap as finite;
 ghost use Rattle.im_objects.specs.Objects.{refusal_of};
 ghost use Rattle.wl_proto.specs.Rows.{event_message};
 ghost use Rattle.wl_proto.specs.Spelling.{message_len};
 ghost use Rattle.broker_model.specs.Groups.{tokens_in};
+ghost use Rattle.broker_model.specs.Waiting.{with_tokens};
 ghost use Rattle.seat_wire.specs.Events.{first_token};
 ghost use Rattle.seat_wire.specs.Asked.{asked};
 ghost use Rattle.seat_audience.specs.Lives.{cleared, hears_message, delivered};
@@ -17,6 +18,7 @@ use crate::gathering::Gathering;
 use im_objects::Table;
 use out_store::Store;
 use relay_model::{Act, Label, Role};
+use seat_steps::{TOKEN_LIMIT, TokenList};
 use seat_wire::Meaning;
 use std::alloc::Global;
 use wio_core::NoMemory;
@@ -41,6 +43,8 @@ pub struct Live {
     pub is_choked: bool,
     /// Whether its last message was refused.
     pub is_refused: bool,
+    /// The tokens that wait for its messages, the first first: 256 at most.
+    pub waiting: TokenList,
 }
 
 impl Live {
@@ -63,6 +67,7 @@ impl Live {
             gathering: Gathering::new(alloc, capacity)?,
             is_choked: false,
             is_refused: false,
+            waiting: TokenList::new(alloc),
         })
     }
 
@@ -79,6 +84,21 @@ impl Live {
         change(&mut self.table, id, label, meaning)?;
         self.is_refused = matches!(meaning.act, Act::Bad { .. });
         Ok(())
+    }
+
+    /// What waits for it with more tokens behind. At most 256 wait: those that would be more are
+    /// dropped. `NoMemory` is its one error.
+    pub fn waiting_with(&self, alloc: Global, tokens: &[u32]) -> Result<TokenList, NoMemory>
+        requires few { length self.now.waiting ≤ 256 }
+        ensures value { IfOk result (λ list. list ≡ with_tokens self.now.waiting tokens.now) }
+    {
+        let mut waiting = self.waiting.copy(alloc)?;
+        let free = TOKEN_LIMIT - waiting.len();
+        let (more, _) = tokens.split_at(free.min(tokens.len()));
+        for token in more {
+            waiting.push(*token)?;
+        }
+        Ok(waiting)
     }
 
     pub(crate) fn clear(&mut self)

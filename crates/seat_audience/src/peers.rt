@@ -12,12 +12,13 @@ ghost use Rattle.seat_wire.specs.Asked.{asked};
 ghost use Rattle.seat_audience.specs.declared.live.Live.{Live};
 ghost use Rattle.seat_audience.specs.Changes.{IsChangedAt};
 ghost use Rattle.seat_audience.specs.Lives.{cleared, hears_message, delivered};
-ghost use Rattle.seat_audience.specs.Visits.{changed_at, refusing, rewritten, taken, IsAt, HasNone, IsAboveAll, AreInOrder};
+ghost use Rattle.seat_audience.specs.Visits.{changed_at, refusing, rewritten, waits, taken, IsAt, HasNone, IsAboveAll, AreInOrder};
 
 use crate::directory::Named;
 use crate::live::Live;
 use crate::place::Place;
 use relay_model::Label;
+use seat_steps::TokenList;
 use seat_wire::Meaning;
 use slab::Slab;
 use std::alloc::Global;
@@ -192,6 +193,16 @@ impl Peers {
     {
         let key = self.places[place].key;
         self.slab[key].is_refused = true;
+    }
+
+    /// These tokens wait for the peer at the place from now on.
+    pub(crate) fn wait(&mut self, place: usize, tokens: TokenList)
+        requires place { place < length self.old.items }
+        ensures items { self.new.items ≡ changed_at place (waits tokens) self.old.items }
+        ensures room { self.new.room ≡ self.old.room }
+    {
+        let key = self.places[place].key;
+        self.slab[key].waiting = tokens;
     }
 
     /// What a message to the object with the id makes of the peer at the place. `NoMemory` is its one error, after which all is as before.

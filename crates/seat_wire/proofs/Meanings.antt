@@ -1,5 +1,5 @@
 -- Steps from a table's look-up to what a message means.
-use Rattle.std.proofs.Common.{◌≡◌, ℕ, List, [], Bool, Option, Some, None, Result, Ok, sym, ap, ◌∙◌}
+use Rattle.std.proofs.Common.{◌≡◌, ℕ, List, Bool, Option, Some, None, Result, Ok, sym, ap, ◌∙◌}
 use Rattle.std.specs.Prelude.{option_map}
 use Rattle.wl_proto.specs.declared.interface.Interface.{Interface}
 use Rattle.wl_proto.specs.declared.refuse.Refuse.{Refuse}
@@ -22,13 +22,13 @@ says_popup past at (request.GetInputPopupSurface id surface) label taken s e = e
 says_popup past at _ label taken s e = tt
 
 pub message_read : (past : Past) (n : ℕ) (peer : Joined) (opcode : ℕ) (body : List ℕ) (o : Option Made) (i : Interface) (x : ℕ) (m : Message) →
-    Some (i, x) ≡ option_map entry o → request_reading i opcode [] body ≡ Ok m →
+    Some (i, x) ≡ option_map entry o → request_reading i opcode (past.waiting peer.label) body ≡ Ok m →
     of_message past n peer opcode body o ≡ of_request past n peer x m (request_fault past peer.label peer.role (label_at past peer.label) m)
 message_read past n peer opcode body None i x m e r = absurd cc
 message_read past n peer opcode body (Some made) i x m e r =
     let same : (i, x) ≡ entry made = cc in
     let interface-is : made.interface ≡ i = ap (λ (u : Interface × ℕ). u.0) (sym same) in
     let label-is : made.label ≡ x = ap (λ (u : Interface × ℕ). u.1) (sym same) in
-    ap (λ (j : Interface). of_reading past n peer made.label (request_reading j opcode [] body)) interface-is
-    ∙ ap (λ (y : ℕ). of_reading past n peer y (request_reading i opcode [] body)) label-is
+    ap (λ (j : Interface). of_reading past n peer made.label (request_reading j opcode (past.waiting peer.label) body)) interface-is
+    ∙ ap (λ (y : ℕ). of_reading past n peer y (request_reading i opcode (past.waiting peer.label) body)) label-is
     ∙ ap (λ (q : Result Message Refuse). of_reading past n peer x q) r

@@ -159,5 +159,6 @@ pub fn shell_act(step: &ShellStep, surface: Option<Label>) -> Act
         ShellStep::Mods(mods) => Act::Mods(mods),
         ShellStep::Keymap(keymap) => Act::Keymap(keymap),
         ShellStep::Repeat(repeat) => Act::Repeat(repeat),
+        ShellStep::At { .. } => Act::Idle,
     }
 }

@@ -1,5 +1,5 @@
 // What a message of a live peer comes to.
-ghost use Rattle.std.specs.Prelude.{◌≡◌, ℕ, [], option_map, IfOk};
+ghost use Rattle.std.specs.Prelude.{◌≡◌, ℕ, option_map, IfOk};
 ghost use Rattle.wl_proto.specs.Reading.{Gives, request_reading};
 ghost use Rattle.wl_proto.specs.Rows.{request_message};
 ghost use Rattle.relay_core.specs.Stands.{StandsFor};
@@ -27,12 +27,14 @@ pub struct Meaning {
     pub made: Option<Argument>,
 }
 
-/// The peer that sent a message: its label, its role and its objects.
+/// The peer that sent a message: its label, its role, its objects, and the tokens that wait for its
+/// messages.
 #[derive(Drop)]
 pub struct Sender<'a> {
     pub label: Label,
     pub role: Role,
     pub table: &'a Table,
+    pub tokens: &'a [u32],
 }
 
 // The two have one name.
@@ -150,9 +152,16 @@ fn refused_for(peer: Label, object: Label, fault: Fault) -> Meaning
     }
 }
 
-// The request that the body is, by the rows of the interface. Its text was read as one.
-fn read<'a>(interface: Interface, opcode: u16, body: &'a [u8]) -> Result<Request<'a>, Refuse>
-    ensures gives { Gives request_message result (request_reading interface opcode [] body.now) }
+// The request that the body is, by the rows of the interface. A descriptor is the first token. Its
+// text was read as one.
+fn read<'a>(
+    interface: Interface,
+    opcode: u16,
+    tokens: &[u32],
+    body: &'a [u8],
+) -> Result<Request<'a>, Refuse>
+    ensures gives { Gives request_message result
+        (request_reading interface opcode tokens.now body.now) }
     ensures text { IfOk result HasText }
 {
     let raw = Raw {
@@ -160,7 +169,7 @@ fn read<'a>(interface: Interface, opcode: u16, body: &'a [u8]) -> Result<Request
         opcode,
         body,
     };
-    read_request(interface, &raw, &[])
+    read_request(interface, &raw, tokens)
 }
 
 // The first fault of a request: its object argument, its new id, and what is its own. `surface` is
@@ -207,8 +216,8 @@ fn request_meaning(
     }
 }
 
-/// What a message of a live peer comes to. `NoMemory` comes where there is none for a copy of a
-/// text.
+/// What a message of a live peer comes to, by the tokens that wait for it. `NoMemory` comes where
+/// there is none for a copy of a text.
 pub fn meaning_of(
     alloc: Global,
     relay: &Relay,
@@ -221,13 +230,14 @@ pub fn meaning_of(
         let p = sender.now.label in
         let peer : Joined = record { label = p; role = sender.now.role } in
         IsTableOf past p sender.now.table.now → StandsFor relay.now past.acts →
+        sender.now.tokens.now ≡ past.waiting p →
         IfOk result (λ meaning. meant p n meaning
         ≡ resolve.of_message past n peer opcode body.now (object_at past p id)) }
 {
     let Some((interface, object)) = sender.table.find(id) else {
         return Ok(refused_for(sender.label, sender.label, Fault::Object));
     };
-    match read(interface, opcode, body) {
+    match read(interface, opcode, sender.tokens, body) {
         Ok(request) => request_meaning(alloc, relay, sender, object, &request),
         Err(refuse) => Ok(refused_for(sender.label, object, refuse_fault(refuse))),
     }

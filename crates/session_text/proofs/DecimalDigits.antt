@@ -1,7 +1,7 @@
 -- The number of decimal digits that are read from the left.
-use Rattle.std.proofs.Common.{◌≡◌, ℕ, ◌+◌, ◌-◌, ◌*◌, ◌^◌, ◌<◌, ◌≤◌, List, [], ◌∷◌, ◌++◌, length, take, get_or, zero, suc, sym, ap, ◌∙◌, subst, add-one, arith}
-use Rattle.std.proofs.Math.Nat.{pow-suc}
-use Rattle.std.specs.Char.{digit_value, IsAsciiDigit}
+use Rattle.std.proofs.Common.{◌≡◌, ℕ, ◌+◌, ◌-◌, ◌*◌, ◌^◌, ◌<◌, ◌≤◌, List, [], ◌∷◌, ◌++◌, length, take, get_or, zero, suc, sym, subst, add-one, arith}
+use Rattle.std.proofs.Math.Nat.{pow-suc, pow-le-pow_right}
+use Rattle.std.specs.Char.{digit_value}
 use Rattle.std.specs.Int.{IsInRange}
 use Rattle.std.specs.Str.Parse.{AllDigits, digits_value}
 use Rattle.std.proofs.lemmas.List.{take_more}
@@ -10,7 +10,7 @@ use Rattle.std.proofs.lemmas.Str.{digit_value_digit}
 use Rattle.std.proofs.lemmas.Str.Parse.{digit_from_value}
 
 -- one more digit behind others
-digits_behind : (ds : List ℕ) (c : ℕ) → AllDigits 10 ds → digit_value c < 10 → AllDigits 10 (ds ++ c ∷ [])
+pub digits_behind : (ds : List ℕ) (c : ℕ) → AllDigits 10 ds → digit_value c < 10 → AllDigits 10 (ds ++ c ∷ [])
 digits_behind [] c h d = (d, tt)
 digits_behind (x ∷ xs) c h d = (h.0, digits_behind xs c h.1 d)
 
@@ -31,6 +31,10 @@ value_more ds i n lt range is =
     let digit : digit_value (get_or ds i 0) + 48 ≡ get_or ds i 0 = digit_value_digit (get_or ds i 0) range in
     let more : digits_value 10 (take (i + 1) ds) ≡ digits_value 10 (take i ds) * 10 + digit_value (get_or ds i 0) = digits_value_more 10 ds i lt in
     omega (arith, is, digit, more)
+
+-- of at most nineteen digits no sum wraps
+pub tenfold_fits : (n i : ℕ) → i < 19 → n < 10 ^ i → 10 * n + 9 < 2 ^ 64
+tenfold_fits n i lt small = let le : i ≤ 18 = omega (arith, lt) in let most : 10 ^ i ≤ 10 ^ 18 = pow-le-pow_right {n = 10} (omega arith) le in omega (arith, small, most)
 
 pub value_small : (n d i : ℕ) → n < 10 ^ i → d < 10 → 10 * n + d < 10 ^ (i + 1)
 value_small n d i small lt =

@@ -2,6 +2,7 @@ mod LowerHex
 mod DecimalDigits
 mod FirstSpace
 pub mod WrittenNumbers
+pub mod LongNumbers
 pub mod Arms
 pub mod Texts
 pub mod Separators
@@ -10,10 +11,14 @@ pub mod Parts
 pub mod SpelledActs
 pub mod ReadActs
 pub mod SpelledSteps
+pub mod SpelledStamps
 pub mod ReadSteps
+pub mod ReadStamps
 pub mod Laws
 pub mod Asked
+pub mod NumberWords
 pub mod Printed
+pub mod StampedSteps
 pub mod FaultTexts
 pub mod PrintedLines
 pub mod Transcripts

@@ -45,6 +45,26 @@ named name ws n fits test =
       clean = join_lacks 0 (name ∷ ws) refl (zeroless, fits.zeroless);
     }
 
+-- a name before words, of so many bytes and spaces at most
+pub behind_name : (most : ℕ) (name : List ℕ) (ws : List (List ℕ)) (n : ℕ) → Fits ws n → (lacks 32 name && lacks 0 name && nat_le (length name + 1 + n) most) ≡ true → Fits (name ∷ ws) most
+behind_name most name ws n fits test =
+    let (lack, small) = and_parts (lacks 32 name && lacks 0 name) (nat_le (length name + 1 + n) most) test in
+    let (spaceless, zeroless) = and_parts (lacks 32 name) (lacks 0 name) lack in
+    record {
+      spaceless = (spaceless, fits.spaceless);
+      zeroless = (zeroless, fits.zeroless);
+      within = omega (arith, leb-true (length name + 1 + n) most small, fits.within);
+    }
+
+-- words that fit into a line
+pub whole : (ws : List (List ℕ)) (n : ℕ) → Fits ws n → 1 ≤ length ws → n ≤ line_limit → Parts ws
+whole [] n fits some le = absurd (omega (arith, some))
+whole (w ∷ ws) n fits some le = record {
+  split = split_join w ws fits.spaceless.0 fits.spaceless.1;
+  within = omega (arith, le, fits.within, length-join (w ∷ ws));
+  clean = join_lacks 0 (w ∷ ws) refl fits.zeroless;
+}
+
 -- the other words of a line, by their kinds
 pub with_one : {A : Type 0} {read : List ℕ → Option A} {spell : A → List ℕ} {Is : A → Type 0} {most : ℕ} → Kind read spell Is most
     → (name : List ℕ) (x : A) → Is x → (lacks 32 name && lacks 0 name && nat_le (length name + 1 + (most + 1 + 0)) line_limit) ≡ true → Parts (name ∷ spell x ∷ [])

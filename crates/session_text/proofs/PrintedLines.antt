@@ -36,7 +36,7 @@ word_clean before word h i = rw (list_all-append, h, i) refl
 
 -- ---- words that are added one after the other
 
-join-spaced : (w : List ℕ) (ws : List (List ℕ)) → join_with_byte 32 (w ∷ ws) ≡ w ++ spaced ws
+pub join-spaced : (w : List ℕ) (ws : List (List ℕ)) → join_with_byte 32 (w ∷ ws) ≡ w ++ spaced ws
 join-spaced w [] = sym (append-nil w)
 join-spaced w (v ∷ ws) = ap (λ l. w ++ 32 ∷ l) (join-spaced v ws)
 

@@ -1,4 +1,4 @@
--- Words that are read as a line of a session or a shell link are that line's.
+-- Words that are read as a line of a session of form 1 are that line's.
 use Rattle.std.proofs.Common.{◌≡◌, ℕ, List, [], ◌∷◌, Option, Some, None, refl}
 use Rattle.std.specs.Prelude.{codes}
 use Rattle.seat_steps.specs.declared.step.ShellStep.{ShellStep}
@@ -7,7 +7,7 @@ use Rattle.session_text.specs.declared.line.Form.TheVariants.{Session}
 use Rattle.session_text.specs.declared.line.Line.{Line}
 use Rattle.session_text.specs.declared.line.Line.TheVariants as lines
 use Rattle.session_text.specs.declared.line.SessionLine.TheVariants as sessions
-use Rattle.seat_steps.specs.Ranges.{piece_limit}
+use Rattle.seat_steps.specs.Ranges.{piece_limit, form_1_weight}
 use Rattle.session_text.specs.Words.{rect, size}
 use Rattle.session_text.specs.SessionGrammar.{shell_words, HasShellLine}
 use Rattle.session_text.specs.SessionReading.{one_shell_word, three_shell_words, four_shell_words, five_shell_words, seven_shell_words, shell_of, in_session, one_session_word, two_session_words, three_session_words, four_session_words, header_of, session_of}
@@ -15,7 +15,7 @@ use Rattle.session_text.specs.Grammar.{line_words, IsLine}
 use Rattle.session_text.proofs.Arms.{arm}
 use Rattle.session_text.proofs.Parts.{IsRead, bound, made, read_alone, read_one, read_two}
 use Rattle.session_text.proofs.WordKinds.{numbers, signeds, sizes, states, pieces, roles}
-use Rattle.session_text.proofs.SpelledSteps.{piece_counts, entry_counts, store_counts}
+use Rattle.session_text.proofs.SpelledSteps.{piece_counts, old_entry_counts, store_counts}
 
 -- ---- the shell's steps by the number of words
 
@@ -67,7 +67,7 @@ shell_sound (k ∷ a ∷ b ∷ c ∷ d ∷ f ∷ g ∷ w ∷ ws) step e = absurd
 -- ---- the lines of a session by the number of words
 
 abbrev pub IsReadSession : List (List ℕ) → Line → Type 0
-IsReadSession = IsRead line_words (IsLine Session)
+IsReadSession = IsRead (line_words Session) (IsLine Session)
 
 shell_line : (ws : List (List ℕ)) (o : Option ShellStep) (line : Line) → ((step : ShellStep) → o ≡ Some step → IsReadShell ws step) → in_session o ≡ Some line → IsReadSession ws line
 shell_line ws None line read e = absurd (cc e)
@@ -93,8 +93,8 @@ three_session k a b line e =
 header_sound : (form a b : List ℕ) (line : Line) → header_of form a b ≡ Some line → IsReadSession (codes "session" ∷ form ∷ a ∷ b ∷ []) line
 unfolding header_of
 header_sound form a b line e =
-    arm form (codes "1") _ _ line e (λ is e. bound entry_counts a _ line e (λ entries h is1 e. bound store_counts b _ line e (λ store i is2 e.
-    made _ (lines.Header (record { entries = entries; store = store })) line e (rw (is, is1, is2) refl) (h, i)))) (λ e. absurd (cc e))
+    arm form (codes "1") _ _ line e (λ is e. bound old_entry_counts a _ line e (λ entries h is1 e. bound store_counts b _ line e (λ store i is2 e.
+    made _ (lines.Header (record { entries = entries; store = store; weight = form_1_weight })) line e (rw (is, is1, is2) refl) (h, i, refl)))) (λ e. absurd (cc e))
 
 four_session : (k a b c : List ℕ) (line : Line) → four_session_words k a b c ≡ Some line → IsReadSession (k ∷ a ∷ b ∷ c ∷ []) line
 unfolding four_session_words

@@ -8,10 +8,11 @@ use lib.IntN.{ℤ, pos, negsuc}
 use Rattle.relay_model.specs.declared.role.Role.{Role}
 use Rattle.relay_model.specs.declared.role.Role.TheVariants.{App, Method}
 use Rattle.seat_steps.specs.Ranges.{is_size}
-use Rattle.session_text.specs.Words.{IsTextWithin, IsBytesWithin, fits_i32, hex_word, role_word, number_of, signed_of, size_of, state_of, text_of, bytes_of, count_of, role_of}
+use Rattle.session_text.specs.Words.{IsTextWithin, IsBytesWithin, fits_i32, hex_word, role_word, number_of, long_number_of, signed_of, size_of, state_of, text_of, bytes_of, count_of, role_of}
 use Rattle.seat_steps.specs.Ranges.{IsWithin}
 use Rattle.session_text.proofs.Arms.{arm, kept_some}
 use Rattle.session_text.proofs.WrittenNumbers.{number_sound, number_complete, signed_sound, signed_complete, mag_i32}
+use Rattle.session_text.proofs.LongNumbers.{long_sound, long_complete}
 use Rattle.session_text.proofs.Texts.{text_sound, text_complete, bytes_sound, bytes_complete, length-hex_word}
 use Rattle.session_text.proofs.Separators.{lacks, IsOutside, space, zero, decimal_lacks, signed_lacks, hex_lacks}
 
@@ -36,6 +37,15 @@ signed_short z h = let small = mag_i32 z h in length_signed_le 10 z (omega (arit
 
 signed_clean : (b : ℕ) → IsOutside b → (z : ℤ) → fits_i32 z ≡ true → lacks b (signed_decimal z) ≡ true
 signed_clean b out z h = let small = mag_i32 z h in signed_lacks b out z (omega (arith, small))
+
+pub long_numbers : Kind long_number_of decimal (λ n. n < 2 ^ 64) 20
+long_numbers = record {
+  sound = long_sound;
+  complete = long_complete;
+  spaceless = λ n h. decimal_lacks 32 space n h;
+  zeroless = λ n h. decimal_lacks 0 zero n h;
+  short = λ n h. length-decimal-le 20 n (omega arith) (omega arith) h;
+}
 
 pub signeds : Kind signed_of signed_decimal (λ z. IsTrue (fits_i32 z)) 11
 signeds = record {

@@ -1,7 +1,7 @@
 -- A word reads as the number that it spells, and as no other.
-use Rattle.std.proofs.Common.{◌≡◌, ℕ, ◌^◌, ◌<◌, Bool, true, false, cond, eqb, ltb, ◌&&◌, List, [], ◌∷◌, zero, suc, ◌≤◌, length, drop, get_or, if◌then◌else◌, Option, Some, None, Result, Ok, Err, sym, refl, ap, ◌∙◌, subst, inl, inr, arith}
-use Rattle.std.specs.Str.{bytes_eq, IsUtf8}
-use Rattle.std.specs.Str.Parse.{digits_value, signed_digits_value, AllDigits, ParsesUnsigned, ParsesSigned}
+use Rattle.std.proofs.Common.{◌≡◌, ℕ, ◌^◌, ◌<◌, Bool, true, false, cond, eqb, ltb, ◌&&◌, List, [], ◌∷◌, zero, suc, ◌≤◌, length, drop, get_or, if◌then◌else◌, Option, Some, None, sym, refl, ap, ◌∙◌, subst, inl, inr, arith}
+use Rattle.std.specs.Str.{bytes_eq}
+use Rattle.std.specs.Str.Parse.{digits_value, signed_digits_value, AllDigits}
 use Rattle.std.specs.Fmt.{decimal, signed_decimal}
 use Rattle.std.specs.Int.{IsInRange}
 use Rattle.std.proofs.lemmas.Bool.{and_parts, ltb-true, lt-ltb}
@@ -10,7 +10,6 @@ use Rattle.std.proofs.lemmas.Fmt.{digits_value-decimal, decimal-digits_value, di
 use Rattle.std.proofs.lemmas.Int.{ints}
 use Rattle.std.proofs.lemmas.Option.{cond_some}
 use Rattle.std.proofs.lemmas.Slice.Eq.{bytes_eq-Decides}
-use Rattle.std.proofs.lemmas.Str.{IsUtf8-from_ascii}
 use Rattle.std.proofs.lemmas.Str.Parse.{IsNumeralModel, numerals_by_value, tells_digits, not_in_digits, digits_value_short}
 use lib.IntN.{ℤ, pos, negsuc, neg_ℤ}
 use lib.Signed.{mag}
@@ -101,23 +100,23 @@ signed_complete z fits = printed_one (signed_digits_value 10) fits_i32 signed_de
 
 -- ---- a word of digits reads as their number
 
-plain_is : (word : List ℕ) → IsPlain word → AllDigits 10 word → decimal (digits_value 10 word) ≡ word
+plain_is : (word : List ℕ) → IsPlain 10 word → AllDigits 10 word → decimal (digits_value 10 word) ≡ word
 plain_is word p all = decimal-digits_value own word all p.0 p.2 (let small = digits_value_short own word 10 all p.1 in omega (arith, small))
 
-pub plain_value : (word : List ℕ) (n : ℕ) → IsPlain word → AllDigits 10 word → n ≡ digits_value 10 word → word ≡ decimal n
+pub plain_value : (word : List ℕ) (n : ℕ) → IsPlain 10 word → AllDigits 10 word → n ≡ digits_value 10 word → word ≡ decimal n
 plain_value word n p all is = sym (ap decimal is ∙ plain_is word p all)
 
-pub plain_small : (word : List ℕ) (n : ℕ) → IsPlain word → AllDigits 10 word → n ≡ digits_value 10 word → n < 10 ^ 10
+pub plain_small : (word : List ℕ) (n : ℕ) → IsPlain 10 word → AllDigits 10 word → n ≡ digits_value 10 word → n < 10 ^ 10
 plain_small word n p all is = subst (λ k. k < 10 ^ 10) (sym is) (digits_value_short own word 10 all p.1)
 
-decimal_plain : (n : ℕ) → n < 2 ^ 32 → IsPlain (decimal n)
-decimal_plain zero small = let one : length (decimal 0) ≡ 1 = ap length (decimal_digit 0 (omega arith)) in (omega (arith, one), omega (arith, one), λ e. one)
-decimal_plain (suc n) small =
-    let first = first_decimal (suc n) (omega arith) (omega arith) in
-    (decimal_nonempty (suc n) (omega arith), length-decimal-le 10 (suc n) (omega arith) (omega arith) (omega arith), λ e. absurd (omega (arith, first, e)))
+pub decimal_plain : (most n : ℕ) → 1 ≤ most → n < 2 ^ 64 → n < 10 ^ most → IsPlain most (decimal n)
+decimal_plain most zero some small fits = let one : length (decimal 0) ≡ 1 = ap length (decimal_digit 0 (omega arith)) in (omega (arith, one), omega (arith, one), λ e. one)
+decimal_plain most (suc n) some small fits =
+    let first = first_decimal (suc n) (omega arith) small in
+    (decimal_nonempty (suc n) small, length-decimal-le most (suc n) some fits small, λ e. absurd (omega (arith, first, e)))
 
-pub not_plain : (word : List ℕ) → ¬ (IsPlain word) → (n : ℕ) → n < 2 ^ 32 → ¬ (word ≡ decimal n)
-not_plain word other n small is = other (subst IsPlain (sym is) (decimal_plain n small))
+pub not_plain : (word : List ℕ) → ¬ (IsPlain 10 word) → (n : ℕ) → n < 2 ^ 32 → ¬ (word ≡ decimal n)
+not_plain word other n small is = other (subst (IsPlain 10) (sym is) (decimal_plain 10 n (omega arith) (omega arith) (omega arith)))
 
 pub not_digits : (word : List ℕ) → ¬ (AllDigits 10 word) → (n : ℕ) → n < 2 ^ 32 → ¬ (word ≡ decimal n)
 not_digits word other n small is = other (subst (AllDigits 10) (sym is) (digits_decimal own n (omega arith)))

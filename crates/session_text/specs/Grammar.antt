@@ -6,13 +6,14 @@ use Rattle.relay_model.specs.declared.act.Act.{Act}
 use Rattle.relay_model.specs.declared.act.Act.TheVariants as acts
 use Rattle.relay_model.specs.declared.act.EndCause.TheVariants as causes
 use Rattle.session_text.specs.declared.line.Form.{Form}
-use Rattle.session_text.specs.declared.line.Form.TheVariants.{Acts, Session, Shell}
+use Rattle.session_text.specs.declared.line.Form.TheVariants.{Acts, Session, Session2, Shell}
 use Rattle.session_text.specs.declared.line.Line.{Line}
 use Rattle.session_text.specs.declared.line.Line.TheVariants as lines
 use Rattle.seat_steps.specs.Ranges.{is_size}
 use Rattle.session_text.specs.Words.{text_limit, cursor_text_limit, IsTextWithin, IsRect, IsArea, fits_i32, rect_words, hex_word}
 use Rattle.seat_steps.specs.Ranges.{IsLimits}
-use Rattle.session_text.specs.SessionGrammar.{shell_words, session_words, header_words, HasShellLine, HasSessionLine}
+use Rattle.seat_steps.specs.declared.limits.Limits.{Limits}
+use Rattle.session_text.specs.SessionGrammar.{shell_words, session_words, header_words, long_header_words, stamped_words, AreOldLimits, HasLinkLine, HasSessionLine, HasStampedLine, IsStamp}
 
 -- the words of an act's line; an act that no line gives has none
 abbrev pub act_words : Act → List (List ℕ)
@@ -48,16 +49,23 @@ act_words (acts.Keymap keymap) = codes "keymap" ∷ decimal keymap.format ∷ de
 act_words (acts.Repeat repeat) = codes "repeat" ∷ signed_decimal repeat.rate ∷ signed_decimal repeat.delay ∷ []
 act_words _ = []
 
-abbrev pub line_words : Line → List (List ℕ)
-line_words (lines.Header limits) = header_words limits
-line_words (lines.Act act) = act_words act
-line_words (lines.Session line) = session_words line
-line_words (lines.Shell step) = shell_words step
-line_words lines.End = codes "end" ∷ []
+-- the header of each form
+abbrev pub form_header : Form → Limits → List (List ℕ)
+form_header Session2 limits = long_header_words limits
+form_header _ limits = header_words limits
+
+-- the words of a line; those of a header are its form's
+abbrev pub line_words : Form → Line → List (List ℕ)
+line_words form (lines.Header limits) = form_header form limits
+line_words form (lines.Act act) = act_words act
+line_words form (lines.Session line) = session_words line
+line_words form (lines.Stamped stamp line) = stamped_words stamp (session_words line)
+line_words form (lines.Shell step) = shell_words step
+line_words form lines.End = codes "end" ∷ []
 
 -- the words of a line, separated by one space
-abbrev pub spelling : Line → List ℕ
-spelling line = join_with_byte 32 (line_words line)
+abbrev pub spelling : Form → Line → List ℕ
+spelling form line = join_with_byte 32 (line_words form line)
 
 -- The act holds only what a line can give: each number is in its range, each text is one within its limit, and a peer that ends is gone.
 abbrev pub HasLine : Act → Type 0
@@ -97,8 +105,11 @@ HasLine _ = ⊥
 abbrev pub IsLine : Form → Line → Type 0
 IsLine Acts (lines.Act act) = HasLine act
 IsLine Acts lines.End = Unit {0}
-IsLine Session (lines.Header limits) = IsLimits limits
+IsLine Session (lines.Header limits) = AreOldLimits limits
 IsLine Session (lines.Session line) = HasSessionLine line
 IsLine Session lines.End = Unit {0}
-IsLine Shell (lines.Shell step) = HasShellLine step
+IsLine Session2 (lines.Header limits) = IsLimits limits
+IsLine Session2 (lines.Stamped stamp line) = IsStamp stamp × HasStampedLine line
+IsLine Session2 lines.End = Unit {0}
+IsLine Shell (lines.Shell step) = HasLinkLine step
 IsLine _ _ = ⊥

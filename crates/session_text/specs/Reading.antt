@@ -6,13 +6,14 @@ use Rattle.relay_model.specs.declared.act.Act.{Act}
 use Rattle.relay_model.specs.declared.act.Act.TheVariants as acts
 use Rattle.relay_model.specs.declared.act.EndCause.TheVariants as causes
 use Rattle.session_text.specs.declared.line.Form.{Form}
-use Rattle.session_text.specs.declared.line.Form.TheVariants.{Acts, Session, Shell}
+use Rattle.session_text.specs.declared.line.Form.TheVariants.{Acts, Session, Session2, Shell}
 use Rattle.session_text.specs.declared.line.Line.{Line}
 use Rattle.session_text.specs.declared.line.Line.TheVariants as lines
 use Rattle.session_text.specs.declared.line.BadLine.{BadLine}
 use Rattle.session_text.specs.declared.line.BadLine.TheVariants as bad
 use Rattle.session_text.specs.Words.{◌>>=◌, rect, size, text_limit, cursor_text_limit, number_of, signed_of, size_of, state_of, text_of}
-use Rattle.session_text.specs.SessionReading.{shell_of, session_of}
+use Rattle.session_text.specs.SessionReading.{session_of}
+use Rattle.session_text.specs.StampedReading.{link_of, session_2_of}
 
 -- the most bytes of a line, without its line feed
 abbrev pub line_limit : ℕ
@@ -107,7 +108,8 @@ is_end _ = false
 abbrev pub line_of_words : Form → List (List ℕ) → Option Line
 line_of_words Acts words = if is_end words then Some lines.End else act_of words >>= (λ act. Some (lines.Act act))
 line_of_words Session words = session_of words
-line_of_words Shell words = shell_of words >>= (λ step. Some (lines.Shell step))
+line_of_words Session2 words = session_2_of words
+line_of_words Shell words = link_of words >>= (λ step. Some (lines.Shell step))
 
 -- the line of the bytes, of which there are no more than the limit
 unfoldable pub line_of : Form → List ℕ → Option Line

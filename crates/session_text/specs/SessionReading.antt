@@ -1,4 +1,4 @@
--- What the words of a line read as in a session, and on a shell link.
+-- What the words of a line read as in a session of form 1.
 use Rattle.std.specs.Prelude.{ℕ, if◌then◌else◌, List, [], ◌∷◌, codes, Option, Some, None}
 use Rattle.std.specs.Str.{bytes_eq}
 use Rattle.seat_steps.specs.declared.step.ShellStep.{ShellStep}
@@ -6,7 +6,7 @@ use Rattle.seat_steps.specs.declared.step.ShellStep.TheVariants as shells
 use Rattle.session_text.specs.declared.line.Line.{Line}
 use Rattle.session_text.specs.declared.line.Line.TheVariants as lines
 use Rattle.session_text.specs.declared.line.SessionLine.TheVariants as sessions
-use Rattle.seat_steps.specs.Ranges.{piece_limit, entry_limit, store_limit}
+use Rattle.seat_steps.specs.Ranges.{piece_limit, form_1_entry_limit, store_limit, form_1_weight}
 use Rattle.session_text.specs.Words.{◌>>=◌, rect, size, number_of, signed_of, size_of, state_of, count_of, role_of, bytes_of}
 
 unfoldable pub one_shell_word : List ℕ → Option ShellStep
@@ -77,7 +77,8 @@ three_session_words k a b =
 unfoldable pub header_of : List ℕ → List ℕ → List ℕ → Option Line
 header_of form a b =
     if bytes_eq form (codes "1") then
-    count_of entry_limit a >>= (λ entries. count_of store_limit b >>= (λ store. Some (lines.Header (record { entries = entries; store = store }))))
+    count_of form_1_entry_limit a >>= (λ entries. count_of store_limit b >>= (λ store.
+    Some (lines.Header (record { entries = entries; store = store; weight = form_1_weight }))))
     else None
 
 unfoldable pub four_session_words : List ℕ → List ℕ → List ℕ → List ℕ → Option Line

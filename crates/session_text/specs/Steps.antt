@@ -1,22 +1,19 @@
 -- What the steps and lines of a session hold.
-use Rattle.std.specs.Prelude.{◌≡◌, ℕ, ◌+◌, ◌*◌, ◌%◌, ◌≤◌, List, ◌++◌, length, IsTrue}
-use Rattle.wl_wire.specs.Messages.{IsBad}
+use Rattle.std.specs.Prelude.{ℕ, ◌+◌, ◌*◌, List, ◌++◌, length}
 use Rattle.wl_wire.specs.Spelling.{word_bytes}
-use Rattle.seat_steps.specs.declared.limits.Limits.{Limits}
 use Rattle.seat_steps.specs.declared.step.Step.{Step}
 use Rattle.seat_steps.specs.declared.step.Step.TheVariants as steps
 use Rattle.seat_steps.specs.declared.step.PeerStep.{PeerStep}
 use Rattle.seat_steps.specs.declared.step.PeerStep.TheVariants as peers
-use Rattle.seat_steps.specs.declared.step.ShellStep.{ShellStep}
-use Rattle.seat_steps.specs.declared.step.ShellStep.TheVariants as shells
 use Rattle.session_text.specs.declared.line.SessionLine.{SessionLine}
 use Rattle.session_text.specs.declared.line.SessionLine.TheVariants as sessions
-use Rattle.seat_steps.specs.Ranges.{piece_limit, IsWithin, IsShellStep}
+use Rattle.seat_steps.specs.Ranges.{piece_limit, token_limit, IsWithin, IsShellStep}
 
 -- The line holds only what a line of a session can give.
 abbrev pub IsSessionLine : SessionLine → Type 0
 IsSessionLine (sessions.Bytes p bytes) = IsWithin piece_limit (length bytes)
 IsSessionLine (sessions.Take p n) = IsWithin piece_limit n
+IsSessionLine (sessions.Tokens p tokens) = IsWithin token_limit (length tokens)
 IsSessionLine (sessions.Shell step) = IsShellStep step
 IsSessionLine _ = Unit {0}
 
@@ -28,6 +25,7 @@ message_bytes id opcode body = word_bytes id ++ word_bytes (65536 * (8 + length 
 abbrev pub peer_line : ℕ → PeerStep → SessionLine
 peer_line p (peers.Message id opcode body) = sessions.Bytes p (message_bytes id opcode body)
 peer_line p (peers.BadSize head) = sessions.Bytes p head
+peer_line p (peers.Tokens tokens) = sessions.Tokens p tokens
 peer_line p peers.Gone = sessions.Gone p
 
 -- the line of a session that gives the step alone

@@ -1,5 +1,5 @@
 -- The words of a line: decimal numbers, hex texts and bytes, and what each word reads as.
-use Rattle.std.specs.Prelude.{◌≡◌, ℕ, zero, suc, ℤ, pos, negsuc, ◌^◌, ◌≤◌, ◌&&◌, Bool, false, nat_lt, nat_le, if◌then◌else◌, List, [], ◌∷◌, length, get_or, codes, IsTrue, Option, Some, None, Result, Ok, Err}
+use Rattle.std.specs.Prelude.{◌≡◌, ℕ, zero, suc, ℤ, pos, negsuc, ◌^◌, ◌≤◌, ◌&&◌, Bool, nat_lt, nat_le, if◌then◌else◌, List, [], ◌∷◌, length, get_or, codes, IsTrue, Option, Some, None, Result, Ok, Err}
 use Rattle.std.specs.Str.{bytes_eq}
 use Rattle.std.specs.Str.Parse.{digits_value, signed_digits_value}
 use Rattle.std.specs.Fmt.{decimal, signed_decimal}
@@ -67,13 +67,21 @@ printed value test print word = if test (value word) && bytes_eq (print (value w
 unfoldable pub number_of : List ℕ → Option ℕ
 number_of word = printed (digits_value 10) (λ n. nat_lt n (2 ^ 32)) decimal word
 
+-- the number below 2 ^ 64 that is written so
+unfoldable pub long_number_of : List ℕ → Option ℕ
+long_number_of word = printed (digits_value 10) (λ n. nat_lt n (2 ^ 64)) decimal word
+
 -- the number of 32 bits with a sign that is written so
 unfoldable pub signed_of : List ℕ → Option ℤ
 signed_of word = printed (signed_digits_value 10) fits_i32 signed_decimal word
 
--- from one to ten bytes, of which the first is no zero in front of others
-abbrev pub IsPlain : List ℕ → Type 0
-IsPlain word = (1 ≤ length word) × (length word ≤ 10) × (get_or word 0 0 ≡ 48 → length word ≡ 1)
+-- from one to so many bytes, of which the first is no zero in front of others
+abbrev pub IsPlain : ℕ → List ℕ → Type 0
+IsPlain most word = (1 ≤ length word) × (length word ≤ most) × (get_or word 0 0 ≡ 48 → length word ≡ 1)
+
+-- the number, if it has 64 bits
+abbrev pub long_of : ℕ → Option ℕ
+long_of n = (if nat_lt n (2 ^ 64) then Some n else None)
 
 -- the number, if it has 32 bits
 abbrev pub unsigned_of : ℕ → Option ℕ
@@ -109,6 +117,11 @@ state_of word = kept (λ n. nat_le n 1) (number_of word)
 -- the number from 1 to the greatest that is written so
 unfoldable pub count_of : ℕ → List ℕ → Option ℕ
 count_of most word = kept (λ n. nat_le 1 n && nat_le n most) (number_of word)
+
+-- the numbers that the words are
+unfoldable pub numbers_of : List (List ℕ) → Option (List ℕ)
+numbers_of [] = Some []
+numbers_of (word ∷ words) = number_of word >>= (λ n. numbers_of words >>= (λ ns. Some (n ∷ ns)))
 
 -- the role that is written so
 unfoldable pub role_of : List ℕ → Option Role

@@ -1,7 +1,7 @@
 -- Worked lines, which the definitions compute.
 use Rattle.std.specs.Prelude.{◌≡◌, ℕ, List, [], ◌∷◌, ◌++◌, codes, pos, negsuc, Some, None}
 use Rattle.session_text.specs.declared.line.Form.{Form}
-use Rattle.session_text.specs.declared.line.Form.TheVariants.{Session, Shell}
+use Rattle.session_text.specs.declared.line.Form.TheVariants.{Session, Session2, Shell}
 use Rattle.session_text.specs.declared.line.Line.{Line}
 use Rattle.session_text.specs.declared.line.Line.TheVariants as lines
 use Rattle.session_text.specs.declared.line.SessionLine.TheVariants as sessions
@@ -10,6 +10,7 @@ use Rattle.relay_model.specs.declared.fault.Fault.TheVariants.{Size}
 use Rattle.relay_model.specs.declared.role.Role.TheVariants.{App, Method}
 use Rattle.relay_model.specs.declared.said.Said.{Said}
 use Rattle.relay_model.specs.declared.said.Said.TheVariants as said
+use Rattle.seat_steps.specs.declared.stamp.Stamp.{Stamp}
 use Rattle.seat_steps.specs.declared.step.Step.{Step}
 use Rattle.seat_steps.specs.declared.step.Step.TheVariants as steps
 use Rattle.seat_steps.specs.declared.step.PeerStep.TheVariants as peers
@@ -23,13 +24,16 @@ use Rattle.session_text.specs.Told.{told_line}
 abbrev pub Says : Form → List ℕ → Line → Type 0
 Says form text line = line_of form text ≡ Some line
 
+abbrev pub stamp : ℕ → ℕ → Stamp
+stamp moment author = record { moment = moment; author = author }
+
 abbrev pub IsNoLine : Form → List ℕ → Type 0
 IsNoLine form text = line_of form text ≡ None
 
 -- lines of the worked session, and what they say
 pub record WorkedLines : Type 0 where
   pub header :
-      Says Session (codes "session 1 1000000 65536") (lines.Header (record { entries = 1000000; store = 65536 }))
+      Says Session (codes "session 1 1000000 65536") (lines.Header (record { entries = 1000000; store = 65536; weight = 134217728 }))
   pub join : Says Session (codes "join method") (lines.Session (sessions.Join Method))
   pub enable :
       Says Session (codes "bytes 1 0700000001000800")
@@ -40,6 +44,19 @@ pub record WorkedLines : Type 0 where
   pub area :
       Says Shell (codes "area 1 6 -2 200 30 0")
       (lines.Shell (shells.Area 1 6 (rect (negsuc 1) (pos 200) (pos 30) (pos 0))))
+  pub moment_of_a_link : Says Shell (codes "at 18446744073709551615") (lines.Shell (shells.At 18446744073709551615))
+
+-- lines of a session of form 2, and what they say
+pub record WorkedStamps : Type 0 where
+  pub header :
+      Says Session2 (codes "session 2 4000000 65536 536870912")
+      (lines.Header (record { entries = 4000000; store = 65536; weight = 536870912 }))
+  pub join : Says Session2 (codes "5 0 join app") (lines.Stamped (stamp 5 0) (sessions.Join App))
+  pub tokens : Says Session2 (codes "0 3 tokens 1 7 8") (lines.Stamped (stamp 0 3) (sessions.Tokens 1 (7 ∷ 8 ∷ [])))
+  pub at :
+      Says Session2 (codes "18446744073709551615 0 at 20")
+      (lines.Stamped (stamp 18446744073709551615 0) (sessions.Shell (shells.At 20)))
+  pub end : Says Session2 (codes "end") lines.End
 
 -- lines that are none
 pub record OtherLines : Type 0 where
@@ -47,9 +64,18 @@ pub record OtherLines : Type 0 where
   pub no_bytes : IsNoLine Session (codes "bytes 1 -")
   pub take_of_nothing : IsNoLine Session (codes "take 2 0")
   pub end_of_a_link : IsNoLine Shell (codes "end")
+  pub stamp_in_form_1 : IsNoLine Session (codes "0 0 join app")
+  pub moment_in_form_1 : IsNoLine Session (codes "at 20")
+  pub tokens_in_form_1 : IsNoLine Session (codes "tokens 1 7")
+  pub header_2_in_form_1 : IsNoLine Session (codes "session 2 8 100 1000")
+  pub bare_in_form_2 : IsNoLine Session2 (codes "join app")
+  pub stamped_end : IsNoLine Session2 (codes "0 0 end")
+  pub no_token : IsNoLine Session2 (codes "0 0 tokens 1")
+  pub no_weight : IsNoLine Session2 (codes "session 2 8 100 0")
+  pub wide_moment : IsNoLine Session2 (codes "18446744073709551616 0 join app")
 
 abbrev pub IsPrintedAs : Step → List ℕ → Type 0
-IsPrintedAs step text = spelling (lines.Session (step_line step)) ≡ text
+IsPrintedAs step text = spelling Session (lines.Session (step_line step)) ≡ text
 
 -- steps of the worked session, and their lines
 pub record WorkedSteps : Type 0 where
@@ -61,6 +87,8 @@ pub record WorkedSteps : Type 0 where
       IsPrintedAs (steps.Peer 1 (peers.BadSize (1 ∷ 0 ∷ 0 ∷ 0 ∷ 0 ∷ 0 ∷ 6 ∷ 0 ∷ [])))
       (codes "bytes 1 0100000000000600")
   pub join : IsPrintedAs (steps.Join App) (codes "join app")
+  pub tokens : IsPrintedAs (steps.Peer 1 (peers.Tokens (7 ∷ 8 ∷ []))) (codes "tokens 1 7 8")
+  pub at : IsPrintedAs (steps.Shell (shells.At 20)) (codes "at 20")
 
 -- what the act 6 tells of the object 3 is printed with this after the two numbers
 abbrev pub IsToldAs : Said → List ℕ → Type 0

@@ -6,8 +6,8 @@ use memchr::memchr;
 use smallvec::SmallVec;
 use std::alloc::{AllocError, Global};
 
-/// The words of a line. As many as a line may have lie within the value.
-pub(crate) type Words<'a> = SmallVec<&'a [u8], 8>;
+/// The words of a line. As many as a line may have lie within the value, unless it has tokens.
+pub(crate) type Words<'a> = SmallVec<&'a [u8], 10>;
 
 // The first word and what stands behind its space, if there is a space.
 fn first_word(line: &[u8]) -> Option<(&[u8], &[u8])>
@@ -25,7 +25,7 @@ fn first_word(line: &[u8]) -> Option<(&[u8], &[u8])>
     }
 }
 
-/// The words of the line, of which one more than it has spaces. More than eight take memory.
+/// The words of the line, of which one more than it has spaces. More than ten take memory.
 pub(crate) fn words_of(alloc: Global, line: &[u8]) -> Result<Words<'_>, AllocError>
     ensures { IfOk result (λ v. map (λ w. w.now) v.items ≡ slice_split (λ b. b == 32) line.now) }
 {

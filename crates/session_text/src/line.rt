@@ -4,14 +4,15 @@ ghost use Rattle.session_text.specs.declared.line.BadLine.TheVariants.{NoMemory}
 ghost use Rattle.session_text.specs.Grammar.{IsLine};
 ghost use Rattle.session_text.specs.Laws.{ReadsOnlySpellings, ReadsEachSpelling};
 ghost use Rattle.session_text.specs.Reading as reading;
-ghost use Rattle.session_text.specs.Worked.{WorkedLines, OtherLines, WorkedSteps, WorkedEvents};
+ghost use Rattle.session_text.specs.Worked.{WorkedLines, WorkedStamps, OtherLines};
+ghost use Rattle.session_text.specs.Worked.{WorkedSteps, WorkedEvents};
 
 use crate::act_line::read_act;
 use crate::cutting::words_of;
 use crate::session_line::read_session;
-use crate::shell_line::read_shell;
+use crate::stamped_line::{read_link, read_session_2};
 use relay_model::{Act, Role};
-use seat_steps::{Limits, ShellStep};
+use seat_steps::{Limits, ShellStep, Stamp, TokenList};
 use std::alloc::{AllocError, Global};
 use wl_wire::Bytes;
 
@@ -23,8 +24,11 @@ pub const LINE_LIMIT: usize = 8400;
 pub enum Form {
     /// An act list: each line is an act, whose objects are named by their labels.
     Acts,
-    /// A session: its header, lines of peers and of the shell, and its end.
+    /// A session of form 1: its header, lines of peers and of the shell, and its end.
     Session,
+    /// A session of form 2: its header, such lines, tokens and moments, each behind its stamp, and
+    /// its end.
+    Session2,
     /// A shell link: lines of the shell alone.
     Shell,
 }
@@ -32,12 +36,16 @@ pub enum Form {
 /// What a line says.
 #[derive(Debug, Drop)]
 pub enum Line {
-    /// The header of a session, which comes first: its limits.
+    /// The header of a session, which comes first: its limits. Form 1 allows 1,000,000 entries at
+    /// most, and a weight of 134,217,728, which its header doesn't say.
     Header(Limits),
     /// An act of an act list.
     Act(Act),
-    /// A line of a session after its header.
+    /// A line of a session of form 1 after its header.
     Session(SessionLine),
+    /// A line of a session of form 2 after its header: when it came and through which link, and
+    /// what it says.
+    Stamped(Stamp, SessionLine),
     /// A line of a shell link.
     Shell(ShellStep),
     /// The list or the session ends here.
@@ -57,7 +65,9 @@ pub enum SessionLine {
     /// The peer of that number takes so many of the bytes that are stored for it, or all where
     /// there are fewer: 1 to 4,096.
     Take(u32, u32),
-    /// The shell says something.
+    /// The peer of that number sends the tokens of descriptors: 1 to 256. Form 1 has none.
+    Tokens(u32, TokenList),
+    /// The shell says something. Form 1 has no moments.
     Shell(ShellStep),
 }
 
@@ -78,6 +88,14 @@ impl From<AllocError> for BadLine {
     }
 }
 
+impl From<wio_core::NoMemory> for BadLine {
+    ghost from_gives = { λ _ e. e ≡ NoMemory };
+
+    fn from(_: wio_core::NoMemory) -> Self {
+        BadLine::NoMemory
+    }
+}
+
 fn is_end(words: &[&[u8]]) -> bool
     ensures { result ≡ reading.is_end (map (λ w. w.now) words.now) }
 {
@@ -94,7 +112,8 @@ fn read_words(alloc: Global, form: Form, words: &[&[u8]]) -> Result<Line, BadLin
         Form::Acts if is_end(words) => Ok(Line::End),
         Form::Acts => Ok(Line::Act(read_act(alloc, words)?)),
         Form::Session => read_session(alloc, words),
-        Form::Shell => Ok(Line::Shell(read_shell(words)?)),
+        Form::Session2 => read_session_2(alloc, words),
+        Form::Shell => Ok(Line::Shell(read_link(words)?)),
     }
 }
 
@@ -103,7 +122,8 @@ fn read_words(alloc: Global, form: Form, words: &[&[u8]]) -> Result<Line, BadLin
 /// leading zero, and only those with a sign may begin with `-`. A text is pairs of lower-case hex
 /// digits, or `-` where it is empty, and they give UTF-8 without a zero byte: at most 4,083 bytes
 /// in `mstring`, 4,075 in `surround` and `mpreedit`. A `bytes` line has 1 to 4,096 bytes in the
-/// same digits, and they may be any. A session's header is a line wherever it stands.
+/// same digits, and they may be any. Moments and authors are numbers below 2^64. A session's header
+/// is a line wherever it stands.
 #[tactic(auto, unfolding(crate::specs::Reading::line_of))]
 pub fn read_line(alloc: Global, form: Form, line: &[u8]) -> Result<Line, BadLine>
     ensures exact { reading.Reads result (reading.line_of form line.now) }
@@ -127,6 +147,7 @@ pub fn one_spelling()
 /// of each event, is what was worked out by hand.
 pub fn worked_lines()
     ensures lines { WorkedLines }
+    ensures stamps { WorkedStamps }
     ensures others { OtherLines }
     ensures steps { WorkedSteps }
     ensures events { WorkedEvents }

@@ -1,13 +1,14 @@
 // Decimal numbers in the one spelling that is printed: without a sign but `-`, and without a zero in
 // front of other digits.
-ghost use Rattle.std.specs.Prelude.{◌≡◌, ◌≤◌, ◌<◌, ◌^◌, ◌↔◌, ℕ, length, get_or, IfSome, IfNone, IsTrue};
+ghost use Rattle.std.specs.Prelude.{◌≡◌, ◌+◌, ◌*◌, ◌≤◌, ◌<◌, ◌^◌, ◌↔◌, ℕ, length, get_or, IfSome, IfNone, IsTrue};
 ghost use Rattle.std.specs.Fmt.{decimal};
 ghost use Rattle.std.specs.Str.Parse.{AllDigits, digits_value};
-ghost use Rattle.session_text.specs.Words.{IsPlain, negative_of, number_of, positive_of, signed_of, unsigned_of};
+ghost use Rattle.session_text.specs.Words.{IsPlain, long_number_of, long_of, negative_of, number_of};
+ghost use Rattle.session_text.specs.Words.{positive_of, signed_of, unsigned_of};
 
 // The number that the digits write, if there are only digits.
 fn digits_number(digits: &[u8]) -> Option<u64>
-    requires few { length digits.now ≤ 10 }
+    requires few { length digits.now ≤ 19 }
     ensures value { IfSome result (λ n. n ≡ digits_value 10 digits.now) }
     ensures all { IfSome result (λ n. AllDigits 10 digits.now) }
     ensures other { IfNone result (¬ (AllDigits 10 digits.now)) }
@@ -22,11 +23,11 @@ fn digits_number(digits: &[u8]) -> Option<u64>
     Some(number)
 }
 
-// From one to ten bytes, of which the first is no zero in front of others.
-fn is_plain(word: &[u8]) -> bool
-    ensures { IsTrue result ↔ IsPlain word.now }
+// From one to so many bytes, of which the first is no zero in front of others.
+fn is_plain(most: usize, word: &[u8]) -> bool
+    ensures { IsTrue result ↔ IsPlain most word.now }
 {
-    !word.is_empty() && word.len() <= 10 && (word[0] != b'0' || word.len() == 1)
+    !word.is_empty() && word.len() <= most && (word[0] != b'0' || word.len() == 1)
 }
 
 // The number that is printed so, if it has at most ten digits.
@@ -35,7 +36,7 @@ fn numeral(word: &[u8]) -> Option<u64>
     ensures value { IfSome result (λ n. word.now ≡ decimal n) }
     ensures other { IfNone result ((n : ℕ) → n < 2 ^ 32 → ¬ (word.now ≡ decimal n)) }
 {
-    if !is_plain(word) {
+    if !is_plain(10, word) {
         return None;
     }
     let number = digits_number(word)?;
@@ -55,6 +56,26 @@ pub(crate) fn parsed_number(word: &[u8]) -> Option<u32>
 {
     let number = numeral(word)?;
     without_sign(number)
+}
+
+// Ten times so many and a few more, if they have 64 bits.
+fn tens_and_ones(tens: u64, ones: u64) -> Option<u64>
+    ensures { result ≡ long_of (10 * tens + ones) }
+{
+    tens.checked_mul(10)?.checked_add(ones)
+}
+
+/// The number of 64 bits that is written so.
+pub(crate) fn parsed_long_number(word: &[u8]) -> Option<u64>
+    ensures { result ≡ long_number_of word.now }
+{
+    if !is_plain(20, word) {
+        return None;
+    }
+    let (front, last) = word.split_at(word.len() - 1);
+    let tens = digits_number(front)?;
+    let ones = digits_number(last)?;
+    tens_and_ones(tens, ones)
 }
 
 // The number above zero or zero, if it has 32 bits with a sign.

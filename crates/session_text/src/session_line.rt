@@ -1,5 +1,4 @@
-// The lines of a session, by the number of a line's words. Those of the shell are read as on a
-// shell link.
+// The lines of a session of form 1, by the number of a line's words.
 ghost use Rattle.std.specs.Prelude.{map};
 ghost use Rattle.session_text.specs.Reading.{Reads};
 ghost use Rattle.session_text.specs.SessionReading.{header_of, one_session_word, two_session_words};
@@ -10,7 +9,7 @@ use crate::hex_words::bytes_within;
 use crate::line::{BadLine, Line, SessionLine};
 use crate::shell_line;
 use crate::words::{count, number, role};
-use seat_steps::{ENTRY_LIMIT, Limits, STORE_LIMIT};
+use seat_steps::{FORM_1_ENTRY_LIMIT, FORM_1_WEIGHT, Limits, STORE_LIMIT};
 use std::alloc::Global;
 use wl_wire::MESSAGE_LIMIT;
 
@@ -67,9 +66,13 @@ fn read_header(form: &[u8], a: &[u8], b: &[u8]) -> Result<Line, BadLine>
     if form != b"1".as_slice() {
         return Err(BadLine::Grammar);
     }
-    let entries = count(ENTRY_LIMIT, a)?;
+    let entries = count(FORM_1_ENTRY_LIMIT, a)?;
     let store = count(STORE_LIMIT, b)?;
-    Ok(Line::Header(Limits { entries, store }))
+    Ok(Line::Header(Limits {
+        entries,
+        store,
+        weight: FORM_1_WEIGHT,
+    }))
 }
 
 #[tactic(auto, unfolding(crate::specs::SessionReading::four_session_words))]

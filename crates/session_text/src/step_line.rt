@@ -3,17 +3,19 @@ ghost use Rattle.std.specs.Prelude.{◌≡◌, length, IfOk, string_bytes};
 ghost use Rattle.session_text.specs.declared.line.SessionLine.TheVariants as sessions;
 ghost use Rattle.session_text.specs.declared.line.Line.TheVariants as lines;
 ghost use Rattle.session_text.specs.declared.line.Form.TheVariants as forms;
-ghost use Rattle.seat_steps.specs.Ranges.{piece_limit};
-ghost use Rattle.session_text.specs.Grammar.{IsLine, spelling};
+ghost use Rattle.seat_steps.specs.Ranges.{piece_limit, token_limit};
+ghost use Rattle.session_text.specs.Grammar.{spelling};
 ghost use Rattle.seat_steps.specs.Ranges.{IsBody, IsPeerStep, IsShellStep, IsStep, IsWithin};
 ghost use Rattle.session_text.specs.Steps.{message_bytes, peer_line, step_line};
 ghost use Rattle.session_text.specs.Laws.{MessagesAreWhole};
 ghost use Rattle.session_text.specs.Reading as reading;
-ghost use Rattle.session_text.specs.Printing.{Prints};
+ghost use Rattle.session_text.specs.Printing.{IsReadAgain, Prints};
 
 use crate::printing::{finished, hex_of};
+use crate::told_line::add_numbers;
+use itoa::Buffer;
 use relay_model::Role;
-use seat_steps::{PeerStep, ShellStep, Step};
+use seat_steps::{PeerStep, ShellStep, Stamp, Step};
 use std::alloc::Global;
 use wio_core::NoMemory;
 use wl_wire::Text;
@@ -33,6 +35,15 @@ fn bytes_line(alloc: Global, peer: u32, bytes: &[u8]) -> Result<String, NoMemory
 {
     let hex = hex_of(alloc, bytes)?;
     Ok(format!(in alloc; "bytes {peer} {hex}")?)
+}
+
+fn tokens_line(alloc: Global, peer: u32, tokens: &[u32]) -> Result<String, NoMemory>
+    requires { IsWithin token_limit (length tokens.now) }
+    ensures { IfOk result (λ s. Prints (string_bytes s) (sessions.Tokens peer tokens.now)) }
+{
+    let mut line = String::from_str(alloc, "tokens")?;
+    add_numbers(&mut line, Buffer::new().format(peer), tokens)?;
+    Ok(line)
 }
 
 fn gone_line(alloc: Global, peer: u32) -> Result<String, NoMemory>
@@ -78,6 +89,7 @@ fn shell_line(alloc: Global, step: ShellStep) -> Result<String, NoMemory>
             let (rate, delay) = (repeat.rate, repeat.delay);
             Ok(format!(in alloc; "repeat {rate} {delay}")?)
         }
+        ShellStep::At { moment } => Ok(format!(in alloc; "at {moment}")?),
     }
 }
 
@@ -105,6 +117,7 @@ fn peer_step_line(alloc: Global, peer: u32, step: &PeerStep) -> Result<String, N
             bytes_line(alloc, peer, &bytes)
         }
         PeerStep::BadSize { head } => bytes_line(alloc, peer, head),
+        PeerStep::Tokens(tokens) => tokens_line(alloc, peer, tokens.as_slice()),
         PeerStep::Gone => gone_line(alloc, peer),
     }
 }
@@ -121,18 +134,32 @@ fn line_of(alloc: Global, step: &Step) -> Result<String, NoMemory>
     }
 }
 
-/// Prints the line of a session that gives the step alone, without a line feed: a message and a bad
-/// header as the `bytes` of its peer. It is read again as that line.
+/// Prints the line of a session that gives the step alone, without a line feed and without a stamp:
+/// a message and a bad header as the `bytes` of its peer. It is read again as that line: in form 1,
+/// unless it is tokens or a moment, and in form 2 behind `0 0 `.
 pub fn print_step(alloc: Global, step: &Step) -> Result<Text, NoMemory>
     requires { IsStep step.now }
-    ensures value { IfOk result (λ line. line ≡ spelling (lines.Session (step_line step.now))) }
-    ensures valid { IfOk result (λ line.
-        IsLine forms.Session (lines.Session (step_line step.now))) }
-    ensures read { IfOk result (λ line.
-        reading.line_of forms.Session line ≡ Some (lines.Session (step_line step.now))) }
+    ensures value { IfOk result (λ line.
+        line ≡ spelling forms.Session (lines.Session (step_line step.now))) }
+    ensures read { IfOk result (IsReadAgain step.now) }
 {
     let line = line_of(alloc, step)?;
     Ok(finished(line))
+}
+
+/// Prints the line of a session of form 2 that gives the step alone, behind its stamp and without a
+/// line feed. It is read again as that stamp and that line.
+pub fn print_stamped(alloc: Global, stamp: Stamp, step: &Step) -> Result<Text, NoMemory>
+    requires { IsStep step.now }
+    ensures value { IfOk result (λ line.
+        line ≡ spelling forms.Session2 (lines.Stamped stamp (step_line step.now))) }
+    ensures read { IfOk result (λ line. reading.line_of forms.Session2 line
+        ≡ Some (lines.Stamped stamp (step_line step.now))) }
+{
+    let line = line_of(alloc, step)?;
+    let (moment, author) = (stamp.moment, stamp.author);
+    let stamped = format!(in alloc; "{moment} {author} {line}")?;
+    Ok(finished(stamped))
 }
 
 /// A law without work: the bytes of a printed message are one whole message, with its id, its

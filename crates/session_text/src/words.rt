@@ -1,12 +1,12 @@
 //! What single words of a line read as: numbers, texts and bytes, each in its one spelling.
 ghost use Rattle.session_text.specs.Reading.{Reads};
-ghost use Rattle.session_text.specs.Words.{count_of, cursor_text_limit};
+ghost use Rattle.session_text.specs.Words.{count_of, cursor_text_limit, long_number_of};
 ghost use Rattle.session_text.specs.Words.{number_of, role_of, signed_of, size_of, state_of};
 ghost use Rattle.session_text.specs.Words.{text_limit, text_of};
 
 pub use crate::hex_words::text_within;
 use crate::line::BadLine;
-use crate::numerals::{parsed_number, parsed_signed};
+use crate::numerals::{parsed_long_number, parsed_number, parsed_signed};
 use relay_model::Role;
 use std::alloc::Global;
 use wl_wire::{CURSOR_TEXT_LIMIT, TEXT_LIMIT, Text};
@@ -16,6 +16,13 @@ pub fn number(word: &[u8]) -> Result<u32, BadLine>
     ensures { Reads result (number_of word.now) }
 {
     parsed_number(word).ok_or(BadLine::Grammar)
+}
+
+/// A decimal number below 2^64, without a leading zero.
+pub fn long_number(word: &[u8]) -> Result<u64, BadLine>
+    ensures { Reads result (long_number_of word.now) }
+{
+    parsed_long_number(word).ok_or(BadLine::Grammar)
 }
 
 /// A decimal number of 32 bits with a sign.

@@ -6,6 +6,8 @@ mod command;
 #[cfg(test)]
 mod fault_tests;
 mod follow;
+#[cfg(test)]
+mod hostile_tests;
 mod last_line;
 #[cfg(test)]
 mod line_tests;

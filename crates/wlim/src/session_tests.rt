@@ -18,12 +18,12 @@ pub(crate) const METHOD: &str =
     "join method\nbytes 2 0100000001000c0002000000\nbytes 2 02000000000020000200000008000000776c5f73656174000100000003000000\nbytes 2 0200000000003400040000001c0000007a77705f696e7075745f6d6574686f645f6d616e616765725f7632000100000004000000\nbytes 2 04000000000010000300000005000000\n";
 
 // The field is entered and enabled.
-const ENABLED: &str = "focus 1 6\nbytes 1 0700000001000800\nbytes 1 0700000007000800\n";
+pub(crate) const ENABLED: &str = "focus 1 6\nbytes 1 0700000001000800\nbytes 1 0700000007000800\n";
 
 // One string, and its commit.
-const STRING: &str = "bytes 2 05000000000010000200000061000000\n";
+pub(crate) const STRING: &str = "bytes 2 05000000000010000200000061000000\n";
 
-const COMMIT: &str = "bytes 2 0500000003000c0001000000\n";
+pub(crate) const COMMIT: &str = "bytes 2 0500000003000c0001000000\n";
 
 // What both are told: their globals, and that the seat has no capability.
 pub(crate) const OFFERED: &str =
@@ -36,12 +36,13 @@ pub(crate) const CAPABILITIES: &str = "4 out 1 0400000000000c0000000000\n";
 
 pub(crate) const METHOD_CAPABILITIES: &str = "10 out 2 0300000000000c0000000000\n";
 
-const ENTER: &str = "13 out 1 0700000000000c0006000000\n";
+pub(crate) const ENTER: &str = "13 out 1 0700000000000c0006000000\n";
 
-const ACTIVATE: &str =
+pub(crate) const ACTIVATE: &str =
     "15 out 2 0500000000000800050000000400100000000000000000000500000005000800\n";
 
-const RELAYED: &str = "17 out 1 070000000300100002000000610000000700000005000c0001000000\n";
+pub(crate) const RELAYED: &str =
+    "17 out 1 070000000300100002000000610000000700000005000c0001000000\n";
 
 // One string is relayed. A row says what its header, a line before the commit and the lines after it change.
 #[test]

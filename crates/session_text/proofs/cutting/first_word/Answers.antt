@@ -1,4 +1,4 @@
-use Rattle.std.proofs.Common.{◌≡◌, ◌∷◌, ◌-◌, ◌==◌, ◌∙◌, ap, sym, suc, add-one, length, take, drop, rules}
+use Rattle.std.proofs.Common.{◌≡◌, ◌∷◌, ◌-◌, ◌==◌, ◌∙◌, ap, sym, suc, add-one, length, take, drop}
 use Rattle.std.specs.List.{slice_split}
 use Rattle.std.proofs.lemmas.List.{take_rest, drop-drop}
 use Rattle.session_text.proofs.FirstSpace.{cut_at_space, one_word}

@@ -1,4 +1,4 @@
-use Rattle.std.proofs.Common.{◌≡◌, ◌∙◌, sym, ap}
+use Rattle.std.proofs.Common.{◌∙◌, sym, ap}
 use Rattle.std.specs.Prelude.{not}
 use Rattle.session_text.proofs.LowerHex.{printed_again}
 use Rattle.session_text.proofs.hex_words.is_printed.Goals as goal

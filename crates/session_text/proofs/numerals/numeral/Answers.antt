@@ -1,5 +1,3 @@
-use Rattle.std.proofs.Common.{◌≡◌, ◌<◌, ◌^◌, ℕ, sym, IfNone}
-use Rattle.std.specs.Fmt.{decimal}
 use Rattle.session_text.proofs.WrittenNumbers.{not_plain, not_digits, plain_small, plain_value}
 use Rattle.session_text.proofs.numerals.numeral.Goals as goal
 

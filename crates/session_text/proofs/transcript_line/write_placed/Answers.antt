@@ -5,7 +5,6 @@ use Rattle.std.specs.String.{string_bytes}
 use Rattle.std.proofs.lemmas.Int.{to_z-of_z}
 use Rattle.std.proofs.lemmas.Result.{on_ok_weaker}
 use mir.Syntax.{w64}
-use Rattle.session_text.specs.Told.{spaced}
 use Rattle.session_text.proofs.PrintedLines.{signed_clean, spaced_last, line_joined}
 use Rattle.session_text.proofs.transcript_line.write_placed.Goals as goal
 

@@ -1,4 +1,4 @@
-use Rattle.std.proofs.Common.{◌∙◌, ap}
+use Rattle.std.proofs.Common.{refl, ◌∙◌, ap}
 use Rattle.relay_model.specs.declared.act.EndCause.TheVariants.{Gone}
 use Rattle.broker_model.specs.declared.journal.Entry.{Entry}
 use Rattle.broker_model.specs.declared.journal.Entry.TheVariants as entries
@@ -16,11 +16,11 @@ end-requires-clause-live g c =
 pub invariant_of-self : goal.invariant_of-self
 invariant_of-self g c =
     let e : Entry = entries.End c.args.number Gone in
-    stays c.self.inside.limits e c.self.inside.state c.settle.new.self c.self.invariant
+    stays c.self.inside.limits e c.args.stamp c.self.inside.state c.settle.new.self c.self.invariant
     (within_gone c.self.inside.limits c.args.number c.self.inside.state c.self.invariant
     (ap (λ (b : Broker). standing_of b.journal c.args.number) c.self.view_is ∙ c.requires))
-    (stepped e c.self.inside.state c.end.new.self c.settle.new.self c.end.ensures.capacity c.end.ensures.ended c.settle.ensures.stands c.settle.ensures.capacity
-    c.settle.ensures.settled)
+    (stepped e c.args.stamp c.self.inside.state c.end.new.self c.settle.new.self refl c.end.ensures.capacity c.end.ensures.ended c.end.ensures.stamped c.settle.ensures.stands c.settle.ensures.capacity
+    c.settle.ensures.settled c.settle.ensures.stamped)
 
 pub returns-clause-watched : goal.returns-clause-watched
 returns-clause-watched g c =

@@ -17,10 +17,10 @@ invariant_of-self-2 g c =
     subst (λ (b : Broker). number_alive b.journal < 64) (sym c.self.view_is) open_.0 in
     let place : HasPlace c.self.inside.limits e c.self.inside.state.journal.entries =
     has_place c.self.inside.limits e c.args.self.now c.self.inside.state c.self.view_is refl open_.1 in
-    stays c.self.inside.limits e c.self.inside.state c.settle.new.self c.self.invariant
+    stays c.self.inside.limits e c.args.stamp c.self.inside.state c.settle.new.self c.self.invariant
     (within_join c.self.inside.limits c.args.role c.self.inside.state few place)
-    (stepped e c.self.inside.state c.join.new.self c.settle.new.self c.in-Ok.ensures.capacity c.in-Ok.ensures.ok c.settle.ensures.stands
-    c.settle.ensures.capacity c.settle.ensures.settled)
+    (stepped e c.args.stamp c.self.inside.state c.join.new.self c.settle.new.self refl c.in-Ok.ensures.capacity c.in-Ok.ensures.ok c.in-Ok.ensures.stamped c.settle.ensures.stands
+    c.settle.ensures.capacity c.settle.ensures.settled c.settle.ensures.stamped)
 
 pub returns-clause-number : goal.returns-clause-number
 returns-clause-number g c =
@@ -33,7 +33,7 @@ returns-in-Some-clause-watched g c = nothing_watched g.W.Watch.may_follow c.args
 pub returns-in_default-join-clause-watched : goal.returns-in_default-join-clause-watched
 returns-in_default-join-clause-watched g c =
     refused_watched g.W.Watch.may_follow c.self.inside.limits c.args.self.now c.self.inside.state c.join.new.self c.args.watch.now c.join.new.watch
-    c.self.view_is c.in_default-join.ensures.err c.in_default-join.ensures.unwatched
+    c.self.view_is c.in_default-join.ensures.err c.in_default-join.ensures.unstamped c.in_default-join.ensures.unwatched
 
 pub returns-clause-watched : goal.returns-clause-watched
 returns-clause-watched g c =

@@ -18,22 +18,22 @@ invariant_of-self-2 g c =
     let e : Entry = entries.Message c.args.number c.args.id c.args.opcode c.args.body.now in
     let place : HasPlace c.self.inside.limits e c.self.inside.state.journal.entries =
     has_place c.self.inside.limits e c.args.self.now c.self.inside.state c.self.view_is refl c.requires.place in
-    stays c.self.inside.limits e c.self.inside.state c.settle.new.self c.self.invariant
+    stays c.self.inside.limits e c.args.stamp c.self.inside.state c.settle.new.self c.self.invariant
     (within_plain c.self.inside.limits e c.self.inside.state tt refl c.self.invariant place)
-    (stepped e c.self.inside.state c.message.new.self c.settle.new.self c.in_ok-message.ensures.capacity c.in_ok-message.ensures.ok c.settle.ensures.stands c.settle.ensures.capacity
-    c.settle.ensures.settled)
+    (stepped e c.args.stamp c.self.inside.state c.message.new.self c.settle.new.self refl c.in_ok-message.ensures.capacity c.in_ok-message.ensures.ok c.in_ok-message.ensures.stamped c.settle.ensures.stands c.settle.ensures.capacity
+    c.settle.ensures.settled c.settle.ensures.stamped)
 
 pub returns-clause-ok : goal.returns-clause-ok
 returns-clause-ok g c =
     let e : Entry = entries.Message c.args.number c.args.id c.args.opcode c.args.body.now in
-    becomes c.self.inside.limits e c.args.self.now c.self.inside.state c.settle.new.self c.self.view_is c.self.invariant
-    (stepped e c.self.inside.state c.message.new.self c.settle.new.self c.in_ok-message.ensures.capacity c.in_ok-message.ensures.ok c.settle.ensures.stands c.settle.ensures.capacity
-    c.settle.ensures.settled)
+    becomes c.self.inside.limits e c.args.stamp c.args.self.now c.self.inside.state c.settle.new.self c.self.view_is c.self.invariant
+    (stepped e c.args.stamp c.self.inside.state c.message.new.self c.settle.new.self refl c.in_ok-message.ensures.capacity c.in_ok-message.ensures.ok c.in_ok-message.ensures.stamped c.settle.ensures.stands c.settle.ensures.capacity
+    c.settle.ensures.settled c.settle.ensures.stamped)
 
 pub returns-in_err-message-clause-watched : goal.returns-in_err-message-clause-watched
 returns-in_err-message-clause-watched g c =
     refused_watched g.W.Watch.may_follow c.self.inside.limits c.args.self.now c.self.inside.state c.message.new.self c.args.watch.now c.message.new.watch
-    c.self.view_is c.in_err-message.ensures.err c.in_err-message.ensures.unwatched
+    c.self.view_is c.in_err-message.ensures.err c.in_err-message.ensures.unstamped c.in_err-message.ensures.unwatched
 
 pub returns-clause-watched : goal.returns-clause-watched
 returns-clause-watched g c =

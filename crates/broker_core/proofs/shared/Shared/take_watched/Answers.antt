@@ -14,10 +14,10 @@ invariant_of-self-2 g c =
     let place : HasPlace c.self.inside.limits e c.self.inside.state.journal.entries =
     has_place c.self.inside.limits e c.args.self.now c.self.inside.state c.self.view_is refl full in
     let entered : c.take.new.self.journal.entries ≡ e ∷ c.self.inside.state.journal.entries = grind arith in
-    stays c.self.inside.limits e c.self.inside.state c.settle.new.self c.self.invariant
+    stays c.self.inside.limits e c.args.stamp c.self.inside.state c.settle.new.self c.self.invariant
     (within_plain c.self.inside.limits e c.self.inside.state tt refl c.self.invariant place)
-    (stepped e c.self.inside.state c.take.new.self c.settle.new.self c.in-Ok.ensures.capacity entered c.settle.ensures.stands c.settle.ensures.capacity
-    c.settle.ensures.settled)
+    (stepped e c.args.stamp c.self.inside.state c.take.new.self c.settle.new.self refl c.in-Ok.ensures.capacity entered c.in-Ok.ensures.stamped c.settle.ensures.stands c.settle.ensures.capacity
+    c.settle.ensures.settled c.settle.ensures.stamped)
 
 pub returns-in-Some-clause-watched : goal.returns-in-Some-clause-watched
 returns-in-Some-clause-watched g c = nothing_watched g.W.Watch.may_follow c.args.self.now c.args.watch.now
@@ -25,7 +25,7 @@ returns-in-Some-clause-watched g c = nothing_watched g.W.Watch.may_follow c.args
 pub returns-in_default-take-clause-watched : goal.returns-in_default-take-clause-watched
 returns-in_default-take-clause-watched g c =
     refused_watched g.W.Watch.may_follow c.self.inside.limits c.args.self.now c.self.inside.state c.take.new.self c.args.watch.now c.take.new.watch
-    c.self.view_is c.in_default-take.ensures.err c.in_default-take.ensures.unwatched
+    c.self.view_is c.in_default-take.ensures.err c.in_default-take.ensures.unstamped c.in_default-take.ensures.unwatched
 
 pub returns-clause-watched : goal.returns-clause-watched
 returns-clause-watched g c =

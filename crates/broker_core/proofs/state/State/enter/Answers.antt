@@ -1,4 +1,4 @@
-use Rattle.std.proofs.Common.{◌≡◌, ◌∷◌, ◌≤◌, ◌+◌, ℕ, List, length, map, subst, sym, ap, ◌∙◌}
+use Rattle.std.proofs.Common.{◌≡◌, ◌∷◌, ◌≤◌, ◌+◌, ℕ, suc, List, length, map, subst, sym, ap, ◌∙◌, arith}
 use Rattle.std.specs.List.{AllByRecursion}
 use Rattle.relay_model.specs.declared.act.Act.{Act}
 use Rattle.relay_model.specs.Told.{told}
@@ -15,6 +15,9 @@ use Rattle.broker_core.proofs.EntryWatched.{told_is_watched}
 use Rattle.broker_core.proofs.ReadyEntryStands.{acts_few, short_told, stands_entered}
 use Rattle.broker_core.proofs.state.State.enter.Goals as goal
 
+more_by_one : (m n : ℕ) → m ≡ suc n → m ≡ n + 1
+more_by_one m n e = omega arith
+
 pub play-route-requires-clause-number : goal.play-route-requires-clause-number
 play-route-requires-clause-number g c = acts_few c.args.entry c.args.self.now c.requires.ready
 
@@ -27,7 +30,7 @@ returns-clause-stands g c =
     let shorts = subst (λ (a : Act). AllByRecursion IsShort (told a (resolve s.journal.entries))) (sym act) short in
     stands_entered c.args.entry s _ c.requires.ready
     (record {
-      entered = c.push.ensures.put ∙ ap (λ j. c.args.entry ∷ j.entries) c.play-route.ensures.journal;
+      entered = c.push-2.ensures.put ∙ ap (λ j. c.args.entry ∷ j.entries) c.play-route.ensures.journal;
       relayed = subst (λ (a : Act). relay.StandsFor c.play-route.new.self.relay (a ∷ resolve s.journal.entries)) act
           (c.play-route.ensures.relay (resolve s.journal.entries) here);
       live = c.play-route.ensures.live (resolve s.journal.entries) here shorts
@@ -36,7 +39,9 @@ returns-clause-stands g c =
       labels = c.play-route.ensures.labels;
       ended = c.play-route.ensures.ended;
       capacity = c.play-route.ensures.capacity;
-      room = subst (λ j. j.room ≤ c.push.new.self.room + 1) c.play-route.ensures.journal c.push.ensures.room_left;
+      room = subst (λ j. j.room ≤ c.push-2.new.self.room + 1) c.play-route.ensures.journal c.push-2.ensures.room_left;
+      stamp_room = subst (λ l. l.room ≤ c.push.new.self.room + 1) c.play-route.ensures.stamps c.push.ensures.room_left;
+      stamped = more_by_one _ _ (ap length c.push.ensures.put) ∙ ap (λ l. length l.stamps + 1) c.play-route.ensures.stamps;
     })
 
 pub returns-clause-watched : goal.returns-clause-watched

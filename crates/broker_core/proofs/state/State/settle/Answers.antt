@@ -5,7 +5,7 @@ use Rattle.broker_model.specs.declared.journal.Entry.TheVariants as entries
 use Rattle.seat_audience.specs.Changes.{first_due}
 use Rattle.broker_core.specs.Watched.{watched, watched_since}
 use Rattle.broker_core.proofs.WatchedSince.{reached_more}
-use Rattle.broker_core.proofs.FirstDueIsSettled.{first_there, next_end, none_due}
+use Rattle.broker_core.proofs.FirstDueIsSettled.{first_there, next_end, end_stamps, none_due}
 use Rattle.broker_core.proofs.state.State.settle.Given.{Over}
 use Rattle.broker_core.proofs.state.State.settle.Goals as goal
 
@@ -16,6 +16,7 @@ loop-number-init g c = record {
   few = c.requires.few;
   longer = omega arith;
   watched = λ k from h r. r;
+  stamped = λ given h. h;
   rest = refl;
 }
 
@@ -60,6 +61,9 @@ loop-number-preserved g c =
           subst (λ (n : ℕ). Reached R c.loop-number.watch (watched n e here) c.end.new.watch) c.loop-number.invariant.capacity c.end.ensures.watched in
           subst (λ (j : List Entry). Reached R from (watched_since capacity k j) c.end.new.watch) (sym c.end.ensures.ended)
           (reached_more R capacity k e here from c.loop-number.watch c.end.new.watch (omega arith) (c.loop-number.invariant.watched k from h r) ended);
+      stamped = λ given h.
+          end_stamps c.loop-number.self c.end.new.self c.in-Some.number c.in-Some.cause _ given near.follows c.end.ensures.ended c.end.ensures.stamped
+          (c.loop-number.invariant.stamped given h);
       rest = near.rest ∙ c.loop-number.invariant.rest;
     }
 
@@ -73,6 +77,9 @@ pub returns-clause-settled : goal.returns-clause-settled
 returns-clause-settled g c =
     none_due c.loop-number.self c.loop-number.invariant.stands (sym c.due.ensures ∙ c.in_default.is)
     ∙ c.loop-number.invariant.rest
+
+pub returns-clause-stamped : goal.returns-clause-stamped
+returns-clause-stamped g c = c.loop-number.invariant.stamped
 
 pub returns-clause-watched : goal.returns-clause-watched
 returns-clause-watched g c = c.loop-number.invariant.watched

@@ -1,6 +1,8 @@
-use Rattle.std.proofs.Common.{◌≡◌, ◌≤◌, ◌<◌, ◌+◌, ℕ, length}
+use Rattle.std.proofs.Common.{◌≡◌, ◌≤◌, ◌<◌, ◌+◌, ℕ, List, length}
 use Rattle.seat_objects.specs.Reached.{Reached}
+use Rattle.seat_steps.specs.declared.stamp.Stamp.{Stamp}
 use Rattle.broker_model.specs.Settle.{settle}
+use Rattle.broker_model.specs.Stamps.{stamps}
 use Rattle.broker_core.specs.Stands.{Stands}
 use Rattle.broker_core.specs.Watched.{watched_since}
 use Rattle.broker_core.proofs.state.State.settle.Given as goal
@@ -15,6 +17,8 @@ invariant-loop-number g l = record {
   watched : (k : ℕ) (from : _) → k ≤ length l.fn.self.journal.entries →
       Reached g.W.Watch.may_follow from (watched_since l.fn.self.capacity k l.fn.self.journal.entries) l.fn.watch →
       Reached g.W.Watch.may_follow from (watched_since l.fn.self.capacity k l.self.journal.entries) l.watch;
+  stamped : (given : List Stamp) → stamps l.fn.self.journal.entries given ≡ l.fn.self.stamps.stamps →
+      stamps l.self.journal.entries given ≡ l.self.stamps.stamps;
   rest : settle l.self.capacity l.self.journal.entries ≡ settle l.fn.self.capacity l.fn.self.journal.entries;
 }
 

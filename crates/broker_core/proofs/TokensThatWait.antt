@@ -1,0 +1,63 @@
+-- What waits for a peer after an entry: more for the peer of tokens, and the same for all others.
+use Rattle.std.proofs.Common.{◌≡◌, ℕ, ◌<◌, ◌≤◌, List, [], ◌∷◌, length, Bool, true, false, Option, Some, None, ap, refl, sym, ◌∙◌, arith}
+use Rattle.std.specs.Prelude.{if◌then◌else◌, ◌==◌}
+use Rattle.std.proofs.lemmas.Bool.{eq-eqb, ne_eqb}
+use Rattle.broker_model.specs.declared.journal.Entry.{Entry}
+use Rattle.broker_model.specs.declared.journal.Entry.TheVariants as entries
+use Rattle.broker_model.specs.Ids.{Joined, Past, peer_at, object_at}
+use Rattle.broker_model.specs.Resolve.{past_of}
+use Rattle.broker_model.specs.Waiting.{without_taken, takes_token, with_tokens, changed_for, waiting_with}
+use Rattle.broker_model.proofs.FewTokensWait.{none_taken}
+use Rattle.broker_model.proofs.Numbers.{label_within}
+
+-- nothing is taken, so that nothing changes
+unchanged : (o : Option Joined) (change : Joined → List ℕ → List ℕ) (waiting : ℕ → List ℕ) (p : ℕ) →
+    ((peer : Joined) → change peer (waiting p) ≡ waiting p) → changed_for o change waiting p ≡ waiting p
+unchanged None change waiting p h = refl
+unchanged (Some peer) change waiting p h = by (peer.label == p)
+  where
+    by : (b : Bool) → (if b then change peer (waiting p) else waiting p) ≡ waiting p
+    by true = h peer
+    by false = refl
+
+-- a message takes none
+pub message_waits : (q id opcode : ℕ) (body : List ℕ) (past : Past) (p : ℕ) → waiting_with (entries.Message q id opcode body) past p ≡ past.waiting p
+message_waits q id opcode body past p =
+    unchanged (peer_at past q) (λ peer. without_taken (takes_token (object_at past peer.label id) opcode)) past.waiting p
+    (λ peer. ap (λ (b : Bool). without_taken b (past.waiting p)) (none_taken (object_at past peer.label id) opcode))
+
+-- tokens wait behind those of their peer
+pub tokens_own : (q : ℕ) (tokens : List ℕ) (past : Past) (peer : Joined) → peer_at past q ≡ Some peer →
+    waiting_with (entries.Tokens q tokens) past peer.label ≡ with_tokens (past.waiting peer.label) tokens
+tokens_own q tokens past peer e =
+    ap (λ (o : Option Joined). changed_for o (λ peer waiting. with_tokens waiting tokens) past.waiting peer.label) e
+    ∙ ap (λ (b : Bool). if b then with_tokens (past.waiting peer.label) tokens else past.waiting peer.label) (eq-eqb peer.label peer.label refl)
+
+-- and nothing changes for any other
+pub tokens_other : (q : ℕ) (tokens : List ℕ) (past : Past) (peer : Joined) (p : ℕ) → peer_at past q ≡ Some peer → (peer.label == p) ≡ false →
+    waiting_with (entries.Tokens q tokens) past p ≡ past.waiting p
+tokens_other q tokens past peer p e d =
+    ap (λ (o : Option Joined). changed_for o (λ peer waiting. with_tokens waiting tokens) past.waiting p) e
+    ∙ ap (λ (b : Bool). if b then with_tokens (past.waiting p) tokens else past.waiting p) d
+
+-- none waits for a label that is yet to come
+
+none_by : (older : List Entry) (q : ℕ) (tokens : List ℕ) (p : ℕ) (o : Option Joined) → peer_at (past_of older) q ≡ o → length older < p →
+    changed_for o (λ peer waiting. with_tokens waiting tokens) (past_of older).waiting p ≡ (past_of older).waiting p
+none_by older q tokens p None e h = refl
+none_by older q tokens p (Some peer) e h =
+    let within : peer.label ≤ length older = label_within older q peer e in
+    ap (λ (b : Bool). if b then with_tokens ((past_of older).waiting p) tokens else (past_of older).waiting p) (ne_eqb peer.label p (λ d. omega arith))
+
+none_after : (e : Entry) (older : List Entry) (p : ℕ) → length older < p → waiting_with e (past_of older) p ≡ (past_of older).waiting p
+none_after (entries.Message q id opcode body) older p h = message_waits q id opcode body (past_of older) p
+none_after (entries.Tokens q tokens) older p h = none_by older q tokens p (peer_at (past_of older) q) refl h
+none_after (entries.Join role) older p h = refl
+none_after (entries.BadSize q head) older p h = refl
+none_after (entries.End q why) older p h = refl
+none_after (entries.Shell step) older p h = refl
+none_after (entries.Took q bytes) older p h = refl
+
+pub none_waits : (journal : List Entry) (p : ℕ) → length journal < p → (past_of journal).waiting p ≡ []
+none_waits [] p h = refl
+none_waits (e ∷ older) p h = none_after e older p (omega arith) ∙ none_waits older p (omega arith)

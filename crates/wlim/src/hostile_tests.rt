@@ -1,0 +1,143 @@
+// Peers that send what no client would, inputs that are cut, and writes that fail, on the top call.
+use crate::session_tests::{
+    ACTIVATE, CAPABILITIES, COMMIT, ENABLED, ENTER, FIELD, HEADER, METHOD, METHOD_CAPABILITIES,
+    METHOD_OFFERED, OFFERED, REGISTRY, RELAYED, STRING,
+};
+use crate::status::Status;
+use crate::tests::{joined, run};
+use std::alloc::Global;
+use std::test::Fail;
+
+// The method's peer is told that its field went.
+const WENT_AND_END: &str = "19 out 2 05000000010008000500000005000800\nend 19\n";
+
+const UNKNOWN: &str =
+    "18 out 1 010000000000240001000000000000000f000000756e6b6e6f776e206f626a6563740000\n19 ended 1 bad\n";
+
+const MALFORMED: &str =
+    "18 out 1 01000000000028000100000001000000120000006d616c666f726d65642072657175657374000000\n19 ended 1 bad\n";
+
+// The base session up to its batch, and what it tells.
+fn base(alloc: Global) -> Result<(String, String), Fail> {
+    let input = joined(
+        alloc,
+        &[HEADER, REGISTRY, FIELD, METHOD, ENABLED, STRING, COMMIT],
+    )?;
+    let output = joined(
+        alloc,
+        &[
+            OFFERED,
+            CAPABILITIES,
+            METHOD_OFFERED,
+            METHOD_CAPABILITIES,
+            ENTER,
+            ACTIVATE,
+            RELAYED,
+        ],
+    )?;
+    Ok((input, output))
+}
+
+// Each row is played after the base session.
+#[test]
+fn nobody_else_hears_of_a_malicious_peer(rt: HostRuntime) -> Result<(), Fail> {
+    let alloc = rt.alloc();
+    for (lines, told, last) in [
+        // serials that name no done
+        (
+            "bytes 2 0500000003000c0000000000\nbytes 2 0500000003000c0002000000\nbytes 2 0500000003000c00ffffffff\n",
+            "",
+            "end 20\n",
+        ),
+        // a popup on what is no surface of the peer
+        (
+            "bytes 2 05000000040010000600000006000000\n",
+            "18 out 2 010000000000240001000000000000000d00000077726f6e67206f626a65637400000000\n19 ended 2 bad\n",
+            "end 19\n",
+        ),
+        // an object that isn't there, and a null string
+        ("bytes 1 6300000000000800\n", UNKNOWN, WENT_AND_END),
+        (
+            "bytes 1 0700000003001400000000000000000000000000\n",
+            MALFORMED,
+            WENT_AND_END,
+        ),
+        // the id of an answered sync is used again
+        (
+            "bytes 1 0100000000000c0008000000\nbytes 1 0100000000000c0008000000\n",
+            "18 out 1 0800000000000c00000000000100000001000c0008000000\n19 out 1 0800000000000c00000000000100000001000c0008000000\n",
+            "end 19\n",
+        ),
+        // the method goes, and one that comes while the field holds finds serial 1 fresh
+        (
+            "bytes 2 0500000006000800\nbytes 2 04000000000010000300000005000000\nbytes 2 0500000003000c0001000000\n",
+            "18 out 2 0100000001000c0005000000\n19 out 2 0500000000000800050000000400100000000000000000000500000005000800\n20 out 1 0700000005000c0001000000\n",
+            "end 20\n",
+        ),
+    ] {
+        let (base, shown) = base(alloc)?;
+        let input = joined(alloc, &[base.as_str(), lines, "end\n"])?;
+        let output = joined(alloc, &[shown.as_str(), told, last])?;
+        let (answer, text) = run(alloc, &["replay"], input.as_str(), &[], &[])?;
+        assert_eq!(rt; answer, Status::Ok, "after {lines}");
+        assert_eq!(rt; text.as_slice(), output.as_bytes(), "after {lines}");
+    }
+    Ok(())
+}
+
+// The first lines of a text.
+fn first_lines(alloc: Global, text: &str, count: usize) -> Result<String, Fail> {
+    let mut first = String::new(alloc);
+    for line in text.lines().take(count) {
+        first.push_str(line)?;
+        first.push('\n')?;
+    }
+    Ok(first)
+}
+
+// Of the base session's 18 lines so many are there, and so many lines of its transcript are told by them.
+#[test]
+fn a_cut_session_tells_its_whole_lines(rt: HostRuntime) -> Result<(), Fail> {
+    let alloc = rt.alloc();
+    let (base, shown) = base(alloc)?;
+    let mut told = 0;
+    for cut in 0..=18usize {
+        if matches!(cut, 3 | 5 | 10 | 11 | 14 | 16 | 18) {
+            told += 1;
+        }
+        let input = first_lines(alloc, base.as_str(), cut)?;
+        let mut output = first_lines(alloc, shown.as_str(), told)?;
+        output.push_str(format!(in alloc; "bad line {}\n", cut + 1)?.as_str())?;
+        let (answer, text) = run(alloc, &["replay"], input.as_str(), &[], &[])?;
+        assert_eq!(rt; answer, Status::BadSession, "after {cut} lines");
+        assert_eq!(rt; text.as_slice(), output.as_bytes(), "after {cut} lines");
+    }
+    Ok(())
+}
+
+// A transcript line is written before the next line is read. Of the eight the last two are ready together.
+#[test]
+fn a_failed_write_leaves_a_front(rt: HostRuntime) -> Result<(), Fail> {
+    let alloc = rt.alloc();
+    let (base, shown) = base(alloc)?;
+    let input = joined(alloc, &[base.as_str(), "end\n"])?;
+    let output = joined(alloc, &[shown.as_str(), "end 17\n"])?;
+    for fails in 1..=8u64 {
+        let status = if fails <= 7 {
+            Status::WriteFault
+        } else {
+            Status::Ok
+        };
+        let (answer, text) = run(alloc, &["replay"], input.as_str(), &[], &[fails])?;
+        assert_eq!(rt; answer, status, "at write {fails}");
+        assert!(rt;
+            output.as_bytes().starts_with(text.as_slice()),
+            "at write {fails}"
+        );
+        assert!(rt;
+            (status == Status::Ok) == (text.len() == output.len()),
+            "at write {fails}"
+        );
+    }
+    Ok(())
+}

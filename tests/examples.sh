@@ -1,0 +1,25 @@
+#!/usr/bin/env bash
+# Replays every example and compares what comes with the transcript beside it.
+#
+#   tests/examples.sh            with the program as `rt try` makes it, unproved
+#   tests/examples.sh PROGRAM    with another build, as crates/wlim/out/wlim after `make build`
+cd "$(dirname "$0")/.." || exit 1
+program=$1
+failed=0
+
+run() {
+    if [ -n "$program" ]; then "$program" "$1" < "$2"; else (cd crates/wlim && rt try -- "$1" < "../../$2" 2> /dev/null); fi
+}
+
+for example in examples/*.session examples/*.acts; do
+    case $example in *.acts) command=replay-acts ;; *) command=replay ;; esac
+    wanted=${example%.*}.transcript
+    if run $command "$example" | cmp -s - "$wanted"; then
+        echo "same  $example"
+    else
+        echo "OTHER $example"
+        failed=1
+    fi
+done
+python3 tools/stories.py --check || failed=1
+exit $failed

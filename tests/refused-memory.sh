@@ -1,0 +1,94 @@
+#!/usr/bin/env bash
+# Runs each example with its Nth request for memory refused, for N from 1 up to the first N that nothing asks for.
+# The status is then 6 (no memory) and what was written a front of the example's output, or both are the example's own.
+#
+#   tests/refused-memory.sh            with crates/wlim/out/wlim, which `make build` proves and builds
+#   tests/refused-memory.sh PROGRAM    with another build
+#
+# It needs gcc: a small library that is loaded before the C library's counts the calls of malloc, realloc and the like.
+cd "$(dirname "$0")/.." || exit 1
+program=${1:-crates/wlim/out/wlim}
+[ -x "$program" ] || { echo "no program at $program; run make build"; exit 2; }
+work=$(mktemp -d)
+trap 'rm -rf "$work"' EXIT
+
+cat > "$work/refuse.c" <<'SOURCE'
+#define _GNU_SOURCE
+#include <dlfcn.h>
+#include <errno.h>
+#include <stdlib.h>
+#include <unistd.h>
+#include <fcntl.h>
+
+/* The number of the request that is refused, and how many came. */
+static long refused = 0, asked = 0;
+
+static void __attribute__((constructor)) begin(void) {
+    const char *number = getenv("REFUSED");
+    refused = number ? atol(number) : 0;
+    asked = 0;
+}
+
+/* The file says that the request came. */
+static int refuse(void) {
+    if (refused == 0 || ++asked != refused) return 0;
+    int file = open(getenv("REFUSED_FILE"), O_CREAT | O_WRONLY, 0600);
+    if (file >= 0) close(file);
+    errno = ENOMEM;
+    return 1;
+}
+
+void *malloc(size_t size) {
+    static void *(*real)(size_t);
+    if (!real) real = dlsym(RTLD_NEXT, "malloc");
+    return refuse() ? NULL : real(size);
+}
+
+void *realloc(void *was, size_t size) {
+    static void *(*real)(void *, size_t);
+    if (!real) real = dlsym(RTLD_NEXT, "realloc");
+    return refuse() ? NULL : real(was, size);
+}
+
+void *aligned_alloc(size_t align, size_t size) {
+    static void *(*real)(size_t, size_t);
+    if (!real) real = dlsym(RTLD_NEXT, "aligned_alloc");
+    return refuse() ? NULL : real(align, size);
+}
+
+int posix_memalign(void **where, size_t align, size_t size) {
+    static int (*real)(void **, size_t, size_t);
+    if (!real) real = dlsym(RTLD_NEXT, "posix_memalign");
+    return refuse() ? ENOMEM : real(where, align, size);
+}
+SOURCE
+gcc -O1 -shared -fPIC -o "$work/refuse.so" "$work/refuse.c" -ldl || exit 2
+
+failed=0
+
+# try NAME INPUT WORD..: the command of the words over the input.
+try() {
+    name=$1 input=$2
+    shift 2
+    "$program" "$@" < "$input" > "$work/whole"
+    own=$?
+    number=0
+    while :; do
+        number=$((number + 1))
+        rm -f "$work/came"
+        REFUSED=$number REFUSED_FILE="$work/came" LD_PRELOAD="$work/refuse.so" "$program" "$@" < "$input" > "$work/part"
+        status=$?
+        [ -e "$work/came" ] || break
+        size=$(stat -c %s "$work/part")
+        if [ $status -eq 6 ] && cmp -s -n "$size" "$work/part" "$work/whole"; then continue; fi
+        if [ $status -eq $own ] && cmp -s "$work/part" "$work/whole"; then continue; fi
+        echo "WRONG $name: request $number refused, status $status"
+        failed=1
+    done
+    if [ $status -ne $own ] || ! cmp -s "$work/part" "$work/whole"; then echo "WRONG $name: nothing refused"; failed=1; fi
+    echo "$name: $((number - 1)) requests refused in turn"
+}
+
+for example in examples/*.acts; do try "$(basename "$example")" "$example" replay-acts; done
+for example in examples/*.session; do try "$(basename "$example")" "$example" replay; done
+exit $failed

@@ -1,0 +1,173 @@
+#!/usr/bin/env python3
+"""Writes the sessions of examples/: each is a story of one thing that a broker has to get right.
+
+  tools/stories.py            writes examples/NAME.session for each story
+  tools/stories.py --check    says whether the files are those that it would write
+
+What each comes to stands beside it as NAME.transcript, and examples/README.md tells the stories. tests/examples.sh
+replays each of them.
+"""
+import os
+import sys
+
+from messages import (application, commit, commit_batch, commit_string, cursor_rectangle, delete, disable, enable,
+                      input_method, message, preedit, surrounding, text, word)
+
+FOLDER = os.path.join(os.path.dirname(os.path.abspath(__file__)), "..", "examples")
+
+
+class Session:
+    """The lines of a session. Peers are numbered from 1 as they join."""
+
+    def __init__(self, entries=1000, store=4096):
+        self.lines = [f"session 1 {entries} {store}"]
+        self.peers = 0
+
+    def join(self, role, *messages):
+        self.lines.append(f"join {role}")
+        self.peers += 1
+        self.send(self.peers, *messages)
+        return self.peers
+
+    def send(self, peer, *messages):
+        self.lines += [f"bytes {peer} {sent.hex()}" for sent in messages]
+
+    def say(self, *lines):
+        self.lines += lines
+
+    def text(self):
+        return "\n".join(self.lines + ["end"]) + "\n"
+
+
+def typing(session):
+    """An application whose field 7 holds the seat, and a method. Both have taken what was stored for them."""
+    app = session.join("app", *application())
+    method = session.join("method", *input_method())
+    session.say(f"focus {app} 6")
+    session.send(app, enable(), commit())
+    session.say(f"take {app} 4096", f"take {method} 4096")
+    return app, method
+
+
+def stale_serial():
+    """A batch that names a done to come is dropped whole; one that names a done of this activation is relayed."""
+    session = Session()
+    app, method = typing(session)
+    session.send(method, commit_string("too early"), commit_batch(2))
+    session.send(app, surrounding("new state", 9, 9), commit())
+    session.send(method, commit_string("in time"), commit_batch(1))
+    return session
+
+
+def field_loses_the_seat():
+    """A second field is enabled and takes the seat in the middle of a batch; the batch reaches nobody."""
+    session = Session()
+    app, method = typing(session)
+    session.send(app, message(5, 1, word(8), word(4)))
+    session.send(method, commit_string("for the first"))
+    session.send(app, enable(8), commit(8))
+    session.send(method, commit_batch(1))
+    session.send(method, commit_string("for the second"), commit_batch(2))
+    return session
+
+
+def peer_that_stops_reading():
+    """An application never takes what is stored for it, until a group doesn't fit. It ends; the other types on."""
+    session = Session(store=300)
+    deaf = session.join("app", *application())
+    method = session.join("method", *input_method())
+    session.say(f"take {method} 4096", f"focus {deaf} 6")
+    session.send(deaf, enable(), commit())
+    for _ in range(3):
+        session.send(method, commit_string("forty bytes of text that nobody reads"), commit_batch(1))
+        session.say(f"take {method} 4096")
+    heard = session.join("app", *application())
+    session.say(f"focus {heard} 6")
+    session.send(heard, enable(), commit())
+    session.say(f"take {heard} 4096", f"take {method} 4096")
+    session.send(method, commit_string("heard"), commit_batch(3))
+    return session
+
+
+def preedit_and_deletion():
+    """A method shows a preedit, replaces it, and commits a word in place of what stood before the cursor."""
+    session = Session()
+    app, method = typing(session)
+    session.send(method, preedit("ni", 2, 2), commit_batch(1))
+    session.send(method, preedit("nih", 3, 3), commit_batch(1))
+    session.send(method, delete(1, 0), commit_string("\u4f60"), commit_batch(1))
+    return session
+
+
+def keys_through_a_grab():
+    """A method grabs the keyboard: presses go to it; a key that was down before is released to the shell."""
+    session = Session()
+    app, method = typing(session)
+    session.say("keymap 1 9 100", "repeat 25 600", "key 10 30 1")
+    session.send(method, message(5, 5, word(6)))
+    session.say("key 20 30 0", "key 30 31 1", "mods 1 0 0 0", "key 40 31 0")
+    session.send(method, message(6, 0))
+    session.say("key 50 32 1")
+    return session
+
+
+def popup_at_the_edge():
+    """A method's popup follows the cursor; where it would leave the screen it goes above, and is moved in."""
+    session = Session()
+    app, method = typing(session)
+    session.send(method, message(2, 0, word(1), text("wl_compositor"), word(1), word(7)),
+                 message(7, 0, word(8)), message(5, 4, word(9), word(8)))
+    session.say(f"area {method} 8 0 0 200 60", f"area {app} 6 700 500 300 250", "screen 1024 768")
+    session.send(app, cursor_rectangle(20, 10, 2, 20), commit())
+    session.send(app, cursor_rectangle(250, 220, 2, 20), commit())
+    return session
+
+
+def hostile_peer():
+    """Peers that send what no client would: each is told why and ends, and nobody else is told anything."""
+    session = Session()
+    app, method = typing(session)
+    unknown = session.join("app", message(77, 0))
+    thief = session.join("app", *application())
+    session.send(thief, message(8, 1))
+    huge = session.join("app")
+    session.say(f"bytes {huge} 0100000001000400")
+    liar = session.join("app", message(1, 1, word(2)))
+    session.send(liar, message(2, 0, word(4), text("zwp_input_method_manager_v2"), word(1), word(3)))
+    torn = session.join("app")
+    session.say(f"bytes {torn} 0100000001000c", f"gone {torn}")
+    session.send(method, commit_string("untouched"), commit_batch(1))
+    return session
+
+
+def disable_in_time():
+    """A field is disabled and enabled again: a batch for its first activation is late, though its number fits."""
+    session = Session()
+    app, method = typing(session)
+    session.send(app, disable(), commit(), enable(), commit())
+    session.send(method, commit_string("late"), commit_batch(1))
+    session.send(method, commit_string("now"), commit_batch(3))
+    return session
+
+
+STORIES = [stale_serial, field_loses_the_seat, peer_that_stops_reading, preedit_and_deletion, keys_through_a_grab,
+           popup_at_the_edge, hostile_peer, disable_in_time]
+
+
+def main():
+    changed = []
+    for story in STORIES:
+        path = os.path.join(FOLDER, story.__name__ + ".session")
+        wanted = story().text()
+        stands = open(path, encoding="utf-8").read() if os.path.exists(path) else ""
+        if stands != wanted:
+            changed.append(story.__name__)
+            if "--check" not in sys.argv:
+                open(path, "w", encoding="utf-8").write(wanted)
+    for name in changed:
+        print(name, "is another" if "--check" in sys.argv else "written")
+    return 1 if changed and "--check" in sys.argv else 0
+
+
+if __name__ == "__main__":
+    sys.exit(main())
