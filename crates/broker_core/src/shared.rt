@@ -130,8 +130,8 @@ impl Shared {
         full(&self.state.journal, &self.limits, added)
     }
 
-    // Why no peer can join, if so.
-    fn join_refusal(&self, role: Role) -> Option<JoinRefusal>
+    /// Why no peer can join, if so: what `join` answers then. (no memory)
+    pub fn join_refusal(&self, role: Role) -> Option<JoinRefusal>
         ensures { result ≡ join_refusal self.now role }
     {
         if self.state.audience.live.len() >= MOST_PEERS as usize {

@@ -7,7 +7,7 @@ use Rattle.turn_lock.specs.Rule.{bit}
 use Rattle.turn_lock.proofs.PairsOfNumbers.{own-here, none-back}
 
 -- how often the number stands among these
-abbrev hits : List ℕ → ℕ → ℕ
+abbrev pub hits : List ℕ → ℕ → ℕ
 hits [] n = 0
 hits (m ∷ ms) n = bit (eqb n m) + hits ms n
 
@@ -23,7 +23,7 @@ absent-hits (m ∷ ms) n z i = ⊎_elim
     (λ (e : m ≡ n). let b : bit (eqb n m) ≡ 1 = ap bit (eq-eqb n m (sym e)) in absurd (omega arith))
     (λ (r : IsIn n ms). let t : hits ms n ≡ 0 = omega arith in absent-hits ms n t r) i
 
-hits-once : (ns : List ℕ) (n : ℕ) → IsDistinct ns → hits ns n ≤ 1
+pub hits-once : (ns : List ℕ) (n : ℕ) → IsDistinct ns → hits ns n ≤ 1
 hits-once [] n d = omega arith
 hits-once (m ∷ ms) n d = dite (ℕ_discrete n m)
     (λ e. let b : bit (eqb n m) ≡ 1 = ap bit (eq-eqb n m e) in
@@ -39,7 +39,7 @@ module _ {E : Type 0} where
   total-nil [] h e = refl
   total-nil (n ∷ ns) h e = let z = ap (λ g. length (own n g)) e in let t = total-nil ns h e in omega arith
 
-  total-cons : (ns : List ℕ) (x : ℕ × E) (xs : List (ℕ × E)) → total ns (x ∷ xs) ≡ hits ns x.0 + total ns xs
+  pub total-cons : (ns : List ℕ) (x : ℕ × E) (xs : List (ℕ × E)) → total ns (x ∷ xs) ≡ hits ns x.0 + total ns xs
   total-cons [] x xs = omega arith
   total-cons (n ∷ ns) x xs =
       let t = total-cons ns x xs in let l = length-cond (eqb x.0 n) x.1 (own n xs) in omega arith
