@@ -1,0 +1,14 @@
+pub mod HistoriesGrow
+pub mod ReadersStay
+pub mod KeptAfterStep
+pub mod BellsRung
+pub mod CallsAnswered
+pub mod NothingWatched
+pub mod JournalOfSteps
+pub mod StepsCounted
+pub mod TurnsCounted
+pub mod MeetingsCounted
+pub mod PlaysKeepRule
+pub mod LegalCalls
+pub mod TakesCopied
+pub mod SessionTotals

@@ -1,0 +1,89 @@
+use Rattle.std.proofs.Common.{rules, ◌≡◌, ◌≤◌, ◌<◌, ◌+◌, ◌∙◌, ap, sym, subst, refl, arith, length, true, false}
+use Rattle.turn_lock.specs.Rule.{bit}
+use Rattle.turn_lock.specs.Sights.{IsLegal, IsTallied, having_seen}
+use Rattle.hub_lock.specs.Passes.{PassSeat, steps_of, bytes_of, total_steps, total_bytes, journal_seen, HasSeenLawful}
+use Rattle.hub_lock.specs.Plays.{MayAsk, Plays, is_made}
+use Rattle.hub_lock.specs.Calls.{LegalAsk}
+use Rattle.hub_lock.proofs.TurnsCounted.{legal, entries-after, lawful-after, total-after, total-bytes-after}
+use Rattle.hub_lock.proofs.hub.Hub.play_root.Goals as goal
+use Rattle.hub_lock.proofs.hub.Hub.play_root.Goals.{After-play-answer}
+use Rattle.hub_lock.proofs.hub.Hub.play_root.Goals.at
+
+module _ (g : _) (c : After-play-answer g) where
+  abbrev was : PassSeat
+  was = c.args.root.now
+
+  k : IsLegal Plays was c.args.call.now c.play-answer.new.seat.seen c.play-answer.new.call c.play-answer.result
+  k = subst (λ (s : PassSeat). IsLegal Plays s c.args.call.now c.play-answer.new.seat.seen c.play-answer.new.call c.play-answer.result)
+      c.root.view_is c.play-answer.ensures.legal
+
+  is : c.play-answer.new.seat ≡ having_seen was c.play-answer.new.seat.seen
+  is = c.play-answer.ensures.seat ∙ ap (λ (s : PassSeat). having_seen s c.play-answer.new.seat.seen) c.root.view_is
+
+  zero : was.number ≡ 0
+  zero = sym (ap (λ (s : PassSeat). s.number) c.root.view_is) ∙ c.root.invariant.0
+
+  tallied : IsTallied c.play-answer.new.seat
+  tallied = c.play-answer.ensures.tallied (ap (λ (s : PassSeat). s.number) is ∙ zero)
+
+  number : c.args.call.now.number ≡ was.number
+  number = c.requires.number ∙ sym zero
+
+  may : MayAsk was.seen was.number c.args.call.now.ask
+  may = subst (λ n. MayAsk was.seen n c.args.call.now.ask) (sym zero) c.requires.may
+
+  steps : total_steps c.play-answer.new.seat ≡ c.root.inside.steps + bit (is_made c.play-answer.result.answer)
+  steps =
+      let a = total-after c.args.self.now.limits was c.args.call.now c.play-answer.new.seat.seen c.play-answer.new.call
+      c.play-answer.result k c.requires.own.1 number may c.play-answer.new.seat is zero tallied in
+      let b : c.root.inside.steps ≡ total_steps was = c.root.invariant.1 ∙ ap total_steps c.root.view_is in omega arith
+
+  bytes : c.root.inside.bytes ≡ total_bytes c.play-answer.new.seat
+  bytes = c.root.invariant.2 ∙ ap total_bytes c.root.view_is ∙ sym (total-bytes-after c.args.self.now.limits was c.args.call.now
+      c.play-answer.new.seat.seen c.play-answer.new.call c.play-answer.result k c.requires.own.1 number may c.play-answer.new.seat is zero tallied)
+
+  entries : c.play-answer.result.entries ≡ length (journal_seen c.play-answer.new.seat)
+  entries = entries-after c.args.self.now.limits was c.args.call.now c.play-answer.new.seat.seen c.play-answer.new.call
+      c.play-answer.result k c.requires.own.1 number may c.play-answer.new.seat is
+
+  lawful : HasSeenLawful c.play-answer.new.seat
+  lawful = lawful-after c.args.self.now.limits was c.args.call.now c.play-answer.new.seat.seen c.play-answer.new.call
+      c.play-answer.result k c.requires.own.1 number may c.play-answer.new.seat is
+
+  first : c.play-answer.new.seat.number ≡ 0
+  first = ap (λ (s : PassSeat). s.number) is ∙ zero
+
+  told : LegalAsk c.args.self.now.limits was c.play-answer.new.seat.seen 0 c.args.call.now.ask c.play-answer.new.call.ask
+      c.play-answer.result.answer
+  told = subst (λ n. LegalAsk c.args.self.now.limits was c.play-answer.new.seat.seen n c.args.call.now.ask
+      c.play-answer.new.call.ask c.play-answer.result.answer) zero
+      (legal c.args.self.now.limits was c.args.call.now c.play-answer.new.seat.seen c.play-answer.new.call
+      c.play-answer.result k c.requires.own.1 number may)
+
+pub overflow_add-root : goal.overflow_add-root
+overflow_add-root g c =
+    let a = (at.overflow_add-root g c).After-play-answer in
+    let s = steps g a in
+    let few = (tallied g a).few in
+    let made : is_made c.play-answer.result.answer ≡ true = search rules in
+    let one = ap bit made in omega arith
+
+pub invariant_of-root : goal.invariant_of-root
+invariant_of-root g c =
+    let a = (at.invariant_of-root g c).After-play-answer in
+    let s = steps g a in
+    let made : is_made c.play-answer.result.answer ≡ true = search rules in
+    let one = ap bit made in (first g a, omega arith, bytes g a, entries g a, lawful g a)
+
+pub invariant_of-root-else-is_made : goal.invariant_of-root-else-is_made
+invariant_of-root-else-is_made g c =
+    let a = (at.invariant_of-root-else-is_made g c).After-play-answer in
+    let s = steps g a in
+    let made : is_made c.play-answer.result.answer ≡ false = search rules in
+    let none = ap bit made in (first g a, omega arith, bytes g a, entries g a, lawful g a)
+
+pub returns-then-is_made-clause-legal : goal.returns-then-is_made-clause-legal
+returns-then-is_made-clause-legal g c = told g (at.returns-then-is_made-clause-legal g c).After-play-answer
+
+pub returns-else-is_made-clause-legal : goal.returns-else-is_made-clause-legal
+returns-else-is_made-clause-legal g c = told g (at.returns-else-is_made-clause-legal g c).After-play-answer

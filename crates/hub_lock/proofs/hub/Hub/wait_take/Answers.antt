@@ -1,0 +1,33 @@
+use Rattle.std.proofs.Common.{rules, ◌≡◌, ◌++◌, ◌∙◌, ap, sym, subst, refl}
+use Rattle.turn_lock.specs.Sights.{having_seen}
+use Rattle.hub_lock.specs.Passes.{PassSeat, PeerPass}
+use Rattle.hub_lock.specs.Calls.{pass_having_seen}
+use Rattle.hub_lock.proofs.LegalCalls.{waited-more, wait-legal}
+use Rattle.hub_lock.proofs.hub.Hub.wait_take.Goals as goal
+
+pub loop-preserved : goal.loop-preserved
+loop-preserved g c =
+    let i = c.loop.invariant in
+    let e = c.in-Empty.ensures in
+    let was : c.loop.pass.seat ≡ having_seen c.args.pass.now.seat (c.args.pass.now.seat.seen ++ i.waited.0) =
+    ap (λ (p : PeerPass). p.seat) i.pass ∙ ap (having_seen c.args.pass.now.seat) i.waited.1 in
+    let more = waited-more c.args.self.now.limits c.loop.pass.seat c.take-took.new.pass.seat.seen _ e.legal
+    c.args.pass.now.seat i.waited.0 i.waited.2 was e.legal.answer.same in record {
+      pass = e.pass ∙ ap (λ (p : PeerPass). pass_having_seen p c.take-took.new.pass.seat.seen) i.pass;
+      waited = (more.0, more.2, more.1);
+      buf = e.legal.answer.same_bytes ∙ i.buf;
+      tokens = e.legal.answer.same_tokens ∙ i.tokens;
+    }
+
+pub returns-in_default : goal.returns-in_default
+returns-in_default g c =
+    let i = c.loop.invariant in
+    let e = c.take-took.ensures in
+    let was : c.loop.pass ≡ pass_having_seen c.args.pass.now (c.args.pass.now.seat.seen ++ i.waited.0) =
+    i.pass ∙ ap (pass_having_seen c.args.pass.now) i.waited.1 in record {
+      pass = e.pass ∙ ap (λ (p : PeerPass). pass_having_seen p c.take-took.new.pass.seat.seen) i.pass;
+      legal = wait-legal c.args.self.now.limits c.args.pass.now c.loop.pass c.take-took.new.pass i.waited.0 c.loop.buf c.loop.tokens
+          c.args.buf.now c.args.tokens.now c.take-took.new.buf c.take-took.new.tokens c.take-took.result was i.waited.2 i.buf i.tokens e.legal;
+      joined = e.joined;
+      waited = search rules;
+    }

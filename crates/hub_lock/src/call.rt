@@ -1,0 +1,140 @@
+//! What is asked of the value behind the lock, and what it answers. A call borrows nothing.
+use crate::session::Session;
+use broker_core::{Applied, JoinRefusal, Refused, Took};
+use relay_model::Role;
+use seat_steps::Step;
+use std::marker::Model;
+use wio_core::NoMemory;
+
+/// A step of a peer or of the shell.
+#[derive(Drop)]
+pub struct Applying {
+    step: Step,
+}
+
+impl Model for Applying {
+    ghost use Rattle.seat_steps.specs.declared.step.Step.{Step};
+    ghost use Rattle.seat_steps.specs.Ranges.{IsStep};
+    ghost use Rattle.broker_core.specs.Broker.{IsSaid};
+
+    ghost Value = { Step };
+
+    ghost view = { λ a. a.step };
+
+    ghost invariant = { λ a. IsStep a.step × IsSaid a.step };
+}
+
+impl Applying {
+    ghost use Rattle.std.specs.Prelude.{◌≡◌};
+    ghost use Rattle.seat_steps.specs.Ranges.{IsStep};
+    ghost use Rattle.broker_core.specs.Broker.{IsSaid};
+
+    pub fn new(step: Step) -> Applying
+        requires { IsStep step × IsSaid step }
+        ensures { result ≡ step }
+    {
+        Applying { step }
+    }
+
+    pub fn step(&self) -> &Step
+        ensures same { result.now ≡ self.now }
+        ensures fits { IsStep result.now × IsSaid result.now }
+    {
+        &self.step
+    }
+}
+
+/// How many bytes a take may take at most: 1 to 4,096.
+#[derive(Drop)]
+pub struct Most {
+    bytes: usize,
+}
+
+impl Model for Most {
+    ghost use Rattle.std.specs.Prelude.{ℕ, ◌≤◌};
+
+    ghost Value = { ℕ };
+
+    ghost view = { λ m. m.bytes };
+
+    ghost invariant = { λ m. (1 ≤ m.bytes) × (m.bytes ≤ 4096) };
+}
+
+impl Most {
+    ghost use Rattle.std.specs.Prelude.{◌≡◌, ◌≤◌};
+
+    pub fn new(bytes: usize) -> Most
+        requires { (1 ≤ bytes) × (bytes ≤ 4096) }
+        ensures { result ≡ bytes }
+    {
+        Most { bytes }
+    }
+
+    pub fn bytes(&self) -> usize
+        ensures same { result ≡ self.now }
+        ensures within { (1 ≤ result) × (result ≤ 4096) }
+    {
+        self.bytes
+    }
+}
+
+/// A take for the peer: so many bytes at most, into this room.
+#[derive(Drop)]
+pub struct Taking {
+    pub peer: u32,
+    pub most: Most,
+    pub bytes: [u8; 4096],
+    pub tokens: [u32; 256],
+}
+
+/// What is asked.
+#[derive(Drop)]
+pub enum Ask {
+    /// A peer joins, whose reader's pass has that number.
+    Join(Role, u64),
+    Apply(Applying),
+    Take(Taking),
+    /// A copy of it all.
+    Copy,
+}
+
+/// What is asked, and the number of the pass that asks.
+#[derive(Drop)]
+pub struct Call {
+    pub number: u64,
+    pub ask: Ask,
+}
+
+/// What is answered, each to its ask.
+#[derive(Drop)]
+pub enum Answer {
+    Joined(Result<u32, JoinRefusal>),
+    Applied(Result<Applied, Refused>),
+    Took(Took),
+    Copied(Result<Session, NoMemory>),
+}
+
+/// The answer, the bells to ring, and how many entries the journal then has.
+#[derive(Drop)]
+pub struct Reply {
+    pub answer: Answer,
+    pub rings: u64,
+    pub entries: u32,
+}
+
+impl Answer {
+    ghost use Rattle.std.specs.Prelude.{◌≡◌};
+    ghost use Rattle.hub_lock.specs.Plays.{is_made};
+
+    /// Whether it says that a step was made.
+    pub fn is_made(&self) -> bool
+        ensures { result ≡ is_made self.now }
+    {
+        match self {
+            Answer::Joined(joined) => joined.is_ok(),
+            Answer::Applied(applied) => applied.is_ok(),
+            Answer::Took(Took::Bytes(_, _)) => true,
+            Answer::Took(_) | Answer::Copied(_) => false,
+        }
+    }
+}

@@ -1,0 +1,23 @@
+//! The hub: one shared state behind a turn lock, and a pass for each of its users. A call of a pass
+//! is played at the history of that moment, which begins with all that the pass had seen; whatever
+//! stands behind the lock is the shared state that this history makes.
+#![tactic(auto)]
+
+mod bell;
+mod call;
+mod calls;
+mod crossing;
+mod gate;
+mod hub;
+mod pass;
+mod rings;
+mod root_calls;
+mod session;
+mod state;
+mod step;
+
+pub use crossing::{may_be_shared, may_cross, root_may_cross};
+pub use gate::Gate;
+pub use hub::Hub;
+pub use pass::{HubPass, Pass, ReaderPass, ShellPass, WriterPass};
+pub use session::Session;
