@@ -17,13 +17,17 @@ const UNKNOWN: &str =
 const MALFORMED: &str =
     "18 out 1 01000000000028000100000001000000120000006d616c666f726d65642072657175657374000000\n19 ended 1 bad\n";
 
-// The base session up to its batch, and what it tells.
-fn base(alloc: Global) -> Result<(String, String), Fail> {
-    let input = joined(
+// The base session up to its batch.
+fn base_input(alloc: Global) -> Result<String, Fail> {
+    joined(
         alloc,
         &[HEADER, REGISTRY, FIELD, METHOD, ENABLED, STRING, COMMIT],
-    )?;
-    let output = joined(
+    )
+}
+
+// What it tells.
+fn base_output(alloc: Global) -> Result<String, Fail> {
+    joined(
         alloc,
         &[
             OFFERED,
@@ -34,8 +38,23 @@ fn base(alloc: Global) -> Result<(String, String), Fail> {
             ACTIVATE,
             RELAYED,
         ],
-    )?;
-    Ok((input, output))
+    )
+}
+
+// The base session with these lines behind it.
+fn played(alloc: Global, lines: &str) -> Result<String, Fail> {
+    let mut input = base_input(alloc)?;
+    input.push_str(lines)?;
+    input.push_str("end\n")?;
+    Ok(input)
+}
+
+// What is told of it.
+fn told_of(alloc: Global, told: &str, last: &str) -> Result<String, Fail> {
+    let mut output = base_output(alloc)?;
+    output.push_str(told)?;
+    output.push_str(last)?;
+    Ok(output)
 }
 
 // Each row is played after the base session.
@@ -75,9 +94,8 @@ fn nobody_else_hears_of_a_malicious_peer(rt: HostRuntime) -> Result<(), Fail> {
             "end 20\n",
         ),
     ] {
-        let (base, shown) = base(alloc)?;
-        let input = joined(alloc, &[base.as_str(), lines, "end\n"])?;
-        let output = joined(alloc, &[shown.as_str(), told, last])?;
+        let input = played(alloc, lines)?;
+        let output = told_of(alloc, told, last)?;
         let (answer, text) = run(alloc, &["replay"], input.as_str(), &[], &[])?;
         assert_eq!(rt; answer, Status::Ok, "after {lines}");
         assert_eq!(rt; text.as_slice(), output.as_bytes(), "after {lines}");
@@ -95,18 +113,29 @@ fn first_lines(alloc: Global, text: &str, count: usize) -> Result<String, Fail> 
     Ok(first)
 }
 
-// Of the base session's 18 lines so many are there, and so many lines of its transcript are told by them.
+// How many lines of its transcript the base session tells in so many lines.
+fn told_by(cut: usize) -> usize {
+    match cut {
+        0..=2 => 0,
+        3 | 4 => 1,
+        5..=9 => 2,
+        10 => 3,
+        11..=13 => 4,
+        14 | 15 => 5,
+        16 | 17 => 6,
+        _ => 7,
+    }
+}
+
+// Of the base session's 18 lines so many are there.
 #[test]
 fn a_cut_session_tells_its_whole_lines(rt: HostRuntime) -> Result<(), Fail> {
     let alloc = rt.alloc();
-    let (base, shown) = base(alloc)?;
-    let mut told = 0;
+    let base = base_input(alloc)?;
+    let shown = base_output(alloc)?;
     for cut in 0..=18usize {
-        if matches!(cut, 3 | 5 | 10 | 11 | 14 | 16 | 18) {
-            told += 1;
-        }
         let input = first_lines(alloc, base.as_str(), cut)?;
-        let mut output = first_lines(alloc, shown.as_str(), told)?;
+        let mut output = first_lines(alloc, shown.as_str(), told_by(cut))?;
         output.push_str(format!(in alloc; "bad line {}\n", cut + 1)?.as_str())?;
         let (answer, text) = run(alloc, &["replay"], input.as_str(), &[], &[])?;
         assert_eq!(rt; answer, Status::BadSession, "after {cut} lines");
@@ -119,9 +148,8 @@ fn a_cut_session_tells_its_whole_lines(rt: HostRuntime) -> Result<(), Fail> {
 #[test]
 fn a_failed_write_leaves_a_front(rt: HostRuntime) -> Result<(), Fail> {
     let alloc = rt.alloc();
-    let (base, shown) = base(alloc)?;
-    let input = joined(alloc, &[base.as_str(), "end\n"])?;
-    let output = joined(alloc, &[shown.as_str(), "end 17\n"])?;
+    let input = played(alloc, "")?;
+    let output = told_of(alloc, "", "end 17\n")?;
     for fails in 1..=8u64 {
         let status = if fails <= 7 {
             Status::WriteFault
