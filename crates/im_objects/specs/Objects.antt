@@ -1,5 +1,5 @@
 -- What a table shows: the live objects by their ids and by their labels, and the calls that they stand for.
-use Rattle.std.specs.Prelude.{refl, ◌≡◌, ◌≤◌, ℕ, List, Bool, false, ◌||◌, ◌==◌, nat_lt, Option, Some, None, is_some, IsSomeAnd, if◌then◌else◌}
+use Rattle.std.specs.Prelude.{refl, ◌≡◌, ◌≤◌, ◌<◌, ℕ, List, length, slice_index_or, Bool, false, ◌||◌, ◌==◌, nat_lt, Option, Some, None, is_some, IsSomeAnd, if◌then◌else◌}
 use Rattle.std.specs.Ordering.{nat_cmp}
 use Rattle.std.specs.FinMap as map
 use Rattle.std.specs.Coded.{Coded, code_by, coded×, coded_ℕ}
@@ -44,6 +44,10 @@ is_id id (Some other) = id == other
 pub record IsWhole (under : map.FinMap nat_cmp (Interface × ℕ)) (ids : map.FinMap nat_cmp ℕ) : Type 0 where
   pub few : map.len under ≤ 257
   pub inverse : (label id : ℕ) → is_id id (map.get ids label) ≡ has_label label (map.get under id)
+
+-- what is under each of the first ids
+abbrev pub AreNear : List (Option (Interface × ℕ)) → map.FinMap nat_cmp (Interface × ℕ) → Type 0
+AreNear near under = (id : ℕ) → id < length near → slice_index_or near id None ≡ map.get under id
 
 -- the id isn't from 1 to 0xFEFFFFFF
 abbrev pub is_no_client_id : (id : ℕ) → Bool

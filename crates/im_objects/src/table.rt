@@ -1,11 +1,11 @@
 // The objects of one peer, in two maps: by their ids and by their labels.
-ghost use Rattle.std.specs.Prelude.{◌≡◌, ◌↔◌, ◌≤◌, ◌∷◌, [], List, ℕ, None, Some, Err, false, true, is_some, not, ◌&&◌, ◌==◌, IfOk, OnOk, OnErr, IfSome, IfNone, IsOkUnless};
+ghost use Rattle.std.specs.Prelude.{◌≡◌, ◌↔◌, ◌≤◌, ◌∷◌, [], List, ℕ, None, Some, Err, false, true, is_some, not, set, ◌&&◌, ◌==◌, IfOk, OnOk, OnErr, IfSome, IfNone, IsOkUnless};
 ghost use Rattle.std.specs.Ordering.{nat_cmp};
 ghost use Rattle.std.specs.BTreeMap as tree;
 ghost use Rattle.std.specs.FinMap as map;
 ghost use Rattle.im_objects.specs.Calls.{Call, object_under, id_of, takes_effect};
 ghost use Rattle.im_objects.specs.Calls.Call.{Make, Drop};
-ghost use Rattle.im_objects.specs.Objects.{IsLabelled, Stands, is_no_client_id, refusal_of, under_of, ids_of};
+ghost use Rattle.im_objects.specs.Objects.{AreNear, IsLabelled, Stands, is_no_client_id, refusal_of, under_of, ids_of};
 ghost use Rattle.wl_proto.specs.declared.interface.Interface.TheVariants.{Display};
 
 use crate::MakeRefusal;
@@ -27,19 +27,24 @@ pub const LAST_ID: u32 = 0xFEFF_FFFF;
 /// How many objects may be live besides the display.
 pub const MOST_LIVE: usize = 256;
 
+// How many ids are looked up without a search.
+const NEAR: usize = 64;
+
 /// The live objects of one peer.
 ///
 /// In contracts it is an `Objects`, two finite maps: what is under each id that is live, and the id of each label that is.
 /// `Stands calls objects` says that it is as a list of calls, the newest first, made it. A look-up costs the logarithm of
-/// the number of live objects. Only `new` and `make` take memory.
+/// the number of live objects, and less by one of the first 64 ids. Only `new` and `make` take memory.
 #[derive(Drop)]
 pub struct Table {
     objects: BTreeMap<u32, (Interface, Label)>,
     ids: BTreeMap<Label, u32>,
+    // What is under each of the first ids, by which most messages go.
+    near: Vec<Option<(Interface, Label)>>,
 }
 
 impl Model for Table {
-    ghost use Rattle.im_objects.specs.Objects.{Objects, objects_code, under_of, ids_of, IsWhole};
+    ghost use Rattle.im_objects.specs.Objects.{Objects, objects_code, under_of, ids_of, IsWhole, AreNear};
 
     ghost Value = { Objects };
 
@@ -50,7 +55,28 @@ impl Model for Table {
       ids = ids_of a.ids.entries;
     } };
 
-    ghost invariant = { λ a. IsWhole (under_of a.objects.entries) (ids_of a.ids.entries) };
+    ghost invariant = { λ a. IsWhole (under_of a.objects.entries) (ids_of a.ids.entries)
+        × AreNear a.near.items (under_of a.objects.entries) };
+}
+
+// Nothing under each of the first ids.
+fn no_near(alloc: Global) -> Result<Vec<Option<(Interface, Label)>>, NoMemory>
+    ensures { IfOk result (λ near. AreNear near.items map.empty) }
+{
+    let mut near = Vec::with_capacity(alloc, NEAR)?;
+    while near.len() < NEAR {
+        near.push(None)?;
+    }
+    Ok(near)
+}
+
+// What is under the id from now on, if it is one of the first.
+fn note(near: &mut Vec<Option<(Interface, Label)>>, id: u32, object: Option<(Interface, Label)>)
+    ensures { near.new.items ≡ set near.old.items id object }
+{
+    if let Some(slot) = near.get_mut(id as usize) {
+        *slot = object;
+    }
 }
 
 // Puts an object under an id that is free. Where there is no memory both maps are as before.
@@ -97,7 +123,9 @@ impl Table {
         let mut objects = BTreeMap::new(alloc);
         let mut ids = BTreeMap::new(alloc);
         put(&mut objects, &mut ids, DISPLAY_ID, Interface::Display, peer)?;
-        Ok(Table { objects, ids })
+        let mut near = no_near(alloc)?;
+        note(&mut near, DISPLAY_ID, Some((Interface::Display, peer)));
+        Ok(Table { objects, ids, near })
     }
 
     // Why nothing can be made under the id, if so.
@@ -142,6 +170,7 @@ impl Table {
         let Ok(()) = put(&mut self.objects, &mut self.ids, id, interface, label) else {
             return Err(MakeRefusal::NoMemory);
         };
+        note(&mut self.near, id, Some((interface, label)));
         Ok(())
     }
 
@@ -157,7 +186,10 @@ impl Table {
         ensures now { result ≡ map.get self.now.under id }
         ensures history { (calls : List Call) → Stands calls self.now → result ≡ object_under calls id }
     {
-        self.objects.get(&id).copied()
+        match self.near.get(id as usize) {
+            Some(object) => *object,
+            None => self.objects.get(&id).copied(),
+        }
     }
 
     /// The id of the live object with this label, if there is one.
@@ -190,6 +222,7 @@ impl Table {
             return false;
         };
         self.ids.remove(&label);
+        note(&mut self.near, id, None);
         true
     }
 }

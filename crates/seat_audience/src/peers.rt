@@ -54,6 +54,17 @@ impl Model for Peers {
     ghost invariant = { λ p. AreSeated p.slab p.places.items };
 }
 
+// The place at the number's distance from the first one's, where it is the number's: so it is as long
+// as nobody left who joined later than the first.
+fn at_distance(places: &[Place], number: u32) -> Option<usize>
+    ensures { IfSome result (IsAt (λ p. p.number) number places.now) }
+{
+    let first = places.first()?;
+    let at = number.checked_sub(first.number)? as usize;
+    let place = places.get(at)?;
+    if place.number == number { Some(at) } else { None }
+}
+
 impl Peers {
     /// Nobody. Takes no memory.
     pub(crate) fn new(alloc: Global) -> Peers
@@ -117,6 +128,9 @@ impl Peers {
         ensures none { IfNone result (HasNone (λ l. l.number) number self.now.items) }
         ensures order { AreInOrder self.now.items }
     {
+        if let Some(place) = at_distance(&self.places, number) {
+            return Some(place);
+        }
         match self
             .places
             .binary_search_by_key(&number, |place| place.number)

@@ -15,12 +15,12 @@ use Rattle.session_play.specs.Unread.{IsFirst, IsUnfinished, IsLast}
 
 -- a whole message has a header
 
-record IsHeaded (bytes : List ℕ) : Type 0 where
-  header : 8 ≤ length bytes
-  size : 8 ≤ size_of bytes
-  there : size_of bytes ≤ length bytes
+pub record IsHeaded (bytes : List ℕ) : Type 0 where
+  pub header : 8 ≤ length bytes
+  pub size : 8 ≤ size_of bytes
+  pub there : size_of bytes ≤ length bytes
 
-headed : (bytes : List ℕ) → is_whole bytes ≡ true → IsHeaded bytes
+pub headed : (bytes : List ℕ) → is_whole bytes ≡ true → IsHeaded bytes
 headed bytes e =
     let (front, there) = and_parts (leb 8 (length bytes) && is_good (size_of bytes))
     (leb (size_of bytes) (length bytes)) e in
@@ -64,7 +64,7 @@ enough (suc m) (suc n) bytes lm ln = enough_by m n bytes (is_whole bytes) refl l
 
 -- the first message and those of the rest, or none
 
-messages_next : (bytes : List ℕ) → is_whole bytes ≡ true → messages bytes ≡ take (size_of bytes) bytes ∷ messages
+pub messages_next : (bytes : List ℕ) → is_whole bytes ≡ true → messages bytes ≡ take (size_of bytes) bytes ∷ messages
     (drop (size_of bytes) bytes)
 unfolding messages
 messages_next bytes e =
@@ -74,7 +74,7 @@ messages_next bytes e =
     ∙ ap (λ (r : List (List ℕ)). take (size_of bytes) bytes ∷ r)
     (enough (length bytes) (length rest) rest (omega arith) (omega arith))
 
-messages_none : (bytes : List ℕ) → is_whole bytes ≡ false → messages bytes ≡ []
+pub messages_none : (bytes : List ℕ) → is_whole bytes ≡ false → messages bytes ≡ []
 unfolding messages
 messages_none bytes e = within_none (length bytes) bytes e
 

@@ -16,7 +16,7 @@ returns-clause-now c = found c ∙ ap (λ (o : Objects). map.get o.ids c.args.la
 pub returns-clause-inverse : goal.returns-clause-inverse
 returns-clause-inverse c id =
     let Labelled : Objects → Type 0 = λ o. (c.copied.result ≡ Some id) ↔ IsLabelled c.args.label (map.get o.under id) in
-    let both = inverse_of (the_view c.self.inside).under (the_view c.self.inside).ids c.args.label id c.self.invariant in
+    let both = inverse_of (the_view c.self.inside).under (the_view c.self.inside).ids c.args.label id c.self.invariant.0 in
     subst Labelled c.self.view_is ((λ e. both.0 (sym (found c) ∙ e)), (λ h. found c ∙ both.1 h))
 
 pub returns-clause-history : goal.returns-clause-history
