@@ -1,5 +1,6 @@
 -- What stands at the front of some bytes is one thing alone.
-use Rattle.std.proofs.Common.{◌≡◌, ℕ, ◌+◌, ◌<◌, ◌≤◌, List, ◌∷◌, ◌++◌, length, take, drop, get_or, arith, sym, ap, ◌∙◌, length-take, length-append, ◌⊎◌, inl, inr, subst}
+use Rattle.std.proofs.Common.{◌≡◌, ℕ, ◌+◌, ◌<◌, ◌≤◌, List, ◌∷◌, ◌++◌, length, take, drop, get_or, arith, sym, ap, ◌∙◌, length-take, length-append, ◌⊎◌, inl, inr, subst, Option, Some, None, IfSome, true}
+use Rattle.std.specs.Option.{is_some}
 use Rattle.std.proofs.lemmas.Grind.{common_steps}
 use Rattle.wio_core.specs.Lines.{IsOpen, HasLine, IsTooLong, IsFront}
 use Rattle.wio_core.specs.declared.line_search.Front.{Front}
@@ -24,3 +25,9 @@ other_not_open front bytes held same is (inl line) begun =
     whole_not_open bytes line.0 (subst (λ f. IsFront f bytes) line.1 is) (subst IsOpen (sym same) begun)
 other_not_open front bytes held same is (inr long) begun =
     long_not_open bytes (subst (λ f. IsFront f bytes) long is) (subst IsOpen (sym same) begun)
+
+-- the length of the line at the front is known
+pub known_not_open : (known : Option ℕ) (bytes held : List ℕ) → bytes ≡ held → IfSome known (λ n. HasLine bytes n)
+    → is_some known ≡ true → IsOpen held → ⊥
+known_not_open None bytes held same is h begun = cc
+known_not_open (Some n) bytes held same is h begun = whole_not_open bytes n is (subst IsOpen (sym same) begun)

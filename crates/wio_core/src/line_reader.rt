@@ -133,19 +133,64 @@ fn find_line<S: Source>(
     }
 }
 
+/// The same where it may be known how long the line at the front is: then no byte is looked at.
+fn front_line<S: Source>(
+    known: Option<usize>,
+    window: &mut Window,
+    room: &mut Option<u64>,
+    source: &mut S,
+) -> Result<usize, LineStop>
+    requires line { IfSome known (λ n. HasLine window.old n) }
+    ensures took { (read : List ℕ)
+        × TookFrom (S.given source.old) (S.given source.new)
+        (S.left source.old) (S.left source.new) read
+        × Gathers window.old window.new room.old room.new read }
+    ensures line { IfOk result (λ n. HasLine window.new n) }
+    ensures stop { IfErr result (λ why. HasCause why window.new room.new (S.left source.new)) }
+    ensures near { length window.new ≤ 16384 }
+    ensures waits { ¬ IsOpen window.old → source.new ≡ source.old }
+
+    ensures given_quiet { StaysQuiet (S.given source.old) (S.given source.new) }
+    ensures left_quiet { StaysQuiet (S.left source.old) (S.left source.new) }
+    ensures never_falls { S.fault_count source.old ≤ S.fault_count source.new }
+    ensures cause { result ≡ Err LineStop.ReadFault
+        → Rose (S.fault_count source.old) (S.fault_count source.new) }
+{
+    match known {
+        Some(n) => {
+            let _ = window.held();
+            Ok(n)
+        }
+        None => find_line(window, room, source),
+    }
+}
+
+/// How long the line at the front of the bytes is, if they have a whole one.
+fn whole_line(bytes: &[u8]) -> Option<usize>
+    ensures { IfSome result (λ n. HasLine bytes.now n) }
+{
+    match look(bytes, 0) {
+        Front::Line(n) => Some(n),
+        Front::Open | Front::Long => None,
+    }
+}
+
 /// Reads a source by lines. Contracts see the bytes that it took and gave in no line, how many it
 /// may still take, and what it answers from now on, if that is settled.
 #[derive(Drop)]
 pub struct LineReader {
     window: Window,
     lent: usize,
+    // How long the line behind the bytes that are lent is, if that is known.
+    known: Option<usize>,
     room: Option<u64>,
     settled: Option<LineStop>,
 }
 
 impl Model for LineReader {
-    ghost use Rattle.std.specs.Prelude.{◌≤◌, drop, length};
+    ghost use Rattle.std.specs.Prelude.{◌≤◌, drop, length, IfSome};
     ghost use Rattle.wio_core.specs.LineAnswers.{LinesAhead};
+    ghost use Rattle.wio_core.specs.Lines.{HasLine};
 
     ghost Value = { LinesAhead };
 
@@ -155,7 +200,8 @@ impl Model for LineReader {
       settled = r.settled;
     } };
 
-    ghost invariant = { λ r. r.lent ≤ length r.window };
+    ghost invariant = { λ r. (r.lent ≤ length r.window)
+        × IfSome r.known (λ n. HasLine (drop r.lent r.window) n) };
 }
 
 impl LineReader {
@@ -172,6 +218,7 @@ impl LineReader {
         Ok(LineReader {
             window: Window::new(alloc)?,
             lent: 0,
+            known: None,
             room: limit,
             settled: None,
         })
@@ -182,6 +229,9 @@ impl LineReader {
     pub fn is_open(&self) -> bool
         ensures { IsTrue result ↔ IsOpen self.now.held }
     {
+        if self.known.is_some() {
+            return false;
+        }
         match look(&self.window.held()[self.lent..], 0) {
             Front::Open => true,
             Front::Line(_) | Front::Long => false,
@@ -208,9 +258,11 @@ impl LineReader {
         }
         self.window.consume(self.lent);
         self.lent = 0;
-        match find_line(&mut self.window, &mut self.room, source) {
+        let known = self.known.take();
+        match front_line(known, &mut self.window, &mut self.room, source) {
             Ok(n) => {
                 self.lent = n + 1;
+                self.known = whole_line(&self.window.held()[n + 1..]);
                 NextLine::Line(&self.window.held()[..n])
             }
             Err(why) => {
