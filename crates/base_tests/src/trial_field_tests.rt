@@ -55,7 +55,15 @@ fn batch_row(
 }
 
 fn batch<'a>(before: u32, after: u32, string: &'a str, preedit: &'a str) -> BatchView<'a>
-    ensures { result ≡ record { before = before; after = after; string = string.entry; preedit = preedit.entry; begin = pos 0; end = pos 0 } }
+    ensures { result ≡ record {
+      before = before;
+      after = after;
+      string = string.entry;
+      preedit =
+          preedit.entry;
+      begin = pos 0;
+      end = pos 0;
+    } }
 {
     BatchView {
         before,

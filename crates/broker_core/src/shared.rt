@@ -18,9 +18,11 @@ pub const MOST_PEERS: u32 = 64;
 
 /// The shared state of all peers of a seat: one journal of what happened, and for each peer what is stored for it.
 ///
-/// In contracts it is a `Broker`: its limits, and its journal with the newest entry first. All else is what the definitions say of these two. After each
-/// step that is taken, each live peer whose message was refused, or whose store had no room for what the step told it, is ended, the one with the lowest
-/// number first. A call costs what the step tells and the live objects, however long the journal is. Who watches a call is told of each entry that it makes.
+/// In contracts it is a `Broker`: its limits, and its journal with the newest entry first. All else
+/// is what the definitions say of these two. After each step that is taken, each live peer whose
+/// message was refused, or whose store had no room for what the step told it, is ended, the one
+/// with the lowest number first. A call costs what the step tells and the live objects, however
+/// long the journal is. Who watches a call is told of each entry that it makes.
 #[derive(Drop)]
 pub struct Shared {
     state: State,
@@ -38,7 +40,9 @@ impl Model for Shared {
 }
 
 impl Shared {
-    ghost use Rattle.std.specs.Prelude.{◌≡◌, ◌≤◌, ◌+◌, ◌∷◌, ℕ, List, [], length, true, false, option_map, Option, Some, None, Err, IfSome, IfNone, IfOk, OnOk, OnErr, IsOkUnless};
+    ghost use Rattle.std.specs.Prelude.{◌≡◌, ◌≤◌, ◌+◌, ◌∷◌, ℕ, List, [], length, true, false};
+    ghost use Rattle.std.specs.Prelude.{option_map, Option, Some, None, Err, IfSome, IfNone, IfOk};
+    ghost use Rattle.std.specs.Prelude.{OnOk, OnErr, IsOkUnless};
     ghost use Rattle.std.specs.List.{count_by};
     ghost use Rattle.relay_core.specs.Stands.{route_told};
     ghost use Rattle.relay_model.specs.declared.act.EndCause.TheVariants.{Gone};
@@ -56,13 +60,17 @@ impl Shared {
     ghost use Rattle.broker_model.specs.Limits.{is_end, weight_of, number_counted, weight};
     ghost use Rattle.broker_core.specs.declared.taking.Standing.TheVariants.{Alive};
     ghost use Rattle.broker_core.specs.Ends.{is_end_of};
-    ghost use Rattle.broker_core.specs.Broker.{with_step, full_for, join_refusal, entry_of, refusal_if_full, refusal, IsSaid, IsAccepted, take_refusal, IfBytes, IfNoBytes, IsBytesUnlessMemory, IsWatched};
+    ghost use Rattle.broker_core.specs.Broker.{with_step, full_for, join_refusal, entry_of};
+    ghost use Rattle.broker_core.specs.Broker.{refusal_if_full, refusal, IsSaid, IsAccepted};
+    ghost use Rattle.broker_core.specs.Broker.{take_refusal, IfBytes, IfNoBytes};
+    ghost use Rattle.broker_core.specs.Broker.{IsBytesUnlessMemory, IsWatched};
     ghost use Rattle.broker_core.specs.Taking.{out_at, standing_of, lives, IsTaken};
 
     /// Nobody joined yet, and the journal is empty. Asks for limits in their ranges. `NoMemory` is its one error.
     pub fn new(alloc: Global, limits: Limits) -> Result<Shared, NoMemory>
         requires limits { IsLimits limits }
-        ensures { IfOk result (λ shared. shared ≡ record { limits = limits; journal = []; stamps = [] }) }
+        ensures { IfOk result (λ shared. shared ≡ record
+            { limits = limits; journal = []; stamps = [] }) }
     {
         Ok(Shared {
             state: State::new(alloc, limits.store as usize)?,
@@ -77,9 +85,11 @@ impl Shared {
         self.state.labels.len() as u32
     }
 
-    /// How many bytes are stored for the peer, alive or ended: 0 to the limit of the store. None where no peer has the number.
+    /// How many bytes are stored for the peer, alive or ended: 0 to the limit of the store. None
+    /// where no peer has the number.
     pub fn stored(&self, peer: u32) -> Option<usize>
-        ensures { result ≡ option_map (λ out. length (stored out)) (out_at self.now.limits.store self.now.journal peer) }
+        ensures { result ≡ option_map (λ out. length (stored out))
+            (out_at self.now.limits.store self.now.journal peer) }
     {
         self.state.stored(peer)
     }
@@ -93,39 +103,53 @@ impl Shared {
         self.state.standing(number)
     }
 
-    /// The journal. It is the history of its outer steps: after each of them stand the ends that follow from it, and no others. So no live peer has a refused
-    /// last message or was left out of what it is told. At most `MOST_PEERS` peers are alive, each with at most 256 live objects besides its display, at most
-    /// 64 keys are down, no store holds more than its capacity, and the entries are within the limits. No peer ends twice, and there are no more ends
-    /// than peers that joined and aren't alive.
+    /// The journal. It is the history of its outer steps: after each of them stand the ends that
+    /// follow from it, and no others. So no live peer has a refused last message or was left out of
+    /// what it is told. At most `MOST_PEERS` peers are alive, each with at most 256 live objects
+    /// besides its display, at most 64 keys are down, no store holds more than its capacity, and
+    /// the entries are within the limits. No peer ends twice, and there are no more ends than peers
+    /// that joined and aren't alive.
     pub fn journal(&self) -> &Journal
         ensures entries { result.now.entries ≡ self.now.journal }
-        ensures history { history self.now.limits.store (outer self.now.journal) ≡ self.now.journal }
-        ensures nobody_is_due { (number : ℕ) (peer : Joined) → peer_at (past_of self.now.journal) number ≡ Some peer → is_due self.now.limits.store self.now.journal number peer ≡ false }
+        ensures history { history self.now.limits.store (outer self.now.journal) ≡
+            self.now.journal }
+        ensures nobody_is_due { (number : ℕ) (peer : Joined) →
+            peer_at (past_of self.now.journal) number ≡ Some peer →
+            is_due self.now.limits.store self.now.journal number peer ≡ false }
         ensures few_peers { number_alive self.now.journal ≤ 64 }
         ensures counted { number_counted self.now.journal ≤ self.now.limits.entries }
         ensures light { weight self.now.journal ≤ self.now.limits.weight }
-        ensures stores { (label : ℕ) → length (stored (out_for self.now.limits.store self.now.journal label)) ≤ self.now.limits.store }
-        ensures few_objects { (number : ℕ) (peer : Joined) → peer_at (past_of self.now.journal) number ≡ Some peer → is_peer (log_of (past_of self.now.journal)) peer.label ≡ true → number_live (past_of self.now.journal) peer.label ≤ 256 }
+        ensures stores { (label : ℕ) →
+            length (stored (out_for self.now.limits.store self.now.journal label)) ≤
+            self.now.limits.store }
+        ensures few_objects { (number : ℕ) (peer : Joined) →
+            peer_at (past_of self.now.journal) number ≡ Some peer →
+            is_peer (log_of (past_of self.now.journal)) peer.label ≡ true →
+            number_live (past_of self.now.journal) peer.label ≤ 256 }
         ensures few_keys { number_down (log_of (past_of self.now.journal)) ≤ 64 }
-        ensures ends { length self.now.journal + number_alive self.now.journal ≤ number_counted self.now.journal + length (past_of self.now.journal).joined }
+        ensures ends { length self.now.journal + number_alive self.now.journal ≤ number_counted
+            self.now.journal + length (past_of self.now.journal).joined }
         ensures one_end { (number : ℕ) → count_by (is_end_of number) self.now.journal ≤ 1 }
     {
         &self.state.journal
     }
 
-    /// The stamps of the journal's entries. A step's has the author that its call gave, and as moment the greatest of the one that the call gave, the one that
-    /// the step says, and that of the entry before. An end that follows has author 0, and the moment of the entry before.
+    /// The stamps of the journal's entries. A step's has the author that its call gave, and as
+    /// moment the greatest of the one that the call gave, the one that the step says, and that of
+    /// the entry before. An end that follows has author 0, and the moment of the entry before.
     pub fn stamps(&self) -> &StampList
         ensures stamps { result.now.stamps ≡ self.now.stamps }
         ensures each { length self.now.stamps ≡ length self.now.journal }
-        ensures stamped { stamps self.now.journal (step_stamps self.now.journal self.now.stamps) ≡ self.now.stamps }
+        ensures stamped { stamps self.now.journal (step_stamps self.now.journal self.now.stamps) ≡
+            self.now.stamps }
     {
         &self.state.stamps
     }
 
     // How much the journal holds, where it is full for an entry that isn't an end and adds so much to its weight.
     fn full(&self, added: u64) -> Option<Kept>
-        ensures { (e : Entry) → is_end e ≡ false → weight_of e ≡ added → result ≡ full_for self.now e }
+        ensures { (e : Entry) → is_end e ≡ false → weight_of e ≡ added →
+            result ≡ full_for self.now e }
     {
         full(&self.state.journal, &self.limits, added)
     }
@@ -143,11 +167,12 @@ impl Shared {
 
     /// A peer joins. Answers its number: how many joined so far.
     ///
-    /// `TooManyPeers` comes where `MOST_PEERS` are alive, else `JournalFull` where the journal is full for a join, else `NoMemory` may come. After each all is
-    /// as before.
+    /// `TooManyPeers` comes where `MOST_PEERS` are alive, else `JournalFull` where the journal is
+    /// full for a join, else `NoMemory` may come. After each all is as before.
     pub fn join(&mut self, role: Role, stamp: Stamp) -> Result<u32, JoinRefusal>
         ensures refused { IfSome (join_refusal self.old role) (λ why. result ≡ Err why) }
-        ensures accepted { IfNone (join_refusal self.old role) (IsOkUnless result JoinRefusal.NoMemory) }
+        ensures accepted { IfNone (join_refusal self.old role)
+            (IsOkUnless result JoinRefusal.NoMemory) }
         ensures ok { OnOk result (self.new ≡ with_step (entries.Join role) stamp self.old) }
         ensures number { IfOk result (λ number. number ≡ length (past_of self.new.journal).joined) }
         ensures err { OnErr result (self.new ≡ self.old) }
@@ -164,7 +189,8 @@ impl Shared {
         watch: &mut W,
     ) -> Result<u32, JoinRefusal>
         ensures refused { IfSome (join_refusal self.old role) (λ why. result ≡ Err why) }
-        ensures accepted { IfNone (join_refusal self.old role) (IsOkUnless result JoinRefusal.NoMemory) }
+        ensures accepted { IfNone (join_refusal self.old role)
+            (IsOkUnless result JoinRefusal.NoMemory) }
         ensures ok { OnOk result (self.new ≡ with_step (entries.Join role) stamp self.old) }
         ensures number { IfOk result (λ number. number ≡ length (past_of self.new.journal).joined) }
         ensures err { OnErr result (self.new ≡ self.old) }
@@ -182,7 +208,8 @@ impl Shared {
 
     // Where the journal is full for a step that adds so much to its weight.
     fn refusal_if_full(&self, added: u64) -> Option<Refused>
-        ensures { (e : Entry) → is_end e ≡ false → weight_of e ≡ added → result ≡ refusal_if_full self.now e }
+        ensures { (e : Entry) → is_end e ≡ false → weight_of e ≡ added →
+            result ≡ refusal_if_full self.now e }
     {
         let kept = self.full(added)?;
         Some(Refused::JournalFull(kept))
@@ -233,7 +260,8 @@ impl Shared {
         requires live { standing_of self.old.journal number ≡ Alive }
         requires short { length body.now ≤ 4088 }
         requires place { full_for self.old (entries.Message number id opcode body.now) ≡ None }
-        ensures ok { OnOk result (self.new ≡ with_step (entries.Message number id opcode body.now) stamp self.old) }
+        ensures ok { OnOk result (self.new ≡ with_step (entries.Message number id opcode body.now)
+            stamp self.old) }
         ensures err { OnErr result (self.new ≡ self.old) }
         ensures watched { IsWatched W.may_follow self.old watch.old self.new watch.new }
     {
@@ -252,7 +280,8 @@ impl Shared {
     ) -> Result<(), NoMemory>
         requires live { standing_of self.old.journal number ≡ Alive }
         requires place { full_for self.old (entries.Tokens number tokens.now) ≡ None }
-        ensures ok { OnOk result (self.new ≡ with_step (entries.Tokens number tokens.now) stamp self.old) }
+        ensures ok { OnOk result (self.new ≡ with_step (entries.Tokens number tokens.now) stamp
+            self.old) }
         ensures err { OnErr result (self.new ≡ self.old) }
         ensures watched { IsWatched W.may_follow self.old watch.old self.new watch.new }
     {
@@ -271,7 +300,8 @@ impl Shared {
     ) -> Result<(), NoMemory>
         requires live { standing_of self.old.journal number ≡ Alive }
         requires place { full_for self.old (entries.BadSize number head) ≡ None }
-        ensures ok { OnOk result (self.new ≡ with_step (entries.BadSize number head) stamp self.old) }
+        ensures ok { OnOk result (self.new ≡ with_step (entries.BadSize number head) stamp
+            self.old) }
         ensures err { OnErr result (self.new ≡ self.old) }
         ensures watched { IsWatched W.may_follow self.old watch.old self.new watch.new }
     {
@@ -301,7 +331,8 @@ impl Shared {
         requires step { IsStep (steps.Peer number step.now) }
         requires accepted { refusal self.old (steps.Peer number step.now) ≡ None }
         ensures accepted { IsAccepted (record {}) (steps.Peer number step.now) result }
-        ensures ok { OnOk result (self.new ≡ with_step (entry_of (steps.Peer number step.now)) stamp self.old) }
+        ensures ok { OnOk result (self.new ≡ with_step (entry_of (steps.Peer number step.now)) stamp
+            self.old) }
         ensures err { OnErr result (self.new ≡ self.old) }
         ensures watched { IsWatched W.may_follow self.old watch.old self.new watch.new }
     {
@@ -327,7 +358,9 @@ impl Shared {
     ) -> Result<Option<Route>, NoMemory>
         requires place { full_for self.old (entries.Shell step.now) ≡ None }
         ensures ok { OnOk result (self.new ≡ with_step (entries.Shell step.now) stamp self.old) }
-        ensures route { IfOk result (λ route. route ≡ route_told (act_at (entries.Shell step.now) self.old.journal) (resolve self.old.journal)) }
+        ensures route { IfOk result (λ route.
+            route ≡ route_told (act_at (entries.Shell step.now) self.old.journal)
+            (resolve self.old.journal)) }
         ensures err { OnErr result (self.new ≡ self.old) }
         ensures watched { IsWatched W.may_follow self.old watch.old self.new watch.new }
     {
@@ -348,7 +381,9 @@ impl Shared {
         requires accepted { refusal self.old step.now ≡ None }
         ensures accepted { IsAccepted (record {}) step.now result }
         ensures ok { OnOk result (self.new ≡ with_step (entry_of step.now) stamp self.old) }
-        ensures route { IfOk result (λ route. route ≡ route_told (act_at (entry_of step.now) self.old.journal) (resolve self.old.journal)) }
+        ensures route { IfOk result (λ route.
+            route ≡ route_told (act_at (entry_of step.now) self.old.journal)
+            (resolve self.old.journal)) }
         ensures err { OnErr result (self.new ≡ self.old) }
         ensures watched { IsWatched W.may_follow self.old watch.old self.new watch.new }
     {
@@ -362,18 +397,24 @@ impl Shared {
         }
     }
 
-    /// Takes a step of a peer or of the shell. Asks that it is one of these two, and holds only what a line of a session can give.
+    /// Takes a step of a peer or of the shell. Asks that it is one of these two, and holds only
+    /// what a line of a session can give.
     ///
-    /// For a peer's step `NoPeer` comes where no peer has the number, and `Ended` where the peer ended, with the cause. Else `JournalFull` comes where the
-    /// journal is full for the step, else `NoMemory` may come. After each all is as before. The end of a live peer's link is always taken.
+    /// For a peer's step `NoPeer` comes where no peer has the number, and `Ended` where the peer
+    /// ended, with the cause. Else `JournalFull` comes where the journal is full for the step, else
+    /// `NoMemory` may come. After each all is as before. The end of a live peer's link is always
+    /// taken.
     pub fn apply(&mut self, step: &Step, stamp: Stamp) -> Result<Applied, Refused>
         requires step { IsStep step.now }
         requires said { IsSaid step.now }
         ensures refused { IfSome (refusal self.old step.now) (λ why. result ≡ Err why) }
-        ensures accepted { IfNone (refusal self.old step.now) (IsAccepted Refused.NoMemory step.now result) }
+        ensures accepted { IfNone (refusal self.old step.now)
+            (IsAccepted Refused.NoMemory step.now result) }
         ensures ok { OnOk result (self.new ≡ with_step (entry_of step.now) stamp self.old) }
         ensures entry { IfOk result (λ applied. applied.entry ≡ length self.old.journal + 1) }
-        ensures route { IfOk result (λ applied. applied.route ≡ route_told (act_at (entry_of step.now) self.old.journal) (resolve self.old.journal)) }
+        ensures route { IfOk result (λ applied.
+            applied.route ≡ route_told (act_at (entry_of step.now) self.old.journal)
+            (resolve self.old.journal)) }
         ensures err { OnErr result (self.new ≡ self.old) }
     {
         self.apply_watched(step, stamp, &mut ())
@@ -390,10 +431,13 @@ impl Shared {
         requires step { IsStep step.now }
         requires said { IsSaid step.now }
         ensures refused { IfSome (refusal self.old step.now) (λ why. result ≡ Err why) }
-        ensures accepted { IfNone (refusal self.old step.now) (IsAccepted Refused.NoMemory step.now result) }
+        ensures accepted { IfNone (refusal self.old step.now)
+            (IsAccepted Refused.NoMemory step.now result) }
         ensures ok { OnOk result (self.new ≡ with_step (entry_of step.now) stamp self.old) }
         ensures entry { IfOk result (λ applied. applied.entry ≡ length self.old.journal + 1) }
-        ensures route { IfOk result (λ applied. applied.route ≡ route_told (act_at (entry_of step.now) self.old.journal) (resolve self.old.journal)) }
+        ensures route { IfOk result (λ applied.
+            applied.route ≡ route_told (act_at (entry_of step.now) self.old.journal)
+            (resolve self.old.journal)) }
         ensures err { OnErr result (self.new ≡ self.old) }
         ensures watched { IsWatched W.may_follow self.old watch.old self.new watch.new }
     {
@@ -424,19 +468,26 @@ impl Shared {
         Some(Took::JournalFull(kept))
     }
 
-    /// The first bytes that are stored for the peer, alive or ended, go into the buffer, as many as fit, and the tokens whose messages begin in them beside.
-    /// Asks for a buffer of 1 to 4,096 bytes and for 256 places of tokens.
+    /// The first bytes that are stored for the peer, alive or ended, go into the buffer, as many as
+    /// fit, and the tokens whose messages begin in them beside. Asks for a buffer of 1 to 4,096
+    /// bytes and for 256 places of tokens.
     ///
-    /// `NoPeer` comes where no peer has the number. Where nothing is stored, `Closed` comes if the peer ended, and else `Empty`. Where something is,
-    /// `JournalFull` comes if the journal is full for a take, else `NoMemory` may come. After each of these all is as before, the buffers too.
+    /// `NoPeer` comes where no peer has the number. Where nothing is stored, `Closed` comes if the
+    /// peer ended, and else `Empty`. Where something is,
+    /// `JournalFull` comes if the journal is full for a take, else `NoMemory` may come. After each
+    /// of these all is as before, the buffers too.
     pub fn take(&mut self, peer: u32, buf: &mut [u8], tokens: &mut [u32], stamp: Stamp) -> Took
         requires piece { length buf.old ≤ 4096 }
         requires some { 1 ≤ length buf.old }
         requires places { 256 ≤ length tokens.old }
         ensures refused { IfSome (take_refusal self.old peer) (λ why. result ≡ why) }
         ensures accepted { IfNone (take_refusal self.old peer) (IsBytesUnlessMemory result) }
-        ensures bytes { IfSome (out_at self.old.limits.store self.old.journal peer) (λ out. IfBytes result (λ counts. IsTaken out self.old.journal peer buf.old tokens.old counts buf.new tokens.new (entries.Took peer counts.0 ∷ self.old.journal))) }
-        ensures settled { IfBytes result (λ counts. self.new ≡ with_step (entries.Took peer counts.0) stamp self.old) }
+        ensures bytes { IfSome (out_at self.old.limits.store self.old.journal peer)
+            (λ out. IfBytes result (λ counts.
+            IsTaken out self.old.journal peer buf.old tokens.old counts buf.new tokens.new
+            (entries.Took peer counts.0 ∷ self.old.journal))) }
+        ensures settled { IfBytes result (λ counts.
+            self.new ≡ with_step (entries.Took peer counts.0) stamp self.old) }
         ensures same { IfNoBytes result (self.new ≡ self.old) }
         ensures same_bytes { IfNoBytes result (buf.new ≡ buf.old) }
         ensures same_tokens { IfNoBytes result (tokens.new ≡ tokens.old) }
@@ -459,8 +510,12 @@ impl Shared {
         requires places { 256 ≤ length tokens.old }
         ensures refused { IfSome (take_refusal self.old peer) (λ why. result ≡ why) }
         ensures accepted { IfNone (take_refusal self.old peer) (IsBytesUnlessMemory result) }
-        ensures bytes { IfSome (out_at self.old.limits.store self.old.journal peer) (λ out. IfBytes result (λ counts. IsTaken out self.old.journal peer buf.old tokens.old counts buf.new tokens.new (entries.Took peer counts.0 ∷ self.old.journal))) }
-        ensures settled { IfBytes result (λ counts. self.new ≡ with_step (entries.Took peer counts.0) stamp self.old) }
+        ensures bytes { IfSome (out_at self.old.limits.store self.old.journal peer)
+            (λ out. IfBytes result (λ counts.
+            IsTaken out self.old.journal peer buf.old tokens.old counts buf.new tokens.new
+            (entries.Took peer counts.0 ∷ self.old.journal))) }
+        ensures settled { IfBytes result (λ counts.
+            self.new ≡ with_step (entries.Took peer counts.0) stamp self.old) }
         ensures same { IfNoBytes result (self.new ≡ self.old) }
         ensures same_bytes { IfNoBytes result (buf.new ≡ buf.old) }
         ensures same_tokens { IfNoBytes result (tokens.new ≡ tokens.old) }

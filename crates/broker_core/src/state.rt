@@ -1,5 +1,6 @@
 // The state of all peers of a seat. It stands for the journal of what happened.
-ghost use Rattle.std.specs.Prelude.{◌≡◌, ◌≤◌, ◌<◌, ◌+◌, ◌∷◌, [], ℕ, List, map, length, Option, Some, None, IsSome, IfSome, IfOk, OnOk, OnErr};
+ghost use Rattle.std.specs.Prelude.{◌≡◌, ◌≤◌, ◌<◌, ◌+◌, ◌∷◌, [], ℕ, List, map, length, Option};
+ghost use Rattle.std.specs.Prelude.{Some, None, IsSome, IfSome, IfOk, OnOk, OnErr};
 ghost use Rattle.std.specs.List.{AllByRecursion};
 ghost use Rattle.relay_model.specs.declared.act.Act.{Act};
 ghost use Rattle.relay_model.specs.Told.{told};
@@ -88,18 +89,28 @@ impl State {
         })
     }
 
-    // The relay takes the act, for which room was made, and each peer's group is put into its store or left out. Who watches is told both, as of the entry with the number.
+    // The relay takes the act, for which room was made, and each peer's group is put into its store
+    // or left out. Who watches is told both, as of the entry with the number.
     fn play<W: Watch>(&mut self, number: u32, act: &Act, watch: &mut W) -> Option<Route>
         requires reserved { IsReserved self.old.relay act.now }
         requires number { self.old.relay.state.acts < 4294967295 }
-        ensures relay { (log : List Act) → relay.StandsFor self.old.relay log → relay.StandsFor self.new.relay (act.now ∷ log) }
-        ensures route { (log : List Act) → relay.StandsFor self.old.relay log → result ≡ relay.route_told act.now log }
-        ensures live { (log : List Act) → relay.StandsFor self.old.relay log → AllByRecursion IsShort (told act.now log) → self.new.audience.live.items ≡ map (told_all self.old.audience.directory.made (told act.now log)) self.old.audience.live.items }
-        ensures directory { (log : List Act) → relay.StandsFor self.old.relay log → AllByRecursion IsShort (told act.now log) → self.new.audience.directory ≡ self.old.audience.directory }
+        ensures relay { (log : List Act) → relay.StandsFor self.old.relay log →
+            relay.StandsFor self.new.relay (act.now ∷ log) }
+        ensures route { (log : List Act) → relay.StandsFor self.old.relay log →
+            result ≡ relay.route_told act.now log }
+        ensures live { (log : List Act) → relay.StandsFor self.old.relay log →
+            AllByRecursion IsShort (told act.now log) →
+            self.new.audience.live.items ≡ map
+            (told_all self.old.audience.directory.made (told act.now log))
+            self.old.audience.live.items }
+        ensures directory { (log : List Act) → relay.StandsFor self.old.relay log →
+            AllByRecursion IsShort (told act.now log) →
+            self.new.audience.directory ≡ self.old.audience.directory }
         ensures watched { (log : List Act) → relay.StandsFor self.old.relay log →
-            AllByRecursion IsShort (told act.now log) → Reached W.may_follow watch.old
-            (told_live number self.old.audience.directory.made self.old.audience.live.items (told act.now log))
-            watch.new }
+            AllByRecursion IsShort (told act.now log) →
+            Reached W.may_follow watch.old
+            (told_live number self.old.audience.directory.made self.old.audience.live.items
+            (told act.now log)) watch.new }
         ensures journal { self.new.journal ≡ self.old.journal }
         ensures stamps { self.new.stamps ≡ self.old.stamps }
         ensures labels { self.new.labels ≡ self.old.labels }
@@ -154,11 +165,13 @@ impl State {
         requires few { length self.old.journal.entries < 4294967295 }
         ensures stands { Stands self.new }
         ensures capacity { self.new.capacity ≡ self.old.capacity }
-        ensures ended { self.new.journal.entries ≡ entries.End number cause ∷ self.old.journal.entries }
+        ensures ended { self.new.journal.entries ≡ entries.End number cause ∷
+            self.old.journal.entries }
         ensures stamped { self.new.stamps.stamps ≡ stamp_of (entries.End number cause) given
             self.old.stamps.stamps ∷ self.old.stamps.stamps }
         ensures watched { Reached W.may_follow watch.old
-            (watched self.old.capacity (entries.End number cause) self.old.journal.entries) watch.new }
+            (watched self.old.capacity (entries.End number cause) self.old.journal.entries)
+            watch.new }
     {
         let Some(live) = self.audience.live.take_away(number) else {
             unreachable!()
@@ -185,16 +198,19 @@ impl State {
     /// While a live peer has a refused last message or is choked, the one with the lowest number ends. Takes no memory.
     pub(crate) fn settle<W: Watch>(&mut self, watch: &mut W)
         requires stands { Stands self.old }
-        requires few { length self.old.journal.entries + length self.old.audience.live.items < 4294967295 }
+        requires few { length self.old.journal.entries + length self.old.audience.live.items <
+            4294967295 }
         ensures stands { Stands self.new }
         ensures capacity { self.new.capacity ≡ self.old.capacity }
-        ensures settled { self.new.journal.entries ≡ settle self.old.capacity self.old.journal.entries }
+        ensures settled { self.new.journal.entries ≡ settle self.old.capacity
+            self.old.journal.entries }
         ensures stamped { (given : List Stamp) →
             stamps self.old.journal.entries given ≡ self.old.stamps.stamps →
             stamps self.new.journal.entries given ≡ self.new.stamps.stamps }
         ensures watched { (k : ℕ) (from : W) → k ≤ length self.old.journal.entries →
-            Reached W.may_follow from (watched_since self.old.capacity k self.old.journal.entries) watch.old →
-            Reached W.may_follow from (watched_since self.old.capacity k self.new.journal.entries) watch.new }
+            Reached W.may_follow from (watched_since self.old.capacity k self.old.journal.entries)
+            watch.old → Reached W.may_follow from
+            (watched_since self.old.capacity k self.new.journal.entries) watch.new }
     {
         while let Some((number, cause)) = self.audience.live.due() {
             self.end(number, cause, NOT_GIVEN, watch);

@@ -1,5 +1,7 @@
 // What peers and the shell do, as one entry each.
-ghost use Rattle.std.specs.Prelude.{◌≡◌, ◌≤◌, ◌<◌, ◌+◌, ◌++◌, ◌∷◌, [], ℕ, List, map, take, drop, min, length, Option, Some, None, IsSome, IfSome, IfOk, OnOk, OnErr};
+ghost use Rattle.std.specs.Prelude.{◌≡◌, ◌≤◌, ◌<◌, ◌+◌, ◌++◌, ◌∷◌, [], ℕ, List, map, take, drop};
+ghost use Rattle.std.specs.Prelude.{min, length, Option, Some, None, IsSome, IfSome, IfOk, OnOk};
+ghost use Rattle.std.specs.Prelude.{OnErr};
 ghost use Rattle.std.specs.List.{slice_get};
 ghost use Rattle.seat_objects.specs.Fits.{FitsMessage};
 ghost use Rattle.relay_core.specs.Kept.{IsReserved};
@@ -43,7 +45,8 @@ impl State {
         ensures ended { self.new.ended ≡ self.old.ended }
         ensures capacity { self.new.capacity ≡ self.old.capacity }
         ensures stamps { self.new.stamps.stamps ≡ self.old.stamps.stamps }
-        ensures room { OnOk result (length self.old.audience.live.items + 2 ≤ self.new.journal.room) }
+        ensures room { OnOk result (length self.old.audience.live.items + 2 ≤
+            self.new.journal.room) }
         ensures stamp_room { OnOk result (length self.old.audience.live.items + 2
             ≤ self.new.stamps.room) }
         ensures place { OnOk result (0 < self.new.audience.directory.room) }
@@ -67,10 +70,12 @@ impl State {
         requires place { CanTake (entries.Join role) self.old.journal.entries }
         ensures stands { Stands self.new }
         ensures capacity { self.new.capacity ≡ self.old.capacity }
-        ensures ok { OnOk result (self.new.journal.entries ≡ entries.Join role ∷ self.old.journal.entries) }
+        ensures ok { OnOk result (self.new.journal.entries ≡ entries.Join role ∷
+            self.old.journal.entries) }
         ensures stamped { OnOk result (self.new.stamps.stamps ≡ stamp_of (entries.Join role) given
             self.old.stamps.stamps ∷ self.old.stamps.stamps) }
-        ensures number { IfOk result (λ number. number ≡ length (past_of self.new.journal.entries).joined) }
+        ensures number { IfOk result (λ number.
+            number ≡ length (past_of self.new.journal.entries).joined) }
         ensures err { OnErr result (self.new.journal.entries ≡ self.old.journal.entries) }
         ensures unstamped { OnErr result (self.new.stamps.stamps ≡ self.old.stamps.stamps) }
         ensures watched { OnOk result (Reached W.may_follow watch.old
@@ -101,7 +106,11 @@ impl State {
     fn meaning(&self, place: usize, id: u32, opcode: u16, body: &[u8]) -> Result<Meaning, NoMemory>
         requires stands { Stands self.now }
         requires place { place < length self.now.audience.live.items }
-        ensures { IfSome (slice_get self.now.audience.live.items place) (λ l. IfOk result (λ m. meant l.label (length self.now.journal.entries + 1) m ≡ means (entries.Message l.number id opcode body.now) (length self.now.journal.entries + 1) (past_of self.now.journal.entries))) }
+        ensures { IfSome (slice_get self.now.audience.live.items place)
+            (λ l. IfOk result (λ m.
+            meant l.label (length self.now.journal.entries + 1) m ≡ means
+            (entries.Message l.number id opcode body.now) (length self.now.journal.entries + 1)
+            (past_of self.now.journal.entries))) }
     {
         let peer = self.audience.live.at(place);
         let tokens = peer.waiting.as_slice();
@@ -127,16 +136,20 @@ impl State {
         requires stands { Stands self.old }
         requires live { IsSome (number_of number self.old.audience.live.items) }
         requires short { length body.now ≤ 4088 }
-        requires place { CanTake (entries.Message number id opcode body.now) self.old.journal.entries }
+        requires place { CanTake (entries.Message number id opcode body.now)
+            self.old.journal.entries }
         ensures stands { Stands self.new }
         ensures capacity { self.new.capacity ≡ self.old.capacity }
-        ensures ok { OnOk result (self.new.journal.entries ≡ entries.Message number id opcode body.now ∷ self.old.journal.entries) }
-        ensures stamped { OnOk result (self.new.stamps.stamps ≡ stamp_of (entries.Message number id opcode body.now) given
-            self.old.stamps.stamps ∷ self.old.stamps.stamps) }
+        ensures ok { OnOk result (self.new.journal.entries ≡ entries.Message number id opcode
+            body.now ∷ self.old.journal.entries) }
+        ensures stamped { OnOk result (self.new.stamps.stamps ≡ stamp_of
+            (entries.Message number id opcode body.now) given self.old.stamps.stamps ∷
+            self.old.stamps.stamps) }
         ensures err { OnErr result (self.new.journal.entries ≡ self.old.journal.entries) }
         ensures unstamped { OnErr result (self.new.stamps.stamps ≡ self.old.stamps.stamps) }
         ensures watched { OnOk result (Reached W.may_follow watch.old
-            (watched self.old.capacity (entries.Message number id opcode body.now) self.old.journal.entries) watch.new) }
+            (watched self.old.capacity (entries.Message number id opcode body.now)
+            self.old.journal.entries) watch.new) }
         ensures unwatched { OnErr result (watch.new ≡ watch.old) }
     {
         let Some(place) = self.audience.live.place_of(number) else {
@@ -184,12 +197,14 @@ impl State {
         ensures capacity { self.new.capacity ≡ self.old.capacity }
         ensures ok { OnOk result (self.new.journal.entries ≡ entries.Tokens number tokens.now
             ∷ self.old.journal.entries) }
-        ensures stamped { OnOk result (self.new.stamps.stamps ≡ stamp_of (entries.Tokens number tokens.now) given
-            self.old.stamps.stamps ∷ self.old.stamps.stamps) }
+        ensures stamped { OnOk result (self.new.stamps.stamps ≡ stamp_of
+            (entries.Tokens number tokens.now) given self.old.stamps.stamps ∷
+            self.old.stamps.stamps) }
         ensures err { OnErr result (self.new.journal.entries ≡ self.old.journal.entries) }
         ensures unstamped { OnErr result (self.new.stamps.stamps ≡ self.old.stamps.stamps) }
         ensures watched { OnOk result (Reached W.may_follow watch.old
-            (watched self.old.capacity (entries.Tokens number tokens.now) self.old.journal.entries) watch.new) }
+            (watched self.old.capacity (entries.Tokens number tokens.now) self.old.journal.entries)
+            watch.new) }
         ensures unwatched { OnErr result (watch.new ≡ watch.old) }
     {
         let Some(place) = self.audience.live.place_of(number) else {
@@ -219,13 +234,15 @@ impl State {
         requires place { CanTake (entries.BadSize number head) self.old.journal.entries }
         ensures stands { Stands self.new }
         ensures capacity { self.new.capacity ≡ self.old.capacity }
-        ensures ok { OnOk result (self.new.journal.entries ≡ entries.BadSize number head ∷ self.old.journal.entries) }
-        ensures stamped { OnOk result (self.new.stamps.stamps ≡ stamp_of (entries.BadSize number head) given
-            self.old.stamps.stamps ∷ self.old.stamps.stamps) }
+        ensures ok { OnOk result (self.new.journal.entries ≡ entries.BadSize number head ∷
+            self.old.journal.entries) }
+        ensures stamped { OnOk result (self.new.stamps.stamps ≡ stamp_of
+            (entries.BadSize number head) given self.old.stamps.stamps ∷ self.old.stamps.stamps) }
         ensures err { OnErr result (self.new.journal.entries ≡ self.old.journal.entries) }
         ensures unstamped { OnErr result (self.new.stamps.stamps ≡ self.old.stamps.stamps) }
         ensures watched { OnOk result (Reached W.may_follow watch.old
-            (watched self.old.capacity (entries.BadSize number head) self.old.journal.entries) watch.new) }
+            (watched self.old.capacity (entries.BadSize number head) self.old.journal.entries)
+            watch.new) }
         ensures unwatched { OnErr result (watch.new ≡ watch.old) }
     {
         let Some(place) = self.audience.live.place_of(number) else {
@@ -247,7 +264,8 @@ impl State {
     // The label of the live surface that the id of the peer names.
     fn surface_of(&self, number: u32, id: u32) -> Option<Label>
         requires stands { Stands self.now }
-        ensures { surface_at (past_of self.now.journal.entries) (peer_at (past_of self.now.journal.entries) number) id ≡ result }
+        ensures { surface_at (past_of self.now.journal.entries)
+            (peer_at (past_of self.now.journal.entries) number) id ≡ result }
     {
         let place = self.audience.live.place_of(number)?;
         let (interface, label) = self.audience.live.at(place).table.find(id)?;
@@ -282,14 +300,18 @@ impl State {
         requires place { CanTake (entries.Shell step.now) self.old.journal.entries }
         ensures stands { Stands self.new }
         ensures capacity { self.new.capacity ≡ self.old.capacity }
-        ensures ok { OnOk result (self.new.journal.entries ≡ entries.Shell step.now ∷ self.old.journal.entries) }
-        ensures stamped { OnOk result (self.new.stamps.stamps ≡ stamp_of (entries.Shell step.now) given
-            self.old.stamps.stamps ∷ self.old.stamps.stamps) }
-        ensures route { IfOk result (λ route. route ≡ relay.route_told (act_at (entries.Shell step.now) self.old.journal.entries) (resolve self.old.journal.entries)) }
+        ensures ok { OnOk result (self.new.journal.entries ≡ entries.Shell step.now ∷
+            self.old.journal.entries) }
+        ensures stamped { OnOk result (self.new.stamps.stamps ≡ stamp_of (entries.Shell step.now)
+            given self.old.stamps.stamps ∷ self.old.stamps.stamps) }
+        ensures route { IfOk result (λ route.
+            route ≡ relay.route_told (act_at (entries.Shell step.now) self.old.journal.entries)
+            (resolve self.old.journal.entries)) }
         ensures err { OnErr result (self.new.journal.entries ≡ self.old.journal.entries) }
         ensures unstamped { OnErr result (self.new.stamps.stamps ≡ self.old.stamps.stamps) }
         ensures watched { OnOk result (Reached W.may_follow watch.old
-            (watched self.old.capacity (entries.Shell step.now) self.old.journal.entries) watch.new) }
+            (watched self.old.capacity (entries.Shell step.now) self.old.journal.entries)
+            watch.new) }
         ensures unwatched { OnErr result (watch.new ≡ watch.old) }
     {
         let act = shell_act(step, self.surface(step));

@@ -1,5 +1,7 @@
 // Who is there, and what is taken of what is stored for each.
-ghost use Rattle.std.specs.Prelude.{◌≡◌, ◌≤◌, ◌<◌, ◌-◌, ℕ, ◌++◌, ◌∷◌, [], List, length, min, take, drop, set, Option, option_map, IsSome, IsSomeAnd, IfSome, IfNone, IfOk, OnErr};
+ghost use Rattle.std.specs.Prelude.{◌≡◌, ◌≤◌, ◌<◌, ◌-◌, ℕ, ◌++◌, ◌∷◌, [], List, length, min, take};
+ghost use Rattle.std.specs.Prelude.{drop, set, Option, option_map, IsSome, IsSomeAnd, IfSome};
+ghost use Rattle.std.specs.Prelude.{IfNone, IfOk, OnErr};
 ghost use Rattle.std.specs.List.{slice_get};
 ghost use Rattle.out_store.specs.Queue.{Queue, queue, bytes_of, tokens_of};
 ghost use Rattle.broker_model.specs.declared.journal.Entry.TheVariants as entries;
@@ -50,7 +52,8 @@ impl State {
     /// How many bytes are stored for the peer, alive or ended; nothing where none joined with the number.
     pub(crate) fn stored(&self, number: u32) -> Option<usize>
         requires stands { Stands self.now }
-        ensures value { result ≡ option_map (λ out. length (stored out)) (out_at self.now.capacity self.now.journal.entries number) }
+        ensures value { result ≡ option_map (λ out. length (stored out))
+            (out_at self.now.capacity self.now.journal.entries number) }
     {
         if number == 0 || number as usize > self.labels.len() {
             return None;
@@ -67,8 +70,8 @@ impl State {
         }
     }
 
-    /// The first bytes that are stored for the peer, alive or ended, go into the buffer, as many as fit, and the tokens whose messages begin in them beside. Answers
-    /// how many of each.
+    /// The first bytes that are stored for the peer, alive or ended, go into the buffer, as many as
+    /// fit, and the tokens whose messages begin in them beside. Answers how many of each.
     pub(crate) fn take<W: Watch>(
         &mut self,
         number: u32,
@@ -84,13 +87,17 @@ impl State {
         requires place { CanTake (entries.Took number 0) self.old.journal.entries }
         ensures stands { Stands self.new }
         ensures capacity { self.new.capacity ≡ self.old.capacity }
-        ensures ok { IfSome (out_at self.old.capacity self.old.journal.entries number) (λ out. IfOk result (λ counts. IsTaken out self.old.journal.entries number buf.old tokens.old counts buf.new tokens.new self.new.journal.entries)) }
+        ensures ok { IfSome (out_at self.old.capacity self.old.journal.entries number)
+            (λ out. IfOk result (λ counts.
+            IsTaken out self.old.journal.entries number buf.old tokens.old counts buf.new tokens.new
+            self.new.journal.entries)) }
         ensures stamped { IfOk result (λ counts. self.new.stamps.stamps ≡ stamp_of
             (entries.Took number counts.0) given self.old.stamps.stamps ∷ self.old.stamps.stamps) }
         ensures err { OnErr result (self.new.journal.entries ≡ self.old.journal.entries) }
         ensures unstamped { OnErr result (self.new.stamps.stamps ≡ self.old.stamps.stamps) }
-        ensures watched { IfOk result (λ counts. Reached W.may_follow watch.old
-            (watched self.old.capacity (entries.Took number counts.0) self.old.journal.entries) watch.new) }
+        ensures watched { IfOk result (λ counts.
+            Reached W.may_follow watch.old (watched self.old.capacity (entries.Took number counts.0)
+            self.old.journal.entries) watch.new) }
         ensures unwatched { OnErr result (watch.new ≡ watch.old) }
         ensures err_bytes { OnErr result (buf.new ≡ buf.old) }
         ensures err_tokens { OnErr result (tokens.new ≡ tokens.old) }
@@ -117,16 +124,31 @@ impl State {
         requires piece { length buf.old ≤ 4096 }
         requires places { 256 ≤ length tokens.old }
         requires number { 0 < number }
-        requires live { IfSome (number_of number self.old.audience.live.items) (λ l. l.store ≡ store) }
-        requires left { IfNone (number_of number self.old.audience.live.items) (IsSomeAnd (slice_get self.old.ended.items (number - 1)) (λ e. IsSomeAnd e (λ was. store_of store.capacity was.store ≡ store))) }
+        requires live { IfSome (number_of number self.old.audience.live.items)
+            (λ l. l.store ≡ store) }
+        requires left { IfNone (number_of number self.old.audience.live.items)
+            (IsSomeAnd (slice_get self.old.ended.items (number - 1))
+            (λ e. IsSomeAnd e (λ was. store_of store.capacity was.store ≡ store))) }
         ensures count { result.0 ≡ min (length buf.old) (length store.cells) }
         ensures bytes { buf.new ≡ bytes_of (take result.0 store.cells) ++ drop result.0 buf.old }
         ensures token_count { result.1 ≡ length (tokens_of (take result.0 store.cells)) }
-        ensures tokens { tokens.new ≡ tokens_of (take result.0 store.cells) ++ drop result.1 tokens.old }
-        ensures live { IfSome (number_of number self.old.audience.live.items) (λ l. (place : ℕ) × (slice_get self.old.audience.live.items place ≡ Some l) × (self.new.audience.live.items ≡ set self.old.audience.live.items place (record l { store = queue (drop result.0 store.cells) store.capacity }))) }
-        ensures ended { IfSome (number_of number self.old.audience.live.items) (λ l. self.new.ended.items ≡ self.old.ended.items) }
-        ensures left { IfNone (number_of number self.old.audience.live.items) (IfSome (slice_get self.old.ended.items (number - 1)) (λ e. IfSome e (λ was. (rest : Option Queue) × (store_of store.capacity rest ≡ queue (drop result.0 store.cells) store.capacity) × IfSome rest (λ stays. ¬ (stays.cells ≡ [])) × (self.new.ended.items ≡ set self.old.ended.items (number - 1) (Some (record { cause = was.cause; store = rest })))))) }
-        ensures others { IfNone (number_of number self.old.audience.live.items) (self.new.audience.live.items ≡ self.old.audience.live.items) }
+        ensures tokens { tokens.new ≡ tokens_of (take result.0 store.cells) ++ drop result.1
+            tokens.old }
+        ensures live { IfSome (number_of number self.old.audience.live.items)
+            (λ l. (place : ℕ) × (slice_get self.old.audience.live.items place ≡ Some l) ×
+            (self.new.audience.live.items ≡ set self.old.audience.live.items place
+            (record l { store = queue (drop result.0 store.cells) store.capacity }))) }
+        ensures ended { IfSome (number_of number self.old.audience.live.items)
+            (λ l. self.new.ended.items ≡ self.old.ended.items) }
+        ensures left { IfNone (number_of number self.old.audience.live.items)
+            (IfSome (slice_get self.old.ended.items (number - 1))
+            (λ e. IfSome e (λ was. (rest : Option Queue) ×
+            (store_of store.capacity rest ≡ queue (drop result.0 store.cells) store.capacity) ×
+            IfSome rest (λ stays. ¬ (stays.cells ≡ [])) ×
+            (self.new.ended.items ≡ set self.old.ended.items (number - 1)
+            (Some (record { cause = was.cause; store = rest })))))) }
+        ensures others { IfNone (number_of number self.old.audience.live.items)
+            (self.new.audience.live.items ≡ self.old.audience.live.items) }
         ensures directory { self.new.audience.directory ≡ self.old.audience.directory }
         ensures relay { self.new.relay ≡ self.old.relay }
         ensures journal { self.new.journal ≡ self.old.journal }
@@ -153,8 +175,10 @@ fn take_rest(rest: &mut Option<Store>, buf: &mut [u8], tokens: &mut [u32]) -> (u
     ensures count { result.0 ≡ min (length buf.old) (length store.cells) }
     ensures bytes { buf.new ≡ bytes_of (take result.0 store.cells) ++ drop result.0 buf.old }
     ensures token_count { result.1 ≡ length (tokens_of (take result.0 store.cells)) }
-    ensures tokens { tokens.new ≡ tokens_of (take result.0 store.cells) ++ drop result.1 tokens.old }
-    ensures rest { store_of store.capacity rest.new ≡ queue (drop result.0 store.cells) store.capacity }
+    ensures tokens { tokens.new ≡ tokens_of (take result.0 store.cells) ++ drop result.1
+        tokens.old }
+    ensures rest { store_of store.capacity rest.new ≡ queue (drop result.0 store.cells)
+        store.capacity }
     ensures given_back { IfSome rest.new (λ stays. ¬ (stays.cells ≡ [])) }
 {
     match rest {

@@ -66,8 +66,8 @@ fn number_with(live: &Listeners, label: Label) -> u32
 
 // Tells what the shell is told.
 fn show<W: Watch>(number: u32, audience: &Audience, said: &Said, watch: &mut W)
-    ensures { Reached W.may_follow watch.old
-        (shown number audience.now.directory.made (map who audience.now.live.items) said.now) watch.new }
+    ensures { Reached W.may_follow watch.old (shown number audience.now.directory.made
+        (map who audience.now.live.items) said.now) watch.new }
 {
     match said {
         Said::Placed { popup, x, y } => {
@@ -113,14 +113,15 @@ pub(crate) fn speak<W: Watch>(
 ) -> Option<Route>
     requires reserved { IsReserved relay.old act.now }
     requires number { relay.old.state.acts < 4294967295 }
-    ensures stands { (log : List Act) → StandsFor relay.old log → StandsFor relay.new (act.now ∷ log) }
+    ensures stands { (log : List Act) → StandsFor relay.old log →
+        StandsFor relay.new (act.now ∷ log) }
     ensures route { (log : List Act) → StandsFor relay.old log → result ≡ route_told act.now log }
     ensures told { (log : List Act) → StandsFor relay.old log →
         Reached (λ a t b. IsShort t → Tells a t b) audience.old (told act.now log) audience.new }
     ensures watched { (log : List Act) → StandsFor relay.old log →
-        AllByRecursion IsShort (told act.now log) → Reached W.may_follow watch.old
-        (shown_by number audience.old.directory.made (map who audience.old.live.items) (told act.now log))
-        watch.new }
+        AllByRecursion IsShort (told act.now log) →
+        Reached W.may_follow watch.old (shown_by number audience.old.directory.made
+        (map who audience.old.live.items) (told act.now log)) watch.new }
 {
     let mut telling = Telling {
         number,
@@ -151,7 +152,8 @@ fn show_group<W: Watch>(number: u32, peer: &Live, watch: &mut W)
 
 /// Tells what is gathered for the live peers, as far as it will be put.
 pub(crate) fn show_groups<W: Watch>(number: u32, live: &Listeners, watch: &mut W)
-    ensures { Reached W.may_follow watch.old (flat_map (gathered_put number) live.now.items) watch.new }
+    ensures { Reached W.may_follow watch.old (flat_map (gathered_put number) live.now.items)
+        watch.new }
 {
     for place in live.told() {
         show_group(number, live.at(*place), watch);

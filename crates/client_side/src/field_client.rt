@@ -118,7 +118,9 @@ impl FieldClient {
 
     /// All bytes of `to_send` were sent.
     pub fn sent(&mut self)
-        ensures now { self.new ≡ record self.old { state = record self.old.state { to_send = [] } } }
+        ensures now { self.new ≡ record self.old {
+          state = record self.old.state { to_send = [] };
+        } }
         ensures log { (log : List Happening) (sent : List ℕ) → HasLog log sent self.old.state →
             HasLog log (sent ++ self.old.state.to_send) self.new.state }
     {

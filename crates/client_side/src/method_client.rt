@@ -110,7 +110,9 @@ impl MethodClient {
 
     /// All bytes of `to_send` were sent.
     pub fn sent(&mut self)
-        ensures now { self.new ≡ record self.old { state = record self.old.state { to_send = [] } } }
+        ensures now { self.new ≡ record self.old {
+          state = record self.old.state { to_send = [] };
+        } }
         ensures log { (table : Table) (log : List Happening) (sent : List ℕ) →
             HasLog table log sent self.old.state →
             HasLog table log (sent ++ self.old.state.to_send) self.new.state }

@@ -102,7 +102,8 @@ impl MethodState {
     // Commits these edits.
     pub(crate) fn batch(&mut self, batch: &BatchView<'_>)
         requires batch { IsBatch batch.now }
-        requires room { 68 + length batch.now.string.now + length batch.now.preedit.now ≤ self.old.room }
+        requires room { 68 + length batch.now.string.now + length batch.now.preedit.now ≤
+            self.old.room }
         ensures state { self.new.state ≡ happens (committed (batch_of batch.now)) self.old.state }
     {
         put_batch(&mut self.out, batch, self.dones);

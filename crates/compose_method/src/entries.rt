@@ -1,5 +1,7 @@
-// Entries in the order of their keys, none of which begin another's: a search by halves finds what keys begin with, and what begins with keys.
-ghost use Rattle.std.specs.Prelude.{◌≡◌, ℕ, ◌<◌, ◌≤◌, length, true, false, nat_eq, insert, option_copied, slice_index_or, OnOk, OnErr};
+// Entries in the order of their keys, none of which begin another's: a search by halves finds what
+// keys begin with, and what begins with keys.
+ghost use Rattle.std.specs.Prelude.{◌≡◌, ℕ, ◌<◌, ◌≤◌, length, true, false, nat_eq, insert};
+ghost use Rattle.std.specs.Prelude.{option_copied, slice_index_or, OnOk, OnErr};
 ghost use Rattle.std.specs.List.{prefix_len};
 ghost use Rattle.compose_method.specs.Order.{up_to};
 ghost use Rattle.compose_method.specs.Table.{begun_by, going_on, AreInOrder, AreApart};
@@ -19,8 +21,10 @@ pub struct Entry {
 pub(crate) fn place_of(entries: &[Entry], keys: &[u32]) -> usize
     requires { AreInOrder entries.now }
     ensures bound { result ≤ length entries.now }
-    ensures before { (k : ℕ) (d : Entry) → k < result → up_to (slice_index_or entries.now k d).keys keys.now ≡ true }
-    ensures behind { (k : ℕ) (d : Entry) → result ≤ k → k < length entries.now → up_to (slice_index_or entries.now k d).keys keys.now ≡ false }
+    ensures before { (k : ℕ) (d : Entry) → k < result →
+        up_to (slice_index_or entries.now k d).keys keys.now ≡ true }
+    ensures behind { (k : ℕ) (d : Entry) → result ≤ k → k < length entries.now →
+        up_to (slice_index_or entries.now k d).keys keys.now ≡ false }
 {
     entries.partition_point(|entry| entry.keys.are_up_to(keys))
 }
@@ -55,7 +59,8 @@ pub(crate) fn goes_on(entries: &[Entry], keys: &[u32]) -> bool
 // Puts the entry at the place of its keys.
 pub(crate) fn put_entry(entries: &mut Vec<Entry>, entry: Entry) -> Result<(), NoMemory>
     requires { AreInOrder entries.old.items }
-    ensures ok { OnOk result (entries.new.items ≡ insert entries.old.items (prefix_len (λ x. up_to x.keys entry.keys) entries.old.items) entry) }
+    ensures ok { OnOk result (entries.new.items ≡ insert entries.old.items
+        (prefix_len (λ x. up_to x.keys entry.keys) entries.old.items) entry) }
     ensures err { OnErr result (entries.new.items ≡ entries.old.items) }
 {
     let place = place_of(entries, entry.keys.as_slice());

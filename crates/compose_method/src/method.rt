@@ -1,5 +1,6 @@
 // The method: what waits of the keys pressed, and one batch for each press.
-ghost use Rattle.std.specs.Prelude.{◌≡◌, ◌≤◌, ◌++◌, ◌∷◌, [], ℕ, List, ◌↔◌, true, false, length, IfOk, IfSome, IsNone, IsTrue};
+ghost use Rattle.std.specs.Prelude.{◌≡◌, ◌≤◌, ◌++◌, ◌∷◌, [], ℕ, List, ◌↔◌, true, false, length};
+ghost use Rattle.std.specs.Prelude.{IfOk, IfSome, IsNone, IsTrue};
 ghost use Rattle.std.specs.Borrow.{sem};
 ghost use Rattle.std.specs.Io.BufRead.{Rests};
 ghost use Rattle.wl_wire.specs.Texts.{has_no_zero};
@@ -14,7 +15,8 @@ use wl_proto::Event;
 
 /// An input method that composes: it answers each press with the string and the preedit of one batch.
 ///
-/// It takes its memory when it is made, and none afterwards. It isn't active until it is told `zwp_input_method_v2.activate`.
+/// It takes its memory when it is made, and none afterwards. It isn't active until it is told
+/// `zwp_input_method_v2.activate`.
 #[derive(Debug, Drop)]
 pub struct Method {
     table: ComposeTable,
@@ -55,18 +57,24 @@ impl Method {
         })
     }
 
-    /// The string and the preedit of the batch that this press of a key makes, each at most [`MAX_TYPED`] bytes with no zero byte. `None` exactly where the
-    /// method isn't active, and then the press is ignored.
+    /// The string and the preedit of the batch that this press of a key makes, each at most
+    /// [`MAX_TYPED`] bytes with no zero byte. `None` exactly where the method isn't active, and
+    /// then the press is ignored.
     ///
-    /// The strings of the batches since the last activation, one after the other, are what the presses since then type; the preedit is the own
-    /// texts of the keys that wait.
+    /// The strings of the batches since the last activation, one after the other, are what the
+    /// presses since then type; the preedit is the own texts of the keys that wait.
     pub fn press(&mut self, key: u32) -> Option<(&str, &str)>
-        ensures* after { sem 𝓛 (Rests the_row self.entry (λ new. (new ≡ pressed key self.old) × ((presses : List ℕ) → IsAfter self.old presses → IsAfter new (presses ++ key ∷ [])))) }
+        ensures* after { sem 𝓛 (Rests the_row self.entry (λ new. (new ≡ pressed key self.old) ×
+            ((presses : List ℕ) → IsAfter self.old presses → IsAfter new (presses ++ key ∷ [])))) }
         ensures none { IsNone result ↔ (self.old.active ≡ false) }
-        ensures batch { IfSome result (λ b. (b.0.now ≡ (pressed key self.old).string) × (b.1.now ≡ (pressed key self.old).preedit)) }
-        ensures typed { (presses : List ℕ) → IsAfter self.old presses → IfSome result (λ b. Continues self.old.table presses key b.0.now b.1.now) }
-        ensures fits { IfSome result (λ b. (length b.0.now ≤ MAX_TYPED) × (length b.1.now ≤ MAX_TYPED)) }
-        ensures clean { IfSome result (λ b. IsTrue (has_no_zero b.0.now) × IsTrue (has_no_zero b.1.now)) }
+        ensures batch { IfSome result (λ b. (b.0.now ≡ (pressed key self.old).string) ×
+            (b.1.now ≡ (pressed key self.old).preedit)) }
+        ensures typed { (presses : List ℕ) → IsAfter self.old presses →
+            IfSome result (λ b. Continues self.old.table presses key b.0.now b.1.now) }
+        ensures fits { IfSome result (λ b. (length b.0.now ≤ MAX_TYPED) ×
+            (length b.1.now ≤ MAX_TYPED)) }
+        ensures clean { IfSome result (λ b. IsTrue (has_no_zero b.0.now) ×
+            IsTrue (has_no_zero b.1.now)) }
     {
         if !self.take(key) {
             return None;
@@ -78,8 +86,10 @@ impl Method {
     fn take(&mut self, key: u32) -> bool
         ensures active { result ≡ self.old.active }
         ensures press { self.new ≡ pressed key self.old }
-        ensures after { (presses : List ℕ) → IsAfter self.old presses → IsAfter self.new (presses ++ key ∷ []) }
-        ensures typed { (presses : List ℕ) → IsAfter self.old presses → Continues self.old.table presses key self.new.string self.new.preedit }
+        ensures after { (presses : List ℕ) → IsAfter self.old presses →
+            IsAfter self.new (presses ++ key ∷ []) }
+        ensures typed { (presses : List ℕ) → IsAfter self.old presses →
+            Continues self.old.table presses key self.new.string self.new.preedit }
     {
         if !self.active {
             return false;
@@ -99,7 +109,8 @@ impl Method {
         (self.string.as_str(), self.preedit.as_str())
     }
 
-    /// Takes an event: `activate` and `deactivate` of `zwp_input_method_v2` empty what waits, and no other event changes anything.
+    /// Takes an event: `activate` and `deactivate` of `zwp_input_method_v2` empty what waits, and
+    /// no other event changes anything.
     pub fn event(&mut self, event: &Event<'_>)
         ensures { self.new ≡ after_event event.now self.old }
     {

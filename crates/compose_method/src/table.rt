@@ -1,6 +1,9 @@
 // The table that its user makes, single by single and entry by entry.
-ghost use Rattle.std.specs.Prelude.{◌≡◌, ◌<◌, ◌≤◌, ◌↔◌, true, false, length, IfOk, IfSome, OnOk, OnErr, Err, option_copied};
-ghost use Rattle.compose_method.specs.Table.{Table, IsTable, IsKeyText, AreKeys, has_single, begun_by, going_on, own_text, clashes, single, entry, with_single, with_entry, empty_table};
+ghost use Rattle.std.specs.Prelude.{◌≡◌, ◌<◌, ◌≤◌, ◌↔◌, true, false, length, IfOk, IfSome, OnOk};
+ghost use Rattle.std.specs.Prelude.{OnErr, Err, option_copied};
+ghost use Rattle.compose_method.specs.Table.{Table, IsTable, IsKeyText, AreKeys, has_single};
+ghost use Rattle.compose_method.specs.Table.{begun_by, going_on, own_text, clashes, single, entry};
+ghost use Rattle.compose_method.specs.Table.{with_single, with_entry, empty_table};
 
 use crate::entries::{Entry, entry_of, goes_on, put_entry};
 use crate::keys::Keys;
@@ -81,7 +84,8 @@ impl ComposeTable {
         requires { IsKeyText text.now }
         ensures ok { OnOk result (self.new ≡ with_single (single key text.now) self.old) }
         ensures clash { (result ≡ Err TableRefusal.Clash) ↔ (has_single self.old key ≡ true) }
-        ensures too_many { (result ≡ Err TableRefusal.TooMany) ↔ ((has_single self.old key ≡ false) × (length self.old.singles ≡ MAX_SINGLES)) }
+        ensures too_many { (result ≡ Err TableRefusal.TooMany) ↔
+            ((has_single self.old key ≡ false) × (length self.old.singles ≡ MAX_SINGLES)) }
         ensures err { OnErr result (self.new ≡ self.old) }
     {
         if find_single(&self.singles, key).is_some() {
@@ -95,13 +99,15 @@ impl ComposeTable {
         Ok(())
     }
 
-    /// Gives 2 to [`MAX_KEYS`] keys, pressed one after the other, a text of 1 to [`MAX_KEY_TEXT`] bytes with no zero byte.
+    /// Gives 2 to [`MAX_KEYS`] keys, pressed one after the other, a text of 1 to [`MAX_KEY_TEXT`]
+    /// bytes with no zero byte.
     pub fn entry(&mut self, text: &str, keys: &[u32]) -> Result<(), TableRefusal>
         requires text { IsKeyText text.now }
         requires keys { AreKeys keys.now }
         ensures ok { OnOk result (self.new ≡ with_entry (entry text.now keys.now) self.old) }
         ensures clash { (result ≡ Err TableRefusal.Clash) ↔ (clashes self.old keys.now ≡ true) }
-        ensures too_many { (result ≡ Err TableRefusal.TooMany) ↔ ((clashes self.old keys.now ≡ false) × (length self.old.entries ≡ MAX_ENTRIES)) }
+        ensures too_many { (result ≡ Err TableRefusal.TooMany) ↔
+            ((clashes self.old keys.now ≡ false) × (length self.old.entries ≡ MAX_ENTRIES)) }
         ensures err { OnErr result (self.new ≡ self.old) }
     {
         if entry_of(&self.entries, keys).is_some() || goes_on(&self.entries, keys) {
@@ -121,7 +127,8 @@ impl ComposeTable {
     // The entry with which the keys begin.
     pub(crate) fn entry_of(&self, keys: &[u32]) -> Option<&Entry>
         ensures value { option_copied result ≡ begun_by self.now.entries keys.now }
-        ensures fits { IfSome result (λ e. (2 ≤ length e.now.keys) × (length e.now.text ≤ MAX_KEY_TEXT)) }
+        ensures fits { IfSome result (λ e. (2 ≤ length e.now.keys) ×
+            (length e.now.text ≤ MAX_KEY_TEXT)) }
         ensures table { IsTable self.now }
     {
         entry_of(&self.entries, keys)

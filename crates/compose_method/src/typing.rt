@@ -1,5 +1,7 @@
 // Keys into text: entries first, from the left.
-ghost use Rattle.std.specs.Prelude.{◌≡◌, ◌+◌, ◌*◌, ◌<◌, ◌≤◌, ◌++◌, [], length, drop, flat_map, string_bytes, string_len, string_capacity, vec_len, vec_capacity};
+ghost use Rattle.std.specs.Prelude.{◌≡◌, ◌+◌, ◌*◌, ◌<◌, ◌≤◌, ◌++◌, [], length, drop, flat_map};
+ghost use Rattle.std.specs.Prelude.{string_bytes, string_len, string_capacity, vec_len};
+ghost use Rattle.std.specs.Prelude.{vec_capacity};
 ghost use Rattle.compose_method.specs.Table.{IsTable, own_texts};
 ghost use Rattle.compose_method.specs.Segments.{segments, typed, rest_of};
 
@@ -23,9 +25,11 @@ fn type_first(table: &ComposeTable, keys: &[u32], text: &mut String) -> usize
     requires some { 0 < length keys.now }
     requires room { string_len text.old + MAX_KEY_TEXT ≤ string_capacity text.old }
     ensures within { result ≤ length keys.now }
-    ensures text { string_bytes text.old ++ typed table.now keys.now ≡ string_bytes text.new ++ typed table.now (drop result keys.now) }
+    ensures text { string_bytes text.old ++ typed table.now keys.now ≡ string_bytes text.new ++
+        typed table.now (drop result keys.now) }
     ensures rest { rest_of table.now keys.now ≡ rest_of table.now (drop result keys.now) }
-    ensures waiting { result ≡ 0 → (typed table.now keys.now ≡ []) × (rest_of table.now keys.now ≡ keys.now) × (length keys.now < 8) }
+    ensures waiting { result ≡ 0 → (typed table.now keys.now ≡ []) ×
+        (rest_of table.now keys.now ≡ keys.now) × (length keys.now < 8) }
     ensures len { string_len text.new ≤ string_len text.old + MAX_KEY_TEXT * result }
     ensures capacity { string_capacity text.old ≤ string_capacity text.new }
     ensures table { IsTable table.now }

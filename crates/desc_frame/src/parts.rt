@@ -1,5 +1,6 @@
 // The parts of a frame, each read whole.
-ghost use Rattle.std.specs.Prelude.{◌≡◌, ℕ, ◌+◌, ◌*◌, ◌^◌, ◌<◌, ◌≤◌, ◌++◌, List, [], length, take, IfOk, IfErr, OnOk, OnErr, IsTrue, ◌↔◌};
+ghost use Rattle.std.specs.Prelude.{◌≡◌, ℕ, ◌+◌, ◌*◌, ◌^◌, ◌<◌, ◌≤◌, ◌++◌, List, [], length, take};
+ghost use Rattle.std.specs.Prelude.{IfOk, IfErr, OnOk, OnErr, IsTrue, ◌↔◌};
 ghost use Rattle.wio_core.specs.Io.{Rose, StaysQuiet};
 ghost use Rattle.desc_frame.specs.Frames.{WithinLimits, header, spelled_tokens};
 ghost use Rattle.desc_frame.specs.Answers.{Gave, Stops, IsFrameOf};
@@ -13,13 +14,17 @@ use wio_core::{Failed, Source};
 fn read_some<S: Source>(source: &mut S, part: &mut [u8], before: usize) -> Result<usize, Got>
     requires { 0 < length part.old }
     ensures within { IfOk result (λ n. (0 < n) × (n ≤ length part.new)) }
-    ensures moved { IfOk result (λ n. Gave (S.given source.old) (S.given source.new) (S.left source.old) (S.left source.new) (take n part.new)) }
-    ensures stays { OnErr result (Gave (S.given source.old) (S.given source.new) (S.left source.old) (S.left source.new) []) }
+    ensures moved { IfOk result (λ n.
+        Gave (S.given source.old) (S.given source.new) (S.left source.old) (S.left source.new)
+        (take n part.new)) }
+    ensures stays { OnErr result (Gave (S.given source.old) (S.given source.new) (S.left source.old)
+        (S.left source.new) []) }
     ensures ended { IfErr result (λ got. EndsWithin got before [] (S.left source.new)) }
     ensures given_quiet { StaysQuiet (S.given source.old) (S.given source.new) }
     ensures left_quiet { StaysQuiet (S.left source.old) (S.left source.new) }
     ensures never_falls { S.fault_count source.old ≤ S.fault_count source.new }
-    ensures cause { result ≡ Err Got.ReadFault → Rose (S.fault_count source.old) (S.fault_count source.new) }
+    ensures cause { result ≡ Err Got.ReadFault →
+        Rose (S.fault_count source.old) (S.fault_count source.new) }
 {
     match source.read(part) {
         Ok(0) if before == 0 => Err(Got::End),
@@ -32,14 +37,17 @@ fn read_some<S: Source>(source: &mut S, part: &mut [u8], before: usize) -> Resul
 /// Fills a part that begins `before` bytes into its frame.
 fn fill<S: Source>(source: &mut S, part: &mut [u8], before: usize) -> Result<(), Got>
     requires { before + length part.old < 2 ^ 64 }
-    ensures whole { OnOk result (Gave (S.given source.old) (S.given source.new) (S.left source.old) (S.left source.new) part.new) }
+    ensures whole { OnOk result (Gave (S.given source.old) (S.given source.new) (S.left source.old)
+        (S.left source.new) part.new) }
     ensures bytes { AreBytes part.new }
-    ensures ended { IfErr result (λ got. (taken : List ℕ) × (length taken < length part.old)
-        × Gave (S.given source.old) (S.given source.new) (S.left source.old) (S.left source.new) taken × EndsWithin got before taken (S.left source.new)) }
+    ensures ended { IfErr result (λ got. (taken : List ℕ) × (length taken < length part.old) ×
+        Gave (S.given source.old) (S.given source.new) (S.left source.old) (S.left source.new)
+        taken × EndsWithin got before taken (S.left source.new)) }
     ensures given_quiet { StaysQuiet (S.given source.old) (S.given source.new) }
     ensures left_quiet { StaysQuiet (S.left source.old) (S.left source.new) }
     ensures never_falls { S.fault_count source.old ≤ S.fault_count source.new }
-    ensures cause { result ≡ Err Got.ReadFault → Rose (S.fault_count source.old) (S.fault_count source.new) }
+    ensures cause { result ≡ Err Got.ReadFault →
+        Rose (S.fault_count source.old) (S.fault_count source.new) }
 {
     let mut at = 0;
     while at < part.len() {
@@ -58,13 +66,17 @@ fn is_within_limits(n: u16, t: u16) -> bool
 /// Reads a header, and says how many bytes and tokens it announces.
 fn read_header<S: Source>(source: &mut S) -> Result<(usize, usize), Got>
     ensures sizes { IfOk result (λ sizes. WithinLimits sizes.0 sizes.1) }
-    ensures whole { IfOk result (λ sizes. Gave (S.given source.old) (S.given source.new) (S.left source.old) (S.left source.new) (header sizes.0 sizes.1)) }
-    ensures ended { IfErr result (λ got. (taken : List ℕ)
-        × Gave (S.given source.old) (S.given source.new) (S.left source.old) (S.left source.new) taken × Stops got taken (S.left source.new)) }
+    ensures whole { IfOk result (λ sizes.
+        Gave (S.given source.old) (S.given source.new) (S.left source.old) (S.left source.new)
+        (header sizes.0 sizes.1)) }
+    ensures ended { IfErr result (λ got. (taken : List ℕ) ×
+        Gave (S.given source.old) (S.given source.new) (S.left source.old) (S.left source.new)
+        taken × Stops got taken (S.left source.new)) }
     ensures given_quiet { StaysQuiet (S.given source.old) (S.given source.new) }
     ensures left_quiet { StaysQuiet (S.left source.old) (S.left source.new) }
     ensures never_falls { S.fault_count source.old ≤ S.fault_count source.new }
-    ensures cause { result ≡ Err Got.ReadFault → Rose (S.fault_count source.old) (S.fault_count source.new) }
+    ensures cause { result ≡ Err Got.ReadFault →
+        Rose (S.fault_count source.old) (S.fault_count source.new) }
 {
     let mut bytes = [0; 4];
     fill(source, &mut bytes, 0)?;
@@ -80,14 +92,17 @@ fn read_header<S: Source>(source: &mut S) -> Result<(usize, usize), Got>
 /// Reads the tokens that follow a header.
 fn read_tokens<S: Source>(source: &mut S, tokens: &mut [u32]) -> Result<(), Got>
     requires { length tokens.old ≤ 256 }
-    ensures whole { OnOk result (Gave (S.given source.old) (S.given source.new) (S.left source.old) (S.left source.new) (spelled_tokens tokens.new)) }
+    ensures whole { OnOk result (Gave (S.given source.old) (S.given source.new) (S.left source.old)
+        (S.left source.new) (spelled_tokens tokens.new)) }
     ensures tokens { AreTokens tokens.new }
-    ensures ended { IfErr result (λ got. (taken : List ℕ) × (length taken < 4 * length tokens.old)
-        × Gave (S.given source.old) (S.given source.new) (S.left source.old) (S.left source.new) taken × EndsWithin got 4 taken (S.left source.new)) }
+    ensures ended { IfErr result (λ got. (taken : List ℕ) × (length taken < 4 * length tokens.old) ×
+        Gave (S.given source.old) (S.given source.new) (S.left source.old) (S.left source.new)
+        taken × EndsWithin got 4 taken (S.left source.new)) }
     ensures given_quiet { StaysQuiet (S.given source.old) (S.given source.new) }
     ensures left_quiet { StaysQuiet (S.left source.old) (S.left source.new) }
     ensures never_falls { S.fault_count source.old ≤ S.fault_count source.new }
-    ensures cause { result ≡ Err Got.ReadFault → Rose (S.fault_count source.old) (S.fault_count source.new) }
+    ensures cause { result ≡ Err Got.ReadFault →
+        Rose (S.fault_count source.old) (S.fault_count source.new) }
 {
     let mut bytes = [0; 4 * MAX_TOKENS];
     let part = &mut bytes[..4 * tokens.len()];
@@ -102,14 +117,17 @@ pub fn read_frame<S: Source>(
     bytes: &mut [u8; 4096],
     tokens: &mut [u32; 256],
 ) -> Result<(usize, usize), Got>
-    ensures whole { IfOk result (λ sizes. (taken : List ℕ)
-        × Gave (S.given source.old) (S.given source.new) (S.left source.old) (S.left source.new) taken × IsFrameOf sizes.0 sizes.1 bytes.new tokens.new taken) }
-    ensures ended { IfErr result (λ got. (taken : List ℕ)
-        × Gave (S.given source.old) (S.given source.new) (S.left source.old) (S.left source.new) taken × Stops got taken (S.left source.new)) }
+    ensures whole { IfOk result (λ sizes. (taken : List ℕ) ×
+        Gave (S.given source.old) (S.given source.new) (S.left source.old) (S.left source.new)
+        taken × IsFrameOf sizes.0 sizes.1 bytes.new tokens.new taken) }
+    ensures ended { IfErr result (λ got. (taken : List ℕ) ×
+        Gave (S.given source.old) (S.given source.new) (S.left source.old) (S.left source.new)
+        taken × Stops got taken (S.left source.new)) }
     ensures given_quiet { StaysQuiet (S.given source.old) (S.given source.new) }
     ensures left_quiet { StaysQuiet (S.left source.old) (S.left source.new) }
     ensures never_falls { S.fault_count source.old ≤ S.fault_count source.new }
-    ensures cause { result ≡ Err Got.ReadFault → Rose (S.fault_count source.old) (S.fault_count source.new) }
+    ensures cause { result ≡ Err Got.ReadFault →
+        Rose (S.fault_count source.old) (S.fault_count source.new) }
 {
     let (n, t) = read_header(source)?;
     read_tokens(source, &mut tokens[..t])?;

@@ -31,9 +31,10 @@ impl FrameReader {
         FrameReader { last: None }
     }
 
-    /// Reads the next frame into the front of the buffers, and no byte behind it. After `End`, `Torn` or `BadFrame` it answers the
-    /// same again and reads nothing; after `ReadFault` it may not be called. The buffers behind what `Bytes` counts, and after
-    /// another answer all of them, hold anything. (no memory)
+    /// Reads the next frame into the front of the buffers, and no byte behind it. After `End`,
+    /// `Torn` or `BadFrame` it answers the same again and reads nothing; after `ReadFault` it may
+    /// not be called. The buffers behind what `Bytes` counts, and after another answer all of them,
+    /// hold anything. (no memory)
     pub fn next<S: Source>(
         &mut self,
         source: &mut S,
@@ -41,9 +42,11 @@ impl FrameReader {
         tokens: &mut [u32; 256],
     ) -> Got
         requires { self.old ≢ Some Got.ReadFault }
-        ensures took { self.old ≡ None → (taken : List ℕ)
-            × Gave (S.given source.old) (S.given source.new) (S.left source.old) (S.left source.new) taken × Tells result taken (S.left source.new) bytes.new tokens.new }
-        ensures told { self.old ≡ None → IfSome (S.left source.old) (λ all. (result ≡ Got.ReadFault) ⊎ Begins result all) }
+        ensures took { self.old ≡ None → (taken : List ℕ) ×
+            Gave (S.given source.old) (S.given source.new) (S.left source.old) (S.left source.new)
+            taken × Tells result taken (S.left source.new) bytes.new tokens.new }
+        ensures told { self.old ≡ None → IfSome (S.left source.old)
+            (λ all. (result ≡ Got.ReadFault) ⊎ Begins result all) }
         ensures settles { self.old ≡ None → self.new ≡ settled result }
 
         ensures again { IfSome self.old (λ got. result ≡ got) }
@@ -53,7 +56,8 @@ impl FrameReader {
         ensures given_quiet { StaysQuiet (S.given source.old) (S.given source.new) }
         ensures left_quiet { StaysQuiet (S.left source.old) (S.left source.new) }
         ensures never_falls { S.fault_count source.old ≤ S.fault_count source.new }
-        ensures cause { result ≡ Got.ReadFault → Rose (S.fault_count source.old) (S.fault_count source.new) }
+        ensures cause { result ≡ Got.ReadFault →
+            Rose (S.fault_count source.old) (S.fault_count source.new) }
     {
         if let Some(got) = self.last {
             return got;
@@ -67,7 +71,8 @@ impl FrameReader {
     }
 }
 
-/// What stands at the front of bytes is one answer alone, and a frame's spelling is no other frame's, whatever follows it.
+/// What stands at the front of bytes is one answer alone, and a frame's spelling is no other
+/// frame's, whatever follows it.
 pub fn bytes_have_one_answer()
     ensures answer { HasOneAnswer }
     ensures frame { HasOneFrame }

@@ -22,9 +22,12 @@ impl FrameWriter {
     /// Writes a frame of these bytes and tokens. After `Failed` the sink has gained a proper prefix of it. (no memory)
     pub fn put<K: Sink>(sink: &mut K, bytes: &[u8], tokens: &[u32]) -> Result<(), Failed>
         requires { WithinLimits (length bytes.now) (length tokens.now) }
-        ensures whole { OnOk result (Appends (K.held sink.old) (K.held sink.new) (spelling (frame bytes.now tokens.now))) }
-        ensures prefix { OnErr result ((n : ℕ) × (n < length (spelling (frame bytes.now tokens.now)))
-            × Appends (K.held sink.old) (K.held sink.new) (take n (spelling (frame bytes.now tokens.now)))) }
+        ensures whole { OnOk result (Appends (K.held sink.old) (K.held sink.new)
+            (spelling (frame bytes.now tokens.now))) }
+        ensures prefix { OnErr result ((n : ℕ) ×
+            (n < length (spelling (frame bytes.now tokens.now))) ×
+            Appends (K.held sink.old) (K.held sink.new)
+            (take n (spelling (frame bytes.now tokens.now)))) }
         ensures quiet { StaysQuiet (K.held sink.old) (K.held sink.new) }
         ensures never_falls { K.fault_count sink.old ≤ K.fault_count sink.new }
         ensures cause { OnErr result (Rose (K.fault_count sink.old) (K.fault_count sink.new)) }

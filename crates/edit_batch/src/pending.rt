@@ -98,11 +98,14 @@ impl Pending {
         replace_text(&mut self.string, text);
     }
 
-    /// `zwp_input_method_v2.set_preedit_string`: the text being composed from the next commit on, and the bytes where its
-    /// cursor begins and ends. The cursors are kept as they are given.
+    /// `zwp_input_method_v2.set_preedit_string`: the text being composed from the next commit on,
+    /// and the bytes where its cursor begins and ends. The cursors are kept as they are given.
     pub fn preedit(&mut self, text: &str, begin: i32, end: i32)
         requires { length text.now ≤ PREEDIT_LIMIT }
-        ensures replaced { self.new ≡ record self.old { preedit = record { text = text.now; begin = begin; end = end } } }
+        ensures replaced { self.new ≡ record self.old {
+          preedit = record
+              { text = text.now; begin = begin; end = end };
+        } }
         ensures last { (calls : List Call) → self.old ≡ last_edits calls →
             self.new ≡ last_edits (Preedit text.now begin end ∷ calls) }
     {
@@ -140,7 +143,11 @@ impl Pending {
     pub fn edits(&self) -> Edits<'_>
         ensures deletion { (result.before, result.after) ≡ self.now.deletion }
         ensures string { result.string.now ≡ self.now.string }
-        ensures preedit { record { text = result.preedit.now; begin = result.begin; end = result.end } ≡ self.now.preedit }
+        ensures preedit { record {
+          text = result.preedit.now;
+          begin = result.begin;
+          end = result.end;
+        } ≡ self.now.preedit }
     {
         Edits {
             before: self.before,

@@ -1,11 +1,14 @@
 // One text field: its requests set what is pending, and a commit makes that current where the field holds the seat.
 // What is current is defined by looking back over the calls; here it is kept in two sets of slots.
-ghost use Rattle.std.specs.Prelude.{◌≡◌, ◌≤◌, List, [], ◌∷◌, length, true, false, Option, None, option_map, IfOk, if◌then◌else◌};
-ghost use Rattle.field_state.specs.Calls.{Call, Enter, Leave, Enable, Disable, Surround, Cause, Content, Rectangle, Commit, Displace, initial, is_place};
+ghost use Rattle.std.specs.Prelude.{◌≡◌, ◌≤◌, List, [], ◌∷◌, length, true, false, Option, None};
+ghost use Rattle.std.specs.Prelude.{option_map, IfOk, if◌then◌else◌};
+ghost use Rattle.field_state.specs.Calls.{Call, Enter, Leave, Enable, Disable, Surround, Cause};
+ghost use Rattle.field_state.specs.Calls.{Content, Rectangle, Commit, Displace, initial, is_place};
 ghost use Rattle.field_state.specs.Hold.{entered, answer, holds_after, has_effect, taken, commit_count};
 ghost use Rattle.field_state.specs.Current.{current};
 ghost use Rattle.field_state.specs.Stands.{Stands, pending_of};
-ghost use Rattle.field_state.specs.Changes.{fresh, focused, enabled, disabled, surrounded, caused, typed, placed, taken_of, committed, displaced};
+ghost use Rattle.field_state.specs.Changes.{fresh, focused, enabled, disabled, surrounded, caused};
+ghost use Rattle.field_state.specs.Changes.{typed, placed, taken_of, committed, displaced};
 
 use crate::commit::{Taken, Word};
 use crate::slots::{SURROUNDING_LIMIT, Slots};
@@ -125,11 +128,12 @@ impl Field {
         self.pending.clear();
     }
 
-    /// `zwp_text_input_v3.enter`: the focus comes to a surface of the field's peer. A hold ends, and all but the count is
-    /// initial.
+    /// `zwp_text_input_v3.enter`: the focus comes to a surface of the field's peer. A hold ends,
+    /// and all but the count is initial.
     pub fn enter(&mut self)
         ensures now { self.new ≡ focused true self.old }
-        ensures stands { (calls : List Call) → Stands calls self.old → Stands (Enter ∷ calls) self.new }
+        ensures stands { (calls : List Call) → Stands calls self.old →
+            Stands (Enter ∷ calls) self.new }
     {
         self.clear();
         self.entered = true;
@@ -139,17 +143,19 @@ impl Field {
     /// commits are only counted, and no other request has an effect.
     pub fn leave(&mut self)
         ensures now { self.new ≡ focused false self.old }
-        ensures stands { (calls : List Call) → Stands calls self.old → Stands (Leave ∷ calls) self.new }
+        ensures stands { (calls : List Call) → Stands calls self.old →
+            Stands (Leave ∷ calls) self.new }
     {
         self.clear();
         self.entered = false;
     }
 
-    /// `zwp_text_input_v3.enable`: the next commit takes the seat, also from another field, and from then on nothing that
-    /// was set before counts.
+    /// `zwp_text_input_v3.enable`: the next commit takes the seat, also from another field, and
+    /// from then on nothing that was set before counts.
     pub fn enable(&mut self)
         ensures now { self.new ≡ enabled self.old }
-        ensures stands { (calls : List Call) → Stands calls self.old → Stands (Enable ∷ calls) self.new }
+        ensures stands { (calls : List Call) → Stands calls self.old →
+            Stands (Enable ∷ calls) self.new }
     {
         if self.entered {
             self.word = Some(Word::Enabled);
@@ -160,16 +166,18 @@ impl Field {
     /// `zwp_text_input_v3.disable`: the next commit ends the field's hold, if no `enable` comes before it.
     pub fn disable(&mut self)
         ensures now { self.new ≡ disabled self.old }
-        ensures stands { (calls : List Call) → Stands calls self.old → Stands (Disable ∷ calls) self.new }
+        ensures stands { (calls : List Call) → Stands calls self.old →
+            Stands (Disable ∷ calls) self.new }
     {
         if self.entered {
             self.word = Some(Word::Disabled);
         }
     }
 
-    /// `zwp_text_input_v3.set_surrounding_text`: the text around the cursor, of at most `SURROUNDING_LIMIT` bytes, and the
-    /// bytes where cursor and anchor stand. False, and no effect, exactly where the field isn't entered, or cursor or anchor
-    /// is negative, past the text's end or inside a character.
+    /// `zwp_text_input_v3.set_surrounding_text`: the text around the cursor, of at most
+    /// `SURROUNDING_LIMIT` bytes, and the bytes where cursor and anchor stand. False, and no
+    /// effect, exactly where the field isn't entered, or cursor or anchor is negative, past the
+    /// text's end or inside a character.
     pub fn set_surrounding(&mut self, text: &str, cursor: i32, anchor: i32) -> bool
         requires { length text.now ≤ SURROUNDING_LIMIT }
         ensures now { self.new ≡ surrounded text.now cursor anchor self.old }
@@ -185,11 +193,13 @@ impl Field {
         has_effect
     }
 
-    /// `zwp_text_input_v3.set_text_change_cause`: what changed the text, 0 for the input method and 1 for anything else;
-    /// other numbers are kept as they are. It counts for the next commit alone.
+    /// `zwp_text_input_v3.set_text_change_cause`: what changed the text, 0 for the input method and
+    /// 1 for anything else; other numbers are kept as they are. It counts for the next commit
+    /// alone.
     pub fn set_cause(&mut self, cause: u32)
         ensures now { self.new ≡ caused cause self.old }
-        ensures stands { (calls : List Call) → Stands calls self.old → Stands (Cause cause ∷ calls) self.new }
+        ensures stands { (calls : List Call) → Stands calls self.old →
+            Stands (Cause cause ∷ calls) self.new }
     {
         if self.entered {
             self.pending.set_cause(cause);
@@ -199,19 +209,22 @@ impl Field {
     /// `zwp_text_input_v3.set_content_type`: hint and purpose, any numbers.
     pub fn set_content(&mut self, hint: u32, purpose: u32)
         ensures now { self.new ≡ typed hint purpose self.old }
-        ensures stands { (calls : List Call) → Stands calls self.old → Stands (Content hint purpose ∷ calls) self.new }
+        ensures stands { (calls : List Call) → Stands calls self.old →
+            Stands (Content hint purpose ∷ calls) self.new }
     {
         if self.entered {
             self.pending.set_content(hint, purpose);
         }
     }
 
-    /// `zwp_text_input_v3.set_cursor_rectangle`: where the cursor stands, in pixels of the surface. False, and no effect,
-    /// exactly where the field isn't entered or width or height is negative.
+    /// `zwp_text_input_v3.set_cursor_rectangle`: where the cursor stands, in pixels of the surface.
+    /// False, and no effect, exactly where the field isn't entered or width or height is negative.
     pub fn set_rect(&mut self, rect: Rect) -> bool
         ensures now { self.new ≡ placed rect self.old }
-        ensures stands { (calls : List Call) → Stands calls self.old → Stands (Rectangle rect ∷ calls) self.new }
-        ensures effect { (calls : List Call) → Stands calls self.old → result ≡ has_effect calls (Rectangle rect) }
+        ensures stands { (calls : List Call) → Stands calls self.old →
+            Stands (Rectangle rect ∷ calls) self.new }
+        ensures effect { (calls : List Call) → Stands calls self.old →
+            result ≡ has_effect calls (Rectangle rect) }
     {
         let has_effect = self.entered && rect.width >= 0 && rect.height >= 0;
         if has_effect {
@@ -220,12 +233,14 @@ impl Field {
         has_effect
     }
 
-    /// `zwp_text_input_v3.commit`: counts, and where the field then holds the seat makes current what is pending. `Begun`
-    /// takes the seat from another field that had it, which the caller displaces.
+    /// `zwp_text_input_v3.commit`: counts, and where the field then holds the seat makes current
+    /// what is pending. `Begun` takes the seat from another field that had it, which the caller
+    /// displaces.
     pub fn commit(&mut self) -> Taken
         ensures now { self.new ≡ committed self.old }
         ensures answer { result ≡ taken_of self.old }
-        ensures stands { (calls : List Call) → Stands calls self.old → Stands (Commit ∷ calls) self.new }
+        ensures stands { (calls : List Call) → Stands calls self.old →
+            Stands (Commit ∷ calls) self.new }
         ensures taken { (calls : List Call) → Stands calls self.old → result ≡ taken calls }
     {
         let taken = answer(self.word, self.holds);
@@ -245,18 +260,19 @@ impl Field {
         answer(self.word, self.holds)
     }
 
-    /// Another field's commit takes the seat: this field no longer holds, and is told nothing. What it has pending stays,
-    /// with its word and its count. No effect where the field doesn't hold.
+    /// Another field's commit takes the seat: this field no longer holds, and is told nothing. What
+    /// it has pending stays, with its word and its count. No effect where the field doesn't hold.
     pub fn displace(&mut self)
         ensures now { self.new ≡ displaced self.old }
-        ensures stands { (calls : List Call) → Stands calls self.old → Stands (Displace ∷ calls) self.new }
+        ensures stands { (calls : List Call) → Stands calls self.old →
+            Stands (Displace ∷ calls) self.new }
     {
         self.holds = false;
         self.current.clear();
     }
 
-    /// The pending surrounding text with its cursor and anchor: what the next commit makes current, where the field then
-    /// holds.
+    /// The pending surrounding text with its cursor and anchor: what the next commit makes current,
+    /// where the field then holds.
     pub fn pending_surrounding(&self) -> Option<(&str, i32, i32)>
         ensures now { option_map (λ s. record { text = s.0.now; cursor = s.1; anchor = s.2 }) result
             ≡ self.now.pending.surrounding }
@@ -270,7 +286,8 @@ impl Field {
     /// How many commits there were, entered or not, modulo 2^32. `zwp_text_input_v3.done` carries it as its serial.
     pub fn count(&self) -> u32
         ensures now { result ≡ self.now.count }
-        ensures history { (calls : List Call) → Stands calls self.now → result ≡ commit_count calls }
+        ensures history { (calls : List Call) → Stands calls self.now → result ≡ commit_count
+            calls }
     {
         self.count
     }
@@ -280,7 +297,8 @@ impl Field {
         ensures now { option_map (λ s. record { text = s.0.now; cursor = s.1; anchor = s.2 }) result
             ≡ self.now.current.surrounding }
         ensures history { (calls : List Call) → Stands calls self.now →
-            option_map (λ s. record { text = s.0.now; cursor = s.1; anchor = s.2 }) result ≡ (current calls).surrounding }
+            option_map (λ s. record { text = s.0.now; cursor = s.1; anchor = s.2 }) result ≡
+            (current calls).surrounding }
     {
         self.current.surrounding()
     }
@@ -288,7 +306,8 @@ impl Field {
     /// The current cause; 0, the input method, where none was set or the field doesn't hold.
     pub fn cause(&self) -> u32
         ensures now { result ≡ self.now.current.cause }
-        ensures history { (calls : List Call) → Stands calls self.now → result ≡ (current calls).cause }
+        ensures history { (calls : List Call) → Stands calls self.now →
+            result ≡ (current calls).cause }
     {
         self.current.cause()
     }
@@ -296,7 +315,8 @@ impl Field {
     /// The current hint and purpose; 0 and 0, none and normal, where none were set or the field doesn't hold.
     pub fn content(&self) -> (u32, u32)
         ensures now { result ≡ self.now.current.content }
-        ensures history { (calls : List Call) → Stands calls self.now → result ≡ (current calls).content }
+        ensures history { (calls : List Call) → Stands calls self.now →
+            result ≡ (current calls).content }
     {
         self.current.content()
     }
@@ -304,7 +324,8 @@ impl Field {
     /// The current cursor rectangle; `None` where none was set or the field doesn't hold.
     pub fn rect(&self) -> Option<Rect>
         ensures now { result ≡ self.now.current.rect }
-        ensures history { (calls : List Call) → Stands calls self.now → result ≡ (current calls).rect }
+        ensures history { (calls : List Call) → Stands calls self.now →
+            result ≡ (current calls).rect }
     {
         self.current.rect()
     }

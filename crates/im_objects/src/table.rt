@@ -1,5 +1,7 @@
 // The objects of one peer, in two maps: by their ids and by their labels.
-ghost use Rattle.std.specs.Prelude.{◌≡◌, ◌↔◌, ◌≤◌, ◌∷◌, [], List, ℕ, None, Some, Err, false, true, is_some, not, set, ◌&&◌, ◌==◌, IfOk, OnOk, OnErr, IfSome, IfNone, IsOkUnless};
+ghost use Rattle.std.specs.Prelude.{◌≡◌, ◌↔◌, ◌≤◌, ◌∷◌, [], List, ℕ, None, Some, Err, false, true};
+ghost use Rattle.std.specs.Prelude.{is_some, not, set, ◌&&◌, ◌==◌, IfOk, OnOk, OnErr, IfSome};
+ghost use Rattle.std.specs.Prelude.{IfNone, IsOkUnless};
 ghost use Rattle.std.specs.Ordering.{nat_cmp};
 ghost use Rattle.std.specs.BTreeMap as tree;
 ghost use Rattle.std.specs.FinMap as map;
@@ -32,9 +34,11 @@ const NEAR: usize = 64;
 
 /// The live objects of one peer.
 ///
-/// In contracts it is an `Objects`, two finite maps: what is under each id that is live, and the id of each label that is.
-/// `Stands calls objects` says that it is as a list of calls, the newest first, made it. A look-up costs the logarithm of
-/// the number of live objects, and less by one of the first 64 ids. Only `new` and `make` take memory.
+/// In contracts it is an `Objects`, two finite maps: what is under each id that is live, and the id
+/// of each label that is.
+/// `Stands calls objects` says that it is as a list of calls, the newest first, made it. A look-up
+/// costs the logarithm of the number of live objects, and less by one of the first 64 ids. Only
+/// `new` and `make` take memory.
 #[derive(Drop)]
 pub struct Table {
     objects: BTreeMap<u32, (Interface, Label)>,
@@ -90,7 +94,8 @@ fn put(
     requires free { map.get (under_of objects.old.entries) id ≡ None }
     ensures under { OnOk result (under_of objects.new.entries
         ≡ map.insert (under_of objects.old.entries) id (interface, label)) }
-    ensures labelled { OnOk result (ids_of ids.new.entries ≡ map.insert (ids_of ids.old.entries) label id) }
+    ensures labelled { OnOk result (ids_of ids.new.entries ≡ map.insert (ids_of ids.old.entries)
+        label id) }
     ensures err { OnErr result (under_of objects.new.entries ≡ under_of objects.old.entries) }
     ensures err_ids { OnErr result (ids_of ids.new.entries ≡ ids_of ids.old.entries) }
 {
@@ -143,8 +148,8 @@ impl Table {
         }
     }
 
-    /// Makes an object under the id that the peer chose for it (an argument `new_id` of a request), with a label that no
-    /// live object has. The caller gives labels that the table never had.
+    /// Makes an object under the id that the peer chose for it (an argument `new_id` of a request),
+    /// with a label that no live object has. The caller gives labels that the table never had.
     ///
     /// `IdRange` comes where the id is 0 or above `LAST_ID`, else `IdTaken` where an object is live under it, else
     /// `TooMany` where `MOST_LIVE` are live besides the display, else `NoMemory` may come. After each the table is as
@@ -184,7 +189,8 @@ impl Table {
     /// The object under the id, its interface and its label, if one is live there.
     pub fn find(&self, id: u32) -> Option<(Interface, Label)>
         ensures now { result ≡ map.get self.now.under id }
-        ensures history { (calls : List Call) → Stands calls self.now → result ≡ object_under calls id }
+        ensures history { (calls : List Call) → Stands calls self.now →
+            result ≡ object_under calls id }
     {
         match self.near.get(id as usize) {
             Some(object) => *object,
@@ -197,23 +203,29 @@ impl Table {
         ensures now { result ≡ map.get self.now.ids label }
 
         // What is under the id has the label.
-        ensures inverse { (id : ℕ) → (result ≡ Some id) ↔ IsLabelled label (map.get self.now.under id) }
+        ensures inverse { (id : ℕ) → (result ≡ Some id) ↔ IsLabelled label
+            (map.get self.now.under id) }
         ensures history { (calls : List Call) → Stands calls self.now → result ≡ id_of calls label }
     {
         self.ids.get(&label).copied()
     }
 
-    /// The object under the id is gone (`wl_display.delete_id` tells the peer so), and the id is free. False, and nothing
-    /// changes, where no object is live under the id or it is the display's.
+    /// The object under the id is gone (`wl_display.delete_id` tells the peer so), and the id is
+    /// free. False, and nothing changes, where no object is live under the id or it is the
+    /// display's.
     pub fn drop_id(&mut self, id: u32) -> bool
         ensures answer { result ≡ (not (id == 1) && is_some (map.get self.old.under id)) }
-        ensures dropped { result ≡ true → IfSome (map.get self.old.under id) (λ gone. self.new ≡ record {
-          under = map.remove self.old.under id;
-          ids = map.remove self.old.ids gone.1;
-        }) }
+        ensures dropped { result ≡ true → IfSome (map.get self.old.under id)
+            (λ gone. self.new ≡ record {
+              under = map.remove self.old.under id;
+              ids = map.remove
+                  self.old.ids gone.1;
+            }) }
         ensures kept { result ≡ false → self.new ≡ self.old }
-        ensures history { (calls : List Call) → Stands calls self.old → Stands (Drop id ∷ calls) self.new }
-        ensures effect { (calls : List Call) → Stands calls self.old → result ≡ takes_effect calls id }
+        ensures history { (calls : List Call) → Stands calls self.old →
+            Stands (Drop id ∷ calls) self.new }
+        ensures effect { (calls : List Call) → Stands calls self.old →
+            result ≡ takes_effect calls id }
     {
         if id == DISPLAY_ID {
             return false;

@@ -44,7 +44,8 @@ fn press(down: &mut Vec<Down>, standing: Option<Label>, key: u32) -> Route
     requires tidy { IsTidy down.old.items (vec_capacity down.old) }
     requires up { map.get (keys_of down.old.items) key ≡ None }
     ensures route { result ≡ answer_at None standing (map.len (keys_of down.old.items)) true }
-    ensures keys { keys_of down.new.items ≡ turned_at None standing (keys_of down.old.items) key true }
+    ensures keys { keys_of down.new.items ≡ turned_at None standing (keys_of down.old.items) key
+        true }
     ensures tidy { IsTidy down.new.items (vec_capacity down.new) }
 {
     if down.len() < KEYS_DOWN {

@@ -1,6 +1,8 @@
 ghost use Rattle.std.specs.Prelude.{◌≡◌, ◌∷◌, [], List, None, Some, IfOk, ◌↔◌, IsTrue, true};
 ghost use Rattle.std.specs.FinMap as map;
-ghost use Rattle.kbd_grab.specs.Keys.{Call, key_route, is_down, first_went, fell_since, unless_fell, EachStandsOnce, told_keymap, told_repeat, told_mods, grab_standing};
+ghost use Rattle.kbd_grab.specs.Keys.{Call, key_route, is_down, first_went, fell_since};
+ghost use Rattle.kbd_grab.specs.Keys.{unless_fell, EachStandsOnce, told_keymap, told_repeat};
+ghost use Rattle.kbd_grab.specs.Keys.{told_mods, grab_standing};
 ghost use Rattle.kbd_grab.specs.Keys.Call.{Stand, Fall, Key, TellKeymap, TellRepeat, TellMods};
 ghost use Rattle.kbd_grab.specs.Keyboard.{StandsFor, turned, answer_at};
 
@@ -12,9 +14,9 @@ use wio_core::NoMemory;
 
 /// A keyboard: the grab that stands on it, if any, the keys that are down, and what the shell told last.
 ///
-/// In contracts it is a `Keyboard`, a record of these, in which the keys that are down are a finite map to the grab that
-/// stood at their first press. `StandsFor calls keyboard` says that it is what a list of calls, the newest first, makes
-/// of it by looking back. Only `new` takes memory.
+/// In contracts it is a `Keyboard`, a record of these, in which the keys that are down are a finite
+/// map to the grab that stood at their first press. `StandsFor calls keyboard` says that it is what
+/// a list of calls, the newest first, makes of it by looking back. Only `new` takes memory.
 #[derive(Debug, Drop)]
 pub struct Grab {
     standing: Option<Label>,
@@ -62,8 +64,9 @@ impl Grab {
     /// their first press went to.
     ///
     /// A label is to stand once. Which labels stood before, the list of calls tells and this type doesn't keep: a label
-    /// that stands again is taken, and has again the keys whose press went to it. So the promise that a key goes nowhere
-    /// once its grab has fallen is for lists of calls in which each grab stands once.
+    /// that stands again is taken, and has again the keys whose press went to it. So the promise
+    /// that a key goes nowhere once its grab has fallen is for lists of calls in which each grab
+    /// stands once.
     pub fn stand(&mut self, label: Label)
         requires { self.old.standing ≡ None }
         ensures stands { self.new ≡ record self.old { standing = Some label } }
@@ -76,22 +79,24 @@ impl Grab {
     /// The grab that stands, if any, stands no more. Keys whose first press went to it go nowhere until they are up.
     pub fn fall(&mut self)
         ensures falls { self.new ≡ record self.old { standing = None } }
-        ensures history { (calls : List Call) → StandsFor calls self.old → StandsFor (Fall ∷ calls) self.new }
+        ensures history { (calls : List Call) → StandsFor calls self.old →
+            StandsFor (Fall ∷ calls) self.new }
     {
         self.standing = None;
     }
 
     /// A press (`pressed`) or a release of the key with this code: where it goes. After `TooMany` all is as before.
     pub fn key(&mut self, key: u32, pressed: bool) -> Route
-        ensures now { result ≡ answer_at (map.get self.old.down key) self.old.standing (map.len self.old.down) pressed }
+        ensures now { result ≡ answer_at (map.get self.old.down key) self.old.standing
+            (map.len self.old.down) pressed }
         ensures route { (calls : List Call) → StandsFor calls self.old →
             result ≡ key_route calls key pressed }
         ensures history { (calls : List Call) → StandsFor calls self.old →
             StandsFor (Key key pressed ∷ calls) self.new }
 
         // A key that is down goes where its press went, or nowhere where that grab has fallen.
-        ensures follows_its_press { (calls : List Call) → StandsFor calls self.old → EachStandsOnce calls →
-            IsTrue (is_down calls key) →
+        ensures follows_its_press { (calls : List Call) → StandsFor calls self.old →
+            EachStandsOnce calls → IsTrue (is_down calls key) →
             result ≡ unless_fell (fell_since calls key) (first_went calls key) }
 
         // 64 keys are down, and this press is of another.
@@ -133,7 +138,8 @@ impl Grab {
     /// The grab that stands, if any.
     pub fn standing(&self) -> Option<Label>
         ensures now { result ≡ self.now.standing }
-        ensures history { (calls : List Call) → StandsFor calls self.now → result ≡ grab_standing calls }
+        ensures history { (calls : List Call) → StandsFor calls self.now →
+            result ≡ grab_standing calls }
     {
         self.standing
     }
@@ -141,7 +147,8 @@ impl Grab {
     /// The keymap that the shell told last, if it told one.
     pub fn last_keymap(&self) -> Option<Keymap>
         ensures now { result ≡ self.now.keymap }
-        ensures history { (calls : List Call) → StandsFor calls self.now → result ≡ told_keymap calls }
+        ensures history { (calls : List Call) → StandsFor calls self.now →
+            result ≡ told_keymap calls }
     {
         self.keymap
     }
@@ -149,7 +156,8 @@ impl Grab {
     /// The repeat that the shell told last, if it told one.
     pub fn last_repeat(&self) -> Option<Repeat>
         ensures now { result ≡ self.now.repeat }
-        ensures history { (calls : List Call) → StandsFor calls self.now → result ≡ told_repeat calls }
+        ensures history { (calls : List Call) → StandsFor calls self.now →
+            result ≡ told_repeat calls }
     {
         self.repeat
     }
@@ -157,7 +165,8 @@ impl Grab {
     /// The modifiers that the shell told last, if it told any.
     pub fn last_mods(&self) -> Option<Mods>
         ensures now { result ≡ self.now.mods }
-        ensures history { (calls : List Call) → StandsFor calls self.now → result ≡ told_mods calls }
+        ensures history { (calls : List Call) → StandsFor calls self.now → result ≡ told_mods
+            calls }
     {
         self.mods
     }

@@ -1,6 +1,7 @@
 // The current state of the field that holds the seat.
 ghost use Rattle.std.specs.Prelude.{◌≡◌, option_map};
-ghost use Rattle.relay_model.specs.Current.{last_enable, last_commit, between, last_surrounding, last_cause, last_content, last_rect, current};
+ghost use Rattle.relay_model.specs.Current.{last_enable, last_commit, between, last_surrounding};
+ghost use Rattle.relay_model.specs.Current.{last_cause, last_content, last_rect, current};
 ghost use Rattle.look_back.specs.Current.{around_of, content_of, state_of};
 
 use crate::hold::hold_begun;

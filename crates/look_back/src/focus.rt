@@ -1,6 +1,7 @@
 // The focus, and the fields that are entered.
 ghost use Rattle.std.specs.Prelude.{◌≡◌};
-ghost use Rattle.relay_model.specs.Focus.{last_focus, where_alive, focus, focus_since, focused_peer, entered, entered_since};
+ghost use Rattle.relay_model.specs.Focus.{last_focus, where_alive, focus, focus_since};
+ghost use Rattle.relay_model.specs.Focus.{focused_peer, entered, entered_since};
 
 use crate::objects::{alive, is_field, is_same, next, peer_of};
 use relay_model::{Act, Label};

@@ -1,7 +1,10 @@
 // The keys of the seat's keyboard, and the grab that has them.
 ghost use Rattle.std.specs.Prelude.{◌≡◌, ◌==◌, ◌≤◌, ◌<◌, ◌^◌, length, IfOk};
 ghost use Rattle.std.specs.List.{count_by, list_any};
-ghost use Rattle.relay_model.specs.Keys.{stands_on, standing, grab_stands, is_press, with_key, pressed_keys, is_down, number_down, is_first_press, first_went, to_standing, as_first, key_route, is_refused, last_keymap, last_repeat, last_mods};
+ghost use Rattle.relay_model.specs.Keys.{stands_on, standing, grab_stands, is_press, with_key};
+ghost use Rattle.relay_model.specs.Keys.{pressed_keys, is_down, number_down, is_first_press};
+ghost use Rattle.relay_model.specs.Keys.{first_went, to_standing, as_first, key_route, is_refused};
+ghost use Rattle.relay_model.specs.Keys.{last_keymap, last_repeat, last_mods};
 ghost use Rattle.relay_model.specs.Activation.{serving};
 ghost use Rattle.look_back.specs.Newest.{at_newest};
 ghost use Rattle.look_back.specs.Keys.{goes_of};
@@ -33,7 +36,8 @@ fn standing_after(
 ) -> Option<Label>
     requires short { length log.now < 2 ^ 32 }
     requires before { before ≡ at_newest (λ act older. standing older) before log.now }
-    requires method_before { method_before ≡ at_newest (λ act older. serving older) method_before log.now }
+    requires method_before { method_before ≡ at_newest (λ act older. serving older) method_before
+        log.now }
     requires method { method ≡ serving log.now }
     ensures { result ≡ standing log.now }
 {
@@ -223,8 +227,8 @@ fn as_first(log: &[Act], grab: Option<Label>) -> Goes
     }
 }
 
-/// Where the key goes: a key that is down to where its first press went, a release of another to the shell, a first press
-/// to the grab that stands, and it is refused where 64 keys are down.
+/// Where the key goes: a key that is down to where its first press went, a release of another to
+/// the shell, a first press to the grab that stands, and it is refused where 64 keys are down.
 pub fn key_route(alloc: Global, log: &[Act], key: u32, state: u32) -> Result<Goes, NoMemory>
     requires { length log.now < 2 ^ 32 }
     ensures { IfOk result (λ goes. goes_of goes ≡ key_route log.now key state) }

@@ -1,6 +1,9 @@
 // The objects of a history, the newest act first: which are alive, of which kind, and whose.
 ghost use Rattle.std.specs.Prelude.{◌≡◌, ◌==◌, ◌<◌, ◌^◌, length, filter, IfOk};
-ghost use Rattle.relay_model.specs.Objects.{next, is_at, is_same, owner, method_in, surface_in, made, maker, remains, object, alive, peer_of, is_field, is_surface, is_method, is_peer, is_popup, method_of, surface_of, labels, fields, popups, has_popup};
+ghost use Rattle.relay_model.specs.Objects.{next, is_at, is_same, owner, method_in, surface_in};
+ghost use Rattle.relay_model.specs.Objects.{made, maker, remains, object, alive, peer_of, is_field};
+ghost use Rattle.relay_model.specs.Objects.{is_surface, is_method, is_peer, is_popup, method_of};
+ghost use Rattle.relay_model.specs.Objects.{surface_of, labels, fields, popups, has_popup};
 ghost use Rattle.look_back.specs.Objects.{option_of};
 
 use relay_model::{Act, Label};

@@ -15,7 +15,8 @@ pub struct Begin {
 /// Adds the tokens of a group whose first byte is at this place.
 pub fn add_begins(ring: &mut HeapCircularBuffer<Begin>, start: u64, tokens: &[(usize, u32)])
     requires room { length ring.old.items + length tokens.now ≤ ring.old.capacity }
-    ensures added { ring.new ≡ buffer (ring.old.items ++ placed start tokens.now) ring.old.capacity }
+    ensures added { ring.new ≡ buffer (ring.old.items ++ placed start tokens.now)
+        ring.old.capacity }
 {
     for (at, token) in tokens {
         let place = start.wrapping_add(*at as u64);
@@ -35,7 +36,8 @@ pub fn take_begun(
 ) -> usize
     requires places { begun_count n (offsets front ring.old.items) ≤ length out.old }
     ensures count { result ≡ begun_count n (offsets front ring.old.items) }
-    ensures tokens { out.new ≡ map (λ begin. begin.token) (take result ring.old.items) ++ drop result out.old }
+    ensures tokens { out.new ≡ map (λ begin. begin.token) (take result ring.old.items) ++ drop
+        result out.old }
     ensures rest { ring.new ≡ buffer (drop result ring.old.items) ring.old.capacity }
 {
     let mut count = 0;

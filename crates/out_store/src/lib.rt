@@ -51,12 +51,14 @@ impl Store {
         })
     }
 
-    /// Puts the group whole behind what waits, or leaves it out, and says whether it fitted. A token is listed with the offset
-    /// of its message's first byte. (no memory)
+    /// Puts the group whole behind what waits, or leaves it out, and says whether it fitted. A
+    /// token is listed with the offset of its message's first byte. (no memory)
     pub fn put_group(&mut self, group: &[u8], tokens: &[(usize, u32)]) -> bool
         requires { IsSpaced 0 tokens.now (length group.now) }
-        ensures fits { IsTrue result ↔ (length self.old.cells + length group.now ≤ self.old.capacity) }
-        ensures put { self.new ≡ (if result then queue (self.old.cells ++ cells_of group.now tokens.now) self.old.capacity else self.old) }
+        ensures fits { IsTrue result ↔ (length self.old.cells + length group.now ≤
+            self.old.capacity) }
+        ensures put { self.new ≡ (if result then queue
+            (self.old.cells ++ cells_of group.now tokens.now) self.old.capacity else self.old) }
     {
         let stored = self.bytes.len();
         if group.len() > self.bytes.capacity() - stored {
@@ -71,15 +73,16 @@ impl Store {
         true
     }
 
-    /// Moves the first bytes that wait into `buf`, as many as fit, and the tokens whose messages begin in them into `tokens`.
-    /// Answers how many bytes and how many tokens. (no memory)
+    /// Moves the first bytes that wait into `buf`, as many as fit, and the tokens whose messages
+    /// begin in them into `tokens`. Answers how many bytes and how many tokens. (no memory)
     pub fn take(&mut self, buf: &mut [u8], tokens: &mut [u32]) -> (usize, usize)
         requires piece { length buf.old ≤ 4096 }
         requires places { 256 ≤ length tokens.old }
         ensures count { result.0 ≡ min (length buf.old) (length self.old.cells) }
         ensures bytes { buf.new ≡ bytes_of (take result.0 self.old.cells) ++ drop result.0 buf.old }
         ensures token_count { result.1 ≡ length (tokens_of (take result.0 self.old.cells)) }
-        ensures tokens { tokens.new ≡ tokens_of (take result.0 self.old.cells) ++ drop result.1 tokens.old }
+        ensures tokens { tokens.new ≡ tokens_of (take result.0 self.old.cells) ++ drop result.1
+            tokens.old }
         ensures rest { self.new ≡ queue (drop result.0 self.old.cells) self.old.capacity }
     {
         let n = self.bytes.read_into(buf);

@@ -1,6 +1,9 @@
 // Batches, counts, and what is relayed.
 ghost use Rattle.std.specs.Prelude.{◌≡◌, ◌≤◌, ◌<◌, ◌^◌, length, map, IfOk};
-ghost use Rattle.relay_model.specs.Batch.{deletion_by, last_deletion, string_by, last_string, preedit_by, last_preedit, batch, commits, commit_count, deletion_said, string_said, preedit_said, is_no_preedit, group, group_of};
+ghost use Rattle.relay_model.specs.Batch.{deletion_by, last_deletion, string_by, last_string};
+ghost use Rattle.relay_model.specs.Batch.{preedit_by, last_preedit, batch, commits, commit_count};
+ghost use Rattle.relay_model.specs.Batch.{deletion_said, string_said, preedit_said, is_no_preedit};
+ghost use Rattle.relay_model.specs.Batch.{group, group_of};
 ghost use Rattle.relay_model.specs.Told.{to};
 ghost use Rattle.plain_relay.specs.Batch.{text_of, deletion_of, preedit_of, batch_of};
 ghost use Rattle.plain_relay.specs.Telling.{Tells};
@@ -190,7 +193,8 @@ fn copy_of(alloc: Global, text: Option<&Text>) -> Result<Text, NoMemory>
 }
 
 fn tell_deletion(field: Label, deletion: Deletion, told: &mut Vec<Told>) -> Result<(), NoMemory>
-    ensures { Tells result told.old told.new (map (to field) (deletion_said (deletion_of deletion))) }
+    ensures { Tells result told.old told.new (map (to field) (deletion_said (deletion_of
+        deletion))) }
 {
     if deletion.before == 0 && deletion.after == 0 {
         return Ok(());
@@ -223,7 +227,8 @@ fn tell_preedit(
     preedit: Preedit,
     told: &mut Vec<Told>,
 ) -> Result<(), NoMemory>
-    ensures { Tells result told.old told.new (map (to field) (preedit_said (preedit_of preedit.entry))) }
+    ensures { Tells result told.old told.new
+        (map (to field) (preedit_said (preedit_of preedit.entry))) }
 {
     let text = copy_of(alloc, preedit.text)?;
     if text.is_empty() && preedit.begin == 0 && preedit.end == 0 {

@@ -4,7 +4,9 @@ ghost use Rattle.relay_model.specs.Objects.{next};
 ghost use Rattle.relay_model.specs.Globals.{global_told, globals_told};
 ghost use Rattle.relay_model.specs.Hold.{holder};
 ghost use Rattle.relay_model.specs.Activation.{serving, fresh};
-ghost use Rattle.relay_model.specs.Told.{to, to_holder, deleted, key_told, keymap_said, repeat_said, mods_said, keyboard_said, to_grab, synced, own};
+ghost use Rattle.relay_model.specs.Told.{to, to_holder, deleted, key_told, keymap_said};
+ghost use Rattle.relay_model.specs.Told.{repeat_said, mods_said, keyboard_said, to_grab, synced};
+ghost use Rattle.relay_model.specs.Told.{own};
 ghost use Rattle.look_back.specs.Newest.{at_newest};
 ghost use Rattle.relay_model.specs.Keys.{key_route, last_keymap, last_repeat, last_mods};
 ghost use Rattle.look_back.specs.Keys.{goes_of};
@@ -41,7 +43,8 @@ fn tell_holder(
 // The same, where the commit is fresh.
 fn tell_fresh(alloc: Global, act: &Act, older: &[Act], told: &mut Vec<Told>) -> Result<(), NoMemory>
     requires { length older.now < 2 ^ 32 }
-    ensures { Tells result told.old told.new ((if fresh act.now older.now then to_holder act.now older.now (holder older.now) else [])) }
+    ensures { Tells result told.old told.new ((if fresh act.now older.now then to_holder act.now
+        older.now (holder older.now) else [])) }
 {
     if fresh(alloc, act, older)? {
         tell_holder(alloc, act, older, told)
@@ -97,7 +100,8 @@ fn tell_routed(
     told: &mut Vec<Told>,
 ) -> Result<(), NoMemory>
     requires { length older.now + 1 < 2 ^ 32 }
-    ensures { Tells result told.old told.new (key_told (next older.now) time key state (key_route older.now key state)) }
+    ensures { Tells result told.old told.new (key_told (next older.now) time key state
+        (key_route older.now key state)) }
 {
     let goes = key_route(alloc, older, key, state)?;
     tell_key(next(older) as u32, time, key, state, goes, told)

@@ -3,7 +3,9 @@ ghost use Rattle.std.specs.Prelude.{◌≡◌, ◌<◌, ◌^◌, [], ◌∷◌, 
 ghost use Rattle.std.specs.List.{flat_map};
 ghost use Rattle.relay_model.specs.declared.said.Said.TheVariants as said;
 ghost use Rattle.relay_model.specs.Told.{to};
-ghost use Rattle.relay_model.specs.Popups.{area, screen, rect_of, cursor, corner, size_of, corner_of, origin, place, ready_surface, place_told, told_where, popup_told, each_popup};
+ghost use Rattle.relay_model.specs.Popups.{area, screen, rect_of, cursor, corner, size_of};
+ghost use Rattle.relay_model.specs.Popups.{corner_of, origin, place, ready_surface, place_told};
+ghost use Rattle.relay_model.specs.Popups.{told_where, popup_told, each_popup};
 ghost use Rattle.plain_relay.specs.Telling.{Tells};
 
 use crate::telling::{SHELL, tell};
@@ -107,7 +109,8 @@ fn ready_surface(log: &[Act], popup: Label) -> Option<Label>
 
 // The popup is told where the cursor rectangle is.
 fn tell_seen(popup: Label, seen: Rect, told: &mut Vec<Told>) -> Result<(), NoMemory>
-    ensures { Tells result told.old told.new (to popup (said.PopupRect seen.x seen.y seen.width seen.height) ∷ []) }
+    ensures { Tells result told.old told.new
+        (to popup (said.PopupRect seen.x seen.y seen.width seen.height) ∷ []) }
 {
     let event = Said::PopupRect {
         x: seen.x,

@@ -4,7 +4,9 @@ ghost use Rattle.relay_model.specs.Objects.{fields};
 ghost use Rattle.relay_model.specs.Focus.{focus, entered};
 ghost use Rattle.relay_model.specs.Hold.{holder};
 ghost use Rattle.relay_model.specs.Activation.{serving};
-ghost use Rattle.relay_model.specs.Told.{to, each_entered, around_said, state_said, holders_state, notice_said, to_method, leaves, enters, enters_new, told_by};
+ghost use Rattle.relay_model.specs.Told.{to, each_entered, around_said, state_said, holders_state};
+ghost use Rattle.relay_model.specs.Told.{notice_said, to_method, leaves, enters, enters_new};
+ghost use Rattle.relay_model.specs.Told.{told_by};
 ghost use Rattle.look_back.specs.Newest.{at_newest};
 ghost use Rattle.look_back.specs.Current.{around_of, state_of};
 ghost use Rattle.look_back.specs.Activation.{notice_of};
@@ -74,7 +76,8 @@ fn tell_each_entered(
     told: &mut Vec<Told>,
 ) -> Result<(), NoMemory>
     requires { length log.now < 2 ^ 32 }
-    ensures { Tells result told.old told.new (each_entered (crossed entering) log.now (focus log.now)) }
+    ensures { Tells result told.old told.new
+        (each_entered (crossed entering) log.now (focus log.now)) }
 {
     match focus(log) {
         Some(surface) => {
@@ -109,7 +112,8 @@ fn tell_around(
     cause: u32,
     told: &mut Vec<Told>,
 ) -> Result<(), NoMemory>
-    ensures { Tells result told.old told.new (map (to method) (around_said (option_map around_of surrounding.entry) cause)) }
+    ensures { Tells result told.old told.new
+        (map (to method) (around_said (option_map around_of surrounding.entry) cause)) }
 {
     match surrounding {
         Some(around) => {
@@ -149,7 +153,8 @@ fn tell_holders_state(
     log: &[Act],
     told: &mut Vec<Told>,
 ) -> Result<(), NoMemory>
-    ensures { Tells result told.old told.new (map (to method) (holders_state log.now (holder log.now))) }
+    ensures { Tells result told.old told.new
+        (map (to method) (holders_state log.now (holder log.now))) }
 {
     match holder(log) {
         Some(field) => tell_state(alloc, method, current(log, field), told),
@@ -165,7 +170,8 @@ fn tell_notice(
     notice: Option<HoldNotice>,
     told: &mut Vec<Told>,
 ) -> Result<(), NoMemory>
-    ensures { Tells result told.old told.new (map (to method) (notice_said log.now (option_map notice_of notice))) }
+    ensures { Tells result told.old told.new
+        (map (to method) (notice_said log.now (option_map notice_of notice))) }
 {
     match notice {
         Some(HoldNotice::Activates) => {
@@ -184,7 +190,8 @@ fn tell_notice(
 // Tells the method that serves what the newest act says of the hold.
 fn tell_method(alloc: Global, log: &[Act], told: &mut Vec<Told>) -> Result<(), NoMemory>
     requires { length log.now < 2 ^ 32 }
-    ensures { Tells result told.old told.new (at_newest (λ act older. to_method act older (serving log.now)) [] log.now) }
+    ensures { Tells result told.old told.new (at_newest
+        (λ act older. to_method act older (serving log.now)) [] log.now) }
 {
     match log {
         [] => Ok(()),

@@ -5,7 +5,12 @@ ghost use Rattle.field_state.specs.Hold.{holds_after};
 ghost use Rattle.seat_objects.specs.Objects.{find, field_in};
 ghost use Rattle.seat_objects.specs.Reached.{Reached};
 ghost use Rattle.relay_core.specs.Kept.{state, text_pending};
-ghost use Rattle.relay_core.specs.Machine.{owner_at, activated, updated, deactivated, released, refocused_to, unfocused, parted, gone, taken_in, taken_by, displaced_by, held, committing, field_committed, leaves_of, text_around, state_of, activate_told, update_told, release_told, part_told, commit_told, says};
+ghost use Rattle.relay_core.specs.Machine.{owner_at, activated, updated, deactivated, released};
+ghost use Rattle.relay_core.specs.Machine.{refocused_to, unfocused, parted, gone, taken_in};
+ghost use Rattle.relay_core.specs.Machine.{taken_by, displaced_by, held, committing};
+ghost use Rattle.relay_core.specs.Machine.{field_committed, leaves_of, text_around, state_of};
+ghost use Rattle.relay_core.specs.Machine.{activate_told, update_told, release_told, part_told};
+ghost use Rattle.relay_core.specs.Machine.{commit_told, says};
 
 use crate::machine::Machine;
 use crate::turning::owner_at;
@@ -77,7 +82,8 @@ impl Machine {
         requires { self.old.spare.text ≡ text_around (state_of (state self.old) field).surrounding }
         ensures state { state self.new ≡ activated (state self.old) }
         ensures objects { self.new.objects ≡ self.old.objects }
-        ensures told { Reached P.may_follow post.old (activate_told (state_of (state self.old) field) (state self.old).serving) post.new }
+        ensures told { Reached P.may_follow post.old
+            (activate_told (state_of (state self.old) field) (state self.old).serving) post.new }
     {
         let text = self.spare.take_text(self.alloc);
         tell_activate(self.serving, self.objects.field_of(field), text, post);
@@ -88,7 +94,8 @@ impl Machine {
     fn update<P: Post>(&mut self, field: Label, post: &mut P)
         requires { self.old.spare.text ≡ text_around (state_of (state self.old) field).surrounding }
         ensures state { state self.new ≡ updated (state self.old) }
-        ensures told { Reached P.may_follow post.old (update_told (state_of (state self.old) field) (state self.old).serving) post.new }
+        ensures told { Reached P.may_follow post.old (update_told (state_of (state self.old) field)
+            (state self.old).serving) post.new }
     {
         let text = self.spare.take_text(self.alloc);
         tell_update(self.serving, self.objects.field_of(field), text, post);
@@ -99,7 +106,8 @@ impl Machine {
     pub fn release<P: Post>(&mut self, post: &mut P)
         ensures state { state self.new ≡ released (state self.old) }
         ensures objects { self.new.objects.items ≡ self.old.objects.items }
-        ensures told { Reached P.may_follow post.old (release_told (state self.old).holder (state self.old).serving) post.new }
+        ensures told { Reached P.may_follow post.old
+            (release_told (state self.old).holder (state self.old).serving) post.new }
     {
         if self.holder.is_some() {
             self.holder = None;
@@ -118,7 +126,8 @@ impl Machine {
     }
 
     pub fn tell_leaves<P: Post>(&self, post: &mut P)
-        ensures { Reached P.may_follow post.old (leaves_of (state self.now) (state self.now).focus) post.new }
+        ensures { Reached P.may_follow post.old (leaves_of (state self.now) (state self.now).focus)
+            post.new }
     {
         if let Some(surface) = self.focus {
             let peer = owner_at(&self.objects, self.focus);
@@ -129,7 +138,8 @@ impl Machine {
     // The surface that has the focus may be gone, or the holder.
     pub fn part<P: Post>(&mut self, focus: bool, holder: bool, post: &mut P)
         ensures state { state self.new ≡ parted focus holder (state self.old) }
-        ensures told { Reached P.may_follow post.old (part_told focus holder (state self.old).holder (state self.old).serving) post.new }
+        ensures told { Reached P.may_follow post.old (part_told focus holder (state self.old).holder
+            (state self.old).serving) post.new }
     {
         if focus {
             self.release(post);
@@ -142,7 +152,8 @@ impl Machine {
     #[tactic(auto, using(seat_objects::proofs::Reaches::reached_append))]
     pub fn focus<P: Post>(&mut self, surface: Label, post: &mut P)
         ensures state { state self.new ≡ refocused_to (Some surface) (released (state self.old)) }
-        ensures told { Reached P.may_follow post.old (says (acts.Focus surface) (state self.old)) post.new }
+        ensures told { Reached P.may_follow post.old (says (acts.Focus surface) (state self.old))
+            post.new }
     {
         let peer = self.objects.owner(surface);
         self.tell_leaves(post);
@@ -163,9 +174,11 @@ impl Machine {
 
     // A commit of the field that does this.
     fn hold<P: Post>(&mut self, field: Label, taken: Taken, post: &mut P)
-        requires { holds_after taken ≡ true → self.old.spare.text ≡ text_around (state_of (state self.old) field).surrounding }
+        requires { holds_after taken ≡ true →
+            self.old.spare.text ≡ text_around (state_of (state self.old) field).surrounding }
         ensures state { state self.new ≡ held field taken (state self.old) }
-        ensures told { Reached P.may_follow post.old (commit_told field taken (state self.old)) post.new }
+        ensures told { Reached P.may_follow post.old (commit_told field taken (state self.old))
+            post.new }
     {
         match taken {
             Taken::Begun => {
@@ -188,10 +201,11 @@ impl Machine {
     }
 
     pub fn commit<P: Post>(&mut self, field: Label, post: &mut P)
-        requires { self.old.spare.text ≡ text_pending (field_in (find (state self.old).objects field)) }
+        requires { self.old.spare.text ≡ text_pending
+            (field_in (find (state self.old).objects field)) }
         ensures state { state self.new ≡ field_committed field (state self.old) }
-        ensures told { let taken = taken_by field (state self.old) in
-            Reached P.may_follow post.old (commit_told field taken (committing field taken (state self.old))) post.new }
+        ensures told { let taken = taken_by field (state self.old) in Reached P.may_follow post.old
+            (commit_told field taken (committing field taken (state self.old))) post.new }
     {
         let taken = taken(&self.objects, field);
         self.commit_field(field, taken);

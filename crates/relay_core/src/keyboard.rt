@@ -30,7 +30,8 @@ impl Machine {
         requires room { 0 < self.old.objects.room }
         requires above { self.old.objects.bound ≤ self.old.acts }
         ensures state { state self.new ≡ grabbed method (state self.old) }
-        ensures told { Reached P.may_follow post.old (says (acts.Grab method) (state self.old)) post.new }
+        ensures told { Reached P.may_follow post.old (says (acts.Grab method) (state self.old))
+            post.new }
     {
         self.make_by(method, Kind::Grab { method });
         if self.keys.standing().is_none() && is_number(self.serving, method) {
@@ -52,7 +53,8 @@ impl Machine {
     pub fn turn_key<P: Post>(&mut self, time: u32, key: u32, turned: u32, post: &mut P) -> Route
         ensures state { state self.new ≡ keyed key turned (state self.old) }
         ensures route { result ≡ route_in key turned (state self.old) }
-        ensures told { Reached P.may_follow post.old (says (acts.Key time key turned) (state self.old)) post.new }
+        ensures told { Reached P.may_follow post.old (says (acts.Key time key turned)
+            (state self.old)) post.new }
     {
         let route = self.keys.key(key, turned == 1);
         tell_key(route, self.acts, time, key, turned, post);
@@ -61,7 +63,8 @@ impl Machine {
 
     pub fn set_mods<P: Post>(&mut self, mods: Mods, post: &mut P)
         ensures state { state self.new ≡ moved (acts.Mods mods) (state self.old) }
-        ensures told { Reached P.may_follow post.old (says (acts.Mods mods) (state self.old)) post.new }
+        ensures told { Reached P.may_follow post.old (says (acts.Mods mods) (state self.old))
+            post.new }
     {
         self.keys.mods(mods);
         tell_grab(
@@ -76,7 +79,8 @@ impl Machine {
 
     pub fn set_keymap<P: Post>(&mut self, keymap: Keymap, post: &mut P)
         ensures state { state self.new ≡ moved (acts.Keymap keymap) (state self.old) }
-        ensures told { Reached P.may_follow post.old (says (acts.Keymap keymap) (state self.old)) post.new }
+        ensures told { Reached P.may_follow post.old (says (acts.Keymap keymap) (state self.old))
+            post.new }
     {
         self.keys.keymap(keymap);
         tell_grab(self.keys.standing(), Said::Keymap(keymap), post);
@@ -84,7 +88,8 @@ impl Machine {
 
     pub fn set_repeat<P: Post>(&mut self, repeat: Repeat, post: &mut P)
         ensures state { state self.new ≡ moved (acts.Repeat repeat) (state self.old) }
-        ensures told { Reached P.may_follow post.old (says (acts.Repeat repeat) (state self.old)) post.new }
+        ensures told { Reached P.may_follow post.old (says (acts.Repeat repeat) (state self.old))
+            post.new }
     {
         self.keys.repeat(repeat);
         tell_grab(self.keys.standing(), Said::Repeat(repeat), post);

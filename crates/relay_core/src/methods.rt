@@ -5,7 +5,10 @@ ghost use Rattle.relay_model.specs.Objects.{is_at};
 ghost use Rattle.seat_objects.specs.Reached.{Reached};
 ghost use Rattle.relay_core.specs.Kept.{state};
 ghost use Rattle.seat_objects.specs.Groups.{batch_in};
-ghost use Rattle.relay_core.specs.Machine.{served_unless, serving_unless, serves, method_made, gone, moved, after, text_around, holder_state, method_told, batch_of, is_fresh, group_of_holder, batch_told};
+ghost use Rattle.relay_core.specs.Machine.{served_unless, serving_unless, serves, method_made};
+ghost use Rattle.relay_core.specs.Machine.{gone, moved, after, text_around, holder_state};
+ghost use Rattle.relay_core.specs.Machine.{method_told, batch_of, is_fresh, group_of_holder};
+ghost use Rattle.relay_core.specs.Machine.{batch_told};
 
 use crate::machine::Machine;
 use relay_model::{Label, Text};
@@ -35,7 +38,8 @@ impl Machine {
     pub fn make_method<P: Post>(&mut self, peer: Label, post: &mut P)
         requires room { 0 < self.old.objects.room }
         requires above { self.old.objects.bound ≤ self.old.acts }
-        requires spare { self.old.spare.text ≡ text_around (holder_state (state self.old)).surrounding }
+        requires spare { self.old.spare.text ≡ text_around
+            (holder_state (state self.old)).surrounding }
         ensures state { state self.new ≡ method_made peer (state self.old) }
         ensures told { Reached P.may_follow post.old (method_told (state self.old)) post.new }
     {
@@ -85,7 +89,8 @@ impl Machine {
 
     pub fn set_preedit(&mut self, method: Label, text: &Text, begin: i32, end: i32)
         requires { length text.now ≤ 4075 }
-        ensures { state self.new ≡ moved (acts.MPreedit method text.now begin end) (state self.old) }
+        ensures { state self.new ≡ moved (acts.MPreedit method text.now begin end) (state
+            self.old) }
     {
         if self.is_editing(method) {
             self.pending.preedit(text.as_str(), begin, end);
@@ -124,7 +129,8 @@ impl Machine {
 
     fn tell_batch<P: Post>(&self, edits: Group, post: &mut P)
         requires { batch_in edits ≡ batch_of (state self.now).edits }
-        ensures { Reached P.may_follow post.old (group_of_holder (state self.now) (state self.now).holder) post.new }
+        ensures { Reached P.may_follow post.old
+            (group_of_holder (state self.now) (state self.now).holder) post.new }
     {
         if let Some(field) = self.holder {
             tell_group(field, edits, self.objects.count_of(field), post);
@@ -135,7 +141,8 @@ impl Machine {
         requires string { self.old.spare.text ≡ (state self.old).edits.string }
         requires preedit { self.old.spare.preedit ≡ (state self.old).edits.preedit.text }
         ensures state { state self.new ≡ moved (acts.MCommit method serial) (state self.old) }
-        ensures told { Reached P.may_follow post.old (batch_told method serial (state self.old)) post.new }
+        ensures told { Reached P.may_follow post.old (batch_told method serial (state self.old))
+            post.new }
     {
         if !is_number(self.serving, method) {
             return;

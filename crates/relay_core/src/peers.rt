@@ -1,4 +1,5 @@
-// The relay's part on what a peer does beside its surfaces, fields and methods: registries, syncs, bound globals and refused messages.
+// The relay's part on what a peer does beside its surfaces, fields and methods: registries, syncs,
+// bound globals and refused messages.
 ghost use Rattle.std.specs.Prelude.{◌≡◌, ◌<◌, ◌≤◌, [], ◌∷◌};
 ghost use Rattle.relay_model.specs.Globals.{globals_told};
 ghost use Rattle.relay_model.specs.Told.{to, synced};
@@ -12,7 +13,8 @@ use seat_objects::{Kind, Post, tell_deleted};
 
 // Every global has version 1.
 fn tell_global<P: Post>(registry: Label, name: u32, interface: Interface, post: &mut P)
-    ensures { Reached P.may_follow post.old (to registry (Said.Global name interface 1) ∷ []) post.new }
+    ensures { Reached P.may_follow post.old (to registry (Said.Global name interface 1) ∷ [])
+        post.new }
 {
     post.tell(&Told {
         to: registry,
@@ -71,7 +73,8 @@ impl Machine {
         requires room { 0 < self.old.objects.room }
         requires above { self.old.objects.bound ≤ self.old.acts }
         ensures state { state self.new ≡ made peer Kind.Thing (state self.old) }
-        ensures told { Reached P.may_follow post.old (globals_told (state self.old).acts role) post.new }
+        ensures told { Reached P.may_follow post.old (globals_told (state self.old).acts role)
+            post.new }
     {
         tell_globals(self.acts, role, post);
         self.make(peer, Kind::Thing);
@@ -81,7 +84,8 @@ impl Machine {
         requires room { 0 < self.old.objects.room }
         requires above { self.old.objects.bound ≤ self.old.acts }
         ensures state { state self.new ≡ made peer Kind.Thing (state self.old) }
-        ensures told { Reached P.may_follow post.old (to (state self.old).acts (Said.Capabilities 0) ∷ []) post.new }
+        ensures told { Reached P.may_follow post.old (to (state self.old).acts
+            (Said.Capabilities 0) ∷ []) post.new }
     {
         tell_capabilities(self.acts, post);
         self.make(peer, Kind::Thing);

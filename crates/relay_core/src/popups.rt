@@ -5,7 +5,8 @@ ghost use Rattle.relay_model.specs.declared.act.Act.TheVariants as acts;
 ghost use Rattle.seat_objects.specs.declared.object.Kind.TheVariants.{Popup};
 ghost use Rattle.seat_objects.specs.Reached.{Reached};
 ghost use Rattle.relay_core.specs.Kept.{state};
-ghost use Rattle.relay_core.specs.Popups.{cursor_in, origin_in, shown_told, live_told, popup_told, popups_told, popups_where_holds, new_popup_told};
+ghost use Rattle.relay_core.specs.Popups.{cursor_in, origin_in, shown_told, live_told, popup_told};
+ghost use Rattle.relay_core.specs.Popups.{popups_told, popups_where_holds, new_popup_told};
 ghost use Rattle.relay_core.specs.Machine.{made_by, moved, says};
 
 use crate::machine::Machine;
@@ -46,7 +47,8 @@ impl Machine {
         surface: Label,
         post: &mut P,
     )
-        ensures { Reached P.may_follow post.old (shown_told (state self.now) rect popup method surface) post.new }
+        ensures { Reached P.may_follow post.old (shown_told (state self.now) rect popup method
+            surface) post.new }
     {
         if !is_number(self.serving, method) {
             return;
@@ -63,7 +65,8 @@ impl Machine {
 
     // The object may be a popup.
     fn tell_popup<P: Post>(&self, rect: Rect, object: &Object, post: &mut P)
-        ensures { Reached P.may_follow post.old (popup_told (state self.now) rect object.now) post.new }
+        ensures { Reached P.may_follow post.old (popup_told (state self.now) rect object.now)
+            post.new }
     {
         match &object.kind {
             Kind::Popup { method, surface } => {
@@ -89,7 +92,8 @@ impl Machine {
 
     #[tactic(auto, using(seat_objects::proofs::Reaches::reached_append))]
     fn tell_each<P: Post>(&self, rect: Rect, popups: &[LivePopup], post: &mut P)
-        ensures { Reached P.may_follow post.old (flat_map (live_told (state self.now) rect) popups.now) post.new }
+        ensures { Reached P.may_follow post.old (flat_map (live_told (state self.now) rect)
+            popups.now) post.new }
     {
         for popup in popups {
             self.tell_shown(rect, popup.label, popup.method, popup.surface, post);
@@ -98,7 +102,8 @@ impl Machine {
 
     /// The same, where the field holds.
     pub fn tell_popups_of<P: Post>(&self, field: Label, post: &mut P)
-        ensures { Reached P.may_follow post.old (popups_where_holds field (state self.now)) post.new }
+        ensures { Reached P.may_follow post.old (popups_where_holds field (state self.now))
+            post.new }
     {
         if is_number(self.holder, field) {
             self.tell_popups(post);
@@ -109,7 +114,8 @@ impl Machine {
         requires room { 0 < self.old.objects.room }
         requires above { self.old.objects.bound ≤ self.old.acts }
         ensures state { state self.new ≡ made_by method (Popup method surface) (state self.old) }
-        ensures told { Reached P.may_follow post.old (says (acts.Popup method surface) (state self.old)) post.new }
+        ensures told { Reached P.may_follow post.old (says (acts.Popup method surface)
+            (state self.old)) post.new }
     {
         self.make_by(method, Kind::Popup { method, surface });
         self.tell_new_popup(post);
@@ -128,7 +134,8 @@ impl Machine {
 
     pub fn set_area<P: Post>(&mut self, surface: Label, rect: Rect, post: &mut P)
         ensures state { state self.new ≡ moved (acts.Area surface rect) (state self.old) }
-        ensures told { Reached P.may_follow post.old (says (acts.Area surface rect) (state self.old)) post.new }
+        ensures told { Reached P.may_follow post.old (says (acts.Area surface rect)
+            (state self.old)) post.new }
     {
         self.objects.place_surface(surface, rect);
         self.tell_popups(post);
@@ -136,7 +143,8 @@ impl Machine {
 
     pub fn set_screen<P: Post>(&mut self, size: Size, post: &mut P)
         ensures state { state self.new ≡ moved (acts.Screen size) (state self.old) }
-        ensures told { Reached P.may_follow post.old (says (acts.Screen size) (state self.old)) post.new }
+        ensures told { Reached P.may_follow post.old (says (acts.Screen size) (state self.old))
+            post.new }
     {
         self.screen = size;
         self.tell_popups(post);

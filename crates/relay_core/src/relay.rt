@@ -9,8 +9,10 @@ use std::alloc::Global;
 use std::marker::Model;
 use wio_core::NoMemory;
 
-/// The broker's state on one seat: which objects live, which surface has the focus, which field holds the seat, which method serves, and what is
-/// pending. It stands for the list of all acts that it took, of which it keeps no copy: an act costs the objects that it changes and what it tells, however many others live and whatever came before.
+/// The broker's state on one seat: which objects live, which surface has the focus, which field
+/// holds the seat, which method serves, and what is pending. It stands for the list of all acts
+/// that it took, of which it keeps no copy: an act costs the objects that it changes and what it
+/// tells, however many others live and whatever came before.
 #[derive(Drop)]
 pub struct Relay {
     machine: Machine,
@@ -73,8 +75,9 @@ impl Relay {
         self.machine.acts
     }
 
-    /// Makes the room for one act, with copies of the texts that it may tell and the place of a field that it may make. Asks that a message can carry the
-    /// act's text. The relay stands for what it stood for, also after `NoMemory`.
+    /// Makes the room for one act, with copies of the texts that it may tell and the place of a
+    /// field that it may make. Asks that a message can carry the act's text. The relay stands for
+    /// what it stood for, also after `NoMemory`.
     #[tactic(auto, using(crate::proofs::Rooms::has_room))]
     pub fn reserve(&mut self, act: &Act) -> Result<(), NoMemory>
         requires { FitsMessage act.now }
@@ -85,22 +88,27 @@ impl Relay {
         self.machine.reserve(act)
     }
 
-    /// Takes one act, for which room was made, and tells the post what it tells: one `tell` for each event, in order, and no other. The end of a peer
-    /// needs no room. Takes no memory and can't fail. At most 4,294,967,295 acts are taken. The answer is where a key act went, and none for any other act;
-    /// a press that is refused is idle, and its route says so.
+    /// Takes one act, for which room was made, and tells the post what it tells: one `tell` for
+    /// each event, in order, and no other. The end of a peer needs no room. Takes no memory and
+    /// can't fail. At most 4,294,967,295 acts are taken. The answer is where a key act went, and
+    /// none for any other act; a press that is refused is idle, and its route says so.
     pub fn step<P: Post>(&mut self, act: &Act, post: &mut P) -> Option<Route>
         requires reserved { IsReserved self.old act.now }
         requires number { self.old.state.acts < 4294967295 }
-        ensures stands { (log : List Act) → StandsFor self.old log → StandsFor self.new (act.now ∷ log) }
-        ensures told { (log : List Act) → StandsFor self.old log → Reached P.may_follow post.old (told act.now log) post.new }
-        ensures route { (log : List Act) → StandsFor self.old log → result ≡ route_told act.now log }
+        ensures stands { (log : List Act) → StandsFor self.old log →
+            StandsFor self.new (act.now ∷ log) }
+        ensures told { (log : List Act) → StandsFor self.old log →
+            Reached P.may_follow post.old (told act.now log) post.new }
+        ensures route { (log : List Act) → StandsFor self.old log → result ≡ route_told act.now
+            log }
     {
         self.machine.turn(act, post)
     }
 
     /// Whether a live popup has the surface (`zwp_input_method_v2.get_input_popup_surface` would be refused).
     pub fn has_popup(&self, surface: Label) -> bool
-        ensures { (log : List Act) → StandsFor self.now log → result ≡ has_popup (history log) surface }
+        ensures { (log : List Act) → StandsFor self.now log →
+            result ≡ has_popup (history log) surface }
     {
         self.machine.objects.has_popup(surface)
     }

@@ -32,7 +32,8 @@ impl Machine {
     fn copy_holder(&mut self) -> Result<(), NoMemory>
         ensures same { state self.new ≡ state self.old }
         ensures objects { self.new.objects ≡ self.old.objects }
-        ensures text { OnOk result (self.new.spare.text ≡ text_around (holder_state (state self.old)).surrounding) }
+        ensures text { OnOk result (self.new.spare.text ≡ text_around
+            (holder_state (state self.old)).surrounding) }
     {
         match self.objects.field_at(self.holder) {
             Some(field) => self.spare.copy_text(self.alloc, surrounding_text(field)),
@@ -43,7 +44,8 @@ impl Machine {
     fn copy_pending(&mut self, field: Label) -> Result<(), NoMemory>
         ensures same { state self.new ≡ state self.old }
         ensures objects { self.new.objects ≡ self.old.objects }
-        ensures text { OnOk result (self.new.spare.text ≡ text_pending (field_in (find (state self.old).objects field))) }
+        ensures text { OnOk result (self.new.spare.text ≡ text_pending
+            (field_in (find (state self.old).objects field))) }
     {
         match self.objects.field_of(field) {
             Some(field) => self.spare.copy_text(self.alloc, pending_text(field)),
@@ -55,7 +57,8 @@ impl Machine {
         ensures same { state self.new ≡ state self.old }
         ensures objects { self.new.objects ≡ self.old.objects }
         ensures string { OnOk result (self.new.spare.text ≡ (state self.old).edits.string) }
-        ensures preedit { OnOk result (self.new.spare.preedit ≡ (state self.old).edits.preedit.text) }
+        ensures preedit { OnOk result (self.new.spare.preedit ≡ (state
+            self.old).edits.preedit.text) }
     {
         let edits = self.pending.edits();
         self.spare.copy_text(self.alloc, edits.string)?;

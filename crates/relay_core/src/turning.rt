@@ -7,7 +7,9 @@ ghost use Rattle.seat_objects.specs.Fits.{FitsMessage};
 ghost use Rattle.seat_objects.specs.Objects.{find};
 ghost use Rattle.seat_objects.specs.Reached.{Reached};
 ghost use Rattle.relay_core.specs.Kept.{state, HasRoom, HasSpare};
-ghost use Rattle.relay_core.specs.Machine.{owner_at, entered_in, is_live_in, is_thing_in, made, new_field, serves, dropped, gone, moved, after, enter_told, drop_told, gone_told, says, tells, route_of};
+ghost use Rattle.relay_core.specs.Machine.{owner_at, entered_in, is_live_in, is_thing_in, made};
+ghost use Rattle.relay_core.specs.Machine.{new_field, serves, dropped, gone, moved, after};
+ghost use Rattle.relay_core.specs.Machine.{enter_told, drop_told, gone_told, says, tells, route_of};
 
 use crate::machine::Machine;
 use crate::peers::{tell_error, tell_synced};
@@ -131,8 +133,10 @@ impl Machine {
         requires room { 0 < self.old.objects.room }
         requires above { self.old.objects.bound ≤ self.old.acts }
         requires spare { self.old.spare.field ≡ Some change.fresh }
-        ensures state { state self.new ≡ made peer (Kind.Field (new_field peer (state self.old))) (state self.old) }
-        ensures told { Reached P.may_follow post.old (enter_told (state self.old) peer (state self.old).acts (state self.old).focus) post.new }
+        ensures state { state self.new ≡ made peer (Kind.Field (new_field peer (state self.old)))
+            (state self.old) }
+        ensures told { Reached P.may_follow post.old (enter_told (state self.old) peer
+            (state self.old).acts (state self.old).focus) post.new }
     {
         let entered = is_number(owner_at(&self.objects, self.focus), peer);
         if let Some(surface) = self.focus {

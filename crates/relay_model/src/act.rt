@@ -26,8 +26,9 @@ pub enum Word {
     Disabled,
 }
 
-/// One act. In a list the acts are numbered from 1, and an object's label is the number of the act that made it. An act that names an object that
-/// isn't alive or is of another kind is idle, as are those that `docs/MODEL.md` lists: it keeps its number, changes nothing and tells nothing.
+/// One act. In a list the acts are numbered from 1, and an object's label is the number of the act
+/// that made it. An act that names an object that isn't alive or is of another kind is idle, as are
+/// those that `docs/MODEL.md` lists: it keeps its number, changes nothing and tells nothing.
 #[derive(Debug, Drop)]
 pub enum Act {
     /// A peer joins.
@@ -164,7 +165,8 @@ pub enum Act {
     Thing {
         peer: Label,
     },
-    /// A message is refused. The object is the one that the peer is told: its `wl_display`, or the one that the message went to.
+    /// A message is refused. The object is the one that the peer is told: its `wl_display`, or the
+    /// one that the message went to.
     Bad {
         peer: Label,
         fault: Fault,

@@ -2,8 +2,9 @@
 ghost use Rattle.std.specs.Prelude.{◌≡◌};
 ghost use Rattle.relay_model.specs.Faults.{code_of, text_of};
 
-/// Why a message of a peer is refused. The tests are made in this order, and the first that fails decides. Each but the last two is told as an error of
-/// the peer's `wl_display`; those two as an error of the object that the message went to.
+/// Why a message of a peer is refused. The tests are made in this order, and the first that fails
+/// decides. Each but the last two is told as an error of the peer's `wl_display`; those two as an
+/// error of the object that the message went to.
 #[derive(Clone, Copy, Debug, PartialEq, Eq)]
 pub enum Fault {
     /// The header's size is under 8, above 4096, or no multiple of 4.
@@ -20,7 +21,8 @@ pub enum Fault {
     NewId,
     /// The peer has as many live objects as it may.
     TooMany,
-    /// A bind of a name that the role isn't offered, of another interface than the name's, or of another version than 1.
+    /// A bind of a name that the role isn't offered, of another interface than the name's, or of
+    /// another version than 1.
     Bind,
     /// A pointer, a keyboard or a touch is asked of a seat that has none.
     Capability,

@@ -1,8 +1,17 @@
 // The worked rows, which the definitions compute.
-ghost use Rattle.relay_model.specs.Rows.{OrdinaryPath, SerialBeforeAnyDone, EarlierDone, NewActivation, ResetAtActivation, EmptyBatch, CommitsBeforeTheFocus, SecondField, LateMethod, CursorInsideACharacter, DroppedSurface, FocusAgain, CauseOfOneCommit, SetBeforeEnable, WholeBatch};
-ghost use Rattle.relay_model.specs.HoldRows.{DisplacedFieldCommits, DisplacedFieldDisables, DisplacedFieldReturns, DisplacedFieldDropped};
-ghost use Rattle.relay_model.specs.KeyRows.{Routing, ReleasedAfterTheGrab, GrabsInTurn, Placement, TwoPopups, PopupWithoutSurface, RectangleReset, PopupBesidePopup, TooManyKeys};
-ghost use Rattle.relay_model.specs.SessionRows.{GlobalsOfAnApp, GlobalsOfAMethod, AnsweredSync, BoundSeat, RefusedMessages, DroppedThing, EndedPeer};
+ghost use Rattle.relay_model.specs.Rows.{OrdinaryPath, SerialBeforeAnyDone, EarlierDone};
+ghost use Rattle.relay_model.specs.Rows.{NewActivation, ResetAtActivation, EmptyBatch};
+ghost use Rattle.relay_model.specs.Rows.{CommitsBeforeTheFocus, SecondField, LateMethod};
+ghost use Rattle.relay_model.specs.Rows.{CursorInsideACharacter, DroppedSurface, FocusAgain};
+ghost use Rattle.relay_model.specs.Rows.{CauseOfOneCommit, SetBeforeEnable, WholeBatch};
+ghost use Rattle.relay_model.specs.HoldRows.{DisplacedFieldCommits, DisplacedFieldDisables};
+ghost use Rattle.relay_model.specs.HoldRows.{DisplacedFieldReturns, DisplacedFieldDropped};
+ghost use Rattle.relay_model.specs.KeyRows.{Routing, ReleasedAfterTheGrab, GrabsInTurn, Placement};
+ghost use Rattle.relay_model.specs.KeyRows.{TwoPopups, PopupWithoutSurface, RectangleReset};
+ghost use Rattle.relay_model.specs.KeyRows.{PopupBesidePopup, TooManyKeys};
+ghost use Rattle.relay_model.specs.SessionRows.{GlobalsOfAnApp, GlobalsOfAMethod, AnsweredSync};
+ghost use Rattle.relay_model.specs.SessionRows.{BoundSeat, RefusedMessages, DroppedThing};
+ghost use Rattle.relay_model.specs.SessionRows.{EndedPeer};
 
 /// What the definitions tell of the worked act lists is what was worked out by hand.
 pub fn worked_rows()
@@ -32,8 +41,8 @@ pub fn worked_rows()
     ensures too_many_keys { TooManyKeys }
 {}
 
-/// The same of a field whose seat another field takes. The worked rows above have the first such list, and the holder's own
-/// second enable.
+/// The same of a field whose seat another field takes. The worked rows above have the first such
+/// list, and the holder's own second enable.
 pub fn hold_rows()
     ensures displaced_field_commits { DisplacedFieldCommits }
     ensures displaced_field_disables { DisplacedFieldDisables }

@@ -31,7 +31,8 @@ pub enum Said {
         before: u32,
         after: u32,
     },
-    /// `zwp_text_input_v3.done`: the events before it are applied at once. The serial is the count of the field's commits.
+    /// `zwp_text_input_v3.done`: the events before it are applied at once. The serial is the count
+    /// of the field's commits.
     FieldDone {
         serial: u32,
     },

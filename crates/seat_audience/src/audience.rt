@@ -35,8 +35,9 @@ pub struct Audience {
 }
 
 impl Audience {
-    /// What a message to the object with the id makes, and whether it was refused: of the sender at the place, and of the directory. `label` is the message's
-    /// number. Asks that there is room in the directory. `NoMemory` is its one error, after which all is as before.
+    /// What a message to the object with the id makes, and whether it was refused: of the sender at
+    /// the place, and of the directory. `label` is the message's number. Asks that there is room in
+    /// the directory. `NoMemory` is its one error, after which all is as before.
     pub fn change(
         &mut self,
         place: usize,
@@ -47,11 +48,15 @@ impl Audience {
         requires place { place < length self.old.live.items }
         requires room { 0 < self.old.directory.room }
         requires newest { IsNewest label self.old.directory.made }
-        requires unused { IfSome (slice_get self.old.live.items place) (λ l. finite.get l.table.ids label ≡ None) }
+        requires unused { IfSome (slice_get self.old.live.items place)
+            (λ l. finite.get l.table.ids label ≡ None) }
         requires accepted { IfSome (slice_get self.old.live.items place)
             (λ l. IfSome meaning.now.made (λ new. refusal_of l.table new.id ≡ None)) }
-        ensures changed { OnOk result (IsChangedAt place id label meaning.now.act (option_map asked meaning.now.made) self.old.live.items self.new.live.items) }
-        ensures made { IfSome (slice_get self.old.live.items place) (λ l. OnOk result (self.new.directory.made ≡ made_new l.label label (option_map asked meaning.now.made) ++ self.old.directory.made)) }
+        ensures changed { OnOk result (IsChangedAt place id label meaning.now.act
+            (option_map asked meaning.now.made) self.old.live.items self.new.live.items) }
+        ensures made { IfSome (slice_get self.old.live.items place)
+            (λ l. OnOk result (self.new.directory.made ≡ made_new l.label label
+            (option_map asked meaning.now.made) ++ self.old.directory.made)) }
         ensures err { OnErr result (self.new.live.items ≡ self.old.live.items) }
         ensures err_made { OnErr result (self.new.directory.made ≡ self.old.directory.made) }
     {
@@ -70,7 +75,8 @@ impl Audience {
 
     // The id of the object that the event names, or 0.
     fn id_named(&self, said: &Said) -> u32
-        ensures { IfSome (named said.now) (λ label. id_of (made_as self.now.directory.made label) ≡ result) }
+        ensures { IfSome (named said.now) (λ label.
+            id_of (made_as self.now.directory.made label) ≡ result) }
     {
         let Some(label) = named(said) else {
             return 0;
@@ -83,7 +89,8 @@ impl Audience {
 
     // Gathers the event for the peer that it is told to. A message is never too long for the wire.
     fn gather(&mut self, told: &Told)
-        ensures live { IsShort told.now → self.new.live.items ≡ map (listens self.old.directory.made told.now) self.old.live.items }
+        ensures live { IsShort told.now → self.new.live.items ≡ map
+            (listens self.old.directory.made told.now) self.old.live.items }
         ensures directory { self.new.directory ≡ self.old.directory }
     {
         let Some(to) = self.directory.find(told.to) else {

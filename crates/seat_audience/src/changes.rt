@@ -15,7 +15,8 @@ use wio_core::NoMemory;
 fn make(table: &mut Table, label: Label, new: Option<Argument>) -> Result<(), NoMemory>
     requires unused { map.get table.old.ids label ≡ None }
     requires accepted { IfSome new (λ a. refusal_of table.old a.id ≡ None) }
-    ensures ok { (calls : List Call) → Stands calls table.old → OnOk result (Stands (make_calls label (option_map asked new) ++ calls) table.new) }
+    ensures ok { (calls : List Call) → Stands calls table.old →
+        OnOk result (Stands (make_calls label (option_map asked new) ++ calls) table.new) }
     ensures err { OnErr result (table.new ≡ table.old) }
 {
     let Some(new) = new else {
@@ -28,8 +29,8 @@ fn make(table: &mut Table, label: Label, new: Option<Argument>) -> Result<(), No
     }
 }
 
-/// What a message to the object with the id makes of its sender's objects. `label` is the message's number. `NoMemory` is its one error, after which all is
-/// as before.
+/// What a message to the object with the id makes of its sender's objects. `label` is the message's
+/// number. `NoMemory` is its one error, after which all is as before.
 pub(crate) fn change(
     table: &mut Table,
     id: u32,
@@ -38,7 +39,9 @@ pub(crate) fn change(
 ) -> Result<(), NoMemory>
     requires unused { map.get table.old.ids label ≡ None }
     requires accepted { IfSome meaning.now.made (λ a. refusal_of table.old a.id ≡ None) }
-    ensures ok { (calls : List Call) → Stands calls table.old → OnOk result (Stands (own_calls id label meaning.now.act (option_map asked meaning.now.made) ++ calls) table.new) }
+    ensures ok { (calls : List Call) → Stands calls table.old →
+        OnOk result (Stands (own_calls id label meaning.now.act
+        (option_map asked meaning.now.made) ++ calls) table.new) }
     ensures err { OnErr result (table.new ≡ table.old) }
 {
     match &meaning.act {

@@ -15,9 +15,11 @@ use wl_proto::{Event, event_len, write_event};
 // The fewest bytes of a message with a token.
 const SPACING: usize = 16;
 
-/// A buffer in which the group of one act for one peer is gathered. From the first event on that does not fit, all are left out.
+/// A buffer in which the group of one act for one peer is gathered. From the first event on that
+/// does not fit, all are left out.
 ///
-/// In contracts it is a `Gathered`: what is gathered, the capacity, and whether something was left out. Only `new` takes memory.
+/// In contracts it is a `Gathered`: what is gathered, the capacity, and whether something was left
+/// out. Only `new` takes memory.
 #[derive(Drop)]
 pub struct Gathering {
     // As many as the capacity, of which the first `len` are the group's.
@@ -53,7 +55,8 @@ impl Model for Gathering {
 fn write_behind(bytes: &mut [u8], len: usize, id: u32, event: &Event)
     requires short { message_len (event_message event.now) ≤ 4096 }
     requires room { len + message_len (event_message event.now) ≤ length bytes.old }
-    ensures { take (len + message_len (event_message event.now)) bytes.new ≡ take len bytes.old ++ message_bytes id (event_message event.now) }
+    ensures { take (len + message_len (event_message event.now)) bytes.new ≡ take len bytes.old ++
+        message_bytes id (event_message event.now) }
 {
     write_event(id, event, &mut bytes[len..]);
 }
@@ -61,7 +64,8 @@ fn write_behind(bytes: &mut [u8], len: usize, id: u32, event: &Event)
 // Adds the token of a message that begins at the offset, if it has one.
 fn add_token(tokens: &mut Vec<(usize, u32)>, offset: usize, token: Option<u32>)
     requires room { IfSome token (λ _. vec_len tokens.old < vec_capacity tokens.old) }
-    ensures added { map token_of_pair tokens.new.items ≡ map token_of_pair tokens.old.items ++ map (later offset) (first_token token) }
+    ensures added { map token_of_pair tokens.new.items ≡ map token_of_pair tokens.old.items ++ map
+        (later offset) (first_token token) }
     ensures number { vec_len tokens.new ≡ vec_len tokens.old + length (first_token token) }
     ensures capacity { vec_capacity tokens.old ≤ vec_capacity tokens.new }
 {
@@ -92,8 +96,8 @@ impl Gathering {
         self.is_over = false;
     }
 
-    /// Puts the event to the object with the id behind what is gathered, with the token of its descriptor, if it has one; or leaves it out where it doesn't
-    /// fit or one before it didn't.
+    /// Puts the event to the object with the id behind what is gathered, with the token of its
+    /// descriptor, if it has one; or leaves it out where it doesn't fit or one before it didn't.
     pub fn put(&mut self, id: u32, event: &Event, token: Option<u32>)
         requires short { message_len (event_message event.now) ≤ 4096 }
         requires token { tokens_in (event_message event.now).values ≡ first_token token }

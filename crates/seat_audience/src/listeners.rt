@@ -1,5 +1,7 @@
 // The live peers, and which of them an act has to do with.
-ghost use Rattle.std.specs.Prelude.{◌≡◌, ℕ, true, ◌≤◌, ◌<◌, ◌++◌, ◌∷◌, [], false, length, filter, map, min, not, take, drop, get_or, None, option_map, IfSome, IfNone, OnOk, OnErr};
+ghost use Rattle.std.specs.Prelude.{◌≡◌, ℕ, true, ◌≤◌, ◌<◌, ◌++◌, ◌∷◌, [], false, length, filter};
+ghost use Rattle.std.specs.Prelude.{map, min, not, take, drop, get_or, None, option_map, IfSome};
+ghost use Rattle.std.specs.Prelude.{IfNone, OnOk, OnErr};
 ghost use Rattle.std.specs.List.{slice_get};
 ghost use Rattle.std.specs.FinMap as finite;
 ghost use Rattle.im_objects.specs.Objects.{refusal_of};
@@ -13,7 +15,9 @@ ghost use Rattle.seat_audience.specs.declared.live.Live.{Live};
 ghost use Rattle.seat_audience.specs.Changes.{IsChangedAt, first_due};
 ghost use Rattle.seat_audience.specs.Lives.{cleared, hears_message, delivered, is_number, number_of, AreRising};
 ghost use Rattle.seat_audience.specs.Marks.{is_marked, AreWithin};
-ghost use Rattle.seat_audience.specs.Visits.{map_at, at_marked, cause_of, changed_at, refusing, waits, taken, IsAt, HasNone, IsAboveAll, AreInOrder, IsNew, IsQuiet};
+ghost use Rattle.seat_audience.specs.Visits.{map_at, at_marked, cause_of, changed_at, refusing};
+ghost use Rattle.seat_audience.specs.Visits.{waits, taken, IsAt, HasNone, IsAboveAll, AreInOrder};
+ghost use Rattle.seat_audience.specs.Visits.{IsNew, IsQuiet};
 
 use crate::directory::Named;
 use crate::live::Live;
@@ -27,7 +31,8 @@ use std::marker::Model;
 use wio_core::NoMemory;
 use wl_proto::Event;
 
-/// The live peers by rising number. What is done for all of them visits those alone that an act told, or that have to be ended.
+/// The live peers by rising number. What is done for all of them visits those alone that an act
+/// told, or that have to be ended.
 ///
 /// In contracts it is the list of them, and for how many more there is room.
 #[derive(Drop)]
@@ -256,8 +261,9 @@ impl Listeners {
         self.peers.wait(place, tokens);
     }
 
-    /// What a message to the object with the id makes of the peer at the place, and whether it was refused. `label` is the message's number. `NoMemory` is its
-    /// one error, after which all is as before.
+    /// What a message to the object with the id makes of the peer at the place, and whether it was
+    /// refused. `label` is the message's number. `NoMemory` is its one error, after which all is as
+    /// before.
     pub(crate) fn change(
         &mut self,
         place: usize,

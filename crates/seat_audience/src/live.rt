@@ -71,13 +71,14 @@ impl Live {
         })
     }
 
-    /// What a message to the object with the id makes, and whether it was refused. `label` is the message's number. `NoMemory` is its one error, after which
-    /// all is as before.
+    /// What a message to the object with the id makes, and whether it was refused. `label` is the
+    /// message's number. `NoMemory` is its one error, after which all is as before.
     pub fn change(&mut self, id: u32, label: Label, meaning: &Meaning) -> Result<(), NoMemory>
         requires unused { finite.get self.old.table.ids label ≡ None }
         requires accepted { IfSome meaning.now.made (λ new. refusal_of self.old.table new.id
             ≡ None) }
-        ensures changed { OnOk result (IsChanged id label meaning.now.act (option_map asked meaning.now.made) self.old self.new) }
+        ensures changed { OnOk result (IsChanged id label meaning.now.act
+            (option_map asked meaning.now.made) self.old self.new) }
         ensures kept { self.new ≡ rewritten self.new self.old }
         ensures err { OnErr result (self.new ≡ self.old) }
     {

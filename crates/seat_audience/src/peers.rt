@@ -1,5 +1,6 @@
 // The live peers, by rising number and label.
-ghost use Rattle.std.specs.Prelude.{◌≡◌, ◌≤◌, ◌<◌, ◌+◌, ◌++◌, ◌∷◌, [], length, min, take, drop, None, option_map, IfSome, IfNone, OnOk, OnErr};
+ghost use Rattle.std.specs.Prelude.{◌≡◌, ◌≤◌, ◌<◌, ◌+◌, ◌++◌, ◌∷◌, [], length, min, take, drop};
+ghost use Rattle.std.specs.Prelude.{None, option_map, IfSome, IfNone, OnOk, OnErr};
 ghost use Rattle.std.specs.List.{slice_get, remove};
 ghost use Rattle.std.specs.FinMap as finite;
 ghost use Rattle.im_objects.specs.Objects.{refusal_of};
@@ -12,7 +13,8 @@ ghost use Rattle.seat_wire.specs.Asked.{asked};
 ghost use Rattle.seat_audience.specs.declared.live.Live.{Live};
 ghost use Rattle.seat_audience.specs.Changes.{IsChangedAt};
 ghost use Rattle.seat_audience.specs.Lives.{cleared, hears_message, delivered};
-ghost use Rattle.seat_audience.specs.Visits.{changed_at, refusing, rewritten, waits, taken, IsAt, HasNone, IsAboveAll, AreInOrder};
+ghost use Rattle.seat_audience.specs.Visits.{changed_at, refusing, rewritten, waits, taken, IsAt};
+ghost use Rattle.seat_audience.specs.Visits.{HasNone, IsAboveAll, AreInOrder};
 
 use crate::directory::Named;
 use crate::live::Live;
@@ -62,7 +64,11 @@ fn at_distance(places: &[Place], number: u32) -> Option<usize>
     let first = places.first()?;
     let at = number.checked_sub(first.number)? as usize;
     let place = places.get(at)?;
-    if place.number == number { Some(at) } else { None }
+    if place.number == number {
+        Some(at)
+    } else {
+        None
+    }
 }
 
 impl Peers {
@@ -219,7 +225,8 @@ impl Peers {
         self.slab[key].waiting = tokens;
     }
 
-    /// What a message to the object with the id makes of the peer at the place. `NoMemory` is its one error, after which all is as before.
+    /// What a message to the object with the id makes of the peer at the place. `NoMemory` is its
+    /// one error, after which all is as before.
     pub(crate) fn change(
         &mut self,
         place: usize,

@@ -87,7 +87,8 @@ pub fn refocus_entered(
     peer: Option<Label>,
 )
     requires { PeersRise fields.now }
-    ensures items { shelf.new.items ≡ map (refocused_in (visited entered fields.now) peer) shelf.old.items }
+    ensures items { shelf.new.items ≡ map (refocused_in (visited entered fields.now) peer)
+        shelf.old.items }
     ensures room { shelf.new.room ≡ shelf.old.room }
 {
     match entered {

@@ -1,7 +1,10 @@
 // The live objects of a seat: found by label, with the fields of each peer and the popups listed beside.
 ghost use Rattle.std.specs.Prelude.{◌≡◌, ◌≢◌, ◌≤◌, ◌<◌, ◌+◌, ◌∷◌, [], ◌++◌, map, filter, option_map, Some, OnOk};
 ghost use Rattle.seat_objects.specs.Fits.{FitsMessage};
-ghost use Rattle.seat_objects.specs.Objects.{find, owner_in, area_in, has_popup_in, not_label, not_peer, requested, refocused, committed, placed_at, field_in, field_at, count_in, is_peer_in, is_field_in, is_surface_in, is_method_in};
+ghost use Rattle.seat_objects.specs.Objects.{find, owner_in, area_in, has_popup_in, not_label};
+ghost use Rattle.seat_objects.specs.Objects.{not_peer, requested, refocused, committed, placed_at};
+ghost use Rattle.seat_objects.specs.Objects.{field_in, field_at, count_in, is_peer_in, is_field_in};
+ghost use Rattle.seat_objects.specs.Objects.{is_surface_in, is_method_in};
 ghost use Rattle.seat_objects.specs.Listed.{fields_of, popups_of};
 
 use crate::change::Change;

@@ -5,7 +5,9 @@ ghost use Rattle.relay_model.specs.Batch.{deletion_said, string_said, preedit_sa
 ghost use Rattle.relay_model.specs.Told.{to, deleted};
 ghost use Rattle.seat_objects.specs.Reached.{Reached};
 ghost use Rattle.seat_objects.specs.Groups.{preedit_in, batch_in};
-ghost use Rattle.seat_objects.specs.Saying.{said_to, told_each, current_of, text_around, around_told, state_told, group_told, activate_told, update_told, deactivate_told};
+ghost use Rattle.seat_objects.specs.Saying.{said_to, told_each, current_of, text_around};
+ghost use Rattle.seat_objects.specs.Saying.{around_told, state_told, group_told, activate_told};
+ghost use Rattle.seat_objects.specs.Saying.{update_told, deactivate_told};
 
 use crate::listed::LiveField;
 use crate::objects::Objects;
@@ -17,14 +19,16 @@ pub trait Post {
     /// The post before, what it is told, and a post that may follow.
     ghost may_follow: { Self → Told → Self → Type 0 };
 
-    /// Always returns. A post that needs memory keeps a mark that it found none, and from then on drops what it is told; its relation says so.
+    /// Always returns. A post that needs memory keeps a mark that it found none, and from then on
+    /// drops what it is told; its relation says so.
     fn tell(&mut self, told: &Told)
         ensures { may_follow self.old told.now self.new };
 }
 
 /// Tells the field that the surface has the focus.
 pub fn tell_enter<P: Post>(field: Label, surface: Label, post: &mut P)
-    ensures { Reached P.may_follow post.old (record { to = field; event = Said.Enter surface } ∷ []) post.new }
+    ensures { Reached P.may_follow post.old (record { to = field; event = Said.Enter surface } ∷ [])
+        post.new }
 {
     post.tell(&Told {
         to: field,
@@ -42,7 +46,8 @@ fn enter_each<P: Post>(fields: &[LiveField], surface: Label, post: &mut P)
 
 /// Tells each field of the peer that the surface has the focus, by rising label.
 pub fn tell_enters<P: Post>(objects: &Objects, peer: Option<Label>, surface: Label, post: &mut P)
-    ensures { Reached P.may_follow post.old (said_to (Said.Enter surface) peer objects.now.items) post.new }
+    ensures { Reached P.may_follow post.old (said_to (Said.Enter surface) peer objects.now.items)
+        post.new }
 {
     if let Some(peer) = peer {
         enter_each(objects.fields_of(peer), surface, post);
@@ -50,7 +55,8 @@ pub fn tell_enters<P: Post>(objects: &Objects, peer: Option<Label>, surface: Lab
 }
 
 fn tell_leave<P: Post>(field: Label, surface: Label, post: &mut P)
-    ensures { Reached P.may_follow post.old (record { to = field; event = Said.Leave surface } ∷ []) post.new }
+    ensures { Reached P.may_follow post.old (record { to = field; event = Said.Leave surface } ∷ [])
+        post.new }
 {
     post.tell(&Told {
         to: field,
@@ -68,7 +74,8 @@ fn leave_each<P: Post>(fields: &[LiveField], surface: Label, post: &mut P)
 
 /// Tells each field of the peer that the surface has the focus no longer, by rising label.
 pub fn tell_leaves<P: Post>(objects: &Objects, peer: Option<Label>, surface: Label, post: &mut P)
-    ensures { Reached P.may_follow post.old (said_to (Said.Leave surface) peer objects.now.items) post.new }
+    ensures { Reached P.may_follow post.old (said_to (Said.Leave surface) peer objects.now.items)
+        post.new }
 {
     if let Some(peer) = peer {
         leave_each(objects.fields_of(peer), surface, post);
@@ -77,7 +84,8 @@ pub fn tell_leaves<P: Post>(objects: &Objects, peer: Option<Label>, surface: Lab
 
 fn tell_around<P: Post>(method: Label, field: &Field, text: Text, post: &mut P)
     requires { text ≡ text_around field.now.current.surrounding }
-    ensures { Reached P.may_follow post.old (around_told method field.now.current.surrounding field.now.current.cause) post.new }
+    ensures { Reached P.may_follow post.old
+        (around_told method field.now.current.surrounding field.now.current.cause) post.new }
 {
     if let Some((_, cursor, anchor)) = field.surrounding() {
         post.tell(&Told {
@@ -98,7 +106,8 @@ fn tell_around<P: Post>(method: Label, field: &Field, text: Text, post: &mut P)
 }
 
 fn tell_content<P: Post>(method: Label, hint: u32, purpose: u32, post: &mut P)
-    ensures { Reached P.may_follow post.old (to method (Said.ContentType hint purpose) ∷ to method Said.MethodDone ∷ []) post.new }
+    ensures { Reached P.may_follow post.old (to method (Said.ContentType hint purpose) ∷ to method
+        Said.MethodDone ∷ []) post.new }
 {
     post.tell(&Told {
         to: method,
@@ -114,7 +123,8 @@ fn tell_content<P: Post>(method: Label, hint: u32, purpose: u32, post: &mut P)
 #[tactic(auto, using(crate::proofs::Reaches::reached_append))]
 fn tell_state<P: Post>(method: Label, field: Option<&Field>, text: Text, post: &mut P)
     requires { text ≡ text_around (current_of (option_map (λ f. f.now) field)).surrounding }
-    ensures { Reached P.may_follow post.old (state_told method (current_of (option_map (λ f. f.now) field.entry))) post.new }
+    ensures { Reached P.may_follow post.old (state_told method
+        (current_of (option_map (λ f. f.now) field.entry))) post.new }
 {
     let Some(field) = field else {
         tell_content(method, 0, 0, post);
@@ -133,7 +143,8 @@ pub fn tell_update<P: Post>(
     post: &mut P,
 )
     requires { text ≡ text_around (current_of (option_map (λ f. f.now) holder)).surrounding }
-    ensures { Reached P.may_follow post.old (update_told (current_of (option_map (λ f. f.now) holder.entry)) serving) post.new }
+    ensures { Reached P.may_follow post.old (update_told
+        (current_of (option_map (λ f. f.now) holder.entry)) serving) post.new }
 {
     if let Some(method) = serving {
         tell_state(method, holder, text, post);
@@ -148,7 +159,8 @@ pub fn tell_activate<P: Post>(
     post: &mut P,
 )
     requires { text ≡ text_around (current_of (option_map (λ f. f.now) holder)).surrounding }
-    ensures { Reached P.may_follow post.old (activate_told (current_of (option_map (λ f. f.now) holder.entry)) serving) post.new }
+    ensures { Reached P.may_follow post.old (activate_told
+        (current_of (option_map (λ f. f.now) holder.entry)) serving) post.new }
 {
     if let Some(method) = serving {
         post.tell(&Told {
@@ -178,7 +190,8 @@ pub fn tell_deactivate<P: Post>(serving: Option<Label>, post: &mut P)
 
 /// Tells the method that another one serves.
 pub fn tell_unavailable<P: Post>(method: Label, post: &mut P)
-    ensures { Reached P.may_follow post.old (record { to = method; event = Said.Unavailable } ∷ []) post.new }
+    ensures { Reached P.may_follow post.old (record { to = method; event = Said.Unavailable } ∷ [])
+        post.new }
 {
     post.tell(&Told {
         to: method,
@@ -222,7 +235,8 @@ pub struct Preedit {
     pub end: i32,
 }
 
-/// Tells the holder a batch: its deletion, its string and its preedit, each unless it is empty, and the done with the count of the field's commits.
+/// Tells the holder a batch: its deletion, its string and its preedit, each unless it is empty, and
+/// the done with the count of the field's commits.
 pub fn tell_group<P: Post>(field: Label, edits: Group, count: u32, post: &mut P)
     ensures { Reached P.may_follow post.old (group_told (batch_in edits) count field) post.new }
 {
@@ -242,7 +256,8 @@ fn tell_done<P: Post>(field: Label, count: u32, post: &mut P)
 }
 
 fn tell_deletion<P: Post>(field: Label, before: u32, after: u32, post: &mut P)
-    ensures { Reached P.may_follow post.old (map (to field) (deletion_said (record { before = before; after = after }))) post.new }
+    ensures { Reached P.may_follow post.old (map (to field)
+        (deletion_said (record { before = before; after = after }))) post.new }
 {
     if before != 0 || after != 0 {
         post.tell(&Told {
@@ -264,7 +279,8 @@ fn tell_string<P: Post>(field: Label, string: Text, post: &mut P)
 }
 
 fn tell_preedit<P: Post>(field: Label, preedit: Preedit, post: &mut P)
-    ensures { Reached P.may_follow post.old (map (to field) (preedit_said (preedit_in preedit))) post.new }
+    ensures { Reached P.may_follow post.old (map (to field) (preedit_said (preedit_in preedit)))
+        post.new }
 {
     if !(preedit.text.is_empty() && preedit.begin == 0 && preedit.end == 0) {
         post.tell(&Told {

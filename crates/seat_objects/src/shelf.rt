@@ -1,5 +1,6 @@
 // The live objects in a slab, each found by its label.
-ghost use Rattle.std.specs.Prelude.{◌≡◌, ◌≤◌, ◌<◌, ◌+◌, ◌∷◌, [], ◌++◌, ◌==◌, count_by, map, filter, option_map, None, OnOk};
+ghost use Rattle.std.specs.Prelude.{◌≡◌, ◌≤◌, ◌<◌, ◌+◌, ◌∷◌, [], ◌++◌, ◌==◌, count_by, map, filter};
+ghost use Rattle.std.specs.Prelude.{option_map, None, OnOk};
 ghost use Rattle.slab.specs.Slab.{ContainsKey, Updates, slab_len};
 ghost use Rattle.seat_objects.specs.Changes.{FitsChange, changed_at};
 ghost use Rattle.seat_objects.specs.Objects.{find, not_label, not_peer};
@@ -50,7 +51,8 @@ fn empty_slot(slab: &mut Slab<Object>, key: usize)
 fn empty_slots(slab: &mut Slab<Object>, places: &[Place], peer: Label)
     requires { Stands slab.old places.now }
     ensures others { KeepsOthers slab.old slab.new places.now peer }
-    ensures emptied { slab_len slab.new + count_by (λ p. p.peer == peer) places.now ≡ slab_len slab.old }
+    ensures emptied { slab_len slab.new + count_by (λ p. p.peer == peer) places.now ≡ slab_len
+        slab.old }
     ensures capacity { slab.new.capacity ≡ slab.old.capacity }
 {
     for place in places {

@@ -32,7 +32,8 @@ fn add_head(
     number: u32,
     entry: &Entry,
 ) -> Result<(), NoMemory>
-    ensures { OnOk result (string_bytes text.new ≡ string_bytes text.old ++ head_text number entry.now) }
+    ensures { OnOk result (string_bytes text.new ≡ string_bytes text.old ++ head_text number
+        entry.now) }
 {
     match entry {
         Entry::End { peer, cause } => {
@@ -49,7 +50,8 @@ fn add_head(
 
 // What the shell was told goes behind the text, and none is left.
 fn move_behind(text: &mut String, shell: &mut String) -> Result<(), NoMemory>
-    ensures text { OnOk result (string_bytes text.new ≡ string_bytes text.old ++ string_bytes shell.old) }
+    ensures text { OnOk result (string_bytes text.new ≡ string_bytes text.old ++ string_bytes
+        shell.old) }
     ensures shell { OnOk result (string_bytes shell.new ≡ []) }
     ensures err { OnErr result (string_bytes text.new ≡ string_bytes text.old) }
 {
@@ -69,8 +71,8 @@ fn begin_entry(
     number: u32,
     entry: &Entry,
 ) -> Result<(), NoMemory>
-    ensures text { OnOk result
-        (string_bytes text.new ≡ string_bytes text.old ++ (string_bytes shell.old ++ head_text number entry.now)) }
+    ensures text { OnOk result (string_bytes text.new ≡ string_bytes text.old ++
+        (string_bytes shell.old ++ head_text number entry.now)) }
     ensures shell { OnOk result (string_bytes shell.new ≡ []) }
     ensures err { OnErr result (string_bytes text.new ≡ string_bytes text.old) }
 {

@@ -11,8 +11,9 @@ use std::process::Abort;
 use std::test::Fail;
 use wio_core::NoMemory;
 
-// Rows 1 to 9, each up to its `end`: the ordinary path, a serial before any done, an earlier done of the same activation, a
-// new activation, edits from before it, an empty batch, commits before the focus, a second field, a late method.
+// Rows 1 to 9, each up to its `end`: the ordinary path, a serial before any done, an earlier done
+// of the same activation, a new activation, edits from before it, an empty batch, commits before
+// the focus, a second field, a late method.
 static ROWS: [&str; 107] = [
     "peer",
     "surface 1",

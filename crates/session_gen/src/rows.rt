@@ -2,7 +2,9 @@
 ghost use Rattle.std.specs.Prelude.{◌≡◌, IfOk, pos, codes};
 ghost use Rattle.wl_proto.specs.Rows.{request_message};
 ghost use Rattle.seat_steps.specs.Ranges.{IsStep};
-ghost use Rattle.session_gen.specs.Sending.{IsShort, field_sends, method_sends, set_surrounding_text, commit_string, set_preedit_string};
+ghost use Rattle.session_gen.specs.Sending.{IsShort, field_sends, method_sends};
+ghost use Rattle.session_gen.specs.Sending.{set_surrounding_text, commit_string};
+ghost use Rattle.session_gen.specs.Sending.{set_preedit_string};
 ghost use Rattle.session_gen.specs.Rows.{row_of, row_step, drawn, letter};
 ghost use Rattle.wl_proto.specs.declared.request.Request.TheVariants.{DeleteSurroundingText, InputMethodCommit};
 

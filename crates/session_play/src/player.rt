@@ -57,14 +57,16 @@ fn ended(stop: Stop, text: String) -> PlayEnd
 }
 
 impl Player {
-    ghost use Rattle.std.specs.Prelude.{◌≡◌, [], length, false, true, Some, None, Err, IfOk, IfErr, IfSome, OnOk, OnErr};
+    ghost use Rattle.std.specs.Prelude.{◌≡◌, [], length, false, true, Some, None, Err, IfOk, IfErr};
+    ghost use Rattle.std.specs.Prelude.{IfSome, OnOk, OnErr};
     ghost use Rattle.seat_steps.specs.Ranges.{IsLimits};
     ghost use Rattle.session_text.specs.Steps.{IsSessionLine};
     ghost use Rattle.session_text.specs.declared.line.SessionLine.TheVariants as lines;
     ghost use Rattle.broker_model.specs.Settle.{history, outer};
     ghost use Rattle.broker_model.specs.Stamps.{stamps, step_stamps};
     ghost use Rattle.session_play.specs.Played.{line_played};
-    ghost use Rattle.session_play.specs.Playing.{AreStamped, IsPlayed, IsWatched, IsMore, IsWritten, IsStopped, IsAgain, stop_of};
+    ghost use Rattle.session_play.specs.Playing.{AreStamped, IsPlayed, IsWatched, IsMore};
+    ghost use Rattle.session_play.specs.Playing.{IsWritten, IsStopped, IsAgain, stop_of};
 
     /// Nobody joined yet. Asks for limits in their ranges. `NoMemory` is its one error.
     pub fn new(alloc: Global, limits: Limits) -> Result<Player, NoMemory>
@@ -187,10 +189,11 @@ impl Player {
     /// After an error each line answers the same with an empty text, and nothing is played.
     pub fn line(&mut self, line: &SessionLine, stamp: Stamp) -> Result<String, PlayEnd>
         requires valid { IsSessionLine line.now }
-        ensures ok { self.old.is_spent ≡ false → IfOk result (λ text.
-            let p = line_played self.old.limits line.now self.old.play in
-            (p.is_full ≡ false) × (self.new ≡ record self.old { play = p.play; stamps = self.new.stamps })
-            × IsWritten self.old.limits.store self.old.play p.play text) }
+        ensures ok { self.old.is_spent ≡ false → IfOk result
+            (λ text. let p = line_played self.old.limits line.now self.old.play in
+            (p.is_full ≡ false) × (self.new ≡ record self.old
+            { play = p.play; stamps = self.new.stamps }) ×
+            IsWritten self.old.limits.store self.old.play p.play text) }
         ensures full { self.old.is_spent ≡ false → IfErr result (IsStopped self.old.limits.store
             (line_played self.old.limits line.now self.old.play) self.old.play self.new.play) }
         ensures stopped { IfErr result (λ e. self.new.stopped ≡ Some (stop_of e)) }

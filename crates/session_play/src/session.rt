@@ -85,7 +85,8 @@ impl Session {
     ghost use Rattle.broker_core.specs.declared.taking.Standing.TheVariants.{Alive};
     ghost use Rattle.broker_model.specs.Out.{stored};
     ghost use Rattle.broker_core.specs.Taking.{lives, out_at, standing_of};
-    ghost use Rattle.session_play.specs.Played.{step_played, gone_played, join_played, take_played, tokens_played, line_played};
+    ghost use Rattle.session_play.specs.Played.{step_played, gone_played, join_played, take_played};
+    ghost use Rattle.session_play.specs.Played.{tokens_played, line_played};
     ghost use Rattle.session_play.specs.Playing.{AreStamped, IsPlayed, IsWatched, IsThere, IsEnough};
 
     /// Nobody joined yet. `NoMemory` is its one error.

@@ -22,9 +22,10 @@ pub(crate) struct Words<'a> {
 
 // The first space among the first bytes, as many as are near.
 fn near_space(line: &[u8]) -> Option<usize>
-    ensures found { IfSome result (λ at. NoneBefore (Passes (is_byte 32) line.now) 0 (length line.now) at
-        × Passes (is_byte 32) line.now at) }
-    ensures none { IfNone result (Nowhere (Passes (is_byte 32) line.now) 0 (min 12 (length line.now))) }
+    ensures found { IfSome result (λ at. NoneBefore (Passes (is_byte 32) line.now) 0
+        (length line.now) at × Passes (is_byte 32) line.now at) }
+    ensures none { IfNone result (Nowhere (Passes (is_byte 32) line.now) 0
+        (min 12 (length line.now))) }
 {
     let near = NEAR.min(line.len());
     let mut at = 0;

@@ -106,7 +106,8 @@ fn checked_text(bytes: Vec<u8>) -> Result<Text, BadLine>
 
 // From one to so many bytes, where the word is pairs of digits in lower case.
 fn lower_bytes(alloc: Global, limit: usize, word: &[u8]) -> Result<Option<Vec<u8>>, BadLine>
-    ensures read { IfOk result (λ found. IfSome found (λ v. bytes_of limit word.now ≡ Some v.items)) }
+    ensures read { IfOk result (λ found. IfSome found (λ v. bytes_of limit word.now ≡ Some
+        v.items)) }
     ensures memory { IfErr result (λ e. e ≡ NoMemory) }
 {
     let length = word.len() / 2;

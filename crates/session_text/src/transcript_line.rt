@@ -88,7 +88,8 @@ pub fn write_out(
     tokens: &[(usize, u32)],
     line: &mut String,
 ) -> Result<(), NoMemory>
-    ensures value { OnOk result (string_bytes line.new ≡ out_line number peer group.now tokens.now) }
+    ensures value { OnOk result (string_bytes line.new ≡ out_line number peer group.now
+        tokens.now) }
     ensures clean { OnOk result (IsTrue (has_no_zero (string_bytes line.new))) }
 {
     let hex = hex_of(alloc, group)?;

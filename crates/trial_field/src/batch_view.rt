@@ -15,7 +15,8 @@ pub struct BatchView<'a> {
     pub after: u32,
     /// The text to insert, at most [`MAX_STRING`] bytes with no zero byte (`commit_string`).
     pub string: &'a str,
-    /// The text to show at the cursor beside the text, at most [`MAX_PREEDIT`] bytes with no zero byte (`set_preedit_string`).
+    /// The text to show at the cursor beside the text, at most [`MAX_PREEDIT`] bytes with no zero
+    /// byte (`set_preedit_string`).
     pub preedit: &'a str,
     /// Where the preedit's cursor begins, a byte offset in the preedit; any number, since it is relayed unchanged.
     pub begin: i32,

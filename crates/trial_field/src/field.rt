@@ -1,7 +1,10 @@
 // A text, a cursor in it, and a preedit beside it.
-ghost use Rattle.std.specs.Prelude.{◌≡◌, ℕ, ◌+◌, ◌≤◌, ◌<◌, ◌↔◌, false, List, [], ◌∷◌, ◌++◌, ◌-◌, take, drop, length, IfOk, IsCharBoundary, string_bytes, string_len, string_capacity};
+ghost use Rattle.std.specs.Prelude.{◌≡◌, ℕ, ◌+◌, ◌≤◌, ◌<◌, ◌↔◌, false, List, [], ◌∷◌, ◌++◌, ◌-◌};
+ghost use Rattle.std.specs.Prelude.{take, drop, length, IfOk, IsCharBoundary, string_bytes};
+ghost use Rattle.std.specs.Prelude.{string_len, string_capacity};
 ghost use Rattle.trial_field.specs.Log.{Entry, done, entry_of, batch_of, IsBatch, HasNoZero, IsEdit};
-ghost use Rattle.trial_field.specs.FieldText.{FieldText, whole, after, text_of, insert, left, right, rub, delete, IsSamePlace};
+ghost use Rattle.trial_field.specs.FieldText.{FieldText, whole, after, text_of, insert, left};
+ghost use Rattle.trial_field.specs.FieldText.{right, rub, delete, IsSamePlace};
 ghost use Rattle.trial_field.specs.Window.{IsWindow};
 
 use crate::batch_view::{BatchView, MAX_PREEDIT};
@@ -16,8 +19,8 @@ pub const MAX_TEXT: usize = 65_536;
 
 /// A text field: a text, a cursor in it, and a preedit, which is shown at the cursor and isn't part of the text.
 ///
-/// It takes its memory when it is made, and none afterwards. Offsets are in bytes, and the cursor always stands where a character begins or the
-/// text ends.
+/// It takes its memory when it is made, and none afterwards. Offsets are in bytes, and the cursor
+/// always stands where a character begins or the text ends.
 #[derive(Debug, Drop)]
 pub struct TrialField {
     text: String,
@@ -51,12 +54,14 @@ impl TrialField {
         })
     }
 
-    /// Makes one edit of the field's own user. False where text and cursor are as before: at an end, for an empty insertion, and for one that the
-    /// text has no room for. It doesn't touch the preedit.
+    /// Makes one edit of the field's own user. False where text and cursor are as before: at an
+    /// end, for an empty insertion, and for one that the text has no room for. It doesn't touch the
+    /// preedit.
     pub fn edit(&mut self, edit: &Edit<'_>) -> bool
         requires { IsEdit edit.now }
         ensures step { self.new ≡ after (entry_of edit.now) self.old }
-        ensures log { (log : List Entry) → self.old ≡ text_of log → self.new ≡ text_of (entry_of edit.now ∷ log) }
+        ensures log { (log : List Entry) → self.old ≡ text_of log →
+            self.new ≡ text_of (entry_of edit.now ∷ log) }
         ensures unchanged { (result ≡ false) ↔ IsSamePlace self.old self.new }
     {
         match edit {
@@ -67,12 +72,14 @@ impl TrialField {
         }
     }
 
-    /// Takes one batch: drops the old preedit; deletes the batch's range, or nothing where the range leaves the text or cuts a character; inserts
-    /// its string as an insertion does; keeps its preedit. With an empty batch it only drops the preedit, as a `leave` does.
+    /// Takes one batch: drops the old preedit; deletes the batch's range, or nothing where the
+    /// range leaves the text or cuts a character; inserts its string as an insertion does; keeps
+    /// its preedit. With an empty batch it only drops the preedit, as a `leave` does.
     pub fn done(&mut self, batch: &BatchView<'_>)
         requires { IsBatch batch.now }
         ensures step { self.new ≡ after (done (batch_of batch.now)) self.old }
-        ensures log { (log : List Entry) → self.old ≡ text_of log → self.new ≡ text_of (done (batch_of batch.now) ∷ log) }
+        ensures log { (log : List Entry) → self.old ≡ text_of log →
+            self.new ≡ text_of (done (batch_of batch.now) ∷ log) }
     {
         self.delete(batch.before as usize, batch.after as usize);
         self.insert(batch.string);
@@ -105,8 +112,9 @@ impl TrialField {
         &self.preedit
     }
 
-    /// Where the part of the text begins and ends that `zwp_text_input_v3.set_surrounding_text` sends, as byte offsets: from 2000 bytes before the
-    /// cursor, moved up to where a character begins, to 4000 bytes later, moved down. The cursor is in it.
+    /// Where the part of the text begins and ends that `zwp_text_input_v3.set_surrounding_text`
+    /// sends, as byte offsets: from 2000 bytes before the cursor, moved up to where a character
+    /// begins, to 4000 bytes later, moved down. The cursor is in it.
     pub fn surround_window(&self) -> (usize, usize)
         ensures window { IsWindow (whole self.now) (length self.now.before) result.0 result.1 }
         ensures around { (result.0 ≤ length self.now.before) × (length self.now.before ≤ result.1) }
@@ -162,7 +170,8 @@ impl TrialField {
         rubs
     }
 
-    // Deletes so many bytes before the cursor and behind it, or nothing where the range leaves the text or cuts a character.
+    // Deletes so many bytes before the cursor and behind it, or nothing where the range leaves the
+    // text or cuts a character.
     fn delete(&mut self, before: usize, behind: usize)
         ensures { self.new ≡ delete before behind self.old }
     {
@@ -194,7 +203,8 @@ fn cut(text: &mut String, from: usize, to: usize)
     requires from { IsCharBoundary (string_bytes text.old) from }
     requires to { IsCharBoundary (string_bytes text.old) to }
     requires room { string_len text.old ≤ string_capacity text.old }
-    ensures bytes { string_bytes text.new ≡ take from (string_bytes text.old) ++ drop to (string_bytes text.old) }
+    ensures bytes { string_bytes text.new ≡ take from (string_bytes text.old) ++ drop to
+        (string_bytes text.old) }
     ensures len { string_len text.new + (to - from) ≡ string_len text.old }
     ensures capacity { string_capacity text.old ≤ string_capacity text.new }
 {

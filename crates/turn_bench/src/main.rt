@@ -1,6 +1,6 @@
-//! How many turns a second a lock gives: `turn_bench LOCK THREADS TURNS`, where LOCK is `turn` (the turn lock) or `mutex`
-//! (std's), THREADS are started side by side, and each makes TURNS turns. With no words it makes a few turns and
-//! prints how many, which is the same on every run.
+//! How many turns a second a lock gives: `turn_bench LOCK THREADS TURNS`, where LOCK is `turn` (the
+//! turn lock) or `mutex` (std's), THREADS are started side by side, and each makes TURNS turns.
+//! With no words it makes a few turns and prints how many, which is the same on every run.
 #![tactic(auto)]
 
 mod counter;

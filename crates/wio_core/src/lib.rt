@@ -50,11 +50,13 @@ pub trait Source {
     /// How often it failed.
     ghost fault_count: { Self → ℕ };
 
-    /// Moves the first bytes that are left into the front of the buffer, and says how many; 0 says that nothing is left.
-    /// The buffer behind them holds anything. After `Failed` nothing was given, and the next call goes on as if this one hadn't been.
+    /// Moves the first bytes that are left into the front of the buffer, and says how many; 0 says
+    /// that nothing is left. The buffer behind them holds anything. After `Failed` nothing was
+    /// given, and the next call goes on as if this one hadn't been.
     fn read(&mut self, buf: &mut [u8]) -> Result<usize, Failed>
         requires { 0 < length buf.old }
-        ensures moved { IfOk result (λ n. Reads (given self.old) (given self.new) (left self.old) (left self.new) n buf.new) }
+        ensures moved { IfOk result (λ n. Reads (given self.old) (given self.new) (left self.old)
+            (left self.new) n buf.new) }
 
         ensures given_stays { OnErr result (Keeps (given self.old) (given self.new)) }
         ensures left_stays { OnErr result (Keeps (left self.old) (left self.new)) }
@@ -83,7 +85,8 @@ pub trait Sink {
         requires { 0 < length piece.now }
         ensures some { IfOk result (λ n. 0 < n) }
         ensures within { IfOk result (λ n. n ≤ length piece.now) }
-        ensures gained { IfOk result (λ n. Appends (held self.old) (held self.new) (take n piece.now)) }
+        ensures gained { IfOk result (λ n. Appends (held self.old) (held self.new)
+            (take n piece.now)) }
 
         ensures stays { OnErr result (Keeps (held self.old) (held self.new)) }
         ensures quiet { StaysQuiet (held self.old) (held self.new) }
@@ -99,7 +102,8 @@ pub trait Sink {
 /// Writes the whole piece. After `Failed` the sink has gained a proper prefix of it; an empty piece never fails.
 pub fn write_all<K: Sink>(sink: &mut K, piece: &[u8]) -> Result<(), Failed>
     ensures whole { OnOk result (Appends (K.held sink.old) (K.held sink.new) piece.now) }
-    ensures prefix { OnErr result ((n : ℕ) × (n < length piece.now) × Appends (K.held sink.old) (K.held sink.new) (take n piece.now)) }
+    ensures prefix { OnErr result ((n : ℕ) × (n < length piece.now) ×
+        Appends (K.held sink.old) (K.held sink.new) (take n piece.now)) }
     ensures quiet { StaysQuiet (K.held sink.old) (K.held sink.new) }
     ensures never_falls { K.fault_count sink.old ≤ K.fault_count sink.new }
     ensures cause { OnErr result (Rose (K.fault_count sink.old) (K.fault_count sink.new)) }

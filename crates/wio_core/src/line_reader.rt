@@ -1,5 +1,7 @@
 // The lines of a source, lent one at a time.
-ghost use Rattle.std.specs.Prelude.{◌≡◌, ◌≢◌, ◌+◌, ◌<◌, ◌≤◌, ◌++◌, ◌∷◌, ℕ, List, [], drop, length, Option, Some, None, IfOk, IfErr, OnOk, IfSome, OnSome, IsTrue, ◌↔◌};
+ghost use Rattle.std.specs.Prelude.{◌≡◌, ◌≢◌, ◌+◌, ◌<◌, ◌≤◌, ◌++◌, ◌∷◌, ℕ, List, [], drop, length};
+ghost use Rattle.std.specs.Prelude.{Option, Some, None, IfOk, IfErr, OnOk, IfSome, OnSome, IsTrue};
+ghost use Rattle.std.specs.Prelude.{◌↔◌};
 ghost use Rattle.wio_core.specs.Io.{Rose, StaysQuiet};
 ghost use Rattle.wio_core.specs.Lines.{LacksFeed, IsOpen, HasLine, TookFrom, Gathers, HasCause};
 

@@ -31,7 +31,8 @@ impl Model for MemSink {
 impl MemSink {
     /// Holds up to `room` bytes. The writes with a number in `fail`, counted from 1, fail.
     pub fn new(alloc: Global, room: usize, fail: Vec<u64>) -> Result<MemSink, NoMemory>
-        ensures value { IfOk result (λ sink. sink ≡ record { held = []; room = room; fail = fail.items; calls = 0; faults = 0 }) }
+        ensures value { IfOk result (λ sink. sink ≡ record
+            { held = []; room = room; fail = fail.items; calls = 0; faults = 0 }) }
         ensures held { IfOk result (λ sink. ⟦<MemSink as Sink>⟧.held sink ≡ Some []) }
         ensures no_fault_yet { IfOk result (λ sink. ⟦<MemSink as Sink>⟧.fault_count sink ≡ 0) }
     {
@@ -63,10 +64,13 @@ impl Sink for MemSink {
     fn write(&mut self, piece: &[u8]) -> Result<usize, Failed>
         requires { 0 < length piece.now }
         // It fails in the calls that it was told and past its room, and in no other.
-        ensures fails { IsErr result ↔ (Contains self.old.fail (raised self.old.calls) ⊎ (self.old.room < length self.old.held + length piece.now)) }
+        ensures fails { IsErr result ↔ (Contains self.old.fail (raised self.old.calls) ⊎
+            (self.old.room < length self.old.held + length piece.now)) }
         ensures count { IfOk result (λ n. n ≡ length piece.now) }
-        ensures ok { IfOk result (λ _. self.new ≡ record self.old { held = self.old.held ++ piece.now; calls = raised self.old.calls }) }
-        ensures err { OnErr result (self.new ≡ record self.old { calls = raised self.old.calls; faults = raised self.old.faults }) }
+        ensures ok { IfOk result (λ _. self.new ≡ record self.old
+            { held = self.old.held ++ piece.now; calls = raised self.old.calls }) }
+        ensures err { OnErr result (self.new ≡ record self.old
+            { calls = raised self.old.calls; faults = raised self.old.faults }) }
         ensures never_falls { self.old.faults ≤ self.new.faults }
     {
         self.calls = self.calls.saturating_add(1);

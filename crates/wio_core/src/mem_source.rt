@@ -1,5 +1,6 @@
 // A source in memory, which tells its content and fails where it is told to.
-ghost use Rattle.std.specs.Prelude.{◌≡◌, ◌++◌, [], Some, None, length, take, drop, min, IfOk, OnErr, IsErr, ◌↔◌, ◌<◌, ◌≤◌};
+ghost use Rattle.std.specs.Prelude.{◌≡◌, ◌++◌, [], Some, None, length, take, drop, min, IfOk};
+ghost use Rattle.std.specs.Prelude.{OnErr, IsErr, ◌↔◌, ◌<◌, ◌≤◌};
 ghost use Rattle.std.specs.List.{Contains};
 ghost use Rattle.wio_core.specs.Io.{raised};
 
@@ -32,7 +33,15 @@ impl MemSource {
     /// Gives these bytes, at most `chunk` of them in a read. The reads with a number in `fail`, counted from 1, fail.
     pub fn new(bytes: Vec<u8>, chunk: usize, fail: Vec<u64>) -> MemSource
         requires { 0 < chunk }
-        ensures value { result ≡ record { given = []; left = bytes.items; chunk = chunk; fail = fail.items; calls = 0; faults = 0 } }
+        ensures value { result ≡ record {
+          given = [];
+          left = bytes.items;
+          chunk = chunk;
+          fail =
+              fail.items;
+          calls = 0;
+          faults = 0;
+        } }
         ensures given { ⟦<MemSource as Source>⟧.given result ≡ Some [] }
         ensures left { ⟦<MemSource as Source>⟧.left result ≡ Some bytes.items }
         ensures no_fault_yet { ⟦<MemSource as Source>⟧.fault_count result ≡ 0 }
@@ -59,12 +68,19 @@ impl Source for MemSource {
         requires { 0 < length buf.old }
         // It fails in the calls that it was told, and in no other.
         ensures fails { IsErr result ↔ Contains self.old.fail (raised self.old.calls) }
-        ensures count { IfOk result (λ n. n ≡ min (min self.old.chunk (length buf.old)) (length self.old.left)) }
-        ensures ok { IfOk result (λ n. self.new ≡ record self.old { given = self.old.given ++ take n self.old.left; left = drop n self.old.left; calls = raised self.old.calls }) }
+        ensures count { IfOk result (λ n. n ≡ min (min self.old.chunk (length buf.old))
+            (length self.old.left)) }
+        ensures ok { IfOk result (λ n. self.new ≡ record self.old {
+          given = self.old.given ++ take n self.old.left;
+          left = drop n self.old.left;
+          calls =
+              raised self.old.calls;
+        }) }
         // 0 only where nothing is left.
         ensures end { IfOk result (λ n. n ≡ 0 → self.new.left ≡ []) }
         ensures filled { IfOk result (λ n. buf.new ≡ take n self.old.left ++ drop n buf.old) }
-        ensures err { OnErr result (self.new ≡ record self.old { calls = raised self.old.calls; faults = raised self.old.faults }) }
+        ensures err { OnErr result (self.new ≡ record self.old
+            { calls = raised self.old.calls; faults = raised self.old.faults }) }
         ensures never_falls { self.old.faults ≤ self.new.faults }
     {
         self.calls = self.calls.saturating_add(1);

@@ -80,7 +80,8 @@ fn put(args: &mut ArgWriter, argument: Argument)
     ensures at { args.new.at ≡ args.old.at + value_len (value_of argument.entry) }
     ensures written { written args.new ≡ written args.old ++ value_bytes (value_of argument.entry) }
     ensures room { room args.new ≡ drop (value_len (value_of argument.entry)) (room args.old) }
-    ensures left { length (room args.new) + value_len (value_of argument.entry) ≡ length (room args.old) }
+    ensures left { length (room args.new) + value_len (value_of argument.entry) ≡ length
+        (room args.old) }
 {
     match argument {
         Argument::Word(n) => args.uint(n),
@@ -130,7 +131,8 @@ pub fn put_message(out: &mut [u8], receiver: u32, opcode: u32, arguments: &[Argu
     requires short { 8 + values_len (values_of arguments.now) ≤ 4096 }
     requires room { 8 + values_len (values_of arguments.now) ≤ length out.old }
     ensures len { result ≡ 8 + values_len (values_of arguments.now) }
-    ensures bytes { out.new ≡ row_bytes receiver opcode (values_of arguments.now) ++ drop result out.old }
+    ensures bytes { out.new ≡ row_bytes receiver opcode (values_of arguments.now) ++ drop result
+        out.old }
 {
     put_parts(out, receiver, opcode, arguments)
 }

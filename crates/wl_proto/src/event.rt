@@ -1,6 +1,7 @@
 // Events: what a peer is told.
 
-/// An event, one variant for each row. The fields are the row's arguments; an id is the number of an object of the peer.
+/// An event, one variant for each row. The fields are the row's arguments; an id is the number of
+/// an object of the peer.
 #[derive(Clone, Copy)]
 pub enum Event<'a> {
     /// `wl_display.error`: the object, the code that its interface gives, and a text for the log.

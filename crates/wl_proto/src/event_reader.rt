@@ -13,7 +13,8 @@ use wl_wire::{ArgReader, Raw};
 
 #[tactic(auto, unfolding(crate::specs::Reading::event_reading))]
 fn display_event<'a>(opcode: u16, body: &'a [u8], tokens: &[u32]) -> Result<Event<'a>, Refuse>
-    ensures { Gives event_message result (event_reading interface.Display opcode tokens.now body.now) }
+    ensures { Gives event_message result
+        (event_reading interface.Display opcode tokens.now body.now) }
 {
     match opcode {
         0 => row!(body tokens Event Error { object: uint, code: uint, message: text }),
@@ -24,7 +25,8 @@ fn display_event<'a>(opcode: u16, body: &'a [u8], tokens: &[u32]) -> Result<Even
 
 #[tactic(auto, unfolding(crate::specs::Reading::event_reading))]
 fn registry_event<'a>(opcode: u16, body: &'a [u8], tokens: &[u32]) -> Result<Event<'a>, Refuse>
-    ensures { Gives event_message result (event_reading interface.Registry opcode tokens.now body.now) }
+    ensures { Gives event_message result
+        (event_reading interface.Registry opcode tokens.now body.now) }
 {
     match opcode {
         0 => row!(body tokens Event Global { name: uint, interface: text, version: uint }),
@@ -35,7 +37,8 @@ fn registry_event<'a>(opcode: u16, body: &'a [u8], tokens: &[u32]) -> Result<Eve
 
 #[tactic(auto, unfolding(crate::specs::Reading::event_reading))]
 fn callback_event<'a>(opcode: u16, body: &'a [u8], tokens: &[u32]) -> Result<Event<'a>, Refuse>
-    ensures { Gives event_message result (event_reading interface.Callback opcode tokens.now body.now) }
+    ensures { Gives event_message result
+        (event_reading interface.Callback opcode tokens.now body.now) }
 {
     match opcode {
         0 => row!(body tokens Event CallbackDone { value: uint }),
@@ -55,7 +58,8 @@ fn seat_event<'a>(opcode: u16, body: &'a [u8], tokens: &[u32]) -> Result<Event<'
 
 #[tactic(auto, unfolding(crate::specs::Reading::event_reading))]
 fn text_input_event<'a>(opcode: u16, body: &'a [u8], tokens: &[u32]) -> Result<Event<'a>, Refuse>
-    ensures { Gives event_message result (event_reading interface.TextInput opcode tokens.now body.now) }
+    ensures { Gives event_message result
+        (event_reading interface.TextInput opcode tokens.now body.now) }
 {
     match opcode {
         0 => row!(body tokens Event Enter { surface: uint }),
@@ -70,7 +74,8 @@ fn text_input_event<'a>(opcode: u16, body: &'a [u8], tokens: &[u32]) -> Result<E
 
 #[tactic(auto, unfolding(crate::specs::Reading::event_reading))]
 fn input_method_event<'a>(opcode: u16, body: &'a [u8], tokens: &[u32]) -> Result<Event<'a>, Refuse>
-    ensures { Gives event_message result (event_reading interface.InputMethod opcode tokens.now body.now) }
+    ensures { Gives event_message result
+        (event_reading interface.InputMethod opcode tokens.now body.now) }
 {
     match opcode {
         0 => row!(body tokens Event Activate {}),
@@ -90,7 +95,8 @@ fn input_popup_surface_event<'a>(
     body: &'a [u8],
     tokens: &[u32],
 ) -> Result<Event<'a>, Refuse>
-    ensures { Gives event_message result (event_reading interface.InputPopupSurface opcode tokens.now body.now) }
+    ensures { Gives event_message result
+        (event_reading interface.InputPopupSurface opcode tokens.now body.now) }
 {
     match opcode {
         0 => row!(body tokens Event TextInputRectangle { x: int, y: int, width: int, height: int }),
@@ -100,7 +106,8 @@ fn input_popup_surface_event<'a>(
 
 #[tactic(auto, unfolding(crate::specs::Reading::event_reading))]
 fn keyboard_grab_event<'a>(opcode: u16, body: &'a [u8], tokens: &[u32]) -> Result<Event<'a>, Refuse>
-    ensures { Gives event_message result (event_reading interface.KeyboardGrab opcode tokens.now body.now) }
+    ensures { Gives event_message result
+        (event_reading interface.KeyboardGrab opcode tokens.now body.now) }
 {
     match opcode {
         0 => row!(body tokens Event Keymap { format: uint, token: descriptor, size: uint }),
@@ -143,7 +150,8 @@ fn answer_event<'a>(
     body: &'a [u8],
     tokens: &[u32],
 ) -> Result<Event<'a>, Refuse>
-    ensures { Answers event_message (event_kinds interface opcode) interface opcode tokens.now body.now result }
+    ensures { Answers event_message (event_kinds interface opcode) interface opcode tokens.now
+        body.now result }
 {
     event_of(interface, opcode, body, tokens)
 }
@@ -154,7 +162,8 @@ pub fn read_event<'a>(
     raw: &Raw<'a>,
     tokens: &[u32],
 ) -> Result<Event<'a>, Refuse>
-    ensures { Answers event_message (event_kinds interface raw.now.opcode) interface raw.now.opcode tokens.now raw.now.body.now result }
+    ensures { Answers event_message (event_kinds interface raw.now.opcode) interface raw.now.opcode
+        tokens.now raw.now.body.now result }
 {
     answer_event(interface, raw.opcode, raw.body, tokens)
 }

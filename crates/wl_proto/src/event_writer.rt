@@ -41,16 +41,16 @@ macro_rules! by_row {
     };
 }
 
-/// How many bytes the event has on the wire, its header included: 8 to 4,096, as its text is within the limits. Takes no
-/// memory.
+/// How many bytes the event has on the wire, its header included: 8 to 4,096, as its text is within
+/// the limits. Takes no memory.
 pub fn event_len(event: &Event) -> usize
     ensures len { result ≡ message_len (event_message event.now) }
 {
     by_row!(event row_size)
 }
 
-/// Writes the event to the object of this id into the front of the buffer, and says how many bytes it has. The rest of the
-/// buffer stays. The descriptor's token is not written. Takes no memory.
+/// Writes the event to the object of this id into the front of the buffer, and says how many bytes
+/// it has. The rest of the buffer stays. The descriptor's token is not written. Takes no memory.
 pub fn write_event(id: u32, event: &Event, out: &mut [u8]) -> usize
     requires short { message_len (event_message event.now) ≤ 4096 }
     requires room { message_len (event_message event.now) ≤ length out.old }

@@ -1,6 +1,7 @@
 // What holds of every row, each law proved where its function stands. The bodies are empty: the laws are the contracts.
 ghost use Rattle.wl_proto.specs.Laws.{OneList, SpelledAgain, Rise, HasRow, WrittenWhole};
-ghost use Rattle.wl_proto.specs.Rows.{request_kinds, event_kinds, request_rows, event_rows, request_message, event_message};
+ghost use Rattle.wl_proto.specs.Rows.{request_kinds, event_kinds, request_rows, event_rows};
+ghost use Rattle.wl_proto.specs.Rows.{request_message, event_message};
 ghost use Rattle.wl_proto.specs.declared.request.Request as requests;
 ghost use Rattle.wl_proto.specs.declared.event.Event as events;
 
@@ -20,7 +21,8 @@ pub fn opcodes_rise()
 
 /// Each request and each event has a row, and its fields are arguments of the kinds of that row.
 pub fn each_has_its_row()
-    ensures requests { (request : requests.Request) → HasRow request_kinds (request_message request) }
+    ensures requests { (request : requests.Request) → HasRow request_kinds (request_message
+        request) }
     ensures events { (event : events.Event) → HasRow event_kinds (event_message event) }
 {}
 

@@ -95,7 +95,8 @@ pub enum Request<'a> {
     CommitString {
         text: &'a str,
     },
-    /// `zwp_input_method_v2.set_preedit_string`; the cursor's begin and end are offsets in bytes, or negative to hide it.
+    /// `zwp_input_method_v2.set_preedit_string`; the cursor's begin and end are offsets in bytes,
+    /// or negative to hide it.
     SetPreeditString {
         text: &'a str,
         begin: i32,

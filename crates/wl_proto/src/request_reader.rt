@@ -13,7 +13,8 @@ use wl_wire::{ArgReader, Raw};
 
 #[tactic(auto, unfolding(crate::specs::Reading::request_reading))]
 fn display_request<'a>(opcode: u16, body: &'a [u8], tokens: &[u32]) -> Result<Request<'a>, Refuse>
-    ensures { Gives request_message result (request_reading interface.Display opcode tokens.now body.now) }
+    ensures { Gives request_message result
+        (request_reading interface.Display opcode tokens.now body.now) }
 {
     match opcode {
         0 => row!(body tokens Request Sync { callback: uint }),
@@ -24,7 +25,8 @@ fn display_request<'a>(opcode: u16, body: &'a [u8], tokens: &[u32]) -> Result<Re
 
 #[tactic(auto, unfolding(crate::specs::Reading::request_reading))]
 fn registry_request<'a>(opcode: u16, body: &'a [u8], tokens: &[u32]) -> Result<Request<'a>, Refuse>
-    ensures { Gives request_message result (request_reading interface.Registry opcode tokens.now body.now) }
+    ensures { Gives request_message result
+        (request_reading interface.Registry opcode tokens.now body.now) }
 {
     match opcode {
         0 =>
@@ -39,7 +41,8 @@ fn compositor_request<'a>(
     body: &'a [u8],
     tokens: &[u32],
 ) -> Result<Request<'a>, Refuse>
-    ensures { Gives request_message result (request_reading interface.Compositor opcode tokens.now body.now) }
+    ensures { Gives request_message result
+        (request_reading interface.Compositor opcode tokens.now body.now) }
 {
     match opcode {
         0 => row!(body tokens Request CreateSurface { id: uint }),
@@ -49,7 +52,8 @@ fn compositor_request<'a>(
 
 #[tactic(auto, unfolding(crate::specs::Reading::request_reading))]
 fn surface_request<'a>(opcode: u16, body: &'a [u8], tokens: &[u32]) -> Result<Request<'a>, Refuse>
-    ensures { Gives request_message result (request_reading interface.Surface opcode tokens.now body.now) }
+    ensures { Gives request_message result
+        (request_reading interface.Surface opcode tokens.now body.now) }
 {
     match opcode {
         0 => row!(body tokens Request SurfaceDestroy {}),
@@ -61,7 +65,8 @@ fn surface_request<'a>(opcode: u16, body: &'a [u8], tokens: &[u32]) -> Result<Re
 
 #[tactic(auto, unfolding(crate::specs::Reading::request_reading))]
 fn seat_request<'a>(opcode: u16, body: &'a [u8], tokens: &[u32]) -> Result<Request<'a>, Refuse>
-    ensures { Gives request_message result (request_reading interface.Seat opcode tokens.now body.now) }
+    ensures { Gives request_message result
+        (request_reading interface.Seat opcode tokens.now body.now) }
 {
     match opcode {
         0 => row!(body tokens Request GetPointer { id: uint }),
@@ -77,7 +82,8 @@ fn text_input_manager_request<'a>(
     body: &'a [u8],
     tokens: &[u32],
 ) -> Result<Request<'a>, Refuse>
-    ensures { Gives request_message result (request_reading interface.TextInputManager opcode tokens.now body.now) }
+    ensures { Gives request_message result
+        (request_reading interface.TextInputManager opcode tokens.now body.now) }
 {
     match opcode {
         0 => row!(body tokens Request TextInputManagerDestroy {}),
@@ -92,7 +98,8 @@ fn text_input_request<'a>(
     body: &'a [u8],
     tokens: &[u32],
 ) -> Result<Request<'a>, Refuse>
-    ensures { Gives request_message result (request_reading interface.TextInput opcode tokens.now body.now) }
+    ensures { Gives request_message result
+        (request_reading interface.TextInput opcode tokens.now body.now) }
 {
     match opcode {
         0 => row!(body tokens Request TextInputDestroy {}),
@@ -114,7 +121,8 @@ fn input_method_manager_request<'a>(
     body: &'a [u8],
     tokens: &[u32],
 ) -> Result<Request<'a>, Refuse>
-    ensures { Gives request_message result (request_reading interface.InputMethodManager opcode tokens.now body.now) }
+    ensures { Gives request_message result
+        (request_reading interface.InputMethodManager opcode tokens.now body.now) }
 {
     match opcode {
         0 => row!(body tokens Request GetInputMethod { seat: uint, input_method: uint }),
@@ -129,7 +137,8 @@ fn input_method_request<'a>(
     body: &'a [u8],
     tokens: &[u32],
 ) -> Result<Request<'a>, Refuse>
-    ensures { Gives request_message result (request_reading interface.InputMethod opcode tokens.now body.now) }
+    ensures { Gives request_message result
+        (request_reading interface.InputMethod opcode tokens.now body.now) }
 {
     match opcode {
         0 => row!(body tokens Request CommitString { text: text }),
@@ -149,7 +158,8 @@ fn input_popup_surface_request<'a>(
     body: &'a [u8],
     tokens: &[u32],
 ) -> Result<Request<'a>, Refuse>
-    ensures { Gives request_message result (request_reading interface.InputPopupSurface opcode tokens.now body.now) }
+    ensures { Gives request_message result
+        (request_reading interface.InputPopupSurface opcode tokens.now body.now) }
 {
     match opcode {
         0 => row!(body tokens Request InputPopupSurfaceDestroy {}),
@@ -163,7 +173,8 @@ fn keyboard_grab_request<'a>(
     body: &'a [u8],
     tokens: &[u32],
 ) -> Result<Request<'a>, Refuse>
-    ensures { Gives request_message result (request_reading interface.KeyboardGrab opcode tokens.now body.now) }
+    ensures { Gives request_message result
+        (request_reading interface.KeyboardGrab opcode tokens.now body.now) }
 {
     match opcode {
         0 => row!(body tokens Request KeyboardGrabRelease {}),
@@ -202,7 +213,8 @@ fn answer_request<'a>(
     body: &'a [u8],
     tokens: &[u32],
 ) -> Result<Request<'a>, Refuse>
-    ensures { Answers request_message (request_kinds interface opcode) interface opcode tokens.now body.now result }
+    ensures { Answers request_message (request_kinds interface opcode) interface opcode tokens.now
+        body.now result }
 {
     request_of(interface, opcode, body, tokens)
 }
@@ -213,7 +225,8 @@ pub fn read_request<'a>(
     raw: &Raw<'a>,
     tokens: &[u32],
 ) -> Result<Request<'a>, Refuse>
-    ensures { Answers request_message (request_kinds interface raw.now.opcode) interface raw.now.opcode tokens.now raw.now.body.now result }
+    ensures { Answers request_message (request_kinds interface raw.now.opcode) interface
+        raw.now.opcode tokens.now raw.now.body.now result }
 {
     answer_request(interface, raw.opcode, raw.body, tokens)
 }

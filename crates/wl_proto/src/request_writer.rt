@@ -54,13 +54,15 @@ pub fn request_len(request: &Request) -> usize
     by_row!(request row_size)
 }
 
-/// Writes the request to the object of this id into the front of the buffer, and says how many bytes it has. The rest of
-/// the buffer stays. The descriptor's token is not written. Takes no memory.
+/// Writes the request to the object of this id into the front of the buffer, and says how many
+/// bytes it has. The rest of the buffer stays. The descriptor's token is not written. Takes no
+/// memory.
 pub fn write_request(id: u32, request: &Request, out: &mut [u8]) -> usize
     requires short { message_len (request_message request.now) ≤ 4096 }
     requires room { message_len (request_message request.now) ≤ length out.old }
     ensures len { result ≡ message_len (request_message request.now) }
-    ensures bytes { out.new ≡ message_bytes id (request_message request.now) ++ drop result out.old }
+    ensures bytes { out.new ≡ message_bytes id (request_message request.now) ++ drop result
+        out.old }
 {
     by_row!(request put_row out id)
 }

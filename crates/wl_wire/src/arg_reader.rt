@@ -107,7 +107,8 @@ impl<'a> ArgReader<'a> {
 
     /// A `uint`, an `object` or a `new_id`: one word. `Malformed` exactly where fewer than 4 bytes are left.
     pub fn uint(&mut self) -> Result<u32, Malformed>
-        ensures read { Reads (λ n. n) result self.old.rest.now self.new.rest.now (word_at self.old.rest.now) }
+        ensures read { Reads (λ n. n) result self.old.rest.now self.new.rest.now
+            (word_at self.old.rest.now) }
         ensures spelled { TakesSpelled IsUint (λ n. n) result self.old.rest.now self.new.rest.now }
     {
         let (n, rest) = next_uint(self.rest)?;
@@ -117,7 +118,8 @@ impl<'a> ArgReader<'a> {
 
     /// An `int`: one word, in two's complement. `Malformed` exactly where fewer than 4 bytes are left.
     pub fn int(&mut self) -> Result<i32, Malformed>
-        ensures read { Reads (λ n. n) result self.old.rest.now self.new.rest.now (int_at self.old.rest.now) }
+        ensures read { Reads (λ n. n) result self.old.rest.now self.new.rest.now
+            (int_at self.old.rest.now) }
         ensures spelled { TakesSpelled IsInt (λ n. n) result self.old.rest.now self.new.rest.now }
     {
         let (n, rest) = next_int(self.rest)?;
@@ -128,8 +130,10 @@ impl<'a> ArgReader<'a> {
     /// A `string`: `None` is the null string. The text lies in the body and is not copied. `Malformed` exactly where no
     /// string stands there: its bytes run out, its last byte isn't zero, an earlier one is, or it isn't UTF-8.
     pub fn string(&mut self) -> Result<Option<&'a str>, Malformed>
-        ensures read { Reads (λ s. option_copied s) result self.old.rest.now self.new.rest.now (string_at self.old.rest.now) }
-        ensures spelled { TakesSpelled IsString (λ s. option_copied s) result self.old.rest.now self.new.rest.now }
+        ensures read { Reads (λ s. option_copied s) result self.old.rest.now self.new.rest.now
+            (string_at self.old.rest.now) }
+        ensures spelled { TakesSpelled IsString (λ s. option_copied s) result self.old.rest.now
+            self.new.rest.now }
     {
         let (text, rest) = next_string(self.rest)?;
         self.rest = rest;

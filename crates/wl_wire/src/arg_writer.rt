@@ -74,7 +74,8 @@ impl<'a> ArgWriter<'a> {
         ensures at { self.new.at ≡ self.old.at + text_len (length text.now) }
         ensures written { written self.new ≡ written self.old ++ text_bytes text.now }
         ensures room { room self.new ≡ drop (text_len (length text.now)) (room self.old) }
-        ensures left { length (room self.new) + text_len (length text.now) ≡ length (room self.old) }
+        ensures left { length (room self.new) + text_len (length text.now) ≡ length (room
+            self.old) }
     {
         let len = text.len();
         self.uint(len as u32 + 1);

@@ -1,7 +1,9 @@
 // The bytes of a peer are put together to messages, however they were cut.
-ghost use Rattle.std.specs.Prelude.{◌≡◌, ℕ, ◌+◌, ◌-◌, ◌*◌, ◌<◌, ◌≤◌, ◌^◌, ◌↔◌, ◌++◌, List, [], length, take, drop, min, vec_len, vec_capacity, IsTrue, IfOk};
+ghost use Rattle.std.specs.Prelude.{◌≡◌, ℕ, ◌+◌, ◌-◌, ◌*◌, ◌<◌, ◌≤◌, ◌^◌, ◌↔◌, ◌++◌, List, []};
+ghost use Rattle.std.specs.Prelude.{length, take, drop, min, vec_len, vec_capacity, IsTrue, IfOk};
 ghost use Rattle.wl_wire.specs.Messages.{size_of, id_of, opcode_of, body_of, IsGoodSize, IsPartial};
-ghost use Rattle.wl_wire.specs.Streams.{Assembly, Begun, bytes_of, HasMessage, HasBadSize, Feeds, HasTold, HasFed, FedOn};
+ghost use Rattle.wl_wire.specs.Streams.{Assembly, Begun, bytes_of, HasMessage, HasBadSize, Feeds};
+ghost use Rattle.wl_wire.specs.Streams.{HasTold, HasFed, FedOn};
 ghost use Rattle.wl_wire.specs.Gathering.{Gathers, phase_of, taken_of, told_behind};
 
 use crate::MESSAGE_LIMIT;
@@ -13,7 +15,8 @@ use wio_core::NoMemory;
 /// What a feed came to.
 #[derive(Clone, Copy, Debug, PartialEq, Eq)]
 pub enum Fed {
-    /// The piece's first bytes, this many and at least one, completed a message. The rest of the piece is still to be fed.
+    /// The piece's first bytes, this many and at least one, completed a message. The rest of the
+    /// piece is still to be fed.
     Whole(usize),
     /// All bytes of the piece were taken, and no message is whole.
     Need,
@@ -176,7 +179,8 @@ impl Assembler {
     pub fn feed(&mut self, piece: &[u8]) -> Fed
         ensures one { Feeds self.old piece.now result self.new }
         ensures ready { HasTold result self.new }
-        ensures all { (stream : List ℕ) → HasFed stream self.old → FedOn stream piece.now result self.new }
+        ensures all { (stream : List ℕ) → HasFed stream self.old →
+            FedOn stream piece.now result self.new }
     {
         self.gather_piece(piece)
     }

@@ -4,8 +4,8 @@ use std::alloc::Global;
 use std::marker::Model;
 use wio_core::NoMemory;
 
-/// Bytes that a value owns, as the body of a message or what is stored for a peer. Up to 16 lie within the value, more in
-/// memory of their own. Contracts see the list of the bytes.
+/// Bytes that a value owns, as the body of a message or what is stored for a peer. Up to 16 lie
+/// within the value, more in memory of their own. Contracts see the list of the bytes.
 #[derive(Debug, Drop)]
 pub struct Bytes {
     bytes: SmallVec<u8, 16>,

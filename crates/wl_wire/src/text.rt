@@ -36,9 +36,11 @@ impl Text {
         }
     }
 
-    /// The text that the bytes are. Gives the bytes back exactly where they are no UTF-8 or have a zero byte. Takes no memory.
+    /// The text that the bytes are. Gives the bytes back exactly where they are no UTF-8 or have a
+    /// zero byte. Takes no memory.
     pub fn from_bytes(bytes: Vec<u8>) -> Result<Text, Vec<u8>>
-        ensures cases { MatchResult result (λ t. (t ≡ bytes.items) × IsText t) (λ v. (v.items ≡ bytes.items) × (texts.is_text v.items ≡ false)) }
+        ensures cases { MatchResult result (λ t. (t ≡ bytes.items) × IsText t)
+            (λ v. (v.items ≡ bytes.items) × (texts.is_text v.items ≡ false)) }
     {
         if text_of(&bytes).is_none() {
             return Err(bytes);

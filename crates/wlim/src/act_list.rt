@@ -59,9 +59,11 @@ fn judge(alloc: Global, raw: &[u8], count: u32) -> Result<Verdict, NoMemory>
 fn play(relay: &mut Relay, act: &Act, printer: &mut Printer) -> Result<(), NoMemory>
     requires number { relay.old.state.acts < ACT_LIMIT }
     requires fits { FitsMessage act.now }
-    ensures stands { (log : List Act) → StandsFor relay.old log → OnOk result (StandsFor relay.new (act.now ∷ log)) }
-    ensures printed { (log : List Act) → StandsFor relay.old log
-        → OnOk result (string_bytes printer.new.text ≡ string_bytes printer.old.text ++ act_text (length log + 1) (told act.now log)) }
+    ensures stands { (log : List Act) → StandsFor relay.old log →
+        OnOk result (StandsFor relay.new (act.now ∷ log)) }
+    ensures printed { (log : List Act) → StandsFor relay.old log →
+        OnOk result (string_bytes printer.new.text ≡ string_bytes printer.old.text ++ act_text
+        (length log + 1) (told act.now log)) }
     ensures works { OnOk result (printer.new.failed ≡ false) }
 {
     relay.reserve(act)?;

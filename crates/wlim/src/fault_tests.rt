@@ -104,7 +104,8 @@ fn the_first_fault_is_told(rt: HostRuntime) -> Result<(), Fail> {
     Ok(())
 }
 
-// An application makes 256 objects, its registry, the five of `FIELD`, and surfaces with the ids from 256 on, and then sends the message.
+// An application makes 256 objects, its registry, the five of `FIELD`, and surfaces with the ids
+// from 256 on, and then sends the message.
 fn crowded(alloc: Global, message: &str) -> Result<String, Fail> {
     let mut text = joined(alloc, &[HEADER, REGISTRY, FIELD])?;
     for low in 0..250u8 {

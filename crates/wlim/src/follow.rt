@@ -12,8 +12,8 @@ use crate::writing::{write_due, write_end};
 use std::alloc::Global;
 use wio_core::{LineReader, NoMemory, Sink, Source};
 
-/// Plays the lines of an input, of which so many bytes are read at most. What is ready is written before a read that may wait, and whenever
-/// it fills a piece.
+/// Plays the lines of an input, of which so many bytes are read at most. What is ready is written
+/// before a read that may wait, and whenever it fills a piece.
 pub fn play_input<P: Script, S: Source, K: Sink>(
     alloc: Global,
     limit: u64,

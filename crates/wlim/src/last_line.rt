@@ -22,7 +22,8 @@ pub enum LastLine {
 
 /// Adds the last line to a transcript, and gives the status.
 pub fn close(text: &mut String, last: LastLine) -> Result<Status, NoMemory>
-    ensures answer { IfOk result (λ status. (string_bytes text.new, status) ≡ with_front (string_bytes text.old) (ending last)) }
+    ensures answer { IfOk result (λ status.
+        (string_bytes text.new, status) ≡ with_front (string_bytes text.old) (ending last)) }
     ensures decided { IfOk result IsDecided }
 {
     match last {

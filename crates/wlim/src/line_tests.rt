@@ -20,7 +20,8 @@ fn lines_before_a_failed_read_are_played(rt: HostRuntime) -> Result<(), Fail> {
     Ok(())
 }
 
-// A session's lines are played as far as they are whole too. A failed read isn't the end, and is none of a read that isn't made.
+// A session's lines are played as far as they are whole too. A failed read isn't the end, and is
+// none of a read that isn't made.
 #[test]
 fn a_failed_read_is_told(rt: HostRuntime) -> Result<(), Fail> {
     let alloc = rt.alloc();
@@ -72,7 +73,8 @@ fn letters(alloc: Global, length: usize) -> Result<String, Fail> {
     Ok(text)
 }
 
-// Of 8,400 bytes without a line feed the line isn't known yet, and one more makes it a bad line. In pieces of 16 bytes 525 reads take 8,400.
+// Of 8,400 bytes without a line feed the line isn't known yet, and one more makes it a bad line. In
+// pieces of 16 bytes 525 reads take 8,400.
 #[test]
 fn a_long_line_is_bad_before_its_line_feed(rt: HostRuntime) -> Result<(), Fail> {
     let alloc = rt.alloc();

@@ -44,7 +44,8 @@ fn print(
     number: u32,
     told: &Told,
 ) -> Result<(), NoMemory>
-    ensures { OnOk result (string_bytes text.new ≡ string_bytes text.old ++ told_text number told.now) }
+    ensures { OnOk result (string_bytes text.new ≡ string_bytes text.old ++ told_text number
+        told.now) }
 {
     write_told(alloc, number, told, line)?;
     text.push_str(line.as_str())?;

@@ -55,8 +55,11 @@ fn replay<S: Source, K: Sink>(
     }
 }
 
-/// Runs the command that the words name over an input and an output: `replay` reads a session, and `replay-acts` an act list of at most 100,000 acts, and each writes
-/// its transcript; `migrate` writes a session of form 1 as one of form 2. At most 4,294,967,296 bytes are read, and 1,073,741,824 of a session that is migrated. Always returns. What status comes when is the clauses' to say; `NoMemory` alone may come at any time.
+/// Runs the command that the words name over an input and an output: `replay` reads a session, and
+/// `replay-acts` an act list of at most 100,000 acts, and each writes its transcript; `migrate`
+/// writes a session of form 1 as one of form 2. At most 4,294,967,296 bytes are read, and
+/// 1,073,741,824 of a session that is migrated. Always returns. What status comes when is the
+/// clauses' to say; `NoMemory` alone may come at any time.
 pub fn run_plain<S: Source, K: Sink>(
     alloc: Global,
     words: &[String],
@@ -64,27 +67,38 @@ pub fn run_plain<S: Source, K: Sink>(
     output: &mut K,
 ) -> Status
     // The words are in no grammar exactly where the answer says so, and then nothing is read or written.
-    ensures bad_words { (result ≡ Status.BadWords) ↔ (is_command (map string_bytes words.now) ≡ false) }
-    ensures untouched { is_command (map string_bytes words.now) ≡ false → (input.new ≡ input.old) × (output.new ≡ output.old) }
+    ensures bad_words { (result ≡ Status.BadWords) ↔
+        (is_command (map string_bytes words.now) ≡ false) }
+    ensures untouched { is_command (map string_bytes words.now) ≡ false → (input.new ≡ input.old) ×
+        (output.new ≡ output.old) }
 
     // Where no fault rose and there was memory, status and output are those of words and bytes.
-    ensures exact { (Rose (S.fault_count input.old) (S.fault_count input.new) → ⊥) → (Rose (K.fault_count output.old) (K.fault_count output.new) → ⊥) → (result ≢ Status.NoMemory)
-        → IfSome (S.left input.old) (λ bytes. (status_of (map string_bytes words.now) bytes ≡ result)
-        × Appends (K.held output.old) (K.held output.new) (output_of (map string_bytes words.now) bytes)) }
+    ensures exact { (Rose (S.fault_count input.old) (S.fault_count input.new) → ⊥) →
+        (Rose (K.fault_count output.old) (K.fault_count output.new) → ⊥) →
+        (result ≢ Status.NoMemory) → IfSome (S.left input.old)
+        (λ bytes. (status_of (map string_bytes words.now) bytes ≡ result) ×
+        Appends (K.held output.old) (K.held output.new)
+        (output_of (map string_bytes words.now) bytes)) }
 
     // Whatever the status, what was written is a front of that output.
-    ensures front { IfSome (S.left input.old) (λ bytes. GrowsByFront (K.held output.old) (K.held output.new) (output_of (map string_bytes words.now) bytes)) }
+    ensures front { IfSome (S.left input.old) (λ bytes.
+        GrowsByFront (K.held output.old) (K.held output.new)
+        (output_of (map string_bytes words.now) bytes)) }
 
     // A status that lines decide is that of words and bytes, and then the whole output was written, also beside faults.
-    ensures decided { IsDecided result → IfSome (S.left input.old) (λ bytes. (status_of (map string_bytes words.now) bytes ≡ result)
-        × Appends (K.held output.old) (K.held output.new) (output_of (map string_bytes words.now) bytes)) }
+    ensures decided { IsDecided result → IfSome (S.left input.old)
+        (λ bytes. (status_of (map string_bytes words.now) bytes ≡ result) ×
+        Appends (K.held output.old) (K.held output.new)
+        (output_of (map string_bytes words.now) bytes)) }
 
     // What `migrate` writes of a session replays as that session does.
     ensures migrates { Migrates }
 
     // A fault has its cause.
-    ensures read_fault { result ≡ Status.ReadFault → Rose (S.fault_count input.old) (S.fault_count input.new) }
-    ensures write_fault { result ≡ Status.WriteFault → Rose (K.fault_count output.old) (K.fault_count output.new) }
+    ensures read_fault { result ≡ Status.ReadFault →
+        Rose (S.fault_count input.old) (S.fault_count input.new) }
+    ensures write_fault { result ≡ Status.WriteFault →
+        Rose (K.fault_count output.old) (K.fault_count output.new) }
     ensures reads_never_fall { S.fault_count input.old ≤ S.fault_count input.new }
     ensures writes_never_fall { K.fault_count output.old ≤ K.fault_count output.new }
 

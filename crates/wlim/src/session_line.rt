@@ -63,7 +63,8 @@ impl Stage {
 
 // A line with its stamp, unless its moment falls.
 fn stamped(moment: u64, stamp: Stamp, line: SessionLine) -> Meaning
-    ensures { result ≡ (if nat_lt stamp.moment moment then meaning.Bad else meaning.Play stamp line) }
+    ensures { result ≡ (if nat_lt stamp.moment moment then meaning.Bad else meaning.Play stamp
+        line) }
 {
     if stamp.moment < moment {
         Meaning::Bad

@@ -53,7 +53,8 @@ fn what_a_string_comes_to(rt: HostRuntime) -> Result<(), Fail> {
         (HEADER, "", "end\nnonsense", RELAYED, "end 17\n"),
         (HEADER, "", "", RELAYED, "bad line 19\n"),
         (HEADER, "", "session 1 1 1\nend\n", RELAYED, "bad line 19\n"),
-        // one byte too little is free for the group, of which nothing is put; and the method's peer is ended after the application's
+        // one byte too little is free for the group, of which nothing is put; and the method's peer
+        // is ended after the application's
         (
             "session 1 1000000 163\n",
             "take 2 156\n",

@@ -69,7 +69,8 @@ fn what_follows_the_beginning(rt: HostRuntime) -> Result<(), Fail> {
             "enable 3\ncommit 3\nmcommit 5 1\nend\n",
             "12 5 activate\n12 5 content_type 0 0\n12 5 done\nend 13\n",
         ),
-        // an empty batch; a second field takes the seat, from then on the batches for it are relayed, and none for the first
+        // an empty batch; a second field takes the seat, from then on the batches for it are
+        // relayed, and none for the first
         ("", "", "mcommit 5 1\nend\n", "9 3 done 1\nend 9\n"),
         (
             "",
@@ -134,7 +135,8 @@ fn other_inputs_give_their_answers(rt: HostRuntime) -> Result<(), Fail> {
             "4 3 enter 2\n8 8 activate\n8 8 content_type 0 0\n8 8 done\n9 3 done 1\nend 9\n",
             Status::Ok,
         ),
-        // edits from before the activation; a cursor inside a character; the cause of one commit; what was set before the enable
+        // edits from before the activation; a cursor inside a character; the cause of one commit;
+        // what was set before the enable
         (
             "peer\nsurface 1\nfield 1\npeer\nmethod 4\nfocus 2\nmstring 5 61\nenable 3\ncommit 3\nmpreedit 5 62 0 1\nmcommit 5 1\nend\n",
             "6 3 enter 2\n9 5 activate\n9 5 content_type 0 0\n9 5 done\n11 3 preedit_string 62 0 1\n11 3 done 1\nend 11\n",
