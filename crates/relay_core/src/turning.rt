@@ -4,7 +4,8 @@ ghost use Rattle.relay_model.specs.declared.act.Act.{Act};
 ghost use Rattle.relay_model.specs.Idle.{is_place, is_sized};
 ghost use Rattle.field_state.specs.Changes as change;
 ghost use Rattle.seat_objects.specs.Fits.{FitsMessage};
-ghost use Rattle.seat_objects.specs.Objects.{find};
+ghost use Rattle.seat_objects.specs.declared.object.Kind.TheVariants as kinds;
+ghost use Rattle.seat_objects.specs.Objects.{find, no_area};
 ghost use Rattle.seat_objects.specs.Reached.{Reached};
 ghost use Rattle.relay_core.specs.Kept.{state, HasRoom, HasSpare};
 ghost use Rattle.relay_core.specs.Machine.{owner_at, entered_in, is_live_in, is_thing_in, made};
@@ -129,6 +130,35 @@ impl Machine {
         });
     }
 
+    // The three below stand apart, so that acts that make nothing make no room for an object.
+
+    #[inline(never)]
+    fn make_peer(&mut self)
+        requires room { 0 < self.old.objects.room }
+        requires above { self.old.objects.bound ≤ self.old.acts }
+        ensures { state self.new ≡ made self.old.acts kinds.Peer (state self.old) }
+    {
+        self.make(self.acts, Kind::Peer);
+    }
+
+    #[inline(never)]
+    fn make_surface(&mut self, peer: Label)
+        requires room { 0 < self.old.objects.room }
+        requires above { self.old.objects.bound ≤ self.old.acts }
+        ensures { state self.new ≡ made peer (kinds.Surface no_area) (state self.old) }
+    {
+        self.make(peer, Kind::Surface { area: NO_AREA });
+    }
+
+    #[inline(never)]
+    fn make_thing(&mut self, peer: Label)
+        requires room { 0 < self.old.objects.room }
+        requires above { self.old.objects.bound ≤ self.old.acts }
+        ensures { state self.new ≡ made peer kinds.Thing (state self.old) }
+    {
+        self.make(peer, Kind::Thing);
+    }
+
     fn make_field<P: Post>(&mut self, peer: Label, post: &mut P)
         requires room { 0 < self.old.objects.room }
         requires above { self.old.objects.bound ≤ self.old.acts }
@@ -194,9 +224,9 @@ impl Machine {
         ensures route { result ≡ route_of act.now (state self.old) }
     {
         match act {
-            Act::Peer => self.make(self.acts, Kind::Peer),
+            Act::Peer => self.make_peer(),
             Act::Gone { peer, .. } => self.end_peer(*peer, post),
-            Act::Surface { peer } => self.make(*peer, Kind::Surface { area: NO_AREA }),
+            Act::Surface { peer } => self.make_surface(*peer),
             Act::Field { peer } => self.make_field(*peer, post),
             Act::Method { peer } => self.make_method(*peer, post),
             Act::Drop { label } => self.drop_object(*label, post),
@@ -236,7 +266,7 @@ impl Machine {
             Act::Registry { peer, role } => self.make_registry(*peer, *role, post),
             Act::Sync { peer } => tell_synced(self.acts, *peer, post),
             Act::Seat { peer } => self.make_seat(*peer, post),
-            Act::Thing { peer } => self.make(*peer, Kind::Thing),
+            Act::Thing { peer } => self.make_thing(*peer),
             Act::Bad {
                 peer,
                 fault,

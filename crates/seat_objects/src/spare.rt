@@ -1,5 +1,6 @@
 // What is made before an act, so that the act takes no memory.
 ghost use Rattle.std.specs.Prelude.{◌≡◌, [], Some, None, OnOk, IfOk};
+ghost use Rattle.wl_wire.specs.Texts.{has_no_zero};
 ghost use Rattle.field_state.specs.Changes.{fresh};
 
 use field_state::Field;
@@ -19,16 +20,20 @@ pub struct Spare {
     pub field: Option<Field>,
 }
 
-// A copy of a text that some `Text` was copied from, so it is one.
+fn has_no_zero(bytes: &[u8]) -> bool
+    ensures { result ≡ has_no_zero bytes.now }
+{
+    bytes.iter().all(|b| *b != 0)
+}
+
+// A copy of a text that some `Text` was copied from, so it has no zero byte.
 fn copy(alloc: Global, text: &str) -> Result<Text, NoMemory>
     ensures { IfOk result (λ t. t ≡ text.now) }
 {
-    let mut bytes = Vec::with_capacity(alloc, text.len())?;
-    bytes.extend_from_slice(text.as_bytes())?;
-    match Text::from_bytes(bytes) {
-        Ok(text) => Ok(text),
-        Err(_) => Err(NoMemory),
+    if !has_no_zero(text.as_bytes()) {
+        return Err(NoMemory);
     }
+    Text::of(alloc, text)
 }
 
 impl Spare {

@@ -13,13 +13,6 @@ pub(crate) const MOST_WORDS: usize = 8;
 // Most words are shorter, and a search among few bytes is cheapest byte by byte.
 const NEAR: usize = 12;
 
-/// The words of a line: the first so many of these.
-#[derive(Clone, Copy, Drop)]
-pub(crate) struct Words<'a> {
-    pub words: [&'a [u8]; MOST_WORDS],
-    pub count: usize,
-}
-
 // The first space among the first bytes, as many as are near.
 fn near_space(line: &[u8]) -> Option<usize>
     ensures found { IfSome result (λ at. NoneBefore (Passes (is_byte 32) line.now) 0
@@ -69,14 +62,16 @@ pub(crate) fn first_word(line: &[u8]) -> Option<(&[u8], &[u8])>
     }
 }
 
-/// The words of the line, of which one more than it has spaces; none where there are more than eight.
-pub(crate) fn words_of(line: &[u8]) -> Option<Words<'_>>
-    ensures words { IfSome result (λ v. map (λ w. w.now) (take v.count v.words)
+/// The words of the line, of which one more than it has spaces, go to the front of the places: so many. None where there
+/// are more than eight.
+pub(crate) fn cut_words<'a>(line: &'a [u8], words: &mut [&'a [u8]]) -> Option<usize>
+    requires places { length words.old ≡ 8 }
+    ensures places { length words.new ≡ 8 }
+    ensures words { IfSome result (λ n. map (λ w. w.now) (take n words.new)
         ≡ slice_split (λ b. b == 32) line.now) }
-    ensures few { IfSome result (λ v. v.count ≤ 8) }
+    ensures few { IfSome result (λ n. n ≤ 8) }
     ensures many { IfNone result (8 < length (slice_split (λ b. b == 32) line.now)) }
 {
-    let mut words = [line; MOST_WORDS];
     let mut count = 0;
     let mut left = line;
     while let Some((word, rest)) = first_word(left) {
@@ -88,10 +83,7 @@ pub(crate) fn words_of(line: &[u8]) -> Option<Words<'_>>
         left = rest;
     }
     words[count] = left;
-    Some(Words {
-        words,
-        count: count + 1,
-    })
+    Some(count + 1)
 }
 
 /// The words of a line that may have tokens. More than ten take memory.

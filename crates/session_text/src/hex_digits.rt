@@ -1,5 +1,5 @@
 // Pairs of hex digits in lower case, each looked up in a table.
-ghost use Rattle.std.specs.Prelude.{◌≡◌, ◌*◌, length, true};
+ghost use Rattle.std.specs.Prelude.{◌≡◌, ◌<◌, ◌≤◌, ◌+◌, ◌*◌, length, take, true};
 ghost use Rattle.hex.specs.Hex.{encode_lower};
 ghost use Rattle.session_text.specs.Words.{value_of};
 ghost use Rattle.wl_wire.specs.Texts.{IsBytes};
@@ -31,6 +31,23 @@ fn value_of(digit: u8) -> u16
     VALUES[digit as usize]
 }
 
+// Reads the pair at the place into the byte there. Answers the bits of its value beside those before.
+#[inline(always)]
+fn decode_at(word: &[u8], bytes: &mut [u8], at: usize, all: u16) -> u16
+    requires pairs { length word.now ≡ 2 * length bytes.old }
+    requires place { at < length bytes.old }
+    requires bytes { IsBytes bytes.old }
+    ensures long { length bytes.new ≡ length bytes.old }
+    ensures read { result < 256 → take (2 * at) word.now ≡ encode_lower (take at bytes.old) →
+        take (2 * (at + 1)) word.now ≡ encode_lower (take (at + 1) bytes.new) }
+    ensures more { all ≤ result }
+    ensures bytes { IsBytes bytes.new }
+{
+    let value = 16 * value_of(word[2 * at]) + value_of(word[2 * at + 1]);
+    bytes[at] = (value % 256) as u8;
+    all | value
+}
+
 /// Decodes pairs of digits into the buffer, which has a byte for each. True where there are only
 /// digits in lower case; else what stands in the buffer says nothing.
 pub(crate) fn decode_lower(word: &[u8], bytes: &mut [u8]) -> bool
@@ -40,10 +57,16 @@ pub(crate) fn decode_lower(word: &[u8], bytes: &mut [u8]) -> bool
 {
     let mut all = 0u16;
     let mut at = 0;
-    while at < bytes.len() {
-        let value = 16 * value_of(word[2 * at]) + value_of(word[2 * at + 1]);
-        bytes[at] = (value % 256) as u8;
-        all |= value;
+    // Most words are whole messages, whose bytes are fours.
+    'fours: while bytes.len() - at >= 4 {
+        all = decode_at(word, bytes, at, all);
+        all = decode_at(word, bytes, at + 1, all);
+        all = decode_at(word, bytes, at + 2, all);
+        all = decode_at(word, bytes, at + 3, all);
+        at += 4;
+    }
+    'rest: while at < bytes.len() {
+        all = decode_at(word, bytes, at, all);
         at += 1;
     }
     all < NO_DIGIT

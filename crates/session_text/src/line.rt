@@ -9,7 +9,7 @@ ghost use Rattle.session_text.specs.Worked.{WorkedLines, WorkedStamps, OtherLine
 ghost use Rattle.session_text.specs.Worked.{WorkedSteps, WorkedEvents};
 
 use crate::act_line::read_act;
-use crate::cutting::{all_words, words_of};
+use crate::cutting::{MOST_WORDS, all_words, cut_words};
 use crate::session_line::read_session;
 use crate::stamped_line::{read_link, read_session_2};
 use relay_model::{Act, Role};
@@ -133,10 +133,11 @@ fn read_few(alloc: Global, form: Form, line: &[u8]) -> Result<Line, BadLine>
     ensures { reading.Reads result (reading.line_of_words form
         (slice_split (λ b. b == 32) line.now)) }
 {
-    let Some(words) = words_of(line) else {
+    let mut words = [line; MOST_WORDS];
+    let Some(count) = cut_words(line, &mut words) else {
         return Err(BadLine::Grammar);
     };
-    read_words(alloc, form, &words.words[..words.count])
+    read_words(alloc, form, &words[..count])
 }
 
 // The line of the bytes, of which there may be any number.

@@ -1,7 +1,7 @@
 use Rattle.std.proofs.Common.{◌≡◌, map, take, length, ◌∙◌, arith}
 use Rattle.std.proofs.lemmas.List.{length-map, length-take-le}
 use Rattle.session_text.proofs.FirstSpace.{many_cut}
-use Rattle.session_text.proofs.cutting.words_of.Goals as goal
+use Rattle.session_text.proofs.cutting.cut_words.Goals as goal
 
 pub returns-then-count-ge-MOST_WORDS-clause-many :
     goal.returns-then-count-ge-MOST_WORDS-clause-many

@@ -1,6 +1,6 @@
 use Rattle.std.proofs.Common.{◌≡◌, ◌==◌, ◌++◌, ◌≤◌, ◌+◌, map, take, length}
 use Rattle.std.specs.List.{slice_split}
-use Rattle.session_text.proofs.cutting.words_of.Given as goal
+use Rattle.session_text.proofs.cutting.cut_words.Given as goal
 
 -- the words so far, and those of what is left
 abbrev pub invariant-loop-word : goal.invariant-loop-word
