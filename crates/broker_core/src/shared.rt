@@ -11,7 +11,6 @@ use seat_steps::{Limits, PeerStep, ShellStep, Stamp, Step, TokenList};
 use std::alloc::Global;
 use std::marker::Model;
 use wio_core::NoMemory;
-use wl_wire::Bytes;
 
 /// The most peers that are alive at once.
 pub const MOST_PEERS: u32 = 64;
@@ -49,6 +48,7 @@ impl Shared {
     ghost use Rattle.relay_model.specs.Objects.{is_peer};
     ghost use Rattle.relay_model.specs.Keys.{number_down};
     ghost use Rattle.seat_steps.specs.declared.step.Step.TheVariants as steps;
+    ghost use Rattle.seat_steps.specs.declared.step.PeerStep.TheVariants as peers;
     ghost use Rattle.seat_steps.specs.Ranges.{IsLimits, IsStep};
     ghost use Rattle.broker_model.specs.declared.journal.Entry.{Entry};
     ghost use Rattle.broker_model.specs.declared.journal.Entry.TheVariants as entries;
@@ -253,7 +253,7 @@ impl Shared {
         number: u32,
         id: u32,
         opcode: u16,
-        body: &Bytes,
+        body: &[u8],
         stamp: Stamp,
         watch: &mut W,
     ) -> Result<(), NoMemory>
@@ -338,7 +338,7 @@ impl Shared {
     {
         match step {
             PeerStep::Message { id, opcode, body } => {
-                self.message(number, *id, *opcode, body, stamp, watch)
+                self.message(number, *id, *opcode, body.as_slice(), stamp, watch)
             }
             PeerStep::BadSize { head } => self.bad_size(number, *head, stamp, watch),
             PeerStep::Tokens(tokens) => self.tokens(number, tokens, stamp, watch),
@@ -447,6 +447,48 @@ impl Shared {
         let entry = self.state.journal.len() + 1;
         match self.enter(step, stamp, watch) {
             Ok(route) => Ok(Applied { entry, route }),
+            Err(NoMemory) => Err(Refused::NoMemory),
+        }
+    }
+
+    // Why a message of a live peer can't be taken, if so.
+    fn message_refusal(&self, number: u32, id: u32, opcode: u16, body: &[u8]) -> Option<Refused>
+        requires live { standing_of self.now.journal number ≡ Alive }
+        ensures { result ≡ refusal self.now (steps.Peer number (peers.Message id opcode body.now)) }
+    {
+        self.refusal_if_full(ENTRY_WEIGHT + body.len() as u64)
+    }
+
+    /// As `apply_watched` with a whole message of a live peer, whose body is borrowed. Asks that the peer
+    /// is alive, and that the body has at most 4,088 bytes.
+    ///
+    /// `JournalFull` comes where the journal is full for the step, else `NoMemory` may come. After each
+    /// all is as before.
+    pub fn message_watched<W: Watch>(
+        &mut self,
+        number: u32,
+        id: u32,
+        opcode: u16,
+        body: &[u8],
+        stamp: Stamp,
+        watch: &mut W,
+    ) -> Result<(), Refused>
+        requires live { standing_of self.old.journal number ≡ Alive }
+        requires short { length body.now ≤ 4088 }
+        ensures refused { IfSome (refusal self.old (steps.Peer number (peers.Message id opcode body.now)))
+            (λ why. result ≡ Err why) }
+        ensures accepted { IfNone (refusal self.old (steps.Peer number (peers.Message id opcode body.now)))
+            (IsOkUnless result Refused.NoMemory) }
+        ensures ok { OnOk result
+            (self.new ≡ with_step (entries.Message number id opcode body.now) stamp self.old) }
+        ensures err { OnErr result (self.new ≡ self.old) }
+        ensures watched { IsWatched W.may_follow self.old watch.old self.new watch.new }
+    {
+        if let Some(why) = self.message_refusal(number, id, opcode, body) {
+            return Err(why);
+        }
+        match self.message(number, id, opcode, body, stamp, watch) {
+            Ok(()) => Ok(()),
             Err(NoMemory) => Err(Refused::NoMemory),
         }
     }

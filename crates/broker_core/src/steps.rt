@@ -129,7 +129,7 @@ impl State {
         number: u32,
         id: u32,
         opcode: u16,
-        body: &Bytes,
+        body: &[u8],
         given: Stamp,
         watch: &mut W,
     ) -> Result<(), NoMemory>
@@ -159,9 +159,9 @@ impl State {
             peer: number,
             id,
             opcode,
-            body: body.copy(self.alloc)?,
+            body: Bytes::from_slice(self.alloc, body)?,
         };
-        let meaning = self.meaning(place, id, opcode, body.as_slice())?;
+        let meaning = self.meaning(place, id, opcode, body)?;
         self.make_room(&meaning.act)?;
         self.audience
             .change(place, id, self.journal.len() + 1, &meaning)?;

@@ -49,6 +49,19 @@ fn add_head(
 }
 
 // What the shell was told goes behind the text, and none is left.
+#[inline(never)]
+fn push_behind(text: &mut String, shell: &mut String) -> Result<(), NoMemory>
+    ensures text { OnOk result (string_bytes text.new ≡ string_bytes text.old ++ string_bytes shell.old) }
+    ensures shell { OnOk result (string_bytes shell.new ≡ []) }
+    ensures err { OnErr result (string_bytes text.new ≡ string_bytes text.old) }
+{
+    text.push_str(shell.as_str())?;
+    shell.clear();
+    Ok(())
+}
+
+// The same: most entries tell the shell nothing.
+#[inline(always)]
 fn move_behind(text: &mut String, shell: &mut String) -> Result<(), NoMemory>
     ensures text { OnOk result (string_bytes text.new ≡ string_bytes text.old ++ string_bytes
         shell.old) }
@@ -58,9 +71,7 @@ fn move_behind(text: &mut String, shell: &mut String) -> Result<(), NoMemory>
     if shell.is_empty() {
         return Ok(());
     }
-    text.push_str(shell.as_str())?;
-    shell.clear();
-    Ok(())
+    push_behind(text, shell)
 }
 
 // What the shell was told of the entry before, and who ended or what was taken, go behind the text.

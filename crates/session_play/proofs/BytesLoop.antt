@@ -77,7 +77,7 @@ all_read limits e q was play after u p = by (is_full limits play.journal e) p
         ap (λ (x : Play). unread_of x q) h.1 ∙ ap (λ (us : List Waiting). unread_by (of_live journal us) q) u
         ∙ none_left journal q was
 
-nothing_left : (q : ℕ) (unread : List Waiting) → unread_by unread q ≡ [] → with_unread q [] unread ≡ unread
+pub nothing_left : (q : ℕ) (unread : List Waiting) → unread_by unread q ≡ [] → with_unread q [] unread ≡ unread
 nothing_left q [] h = refl
 nothing_left q (w ∷ rest) h = by (w.number == q) h (nothing_left q rest)
   where

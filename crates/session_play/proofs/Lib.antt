@@ -13,6 +13,7 @@ pub mod TakeAnswers
 pub mod SharedSteps
 pub mod StepsStamped
 pub mod BytesLoop
+pub mod WholePieces
 pub mod SessionHistory
 pub mod PrintedStepsAlone
 pub mod TextsSince

@@ -27,7 +27,8 @@ pub enum PlayEnd {
 #[derive(Drop)]
 pub struct Player {
     alloc: Global,
-    session: Session,
+    // Boxed, so that a player is small to move.
+    session: Box<Session>,
     stopped: Option<Stop>,
 }
 
@@ -38,9 +39,9 @@ impl Model for Player {
     ghost Value = { Playing };
 
     ghost view = { λ p. record {
-      limits = p.session.limits;
-      play = p.session.play;
-      stamps = p.session.stamps;
+      limits = p.session.value.limits;
+      play = p.session.value.play;
+      stamps = p.session.value.stamps;
       is_spent = is_some p.stopped;
       stopped = p.stopped;
     } };
@@ -81,7 +82,7 @@ impl Player {
     {
         Ok(Player {
             alloc,
-            session: Session::new(alloc, limits)?,
+            session: Box::new(alloc, Session::new(alloc, limits)?)?,
             stopped: None,
         })
     }

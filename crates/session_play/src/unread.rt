@@ -35,7 +35,7 @@ pub(crate) enum Found {
 }
 
 // The whole message that the bytes begin with, if they do, and how many of them it has.
-fn whole_message(piece: &[u8]) -> Option<(Raw<'_>, usize)>
+pub(crate) fn whole_message(piece: &[u8]) -> Option<(Raw<'_>, usize)>
     ensures { IfSome result (λ found.
         IsFront found.0.id found.0.opcode found.0.body.now piece.now found.1) }
 {

@@ -5,7 +5,7 @@ use Rattle.session_play.specs.Playing.{IsRead}
 use Rattle.session_play.proofs.BytesLoop.{read_short, message_stops, message_goes, none_of, message_last, bad_size_ends, step_more_watched}
 use Rattle.session_play.proofs.StepsStamped.{none_stamped, stamped_read, stamped_on}
 use Rattle.session_play.proofs.JournalGrows.{watched_none}
-use Rattle.session_play.proofs.session.Session.bytes.Goals as goal
+use Rattle.session_play.proofs.session.Session.message_bytes.Goals as goal
 
 pub loop-rest-init : goal.loop-rest-init
 loop-rest-init g c = record {

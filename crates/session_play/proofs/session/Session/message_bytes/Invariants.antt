@@ -1,7 +1,7 @@
 use Rattle.std.proofs.Common.{◌≡◌, length}
 use Rattle.session_play.specs.Played.{bytes_played}
 use Rattle.session_play.specs.Playing.{AreStamped, IsWatched}
-use Rattle.session_play.proofs.session.Session.bytes.Given as goal
+use Rattle.session_play.proofs.session.Session.message_bytes.Given as goal
 
 -- what is left of the piece leads to the same
 abbrev pub invariant-loop-rest : goal.invariant-loop-rest

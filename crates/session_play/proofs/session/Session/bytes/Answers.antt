@@ -1,0 +1,13 @@
+use Rattle.std.proofs.Common.{length, sym, ◌∙◌}
+use Rattle.seat_steps.specs.declared.step.PeerStep.TheVariants as peers
+use Rattle.session_play.proofs.WholePieces.{whole_played}
+use Rattle.session_play.proofs.session.Session.bytes.Goals as goal
+
+pub message-requires-clause-short : goal.message-requires-clause-short
+message-requires-clause-short g c = c.in-Some.ensures.finds.valid.0
+
+pub returns-in-Some-clause-played : goal.returns-in-Some-clause-played
+returns-in-Some-clause-played g c =
+    whole_played c.args.self.now c.message.new.self c.args.number c.args.piece.now
+    (peers.Message c.in-Some.raw.id c.in-Some.raw.opcode c.in-Some.raw.body.now) c.message.result
+    (sym c.lives.ensures.value ∙ c.if-lives.true) c.in-Some.ensures c.message.ensures.played
