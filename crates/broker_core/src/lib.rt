@@ -7,6 +7,7 @@ mod limits;
 mod shared;
 mod state;
 mod steps;
+mod takes;
 mod taking;
 mod watch;
 

@@ -1,5 +1,5 @@
 // The shared state of all peers as its callers see it.
-use crate::answers::{Applied, JoinRefusal, Refused, Took};
+use crate::answers::{Applied, JoinRefusal, Refused};
 use crate::limits::{ENTRY_WEIGHT, full};
 use crate::state::State;
 use crate::taking::Standing;
@@ -24,8 +24,8 @@ pub const MOST_PEERS: u32 = 64;
 /// long the journal is. Who watches a call is told of each entry that it makes.
 #[derive(Drop)]
 pub struct Shared {
-    state: State,
-    limits: Limits,
+    pub(crate) state: State,
+    pub(crate) limits: Limits,
 }
 
 impl Model for Shared {
@@ -62,9 +62,8 @@ impl Shared {
     ghost use Rattle.broker_core.specs.Ends.{is_end_of};
     ghost use Rattle.broker_core.specs.Broker.{with_step, full_for, join_refusal, entry_of};
     ghost use Rattle.broker_core.specs.Broker.{refusal_if_full, refusal, IsSaid, IsAccepted};
-    ghost use Rattle.broker_core.specs.Broker.{take_refusal, IfBytes, IfNoBytes};
-    ghost use Rattle.broker_core.specs.Broker.{IsBytesUnlessMemory, IsWatched};
-    ghost use Rattle.broker_core.specs.Taking.{out_at, standing_of, lives, IsTaken};
+    ghost use Rattle.broker_core.specs.Broker.{IsWatched};
+    ghost use Rattle.broker_core.specs.Taking.{out_at, standing_of, lives};
 
     /// Nobody joined yet, and the journal is empty. Asks for limits in their ranges. `NoMemory` is its one error.
     pub fn new(alloc: Global, limits: Limits) -> Result<Shared, NoMemory>
@@ -147,7 +146,7 @@ impl Shared {
     }
 
     // How much the journal holds, where it is full for an entry that isn't an end and adds so much to its weight.
-    fn full(&self, added: u64) -> Option<Kept>
+    pub(crate) fn full(&self, added: u64) -> Option<Kept>
         ensures { (e : Entry) → is_end e ≡ false → weight_of e ≡ added →
             result ≡ full_for self.now e }
     {
@@ -475,10 +474,10 @@ impl Shared {
     ) -> Result<(), Refused>
         requires live { standing_of self.old.journal number ≡ Alive }
         requires short { length body.now ≤ 4088 }
-        ensures refused { IfSome (refusal self.old (steps.Peer number (peers.Message id opcode body.now)))
-            (λ why. result ≡ Err why) }
-        ensures accepted { IfNone (refusal self.old (steps.Peer number (peers.Message id opcode body.now)))
-            (IsOkUnless result Refused.NoMemory) }
+        ensures refused { IfSome (refusal self.old (steps.Peer number
+            (peers.Message id opcode body.now))) (λ why. result ≡ Err why) }
+        ensures accepted { IfNone (refusal self.old (steps.Peer number
+            (peers.Message id opcode body.now))) (IsOkUnless result Refused.NoMemory) }
         ensures ok { OnOk result
             (self.new ≡ with_step (entries.Message number id opcode body.now) stamp self.old) }
         ensures err { OnErr result (self.new ≡ self.old) }
@@ -491,85 +490,5 @@ impl Shared {
             Ok(()) => Ok(()),
             Err(NoMemory) => Err(Refused::NoMemory),
         }
-    }
-
-    // Why nothing can be taken of what is stored for the peer, if so.
-    fn take_refusal(&self, peer: u32) -> Option<Took>
-        ensures { result ≡ take_refusal self.now peer }
-    {
-        let Some(stored) = self.state.stored(peer) else {
-            return Some(Took::NoPeer);
-        };
-        if stored == 0 {
-            return match self.state.standing(peer) {
-                Standing::Over(_) => Some(Took::Closed),
-                Standing::Alive | Standing::Nobody => Some(Took::Empty),
-            };
-        }
-        let kept = self.full(ENTRY_WEIGHT)?;
-        Some(Took::JournalFull(kept))
-    }
-
-    /// The first bytes that are stored for the peer, alive or ended, go into the buffer, as many as
-    /// fit, and the tokens whose messages begin in them beside. Asks for a buffer of 1 to 4,096
-    /// bytes and for 256 places of tokens.
-    ///
-    /// `NoPeer` comes where no peer has the number. Where nothing is stored, `Closed` comes if the
-    /// peer ended, and else `Empty`. Where something is,
-    /// `JournalFull` comes if the journal is full for a take, else `NoMemory` may come. After each
-    /// of these all is as before, the buffers too.
-    pub fn take(&mut self, peer: u32, buf: &mut [u8], tokens: &mut [u32], stamp: Stamp) -> Took
-        requires piece { length buf.old ≤ 4096 }
-        requires some { 1 ≤ length buf.old }
-        requires places { 256 ≤ length tokens.old }
-        ensures refused { IfSome (take_refusal self.old peer) (λ why. result ≡ why) }
-        ensures accepted { IfNone (take_refusal self.old peer) (IsBytesUnlessMemory result) }
-        ensures bytes { IfSome (out_at self.old.limits.store self.old.journal peer)
-            (λ out. IfBytes result (λ counts.
-            IsTaken out self.old.journal peer buf.old tokens.old counts buf.new tokens.new
-            (entries.Took peer counts.0 ∷ self.old.journal))) }
-        ensures settled { IfBytes result (λ counts.
-            self.new ≡ with_step (entries.Took peer counts.0) stamp self.old) }
-        ensures same { IfNoBytes result (self.new ≡ self.old) }
-        ensures same_bytes { IfNoBytes result (buf.new ≡ buf.old) }
-        ensures same_tokens { IfNoBytes result (tokens.new ≡ tokens.old) }
-    {
-        self.take_watched(peer, buf, tokens, stamp, &mut ())
-    }
-
-    /// As `take`; and `watch` is told of the entries that the call makes, of none where nothing is
-    /// taken.
-    pub fn take_watched<W: Watch>(
-        &mut self,
-        peer: u32,
-        buf: &mut [u8],
-        tokens: &mut [u32],
-        stamp: Stamp,
-        watch: &mut W,
-    ) -> Took
-        requires piece { length buf.old ≤ 4096 }
-        requires some { 1 ≤ length buf.old }
-        requires places { 256 ≤ length tokens.old }
-        ensures refused { IfSome (take_refusal self.old peer) (λ why. result ≡ why) }
-        ensures accepted { IfNone (take_refusal self.old peer) (IsBytesUnlessMemory result) }
-        ensures bytes { IfSome (out_at self.old.limits.store self.old.journal peer)
-            (λ out. IfBytes result (λ counts.
-            IsTaken out self.old.journal peer buf.old tokens.old counts buf.new tokens.new
-            (entries.Took peer counts.0 ∷ self.old.journal))) }
-        ensures settled { IfBytes result (λ counts.
-            self.new ≡ with_step (entries.Took peer counts.0) stamp self.old) }
-        ensures same { IfNoBytes result (self.new ≡ self.old) }
-        ensures same_bytes { IfNoBytes result (buf.new ≡ buf.old) }
-        ensures same_tokens { IfNoBytes result (tokens.new ≡ tokens.old) }
-        ensures watched { IsWatched W.may_follow self.old watch.old self.new watch.new }
-    {
-        if let Some(why) = self.take_refusal(peer) {
-            return why;
-        }
-        let Ok((bytes, places)) = self.state.take(peer, buf, tokens, stamp, watch) else {
-            return Took::NoMemory;
-        };
-        self.state.settle(watch);
-        Took::Bytes(bytes, places)
     }
 }

@@ -51,7 +51,8 @@ fn add_head(
 // What the shell was told goes behind the text, and none is left.
 #[inline(never)]
 fn push_behind(text: &mut String, shell: &mut String) -> Result<(), NoMemory>
-    ensures text { OnOk result (string_bytes text.new ≡ string_bytes text.old ++ string_bytes shell.old) }
+    ensures text { OnOk result (string_bytes text.new ≡ string_bytes text.old ++ string_bytes
+        shell.old) }
     ensures shell { OnOk result (string_bytes shell.new ≡ []) }
     ensures err { OnErr result (string_bytes text.new ≡ string_bytes text.old) }
 {

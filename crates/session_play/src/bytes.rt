@@ -35,8 +35,10 @@ impl Session {
     // The message that the piece is, if it is a whole one and no bytes of the live peer wait.
     fn whole<'a>(&self, number: u32, piece: &'a [u8]) -> Option<Raw<'a>>
         requires live { lives self.now.play.journal number ≡ true }
-        ensures { IfSome result (λ raw. IsRead self.now number piece.now
-            (finds.Message (peers.Message raw.id raw.opcode raw.body.now) (length piece.now)) self.now) }
+        ensures { IfSome result (λ raw.
+            IsRead self.now number piece.now
+            (finds.Message (peers.Message raw.id raw.opcode raw.body.now) (length piece.now))
+            self.now) }
     {
         let Some(place) = place_of(&self.unread, number) else {
             unreachable!()

@@ -62,8 +62,8 @@ pub(crate) fn first_word(line: &[u8]) -> Option<(&[u8], &[u8])>
     }
 }
 
-/// The words of the line, of which one more than it has spaces, go to the front of the places: so many. None where there
-/// are more than eight.
+/// The words of the line, of which one more than it has spaces, go to the front of the places: so
+/// many. None where there are more than eight.
 pub(crate) fn cut_words<'a>(line: &'a [u8], words: &mut [&'a [u8]]) -> Option<usize>
     requires places { length words.old ≡ 8 }
     ensures places { length words.new ≡ 8 }
