@@ -45,7 +45,10 @@ impl Hub {
     ) -> Result<(ReaderPass, WriterPass), JoinRefusal>
         requires own { IsOf self.now root.old }
         requires room { root.old.next ≤ 2 ^ 63 }
-        ensures joined { IfOk result (λ both. IsJoined self.now.limits root.old root.new role both.0 both.1) }
+        ensures joined { IfOk result (λ both.
+            IsJoined self.now.limits root.old root.new role both.0 both.1) }
+        ensures fresh { IfOk result (λ both. NoneOf both.0.seat.number both.0.seat.seen ×
+            NoneOf both.1.seat.number both.1.seat.seen) }
         ensures refused { IfErr result (λ why. (root.new ≡ having_seen root.old root.new.seen) ×
             LegalJoin self.now.limits root.old root.new.seen role (Err why)) }
     {
