@@ -1,0 +1,43 @@
+//! One step of a peer's link.
+ghost use Rattle.std.specs.Prelude.{◌≡◌, ◌∷◌, []};
+ghost use Rattle.broker_core.specs.Broker.{peer_entry};
+ghost use Rattle.seat_steps.specs.Ranges.{IsPeerStep};
+ghost use Rattle.hub_lock.specs.Passes.{IsOf};
+ghost use Rattle.hub_lock.specs.Calls.{pass_having_seen};
+ghost use Rattle.peer_link.specs.Made.{SawMore};
+ghost use Rattle.peer_link.specs.Submits.{Submits};
+
+use crate::ends::ReadEnd;
+use broker_core::Refused;
+use hub_lock::{Gate, Hub, ReaderPass};
+use seat_steps::PeerStep;
+use std::sync::Wait;
+
+/// Submits a step, and tells the gate before and after.
+pub(crate) fn submit_step<R: Wait, G: Gate>(
+    rt: &R,
+    hub: &Hub,
+    pass: &mut ReaderPass,
+    gate: &G,
+    step: &PeerStep,
+) -> Result<(), ReadEnd>
+    requires own { IsOf hub.now pass.old.seat }
+    requires step { IsPeerStep step.now }
+    ensures pass { pass.new ≡ pass_having_seen pass.old pass.new.seat.seen }
+    ensures saw { SawMore hub.now.limits pass.old.seat.seen pass.new.seat.seen }
+    ensures made { Submits hub.now.limits pass.old pass.new
+        (peer_entry pass.old.peer step.now ∷ []) result }
+{
+    let peer = pass.peer();
+    let number = pass.steps().saturating_add(1);
+    gate.before(peer, number);
+    let answer = hub.submit(rt, pass, step);
+    gate.after(peer, number);
+    match answer {
+        Ok(_) => Ok(()),
+        Err(Refused::Ended(cause)) => Err(ReadEnd::Ended(cause)),
+        Err(Refused::JournalFull(kept)) => Err(ReadEnd::JournalFull(kept)),
+        Err(Refused::NoMemory) => Err(ReadEnd::NoMemory),
+        Err(Refused::NoPeer) => unreachable!(),
+    }
+}
