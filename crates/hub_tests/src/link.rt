@@ -1,6 +1,7 @@
 //! A peer of a hub, as a job for a thread.
 ghost use Rattle.std.specs.Prelude.{◌≡◌, ◌+◌, ◌≤◌, ◌^◌, IfOk};
 ghost use Rattle.seat_steps.specs.Ranges.{IsPeerStep};
+ghost use Rattle.turn_lock.specs.Pairs.{NoneOf};
 ghost use Rattle.hub_lock.specs.Passes.{IsOf};
 
 use hub_lock::{Hub, HubPass, ReaderPass, WriterPass};
@@ -26,6 +27,8 @@ pub struct Link<'a> {
     pub writer: WriterPass,
     ghost reads: { IsOf hub reader.seat },
     ghost writes: { IsOf hub writer.seat },
+    ghost new_reader: { NoneOf reader.seat.number reader.seat.seen },
+    ghost new_writer: { NoneOf writer.seat.number writer.seat.seen },
 }
 
 /// A peer joins.

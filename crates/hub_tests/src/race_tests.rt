@@ -8,9 +8,7 @@ use hub_lock::{Hub, HubPass};
 use std::alloc::Global;
 use std::sync::Wait;
 use std::test::Fail;
-use std::thread::{Threads, map_vec};
-use wio_core::NoMemory;
-use wl_wire::Bytes;
+use std::thread::map_vec;
 
 const MESSAGES: u32 = 100;
 
@@ -51,7 +49,7 @@ fn eight<'a, R: Wait>(
 }
 
 // How many messages of the peer stand in their order.
-fn in_order(journal: &Journal, peer: u32) -> u32 {
+pub fn in_order(journal: &Journal, peer: u32) -> u32 {
     let mut next = 2u32;
     for number in 1..journal.len().saturating_add(1) {
         if let Some(Entry::Message { peer: of, body, .. }) = journal.entry(number) {
