@@ -25,8 +25,8 @@ pub struct Link<'a> {
     pub hub: &'a Hub,
     pub reader: ReaderPass,
     pub writer: WriterPass,
-    ghost reads: { IsOf hub reader.seat },
-    ghost writes: { IsOf hub writer.seat },
+    ghost reads: { IsOf hub.now reader.seat },
+    ghost writes: { IsOf hub.now writer.seat },
     ghost new_reader: { NoneOf reader.seat.number reader.seat.seen },
     ghost new_writer: { NoneOf writer.seat.number writer.seat.seen },
 }
