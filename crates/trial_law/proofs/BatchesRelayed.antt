@@ -68,7 +68,8 @@ no_notice m serial log i =
     ap (λ o. is_some (holder log) && is_none o) same ∙ held_or_not (holder log) in
     rw no refl
 
-no_method : (m serial : ℕ) (log : List Act) (o : Option ℕ) → IsHistory log → to_method (acts.MCommit m serial) log o ≡ []
+no_method : (m serial : ℕ) (log : List Act) (o : Option ℕ) → IsHistory log →
+    to_method (acts.MCommit m serial) log o ≡ []
 no_method m serial log None i = refl
 no_method m serial log (Some s) i = rw (no_notice m serial log i) refl
 
@@ -124,7 +125,8 @@ same_message made (said.Delete before after) h = refl
 same_message made (said.FieldDone serial) h = refl
 same_message made _ h = absurd h
 
-same_piece : (made : List Made) (id : ℕ) (ss : List Said) → AllByRecursion IsPart ss → said_piece made id ss ≡ said_piece [] id ss
+same_piece : (made : List Made) (id : ℕ) (ss : List Said) → AllByRecursion IsPart ss →
+    said_piece made id ss ≡ said_piece [] id ss
 same_piece made id [] h = refl
 same_piece made id (s ∷ ss) h =
     ap (λ o. followed_by (message_piece id o) (said_piece made id ss)) (same_message made s h.0)
@@ -189,7 +191,8 @@ entry_messages e older p = told_messages (past_of (e ∷ older)).made p (told (a
 entry_bytes : (e : Entry) (older : List Entry) (p : ℕ) → (group_at e older p).bytes ≡ joined (entry_messages e older p)
 entry_bytes e older p = told_joined (past_of (e ∷ older)).made p (told (act_at e older) (resolve older))
 
-each_also : {A : Type 0} (P Q : A → Type 0) (xs : List A) → ((x : A) → P x → Q x) → AllByRecursion P xs → AllByRecursion Q xs
+each_also : {A : Type 0} (P Q : A → Type 0) (xs : List A) → ((x : A) → P x → Q x) → AllByRecursion P xs →
+    AllByRecursion Q xs
 each_also P Q [] f h = tt
 each_also P Q (x ∷ xs) f h = (f x h.0, each_also P Q xs f h.1)
 
@@ -214,7 +217,8 @@ entry_whole e older p f h short =
 
 -- ---- an entry that relays nothing to the field
 
-lazily : {A : Type 0} (H : Type 0) (P : A → Type 0) (xs : List A) → (H → AllByRecursion P xs) → AllByRecursion (λ x. H → P x) xs
+lazily : {A : Type 0} (H : Type 0) (P : A → Type 0) (xs : List A) → (H → AllByRecursion P xs) →
+    AllByRecursion (λ x. H → P x) xs
 lazily H P [] k = tt
 lazily H P (x ∷ xs) k = ((λ h. (k h).0), lazily H P xs (λ h. (k h).1))
 
@@ -265,7 +269,8 @@ told_both : (made : List Made) (p : ℕ) (xs ys : List Told) →
 told_both made p [] ys = refl
 told_both made p (t ∷ xs) ys =
     ap (λ (l : List (List ℕ)). piece_messages made p t.event (made_as made t.to) ++ l) (told_both made p xs ys)
-    ∙ sym (append_assoc (piece_messages made p t.event (made_as made t.to)) (told_messages made p xs) (told_messages made p ys))
+    ∙ sym (append_assoc (piece_messages made p t.event (made_as made t.to)) (told_messages made p xs)
+    (told_messages made p ys))
 
 map_both : (f : ℕ) (xs ys : List Said) → map (to f) (xs ++ ys) ≡ map (to f) xs ++ map (to f) ys
 map_both f [] ys = refl
@@ -316,7 +321,8 @@ relayed_entry e older p f h short r =
     ap (told_messages made p) (says ∙ ap (map (to f)) g.is ∙ map_both f g.edits (said.FieldDone g.count ∷ []))
     ∙ told_both made p (map (to f) g.edits) (to f (said.FieldDone g.count) ∷ [])
     ∙ ap (λ (l : List (List ℕ)). front ++ l) (done_message made p f g.count here) in
-    let head = headed [] 7 (to f (said.FieldDone g.count)) (message interface.TextInput 5 (word g.count ∷ [])) (omega arith)
+    let head = headed [] 7 (to f (said.FieldDone g.count)) (message interface.TextInput 5 (word g.count ∷ []))
+    (omega arith)
     (λ some. omega arith) refl in (
       bytes,
       (
@@ -336,7 +342,8 @@ pub record IsTold (capacity : ℕ) (journal : List Entry) (p f : ℕ) : Type 0 w
   pub each : AreMessages messages
   pub tells : Tells messages (groups_told (queued capacity journal f))
 
-pub groups-append : (xs : List (List Said)) (g : List Said) → groups_told (xs ++ g ∷ []) ≡ groups_told xs ++ group_told g
+pub groups-append : (xs : List (List Said)) (g : List Said) →
+    groups_told (xs ++ g ∷ []) ≡ groups_told xs ++ group_told g
 groups-append [] g = append-nil (group_told g)
 groups-append (x ∷ xs) g =
     ap (λ (l : List Happening). group_told x ++ l) (groups-append xs g)
@@ -350,10 +357,12 @@ are_both (x ∷ xs) ys h k = (h.0, are_both xs ys h.1 k)
 abbrev queued_by : Bool → Bool → List (List Said) → List Said → List (List Said)
 queued_by r put older g = if r && put then older ++ g ∷ [] else older
 
-one_told : (capacity : ℕ) (e : Entry) (older : List Entry) (p f : ℕ) → IsInput (e ∷ older) p f → AreShortBodies (e ∷ older) →
+one_told : (capacity : ℕ) (e : Entry) (older : List Entry) (p f : ℕ) → IsInput (e ∷ older) p f →
+    AreShortBodies (e ∷ older) →
     IsTold capacity older p f → IsTold capacity (e ∷ older) p f
 one_told capacity e older p f h short k =
-    by (relays e older f) (fits capacity (group_at e older p) (before_group e older p (out_for capacity older p))) refl refl
+    by (relays e older f) (fits capacity (group_at e older p) (before_group e older p (out_for capacity older p)))
+    refl refl
   where
     gs : List (List ℕ)
     gs = entry_messages e older p
@@ -400,7 +409,8 @@ one_told capacity e older p f h short k =
       each = are_both k.messages gs k.each (entry_whole e older p f h short);
       tells =
           subst (λ (l : List Happening). Tells (k.messages ++ gs) l)
-          (sym (ap groups_told (queue_is true true q (λ t. put_for true s q)) ∙ groups-append (queued capacity older f) gr))
+          (sym (ap groups_told (queue_is true true q (λ t. put_for true s q))
+          ∙ groups-append (queued capacity older f) gr))
           (tells_more k.messages gs (groups_told (queued capacity older f)) (group_told gr) k.tells
           (relayed_entry e older p f h short q).1);
     }

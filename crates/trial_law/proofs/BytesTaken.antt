@@ -25,7 +25,8 @@ pub record Grows (n : ℕ) (old new : Outgoing) : Type 0 where
   pub more : List ℕ
   pub put : new.put.bytes ≡ old.put.bytes ++ more
 
-grows_group : (capacity n : ℕ) (group : Piece) (out : Outgoing) (fit : Bool) → fits capacity group (record out { taken = out.taken + n }) ≡ fit →
+grows_group : (capacity n : ℕ) (group : Piece) (out : Outgoing) (fit : Bool) →
+    fits capacity group (record out { taken = out.taken + n }) ≡ fit →
     Grows n out (with_group capacity group (record out { taken = out.taken + n }))
 grows_group capacity n group out true e =
     subst (λ (b : Bool). Grows n out (if b then record out { taken = out.taken + n; put = followed_by out.put group }
@@ -67,7 +68,8 @@ settled_grows capacity (suc n) journal p =
     (settled_grows capacity n (with_end journal (due capacity journal)) p)
 
 pub step_grows : (capacity : ℕ) (e : Entry) (journal : List Entry) (p : ℕ) →
-    Grows (took_at e (past_of journal) p) (out_for capacity journal p) (out_for capacity (settle capacity (e ∷ journal)) p)
+    Grows (took_at e (past_of journal) p) (out_for capacity journal p)
+    (out_for capacity (settle capacity (e ∷ journal)) p)
 step_grows capacity e journal p =
     grows_on (took_at e (past_of journal) p) (out_for capacity journal p) (out_for capacity (e ∷ journal) p)
     (out_for capacity (settle capacity (e ∷ journal)) p) (entry_grows capacity e journal p)
@@ -80,11 +82,13 @@ pub end_joined : (P : List Joined → Type 0) (journal : List Entry) (o : Option
 end_joined P journal None h = h
 end_joined P journal (Some q) h = h
 
-pub settled_joined : (P : List Joined → Type 0) (capacity fuel : ℕ) (journal : List Entry) → P (past_of journal).joined →
+pub settled_joined : (P : List Joined → Type 0) (capacity fuel : ℕ) (journal : List Entry) →
+    P (past_of journal).joined →
     P (past_of (settled capacity fuel journal)).joined
 settled_joined P capacity zero journal h = h
 settled_joined P capacity (suc n) journal h =
-    settled_joined P capacity n (with_end journal (due capacity journal)) (end_joined P journal (due capacity journal) h)
+    settled_joined P capacity n (with_end journal (due capacity journal))
+    (end_joined P journal (due capacity journal) h)
 
 -- what holds of who joined holds of them after the ends that follow
 pub step_joined : (P : List Joined → Type 0) (capacity : ℕ) (e : Entry) (journal : List Entry) →
@@ -149,7 +153,8 @@ IsWithinPut out = out.taken ≤ length out.put.bytes
 pub still_within : (old new : Outgoing) → Grows 0 old new → IsWithinPut old → IsWithinPut new
 still_within old new g w =
     let t = g.taken in
-    let l : length new.put.bytes ≡ length old.put.bytes + length g.more = ap length g.put ∙ length-append old.put.bytes g.more in
+    let l : length new.put.bytes ≡ length old.put.bytes + length g.more = ap length g.put
+    ∙ length-append old.put.bytes g.more in
     omega arith
 
 -- what is put leaves them
@@ -173,7 +178,8 @@ more_taken old new next e g w =
     let t = g.taken in
     let few : length next ≡ min 4096 (length (stored old)) = ap length e ∙ length-take 4096 (stored old) in
     let rest : length (stored old) ≡ length old.put.bytes - old.taken = length-drop old.taken old.put.bytes in
-    let all : length new.put.bytes ≡ length old.put.bytes + length g.more = ap length g.put ∙ length-append old.put.bytes g.more in
+    let all : length new.put.bytes ≡ length old.put.bytes + length g.more = ap length g.put
+    ∙ length-append old.put.bytes g.more in
     let within : old.taken + length next ≤ length old.put.bytes = omega arith in
     let same : take (length next) (stored old) ≡ next =
     ap (λ n. take n (stored old)) few ∙ take_min 4096 (stored old) ∙ sym e in (

@@ -65,7 +65,8 @@ more_ids made p n own = record {
 }
 
 -- one object under the next id
-pub next_made : (m : Made) (made : List Made) (p n : ℕ) → m.id ≡ n + 1 → object_in field_objects m.id ≡ Some m.interface →
+pub next_made : (m : Made) (made : List Made) (p n : ℕ) → m.id ≡ n + 1 →
+    object_in field_objects m.id ≡ Some m.interface →
     AreOwn made p n → AreOwn (m ∷ made) p (n + 1)
 next_made m made p n id known own = record { within = within; known = is_known; once = once }
   where
@@ -77,7 +78,8 @@ next_made m made p n id known own = record { within = within; known = is_known; 
     is_known x (inl s) e = subst (λ (y : Made). object_in field_objects y.id ≡ Some y.interface) s known
     is_known x (inr i) e = own.known x i e
 
-    once : (a b : Made) → IsIn (m ∷ made) a → IsIn (m ∷ made) b → a.peer ≡ p → b.peer ≡ p → a.id ≡ b.id → a.label ≡ b.label
+    once : (a b : Made) → IsIn (m ∷ made) a → IsIn (m ∷ made) b → a.peer ≡ p → b.peer ≡ p → a.id ≡ b.id →
+        a.label ≡ b.label
     once a b (inl s) (inl t) e f same = ap (λ (y : Made). y.label) (sym s ∙ t)
     once a b (inl s) (inr j) e f same =
         absurd (let w = own.within b j f in let x : a.id ≡ n + 1 = ap (λ (y : Made). y.id) (sym s) ∙ id in omega arith)
@@ -110,7 +112,8 @@ message_peer past n peer opcode body (Some x) m i =
     reading_peer past n peer x.label (request_reading x.interface opcode (past.waiting peer.label) body) m i
 
 -- what a request was read by
-pub reading_interface : (i : Interface) (n : ℕ) (tokens body : List ℕ) (m : Message) → request_reading i n tokens body ≡ Ok m →
+pub reading_interface : (i : Interface) (n : ℕ) (tokens body : List ℕ) (m : Message) →
+    request_reading i n tokens body ≡ Ok m →
     m.interface ≡ i
 unfolding request_reading
 reading_interface i n tokens body m e = by (request_kinds i n) e
@@ -135,7 +138,8 @@ input_request past n peer x r None e =
     ap (λ (a : Option Argument). made_new peer.label n a) (input_new r.interface r.opcode r.values e)
 
 input_reading : (past : Past) (n : ℕ) (peer : Joined) (x : ℕ) (i : Interface) (opcode : ℕ) (body : List ℕ)
-    (r : Result Message Refuse) → i ≡ interface.TextInput → request_reading i opcode (past.waiting peer.label) body ≡ r →
+    (r : Result Message Refuse) → i ≡ interface.TextInput →
+    request_reading i opcode (past.waiting peer.label) body ≡ r →
     (of_reading past n peer x r).made ≡ []
 input_reading past n peer x i opcode body (Err f) e h = refl
 input_reading past n peer x i opcode body (Ok m) e h =
@@ -143,14 +147,16 @@ input_reading past n peer x i opcode body (Ok m) e h =
     (reading_interface i opcode (past.waiting peer.label) body m h ∙ e)
 
 input_message : (past : Past) (n bound : ℕ) (peer : Joined) (opcode : ℕ) (body : List ℕ) (o : Option Made) →
-    AreOwn past.made peer.label bound → object_at past peer.label 7 ≡ o → (of_message past n peer opcode body o).made ≡ []
+    AreOwn past.made peer.label bound → object_at past peer.label 7 ≡ o →
+    (of_message past n peer opcode body o).made ≡ []
 input_message past n bound peer opcode body None own e = refl
 input_message past n bound peer opcode body (Some x) own e =
     let f = found (log_of past) past.made peer.label 7 x e in
     let k : object_in field_objects 7 ≡ Some x.interface =
     subst (λ id. object_in field_objects id ≡ Some x.interface) f.under (own.known x f.among f.peer) in
     input_reading past n peer x.label x.interface opcode body
-    (request_reading x.interface opcode (past.waiting peer.label) body) (sym (same_Some interface.TextInput x.interface k)) refl
+    (request_reading x.interface opcode (past.waiting peer.label) body)
+    (sym (same_Some interface.TextInput x.interface k)) refl
 
 -- ---- what an entry makes
 
@@ -172,7 +178,8 @@ IsOfOther q _ = Unit {0}
 message_others : (older : List Entry) (q n id opcode : ℕ) (body : List ℕ) (peer : Joined) (o : Option Joined) →
     peer_at (past_of older) q ≡ Some peer → (n ≡ q → ⊥) → peer_at (past_of older) n ≡ o →
     AreOthers peer.label (of_peer o
-    (λ other. of_message (past_of older) (length older + 1) other opcode body (object_at (past_of older) other.label id))).made
+    (λ other. of_message (past_of older) (length older + 1) other opcode body (object_at (past_of older)
+    other.label id))).made
 message_others older q n id opcode body peer None e d h m i s = absurd i
 message_others older q n id opcode body peer (Some other) e d h m i s =
     d (one_number older n q other peer h e
@@ -208,7 +215,8 @@ end_made journal (Some q) =
     ap (λ (new : List Made). new ++ (past_of journal).made)
     (of_none (peer_at (past_of journal) q) _ (λ other. refl))
 
-settled_made : (capacity fuel : ℕ) (journal : List Entry) → (past_of (settled capacity fuel journal)).made ≡ (past_of journal).made
+settled_made : (capacity fuel : ℕ) (journal : List Entry) →
+    (past_of (settled capacity fuel journal)).made ≡ (past_of journal).made
 settled_made capacity zero journal = refl
 settled_made capacity (suc n) journal =
     settled_made capacity n (with_end journal (due capacity journal)) ∙ end_made journal (due capacity journal)
@@ -251,4 +259,5 @@ join_step capacity role journal =
       once = λ a b i j e f. absurd (stranger journal p (omega arith) a i e);
     } in
     subst (λ (l : List Made). AreOwn l p 1) (sym (step_made capacity (entries.Join role) journal))
-    (next_made (record { peer = p; id = 1; label = p; interface = interface.Display }) (past_of journal).made p 0 refl refl none)
+    (next_made (record { peer = p; id = 1; label = p; interface = interface.Display })
+    (past_of journal).made p 0 refl refl none)

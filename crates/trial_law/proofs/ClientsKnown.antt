@@ -44,7 +44,8 @@ pub record IsKnown (k : ℕ) (t : TrialPlay) : Type 0 where
   pub waits : AreInputs field.client.state.to_send
 
 -- another field is as it was
-other_known : (j k : ℕ) (f : FieldPlay → FieldPlay) (t : TrialPlay) → (j ≡ k → ⊥) → IsKnown k t → IsKnown k (with_field j f t)
+other_known : (j k : ℕ) (f : FieldPlay → FieldPlay) (t : TrialPlay) → (j ≡ k → ⊥) → IsKnown k t →
+    IsKnown k (with_field j f t)
 other_known j k f t d h = record {
   field = h.field;
   is = changed_other j k f t.fields d ∙ h.is;
@@ -54,7 +55,8 @@ other_known j k f t d h = record {
   waits = h.waits;
 }
 
-own_known : (k : ℕ) (f : FieldPlay → FieldPlay) (t : TrialPlay) (h : IsKnown k t) → AreInputs (f h.field).client.state.to_send →
+own_known : (k : ℕ) (f : FieldPlay → FieldPlay) (t : TrialPlay) (h : IsKnown k t) →
+    AreInputs (f h.field).client.state.to_send →
     IsKnown k (with_field k f t)
 own_known k f t h waits = record {
   field = f h.field;
@@ -75,7 +77,8 @@ field_known j k f t w h = by (same_or_not j k)
     by (inr d) = other_known j k f t d h
 
 -- an entry that isn't a message of its peer
-pub entry_known : (k : ℕ) (e : journals.Entry) (t : TrialPlay) → IsOfOther (k + 2) e → IsKnown k t → IsKnown k (with_entry e t)
+pub entry_known : (k : ℕ) (e : journals.Entry) (t : TrialPlay) → IsOfOther (k + 2) e → IsKnown k t →
+    IsKnown k (with_entry e t)
 entry_known k e t o h = record {
   field = h.field;
   is = h.is;
@@ -224,7 +227,10 @@ new_known t mid h e =
     ap (λ (o : Option FieldPlay). messages (sends_in o)) there ∙ messages_spelled field_setup setup_short in
     let peer : Joined = new_peer App t in
     let joined : peer_at (past_of new.broker.journal) (k + 2) ≡ Some peer = joined_last App t k h.seated in
-    let later : TrialPlay = record new { broker = (messages_sent (k + 2) (messages (to_send who new)) new.broker).now } in
+    let later : TrialPlay = record new {
+      broker = (messages_sent (k + 2)
+          (messages (to_send who new)) new.broker).now;
+    } in
     let is : later ≡ both.mid = ap (λ (r : Ran TrialPlay). r.now) both.first in
     let own : OwnTo peer 7 later.broker =
     subst (λ (ms : List (List ℕ)). OwnTo peer 7 (messages_sent (k + 2) ms new.broker).now) (sym waits)
@@ -244,7 +250,8 @@ new_known t mid h e =
     subst (λ (u : TrialPlay). IsKnown k u)
     (ap (λ (u : TrialPlay). sent who u) is ∙ ap (λ (r : Ran TrialPlay). r.now) both.second) done
 
-one_join : (t mid : TrialPlay) → AreFollowed nobody_edits (length t.fields) t → length t.fields < 16 → field_joined t ≡ went mid →
+one_join : (t mid : TrialPlay) → AreFollowed nobody_edits (length t.fields) t → length t.fields < 16 →
+    field_joined t ≡ went mid →
     IsKnown (length t.fields) mid
 unfolding field_joined joined stepped
 one_join t mid h l e =
@@ -254,7 +261,8 @@ one_join t mid h l e =
     by : (many full : Bool) → many ≡ false →
         (with_broker t (if many then went t.broker
         else (if full then halted t.broker else went (with_step (entries.Join App) no_stamp t.broker)))
-        >>= (λ now. sends (whose.Field (length t.fields)) (record now { fields = now.fields ++ new_field ∷ [] }))) ≡ went mid →
+        >>= (λ now. sends (whose.Field (length t.fields)) (record now { fields = now.fields ++ new_field ∷ [] })))
+        ≡ went mid →
         IsKnown (length t.fields) mid
     by true full q w = cc
     by false true q w = absurd (let no : true ≡ false = ap (λ (r : Ran TrialPlay). r.is_full) w in cc)
@@ -282,9 +290,11 @@ more_known t mid h l e all k less = by (cases_lt k (length t.fields))
         subst (λ (r : Ran TrialPlay). IsKnown k r.now) e
         (field_keeps (IsKnown k) (known_played k).seats t (all k old))
     by (inr new) =
-        (let most = few in let same : length t.fields ≡ k = omega arith in subst (λ i. IsKnown i mid) same (one_join t mid h l e))
+        (let most = few in let same : length t.fields ≡ k = omega arith in subst (λ i. IsKnown i mid)
+        same (one_join t mid h l e))
 
-pub fields_known : (n : ℕ) (t end : TrialPlay) → AreFollowed nobody_edits (length t.fields) t → length t.fields + n ≤ 16 →
+pub fields_known : (n : ℕ) (t end : TrialPlay) → AreFollowed nobody_edits (length t.fields) t →
+    length t.fields + n ≤ 16 →
     fields_joined n t ≡ went end → AllKnown t → AllKnown end
 unfolding fields_joined
 fields_known zero t end h l e all = subst (λ (r : Ran TrialPlay). AllKnown r.now) e all

@@ -70,7 +70,8 @@ other_changed j k f own t d h = record {
 }
 
 -- what is done with the field itself
-pub own_changed : (k : ℕ) (f : FieldPlay → FieldPlay) (before after : List Entry) (t : TrialPlay) (h : IsFollowed k before t) →
+pub own_changed : (k : ℕ) (f : FieldPlay → FieldPlay) (before after : List Entry) (t : TrialPlay)
+    (h : IsFollowed k before t) →
     HasHeard (bytes_taken t.broker.limits.store t.broker.journal h.peer.label) (f h.field).client after →
     IsFollowed k after (with_field k f t)
 own_changed k f before after t h heard = record {
@@ -130,22 +131,26 @@ taken_followed : (k : ℕ) (own : List Entry) (who : Whose) (t : TrialPlay) → 
     IsFollowed k own (hears who (next_bytes (number_of who) t.broker) (with_entry (take_entry who t) t))
 taken_followed k own whose.Method t h =
     let f = entry_followed k own (take_entry whose.Method t) t h
-    (other_take t.broker.journal 1 (k + 2) (length (next_bytes 1 t.broker)) h.peer h.joined (λ e. absurd (omega arith))) in
+    (other_take t.broker.journal 1 (k + 2) (length (next_bytes 1 t.broker))
+    h.peer h.joined (λ e. absurd (omega arith))) in
     record { field = f.field; is = f.is; peer = f.peer; joined = f.joined; within = f.within; heard = f.heard }
 taken_followed k own (whose.Field j) t h = by (same_or_not j k)
   where
     by : (j ≡ k) ⊎ (j ≡ k → ⊥) →
-        IsFollowed k own (hears (whose.Field j) (next_bytes (j + 2) t.broker) (with_entry (take_entry (whose.Field j) t) t))
+        IsFollowed k own (hears (whose.Field j) (next_bytes (j + 2) t.broker)
+        (with_entry (take_entry (whose.Field j) t) t))
     by (inl e) =
         subst (λ i. IsFollowed k own (hears (whose.Field i) (next_bytes (i + 2) t.broker)
         (with_entry (take_entry (whose.Field i) t) t))) (sym e) (own_taken k own t h)
     by (inr d) =
-        other_changed j k (field_hears (next_bytes (j + 2) t.broker)) own (with_entry (take_entry (whose.Field j) t) t) d
+        other_changed j k (field_hears (next_bytes (j + 2) t.broker)) own (with_entry (take_entry (whose.Field j) t) t)
+        d
         (entry_followed k own (take_entry (whose.Field j) t) t h
         (other_take t.broker.journal (j + 2) (k + 2) (length (next_bytes (j + 2) t.broker)) h.peer h.joined
         (λ e. d (omega arith))))
 
-sent_followed : (k : ℕ) (own : List Entry) (who : Whose) (t : TrialPlay) → IsFollowed k own t → IsFollowed k own (sent who t)
+sent_followed : (k : ℕ) (own : List Entry) (who : Whose) (t : TrialPlay) → IsFollowed k own t →
+    IsFollowed k own (sent who t)
 sent_followed k own whose.Method t h =
     record { field = h.field; is = h.is; peer = h.peer; joined = h.joined; within = h.within; heard = h.heard }
 sent_followed k own (whose.Field j) t h = by (same_or_not j k)
@@ -159,7 +164,8 @@ sent_followed k own (whose.Field j) t h = by (same_or_not j k)
 
 pub followed : (k : ℕ) (own : List Entry) → IsKept (IsFollowed k own)
 followed k own = record {
-  saying = λ e t s f h. entry_followed k own e t h (spoken_takes e (speaks_spoken t e s) (past_of t.broker.journal) h.peer.label);
+  saying = λ e t s f h. entry_followed k own e t h (spoken_takes e (speaks_spoken t e s) (past_of t.broker.journal)
+      h.peer.label);
   taking = λ who t f h. taken_followed k own who t h;
   sending = λ who t h. sent_followed k own who t h;
 }

@@ -69,7 +69,8 @@ all_followed own most = record {
   saying = λ e t s f h. record {
     seated =
         step_joined (JoinedAre (length t.fields + 1)) t.broker.limits.store e t.broker.journal
-        (ap length (spoken_joined e (speaks_spoken t e s) (length t.broker.journal + 1) (past_of t.broker.journal).joined) ∙ h.seated);
+        (ap length (spoken_joined e (speaks_spoken t e s) (length t.broker.journal + 1)
+        (past_of t.broker.journal).joined) ∙ h.seated);
     few = h.few;
     each = λ k l. (followed k (own k)).saying e t s f (h.each k l);
   };
@@ -80,7 +81,8 @@ all_followed own most = record {
       record {
         seated =
             ap (λ b. length (past_of b.journal).joined) (hears_broker who piece mid)
-            ∙ step_joined (JoinedAre (length t.fields + 1)) t.broker.limits.store (take_entry who t) t.broker.journal h.seated
+            ∙ step_joined (JoinedAre (length t.fields + 1)) t.broker.limits.store (take_entry who t)
+            t.broker.journal h.seated
             ∙ ap (λ n. n + 1) (sym len);
         few = (let few = h.few in omega arith);
         each = λ k l. (followed k (own k)).taking who t f (h.each k (omega arith));
@@ -191,7 +193,8 @@ with_new_followed most t h = record {
   each = λ k l. new_each k t most h l;
 }
 
-more_room : (own : ℕ → List Entry) (few many : ℕ) (t : TrialPlay) → few ≤ many → AreFollowed own few t → AreFollowed own many t
+more_room : (own : ℕ → List Entry) (few many : ℕ) (t : TrialPlay) → few ≤ many → AreFollowed own few t →
+    AreFollowed own many t
 more_room own few many t l h = record { seated = h.seated; few = (let f = h.few in omega arith); each = h.each }
 
 -- so few are alive that one more can join
@@ -232,7 +235,8 @@ fields_followed (suc n) most t l h =
         AreFollowed nobody_edits (most + suc n) (if full then field_joined t else fields_joined n (field_joined t).now).now
     by true one k = more_room nobody_edits (most + 1) (most + suc n) (field_joined t).now (omega arith) one
     by false one k =
-        more_room nobody_edits ((most + 1) + n) (most + suc n) (fields_joined n (field_joined t).now).now (omega arith) k
+        more_room nobody_edits ((most + 1) + n) (most + suc n) (fields_joined n (field_joined t).now).now (omega arith)
+        k
 
 -- ---- the method
 

@@ -101,13 +101,15 @@ batches-append (entered ∷ xs) ys = batches-append xs ys
 batches-append (left ∷ xs) ys = batches-append xs ys
 
 pub front_batches : (ms more : List (List ℕ)) →
-    IsFrontOf (batches_in (happenings (events_in ms) no_edits)) (batches_in (happenings (events_in (ms ++ more)) no_edits))
+    IsFrontOf (batches_in (happenings (events_in ms) no_edits))
+    (batches_in (happenings (events_in (ms ++ more)) no_edits))
 front_batches ms more =
     let f = front_heard ms more in
     record {
       rest = batches_in (happenings f.rest (waiting (events_in ms) no_edits));
       is =
-          sym (batches-append (happenings (events_in ms) no_edits) (happenings f.rest (waiting (events_in ms) no_edits)))
+          sym (batches-append (happenings (events_in ms) no_edits)
+          (happenings f.rest (waiting (events_in ms) no_edits)))
           ∙ ap batches_in (sym (happenings-append (events_in ms) f.rest no_edits))
           ∙ ap (λ (l : List Event). batches_in (happenings l no_edits)) f.is;
     }
@@ -141,7 +143,8 @@ GroupOf gs own =
     (batches_in (happenings (events_in gs) no_edits) ≡ own)
     × (IsSpelled gs → waiting (events_in gs) no_edits ≡ no_edits)
 
-pub tells_more : (ms gs : List (List ℕ)) (told own : List Happening) → Tells ms told → GroupOf gs own → Tells (ms ++ gs) (told ++ own)
+pub tells_more : (ms gs : List (List ℕ)) (told own : List Happening) → Tells ms told → GroupOf gs own →
+    Tells (ms ++ gs) (told ++ own)
 tells_more ms gs told own (inr s) g = inr (record {
   stopped = λ more.
       ap events_in (append_assoc ms gs more) ∙ s.stopped (gs ++ more) ∙ sym (s.stopped gs);
@@ -162,8 +165,10 @@ tells_more ms gs told own (inl k) g = by (either_heard gs)
     batches =
         ap (λ (l : List Event). batches_in (happenings l no_edits)) all
         ∙ ap batches_in (happenings-append (events_in ms) (events_in gs) no_edits)
-        ∙ batches-append (happenings (events_in ms) no_edits) (happenings (events_in gs) (waiting (events_in ms) no_edits))
-        ∙ ap (λ (w : Batch). batches_in (happenings (events_in ms) no_edits) ++ batches_in (happenings (events_in gs) w)) k.waits
+        ∙ batches-append (happenings (events_in ms) no_edits) (happenings (events_in gs)
+        (waiting (events_in ms) no_edits))
+        ∙ ap (λ (w : Batch). batches_in (happenings (events_in ms) no_edits)
+        ++ batches_in (happenings (events_in gs) w)) k.waits
         ∙ ap (λ (l : List Happening). l ++ batches_in (happenings (events_in gs) no_edits)) k.is
         ∙ ap (λ (l : List Happening). told ++ l) g.0
 
@@ -188,7 +193,8 @@ tells_more ms gs told own (inl k) g = by (either_heard gs)
 abbrev IsStill : Event → Type 0
 IsStill e = (w : Batch) → (batches_in (logged e w []) ≡ []) × (waiting_after e w ≡ w)
 
-still_event : (e : Event) → ((event_message e).interface ≡ interface.TextInput → (event_message e).opcode ≤ 1) → IsStill e
+still_event : (e : Event) → ((event_message e).interface ≡ interface.TextInput → (event_message e).opcode ≤ 1) →
+    IsStill e
 still_event (events.PreeditString t begin end) h = λ w. absurd (let l = h refl in omega arith)
 still_event (events.CommitString t) h = λ w. absurd (let l = h refl in omega arith)
 still_event (events.DeleteSurroundingText before behind) h = λ w. absurd (let l = h refl in omega arith)
@@ -253,7 +259,8 @@ IsStillMessage m = id_of m ≡ 7 → opcode_of m ≤ 1
 still_message : (m : List ℕ) (e : Event) → IsStillMessage m → event_in field_objects m ≡ Some e → IsStill e
 still_message m e h k =
     let at = event_at m e k in
-    still_event e (λ s. subst (λ n. n ≤ 1) (sym at.opcode) (h (input_id (id_of m) (event_message e).interface s at.there)))
+    still_event e (λ s. subst (λ n. n ≤ 1) (sym at.opcode) (h (input_id (id_of m)
+    (event_message e).interface s at.there)))
 
 still_next : (m : List ℕ) (ms : List (List ℕ)) (w : Batch) (o : Option Event) → event_in field_objects m ≡ o →
     ((e : Event) → o ≡ Some e → IsStill e) →
@@ -295,7 +302,8 @@ pub done_waits : (ms : List (List ℕ)) (d : List ℕ) → id_of d ≡ 7 → opc
     waiting (events_in (ms ++ d ∷ [])) no_edits ≡ no_edits
 done_waits ms d i n s = by (event_in field_objects d) refl (spelled_right ms (d ∷ []) s).0
   where
-    by : (o : Option Event) → event_in field_objects d ≡ o → SpellsOne o → waiting (events_in (ms ++ d ∷ [])) no_edits ≡ no_edits
+    by : (o : Option Event) → event_in field_objects d ≡ o → SpellsOne o →
+        waiting (events_in (ms ++ d ∷ [])) no_edits ≡ no_edits
     by None q h = absurd h
     by (Some e) q h =
         let at = event_at d e q in
@@ -341,7 +349,8 @@ piece_joined made p event (Some m) = by (m.peer == p)
     by true = message_joined m.id (message_of made event)
     by false = refl
 
-pub told_joined : (made : List Made) (p : ℕ) (ts : List Told) → (group_for made p ts).bytes ≡ joined (told_messages made p ts)
+pub told_joined : (made : List Made) (p : ℕ) (ts : List Told) →
+    (group_for made p ts).bytes ≡ joined (told_messages made p ts)
 told_joined made p [] = refl
 told_joined made p (t ∷ ts) =
     ap (λ (l : List ℕ). (event_piece made p t.event (made_as made t.to)).bytes ++ l) (told_joined made p ts)
@@ -354,7 +363,8 @@ TellsSo made p P t =
     (m : Made) → made_as made t.to ≡ Some m → m.peer ≡ p → (x : Message) → message_of made t.event ≡ Some x →
     P (message_bytes m.id x)
 
-each_both : (P : List ℕ → Type 0) (xs ys : List (List ℕ)) → AllByRecursion P xs → AllByRecursion P ys → AllByRecursion P (xs ++ ys)
+each_both : (P : List ℕ → Type 0) (xs ys : List (List ℕ)) → AllByRecursion P xs → AllByRecursion P ys →
+    AllByRecursion P (xs ++ ys)
 each_both P [] ys h k = k
 each_both P (x ∷ xs) ys h k = (h.0, each_both P xs ys h.1 k)
 
@@ -367,11 +377,13 @@ piece_each made p P t (Some m) e h = by (m.peer == p) refl
     each None q s = tt
     each (Some x) q s = (h m e s x q, tt)
 
-    by : (b : Bool) → (m.peer == p) ≡ b → AllByRecursion P (if b then said_message m.id (message_of made t.event) else [])
+    by : (b : Bool) → (m.peer == p) ≡ b →
+        AllByRecursion P (if b then said_message m.id (message_of made t.event) else [])
     by true q = each (message_of made t.event) refl (eqb-true m.peer p q)
     by false q = tt
 
-pub told_each : (made : List Made) (p : ℕ) (P : List ℕ → Type 0) (ts : List Told) → AllByRecursion (TellsSo made p P) ts →
+pub told_each : (made : List Made) (p : ℕ) (P : List ℕ → Type 0) (ts : List Told) →
+    AllByRecursion (TellsSo made p P) ts →
     AllByRecursion P (told_messages made p ts)
 told_each made p P [] h = tt
 told_each made p P (t ∷ ts) h =
@@ -396,10 +408,13 @@ pub record IsHeaded (id : ℕ) (x : Message) : Type 0 where
   pub id-is : id_of (message_bytes id x) ≡ id
   pub opcode-is : opcode_of (message_bytes id x) ≡ x.opcode
 
-pub headed : (made : List Made) (id : ℕ) (t : Told) (x : Message) → id ≤ 7 → IsShort t → message_of made t.event ≡ Some x →
+pub headed : (made : List Made) (id : ℕ) (t : Told) (x : Message) → id ≤ 7 → IsShort t →
+    message_of made t.event ≡ Some x →
     IsHeaded id x
 headed made id t x low s e =
-    let small : x.opcode ≤ 6 = where_some (λ (m : Message). m.opcode ≤ 6) (message_of made t.event) x e (opcode_small made t.event) in
-    let size : message_len x ≤ 4096 = where_some (λ (m : Message). message_len m ≤ 4096) (message_of made t.event) x e (s made) in
+    let small : x.opcode ≤ 6 = where_some (λ (m : Message). m.opcode ≤ 6) (message_of made t.event)
+    x e (opcode_small made t.event) in
+    let size : message_len x ≤ 4096 = where_some (λ (m : Message). message_len m ≤ 4096) (message_of made t.event)
+    x e (s made) in
     let w = written_whole id x (omega arith) (omega arith) size in
     record { whole = w.0; id-is = w.1; opcode-is = w.2 }

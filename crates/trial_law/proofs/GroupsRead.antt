@@ -76,7 +76,8 @@ record AreSaid (ss : List Said) (es : List Event) : Type 0 where
 none_said : AreSaid [] []
 none_said = record { heard = λ more. refl }
 
-one_said : (s : Said) (e : Event) (ss : List Said) (es : List Event) → IsSaid s e → AreSaid ss es → AreSaid (s ∷ ss) (e ∷ es)
+one_said : (s : Said) (e : Event) (ss : List Said) (es : List Event) → IsSaid s e → AreSaid ss es →
+    AreSaid (s ∷ ss) (e ∷ es)
 one_said s e ss es h k = record {
   heard = λ more.
       let x : Message = message TextInput h.opcode h.values in
@@ -121,7 +122,8 @@ done_said n l =
     }) none_said
 
 preedit_first : (p : Preedit) (ss : List Said) (es : List Event) → is_text p.text ≡ true → length p.text ≤ 4075 →
-    FitsSigned w32 p.begin → FitsSigned w32 p.end → AreSaid ss es → AreSaid (preedit_said p ++ ss) (preedit_events p ++ es)
+    FitsSigned w32 p.begin → FitsSigned w32 p.end → AreSaid ss es →
+    AreSaid (preedit_said p ++ ss) (preedit_events p ++ es)
 preedit_first p ss es t l b e k = by (is_no_preedit p)
   where
     by : (none : Bool) → AreSaid ((if none then [] else said.Preedit p.text p.begin p.end ∷ []) ++ ss)
@@ -164,7 +166,8 @@ string_first t ss es is l k = by (length t == 0)
           event = refl;
         }) k
 
-deletion_first : (d : Deletion) (ss : List Said) (es : List Event) → d.before < 2 ^ 32 → d.after < 2 ^ 32 → AreSaid ss es →
+deletion_first : (d : Deletion) (ss : List Said) (es : List Event) → d.before < 2 ^ 32 → d.after < 2 ^ 32 →
+    AreSaid ss es →
     AreSaid (deletion_said d ++ ss) (deletion_events d ++ es)
 deletion_first d ss es a b k = by ((d.before == 0) && (d.after == 0))
   where
@@ -236,11 +239,14 @@ preedit_waits d t p es = by (is_no_preedit p) refl
     by true e =
         (let outer = and_parts ((length p.text == 0) && is_zero p.begin) (is_zero p.end) e in
         let inner = and_parts (length p.text == 0) (is_zero p.begin) outer.0 in
-        ap (λ (x : List ℕ). happenings es (record (with_deletion d) { string = t; preedit = x; begin = pos 0; end = pos 0 }))
+        ap (λ (x : List ℕ). happenings es (record (with_deletion d)
+        { string = t; preedit = x; begin = pos 0; end = pos 0 }))
         (sym (empty_text p.text (eqb-true (length p.text) 0 inner.0)))
-        ∙ ap (λ (x : ℤ). happenings es (record (with_deletion d) { string = t; preedit = p.text; begin = x; end = pos 0 }))
+        ∙ ap (λ (x : ℤ). happenings es (record (with_deletion d)
+        { string = t; preedit = p.text; begin = x; end = pos 0 }))
         (sym (zero_is p.begin inner.1))
-        ∙ ap (λ (x : ℤ). happenings es (record (with_deletion d) { string = t; preedit = p.text; begin = p.begin; end = x }))
+        ∙ ap (λ (x : ℤ). happenings es (record (with_deletion d)
+        { string = t; preedit = p.text; begin = p.begin; end = x }))
         (sym (zero_is p.end outer.1)))
     by false e = refl
 

@@ -33,7 +33,8 @@ logged_told (events.Leave surface) waiting log = refl
 logged_told (events.TextInputDone serial) waiting log = refl
 logged_told _ waiting log = sym (append-nil (told_in log))
 
-logged_own : (event : Event) (waiting : Batch) (log : List Happening) → edits_in (logged event waiting log) ≡ edits_in log
+logged_own : (event : Event) (waiting : Batch) (log : List Happening) →
+    edits_in (logged event waiting log) ≡ edits_in log
 logged_own (events.Enter surface) waiting log = refl
 logged_own (events.Leave surface) waiting log = refl
 logged_own (events.TextInputDone serial) waiting log = refl
@@ -97,7 +98,8 @@ pub happenings-append : (xs ys : List Event) (w : Batch) →
 happenings-append [] ys w = refl
 happenings-append (x ∷ xs) ys w =
     ap (λ (l : List Happening). logged x w [] ++ l) (happenings-append xs ys (waiting_after x w))
-    ∙ sym (append_assoc (logged x w []) (happenings xs (waiting_after x w)) (happenings ys (waiting xs (waiting_after x w))))
+    ∙ sym (append_assoc (logged x w []) (happenings xs (waiting_after x w))
+    (happenings ys (waiting xs (waiting_after x w))))
 
 pub waiting-append : (xs ys : List Event) (w : Batch) → waiting (xs ++ ys) w ≡ waiting ys (waiting xs w)
 waiting-append [] ys w = refl
@@ -151,7 +153,8 @@ whole_is bytes piece =
     ap (λ (b : List ℕ). b ++ piece) (l.front ∙ ap (λ (r : List ℕ). joined (messages bytes) ++ r) (sym (rest_is bytes)))
     ∙ append_assoc (joined (messages bytes)) (behind bytes) piece
 
-pub messages_on : (bytes piece : List ℕ) → messages (bytes ++ piece) ≡ messages bytes ++ messages (behind bytes ++ piece)
+pub messages_on : (bytes piece : List ℕ) →
+    messages (bytes ++ piece) ≡ messages bytes ++ messages (behind bytes ++ piece)
 messages_on bytes piece =
     ap messages (whole_is bytes piece) ∙ found_first (messages bytes) (behind bytes ++ piece) (longest bytes).each
 

@@ -89,14 +89,16 @@ with_entry e t = record t { broker = with_step e no_stamp t.broker }
 pub record IsKept (P : TrialPlay → Type 0) : Type 0 where
   pub saying : (e : Entry) (t : TrialPlay) → Speaks t e → is_full t.broker.limits t.broker.journal e ≡ false → P t →
       P (with_entry e t)
-  pub taking : (who : Whose) (t : TrialPlay) → is_full t.broker.limits t.broker.journal (take_entry who t) ≡ false → P t →
+  pub taking : (who : Whose) (t : TrialPlay) → is_full t.broker.limits t.broker.journal (take_entry who t) ≡ false →
+      P t →
       P (hears who (next_bytes (number_of who) t.broker) (with_entry (take_entry who t) t))
   pub sending : (who : Whose) (t : TrialPlay) → P t → P (sent who t)
 
 -- and by joins
 pub record IsSeated (P : TrialPlay → Type 0) : Type 0 where
   pub phases : IsKept P
-  pub joining : (role : Role) (t : TrialPlay) → is_full t.broker.limits t.broker.journal (entries.Join role) ≡ false → P t →
+  pub joining : (role : Role) (t : TrialPlay) → is_full t.broker.limits t.broker.journal (entries.Join role) ≡ false →
+      P t →
       P (with_entry (entries.Join role) t)
   pub adding : (t : TrialPlay) → P t → P (record t { fields = t.fields ++ new_field ∷ [] })
 
@@ -111,7 +113,8 @@ pub record IsPlayed (P : TrialPlay → Type 0) : Type 0 where
 abbrev pub KeepsAll : (TrialPlay → Type 0) → (TrialPlay → Ran TrialPlay) → Type 0
 KeepsAll P next = (t : TrialPlay) → P t → P (next t).now
 
-pub after : (P : TrialPlay → Type 0) (r : Ran TrialPlay) (next : TrialPlay → Ran TrialPlay) → P r.now → KeepsAll P next →
+pub after : (P : TrialPlay → Type 0) (r : Ran TrialPlay) (next : TrialPlay → Ran TrialPlay) → P r.now →
+    KeepsAll P next →
     P (r >>= next).now
 after P r next h k = by r.is_full
   where
@@ -137,8 +140,14 @@ module _ (P : TrialPlay → Type 0) (kept : IsKept P) where
   -- one message, and then those that follow
   next_keeps : (who : Whose) (m : List ℕ) (ms : List (List ℕ)) (t : TrialPlay) → IsMessage m →
       IsAmong (messages (to_send who t)) m → P t →
-      ((b : Broker) → P (record t { broker = b }) → P (record t { broker = (messages_sent (number_of who) ms b).now })) →
-      P (record t { broker = (stepped (message_entry (number_of who) m) t.broker >>= messages_sent (number_of who) ms).now })
+      ((b : Broker) → P (record t { broker = b }) → P (record t {
+        broker = (messages_sent (number_of who)
+            ms b).now;
+      })) →
+      P (record t {
+        broker = (stepped (message_entry (number_of who) m) t.broker >>= messages_sent (number_of who)
+            ms).now;
+      })
   next_keeps who m ms t is among h k = by (stepped (message_entry (number_of who) m) t.broker).is_full
     where
       one : P (record t { broker = (stepped (message_entry (number_of who) m) t.broker).now })
@@ -279,7 +288,8 @@ module _ (P : TrialPlay → Type 0) (seats : IsSeated P) where
       after P (with_broker t (joined App t.broker))
       (λ now. sends (whose.Field (length t.fields)) (record now { fields = now.fields ++ new_field ∷ [] }))
       (joined_keeps App t h)
-      (λ now k. sends_keep P seats.phases (whose.Field (length t.fields)) (record now { fields = now.fields ++ new_field ∷ [] })
+      (λ now k. sends_keep P seats.phases (whose.Field (length t.fields))
+      (record now { fields = now.fields ++ new_field ∷ [] })
       (seats.adding now k))
 
   pub fields_keep : (n : ℕ) → KeepsAll P (fields_joined n)
@@ -298,7 +308,8 @@ module _ (P : TrialPlay → Type 0) (played : IsPlayed P) where
   acted_keeps time (actions.Batch b) t h =
       sends_keep P played.seats.phases whose.Method (commits (batch_of b) t) (played.committing (batch_of b) t h)
   acted_keeps time (actions.Edit f e) t h =
-      sends_keep P played.seats.phases (whose.Field (f - 1)) (edits (f - 1) (edit_of e) t) (played.editing (f - 1) (edit_of e) t h)
+      sends_keep P played.seats.phases (whose.Field (f - 1)) (edits (f - 1) (edit_of e) t)
+      (played.editing (f - 1) (edit_of e) t h)
   acted_keeps time (actions.Pause f) t h = played.pausing (f - 1) true t h
   acted_keeps time (actions.Resume f) t h = played.pausing (f - 1) false t h
   acted_keeps time (actions.Show f) t h = played.showing (t.shown ++ show_line f (text_at (f - 1) t)) t h
@@ -348,7 +359,8 @@ module _ (Q : Broker → Type 0)
   of_broker = record {
     seats = record {
       phases = record {
-        saying = λ e t s f h. step e t.broker (spoken_outer e (speaks_spoken t e s)) (spoken_short e (speaks_spoken t e s)) f h;
+        saying = λ e t s f h. step e t.broker (spoken_outer e (speaks_spoken t e s))
+            (spoken_short e (speaks_spoken t e s)) f h;
         taking = λ who t f h. was_heard who (next_bytes (number_of who) t.broker) (with_entry (take_entry who t) t)
             (step (take_entry who t) t.broker refl tt f h);
         sending = was_sent;

@@ -163,7 +163,8 @@ for_to left f = tt
 pub happens_waits : (h : Happening) (s : State) → AreInputs s.to_send → AreInputs (happens h s).to_send
 happens_waits h s a = record {
   requests = a.requests ++ sent_for h s.field;
-  is = ap (λ (b : List ℕ). b ++ spelled (sent_for h s.field)) a.is ∙ sym (spelled-append a.requests (sent_for h s.field));
+  is = ap (λ (b : List ℕ). b ++ spelled (sent_for h s.field)) a.is
+      ∙ sym (spelled-append a.requests (sent_for h s.field));
   each = inputs-append a.requests (sent_for h s.field) a.each (for_to h s.field);
 }
 

@@ -81,7 +81,8 @@ round_moves most t after m q e =
         quiet (inr more) = more
     by both (inr more) later =
         let least : ℕ = 1 + counted t in
-        let kept = field_turns_keep (λ u. least ≤ counted u) (at_least least).seats.phases (length t.fields) 0 both.mid more in
+        let kept = field_turns_keep (λ u. least ≤ counted u) (at_least least).seats.phases (length t.fields)
+        0 both.mid more in
         subst (λ (r : Ran TrialPlay). least ≤ counted r.now) both.second kept
 
 -- ---- rounds
@@ -160,7 +161,8 @@ line_quiet limit time action t after g e =
     subst (λ (r : Ran TrialPlay). IsWithin limit r.now.broker) e
     (line_keeps (λ u. IsWithin limit u.broker) (within limit) time action t g.limited) in
     by both most last.1
-    (rounds_quiet limit both.mid.most both.mid after (most ∙ (let s : limit + 1 ≡ suc limit = omega arith in s)) both.second)
+    (rounds_quiet limit both.mid.most both.mid after (most ∙ (let s : limit + 1 ≡ suc limit = omega arith in s))
+    both.second)
   where
     by : (both : IsBoth (acted time action t) (λ now. rounds now.most now) after) → both.mid.most ≡ limit + 1 →
         counted after ≤ limit → (is_quiet after ≡ true) ⊎ (both.mid.most + counted both.mid ≤ counted after) →
@@ -196,11 +198,13 @@ unfolding played_with
 rounds_end_quiet limits script first more t a some e =
     let start : TrialPlay = unplayed limits script.table in
     let time : ℕ = script.first_line % 2 ^ 32 in
-    let parts : ((method_joined start >>= fields_joined script.fields) >>= actions_played time script.actions) ≡ went t =
+    let parts : ((method_joined start >>= fields_joined script.fields) >>= actions_played time script.actions)
+    ≡ went t =
     ap (λ (none : Bool). if none then went start
     else (method_joined start >>= fields_joined script.fields) >>= actions_played time script.actions)
     (sym (ne_eqb script.fields 0 (λ z. omega arith))) ∙ e in
-    let both = both_went (method_joined start >>= fields_joined script.fields) (actions_played time script.actions) t parts in
+    let both = both_went (method_joined start >>= fields_joined script.fields) (actions_played time script.actions)
+    t parts in
     let joined = both_went (method_joined start) (fields_joined script.fields) both.mid both.first in
     let limit : ℕ = limits.entries in
     let going : IsGoing limit both.mid = record {

@@ -42,7 +42,8 @@ record IsMaking (n : ℕ) (s : Sent) : Type 0 where
   short : IsShortSent s
   object : object_in field_objects s.object ≡ Some s.message.interface
   interface : Interface
-  new : new_of s.message.interface s.message.opcode s.message.values ≡ Some (record { id = n + 1; interface = interface })
+  new : new_of s.message.interface s.message.opcode s.message.values
+      ≡ Some (record { id = n + 1; interface = interface })
   there : object_in field_objects (n + 1) ≡ Some interface
   kinds : List Kind
   row : request_kinds s.message.interface s.message.opcode ≡ Some kinds
@@ -71,12 +72,14 @@ request_makes : (past : Past) (k n : ℕ) (peer : Joined) (x : ℕ) (s : Sent) (
 request_makes past k n peer x s (Some f) h own = more_ids past.made peer.label n (n + 1) (omega arith) own
 request_makes past k n peer x s None h own =
     subst (λ (a : Option Argument). AreOwn (made_new peer.label k a ++ past.made) peer.label (n + 1)) (sym h.new)
-    (next_made (record { peer = peer.label; id = n + 1; label = k; interface = h.interface }) past.made peer.label n refl
+    (next_made (record { peer = peer.label; id = n + 1; label = k; interface = h.interface })
+    past.made peer.label n refl
     h.there own)
 
 message_makes : (past : Past) (k n : ℕ) (peer : Joined) (s : Sent) (o : Option Made) → IsMaking n s →
     AreOwn past.made peer.label n → object_at past peer.label s.object ≡ o →
-    AreOwn ((of_message past k peer s.message.opcode (spelling s.message.values) o).made ++ past.made) peer.label (n + 1)
+    AreOwn ((of_message past k peer s.message.opcode (spelling s.message.values) o).made ++ past.made)
+    peer.label (n + 1)
 message_makes past k n peer s None h own e = more_ids past.made peer.label n (n + 1) (omega arith) own
 message_makes past k n peer s (Some x) h own e =
     let f = found (log_of past) past.made peer.label s.object x e in
@@ -87,7 +90,8 @@ message_makes past k n peer s (Some x) h own e =
     let reads : request_reading x.interface s.message.opcode tokens (spelling s.message.values) ≡ Ok s.message =
     subst (λ (i : Interface). request_reading i s.message.opcode tokens (spelling s.message.values) ≡ Ok s.message) same
     (reads_back n s tokens h) in
-    subst (λ (r : Result Message Refuse). AreOwn ((of_reading past k peer x.label r).made ++ past.made) peer.label (n + 1))
+    subst (λ (r : Result Message Refuse). AreOwn ((of_reading past k peer x.label r).made ++ past.made)
+    peer.label (n + 1))
     (sym reads)
     (request_makes past k n peer x.label s
     (request_fault past peer.label peer.role (label_at past peer.label) s.message) h own)
@@ -100,7 +104,8 @@ entry_is q n s h =
     ∙ ap (λ opcode. entries.Message q s.object opcode (body_of (bytes_of s))) w.2
     ∙ ap (λ (body : List ℕ). entries.Message q s.object s.message.opcode body) w.3
 
-makes_step : (capacity q n : ℕ) (s : Sent) (journal : List Entry) (peer : Joined) → peer_at (past_of journal) q ≡ Some peer →
+makes_step : (capacity q n : ℕ) (s : Sent) (journal : List Entry) (peer : Joined) →
+    peer_at (past_of journal) q ≡ Some peer →
     IsMaking n s → AreOwn (past_of journal).made peer.label n →
     AreOwn (past_of (settle capacity (message_entry q (bytes_of s) ∷ journal))).made peer.label (n + 1)
 makes_step capacity q n s journal peer e h own =
@@ -113,7 +118,8 @@ makes_step capacity q n s journal peer e h own =
     (λ other. of_message past k other s.message.opcode body (object_at past other.label s.object))).made ++ past.made)
     peer.label (n + 1)) (sym e)
     (message_makes past k n peer s (object_at past peer.label s.object) h own refl) in
-    subst (λ (x : Entry). AreOwn (past_of (settle capacity (x ∷ journal))).made peer.label (n + 1)) (sym (entry_is q n s h))
+    subst (λ (x : Entry). AreOwn (past_of (settle capacity (x ∷ journal))).made peer.label (n + 1))
+    (sym (entry_is q n s h))
     (subst (λ (l : List Made). AreOwn l peer.label (n + 1)) (sym (step_made capacity entry journal)) made)
 
 -- requests one after the other

@@ -43,7 +43,8 @@ shown_kept lines = record {
 
 -- ---- what a line shows
 
-acted_shows : (time : ℕ) (action : Action) (t : TrialPlay) → Shows (t.shown ++ line_of action (went t)) (acted time action t).now
+acted_shows : (time : ℕ) (action : Action) (t : TrialPlay) →
+    Shows (t.shown ++ line_of action (went t)) (acted time action t).now
 unfolding acted
 acted_shows time (actions.Use f) t =
     shell_keeps (Shows (t.shown ++ [])) (shown_kept (t.shown ++ [])) _ t (sym (append-nil t.shown))
@@ -85,12 +86,14 @@ bind_twice r f g = by r.now r.is_full
   where
     by : (now : TrialPlay) (full : Bool) →
         (let x : Ran TrialPlay = record { now = now; is_full = full } in
-        (if (if full then x else f now).is_full then (if full then x else f now) else g (if full then x else f now).now))
+        (if (if full then x else f now).is_full then (if full then x else f now)
+        else g (if full then x else f now).now))
         ≡ (let x : Ran TrialPlay = record { now = now; is_full = full } in (if full then x else (f now >>= g)))
     by now true = refl
     by now false = refl
 
-bind_same : (r : Ran TrialPlay) (f g : TrialPlay → Ran TrialPlay) → ((t : TrialPlay) → f t ≡ g t) → (r >>= f) ≡ (r >>= g)
+bind_same : (r : Ran TrialPlay) (f g : TrialPlay → Ran TrialPlay) → ((t : TrialPlay) → f t ≡ g t) →
+    (r >>= f) ≡ (r >>= g)
 bind_same r f g e = by r.is_full
   where
     by : (full : Bool) → (if full then r else f r.now) ≡ (if full then r else g r.now)
@@ -103,7 +106,8 @@ time_behind time [] = time
 time_behind time (action ∷ more) = time_behind ((time + 1) % 2 ^ 32) more
 
 one_more : (time : ℕ) (all : List Action) (action : Action) (t : TrialPlay) →
-    actions_played time (all ++ action ∷ []) t ≡ (actions_played time all t >>= line_played (time_behind time all) action)
+    actions_played time (all ++ action ∷ []) t ≡ (actions_played time all t >>= line_played (time_behind time all)
+    action)
 unfolding actions_played
 one_more time [] action t = bind_went (line_played time action t)
 one_more time (first ∷ more) action t =
@@ -147,14 +151,17 @@ next_trial n limits script action some e =
     ∙ bind_same (joined_all limits script) (actions_played time (front ++ action ∷ []))
     (λ t. actions_played time front t >>= line_played (time_behind time front) action)
     (λ t. one_more time front action t)
-    ∙ sym (bind_twice (joined_all limits script) (actions_played time front) (line_played (time_behind time front) action))
-    ∙ ap (λ (r : Ran TrialPlay). r >>= line_played (time_behind time front) action) (sym (trial_is n limits script some))
+    ∙ sym (bind_twice (joined_all limits script) (actions_played time front)
+    (line_played (time_behind time front) action))
+    ∙ ap (λ (r : Ran TrialPlay). r >>= line_played (time_behind time front) action)
+    (sym (trial_is n limits script some))
 
 then_shows : (r : Ran TrialPlay) (time : ℕ) (action : Action) →
     (r >>= line_played time action).now.shown ≡ r.now.shown ++ line_of action r
 then_shows r time action = by r.now r.is_full
   where
-    stopped : (now : TrialPlay) (a : Action) → (let x : Ran TrialPlay = record { now = now; is_full = true } in line_of a x ≡ [])
+    stopped : (now : TrialPlay) (a : Action) →
+        (let x : Ran TrialPlay = record { now = now; is_full = true } in line_of a x ≡ [])
     stopped now (actions.Show f) = refl
     stopped now _ = refl
 

@@ -113,7 +113,8 @@ one_take_counts who t mid e =
     let bytes : List ℕ = next_bytes (number_of who) t.broker in
     let both = both_went (took who t) (λ now. sends who (hears who bytes now)) mid e in
     let least : ℕ = 1 + counted t in
-    let more : least ≤ counted both.mid = subst (λ x. least ≤ x) (sym (took_counts who t both.mid both.first)) (omega arith) in
+    let more : least ≤ counted both.mid = subst (λ x. least ≤ x) (sym (took_counts who t both.mid both.first))
+    (omega arith) in
     let same = ap (λ (b : Broker). number_counted b.journal) (same_broker who bytes both.mid) in
     let kept = sends_keep (λ u. least ≤ counted u) (at_least least).seats.phases who (hears who bytes both.mid)
     (subst (λ x. least ≤ x) (sym same) more) in

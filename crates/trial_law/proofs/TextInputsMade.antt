@@ -61,7 +61,8 @@ only_manager interface.Display opcode (word id ∷ []) new e h =
     absurd (display_other (opcode == 0) (named_by _ id new e ∙ h))
 only_manager interface.Registry opcode (word name ∷ text t ∷ word version ∷ word id ∷ []) new e h =
     absurd (global_other (name == 1) (name == 2) (name == 3) (named_by (global_at name) id new e ∙ h))
-only_manager interface.Compositor opcode (word id ∷ []) new e h = (let s = named_by interface.Surface id new e ∙ h in cc)
+only_manager interface.Compositor opcode (word id ∷ []) new e h = (let s = named_by interface.Surface id new e
+    ∙ h in cc)
 only_manager interface.Seat opcode (word id ∷ []) new e h = (let s = named_by interface.Seat id new e ∙ h in cc)
 only_manager interface.InputMethodManager opcode (word seat ∷ word id ∷ []) new e h =
     (let s = named_by interface.InputMethod id new e ∙ h in cc)
@@ -72,10 +73,12 @@ only_manager interface.InputMethod opcode (word id ∷ []) new e h =
 only_manager _ opcode vs new e h = cc
 
 no_row : (n : ℕ) → request_kinds interface.TextInputManager (suc (suc n)) ≡ None
-no_row n = rw (ne_eqb 0 (suc (suc n)) (λ e. absurd (omega arith)), ne_eqb 1 (suc (suc n)) (λ e. absurd (omega arith))) refl
+no_row n = rw (ne_eqb 0 (suc (suc n)) (λ e. absurd (omega arith)), ne_eqb 1 (suc (suc n)) (λ e. absurd (omega arith)))
+    refl
 
 -- the request of a manager that names something new makes a field
-manager_field : (p x : ℕ) (role : Role) (at : ℕ → ℕ) (opcode : ℕ) (tokens body : List ℕ) (m : Message) (new : Argument) →
+manager_field : (p x : ℕ) (role : Role) (at : ℕ → ℕ) (opcode : ℕ) (tokens body : List ℕ) (m : Message)
+    (new : Argument) →
     request_reading interface.TextInputManager opcode tokens body ≡ Ok m →
     new_of m.interface m.opcode m.values ≡ Some new → act_of p x role at m.interface m.opcode m.values ≡ acts.Field p
 unfolding request_reading
@@ -107,7 +110,8 @@ manager_field p x role at (suc zero) tokens body m new e h = by (request_kinds i
     by None k = cc
     by (Some ks) k = read (values_at tokens ks body) k
 manager_field p x role at (suc (suc n)) tokens body m new e h =
-    (let no : (let r : Result Message Refuse = by_row interface.TextInputManager (suc (suc n)) tokens body None in r ≡ Ok m) =
+    (let no : (let r : Result Message Refuse = by_row interface.TextInputManager (suc (suc n)) tokens body None in r
+    ≡ Ok m) =
     ap (by_row interface.TextInputManager (suc (suc n)) tokens body) (sym (no_row n)) ∙ e in cc)
 
 -- ---- entries
@@ -119,8 +123,14 @@ Makes meaning p = meaning.act ≡ acts.Field p
 new_input : (q n : ℕ) (o : Option Argument) (m : Made) → IsIn (made_new q n o) m → m.interface ≡ interface.TextInput →
     (new : Argument) × (o ≡ Some new) × (new.interface ≡ interface.TextInput) × (m.label ≡ n) × (m.peer ≡ q)
 new_input q n None m i h = absurd i
-new_input q n (Some a) m (inl e) h =
-    (a, refl, ap (λ (y : Made). y.interface) e ∙ h, ap (λ (y : Made). y.label) (sym e), ap (λ (y : Made). y.peer) (sym e))
+new_input q n (Some a) m (inl e) h = (
+  a,
+  refl,
+  ap (λ (y : Made). y.interface) e ∙ h,
+  ap (λ (y : Made). y.label) (sym e),
+  ap (λ (y : Made). y.peer)
+      (sym e),
+)
 new_input q n (Some a) m (inr i) h = absurd i
 
 -- of a request that was read and isn't refused
@@ -137,7 +147,8 @@ request_input past n peer x i opcode body r None m e j h =
     sym (reading_interface i opcode (past.waiting peer.label) body r e) ∙ manager in
     let reads : request_reading interface.TextInputManager opcode (past.waiting peer.label) body ≡ Ok r =
     subst (λ (k : Interface). request_reading k opcode (past.waiting peer.label) body ≡ Ok r) from e in (
-      manager_field peer.label x peer.role (label_at past peer.label) opcode (past.waiting peer.label) body r w.0 reads w.1,
+      manager_field peer.label x peer.role (label_at past peer.label) opcode (past.waiting peer.label)
+          body r w.0 reads w.1,
       w.3,
       w.4,
     )
@@ -175,17 +186,20 @@ message_input older peer id opcode body (Some x) m e j h =
     let f = found (log_of past) past.made peer.label id x e in
     let r = reading_input past (length older + 1) peer x.label x.interface opcode body
     (request_reading x.interface opcode (past.waiting peer.label) body) m refl j h in
-    let owner : peer_of (log_of past) x.label ≡ Some peer.label = (sound older x f.among).own f.lives ∙ ap Some f.peer in
+    let owner : peer_of (log_of past) x.label ≡ Some peer.label = (sound older x f.among).own f.lives
+    ∙ ap Some f.peer in
     subst (λ p. maker_of (cleaned (of_message past (length older + 1) peer opcode body (Some x)).act (log_of past)
     ∷ log_of past) m.label ≡ Some p) (sym r.2)
-    (live_field older m.label (of_message past (length older + 1) peer opcode body (Some x)).act peer.label x.label r.1 r.0
+    (live_field older m.label (of_message past (length older + 1)
+    peer opcode body (Some x)).act peer.label x.label r.1 r.0
     owner)
 
 peer_input : (older : List Entry) (o : Option Joined) (id opcode : ℕ) (body : List ℕ) (m : Made) →
     IsIn (of_peer o (λ peer. of_message (past_of older) (length older + 1) peer opcode body
     (object_at (past_of older) peer.label id))).made m → m.interface ≡ interface.TextInput →
     maker_of (cleaned (of_peer o (λ peer. of_message (past_of older) (length older + 1) peer opcode body
-    (object_at (past_of older) peer.label id))).act (log_of (past_of older)) ∷ log_of (past_of older)) m.label ≡ Some m.peer
+    (object_at (past_of older) peer.label id))).act (log_of (past_of older)) ∷ log_of (past_of older)) m.label
+    ≡ Some m.peer
 peer_input older None id opcode body m j h = absurd j
 peer_input older (Some peer) id opcode body m j h =
     message_input older peer id opcode body (object_at (past_of older) peer.label id) m refl j h
@@ -202,7 +216,8 @@ entry_input (entries.Join role) older m j h = absurd (by j)
     by : IsIn (record { peer = length older + 1; id = 1; label = length older + 1; interface = interface.Display } ∷ []) m → ⊥
     by (inl e) = (let s : interface.Display ≡ interface.TextInput = ap (λ (y : Made). y.interface) e ∙ h in cc)
     by (inr i) = absurd i
-entry_input (entries.Message q id opcode body) older m j h = peer_input older (peer_at (past_of older) q) id opcode body m j h
+entry_input (entries.Message q id opcode body) older m j h = peer_input older (peer_at (past_of older)
+    q) id opcode body m j h
 entry_input (entries.Tokens q tokens) older m j h = absurd j
 entry_input (entries.BadSize q head) older m j h = absurd (none_in (peer_at (past_of older) q) _ m (λ peer. refl) j)
 entry_input (entries.End q why) older m j h = absurd (none_in (peer_at (past_of older) q) _ m (λ peer. refl) j)

@@ -28,13 +28,15 @@ use Rattle.trial_law.proofs.FieldsJoin.{AreFollowed, all_followed, fields_follow
 
 -- ---- one line
 
-same_heard : (bytes : List ℕ) (c : _) (own other : List Entry) → own ≡ other → HasHeard bytes c own → HasHeard bytes c other
+same_heard : (bytes : List ℕ) (c : _) (own other : List Entry) → own ≡ other → HasHeard bytes c own →
+    HasHeard bytes c other
 same_heard bytes c own other e h = subst (λ (l : List Entry). HasHeard bytes c l) e h
 
 same_own : (k : ℕ) (own other : List Entry) (t : TrialPlay) → own ≡ other → IsFollowed k own t → IsFollowed k other t
 same_own k own other t e h = subst (λ (l : List Entry). IsFollowed k l t) e h
 
-all_same : (own other : ℕ → List Entry) (most : ℕ) (t : TrialPlay) → ((k : ℕ) → own k ≡ other k) → AreFollowed own most t →
+all_same : (own other : ℕ → List Entry) (most : ℕ) (t : TrialPlay) → ((k : ℕ) → own k ≡ other k) →
+    AreFollowed own most t →
     AreFollowed other most t
 all_same own other most t e h = record {
   seated = h.seated;
@@ -50,7 +52,8 @@ no_edit : (own : ℕ → List Entry) (most : ℕ) (t : TrialPlay) → AreFollowe
     AreFollowed (λ k. own k ++ []) most t
 no_edit own most t h = all_same own (λ k. own k ++ []) most t (λ k. sym (append-nil (own k))) h
 
-edited_by : (f j : ℕ) (edit : Entry) (own : ℕ → List Entry) (most : ℕ) (t : TrialPlay) → f - 1 ≡ j → AreFollowed own most t →
+edited_by : (f j : ℕ) (edit : Entry) (own : ℕ → List Entry) (most : ℕ) (t : TrialPlay) → f - 1 ≡ j →
+    AreFollowed own most t →
     AreFollowed (λ k. own k ++ (if f - 1 == k then edit ∷ [] else [])) most (edits j edit t)
 edited_by f j edit own most t s h =
     let len = changed_length j (field_edits edit) t.fields in
@@ -138,7 +141,8 @@ line_followed own most time action t h =
 
 -- ---- the lines of a script
 
-pub actions_followed : (own : ℕ → List Entry) (most time : ℕ) (all : List Action) (t end : TrialPlay) → AreFollowed own most t →
+pub actions_followed : (own : ℕ → List Entry) (most time : ℕ) (all : List Action) (t end : TrialPlay) →
+    AreFollowed own most t →
     actions_played time all t ≡ went end → AreFollowed (λ k. own k ++ own_edits all k) most end
 unfolding actions_played
 actions_followed own most time [] t end h e =
@@ -152,17 +156,20 @@ actions_followed own most time (action ∷ more) t end h e =
     (λ k. append_assoc (own k) (edits_by action k) (own_edits more k))
     (actions_followed (with_edits own action) most ((time + 1) % 2 ^ 32) more both.mid end mid both.second)
 
-trial_followed : (limits : Limits) (script : Script) (t : TrialPlay) → script.fields ≤ 16 → (script.fields == 0) ≡ false →
+trial_followed : (limits : Limits) (script : Script) (t : TrialPlay) → script.fields ≤ 16 →
+    (script.fields == 0) ≡ false →
     trial_played limits script ≡ went t → AreFollowed (own_edits script.actions) (0 + script.fields) t
 unfolding played_with
 trial_followed limits script t few some e =
     let start : TrialPlay = unplayed limits script.table in
     let time : ℕ = script.first_line % 2 ^ 32 in
-    let parts : ((method_joined start >>= fields_joined script.fields) >>= actions_played time script.actions) ≡ went t =
+    let parts : ((method_joined start >>= fields_joined script.fields) >>= actions_played time script.actions)
+    ≡ went t =
     ap (λ (none : Bool). if none then went start
     else (method_joined start >>= fields_joined script.fields) >>= actions_played time script.actions)
     (sym some) ∙ e in
-    let both = both_went (method_joined start >>= fields_joined script.fields) (actions_played time script.actions) t parts in
+    let both = both_went (method_joined start >>= fields_joined script.fields) (actions_played time script.actions)
+    t parts in
     let joined = both_went (method_joined start) (fields_joined script.fields) both.mid both.first in
     let first = method_followed start joined.mid refl refl joined.first in
     let mid : AreFollowed (λ k. []) (0 + script.fields) both.mid =
@@ -182,7 +189,8 @@ within_list (y ∷ xs) zero x e = omega arith
 within_list (y ∷ xs) (suc k) x e = (let l = within_list xs k x e in omega arith)
 
 -- where there are no fields, nothing is played
-pub none_played : (limits : Limits) (script : Script) (t : TrialPlay) (k : ℕ) (field : FieldPlay) → (script.fields == 0) ≡ true →
+pub none_played : (limits : Limits) (script : Script) (t : TrialPlay) (k : ℕ) (field : FieldPlay) →
+    (script.fields == 0) ≡ true →
     trial_played limits script ≡ went t → slice_get t.fields k ≡ Some field → ⊥
 unfolding played_with
 none_played limits script t k field none e is =
@@ -201,7 +209,8 @@ folded : (limits : Limits) (script : Script) (t : TrialPlay) (k : ℕ) (field : 
     IsFolded limits script t.broker.journal k field
 folded limits script t k field same is f =
     let here : f.field ≡ field = same_Some f.field field (sym f.is ∙ is) in
-    let h : HasHeard (bytes_taken limits.store t.broker.journal f.peer.label) field.client (own_edits script.actions k) =
+    let h : HasHeard (bytes_taken limits.store t.broker.journal f.peer.label)
+    field.client (own_edits script.actions k) =
     subst (λ (x : FieldPlay). HasHeard (bytes_taken limits.store t.broker.journal f.peer.label) x.client
     (own_edits script.actions k)) here
     (subst (λ (l : Limits). HasHeard (bytes_taken l.store t.broker.journal f.peer.label) f.field.client

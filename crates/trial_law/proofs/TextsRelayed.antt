@@ -59,7 +59,8 @@ end_short : (journal : List Entry) (o : Option ℕ) → AreShortBodies journal �
 end_short journal None h = h
 end_short journal (Some q) h = (tt, h)
 
-settled_short : (capacity n : ℕ) (journal : List Entry) → AreShortBodies journal → AreShortBodies (settled capacity n journal)
+settled_short : (capacity n : ℕ) (journal : List Entry) → AreShortBodies journal →
+    AreShortBodies (settled capacity n journal)
 settled_short capacity zero journal h = h
 settled_short capacity (suc n) journal h =
     settled_short capacity n (with_end journal (due capacity journal)) (end_short journal (due capacity journal) h)
@@ -78,11 +79,13 @@ unfolding played_with
 trial_known limits script t few some e k l =
     let start : TrialPlay = unplayed limits script.table in
     let time : ℕ = script.first_line % 2 ^ 32 in
-    let parts : ((method_joined start >>= fields_joined script.fields) >>= actions_played time script.actions) ≡ went t =
+    let parts : ((method_joined start >>= fields_joined script.fields) >>= actions_played time script.actions)
+    ≡ went t =
     ap (λ (none : Bool). if none then went start
     else (method_joined start >>= fields_joined script.fields) >>= actions_played time script.actions)
     (sym some) ∙ e in
-    let both = both_went (method_joined start >>= fields_joined script.fields) (actions_played time script.actions) t parts in
+    let both = both_went (method_joined start >>= fields_joined script.fields) (actions_played time script.actions)
+    t parts in
     let joined = both_went (method_joined start) (fields_joined script.fields) both.mid both.first in
     let first : AreFollowed nobody_edits 0 joined.mid = method_followed start joined.mid refl refl joined.first in
     let none : length joined.mid.fields ≤ 0 = first.few in
@@ -110,7 +113,8 @@ front_on xs ys zs f g = record {
 queued_front : (capacity : ℕ) (journal : List Entry) (f : ℕ) → history capacity (outer journal) ≡ journal →
     IsFrontOf (groups_told (queued capacity journal f)) (groups_told (relayed (idle.history (resolve journal)) f))
 queued_front capacity journal f e =
-    by (subst (λ (j : List Entry). IsQueued capacity j f ⊎ IsLeftOut capacity j f) e (relay_law capacity (outer journal) f))
+    by (subst (λ (j : List Entry). IsQueued capacity j f ⊎ IsLeftOut capacity j f)
+    e (relay_law capacity (outer journal) f))
   where
     by : IsQueued capacity journal f ⊎ IsLeftOut capacity journal f →
         IsFrontOf (groups_told (queued capacity journal f)) (groups_told (relayed (idle.history (resolve journal)) f))
@@ -139,7 +143,8 @@ taken_front capacity journal p f h short =
 -- ---- the law
 
 -- the field of its peer
-is_input : (journal : List Entry) (p f : ℕ) → AreOwn (past_of journal).made p 7 → IsFieldOf journal p f → IsInput journal p f
+is_input : (journal : List Entry) (p f : ℕ) → AreOwn (past_of journal).made p 7 → IsFieldOf journal p f →
+    IsInput journal p f
 is_input journal p f own h =
     let made : List Made = (past_of journal).made in
     let with : IsWith made f h.made = made_with made f h.made h.is in

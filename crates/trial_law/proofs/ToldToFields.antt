@@ -36,7 +36,8 @@ IsNone log x = maker_of log x ≡ None
 abbrev OtherKind : ℕ → Kind → Type 0
 OtherKind p kind = is_field_kind kind ≡ false
 
-made_field : (act : Act) (n p : ℕ) (whose : Option ℕ) (o : Object) → field_peer act ≡ Some p → made act n whose ≡ Some o →
+made_field : (act : Act) (n p : ℕ) (whose : Option ℕ) (o : Object) → field_peer act ≡ Some p →
+    made act n whose ≡ Some o →
     is_field_kind o.kind ≡ true
 made_field (acts.Field q) n p whose o f e =
     let same : (let u : Object = record { kind = FieldKind; peer = q } in u ≡ o) = same_Some _ o e in
@@ -58,7 +59,8 @@ field_only [] x p o f e = cc
 field_only (act ∷ older) x p o f e = field_at act older x p o (x == next older) (field_only older x p o) f e
 
 -- so a live object of another kind isn't one
-not_field : (log : List Act) (x p : ℕ) (test : Kind → Bool) → ((kind : Kind) → is_field_kind kind ≡ true → test kind ≡ false) →
+not_field : (log : List Act) (x p : ℕ) (test : Kind → Bool) →
+    ((kind : Kind) → is_field_kind kind ≡ true → test kind ≡ false) →
     maker_of log x ≡ Some p → is_kind test (object log x) ≡ true → ⊥
 not_field log x p test other f e = by (object log x) refl e
   where
@@ -76,13 +78,15 @@ no_popup _ e = cc
 
 -- what an act makes that makes no field
 new_none : (act : Act) (log : List Act) → field_peer act ≡ None → IsNone (act ∷ log) (next log)
-new_none act log e = ap (λ (b : Bool). if b then field_peer act else maker_of log (next log)) (eq-eqb (next log) (next log) refl) ∙ e
+new_none act log e = ap (λ (b : Bool). if b then field_peer act else maker_of log (next log))
+    (eq-eqb (next log) (next log) refl) ∙ e
 
 -- the shell's label
 zero_none : (log : List Act) → IsNone log 0
 zero_none [] = refl
 zero_none (act ∷ older) =
-    ap (λ (b : Bool). if b then field_peer act else maker_of older 0) (ne_eqb 0 (next older) (λ e. absurd (omega arith)))
+    ap (λ (b : Bool). if b then field_peer act else maker_of older 0)
+    (ne_eqb 0 (next older) (λ e. absurd (omega arith)))
     ∙ zero_none older
 
 none_on : (act : Act) (log : List Act) (x : ℕ) → x ≤ length log → IsNone log x → IsNone (act ∷ log) x
@@ -91,7 +95,8 @@ none_on act log x w e = maker_stays act log x w ∙ e
 -- ---- the method that serves, and the grab that stands
 
 served : (act : Act) (older : List Act) (m : ℕ) →
-    ((n : ℕ) → serving older ≡ Some n → IsNone older n) → where_alive (act ∷ older) (serving older) ≡ Some m → IsNone (act ∷ older) m
+    ((n : ℕ) → serving older ≡ Some n → IsNone older n) → where_alive (act ∷ older) (serving older) ≡ Some m →
+    IsNone (act ∷ older) m
 served act older m k e = by (serving older) refl e
   where
     by : (o : Option ℕ) → serving older ≡ o → where_alive (act ∷ older) o ≡ Some m → IsNone (act ∷ older) m
@@ -112,7 +117,8 @@ method_served p older m false k e = none_on (acts.Method p) older m (serving_wit
 
 serving_none : (log : List Act) (m : ℕ) → serving log ≡ Some m → IsNone log m
 serving_none [] m e = cc
-serving_none (acts.Method p ∷ older) m e = method_served p older m (is_none (serving older)) (λ n. serving_none older n) e
+serving_none (acts.Method p ∷ older) m e = method_served p older m (is_none (serving older))
+    (λ n. serving_none older n) e
 serving_none (act ∷ older) m e = served act older m (λ n. serving_none older n) e
 
 record IsStanding (log : List Act) (g : ℕ) : Type 0 where
@@ -288,13 +294,15 @@ module _ (act : Act) (log : List Act) (f p : ℕ) (is : maker_of (act ∷ log) f
 abbrev pub Relays : Act → List Act → ℕ → Bool
 Relays act log f = fresh act log && is_at (holder log) f
 
-own_batch : (m serial : ℕ) (log : List Act) (f p : ℕ) (is : maker_of (acts.MCommit m serial ∷ log) f ≡ Some p) (b : Bool) →
+own_batch : (m serial : ℕ) (log : List Act) (f p : ℕ) (is : maker_of (acts.MCommit m serial ∷ log) f ≡ Some p)
+    (b : Bool) →
     (b && is_at (holder log) f) ≡ false →
     AreWell f (if b then to_holder (acts.MCommit m serial) log (holder log) else [])
 own_batch m serial log f p is true r = batch_well (acts.MCommit m serial) log f p is m serial (holder log) r
 own_batch m serial log f p is false r = tt
 
-own_well : (act : Act) (log : List Act) (f p : ℕ) → maker_of (act ∷ log) f ≡ Some p → IsHistory log → cleaned act log ≡ act →
+own_well : (act : Act) (log : List Act) (f p : ℕ) → maker_of (act ∷ log) f ≡ Some p → IsHistory log →
+    cleaned act log ≡ act →
     Relays act log f ≡ false → AreWell f (own act log)
 own_well (acts.Method q) log f p is i c r =
     either_way (AllByRecursion (IsWell f)) (is_some (serving log)) (to (next log) said.Unavailable ∷ []) []
@@ -309,7 +317,8 @@ own_well (acts.Drop x) log f p is i c r = deleted_well (acts.Drop x) log f p is 
 own_well (acts.Area s rect) log f p is i c r = popups_well (acts.Area s rect) log f p is
 own_well (acts.Screen size) log f p is i c r = popups_well (acts.Screen size) log f p is
 own_well (acts.Commit g) log f p is i c r =
-    either_way (AllByRecursion (IsWell f)) (is_at (holder (acts.Commit g ∷ log)) g) (each_popup (acts.Commit g ∷ log)) []
+    either_way (AllByRecursion (IsWell f)) (is_at (holder (acts.Commit g ∷ log)) g) (each_popup (acts.Commit g ∷ log))
+    []
     (popups_well (acts.Commit g) log f p is) tt
 own_well (acts.MCommit m serial) log f p is i c r = own_batch m serial log f p is (fresh (acts.MCommit m serial) log) r
 own_well (acts.Key time key state) log f p is i c r =
@@ -334,7 +343,8 @@ own_well (acts.Bad q fault x) log f p is i c r =
     (peer_well (acts.Bad q fault x) log f p is q (said.Error x fault) (live (acts.Bad q fault x) log c (λ d. cc)), tt)
 own_well _ log f p is i c r = tt
 
-by_well : (act : Act) (log : List Act) (f p : ℕ) → maker_of (act ∷ log) f ≡ Some p → IsHistory log → cleaned act log ≡ act →
+by_well : (act : Act) (log : List Act) (f p : ℕ) → maker_of (act ∷ log) f ≡ Some p → IsHistory log →
+    cleaned act log ≡ act →
     Relays act log f ≡ false → AreWell f (told_by act log)
 by_well act log f p is i c r =
     each_append (IsWell f) (leaves act log) _ (leaves_well f act log)

@@ -22,7 +22,8 @@ not_is : (b : Bool) → not b ≡ true → b ≡ false
 not_is true e = cc
 not_is false e = refl
 
-quiet_at : (n j k : ℕ) (t : TrialPlay) → fields_quiet n j t ≡ true → j ≤ k → k < j + n → is_due (whose.Field k) t ≡ false
+quiet_at : (n j k : ℕ) (t : TrialPlay) → fields_quiet n j t ≡ true → j ≤ k → k < j + n →
+    is_due (whose.Field k) t ≡ false
 unfolding fields_quiet
 quiet_at zero j k t q low high = absurd (omega arith)
 quiet_at (suc n) j k t q low high =
@@ -35,7 +36,8 @@ quiet_at (suc n) j k t q low high =
         subst (λ i. is_due (whose.Field i) t ≡ false) (eqb-true j k e) (not_is (is_due (whose.Field j) t) first)
     by false e first later = later (omega (arith, eqb-false j k e))
 
-none_stored : (k : ℕ) (t : TrialPlay) (field : FieldPlay) → slice_get t.fields k ≡ Some field → field.is_paused ≡ false →
+none_stored : (k : ℕ) (t : TrialPlay) (field : FieldPlay) → slice_get t.fields k ≡ Some field →
+    field.is_paused ≡ false →
     is_due (whose.Field k) t ≡ false → has_stored (k + 2) t.broker ≡ false
 unfolding is_due
 none_stored k t field is going due =
@@ -52,7 +54,8 @@ all_taken t q peer joined none =
     let put : List ℕ = (out_for store t.broker.journal peer.label).put.bytes in
     let taken : ℕ = (out_for store t.broker.journal peer.label).taken in
     let same : stored_for q t.broker ≡ drop taken put =
-    ap (λ (o : Option Joined). bytes_in (option_map (λ (p : Joined). out_for store t.broker.journal p.label) o)) joined in
+    ap (λ (o : Option Joined). bytes_in (option_map (λ (p : Joined). out_for store t.broker.journal p.label) o))
+    joined in
     let empty : length (stored_for q t.broker) ≡ 0 =
     eqb-true (length (stored_for q t.broker)) 0 (still (length (stored_for q t.broker) == 0) none) in
     let left : length (drop taken put) ≡ 0 = sym (ap length same) ∙ empty in

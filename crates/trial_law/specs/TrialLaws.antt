@@ -44,7 +44,8 @@ ShownInTurn =
 -- The text of the field with the index k is the fold of a log. The log's own edits are those of the script for that
 -- field, all and in order. The rest of it is what the events make happen that the one journal tells the field's peer,
 -- as far as its client took their bytes.
-pub record IsFolded (limits : Limits) (script : Script) (journal : List Entry) (k : ℕ) (field : FieldPlay) : Type 0 where
+pub record IsFolded (limits : Limits) (script : Script) (journal : List Entry) (k : ℕ) (field : FieldPlay)
+    : Type 0 where
   pub log : List Happening
   pub text : field.client.state.field.text ≡ text_of log
   pub own : edits_in log ≡ own_edits script.actions k
@@ -61,7 +62,8 @@ TextsAreFolds =
 
 -- So it is, and the batches of the log are a front of those that the one journal relays to the field; there are none
 -- where the peer made no field.
-pub record IsRelayed (limits : Limits) (script : Script) (journal : List Entry) (k : ℕ) (field : FieldPlay) : Type 0 where
+pub record IsRelayed (limits : Limits) (script : Script) (journal : List Entry) (k : ℕ) (field : FieldPlay)
+    : Type 0 where
   pub folded : IsFolded limits script journal k field
   pub batches : (f : ℕ) → IsFieldOf journal folded.peer.label f →
       IsFrontOf (batches_in (told_in folded.log)) (groups_told (relayed (idle.history (resolve journal)) f))
@@ -76,9 +78,10 @@ TextsAreRelayed =
 -- After an action, a field that isn't paused heard all that was put for its peer, so only a paused field is behind.
 abbrev pub UnpausedHearAll : Type 0
 UnpausedHearAll =
-    (limits : Limits) (script : Script) (first : Action) (more : List Action) (t : TrialPlay) (k : ℕ) (field : FieldPlay)
-    (peer : Joined) → script.actions ≡ first ∷ more → 1 ≤ script.fields → trial_played limits script ≡ went t →
-    slice_get t.fields k ≡ Some field → field.is_paused ≡ false → peer_at (past_of t.broker.journal) (k + 2) ≡ Some peer →
+    (limits : Limits) (script : Script) (first : Action) (more : List Action) (t : TrialPlay) (k : ℕ)
+    (field : FieldPlay) (peer : Joined) → script.actions ≡ first ∷ more → 1 ≤ script.fields → trial_played limits script ≡ went t →
+    slice_get t.fields k ≡ Some field → field.is_paused ≡ false →
+    peer_at (past_of t.broker.journal) (k + 2) ≡ Some peer →
     bytes_taken limits.store t.broker.journal peer.label ≡ (out_for limits.store t.broker.journal peer.label).put.bytes
 
 -- What a client reads in the spelling of a whole group is the batch, with the serial of its done.
