@@ -1,1 +1,3 @@
+pub mod FieldLogs
+pub mod RelayedBatches
 pub mod TrialLaws

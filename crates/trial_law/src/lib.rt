@@ -2,11 +2,59 @@
 //! contracts.
 #![tactic(auto)]
 
-ghost use Rattle.trial_law.specs.TrialLaws.{TrialHistory};
+ghost use Rattle.trial_law.specs.TrialLaws.{TrialHistory, RoundsEndQuiet};
+ghost use Rattle.trial_law.specs.TrialLaws.{ShownInTurn, TextsAreFolds, TextsAreRelayed};
+ghost use Rattle.trial_law.specs.TrialLaws.{UnpausedHearAll, GroupsAreRead};
 
 /// The journal of every trial is the history of its outer steps: each is followed by the ends that
 /// follow from it, and by no others. So the relay law speaks of it.
 #[tactic(auto, using(crate::proofs::JournalIsHistory::trial_history))]
 pub fn trial_history()
     ensures { TrialHistory }
+{}
+
+/// After each action of a trial, unless the journal is full, nothing is stored for a client that
+/// isn't paused: the rounds never run out.
+#[tactic(auto, using(crate::proofs::RoundsEnd::rounds_end_quiet))]
+pub fn rounds_end_quiet()
+    ensures { RoundsEndQuiet }
+{}
+
+/// What a trial shows is a line for each `show` in turn: the text that its field has in the trial
+/// that the actions before it play.
+#[tactic(auto, using(crate::proofs::ShownLines::shown_in_turn))]
+pub fn shown_in_turn()
+    ensures { ShownInTurn }
+{}
+
+/// In every trial of at most 16 fields that is played to its end, the text of each field is the
+/// fold of a log. The log's own edits are those of the script for that field, all and in order. The
+/// rest of it is what the events make happen that the one journal tells the field's peer, as far as
+/// its client took their bytes.
+#[tactic(auto, using(crate::proofs::TextsFolded::texts_folded))]
+pub fn texts_are_folds()
+    ensures { TextsAreFolds }
+{}
+
+/// So it is, and the batches of the log are a front of those that the one journal relays to the
+/// field: what a client reads in the spellings of the relayed groups, in order. They are all but
+/// what the client didn't take yet, and but the last where that ended the field's peer.
+#[tactic(auto, using(crate::proofs::TextsRelayed::texts_relayed))]
+pub fn texts_are_relayed()
+    ensures { TextsAreRelayed }
+{}
+
+/// After an action, a field that isn't paused heard all that was put for its peer, so only a paused
+/// field is behind.
+#[tactic(auto, using(crate::proofs::UnpausedHearAll::unpaused_hear_all))]
+pub fn unpaused_hear_all()
+    ensures { UnpausedHearAll }
+{}
+
+/// What a client reads in the spelling of a whole group is the group's batch, with the serial of
+/// its done, where the batch's numbers have 32 bits and its texts are texts of the protocol that
+/// fit a message.
+#[tactic(auto, using(crate::proofs::GroupsRead::groups_read))]
+pub fn groups_are_read()
+    ensures { GroupsAreRead }
 {}

@@ -1,12 +1,11 @@
 -- The event that a message is has that message.
-use Rattle.std.proofs.Common.{◌≡◌, ℕ, zero, suc, List, [], ◌∷◌, Option, Some, None, refl, sym, ap, ◌∙◌}
+use Rattle.std.proofs.Common.{◌≡◌, ℕ, zero, suc, List, [], ◌∷◌, Option, Some, None, sym, ap}
 use Rattle.wl_proto.specs.declared.interface.Interface.{Interface}
-use Rattle.wl_proto.specs.declared.interface.Interface.TheVariants.{Display, Registry, Callback, Compositor, Surface, Seat, TextInputManager, TextInput, InputMethodManager, InputMethod, InputPopupSurface, KeyboardGrab}
+use Rattle.wl_proto.specs.declared.interface.Interface.TheVariants.{Display, Registry, Callback, Seat, TextInput, InputMethod, InputPopupSurface, KeyboardGrab}
 use Rattle.wl_proto.specs.declared.event.Event.{Event}
-use Rattle.wl_proto.specs.declared.event.Event.TheVariants as events
 use Rattle.wl_proto.specs.Grammar.{Value, word, signed, text, null, token}
 use Rattle.wl_proto.specs.Rows.{Message, message, event_message}
-use Rattle.trial_run.specs.Events.{lent, display_event, registry_event, callback_event, seat_event, input_event, method_event, popup_event, grab_event, event_of}
+use Rattle.trial_run.specs.Events.{display_event, registry_event, callback_event, seat_event, input_event, method_event, popup_event, grab_event, event_of}
 
 same_event : (x e : Event) → (let o : Option Event = Some x in o ≡ Some e) → event_message e ≡ event_message x
 same_event x e h = ap event_message (let same : x ≡ e = cc in sym same)

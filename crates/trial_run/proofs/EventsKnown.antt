@@ -1,5 +1,5 @@
 -- Each event is known again from its message: as one that does the same to a client.
-use Rattle.std.proofs.Common.{◌≡◌, ℕ, Option, Some, None, refl}
+use Rattle.std.proofs.Common.{◌≡◌, Some, None, refl}
 use Rattle.wl_proto.specs.declared.event.Event.{Event}
 use Rattle.wl_proto.specs.declared.event.Event.TheVariants as events
 use Rattle.wl_proto.specs.Rows.{event_message}

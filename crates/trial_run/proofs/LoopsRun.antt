@@ -1,5 +1,5 @@
 -- The recursions of the definitions, one turn at a time, as loops make them.
-use Rattle.std.proofs.Common.{◌≡◌, ℕ, zero, suc, ◌+◌, ◌-◌, ◌%◌, ◌^◌, ◌<◌, ◌≤◌, Bool, true, false, not, ◌&&◌, List, [], ◌∷◌, length, drop, Result, Ok, Err, refl, sym, ap, subst, ◌∙◌, arith}
+use Rattle.std.proofs.Common.{◌≡◌, ℕ, zero, suc, ◌+◌, ◌-◌, ◌%◌, ◌^◌, ◌<◌, ◌≤◌, Bool, true, false, not, ◌&&◌, List, [], ◌∷◌, length, refl, sym, ap, subst, ◌∙◌, arith}
 use Rattle.std.specs.Prelude.{if◌then◌else◌}
 use Rattle.wl_wire.specs.Messages.{messages}
 use Rattle.broker_model.specs.declared.journal.Entry.{Entry}
@@ -16,7 +16,7 @@ use Rattle.trial_run.specs.Rounds.{one_take, takes, turn, field_turns, round, is
 use Rattle.trial_run.specs.Lines.{line_played, actions_played}
 use Rattle.trial_run.specs.Trial.{field_joined, fields_joined}
 use Rattle.trial_run.specs.Working.{IsStop, IsHalt}
-use Rattle.trial_run.proofs.RunsInTurn.{goes, halts, step_halts, run_halts}
+use Rattle.trial_run.proofs.RunsInTurn.{goes, step_halts, run_halts}
 
 less : (n k : ℕ) → k < n → n - k ≡ suc (n - (k + 1))
 less n k h = omega arith

@@ -1,19 +1,19 @@
 -- A phase of a trial runs as its parts do.
-use Rattle.std.proofs.Common.{◌≡◌, ℕ, List, [], ◌∷◌, ◌++◌, length, Result, Ok, Err, refl, sym, ap, subst, ◌∙◌}
+use Rattle.std.proofs.Common.{◌≡◌, ℕ, List, [], ◌∷◌, ◌++◌, length, Result, sym, ap, subst, ◌∙◌}
 use Rattle.std.specs.Prelude.{String}
 use Rattle.std.specs.Global.{Global}
 use Rattle.seat_steps.specs.declared.limits.Limits.{Limits}
 use Rattle.trial_script.specs.declared.script.Script.{Script}
 use Rattle.trial_script.specs.Scripts.{script_of}
 use Rattle.trial_run.specs.declared.run.TrialEnd.{TrialEnd}
-use Rattle.relay_model.specs.declared.role.Role.TheVariants.{App, Method}
+use Rattle.relay_model.specs.declared.role.Role.TheVariants.{App}
 use Rattle.wl_wire.specs.Messages.{messages}
 use Rattle.broker_model.specs.declared.journal.Entry.TheVariants as entries
 use Rattle.broker_core.specs.Broker.{Broker}
 use Rattle.trial_run.specs.declared.stop.Stop.{Stop}
 use Rattle.trial_run.specs.declared.whose.Whose.{Whose}
 use Rattle.trial_run.specs.declared.whose.Whose.TheVariants as whose
-use Rattle.trial_run.specs.Ran.{Ran, went, ◌>>=◌}
+use Rattle.trial_run.specs.Ran.{went}
 use Rattle.trial_run.specs.Steps.{stepped, joined, messages_sent, next_bytes}
 use Rattle.trial_run.specs.Play.{FieldPlay, TrialPlay, new_field, number_of, to_send, hears}
 use Rattle.trial_run.specs.Rounds.{with_broker, sends_waiting, sends, took, one_take}

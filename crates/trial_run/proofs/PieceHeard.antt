@@ -1,10 +1,10 @@
 -- A client that accepts a piece, or refuses it, heard what the definitions say.
-use Rattle.std.proofs.Common.{◌≡◌, ℕ, Bool, true, false, ◌||◌, List, [], ◌∷◌, ◌++◌, length, take, drop, Option, Some, None, Result, Ok, Err, refl, sym, ap, subst, ◌∙◌, append_assoc}
-use Rattle.std.specs.Prelude.{if◌then◌else◌, ◌⊎◌}
+use Rattle.std.proofs.Common.{◌≡◌, ℕ, Bool, true, false, ◌||◌, List, [], ◌∷◌, ◌++◌, length, take, drop, Option, Some, None, Result, Ok, Err, refl, sym, ap, subst, ◌∙◌}
+use Rattle.std.specs.Prelude.{if◌then◌else◌}
 use Rattle.std.proofs.Common.{inl, inr}
 use Rattle.std.proofs.lemmas.List.{drop_at, append-nil, take_at}
 use Rattle.wl_wire.specs.Texts.{IsBytes}
-use Rattle.wl_wire.specs.Messages.{IsMessage, IsPartial, IsBad, id_of, opcode_of, body_of, messages, joined, AreMessages}
+use Rattle.wl_wire.specs.Messages.{IsMessage, id_of, opcode_of, body_of, messages, joined, AreMessages}
 use Rattle.wl_wire.proofs.Fields.{IsBytes-drop, IsBytes-take}
 use Rattle.wl_proto.specs.declared.interface.Interface.{Interface}
 use Rattle.wl_proto.specs.declared.refuse.Refuse.{Refuse}
@@ -15,9 +15,9 @@ use Rattle.wl_proto.specs.Spelled.{IsRead}
 use Rattle.wl_proto.proofs.Values.{values_complete}
 use Rattle.wl_proto.proofs.Messages.{answers}
 use Rattle.client_side.specs.Events.{object_in, IsEventIn, IsEventOf, AreEvents}
-use Rattle.client_side.specs.Client.{Client, Step, after_all, IsWrong, Takes, Accepts, GoesWrong, Refuses}
+use Rattle.client_side.specs.Client.{Client, Step, after_all, IsWrong, Accepts, GoesWrong, Refuses}
 use Rattle.trial_run.specs.Events.{event_of}
-use Rattle.trial_run.specs.Hearing.{event_read, event_to, event_in, Heard, heard_next, heard, behind, has_bad_size, client_of, bytes_heard, received}
+use Rattle.trial_run.specs.Hearing.{event_read, event_to, event_in, Heard, heard_next, heard, behind, has_bad_size, bytes_heard, received}
 use Rattle.trial_run.proofs.FirstMessages.{first_is, found_first}
 use Rattle.trial_run.proofs.FrontOfBytes.{partial_none, partial_good, bad_none, bad_is}
 use Rattle.trial_run.proofs.EventsBack.{event_back}

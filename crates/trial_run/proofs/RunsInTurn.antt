@@ -1,10 +1,10 @@
 -- What comes after steps that went on, or that stopped.
-use Rattle.std.proofs.Common.{◌≡◌, Bool, true, false, Result, Ok, Err, refl, sym, ap, subst, ◌∙◌}
+use Rattle.std.proofs.Common.{◌≡◌, Bool, true, Result, Ok, Err, sym, ap, subst, ◌∙◌}
 use Rattle.std.specs.Prelude.{if◌then◌else◌}
-use Rattle.broker_core.specs.Broker.{Broker, kept_in}
+use Rattle.broker_core.specs.Broker.{Broker}
 use Rattle.trial_run.specs.declared.stop.Stop.{Stop}
 use Rattle.trial_run.specs.declared.stop.Stop.TheVariants as stops
-use Rattle.trial_run.specs.Ran.{Ran, went, halted, ◌>>=◌}
+use Rattle.trial_run.specs.Ran.{Ran, went, ◌>>=◌}
 use Rattle.trial_run.specs.Play.{TrialPlay}
 use Rattle.trial_run.specs.Rounds.{with_broker}
 use Rattle.trial_run.specs.Working.{IsStop, IsStepped, IsHalt, IsRun}

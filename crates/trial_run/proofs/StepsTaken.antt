@@ -1,5 +1,5 @@
 -- What the answers of the shared state say of a step, a join and a take.
-use Rattle.std.proofs.Common.{◌≡◌, ℕ, ◌≤◌, Bool, true, false, not, List, ◌∷◌, ◌++◌, length, take, drop, min, Option, Some, None, Result, Ok, Err, refl, sym, ap, subst, ◌∙◌, arith, inl, inr}
+use Rattle.std.proofs.Common.{◌≡◌, ℕ, Bool, true, false, not, List, ◌∷◌, ◌++◌, length, take, drop, min, Option, Some, None, Result, Ok, Err, refl, sym, ap, subst, ◌∙◌, arith, inl, inr}
 use Rattle.std.specs.Prelude.{if◌then◌else◌, ◌==◌, ◌⊎◌, option_map, nat_le, IfSome, IfNone, IsOkUnless}
 use Rattle.std.proofs.lemmas.List.{length-take, take_at, take_min}
 use Rattle.relay_model.specs.declared.role.Role.{Role}
@@ -24,8 +24,8 @@ use Rattle.broker_core.specs.Stands.{end_of}
 use Rattle.broker_core.specs.Taking.{out_at, IsTaken}
 use Rattle.trial_run.specs.declared.stop.Stop.TheVariants as stops
 use Rattle.trial_run.specs.Ran.{Ran, went, halted}
-use Rattle.trial_run.specs.Steps.{stepped, joined, bytes_in, stored_for, has_stored, next_bytes}
-use Rattle.trial_run.specs.Working.{IsThere, IsStop, IsStepped}
+use Rattle.trial_run.specs.Steps.{stepped, joined, bytes_in, has_stored, next_bytes}
+use Rattle.trial_run.specs.Working.{IsThere, IsStop}
 
 -- ---- whether the journal is full
 

@@ -1,5 +1,5 @@
 -- A trial as far as it is played: the shared state, the clients of its peers, and what was shown.
-use Rattle.std.specs.Prelude.{ℕ, zero, suc, ◌+◌, List, [], ◌∷◌, Bool, true, false, Option, Some, None}
+use Rattle.std.specs.Prelude.{ℕ, zero, suc, ◌+◌, List, [], ◌∷◌, Bool, false, Option, Some, None}
 use Rattle.std.specs.List.{slice_get}
 use Rattle.trial_field.specs.Log.{Entry, Batch}
 use Rattle.trial_field.specs.FieldText as texts
@@ -15,7 +15,6 @@ use Rattle.broker_core.specs.Broker.{Broker}
 use Rattle.trial_run.specs.declared.whose.Whose.{Whose}
 use Rattle.trial_run.specs.declared.whose.Whose.TheVariants as whose
 use Rattle.trial_run.specs.Hearing.{received}
-use Rattle.trial_run.specs.Ran.{Ran}
 
 -- a field's client, and whether it stopped reading
 pub record FieldPlay : Type 0 where

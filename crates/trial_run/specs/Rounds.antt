@@ -1,6 +1,6 @@
 -- The rounds after an action: each client that isn't paused takes what is stored for it, and sends what it is asked
 -- for, until nothing is stored for such a client.
-use Rattle.std.specs.Prelude.{ℕ, zero, suc, ◌+◌, List, length, Bool, true, false, not, ◌&&◌, if◌then◌else◌}
+use Rattle.std.specs.Prelude.{ℕ, zero, suc, ◌+◌, length, Bool, true, not, ◌&&◌, if◌then◌else◌}
 use Rattle.wl_wire.specs.Messages.{messages}
 use Rattle.broker_model.specs.declared.journal.Entry.TheVariants as entries
 use Rattle.broker_core.specs.Broker.{Broker}

@@ -1,5 +1,5 @@
 -- Steps of the shared state: one, those of a peer's messages, and what a peer can take.
-use Rattle.std.specs.Prelude.{ℕ, List, [], ◌∷◌, length, take, Bool, false, not, ◌==◌, nat_le, if◌then◌else◌, Option, Some, None}
+use Rattle.std.specs.Prelude.{ℕ, List, [], ◌∷◌, length, take, Bool, not, ◌==◌, nat_le, if◌then◌else◌, Option, Some, None}
 use Rattle.relay_model.specs.declared.role.Role.{Role}
 use Rattle.wl_wire.specs.Messages.{id_of, opcode_of, body_of}
 use Rattle.broker_model.specs.declared.journal.Entry.{Entry}

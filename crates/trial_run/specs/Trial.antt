@@ -1,5 +1,5 @@
 -- What a script shows, and how it ends.
-use Rattle.std.specs.Prelude.{◌≡◌, ℕ, zero, suc, ◌+◌, ◌%◌, ◌^◌, ◌==◌, List, [], ◌∷◌, ◌++◌, length, true, false, if◌then◌else◌, string_bytes, Result, Ok, Err, String}
+use Rattle.std.specs.Prelude.{◌≡◌, ℕ, zero, suc, ◌+◌, ◌%◌, ◌^◌, ◌==◌, List, [], ◌∷◌, ◌++◌, length, if◌then◌else◌, string_bytes, Result, Ok, Err, String}
 use Rattle.std.specs.Global.{Global}
 use Rattle.relay_model.specs.declared.role.Role.TheVariants.{App, Method}
 use Rattle.seat_steps.specs.declared.limits.Limits.{Limits}

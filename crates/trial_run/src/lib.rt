@@ -11,8 +11,6 @@ mod run;
 mod showing;
 mod steps;
 mod stop;
-#[cfg(test)]
-mod tests;
 mod trial;
 mod whose;
 

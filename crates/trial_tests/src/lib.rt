@@ -6,3 +6,5 @@
 mod client_side_tests;
 #[cfg(test)]
 mod session_gen_tests;
+#[cfg(test)]
+mod trial_run_tests;

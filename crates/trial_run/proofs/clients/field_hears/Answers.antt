@@ -1,4 +1,4 @@
-use Rattle.std.proofs.Common.{◌≡◌, Err, ap}
+use Rattle.std.proofs.Common.{Err, ap}
 use Rattle.client_side.specs.Events.{field_objects}
 use Rattle.client_side.specs.FieldState.{after_event}
 use Rattle.trial_run.proofs.EventsKnown.{field_knows}

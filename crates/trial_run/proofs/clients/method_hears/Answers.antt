@@ -1,4 +1,4 @@
-use Rattle.std.proofs.Common.{◌≡◌, Err, ap}
+use Rattle.std.proofs.Common.{Err, ap}
 use Rattle.client_side.specs.Events.{method_objects}
 use Rattle.client_side.specs.MethodState.{after_event}
 use Rattle.trial_run.proofs.EventsKnown.{method_knows}

@@ -1,4 +1,4 @@
-use Rattle.std.proofs.Common.{◌≡◌, ◌+◌, ◌*◌, ◌∷◌, ap, sym, ◌∙◌, ap₂, arith, refl}
+use Rattle.std.proofs.Common.{◌≡◌, ◌+◌, ◌*◌, ◌∷◌, sym, ◌∙◌, ap₂, arith}
 use Rattle.wl_wire.specs.Messages.{size_of, messages}
 use Rattle.trial_run.proofs.FirstMessages.{none_is}
 use Rattle.trial_run.proofs.FrontOfBytes.{fronted, message_first}

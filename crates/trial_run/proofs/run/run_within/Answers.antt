@@ -1,4 +1,4 @@
-use Rattle.std.proofs.Common.{◌≡◌, ◌%◌, ◌^◌, sym, ap, subst, ◌∙◌}
+use Rattle.std.proofs.Common.{◌%◌, ◌^◌, sym, ap, subst}
 use Rattle.trial_script.specs.declared.script.Script.{Script}
 use Rattle.trial_run.specs.Play.{TrialPlay}
 use Rattle.trial_run.specs.Trial.{played_with, trial_played}

@@ -1,8 +1,8 @@
-use Rattle.std.proofs.Common.{◌≡◌, ◌-◌, sym, ap, subst, ◌∙◌, true, false}
+use Rattle.std.proofs.Common.{◌-◌, sym, ap, subst, ◌∙◌}
 use Rattle.trial_field.specs.Log as logs
 use Rattle.trial_script.specs.declared.action.Action.{Action}
 use Rattle.trial_run.specs.declared.whose.Whose.TheVariants as whose
-use Rattle.trial_run.specs.Ran.{Ran, went}
+use Rattle.trial_run.specs.Ran.{went}
 use Rattle.trial_run.specs.Play.{TrialPlay, edits, commits}
 use Rattle.trial_run.specs.Rounds.{sends}
 use Rattle.trial_run.specs.Lines.{acted}

@@ -1,4 +1,4 @@
-use Rattle.std.proofs.Common.{◌≡◌, ap, ◌∙◌}
+use Rattle.std.proofs.Common.{ap, ◌∙◌}
 use Rattle.trial_field.specs.Log.{entry_of}
 use Rattle.client_side.specs.Client.{Client}
 use Rattle.client_side.specs.FieldState.{State}

@@ -1,9 +1,9 @@
-use Rattle.std.proofs.Common.{◌≡◌, ◌∷◌, ◌++◌, [], length, refl, ap, ◌∙◌}
+use Rattle.std.proofs.Common.{◌∷◌, ◌++◌, [], length, refl, ◌∙◌}
 use Rattle.std.proofs.lemmas.Result.{err_from_is_err_and}
 use Rattle.relay_model.specs.declared.role.Role.TheVariants.{App}
 use Rattle.trial_run.specs.declared.whose.Whose.TheVariants as whose
 use Rattle.trial_run.specs.Steps.{joined}
-use Rattle.trial_run.specs.Play.{FieldPlay, new_field}
+use Rattle.trial_run.specs.Play.{new_field}
 use Rattle.trial_run.specs.Rounds.{with_broker, sends}
 use Rattle.trial_run.specs.Trial.{field_joined}
 use Rattle.trial_run.proofs.RunsInTurn.{run_halts, shared_halts}

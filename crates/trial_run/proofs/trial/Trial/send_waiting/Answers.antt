@@ -1,6 +1,6 @@
-use Rattle.std.proofs.Common.{◌≡◌, ◌<◌, length, refl, sym, ap, subst, ◌∙◌}
+use Rattle.std.proofs.Common.{◌<◌, length, refl, sym, ap, subst, ◌∙◌}
 use Rattle.trial_run.specs.declared.whose.Whose.{Whose}
-use Rattle.trial_run.specs.Play.{FieldPlay, TrialPlay, sends_in, to_send}
+use Rattle.trial_run.specs.Play.{FieldPlay, TrialPlay, sends_in}
 use Rattle.trial_run.specs.Working.{HasClient}
 use Rattle.trial_run.proofs.FieldsChanged.{field_at}
 use Rattle.trial_run.proofs.PhasesRun.{waiting_runs}

@@ -1,4 +1,4 @@
-use Rattle.std.proofs.Common.{◌≡◌, sym, ap, ◌∙◌, subst}
+use Rattle.std.proofs.Common.{sym, ap, ◌∙◌, subst}
 use Rattle.client_side.specs.Client.{Client}
 use Rattle.client_side.specs.FieldState.{State}
 use Rattle.trial_run.specs.declared.whose.Whose.{Whose}
