@@ -57,7 +57,7 @@ pub(crate) fn submit_frame<R: Wait, G: Gate>(
 ) -> Result<Ahead, ReadEnd>
     requires own { IsOf hub.now pass.old.seat }
     requires few { length tokens.now ≤ 256 }
-    requires open { bad_size_at (begun assembler.old) ≡ None }
+    requires good { bad_size_at (begun assembler.old) ≡ None }
     ensures pass { pass.new ≡ pass_having_seen pass.old pass.new.seat.seen }
     ensures saw { SawMore hub.now.limits pass.old.seat.seen pass.new.seat.seen }
     ensures made { Submits hub.now.limits pass.old pass.new

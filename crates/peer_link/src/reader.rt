@@ -37,7 +37,7 @@ fn read_frame<R: Wait, S: Source, G: Gate>(
     tokens: &mut [u32; 256],
 ) -> Result<(), ReadEnd>
     requires own { IsOf hub.now pass.old.seat }
-    requires open { bad_size_at (begun assembler.old) ≡ None }
+    requires good { bad_size_at (begun assembler.old) ≡ None }
     ensures pass { pass.new ≡ pass_having_seen pass.old pass.new.seat.seen }
     ensures saw { SawMore hub.now.limits pass.old.seat.seen pass.new.seat.seen }
     ensures reads { (taken : List ℕ)
