@@ -7,17 +7,24 @@ use Rattle.seat_steps.specs.declared.step.Step.TheVariants as steps
 use Rattle.seat_steps.specs.declared.step.ShellStep.{ShellStep}
 use Rattle.broker_model.specs.declared.journal.Entry.{Entry}
 use Rattle.broker_model.specs.declared.journal.Entry.TheVariants as entries
+use Rattle.broker_model.specs.declared.journal.Kept.{Kept}
 use Rattle.broker_core.specs.declared.answers.Applied.{Applied}
+use Rattle.broker_core.specs.declared.answers.Refused.{Refused}
+use Rattle.broker_core.specs.declared.answers.Refused.TheVariants as refusals
+use Rattle.broker_core.specs.Broker.{full_in}
 use Rattle.turn_lock.specs.Pairs.{own, NoneOf}
 use Rattle.turn_lock.specs.Sights.{having_seen}
 use Rattle.hub_lock.specs.declared.step.OuterStep.{OuterStep}
 use Rattle.hub_lock.specs.Histories.{History, only}
 use Rattle.hub_lock.specs.Passes.{PassSeat, steps_of}
 use Rattle.hub_lock.specs.Calls.{LegalStep}
+use Rattle.peer_link.specs.declared.ends.ShellEnd.{ShellEnd}
+use Rattle.peer_link.specs.declared.ends.ShellEnd.TheVariants as ends
 use Rattle.peer_link.specs.Made.{entries_by, journal_of}
 use Rattle.peer_link.specs.ShellAnswers.{answer, answer_after, answers_from, answers_to}
-use Rattle.peer_link.specs.Ordering.{IsOrdered}
-use Rattle.peer_link.proofs.StepsMade.{own-same, entries-one, steps-one, few-steps}
+use Rattle.peer_link.specs.Ordering.{IsOrdered, WhyNoOrder, NotOrdered}
+use Rattle.peer_link.proofs.StepsMade.{own-same, entries-same, entries-one, steps-one, few-steps}
+use Rattle.peer_link.proofs.StepsRefused.{shell-full}
 
 abbrev answer_by : Limits → History → (ℕ × OuterStep) → Bool → List (List ℕ)
 answer_by limits before s t = (if t then answer_after limits before s.1.entry ∷ [] else [])
@@ -78,3 +85,22 @@ ordered limits before after step applied is k =
           let d = few-steps limits before.number turn in
           let n = k.answer.entry in omega (arith, a, b, c, d, n);
     }
+
+-- an order that isn't taken
+
+pub not-taken : (limits : Limits) (before after : PassSeat) (step : ShellStep) (why : Refused) (end : ShellEnd)
+    → after ≡ having_seen before after.seen → LegalStep limits before after.seen (steps.Shell step) (Err why)
+    → WhyNoOrder limits after step end → NotOrdered limits before after step end
+not-taken limits before after step why end is k w = record {
+  entries = ap entries_by is ∙ entries-same before k.rest after.seen k.apart k.answer.same;
+  answers = ap (answers_to limits) is ∙ answers-same limits before k.rest after.seen k.apart k.answer.same;
+  why = w;
+}
+
+pub not-taken-full : (limits : Limits) (before after : PassSeat) (step : ShellStep) (kept : Kept)
+    → after ≡ having_seen before after.seen → LegalStep limits before after.seen (steps.Shell step) (Err (refusals.JournalFull kept))
+    → NotOrdered limits before after step (ends.JournalFull kept)
+not-taken-full limits before after step kept is k =
+    not-taken limits before after step (refusals.JournalFull kept) (ends.JournalFull kept) is k
+    (ap (λ h. full_in limits (journal_of limits h) (entries.Shell step)) k.answer.same
+    ∙ shell-full limits (before.seen ++ k.rest) before.number step after.seen kept k.answer)

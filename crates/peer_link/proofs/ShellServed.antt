@@ -3,7 +3,7 @@ use Rattle.std.proofs.Common.{◌≡◌, ℕ, zero, suc, ◌+◌, ◌<◌, ◌�
 use Rattle.std.specs.Prelude.{Result, Ok, Err}
 use Rattle.std.specs.Io.KnownBytes.{Appends, Consumes, IsAtEnd}
 use Rattle.std.proofs.KnownBytes.{Appends-trans, Appends-nil}
-use Rattle.std.proofs.lemmas.List.{map-append}
+use Rattle.std.proofs.lemmas.List.{map-append, length-map}
 use Rattle.wio_core.specs.Lines.{LacksFeed, TookFrom}
 use Rattle.wio_core.specs.LineAnswers.{LinesAhead, WholeLine, LastLine}
 use Rattle.wio_core.specs.declared.line_reader.LineStop.{LineStop}
@@ -17,7 +17,9 @@ use Rattle.wl_wire.specs.Messages.{joined}
 use Rattle.broker_model.specs.declared.journal.Entry.{Entry}
 use Rattle.broker_model.specs.declared.journal.Entry.TheVariants as entries
 use Rattle.broker_core.specs.declared.answers.Applied.{Applied}
-use Rattle.hub_lock.specs.Passes.{PassSeat}
+use Rattle.turn_lock.specs.Pairs.{own}
+use Rattle.hub_lock.specs.declared.step.OuterStep.{OuterStep}
+use Rattle.hub_lock.specs.Passes.{PassSeat, steps_of}
 use Rattle.peer_link.specs.declared.ends.ShellEnd.{ShellEnd}
 use Rattle.peer_link.specs.declared.ends.ShellEnd.TheVariants as ends
 use Rattle.peer_link.specs.Made.{entries_by}
@@ -93,6 +95,22 @@ held-on bytes line read lines after left n (inr l) =
       ),
       l.cause.1,
     )
+
+-- as many lines as orders, and as many orders as steps
+
+orders-long : (lines : List (List ℕ)) (orders : List ShellStep) → AreOrders lines orders → length lines ≡ length orders
+orders-long [] [] k = refl
+orders-long [] (s ∷ orders) k = absurd k
+orders-long (l ∷ lines) [] k = absurd k
+orders-long (l ∷ lines) (s ∷ orders) k = let more = orders-long lines orders k.1 in omega (arith, more)
+
+pub counted : (limits : Limits) (seat : PassSeat) (reader : LinesAhead) (read : List ℕ) (left held now : Option (List ℕ))
+    → (s : Serving limits seat reader read left held now) → steps_of seat + 1 ≡ length s.lines + 1
+counted limits seat reader read left held now s =
+    let a = ap length s.entries in
+    let b = length-map s.steps (λ (step : ShellStep). entries.Shell step) in
+    let c = length-map (own seat.number seat.seen) (λ (step : OuterStep). step.entry) in
+    let d = orders-long s.lines s.steps s.orders in omega (arith, a, b, c, d)
 
 -- what one call of the reader, one order and one answer come to
 

@@ -7,6 +7,8 @@ use Rattle.seat_steps.specs.declared.step.Step.{Step}
 use Rattle.seat_steps.specs.declared.step.Step.TheVariants as steps
 use Rattle.seat_steps.specs.declared.step.PeerStep.{PeerStep}
 use Rattle.seat_steps.specs.declared.step.PeerStep.TheVariants as peers
+use Rattle.seat_steps.specs.declared.step.ShellStep.{ShellStep}
+use Rattle.broker_model.specs.declared.journal.Entry.TheVariants as entries
 use Rattle.broker_model.specs.declared.journal.Kept.{Kept}
 use Rattle.broker_model.specs.Ids.{Joined, peer_at}
 use Rattle.broker_model.specs.Resolve.{past_of}
@@ -105,6 +107,14 @@ step-full limits before n q step after kept k =
     let b : Broker = broker_of limits before in
     full_there b q step (peer_at (past_of b.journal) q) kept
     (full_is b (steps.Peer q step) (refusals.JournalFull kept) limits before after n k (λ e. absurd (cc)))
+
+-- of the shell's
+pub shell-full : (limits : Limits) (before : History) (n : ℕ) (step : ShellStep) (after : History) (kept : Kept)
+    → Applies limits before n (steps.Shell step) after (Err (refusals.JournalFull kept))
+    → full_in limits (journal_of limits before) (entries.Shell step) ≡ Some kept
+shell-full limits before n step after kept k =
+    kept_is (full_for (broker_of limits before) (entries.Shell step)) kept
+    (full_is (broker_of limits before) (steps.Shell step) (refusals.JournalFull kept) limits before after n k (λ e. absurd (cc)))
 
 -- a call of a reader comes to a step that was made, or to why not
 

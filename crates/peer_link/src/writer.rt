@@ -63,7 +63,6 @@ pub fn write_peer<R: Wait, K: Sink>(
 ) -> WriteEnd
     requires own { IsOf hub.now pass.old.seat }
     requires fresh { NoneOf pass.old.seat.number pass.old.seat.seen }
-    requires writes { writer_of pass.old.seat.seen pass.old.peer ≡ Some pass.old.seat.number }
     ensures pass { pass.new ≡ pass_having_seen pass.old pass.new.seat.seen }
     ensures saw { SawMore hub.now.limits pass.old.seat.seen pass.new.seat.seen }
     ensures law { WritesPeer hub.now.limits pass.new
@@ -73,6 +72,8 @@ pub fn write_peer<R: Wait, K: Sink>(
     ensures cause { result ≡ WriteEnd.WriteFault
         → Rose (K.fault_count sink.old) (K.fault_count sink.new) }
 {
+    // Whose writer the pass is, its contract tells with the number.
+    let _ = pass.peer();
     let mut bytes = [0; 4096];
     let mut tokens = [0; 256];
     for _ in rt.forever() {
