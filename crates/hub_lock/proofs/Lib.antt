@@ -7,6 +7,7 @@ pub mod NothingWatched
 pub mod JournalOfSteps
 pub mod StepsCounted
 pub mod TurnsCounted
+pub mod PassesSettled
 pub mod MeetingsCounted
 pub mod PlaysKeepRule
 pub mod LegalCalls

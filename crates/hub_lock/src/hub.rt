@@ -1,6 +1,7 @@
 //! The hub, and a turn at its lock.
-ghost use Rattle.std.specs.Prelude.{◌≡◌, ◌+◌, ◌<◌, ◌^◌, [], Some, IfOk, length, true};
+ghost use Rattle.std.specs.Prelude.{◌≡◌, ◌+◌, ◌<◌, ◌^◌, ℕ, [], Some, IfOk, length, true};
 ghost use Rattle.seat_steps.specs.Ranges.{IsLimits};
+ghost use Rattle.turn_lock.specs.Pairs.{IsIn, HasSeen};
 ghost use Rattle.turn_lock.specs.Sights.{fresh_seat, having_seen, IsLegal, IsTallied};
 ghost use Rattle.hub_lock.specs.Passes.{IsOf, bytes_of};
 ghost use Rattle.hub_lock.specs.Plays.{Plays, MayAsk, bytes_made};
@@ -107,6 +108,7 @@ impl Hub {
         ensures legal { LegalAsk self.now.limits root.old root.new.seen 0
             call.old.ask call.new.ask result }
         ensures tallied { IsTallied root.new }
+        ensures settled { (n : ℕ) → IsIn n root.old.taken → HasSeen root.new.seen n root.old.seen }
     {
         let Reply {
             answer,

@@ -1,5 +1,6 @@
 //! The passes of a hub's users.
-ghost use Rattle.std.specs.Prelude.{◌≡◌, ◌+◌, length};
+ghost use Rattle.std.specs.Prelude.{◌≡◌, ◌+◌, length, Some};
+ghost use Rattle.hub_lock.specs.Histories.{reader_of, writer_of};
 ghost use Rattle.hub_lock.specs.Passes.{journal_seen, steps_of, bytes_of};
 ghost use Rattle.hub_lock.specs.Passes.{total_steps, total_bytes};
 
@@ -118,9 +119,11 @@ pub enum Pass {
 }
 
 impl ReaderPass {
-    /// The peer's number, from 1. (no memory)
+    /// The peer's number, from 1. In what the pass has seen, the peer joined with this reader.
+    /// (no memory)
     pub fn peer(&self) -> u32
-        ensures { result ≡ self.now.peer }
+        ensures peer { result ≡ self.now.peer }
+        ensures reads { reader_of self.now.seat.seen result ≡ Some self.now.seat.number }
     {
         self.peer
     }
@@ -141,9 +144,11 @@ impl ReaderPass {
 }
 
 impl WriterPass {
-    /// The peer's number, from 1. (no memory)
+    /// The peer's number, from 1. In what the pass has seen, the peer joined with this writer.
+    /// (no memory)
     pub fn peer(&self) -> u32
-        ensures { result ≡ self.now.peer }
+        ensures peer { result ≡ self.now.peer }
+        ensures writes { writer_of self.now.seat.seen result ≡ Some self.now.seat.number }
     {
         self.peer
     }

@@ -1,7 +1,7 @@
 //! The calls of the root: peers join, passes are made and come back, and all is copied.
-ghost use Rattle.std.specs.Prelude.{◌≡◌, ◌+◌, ◌<◌, ◌≤◌, ◌^◌, IfOk, IfErr, Err, length};
+ghost use Rattle.std.specs.Prelude.{◌≡◌, ◌+◌, ◌<◌, ◌≤◌, ◌^◌, ℕ, IfOk, IfErr, Err, length};
 ghost use Rattle.broker_model.specs.Settle.{outer};
-ghost use Rattle.turn_lock.specs.Pairs.{NoneOf};
+ghost use Rattle.turn_lock.specs.Pairs.{NoneOf, IsIn, HasSeen};
 ghost use Rattle.turn_lock.specs.Sights.{after_split, split_off, met_with, having_seen, IsMeeting};
 ghost use Rattle.hub_lock.specs.Histories.{taken_in};
 ghost use Rattle.hub_lock.specs.Finished.{seat_of};
@@ -45,7 +45,10 @@ impl Hub {
     ) -> Result<(ReaderPass, WriterPass), JoinRefusal>
         requires own { IsOf self.now root.old }
         requires room { root.old.next ≤ 2 ^ 63 }
-        ensures joined { IfOk result (λ both. IsJoined self.now.limits root.old root.new role both.0 both.1) }
+        ensures joined { IfOk result (λ both.
+            IsJoined self.now.limits root.old root.new role both.0 both.1) }
+        ensures fresh { IfOk result (λ both. NoneOf both.0.seat.number both.0.seat.seen ×
+            NoneOf both.1.seat.number both.1.seat.seen) }
         ensures refused { IfErr result (λ why. (root.new ≡ having_seen root.old root.new.seen) ×
             LegalJoin self.now.limits root.old root.new.seen role (Err why)) }
     {
@@ -107,11 +110,13 @@ impl Hub {
 
     /// A copy of the limits, of the whole journal as it stands, and of its stamps. Where no pass is
     /// out, the journal's outer steps are as many as the root counts, and they took as many bytes.
+    /// It has no later step of a pass that was taken back.
     /// `NoMemory` is its one error. (Wait: it promises what it does if it returns.)
     pub fn session<R: Wait>(&self, rt: &R, root: &mut HubPass) -> Result<Session, NoMemory>
         requires own { IsOf self.now root.old }
         ensures root { root.new ≡ having_seen root.old root.new.seen }
         ensures legal { LegalCopy self.now.limits root.old root.new.seen result }
+        ensures settled { (n : ℕ) → IsIn n root.old.taken → HasSeen root.new.seen n root.old.seen }
         ensures steps { root.old.out ≡ 0 → IfOk result (λ s.
             length (outer s.journal.entries) ≡ total_steps root.new) }
         ensures bytes { root.old.out ≡ 0 → IfOk result (λ s.

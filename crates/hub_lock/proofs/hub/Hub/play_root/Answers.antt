@@ -1,10 +1,12 @@
-use Rattle.std.proofs.Common.{rules, ◌≡◌, ◌≤◌, ◌<◌, ◌+◌, ◌∙◌, ap, sym, subst, refl, arith, length, true, false}
+use Rattle.std.proofs.Common.{rules, ◌≡◌, ◌≤◌, ◌<◌, ◌+◌, ◌∙◌, ap, sym, subst, refl, arith, length, true, false, ℕ}
+use Rattle.turn_lock.specs.Pairs.{HasSeen, IsIn}
 use Rattle.turn_lock.specs.Rule.{bit}
 use Rattle.turn_lock.specs.Sights.{IsLegal, IsTallied, having_seen}
 use Rattle.hub_lock.specs.Passes.{PassSeat, steps_of, bytes_of, total_steps, total_bytes, journal_seen, HasSeenLawful}
 use Rattle.hub_lock.specs.Plays.{MayAsk, Plays, is_made}
 use Rattle.hub_lock.specs.Calls.{LegalAsk}
 use Rattle.hub_lock.proofs.TurnsCounted.{legal, entries-after, lawful-after, total-after, total-bytes-after}
+use Rattle.hub_lock.proofs.PassesSettled.{settled-after}
 use Rattle.hub_lock.proofs.hub.Hub.play_root.Goals as goal
 use Rattle.hub_lock.proofs.hub.Hub.play_root.Goals.{After-play-answer}
 use Rattle.hub_lock.proofs.hub.Hub.play_root.Goals.at
@@ -60,6 +62,10 @@ module _ (g : _) (c : After-play-answer g) where
       (legal c.args.self.now.limits was c.args.call.now c.play-answer.new.seat.seen c.play-answer.new.call
       c.play-answer.result k c.requires.own.1 number may)
 
+  settled : (n : ℕ) → IsIn n was.taken → HasSeen c.play-answer.new.seat.seen n was.seen
+  settled = settled-after was c.args.call.now c.play-answer.new.seat.seen c.play-answer.new.call c.play-answer.result k
+      (subst (λ n. IsIn n was.taken → ⊥) (sym zero) (subst (λ (s : PassSeat). IsIn 0 s.taken → ⊥) is tallied.apart))
+
 pub overflow_add-root : goal.overflow_add-root
 overflow_add-root g c =
     let a = (at.overflow_add-root g c).After-play-answer in
@@ -87,3 +93,9 @@ returns-then-is_made-clause-legal g c = told g (at.returns-then-is_made-clause-l
 
 pub returns-else-is_made-clause-legal : goal.returns-else-is_made-clause-legal
 returns-else-is_made-clause-legal g c = told g (at.returns-else-is_made-clause-legal g c).After-play-answer
+
+pub returns-then-is_made-clause-settled : goal.returns-then-is_made-clause-settled
+returns-then-is_made-clause-settled g c = settled g (at.returns-then-is_made-clause-settled g c).After-play-answer
+
+pub returns-else-is_made-clause-settled : goal.returns-else-is_made-clause-settled
+returns-else-is_made-clause-settled g c = settled g (at.returns-else-is_made-clause-settled g c).After-play-answer
