@@ -39,7 +39,7 @@ answers-append limits n b (x ∷ xs) ys =
     ∙ ap (λ h. first ++ (later ++ answers_from limits n h ys)) (append_assoc b (x ∷ []) xs)
     ∙ sym (append_assoc first later (answers_from limits n (b ++ x ∷ xs) ys))
 
-answers-none : (limits : Limits) (n : ℕ) (b ys : History) → NoneOf n ys → answers_from limits n b ys ≡ []
+pub answers-none : (limits : Limits) (n : ℕ) (b ys : History) → NoneOf n ys → answers_from limits n b ys ≡ []
 answers-none limits n b [] free = refl
 answers-none limits n b (x ∷ xs) free = by (x.0 == n) free (answers-none limits n (b ++ x ∷ []) xs)
   where

@@ -14,6 +14,7 @@ use Rattle.relay_model.specs.Idle.{is_live, cleaned}
 use Rattle.relay_model.proofs.ObjectLaws.{object_step}
 use Rattle.seat_steps.specs.declared.limits.Limits.{Limits}
 use Rattle.seat_steps.specs.declared.step.Step.TheVariants as steps
+use Rattle.seat_steps.specs.declared.step.PeerStep.{PeerStep}
 use Rattle.seat_steps.specs.declared.step.PeerStep.TheVariants as peers
 use Rattle.broker_model.specs.declared.journal.Entry.{Entry}
 use Rattle.broker_model.specs.declared.journal.Entry.TheVariants as entries
@@ -26,6 +27,7 @@ use Rattle.broker_model.proofs.Numbers.{label_within, one_number}
 use Rattle.broker_model.proofs.Settling.{IsSettled, settles}
 use Rattle.broker_core.specs.declared.answers.Applied.{Applied}
 use Rattle.broker_core.specs.declared.answers.Refused.{Refused}
+use Rattle.broker_core.specs.declared.answers.Refused.TheVariants as refusals
 use Rattle.broker_core.specs.declared.taking.Standing.{Standing}
 use Rattle.broker_core.specs.declared.taking.Standing.TheVariants.{Nobody, Alive, Over}
 use Rattle.broker_core.specs.Broker.{Broker, peer_entry, peer_refusal}
@@ -36,10 +38,10 @@ use Rattle.broker_core.proofs.WhoIsAlive.{going}
 use Rattle.hub_lock.specs.Histories as histories
 use Rattle.hub_lock.specs.Histories.{History, broker_of}
 use Rattle.hub_lock.specs.Passes.{PassSeat, PeerPass}
-use Rattle.hub_lock.specs.Calls.{LegalStep, pass_having_seen}
+use Rattle.hub_lock.specs.Calls.{LegalStep, UnlessMemory, pass_having_seen}
 use Rattle.hub_lock.proofs.HistoriesGrow.{entries-more}
 use Rattle.peer_link.specs.Made.{journal_of}
-use Rattle.peer_link.specs.Submits.{HasEndedBad}
+use Rattle.peer_link.specs.Submits.{HasEndedBad, EndedIfBad}
 
 -- an end of nobody, or of a peer that is dead, changes nobody
 
@@ -213,3 +215,13 @@ bad-size-ended limits a b head applied is k =
     ap (journal_of limits) k.answer.applied ∙ ap (history limits.store) (entries-more turn a.seat.number (histories.only e)) in
     ap₂ (λ (J : List Entry) q. end_of J q) later (ap (λ (p : PeerPass). p.peer) is)
     ∙ ended-bad limits.store a.peer head J going_on.peer going_on.joined going_on.lasts
+
+-- an accepted step that was a header with a bad size
+pub ended-if-bad : (limits : Limits) (a b : PeerPass) (step : PeerStep) (applied : Applied) → b ≡ pass_having_seen a b.seat.seen
+    → UnlessMemory step ((b ≡ a) × (Ok applied ≡ Err refusals.NoMemory)) (LegalStep limits a.seat b.seat.seen (steps.Peer a.peer step) (Ok applied))
+    → EndedIfBad limits b step
+ended-if-bad limits a b (peers.Message id opcode body) applied is k = tt
+ended-if-bad limits a b (peers.Tokens tokens) applied is k = tt
+ended-if-bad limits a b peers.Gone applied is k = tt
+ended-if-bad limits a b (peers.BadSize head) applied is (inl k) = (let no = k.1 in absurd (cc))
+ended-if-bad limits a b (peers.BadSize head) applied is (inr k) = bad-size-ended limits a b head applied is k

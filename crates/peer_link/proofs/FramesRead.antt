@@ -1,5 +1,5 @@
 -- The reading of a peer's link, frame by frame
-use Rattle.std.proofs.Common.{◌≡◌, ◌≢◌, ℕ, List, [], ◌∷◌, ◌++◌, length, map, Option, Some, None, refl, sym, ap, ap₂, ◌∙◌, subst, ◌⊎◌, inl, inr, append_assoc, append-nil}
+use Rattle.std.proofs.Common.{◌≡◌, ◌≢◌, ℕ, List, [], ◌∷◌, ◌++◌, length, map, take, Option, Some, None, refl, sym, ap, ap₂, ◌∙◌, subst, ◌⊎◌, inl, inr, append_assoc, append-nil}
 use Rattle.std.specs.Prelude.{Result, Ok, Err}
 use Rattle.std.proofs.lemmas.List.{map-append}
 use Rattle.relay_model.specs.declared.act.EndCause.{EndCause}
@@ -15,8 +15,8 @@ use Rattle.broker_core.specs.Stands.{end_of}
 use Rattle.session_play.specs.Steps.{behind}
 use Rattle.desc_frame.specs.declared.Got.{Got}
 use Rattle.desc_frame.specs.declared.Got.TheVariants as got
-use Rattle.desc_frame.specs.Frames.{Frame, IsFrame, spelling}
-use Rattle.desc_frame.specs.Answers.{Gave, Stops}
+use Rattle.desc_frame.specs.Frames.{Frame, frame, IsFrame, spelling}
+use Rattle.desc_frame.specs.Answers.{Gave, Stops, IsFrameOf}
 use Rattle.hub_lock.specs.Histories.{History}
 use Rattle.hub_lock.specs.Passes.{PassSeat, PeerPass}
 use Rattle.hub_lock.specs.Calls.{pass_having_seen}
@@ -24,7 +24,7 @@ use Rattle.peer_link.specs.declared.ends.ReadEnd.{ReadEnd}
 use Rattle.peer_link.specs.declared.ends.ReadEnd.TheVariants as ends
 use Rattle.peer_link.specs.Made.{entries_by, journal_of, SawMore, HasSeenFull}
 use Rattle.peer_link.specs.LinkSteps.{frame_steps, steps_behind, link_steps, AreFrames, spelled, HoldFrames}
-use Rattle.peer_link.specs.Submits.{WhyNot, MadeFirst, Submits}
+use Rattle.peer_link.specs.Submits.{WhyNot, MadeFirst, Submits, IsGoneRefusal}
 use Rattle.peer_link.specs.ReadsPeer.{StopsAt, StopsBy, BeganNothing, EndsAs, gone_after, ReadsPeer}
 use Rattle.peer_link.specs.ReadsFrame.{got_of, NoFrame, EndedAfter, OneFrame, ReadsFrame, ReadsLink}
 use Rattle.peer_link.proofs.ShellServed.{joined-more}
@@ -288,3 +288,35 @@ gone-late limits a b read left end cause is same ended r =
             (made-so limits a r.frames r.rest left (entries_by a.seat) end r.ends),
       );
     }
+
+single : (x e : Entry) (made more : List Entry) → x ∷ [] ≡ made ++ e ∷ more → made ≡ []
+single x e [] more is = refl
+single x e (m ∷ []) more is = absurd (cc)
+single x e (m ∷ n ∷ made) more is = absurd (cc)
+
+-- the link's end was refused
+pub gone-refused : (limits : Limits) (a b : PeerPass) (read : List ℕ) (left : Option (List ℕ)) (end other : ReadEnd) (e : Entry)
+    → b ≡ pass_having_seen a b.seat.seen → MadeFirst limits a b (e ∷ []) other → IsGoneRefusal other
+    → ReadsLink limits a read left end → ReadsPeer limits b read left other
+gone-refused limits a b read left end (ends.Ended cause) e is m k r =
+    gone-late limits a b read left end cause is
+    (m.entries ∙ ap (λ (es : List Entry). entries_by a.seat ++ es) (single e m.e m.made m.more m.steps_are) ∙ append-nil (entries_by a.seat))
+    m.why r
+gone-refused limits a b read left end ends.Closed e is m k r = absurd k
+gone-refused limits a b read left end (ends.Torn n) e is m k r = absurd k
+gone-refused limits a b read left end (ends.BadFrame n t) e is m k r = absurd k
+gone-refused limits a b read left end ends.ReadFault e is m k r = absurd k
+gone-refused limits a b read left end (ends.JournalFull kept) e is m k r = absurd k
+gone-refused limits a b read left end ends.NoMemory e is m k r = absurd k
+
+-- the frame that was read
+
+pub frame-of : (n t : ℕ) (bytes tokens taken bs ts : List ℕ) → IsFrameOf n t bytes tokens taken → bs ≡ take n bytes → ts ≡ take t tokens
+    → OneFrame taken (frame bs ts)
+frame-of n t bytes tokens taken bs ts k b e =
+    let same : frame bs ts ≡ frame (take n bytes) (take t tokens) = ap₂ (λ (x y : List ℕ). frame x y) b e in
+    record { is = subst IsFrame (sym same) k.is; spelled = k.spelled ∙ ap spelling (sym same) }
+
+pub no-frame : (limits : Limits) (a : PeerPass) (waiting waiting' taken : List ℕ) (left : Option (List ℕ)) (end : ReadEnd) (why : Got)
+    → got_of end ≡ Some why → Stops why taken left → ReadsFrame limits a a waiting waiting' taken left (Err end)
+no-frame limits a waiting waiting' taken left end why is stops = inl (record { why = why; is = is; stops = stops; same = refl })

@@ -109,14 +109,15 @@ first-message q old new piece used f =
     read_message q old new piece used (id_of (bytes_of new)) (opcode_of (bytes_of new)) (body_of (bytes_of new)) f refl refl refl
 
 pub way-goes : (q : ℕ) (first : List ℕ) (a b c : PeerPass) (old new : Assembly) (piece more : List ℕ) (used : ℕ)
-    → OnWay q first (begun old ++ piece) a b → Feeds old piece (fed.Whole used) new → more ≡ drop used piece
-    → entries_by c.seat ≡ entries_by b.seat ++ message_entry q (bytes_of new) ∷ [] → OnWay q first (begun new ++ more) a c
-way-goes q first a b c old new piece more used w f is made =
+    → b.peer ≡ q → OnWay q first (begun old ++ piece) a b → Feeds old piece (fed.Whole used) new → more ≡ drop used piece
+    → entries_by c.seat ≡ entries_by b.seat ++ message_entry b.peer (bytes_of new) ∷ [] → OnWay q first (begun new ++ more) a c
+way-goes q first a b c old new piece more used peer w f is made =
     let i = first-message q old new piece used f in
     let e : Entry = message_entry q (bytes_of new) in
     let now : begun new ++ more ≡ drop used piece = ap (λ (l : List ℕ). l ++ more) i.none_left ∙ is in record {
       made = w.made ++ e ∷ [];
-      entries = made ∙ ap (λ (es : List Entry). es ++ e ∷ []) w.entries ∙ append_assoc (entries_by a.seat) w.made (e ∷ []);
+      entries = made ∙ ap (λ n. entries_by b.seat ++ message_entry n (bytes_of new) ∷ []) peer
+          ∙ ap (λ (es : List Entry). es ++ e ∷ []) w.entries ∙ append_assoc (entries_by a.seat) w.made (e ∷ []);
       steps = w.steps ∙ ap (λ (es : List Entry). w.made ++ es) i.steps
           ∙ ap (λ (bytes : List ℕ). w.made ++ e ∷ steps_in q bytes) (sym now)
           ∙ sym (append_assoc w.made (e ∷ []) (steps_in q (begun new ++ more)));
@@ -124,12 +125,13 @@ way-goes q first a b c old new piece more used w f is made =
     }
 
 pub way-stops : (limits : Limits) (q : ℕ) (first : List ℕ) (a b c : PeerPass) (old new : Assembly) (piece : List ℕ) (used : ℕ) (end : ReadEnd)
-    → OnWay q first (begun old ++ piece) a b → Feeds old piece (fed.Whole used) new
-    → MadeFirst limits b c (message_entry q (bytes_of new) ∷ []) end → MadeFirst limits a c (steps_in q first) end
-way-stops limits q first a b c old new piece used end w f m =
+    → b.peer ≡ q → OnWay q first (begun old ++ piece) a b → Feeds old piece (fed.Whole used) new
+    → MadeFirst limits b c (message_entry b.peer (bytes_of new) ∷ []) end → MadeFirst limits a c (steps_in q first) end
+way-stops limits q first a b c old new piece used end peer w f m =
     let i = first-message q old new piece used f in
     first-of limits a b c w.made (message_entry q (bytes_of new) ∷ []) (steps_in q (drop used piece)) (steps_in q first) end w.entries
-    (w.steps ∙ ap (λ (es : List Entry). w.made ++ es) i.steps) m
+    (w.steps ∙ ap (λ (es : List Entry). w.made ++ es) i.steps)
+    (subst (λ n. MadeFirst limits b c (message_entry n (bytes_of new) ∷ []) end) peer m)
 
 pub record IsThrough (q : ℕ) (first waiting : List ℕ) (a b : PeerPass) : Type 0 where
   pub made : entries_by b.seat ≡ entries_by a.seat ++ steps_in q first
@@ -154,21 +156,22 @@ last-bad q n old new piece f =
     let same : bytes_of new ≡ l.head = cc in sym same)
 
 pub way-bad : (q n : ℕ) (first : List ℕ) (a b c : PeerPass) (old new : Assembly) (piece : List ℕ)
-    → OnWay q first (begun old ++ piece) a b → Feeds old piece (fed.BadSize n) new
-    → entries_by c.seat ≡ entries_by b.seat ++ entries.BadSize q (bytes_of new) ∷ []
+    → b.peer ≡ q → OnWay q first (begun old ++ piece) a b → Feeds old piece (fed.BadSize n) new
+    → entries_by c.seat ≡ entries_by b.seat ++ entries.BadSize b.peer (bytes_of new) ∷ []
     → entries_by c.seat ≡ entries_by a.seat ++ steps_in q first
-way-bad q n first a b c old new piece w f made =
+way-bad q n first a b c old new piece peer w f made =
     let e : Entry = entries.BadSize q (bytes_of new) in
-    made ∙ ap (λ (es : List Entry). es ++ e ∷ []) w.entries ∙ append_assoc (entries_by a.seat) w.made (e ∷ [])
+    made ∙ ap (λ n. entries_by b.seat ++ entries.BadSize n (bytes_of new) ∷ []) peer ∙ ap (λ (es : List Entry). es ++ e ∷ []) w.entries ∙ append_assoc (entries_by a.seat) w.made (e ∷ [])
     ∙ ap (λ (es : List Entry). entries_by a.seat ++ es)
     (sym (w.steps ∙ ap (λ (es : List Entry). w.made ++ es) (last-bad q n old new piece f)))
 
 pub way-bad-stops : (limits : Limits) (q n : ℕ) (first : List ℕ) (a b c : PeerPass) (old new : Assembly) (piece : List ℕ) (end : ReadEnd)
-    → OnWay q first (begun old ++ piece) a b → Feeds old piece (fed.BadSize n) new
-    → MadeFirst limits b c (entries.BadSize q (bytes_of new) ∷ []) end → MadeFirst limits a c (steps_in q first) end
-way-bad-stops limits q n first a b c old new piece end w f m =
+    → b.peer ≡ q → OnWay q first (begun old ++ piece) a b → Feeds old piece (fed.BadSize n) new
+    → MadeFirst limits b c (entries.BadSize b.peer (bytes_of new) ∷ []) end → MadeFirst limits a c (steps_in q first) end
+way-bad-stops limits q n first a b c old new piece end peer w f m =
     first-of limits a b c w.made (entries.BadSize q (bytes_of new) ∷ []) [] (steps_in q first) end w.entries
-    (w.steps ∙ ap (λ (es : List Entry). w.made ++ es) (last-bad q n old new piece f)) m
+    (w.steps ∙ ap (λ (es : List Entry). w.made ++ es) (last-bad q n old new piece f))
+    (subst (λ n. MadeFirst limits b c (entries.BadSize n (bytes_of new) ∷ []) end) peer m)
 
 -- a frame's tokens
 
@@ -184,3 +187,19 @@ tokens-some q (x ∷ tokens) e = refl
 pub frame-is : (q : ℕ) (waiting bytes tokens : List ℕ) → bad_size_at waiting ≡ None
     → frame_steps q waiting (frame bytes tokens) ≡ token_steps q tokens ++ steps_in q (waiting ++ bytes)
 frame-is q waiting bytes tokens good = ap (λ o. token_steps q tokens ++ steps_unless_bad q o (waiting ++ bytes)) good
+
+pub frame-stops : (limits : Limits) (a b : PeerPass) (waiting bytes tokens : List ℕ) (end : ReadEnd) → bad_size_at waiting ≡ None
+    → MadeFirst limits a b (token_steps a.peer tokens) end → MadeFirst limits a b (frame_steps a.peer waiting (frame bytes tokens)) end
+frame-stops limits a b waiting bytes tokens end good m =
+    first-of limits a a b [] (token_steps a.peer tokens) (steps_in a.peer (waiting ++ bytes))
+    (frame_steps a.peer waiting (frame bytes tokens)) end (sym (append-nil (entries_by a.seat)))
+    (frame-is a.peer waiting bytes tokens good) m
+
+pub frame-made : {T : Type 0} (limits : Limits) (a b c : PeerPass) (waiting bytes tokens : List ℕ) (r : Result T ReadEnd)
+    → bad_size_at waiting ≡ None → b ≡ pass_having_seen a b.seat.seen
+    → entries_by b.seat ≡ entries_by a.seat ++ token_steps a.peer tokens → Submits limits b c (steps_in b.peer (waiting ++ bytes)) r
+    → Submits limits a c (frame_steps a.peer waiting (frame bytes tokens)) r
+frame-made limits a b c waiting bytes tokens r good is made next =
+    subst (λ (es : List Entry). Submits limits a c es r) (sym (frame-is a.peer waiting bytes tokens good))
+    (submits-both limits a b c (token_steps a.peer tokens) (steps_in a.peer (waiting ++ bytes)) r made
+    (subst (λ q. Submits limits b c (steps_in q (waiting ++ bytes)) r) (same-peer a b is) next))

@@ -1,8 +1,8 @@
 -- What a shell's link comes to by one more line
-use Rattle.std.proofs.Common.{◌≡◌, ℕ, zero, suc, ◌+◌, ◌<◌, ◌≤◌, List, [], ◌∷◌, ◌++◌, length, map, take, Bool, true, false, Option, Some, None, refl, sym, ap, ap₂, ◌∙◌, subst, ◌⊎◌, inl, inr, ⊎_elim, arith, append_assoc, append-nil, length-append}
+use Rattle.std.proofs.Common.{◌≡◌, ℕ, zero, suc, ◌+◌, ◌^◌, ◌<◌, ◌≤◌, List, [], ◌∷◌, ◌++◌, length, map, take, Bool, true, false, Option, Some, None, refl, sym, ap, ap₂, ◌∙◌, subst, ◌⊎◌, inl, inr, ⊎_elim, arith, append_assoc, append-nil, length-append}
 use Rattle.std.specs.Prelude.{Result, Ok, Err}
 use Rattle.std.specs.Io.KnownBytes.{Appends, Consumes, IsAtEnd}
-use Rattle.std.proofs.KnownBytes.{Appends-trans, Appends-nil}
+use Rattle.std.proofs.KnownBytes.{Appends-trans, Appends-nil, Consumes-nil}
 use Rattle.std.proofs.lemmas.List.{map-append, length-map}
 use Rattle.wio_core.specs.Lines.{LacksFeed, TookFrom}
 use Rattle.wio_core.specs.LineAnswers.{LinesAhead, WholeLine, LastLine}
@@ -17,7 +17,7 @@ use Rattle.wl_wire.specs.Messages.{joined}
 use Rattle.broker_model.specs.declared.journal.Entry.{Entry}
 use Rattle.broker_model.specs.declared.journal.Entry.TheVariants as entries
 use Rattle.broker_core.specs.declared.answers.Applied.{Applied}
-use Rattle.turn_lock.specs.Pairs.{own}
+use Rattle.turn_lock.specs.Pairs.{own, NoneOf}
 use Rattle.hub_lock.specs.declared.step.OuterStep.{OuterStep}
 use Rattle.hub_lock.specs.Passes.{PassSeat, steps_of}
 use Rattle.peer_link.specs.declared.ends.ShellEnd.{ShellEnd}
@@ -27,7 +27,8 @@ use Rattle.peer_link.specs.Gains.{Gains, GainsCut}
 use Rattle.peer_link.specs.ShellLines.{bytes_of, LackFeeds, HoldLines, IsLastLine, BeginWith, AreLines, IsOrder, AreOrders}
 use Rattle.peer_link.specs.ShellAnswers.{answer, answers_to}
 use Rattle.peer_link.specs.ReadsShell.{ReadsNear, BeginBad, BeginFull, EndsAs, is_cut, ReadsShell}
-use Rattle.peer_link.specs.Ordering.{GiveLine, LooksAt, StopsReading, ReadsOrder, IsOrdered, WhyNoOrder, NotOrdered, IsHeld, Serving, ServesOn}
+use Rattle.peer_link.proofs.AnswersGrow.{answers-none}
+use Rattle.peer_link.specs.Ordering.{CanGoOn, GiveLine, LooksAt, StopsReading, ReadsOrder, IsOrdered, WhyNoOrder, NotOrdered, IsHeld, Serving, ServesOn}
 
 -- lists of lines, orders and pieces, with one more
 
@@ -111,6 +112,47 @@ counted limits seat reader read left held now s =
     let b = length-map s.steps (λ (step : ShellStep). entries.Shell step) in
     let c = length-map (own seat.number seat.seen) (λ (step : OuterStep). step.entry) in
     let d = orders-long s.lines s.steps s.orders in omega (arith, a, b, c, d)
+
+-- at the beginning
+
+pub entries-none : (seat : PassSeat) → NoneOf seat.number seat.seen → entries_by seat ≡ []
+entries-none seat fresh = ap (map (λ (step : OuterStep). step.entry)) fresh
+
+pub took-none : (given left : Option (List ℕ)) → TookFrom given given left left []
+took-none given left = record { given = Appends-nil given; left = Consumes-nil left }
+
+gained-none : (limits : Limits) (seat : PassSeat) (held : Option (List ℕ)) → NoneOf seat.number seat.seen
+    → Appends held held (joined (answers_to limits seat))
+gained-none limits seat held fresh =
+    subst (λ (a : List (List ℕ)). Appends held held (joined a)) (sym (answers-none limits seat.number [] seat.seen fresh)) (Appends-nil held)
+
+pub nothing-read : (limits : Limits) (seat : PassSeat) (left held : Option (List ℕ)) → NoneOf seat.number seat.seen
+    → ReadsShell limits seat [] left held held ends.NoMemory
+nothing-read limits seat left held fresh = record {
+  lines = [];
+  steps = [];
+  orders = tt;
+  entries = entries-none seat fresh;
+  ends = ([], record { holds = record { is = refl; lack = tt }; near = omega arith });
+  gained = gained-none limits seat held fresh;
+}
+
+pub serving-begins : (limits : Limits) (seat : PassSeat) (reader : LinesAhead) (left held : Option (List ℕ)) → NoneOf seat.number seat.seen
+    → reader ≡ record { held = []; room = None; settled = None } → Serving limits seat reader [] left held held
+serving-begins limits seat reader left held fresh is = record {
+  lines = [];
+  steps = [];
+  orders = tt;
+  entries = entries-none seat fresh;
+  stands = subst (λ (r : LinesAhead). IsHeld r.settled r.held [] [] left) (sym is) (record { is = refl; lack = tt });
+  gained = gained-none limits seat held fresh;
+}
+
+pub can-begin : (reader : LinesAhead) → reader ≡ record { held = []; room = None; settled = None } → CanGoOn reader
+can-begin reader is = (ap (λ (r : LinesAhead). r.room) is, inl (ap (λ (r : LinesAhead). r.settled) is))
+
+pub few-begun : (seat : PassSeat) → NoneOf seat.number seat.seen → steps_of seat < 2 ^ 32
+few-begun seat fresh = let none = ap length fresh in omega (arith, none)
 
 -- what one call of the reader, one order and one answer come to
 

@@ -16,6 +16,8 @@ use Rattle.broker_core.specs.declared.answers.Applied.{Applied}
 use Rattle.broker_core.specs.declared.answers.Refused.{Refused}
 use Rattle.broker_core.specs.declared.answers.Refused.TheVariants as refusals
 use Rattle.broker_core.specs.Broker.{Broker, full_in, full_for, refusal_if_full, peer_entry, peer_refusal, refusal, IsAccepted}
+use Rattle.broker_core.specs.declared.taking.Standing.{Standing}
+use Rattle.broker_core.specs.declared.taking.Standing.TheVariants.{Nobody, Alive, Over}
 use Rattle.broker_core.specs.Stands.{end_of}
 use Rattle.broker_core.specs.Taking.{by_end, standing_in, standing_of}
 use Rattle.hub_lock.specs.Histories.{History, broker_of}
@@ -24,9 +26,9 @@ use Rattle.hub_lock.specs.Plays.{Applies}
 use Rattle.hub_lock.specs.Calls.{LegalStep, UnlessMemory, pass_having_seen}
 use Rattle.peer_link.specs.declared.ends.ReadEnd.{ReadEnd}
 use Rattle.peer_link.specs.declared.ends.ReadEnd.TheVariants as ends
-use Rattle.peer_link.specs.Made.{entries_by, journal_of}
-use Rattle.peer_link.specs.Submits.{WhyNot, Submits}
-use Rattle.peer_link.proofs.StepsMade.{entries-same, entries-one}
+use Rattle.peer_link.specs.Made.{entries_by, journal_of, SawMore}
+use Rattle.peer_link.specs.Submits.{WhyNot, Submits, IsGoneRefusal, IsRefusal}
+use Rattle.peer_link.proofs.StepsMade.{entries-same, entries-one, saw-none, saw-legal}
 
 -- what the loop says of an answer
 
@@ -182,3 +184,53 @@ submitted limits before after step r is other legal = by (unless step _ _ legal)
           why = tt;
         })
     by (inr k) = submitted_by limits before after step r is other k
+
+-- and the pass has seen more, or nothing
+pub saw-by : (limits : Limits) (before after : PeerPass) (step : PeerStep) (r : Result Applied Refused)
+    → UnlessMemory step ((after ≡ before) × (r ≡ Err refusals.NoMemory))
+    (LegalStep limits before.seat after.seat.seen (steps.Peer before.peer step) r)
+    → SawMore limits before.seat.seen after.seat.seen
+saw-by limits before after step r legal = by (unless step _ _ legal)
+  where
+    by : ((after ≡ before) × (r ≡ Err refusals.NoMemory)) ⊎ LegalStep limits before.seat after.seat.seen (steps.Peer before.peer step) r
+        → SawMore limits before.seat.seen after.seat.seen
+    by (inl k) = subst (λ (p : PeerPass). SawMore limits before.seat.seen p.seat.seen) (sym k.0) (saw-none limits before.seat.seen)
+    by (inr k) = saw-legal limits before.seat after.seat.seen _ k
+
+-- the end of a link
+
+gone_told : (b : Broker) (q : ℕ) (why : Refused) (o : Option Refused) → AreTold b (steps.Peer q peers.Gone) (Err why) o → o ≡ Some why
+gone_told b q why None t = (let no = t.accepted in absurd (cc))
+gone_told b q why (Some w) t = (let e : Err why ≡ Err w = t.refused in cc)
+
+gone_by : (b : Broker) (q : ℕ) (s : Standing) (why : Refused) → peer_refusal b (peer_entry q peers.Gone) s ≡ Some why
+    → (why ≡ refusals.NoPeer) ⊎ ((cause : EndCause) × (why ≡ refusals.Ended cause))
+gone_by b q Nobody why e = inl (cc)
+gone_by b q (Over cause) why e = inr (cause, cc)
+gone_by b q Alive why e = absurd (cc)
+
+gone_why : (limits : Limits) (before : History) (n q : ℕ) (after : History) (why : Refused)
+    → Applies limits before n (steps.Peer q peers.Gone) after (Err why) → (why ≡ refusals.NoPeer) ⊎ ((cause : EndCause) × (why ≡ refusals.Ended cause))
+gone_why limits before n q after why k =
+    let b : Broker = broker_of limits before in
+    gone_by b q (standing_of b.journal q) why
+    (gone_told b q why (refusal b (steps.Peer q peers.Gone)) (record { refused = k.refused; accepted = k.accepted }))
+
+gone_not : (why : Refused) (end : ReadEnd) → (told (Err why) ≡ Err end) → (why ≡ refusals.NoPeer → ⊥)
+    → (why ≡ refusals.NoPeer) ⊎ ((cause : EndCause) × (why ≡ refusals.Ended cause)) → IsGoneRefusal end
+gone_not why end e other (inl k) = absurd (other k)
+gone_not why end e other (inr k) =
+    let same : Err (ends.Ended k.0) ≡ Err end = sym (ap (λ (x : Refused). told (Err x)) k.1) ∙ e in
+    let is : ends.Ended k.0 ≡ end = cc in subst IsGoneRefusal is tt
+
+pub refusal-is : (limits : Limits) (before after : PeerPass) (step : PeerStep) (why : Refused) (end : ReadEnd) → told (Err why) ≡ Err end
+    → (Err {T = Applied} why ≡ Err refusals.NoPeer → ⊥)
+    → UnlessMemory step ((after ≡ before) × (Err {T = Applied} why ≡ Err refusals.NoMemory))
+    (LegalStep limits before.seat after.seat.seen (steps.Peer before.peer step) (Err why))
+    → IsRefusal step end
+refusal-is limits before after (peers.Message id opcode body) why end e other k = tt
+refusal-is limits before after (peers.BadSize head) why end e other k = tt
+refusal-is limits before after (peers.Tokens tokens) why end e other k = tt
+refusal-is limits before after peers.Gone why end e other k =
+    gone_not why end e (λ n. other (ap (λ (x : Refused). Err x) n))
+    (gone_why limits (before.seat.seen ++ k.rest) before.seat.number before.peer after.seat.seen why k.answer)

@@ -21,7 +21,7 @@ use Rattle.broker_model.specs.Out.{Outgoing, stored, tokens_taken, out_for}
 use Rattle.broker_model.specs.Settle.{settle, history}
 use Rattle.broker_core.specs.declared.answers.Took.{Took}
 use Rattle.broker_core.specs.declared.answers.Took.TheVariants as took
-use Rattle.broker_core.specs.Broker.{Broker, full_in, full_for, nothing_left, take_refusal, take_refusal_from, IfBytes, IsBytesUnlessMemory}
+use Rattle.broker_core.specs.Broker.{Broker, full_in, full_for, nothing_left, take_refusal, take_refusal_from, IfBytes, IfNoBytes, IsBytesUnlessMemory}
 use Rattle.broker_core.specs.Stands.{end_of}
 use Rattle.broker_core.specs.Taking.{out_at, IsTaken}
 use Rattle.turn_lock.specs.Pairs.{own, NoneOf}
@@ -37,7 +37,7 @@ use Rattle.hub_lock.proofs.LegalCalls.{writer-joined}
 use Rattle.desc_frame.specs.Frames.{Frame, frame, spelling}
 use Rattle.peer_link.specs.declared.ends.WriteEnd.{WriteEnd}
 use Rattle.peer_link.specs.declared.ends.WriteEnd.TheVariants as ends
-use Rattle.peer_link.specs.Made.{entries_by, journal_of}
+use Rattle.peer_link.specs.Made.{entries_by, journal_of, SawMore}
 use Rattle.peer_link.specs.Gains.{Gains, GainsCut}
 use Rattle.peer_link.specs.WritesPeer.{frame_at, frames_from, frames_of, is_cut, EndsAs, WritesPeer}
 use Rattle.peer_link.specs.Written.{Written, Writing, WritesOn}
@@ -294,8 +294,12 @@ module _ (limits : Limits) (pass pass' : PeerPass) (held now : Option (List ℕ)
     ends = e;
   }
 
-  pub closes : r ≡ took.Closed → pass'.seat.seen ≡ turn → Writing limits pass held now → WritesPeer limits pass' held now ends.Closed
-  closes e same s =
+  same-seen : (x : Took) → r ≡ x → IfNoBytes x (pass'.seat.seen ≡ turn)
+  same-seen x e = subst (λ (y : Took). IfNoBytes y (pass'.seat.seen ≡ turn)) e k.answer.same
+
+  pub closes : r ≡ took.Closed → Writing limits pass held now → WritesPeer limits pass' held now ends.Closed
+  closes e s =
+      let same : pass'.seat.seen ≡ turn = same-seen took.Closed e in
       let b = before s in
       let o : Outgoing = out_by b.stands.peer in
       let c = closed-is (broker_of limits turn) pass.peer o
@@ -309,9 +313,10 @@ module _ (limits : Limits) (pass pass' : PeerPass) (held now : Option (List ℕ)
         omega (arith, left, none, taken, front),
       )
 
-  pub fills : (kept : Kept) → r ≡ took.JournalFull kept → pass'.seat.seen ≡ turn → Writing limits pass held now
+  pub fills : (kept : Kept) → r ≡ took.JournalFull kept → Writing limits pass held now
       → WritesPeer limits pass' held now (ends.JournalFull kept)
-  fills kept e same s =
+  fills kept e s =
+      let same : pass'.seat.seen ≡ turn = same-seen (took.JournalFull kept) e in
       let b = before s in
       let o : Outgoing = out_by b.stands.peer in
       ends-so (ends.JournalFull kept) same refl b
@@ -319,8 +324,8 @@ module _ (limits : Limits) (pass pass' : PeerPass) (held now : Option (List ℕ)
       ∙ full-is (broker_of limits turn) pass.peer o kept
       (subst (λ (x : Took). IsAnswer (broker_of limits turn) pass.peer o x) e (answer-here b.stands.peer b.stands.there)))
 
-  pub lacks : pass'.seat.seen ≡ turn → Writing limits pass held now → WritesPeer limits pass' held now ends.NoMemory
-  lacks same s = ends-so ends.NoMemory same refl (before s) tt
+  pub lacks : r ≡ took.NoMemory → Writing limits pass held now → WritesPeer limits pass' held now ends.NoMemory
+  lacks e s = ends-so ends.NoMemory (same-seen took.NoMemory e) refl (before s) tt
 
   -- so many bytes were taken, which are still to be written
 
@@ -487,3 +492,14 @@ sized limits pass pass' buf places buf' places' r n t k w e size room room' =
     let each = length-map (tokens_taken n o) (λ (t : Token). t.token) in
     let c = i.token_count in
     record { some = grind (arith, count, full); few = grind (arith, count); tokens_few = omega (arith, tokens, sum, each, c, room') }
+
+-- the pass stays its peer's writer
+pub writes-on : (limits : Limits) (a b : PeerPass) → b ≡ pass_having_seen a b.seat.seen → SawMore limits a.seat.seen b.seat.seen
+    → writer_of a.seat.seen a.peer ≡ Some a.seat.number → writer_of b.seat.seen b.peer ≡ Some b.seat.number
+writes-on limits a b is s w =
+    ap₂ (λ (h : History) q. writer_of h q) s.grew (ap (λ (p : PeerPass). p.peer) is)
+    ∙ writer-stays a.seat.seen s.more a.peer a.seat.number w ∙ ap (λ (p : PeerPass). Some p.seat.number) (sym is)
+
+pub own-by-peer : (p : PeerPass) (q : ℕ) → q ≡ p.peer → writer_of p.seat.seen q ≡ Some p.seat.number
+    → writer_of p.seat.seen p.peer ≡ Some p.seat.number
+own-by-peer p q e w = ap (writer_of p.seat.seen) (sym e) ∙ w

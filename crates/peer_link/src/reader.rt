@@ -1,5 +1,5 @@
 //! The reading of a peer's link.
-ghost use Rattle.std.specs.Prelude.{◌≡◌, ◌++◌, ◌≤◌, ℕ, List, None};
+ghost use Rattle.std.specs.Prelude.{◌≡◌, ◌≤◌, ℕ, List, Option, None, Err};
 ghost use Rattle.wio_core.specs.Io.{Rose, StaysQuiet};
 ghost use Rattle.wio_core.specs.Lines.{TookFrom};
 ghost use Rattle.wl_wire.specs.Messages.{bad_size_at};

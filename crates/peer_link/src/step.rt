@@ -1,11 +1,11 @@
 //! One step of a peer's link.
-ghost use Rattle.std.specs.Prelude.{◌≡◌, ◌∷◌, []};
+ghost use Rattle.std.specs.Prelude.{◌≡◌, ◌∷◌, [], OnOk, IfErr};
 ghost use Rattle.broker_core.specs.Broker.{peer_entry};
 ghost use Rattle.seat_steps.specs.Ranges.{IsPeerStep};
 ghost use Rattle.hub_lock.specs.Passes.{IsOf};
 ghost use Rattle.hub_lock.specs.Calls.{pass_having_seen};
 ghost use Rattle.peer_link.specs.Made.{SawMore};
-ghost use Rattle.peer_link.specs.Submits.{Submits};
+ghost use Rattle.peer_link.specs.Submits.{Submits, EndedIfBad, IsRefusal};
 
 use crate::ends::ReadEnd;
 use broker_core::Refused;
@@ -27,6 +27,8 @@ pub(crate) fn submit_step<R: Wait, G: Gate>(
     ensures saw { SawMore hub.now.limits pass.old.seat.seen pass.new.seat.seen }
     ensures made { Submits hub.now.limits pass.old pass.new
         (peer_entry pass.old.peer step.now ∷ []) result }
+    ensures ended { OnOk result (EndedIfBad hub.now.limits pass.new step.now) }
+    ensures refusal { IfErr result (IsRefusal step.now) }
 {
     let peer = pass.peer();
     let number = pass.steps().saturating_add(1);
