@@ -198,8 +198,11 @@ ended-bad capacity q head older peer e n =
     ending capacity (number_alive J) J q peer (record { there = e; refused_is = bad_refused q head older peer e; end = inl n }) in
     ended-by capacity (settle capacity J) q peer (settles capacity (number_alive J) J (omega arith)) i i.end
 
+abbrev pub taken_as : Applied → Result Applied Refused
+taken_as applied = Ok applied
+
 alive-so : (b : Broker) (e : Entry) (applied : Applied) (s : Standing)
-    → IfSome (peer_refusal b e s) (λ why. Ok {E = Refused} applied ≡ Err why) → s ≡ Alive
+    → IfSome (peer_refusal b e s) (λ why. taken_as applied ≡ Err why) → s ≡ Alive
 alive-so b e applied Nobody k = absurd (cc)
 alive-so b e applied (Over cause) k = absurd (cc)
 alive-so b e applied Alive k = refl
@@ -218,7 +221,7 @@ bad-size-ended limits a b head applied is k =
 
 -- an accepted step that was a header with a bad size
 pub ended-if-bad : (limits : Limits) (a b : PeerPass) (step : PeerStep) (applied : Applied) → b ≡ pass_having_seen a b.seat.seen
-    → UnlessMemory step ((b ≡ a) × (Ok applied ≡ Err refusals.NoMemory)) (LegalStep limits a.seat b.seat.seen (steps.Peer a.peer step) (Ok applied))
+    → UnlessMemory step ((b ≡ a) × (taken_as applied ≡ Err refusals.NoMemory)) (LegalStep limits a.seat b.seat.seen (steps.Peer a.peer step) (Ok applied))
     → EndedIfBad limits b step
 ended-if-bad limits a b (peers.Message id opcode body) applied is k = tt
 ended-if-bad limits a b (peers.Tokens tokens) applied is k = tt

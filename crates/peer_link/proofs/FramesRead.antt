@@ -26,7 +26,7 @@ use Rattle.peer_link.specs.Made.{entries_by, journal_of, SawMore, HasSeenFull}
 use Rattle.peer_link.specs.LinkSteps.{frame_steps, steps_behind, link_steps, AreFrames, spelled, HoldFrames}
 use Rattle.peer_link.specs.Submits.{WhyNot, MadeFirst, Submits, IsGoneRefusal}
 use Rattle.peer_link.specs.ReadsPeer.{StopsAt, StopsBy, BeganNothing, EndsAs, gone_after, ReadsPeer}
-use Rattle.peer_link.specs.ReadsFrame.{got_of, NoFrame, EndedAfter, OneFrame, ReadsFrame, ReadsLink}
+use Rattle.peer_link.specs.ReadsFrame.{got_of, NoFrame, EndedAfter, OneFrame, MakesFrame, ReadsFrame, ReadsLink}
 use Rattle.peer_link.proofs.ShellServed.{joined-more}
 use Rattle.peer_link.proofs.MessagesMade.{same-peer}
 
@@ -70,14 +70,15 @@ pub record Reading (q : ℕ) (pass : PeerPass) (read waiting : List ℕ) : Type 
 pub reading-begins : (q : ℕ) (pass : PeerPass) → entries_by pass.seat ≡ [] → Reading q pass [] []
 reading-begins q pass none = record { frames = []; each = tt; is = refl; made = none; waits = refl }
 
-pub reading-goes : (q : ℕ) (a b : PeerPass) (read waiting waiting' taken : List ℕ) (f : Frame) → Reading q a read waiting
-    → OneFrame taken f → entries_by b.seat ≡ entries_by a.seat ++ frame_steps q waiting f → waiting' ≡ behind (waiting ++ f.bytes)
+pub reading-goes : (q : ℕ) (a b : PeerPass) (read waiting waiting' taken : List ℕ) (f : Frame) → a.peer ≡ q → Reading q a read waiting
+    → OneFrame taken f → entries_by b.seat ≡ entries_by a.seat ++ frame_steps a.peer waiting f → waiting' ≡ behind (waiting ++ f.bytes)
     → Reading q b (read ++ taken) waiting'
-reading-goes q a b read waiting waiting' taken f r o made is = record {
+reading-goes q a b read waiting waiting' taken f peer r o made is = record {
   frames = r.frames ++ f ∷ [];
   each = frames-more r.frames f r.each o.is;
   is = ap₂ (λ (x y : List ℕ). x ++ y) r.is o.spelled ∙ sym (spelled-more r.frames f);
-  made = made ∙ ap₂ (λ (es : List Entry) (w : List ℕ). es ++ frame_steps q w f) r.made r.waits ∙ sym (steps-more q [] r.frames f);
+  made = made ∙ ap (λ n. entries_by a.seat ++ frame_steps n waiting f) peer
+      ∙ ap₂ (λ (es : List Entry) (w : List ℕ). es ++ frame_steps q w f) r.made r.waits ∙ sym (steps-more q [] r.frames f);
   waits = is ∙ ap (λ (w : List ℕ). behind (w ++ f.bytes)) r.waits ∙ sym (waiting-more [] r.frames f);
 }
 
@@ -320,3 +321,13 @@ frame-of n t bytes tokens taken bs ts k b e =
 pub no-frame : (limits : Limits) (a : PeerPass) (waiting waiting' taken : List ℕ) (left : Option (List ℕ)) (end : ReadEnd) (why : Got)
     → got_of end ≡ Some why → Stops why taken left → ReadsFrame limits a a waiting waiting' taken left (Err end)
 no-frame limits a waiting waiting' taken left end why is stops = inl (record { why = why; is = is; stops = stops; same = refl })
+
+pub frame-comes : (limits : Limits) (a b : PeerPass) (waiting waiting' taken : List ℕ) (left : Option (List ℕ)) (f : Frame)
+    (r : Result (Unit {0}) ReadEnd) → OneFrame taken f → MakesFrame limits a b waiting waiting' f r
+    → ReadsFrame limits a b waiting waiting' taken left r
+frame-comes limits a b waiting waiting' taken left f (Ok done) o m = (f, o, m.0, m.1, m.2)
+frame-comes limits a b waiting waiting' taken left f (Err end) o m = inr (f, o, m)
+
+-- no step is refused for a failed read
+pub made-not-fault : (limits : Limits) (a b : PeerPass) (steps : List Entry) (end : ReadEnd) → MadeFirst limits a b steps end → end ≢ ends.ReadFault
+made-not-fault limits a b steps end m is = subst (λ (x : ReadEnd). WhyNot limits b m.e x) is m.why

@@ -39,6 +39,9 @@ told (Err (refusals.JournalFull kept)) = Err (ends.JournalFull kept)
 told (Err refusals.NoMemory) = Err ends.NoMemory
 told (Err refusals.NoPeer) = Err ends.NoMemory
 
+abbrev pub refused_as : Refused → Result Applied Refused
+refused_as why = Err why
+
 -- a step that no rule refuses isn't refused for a cause
 
 record AreTold (b : Broker) (step : Step) (r : Result Applied Refused) (o : Option Refused) : Type 0 where
@@ -224,8 +227,8 @@ gone_not why end e other (inr k) =
     let is : ends.Ended k.0 ≡ end = cc in subst IsGoneRefusal is tt
 
 pub refusal-is : (limits : Limits) (before after : PeerPass) (step : PeerStep) (why : Refused) (end : ReadEnd) → told (Err why) ≡ Err end
-    → (Err {T = Applied} why ≡ Err refusals.NoPeer → ⊥)
-    → UnlessMemory step ((after ≡ before) × (Err {T = Applied} why ≡ Err refusals.NoMemory))
+    → (refused_as why ≡ refused_as refusals.NoPeer → ⊥)
+    → UnlessMemory step ((after ≡ before) × (refused_as why ≡ refused_as refusals.NoMemory))
     (LegalStep limits before.seat after.seat.seen (steps.Peer before.peer step) (Err why))
     → IsRefusal step end
 refusal-is limits before after (peers.Message id opcode body) why end e other k = tt

@@ -12,12 +12,10 @@ ghost use Rattle.peer_link.specs.ReadsPeer.{ReadsPeer};
 ghost use Rattle.peer_link.specs.ReadsFrame.{ReadsFrame, ReadsLink};
 
 use crate::ends::ReadEnd;
-use crate::frames::submit_frame;
-use crate::messages::Ahead;
+use crate::frames::play_frame;
 use crate::step::submit_step;
 use desc_frame::{FrameReader, Got};
 use hub_lock::{Gate, Hub, ReaderPass};
-use relay_model::EndCause;
 use seat_steps::PeerStep;
 use std::alloc::Global;
 use std::sync::Wait;
@@ -55,10 +53,7 @@ fn read_frame<R: Wait, S: Source, G: Gate>(
     match reader.next(source, bytes, tokens) {
         Got::Bytes(n, t) => {
             let (bytes, tokens) = (&bytes[..n], &tokens[..t]);
-            match submit_frame(rt, alloc, hub, pass, gate, assembler, bytes, tokens)? {
-                Ahead::More => Ok(()),
-                Ahead::Nothing => Err(ReadEnd::Ended(EndCause::Bad)),
-            }
+            play_frame(rt, alloc, hub, pass, gate, assembler, bytes, tokens)
         }
         Got::End => Err(ReadEnd::Closed),
         Got::Torn(n) => Err(ReadEnd::Torn(n)),
