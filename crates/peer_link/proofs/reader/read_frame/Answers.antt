@@ -7,7 +7,7 @@ use Rattle.peer_link.proofs.reader.read_frame.Goals as goal
 
 pub returns-in-End-clause-reads : goal.returns-in-End-clause-reads
 returns-in-End-clause-reads g c =
-    let k = rw c.in-End.is at c.next.ensures.took c.new.ensures in (
+    let k = rw c.in-End.is at c.next.ensures.took c.new-reader.ensures in (
       k.0,
       took-gave (g.S.Source.given c.args.source.now) (g.S.Source.given c.next.new.source) (g.S.Source.left c.args.source.now)
     (g.S.Source.left c.next.new.source) k.0 k.1,
@@ -17,7 +17,7 @@ returns-in-End-clause-reads g c =
 
 pub returns-in-Torn-clause-reads : goal.returns-in-Torn-clause-reads
 returns-in-Torn-clause-reads g c =
-    let k = rw c.in-Torn.is at c.next.ensures.took c.new.ensures in (
+    let k = rw c.in-Torn.is at c.next.ensures.took c.new-reader.ensures in (
       k.0,
       took-gave (g.S.Source.given c.args.source.now) (g.S.Source.given c.next.new.source) (g.S.Source.left c.args.source.now)
     (g.S.Source.left c.next.new.source) k.0 k.1,
@@ -27,7 +27,7 @@ returns-in-Torn-clause-reads g c =
 
 pub returns-in-BadFrame-clause-reads : goal.returns-in-BadFrame-clause-reads
 returns-in-BadFrame-clause-reads g c =
-    let k = rw c.in-BadFrame.is at c.next.ensures.took c.new.ensures in (
+    let k = rw c.in-BadFrame.is at c.next.ensures.took c.new-reader.ensures in (
       k.0,
       took-gave (g.S.Source.given c.args.source.now) (g.S.Source.given c.next.new.source) (g.S.Source.left c.args.source.now)
     (g.S.Source.left c.next.new.source) k.0 k.1,
@@ -37,7 +37,7 @@ returns-in-BadFrame-clause-reads g c =
 
 pub returns-in-ReadFault-clause-reads : goal.returns-in-ReadFault-clause-reads
 returns-in-ReadFault-clause-reads g c =
-    let k = rw c.in-ReadFault.is at c.next.ensures.took c.new.ensures in (
+    let k = rw c.in-ReadFault.is at c.next.ensures.took c.new-reader.ensures in (
       k.0,
       took-gave (g.S.Source.given c.args.source.now) (g.S.Source.given c.next.new.source) (g.S.Source.left c.args.source.now)
     (g.S.Source.left c.next.new.source) k.0 k.1,
@@ -47,7 +47,7 @@ returns-in-ReadFault-clause-reads g c =
 
 pub returns-in-Bytes-clause-reads : goal.returns-in-Bytes-clause-reads
 returns-in-Bytes-clause-reads g c =
-    let k = rw c.in-Bytes.is at c.next.ensures.took c.new.ensures in (
+    let k = rw c.in-Bytes.is at c.next.ensures.took c.new-reader.ensures in (
       k.0,
       took-gave (g.S.Source.given c.args.source.now) (g.S.Source.given c.next.new.source) (g.S.Source.left c.args.source.now)
           (g.S.Source.left c.next.new.source) k.0 k.1,

@@ -43,9 +43,9 @@ loop-preserved g c =
           TookFrom-both (g.S.Source.given c.args.source.now) (g.S.Source.given c.loop.source) (g.S.Source.given c.read_frame.new.source)
     (g.S.Source.left c.args.source.now) (g.S.Source.left c.loop.source) (g.S.Source.left c.read_frame.new.source) i.reads.0 r.0 i.reads.1 r.1,
           reading-goes c.args.pass.now.peer c.loop.pass c.read_frame.new.pass i.reads.0 (begun c.loop.assembler)
-              (begun c.read_frame.new.assembler) r.0 r.2 (same-peer c.args.pass.now c.loop.pass i.pass) i.reads.2 r.3 r.4 r.5,
+              (begun c.read_frame.new.assembler) r.0 r.2.0 (same-peer c.args.pass.now c.loop.pass i.pass) i.reads.2 r.2.1 r.2.2 r.2.3,
       );
-      good = r.6;
+      good = r.2.4;
       given_quiet = λ n. e.given_quiet (i.given_quiet n);
       left_quiet = λ n. e.left_quiet (i.left_quiet n);
       faults = (let a = i.faults in let b = e.never_falls in omega (arith, a, b));

@@ -2,6 +2,7 @@ use Rattle.std.proofs.Common.{◌≡◌, sym, subst}
 use Rattle.relay_model.specs.declared.act.EndCause.TheVariants.{Gone}
 use Rattle.broker_model.specs.declared.journal.Entry.TheVariants as entries
 use Rattle.peer_link.specs.declared.ends.ReadEnd.{ReadEnd}
+use Rattle.peer_link.specs.Submits.{IsGoneRefusal}
 use Rattle.peer_link.specs.ReadsPeer.{ReadsPeer}
 use Rattle.peer_link.specs.ReadsFrame.{ReadsLink}
 use Rattle.peer_link.proofs.FramesRead.{ended-reads, gone-said, gone-refused}
@@ -24,4 +25,4 @@ returns-in-Err-clause-reads g c = λ read left r.
     (entries.End c.args.pass.now.peer Gone) c.submit_step.ensures.pass c.in-Err.ensures.made c.in-Err.ensures.refusal r
 
 pub returns-in-Err-clause-cause : goal.returns-in-Err-clause-cause
-returns-in-Err-clause-cause g c = λ e. search rules
+returns-in-Err-clause-cause g c = λ e. absurd (subst IsGoneRefusal e c.in-Err.ensures.refusal)
