@@ -5,7 +5,11 @@
 #[cfg(test)]
 mod call_tests;
 #[cfg(test)]
+mod gate_tests;
+#[cfg(test)]
 mod link;
+#[cfg(test)]
+mod link_tests;
 #[cfg(test)]
 mod race_tests;
 #[cfg(test)]

@@ -1,0 +1,12 @@
+pub mod Made
+pub mod Gains
+pub mod LinkSteps
+pub mod ReadsPeer
+pub mod ReadsFrame
+pub mod WritesPeer
+pub mod ShellLines
+pub mod ShellAnswers
+pub mod ReadsShell
+pub mod Submits
+pub mod Ordering
+pub mod Written
