@@ -121,6 +121,15 @@ done_said n l =
       event = refl;
     }) none_said
 
+-- so there are messages that spell an event
+pub some_event : (ms : List (List ℕ)) × (e : Event) × (rest : List Event) × (events_in ms ≡ e ∷ rest)
+some_event = (
+  messages ((said_piece [] 7 (said.FieldDone 0 ∷ [])).bytes ++ []),
+  events.TextInputDone 0,
+  events_in (messages []),
+  (done_said 0 (omega arith)).heard [],
+)
+
 preedit_first : (p : Preedit) (ss : List Said) (es : List Event) → is_text p.text ≡ true → length p.text ≤ 4075 →
     FitsSigned w32 p.begin → FitsSigned w32 p.end → AreSaid ss es →
     AreSaid (preedit_said p ++ ss) (preedit_events p ++ es)

@@ -201,10 +201,10 @@ bad_on rest more e = bad_none (rest ++ more) (stays (is_bad rest e))
 -- ---- the client
 
 -- the client heard these bytes, and its log has what they tell and its own edits
-record IsGoing (bytes : List ℕ) (c : Client State) : Type 0 where
+pub record IsGoing (bytes : List ℕ) (c : Client State) : Type 0 where
   waits : c.state.pending ≡ waiting (events_in (messages bytes)) no_edits
   rest : c.held ≡ behind bytes
-  spelled : (more : List (List ℕ)) → events_in (messages bytes ++ more) ≡ events_in (messages bytes) ++ events_in more
+  pub spelled : (more : List (List ℕ)) → events_in (messages bytes ++ more) ≡ events_in (messages bytes) ++ events_in more
 
 pub record HasHeard (bytes : List ℕ) (c : Client State) (own : List Entry) : Type 0 where
   pub log : List Happening
@@ -212,7 +212,7 @@ pub record HasHeard (bytes : List ℕ) (c : Client State) (own : List Entry) : T
   pub has : HasLog log sent c.state
   pub own-is : edits_in log ≡ own
   pub told : told_in log ≡ happenings (events_in (messages bytes)) no_edits
-  going : c.is_bad ≡ false → IsGoing bytes c
+  pub going : c.is_bad ≡ false → IsGoing bytes c
   stuck : c.is_bad ≡ true → (piece : List ℕ) → events_in (messages (bytes ++ piece)) ≡ events_in (messages bytes)
 
 hears_bad : (bytes piece : List ℕ) (c : Client State) (own : List Entry) → c.is_bad ≡ true → HasHeard bytes c own →

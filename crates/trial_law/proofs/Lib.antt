@@ -19,3 +19,4 @@ pub mod TextsRelayed
 pub mod UnpausedHearAll
 pub mod GroupsRead
 pub mod TextInputsMade
+pub mod UnpausedHaveAll

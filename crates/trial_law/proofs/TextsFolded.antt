@@ -156,7 +156,7 @@ actions_followed own most time (action ∷ more) t end h e =
     (λ k. append_assoc (own k) (edits_by action k) (own_edits more k))
     (actions_followed (with_edits own action) most ((time + 1) % 2 ^ 32) more both.mid end mid both.second)
 
-trial_followed : (limits : Limits) (script : Script) (t : TrialPlay) → script.fields ≤ 16 →
+pub trial_followed : (limits : Limits) (script : Script) (t : TrialPlay) → script.fields ≤ 16 →
     (script.fields == 0) ≡ false →
     trial_played limits script ≡ went t → AreFollowed (own_edits script.actions) (0 + script.fields) t
 unfolding played_with

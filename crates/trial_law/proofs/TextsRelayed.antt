@@ -65,7 +65,7 @@ settled_short capacity zero journal h = h
 settled_short capacity (suc n) journal h =
     settled_short capacity n (with_end journal (due capacity journal)) (end_short journal (due capacity journal) h)
 
-trial_short : (limits : Limits) (script : Script) → AreShortBodies (trial_played limits script).now.broker.journal
+pub trial_short : (limits : Limits) (script : Script) → AreShortBodies (trial_played limits script).now.broker.journal
 trial_short limits script =
     trial_keeps (λ t. AreShortBodies t.broker.journal)
     (of_broker (λ (b : Broker). AreShortBodies b.journal)
@@ -73,7 +73,7 @@ trial_short limits script =
     limits script tt
 
 -- the objects of each field's peer are those of its client
-trial_known : (limits : Limits) (script : Script) (t : TrialPlay) → script.fields ≤ 16 → (script.fields == 0) ≡ false →
+pub trial_known : (limits : Limits) (script : Script) (t : TrialPlay) → script.fields ≤ 16 → (script.fields == 0) ≡ false →
     trial_played limits script ≡ went t → AllKnown t
 unfolding played_with
 trial_known limits script t few some e k l =
@@ -143,7 +143,7 @@ taken_front capacity journal p f h short =
 -- ---- the law
 
 -- the field of its peer
-is_input : (journal : List Entry) (p f : ℕ) → AreOwn (past_of journal).made p 7 → IsFieldOf journal p f →
+pub is_input : (journal : List Entry) (p f : ℕ) → AreOwn (past_of journal).made p 7 → IsFieldOf journal p f →
     IsInput journal p f
 is_input journal p f own h =
     let made : List Made = (past_of journal).made in

@@ -14,6 +14,7 @@ use Rattle.broker_model.specs.declared.journal.Entry.{Entry}
 use Rattle.broker_model.specs.Ids.{Joined, peer_at}
 use Rattle.broker_model.specs.Resolve.{past_of, resolve}
 use Rattle.broker_model.specs.Out.{out_for}
+use Rattle.broker_model.specs.Queued.{queued}
 use Rattle.broker_model.specs.Settle.{history, outer}
 use Rattle.trial_run.specs.Ran.{went}
 use Rattle.trial_run.specs.Play.{FieldPlay, TrialPlay}
@@ -83,6 +84,17 @@ UnpausedHearAll =
     slice_get t.fields k ≡ Some field → field.is_paused ≡ false →
     peer_at (past_of t.broker.journal) (k + 2) ≡ Some peer →
     bytes_taken limits.store t.broker.journal peer.label ≡ (out_for limits.store t.broker.journal peer.label).put.bytes
+
+-- Such a field, where nothing came that its client couldn't read, has all batches that were queued for it: all that are
+-- relayed to it, or all but the last, for which its peer was ended.
+abbrev pub UnpausedHaveAll : Type 0
+UnpausedHaveAll =
+    (limits : Limits) (script : Script) (first : Action) (more : List Action) (t : TrialPlay) (k : ℕ)
+    (field : FieldPlay) → script.actions ≡ first ∷ more → 1 ≤ script.fields → script.fields ≤ 16 →
+    trial_played limits script ≡ went t → slice_get t.fields k ≡ Some field → field.is_paused ≡ false →
+    field.client.is_bad ≡ false → (folded : IsFolded limits script t.broker.journal k field) (f : ℕ) →
+    IsFieldOf t.broker.journal folded.peer.label f →
+    batches_in (told_in folded.log) ≡ groups_told (queued limits.store t.broker.journal f)
 
 -- What a client reads in the spelling of a whole group is the batch, with the serial of its done.
 abbrev pub GroupsAreRead : Type 0

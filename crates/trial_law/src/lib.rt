@@ -4,7 +4,7 @@
 
 ghost use Rattle.trial_law.specs.TrialLaws.{TrialHistory, RoundsEndQuiet};
 ghost use Rattle.trial_law.specs.TrialLaws.{ShownInTurn, TextsAreFolds, TextsAreRelayed};
-ghost use Rattle.trial_law.specs.TrialLaws.{UnpausedHearAll, GroupsAreRead};
+ghost use Rattle.trial_law.specs.TrialLaws.{UnpausedHearAll, UnpausedHaveAll, GroupsAreRead};
 
 /// The journal of every trial is the history of its outer steps: each is followed by the ends that
 /// follow from it, and by no others. So the relay law speaks of it.
@@ -49,6 +49,13 @@ pub fn texts_are_relayed()
 #[tactic(auto, using(crate::proofs::UnpausedHearAll::unpaused_hear_all))]
 pub fn unpaused_hear_all()
     ensures { UnpausedHearAll }
+{}
+
+/// Such a field, where nothing came that its client couldn't read, has all batches that were queued
+/// for it: all that are relayed to it, or all but the last, for which its peer was ended.
+#[tactic(auto, using(crate::proofs::UnpausedHaveAll::unpaused_have_all))]
+pub fn unpaused_have_all()
+    ensures { UnpausedHaveAll }
 {}
 
 /// What a client reads in the spelling of a whole group is the group's batch, with the serial of
