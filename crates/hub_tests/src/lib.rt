@@ -11,6 +11,8 @@ mod link;
 #[cfg(test)]
 mod link_tests;
 #[cfg(test)]
+mod loop_tests;
+#[cfg(test)]
 mod race_tests;
 #[cfg(test)]
 mod waking_tests;

@@ -1,8 +1,8 @@
-//! What the loops do over links in memory.
-use crate::{ReadEnd, ShellEnd, WriteEnd, read_peer, read_shell, write_peer};
+//! What the loops do over links in memory: answers, frames, and bad sizes.
+use crate::link::LIMITS;
 use hub_lock::{Gate, Hub};
+use peer_link::{ReadEnd, ShellEnd, WriteEnd, read_peer, read_shell, write_peer};
 use relay_model::{EndCause, Role};
-use seat_steps::Limits;
 use std::alloc::Global;
 use std::sync::Wait;
 use std::test::Fail;
@@ -15,12 +15,6 @@ impl Gate for Open {
 
     fn after(&self, _peer: u32, _step: u64) {}
 }
-
-const LIMITS: Limits = Limits {
-    entries: 1_000_000,
-    store: 65_536,
-    weight: 134_217_728,
-};
 
 fn source(alloc: Global, bytes: &[u8]) -> Result<MemSource, Fail> {
     Ok(MemSource::new(bytes.to_vec(alloc)?, 7, Vec::new(alloc)))
