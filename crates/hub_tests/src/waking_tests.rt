@@ -49,6 +49,26 @@ struct Asks {
     told: u64,
 }
 
+// Asks, and waits until all was taken.
+fn ask_once<R: Wait + Clock>(
+    rt: &R,
+    alloc: Global,
+    hub: &Hub,
+    reader: &mut ReaderPass,
+    taken: &AtomicU64,
+    told: u64,
+    id: u32,
+)
+    requires own { IsOf hub.now reader.old.seat }
+    ensures own { IsOf hub.now reader.new.seat }
+{
+    let Ok(step) = ask(alloc, id) else {
+        return;
+    };
+    let _answer = hub.submit(rt, reader, &step);
+    wait_for(rt, taken, reader.steps().saturating_mul(told));
+}
+
 // Asks again and again, each time when all was taken, and ends.
 fn ask_often<R: Wait + Clock>(
     rt: &R,
@@ -61,11 +81,7 @@ fn ask_often<R: Wait + Clock>(
     requires own { IsOf hub.now reader.seat }
 {
     for id in 2..asks.times.saturating_add(2) {
-        let Ok(step) = ask(alloc, id) else {
-            break;
-        };
-        let _answer = hub.submit(rt, &mut reader, &step);
-        wait_for(rt, taken, reader.steps().saturating_mul(asks.told));
+        ask_once(rt, alloc, hub, &mut reader, taken, asks.told, id);
     }
     let _answer = hub.submit(rt, &mut reader, &PeerStep::Gone);
     reader.steps()
