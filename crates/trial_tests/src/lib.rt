@@ -5,4 +5,6 @@
 #[cfg(test)]
 mod client_side_tests;
 #[cfg(test)]
+mod gen_run_tests;
+#[cfg(test)]
 mod session_gen_tests;
