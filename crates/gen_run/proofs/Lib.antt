@@ -1,0 +1,10 @@
+mod EventsCounted
+mod GeneratedSteps
+mod PutSums
+mod LongerJournals
+mod RoomLeft
+mod TalliedSums
+mod StepsTaken
+mod LinesReplayed
+mod RunGoesOn
+mod TextFronts

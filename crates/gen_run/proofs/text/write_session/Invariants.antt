@@ -1,0 +1,15 @@
+use Rattle.std.proofs.Common.{◌≤◌, ◌-◌, string_bytes}
+use Rattle.session_gen.specs.Generated.{step_count}
+use Rattle.gen_run.specs.Writing.{Writes}
+use Rattle.gen_run.proofs.RunGoesOn.{IsRunOf}
+use Rattle.gen_run.proofs.text.write_session.Given as goal
+
+abbrev pub invariant-steps : goal.invariant-steps
+invariant-steps g l = record {
+  run : IsRunOf l.number l.run;
+  writes : Writes l.run (string_bytes l.page) (g.K.Sink.held l.initial.output) (g.K.Sink.held l.output);
+  later : g.K.Sink.fault_count l.initial.output ≤ g.K.Sink.fault_count l.output;
+}
+
+abbrev pub decreases-steps : goal.decreases-steps
+decreases-steps g l = step_count - l.run.session.made

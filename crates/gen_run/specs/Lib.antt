@@ -1,0 +1,11 @@
+pub mod Steps
+pub mod Room
+pub mod Journals
+pub mod Events
+pub mod Counts
+pub mod Tallies
+pub mod Runs
+pub mod Summary
+pub mod Texts
+pub mod Writing
+pub mod Laws

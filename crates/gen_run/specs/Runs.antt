@@ -1,0 +1,16 @@
+-- A generated session as far as it is run.
+use Rattle.std.specs.Prelude.{◌≡◌, ◌≤◌}
+use Rattle.session_gen.specs.Generated.{step_count}
+use Rattle.gen_run.specs.declared.running.Run.{Run}
+use Rattle.gen_run.specs.Journals.{limits, journal_of}
+use Rattle.gen_run.specs.Tallies.{tally_of}
+
+-- its steps so far were made, played and counted
+pub record Stands (run : Run) : Type 0 where
+  pub few : run.session.made ≤ step_count
+  pub played : run.shared ≡ record {
+    limits = limits;
+    journal = journal_of run.session.number run.session.made;
+    stamps = run.shared.stamps;
+  }
+  pub counted : run.tally ≡ tally_of (journal_of run.session.number run.session.made)
