@@ -82,7 +82,6 @@ fn two<'a, R: Wait>(
     root: &mut HubPass,
 ) -> Result<Vec<Link<'a>>, Fail>
     requires own { IsOf hub.now root.old }
-    requires room { root.old.next ≤ 1 }
     ensures own { IsOf hub.now root.new }
 {
     let mut links = Vec::new(alloc);

@@ -104,7 +104,6 @@ fn jobs<'a, R: Wait>(
     root: &mut HubPass,
 ) -> Result<Vec<Job<'a>>, Fail>
     requires own { IsOf hub.now root.old }
-    requires room { root.old.next ≤ 1 }
     ensures own { IsOf hub.now root.new }
 {
     let mut jobs = Vec::new(alloc);

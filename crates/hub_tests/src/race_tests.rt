@@ -35,7 +35,6 @@ fn eight<'a, R: Wait>(
     root: &mut HubPass,
 ) -> Result<Vec<Link<'a>>, Fail>
     requires own { IsOf hub.now root.old }
-    requires room { root.old.next ≤ 1 }
     ensures own { IsOf hub.now root.new }
 {
     let mut links = Vec::new(alloc);
