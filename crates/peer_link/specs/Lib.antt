@@ -8,3 +8,5 @@ pub mod ShellLines
 pub mod ShellAnswers
 pub mod ReadsShell
 pub mod Submits
+pub mod Ordering
+pub mod Written

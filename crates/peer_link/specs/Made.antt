@@ -26,7 +26,7 @@ pub record SawMore (limits : Limits) (before after : History) : Type 0 where
 
 -- a journal that was seen was full for the entry, and held so much
 pub record HasSeenFull (limits : Limits) (seen : History) (e : Entry) (kept : Kept) : Type 0 where
-  pub then : History
+  pub earlier : History
   pub later : History
-  pub is : seen ≡ then ++ later
-  pub full : full_in limits (journal_of limits then) e ≡ Some kept
+  pub is : seen ≡ earlier ++ later
+  pub full : full_in limits (journal_of limits earlier) e ≡ Some kept

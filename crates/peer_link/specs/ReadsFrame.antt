@@ -45,6 +45,16 @@ pub record OneFrame (taken : List ℕ) (f : Frame) : Type 0 where
   pub is : IsFrame f
   pub spelled : taken ≡ spelling f
 
+-- all steps of a frame were made, or not all were taken, or with the last the peer has ended
+abbrev pub MakesFrame : Limits → (before after : PeerPass) → (waiting waiting_after : List ℕ) → Frame
+    → Result (Unit {0}) ReadEnd → Type 0
+MakesFrame limits before after waiting waiting_after f (Ok done) =
+    (entries_by after.seat ≡ entries_by before.seat ++ frame_steps before.peer waiting f)
+    × (waiting_after ≡ behind (waiting ++ f.bytes)) × (bad_size_at waiting_after ≡ None)
+MakesFrame limits before after waiting waiting_after f (Err end) =
+    MadeFirst limits before after (frame_steps before.peer waiting f) end
+    ⊎ EndedAfter limits before after (frame_steps before.peer waiting f) end
+
 -- what was read: a frame whose steps were made, one whose steps weren't all taken, or none
 abbrev pub ReadsFrame : Limits → (before after : PeerPass) → (waiting waiting_after taken : List ℕ) → (left : Option (List ℕ))
     → Result (Unit {0}) ReadEnd → Type 0

@@ -4,7 +4,7 @@ use Rattle.std.specs.Io.KnownBytes.{IsAtEnd}
 use Rattle.wio_core.specs.Lines.{LacksFeed, BeginsWithLine}
 use Rattle.seat_steps.specs.declared.step.ShellStep.{ShellStep}
 use Rattle.session_text.specs.declared.line.Form.TheVariants.{Shell}
-use Rattle.session_text.specs.declared.line.Line.TheVariants as line
+use Rattle.session_text.specs.declared.line.Line.TheVariants as text
 use Rattle.session_text.specs.Reading.{line_of}
 
 -- lines with their line feeds
@@ -42,7 +42,7 @@ AreLines bytes lines left =
 
 -- the order that a line gives
 abbrev pub IsOrder : List ℕ → ShellStep → Type 0
-IsOrder line step = line_of Shell line ≡ Some (line.Shell step)
+IsOrder line step = line_of Shell line ≡ Some (text.Shell step)
 
 -- the lines give these orders, one each
 abbrev pub AreOrders : List (List ℕ) → List ShellStep → Type 0

@@ -2,6 +2,8 @@
 use Rattle.std.specs.Prelude.{◌≡◌, ℕ, List, [], ◌∷◌, ◌++◌, Some, None, Result, Ok, Err}
 use Rattle.relay_model.specs.declared.act.EndCause.TheVariants.{Bad}
 use Rattle.seat_steps.specs.declared.limits.Limits.{Limits}
+use Rattle.seat_steps.specs.declared.step.PeerStep.{PeerStep}
+use Rattle.seat_steps.specs.declared.step.PeerStep.TheVariants as peers
 use Rattle.wl_wire.specs.Messages.{bad_size_at}
 use Rattle.broker_model.specs.declared.journal.Entry.{Entry}
 use Rattle.broker_core.specs.Broker.{full_in}
@@ -38,6 +40,20 @@ Submits limits before after steps (Err end) = MadeFirst limits before after step
 -- the peer has ended for a refused message
 abbrev pub HasEndedBad : Limits → PeerPass → Type 0
 HasEndedBad limits p = end_of (journal_of limits p.seat.seen) p.peer ≡ Some Bad
+
+-- so it is, if the step was a header with a bad size
+abbrev pub EndedIfBad : Limits → PeerPass → PeerStep → Type 0
+EndedIfBad limits p (peers.BadSize head) = HasEndedBad limits p
+EndedIfBad limits p _ = Unit {0}
+
+-- the end of a link isn't refused but because its peer had ended
+abbrev pub IsGoneRefusal : ReadEnd → Type 0
+IsGoneRefusal (ends.Ended cause) = Unit {0}
+IsGoneRefusal _ = ⊥
+
+abbrev pub IsRefusal : PeerStep → ReadEnd → Type 0
+IsRefusal peers.Gone end = IsGoneRefusal end
+IsRefusal _ end = Unit {0}
 
 -- bytes wait for more, which stand behind the whole messages, or a bad size has ended the peer
 abbrev pub LeavesOff : Limits → PeerPass → (bytes waiting : List ℕ) → Ahead → Type 0

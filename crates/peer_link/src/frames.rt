@@ -1,5 +1,5 @@
 //! A frame of a peer's link: its tokens, and then what its bytes complete.
-ghost use Rattle.std.specs.Prelude.{◌≡◌, ◌++◌, ◌≤◌, None, length, IfOk};
+ghost use Rattle.std.specs.Prelude.{◌≡◌, ◌++◌, ◌≤◌, None, Err, length, IfOk};
 ghost use Rattle.desc_frame.specs.Frames.{frame};
 ghost use Rattle.wl_wire.specs.Messages.{bad_size_at};
 ghost use Rattle.wl_wire.specs.Streams.{begun};
@@ -8,11 +8,13 @@ ghost use Rattle.hub_lock.specs.Calls.{pass_having_seen};
 ghost use Rattle.peer_link.specs.Made.{SawMore};
 ghost use Rattle.peer_link.specs.LinkSteps.{token_steps, frame_steps};
 ghost use Rattle.peer_link.specs.Submits.{Submits, LeavesOff};
+ghost use Rattle.peer_link.specs.ReadsFrame.{MakesFrame};
 
 use crate::ends::ReadEnd;
 use crate::messages::{Ahead, submit_messages};
 use crate::step::submit_step;
 use hub_lock::{Gate, Hub, ReaderPass};
+use relay_model::EndCause;
 use seat_steps::{PeerStep, TokenList};
 use std::alloc::Global;
 use std::sync::Wait;
@@ -43,9 +45,9 @@ fn submit_tokens<R: Wait, G: Gate>(
     submit_step(rt, hub, pass, gate, &PeerStep::Tokens(list))
 }
 
-/// Submits the steps of a frame: its tokens, where it has any, and then each message, and the bad
-/// size, that its bytes complete.
-pub(crate) fn submit_frame<R: Wait, G: Gate>(
+// Submits the steps of a frame: its tokens, where it has any, and then each message, and the bad
+// size, that its bytes complete.
+fn submit_frame<R: Wait, G: Gate>(
     rt: &R,
     alloc: Global,
     hub: &Hub,
@@ -57,7 +59,7 @@ pub(crate) fn submit_frame<R: Wait, G: Gate>(
 ) -> Result<Ahead, ReadEnd>
     requires own { IsOf hub.now pass.old.seat }
     requires few { length tokens.now ≤ 256 }
-    requires open { bad_size_at (begun assembler.old) ≡ None }
+    requires good { bad_size_at (begun assembler.old) ≡ None }
     ensures pass { pass.new ≡ pass_having_seen pass.old pass.new.seat.seen }
     ensures saw { SawMore hub.now.limits pass.old.seat.seen pass.new.seat.seen }
     ensures made { Submits hub.now.limits pass.old pass.new
@@ -67,4 +69,31 @@ pub(crate) fn submit_frame<R: Wait, G: Gate>(
 {
     submit_tokens(rt, alloc, hub, pass, gate, tokens)?;
     submit_messages(rt, alloc, hub, pass, gate, assembler, bytes)
+}
+
+/// Submits the steps of a frame, and says how the link ends where it ends with it.
+pub(crate) fn play_frame<R: Wait, G: Gate>(
+    rt: &R,
+    alloc: Global,
+    hub: &Hub,
+    pass: &mut ReaderPass,
+    gate: &G,
+    assembler: &mut Assembler,
+    bytes: &[u8],
+    tokens: &[u32],
+) -> Result<(), ReadEnd>
+    requires own { IsOf hub.now pass.old.seat }
+    requires few { length tokens.now ≤ 256 }
+    requires good { bad_size_at (begun assembler.old) ≡ None }
+    ensures pass { pass.new ≡ pass_having_seen pass.old pass.new.seat.seen }
+    ensures saw { SawMore hub.now.limits pass.old.seat.seen pass.new.seat.seen }
+    ensures makes { MakesFrame hub.now.limits pass.old pass.new (begun assembler.old)
+        (begun assembler.new) (frame bytes.now tokens.now) result }
+    ensures unread { ¬ (result ≡ Err ReadEnd.ReadFault) }
+{
+    match submit_frame(rt, alloc, hub, pass, gate, assembler, bytes, tokens) {
+        Ok(Ahead::More) => Ok(()),
+        Ok(Ahead::Nothing) => Err(ReadEnd::Ended(EndCause::Bad)),
+        Err(end) => Err(end),
+    }
 }

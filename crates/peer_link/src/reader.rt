@@ -1,5 +1,5 @@
 //! The reading of a peer's link.
-ghost use Rattle.std.specs.Prelude.{◌≡◌, ◌++◌, ◌≤◌, ℕ, List, None};
+ghost use Rattle.std.specs.Prelude.{◌≡◌, ◌≤◌, ℕ, List, Option, None, Err};
 ghost use Rattle.wio_core.specs.Io.{Rose, StaysQuiet};
 ghost use Rattle.wio_core.specs.Lines.{TookFrom};
 ghost use Rattle.wl_wire.specs.Messages.{bad_size_at};
@@ -12,12 +12,10 @@ ghost use Rattle.peer_link.specs.ReadsPeer.{ReadsPeer};
 ghost use Rattle.peer_link.specs.ReadsFrame.{ReadsFrame, ReadsLink};
 
 use crate::ends::ReadEnd;
-use crate::frames::submit_frame;
-use crate::messages::Ahead;
+use crate::frames::play_frame;
 use crate::step::submit_step;
 use desc_frame::{FrameReader, Got};
 use hub_lock::{Gate, Hub, ReaderPass};
-use relay_model::EndCause;
 use seat_steps::PeerStep;
 use std::alloc::Global;
 use std::sync::Wait;
@@ -37,7 +35,7 @@ fn read_frame<R: Wait, S: Source, G: Gate>(
     tokens: &mut [u32; 256],
 ) -> Result<(), ReadEnd>
     requires own { IsOf hub.now pass.old.seat }
-    requires open { bad_size_at (begun assembler.old) ≡ None }
+    requires good { bad_size_at (begun assembler.old) ≡ None }
     ensures pass { pass.new ≡ pass_having_seen pass.old pass.new.seat.seen }
     ensures saw { SawMore hub.now.limits pass.old.seat.seen pass.new.seat.seen }
     ensures reads { (taken : List ℕ)
@@ -55,10 +53,7 @@ fn read_frame<R: Wait, S: Source, G: Gate>(
     match reader.next(source, bytes, tokens) {
         Got::Bytes(n, t) => {
             let (bytes, tokens) = (&bytes[..n], &tokens[..t]);
-            match submit_frame(rt, alloc, hub, pass, gate, assembler, bytes, tokens)? {
-                Ahead::More => Ok(()),
-                Ahead::Nothing => Err(ReadEnd::Ended(EndCause::Bad)),
-            }
+            play_frame(rt, alloc, hub, pass, gate, assembler, bytes, tokens)
         }
         Got::End => Err(ReadEnd::Closed),
         Got::Torn(n) => Err(ReadEnd::Torn(n)),

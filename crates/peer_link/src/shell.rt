@@ -1,11 +1,12 @@
 //! The link of a shell.
-ghost use Rattle.std.specs.Prelude.{◌≡◌, ◌≤◌, ℕ, List};
+ghost use Rattle.std.specs.Prelude.{◌≡◌, ◌≤◌, ◌<◌, ◌^◌, ℕ, List, Option, OnOk, Err};
 ghost use Rattle.wio_core.specs.Io.{Rose, StaysQuiet};
 ghost use Rattle.wio_core.specs.Lines.{TookFrom};
 ghost use Rattle.turn_lock.specs.Pairs.{NoneOf};
 ghost use Rattle.turn_lock.specs.Sights.{having_seen};
-ghost use Rattle.hub_lock.specs.Passes.{IsOf};
+ghost use Rattle.hub_lock.specs.Passes.{IsOf, steps_of};
 ghost use Rattle.peer_link.specs.Made.{SawMore};
+ghost use Rattle.peer_link.specs.Ordering.{CanGoOn, Serving, ServesOn};
 ghost use Rattle.peer_link.specs.ReadsShell.{ReadsShell};
 
 use crate::answer::write_answer;
@@ -25,7 +26,30 @@ fn serve_line<R: Wait, S: Source, K: Sink>(
     reader: &mut LineReader,
     source: &mut S,
     sink: &mut K,
-) -> Result<(), ShellEnd> {
+) -> Result<(), ShellEnd>
+    requires own { IsOf hub.now pass.old }
+    requires ahead { CanGoOn reader.old }
+    requires few { steps_of pass.old < 2 ^ 32 }
+    ensures pass { pass.new ≡ having_seen pass.old pass.new.seen }
+    ensures saw { SawMore hub.now.limits pass.old.seen pass.new.seen }
+    ensures serves { (given left held : Option (List ℕ)) (read : List ℕ)
+        → TookFrom given (S.given source.old) left (S.left source.old) read
+        → Serving hub.now.limits pass.old reader.old read (S.left source.old) held (K.held sink.old)
+        → (later : List ℕ) × TookFrom given (S.given source.new) left (S.left source.new) later
+        × ServesOn hub.now.limits pass.new reader.new later (S.left source.new)
+        held (K.held sink.new) result }
+    ensures ahead { OnOk result (CanGoOn reader.new) }
+    ensures few { OnOk result (steps_of pass.new < 2 ^ 32) }
+    ensures given_quiet { StaysQuiet (S.given source.old) (S.given source.new) }
+    ensures left_quiet { StaysQuiet (S.left source.old) (S.left source.new) }
+    ensures held_quiet { StaysQuiet (K.held sink.old) (K.held sink.new) }
+    ensures reads_never_fall { S.fault_count source.old ≤ S.fault_count source.new }
+    ensures writes_never_fall { K.fault_count sink.old ≤ K.fault_count sink.new }
+    ensures read_fault { result ≡ Err ShellEnd.ReadFault
+        → Rose (S.fault_count source.old) (S.fault_count source.new) }
+    ensures write_fault { result ≡ Err ShellEnd.WriteFault
+        → Rose (K.fault_count sink.old) (K.fault_count sink.new) }
+{
     let number = pass.steps() + 1;
     let step = read_order(alloc, reader, source, number)?;
     let applied = give_order(rt, hub, pass, &step)?;

@@ -1,19 +1,45 @@
 //! One step of a peer's link.
-ghost use Rattle.std.specs.Prelude.{◌≡◌, ◌∷◌, []};
+ghost use Rattle.std.specs.Prelude.{◌≡◌, ◌∷◌, [], Err, OnOk, IfErr};
+ghost use Rattle.seat_steps.specs.declared.step.Step.TheVariants as steps;
 ghost use Rattle.broker_core.specs.Broker.{peer_entry};
 ghost use Rattle.seat_steps.specs.Ranges.{IsPeerStep};
 ghost use Rattle.hub_lock.specs.Passes.{IsOf};
-ghost use Rattle.hub_lock.specs.Calls.{pass_having_seen};
+ghost use Rattle.hub_lock.specs.Calls.{LegalStep, UnlessMemory, pass_having_seen};
 ghost use Rattle.peer_link.specs.Made.{SawMore};
-ghost use Rattle.peer_link.specs.Submits.{Submits};
+ghost use Rattle.peer_link.specs.Submits.{Submits, EndedIfBad, IsRefusal};
 
 use crate::ends::ReadEnd;
-use broker_core::Refused;
+use broker_core::{Applied, Refused};
 use hub_lock::{Gate, Hub, ReaderPass};
 use seat_steps::PeerStep;
 use std::sync::Wait;
 
-/// Submits a step, and tells the gate before and after.
+// Submits a step, and tells the gate before and after.
+fn submit_gated<R: Wait, G: Gate>(
+    rt: &R,
+    hub: &Hub,
+    pass: &mut ReaderPass,
+    gate: &G,
+    step: &PeerStep,
+) -> Result<Applied, Refused>
+    requires own { IsOf hub.now pass.old.seat }
+    requires step { IsPeerStep step.now }
+    ensures pass { pass.new ≡ pass_having_seen pass.old pass.new.seat.seen }
+    ensures legal { UnlessMemory step.now
+        ((pass.new ≡ pass.old) × (result ≡ Err Refused.NoMemory))
+        (LegalStep hub.now.limits pass.old.seat pass.new.seat.seen
+        (steps.Peer pass.old.peer step.now) result) }
+    ensures joined { ¬ (result ≡ Err Refused.NoPeer) }
+{
+    let peer = pass.peer();
+    let number = pass.steps().saturating_add(1);
+    gate.before(peer, number);
+    let answer = hub.submit(rt, pass, step);
+    gate.after(peer, number);
+    answer
+}
+
+/// Submits a step, and says how the link ends where it wasn't taken.
 pub(crate) fn submit_step<R: Wait, G: Gate>(
     rt: &R,
     hub: &Hub,
@@ -27,13 +53,10 @@ pub(crate) fn submit_step<R: Wait, G: Gate>(
     ensures saw { SawMore hub.now.limits pass.old.seat.seen pass.new.seat.seen }
     ensures made { Submits hub.now.limits pass.old pass.new
         (peer_entry pass.old.peer step.now ∷ []) result }
+    ensures ended { OnOk result (EndedIfBad hub.now.limits pass.new step.now) }
+    ensures refusal { IfErr result (IsRefusal step.now) }
 {
-    let peer = pass.peer();
-    let number = pass.steps().saturating_add(1);
-    gate.before(peer, number);
-    let answer = hub.submit(rt, pass, step);
-    gate.after(peer, number);
-    match answer {
+    match submit_gated(rt, hub, pass, gate, step) {
         Ok(_) => Ok(()),
         Err(Refused::Ended(cause)) => Err(ReadEnd::Ended(cause)),
         Err(Refused::JournalFull(kept)) => Err(ReadEnd::JournalFull(kept)),

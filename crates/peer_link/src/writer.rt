@@ -1,5 +1,5 @@
 //! The writing to a peer's link.
-ghost use Rattle.std.specs.Prelude.{◌≡◌, ◌≤◌, Some};
+ghost use Rattle.std.specs.Prelude.{◌≡◌, ◌≤◌, ℕ, List, Option, Some, Err};
 ghost use Rattle.wio_core.specs.Io.{Rose, StaysQuiet};
 ghost use Rattle.turn_lock.specs.Pairs.{NoneOf};
 ghost use Rattle.hub_lock.specs.Histories.{writer_of};
@@ -7,6 +7,7 @@ ghost use Rattle.hub_lock.specs.Passes.{IsOf};
 ghost use Rattle.hub_lock.specs.Calls.{pass_having_seen};
 ghost use Rattle.peer_link.specs.Made.{SawMore};
 ghost use Rattle.peer_link.specs.WritesPeer.{WritesPeer};
+ghost use Rattle.peer_link.specs.Written.{Writing, WritesOn};
 
 use crate::ends::WriteEnd;
 use broker_core::Took;
@@ -14,6 +15,39 @@ use desc_frame::FrameWriter;
 use hub_lock::{Hub, WriterPass};
 use std::sync::Wait;
 use wio_core::{Failed, Sink};
+
+// Takes once, and writes it as a frame.
+fn write_next<R: Wait, K: Sink>(
+    rt: &R,
+    hub: &Hub,
+    pass: &mut WriterPass,
+    sink: &mut K,
+    bytes: &mut [u8; 4096],
+    tokens: &mut [u32; 256],
+) -> Result<(), WriteEnd>
+    requires own { IsOf hub.now pass.old.seat }
+    requires writes { writer_of pass.old.seat.seen pass.old.peer ≡ Some pass.old.seat.number }
+    ensures pass { pass.new ≡ pass_having_seen pass.old pass.new.seat.seen }
+    ensures saw { SawMore hub.now.limits pass.old.seat.seen pass.new.seat.seen }
+    ensures writes_on { (held : Option (List ℕ))
+        → Writing hub.now.limits pass.old held (K.held sink.old)
+        → WritesOn hub.now.limits pass.new held (K.held sink.new) result }
+    ensures quiet { StaysQuiet (K.held sink.old) (K.held sink.new) }
+    ensures never_falls { K.fault_count sink.old ≤ K.fault_count sink.new }
+    ensures cause { result ≡ Err WriteEnd.WriteFault
+        → Rose (K.fault_count sink.old) (K.fault_count sink.new) }
+{
+    match hub.wait_take(rt, pass, bytes, tokens) {
+        Took::Bytes(n, t) => match FrameWriter::put(sink, &bytes[..n], &tokens[..t]) {
+            Ok(()) => Ok(()),
+            Err(Failed) => Err(WriteEnd::WriteFault),
+        },
+        Took::Closed => Err(WriteEnd::Closed),
+        Took::JournalFull(kept) => Err(WriteEnd::JournalFull(kept)),
+        Took::NoMemory => Err(WriteEnd::NoMemory),
+        Took::NoPeer | Took::Empty => unreachable!(),
+    }
+}
 
 /// Takes what is stored for the pass's peer, as it comes, and writes what each take gave as one
 /// frame.
@@ -29,7 +63,6 @@ pub fn write_peer<R: Wait, K: Sink>(
 ) -> WriteEnd
     requires own { IsOf hub.now pass.old.seat }
     requires fresh { NoneOf pass.old.seat.number pass.old.seat.seen }
-    requires writes { writer_of pass.old.seat.seen pass.old.peer ≡ Some pass.old.seat.number }
     ensures pass { pass.new ≡ pass_having_seen pass.old pass.new.seat.seen }
     ensures saw { SawMore hub.now.limits pass.old.seat.seen pass.new.seat.seen }
     ensures law { WritesPeer hub.now.limits pass.new
@@ -39,6 +72,8 @@ pub fn write_peer<R: Wait, K: Sink>(
     ensures cause { result ≡ WriteEnd.WriteFault
         → Rose (K.fault_count sink.old) (K.fault_count sink.new) }
 {
+    // Whose writer the pass is, its contract tells with the number.
+    let _ = pass.peer();
     let mut bytes = [0; 4096];
     let mut tokens = [0; 256];
     for _ in rt.forever() {
@@ -47,25 +82,4 @@ pub fn write_peer<R: Wait, K: Sink>(
         }
     }
     unreachable!()
-}
-
-// Takes once, and writes it as a frame.
-fn write_next<R: Wait, K: Sink>(
-    rt: &R,
-    hub: &Hub,
-    pass: &mut WriterPass,
-    sink: &mut K,
-    bytes: &mut [u8; 4096],
-    tokens: &mut [u32; 256],
-) -> Result<(), WriteEnd> {
-    match hub.wait_take(rt, pass, bytes, tokens) {
-        Took::Bytes(n, t) => match FrameWriter::put(sink, &bytes[..n], &tokens[..t]) {
-            Ok(()) => Ok(()),
-            Err(Failed) => Err(WriteEnd::WriteFault),
-        },
-        Took::Closed => Err(WriteEnd::Closed),
-        Took::JournalFull(kept) => Err(WriteEnd::JournalFull(kept)),
-        Took::NoMemory => Err(WriteEnd::NoMemory),
-        Took::NoPeer | Took::Empty => unreachable!(),
-    }
 }

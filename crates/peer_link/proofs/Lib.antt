@@ -1,0 +1,10 @@
+pub mod StepsMade
+pub mod StepsRefused
+pub mod AnswersGrow
+pub mod ShellServed
+pub mod OutGrows
+pub mod TakesWritten
+pub mod MessagesMade
+pub mod FramesRead
+pub mod BadSizeEnds
+pub mod LinesLooked

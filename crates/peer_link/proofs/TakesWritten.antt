@@ -1,0 +1,505 @@
+-- What a take of a peer's writer comes to
+use Rattle.std.proofs.Common.{◌≡◌, ◌≢◌, ℕ, zero, suc, ◌+◌, ◌-◌, ◌<◌, ◌≤◌, Bool, true, false, List, [], ◌∷◌, ◌++◌, length, map, reverse, take, drop, min, Option, Some, None, refl, sym, ap, ap₂, ◌∙◌, subst, ◌⊎◌, inl, inr, arith, append_assoc, append-nil, length-append, length-take, length-drop}
+use Rattle.std.specs.Prelude.{if◌then◌else◌, ◌==◌, sum, option_map, IfSome, IfNone}
+use Rattle.std.specs.List.{sum_by, AllByRecursion}
+use Rattle.std.specs.Io.KnownBytes.{Appends}
+use Rattle.std.proofs.KnownBytes.{Appends-trans}
+use Rattle.std.proofs.lemmas.Bool.{eq-eqb, eqb-true}
+use Rattle.std.proofs.lemmas.List.{map-append, reverse-append, length-take-le, length-map, take_at}
+use Rattle.std.proofs.lemmas.List.Sums.{sum_by-cons, sum_by-append}
+use Rattle.relay_model.specs.declared.act.EndCause.{EndCause}
+use Rattle.seat_steps.specs.declared.limits.Limits.{Limits}
+use Rattle.seat_steps.specs.Ranges.{IsWithin}
+use Rattle.wl_wire.specs.Messages.{joined}
+use Rattle.broker_model.specs.declared.journal.Entry.{Entry}
+use Rattle.broker_model.specs.declared.journal.Entry.TheVariants as entries
+use Rattle.broker_model.specs.declared.journal.Kept.{Kept}
+use Rattle.broker_model.specs.Groups.{Token, Piece}
+use Rattle.broker_model.specs.Ids.{Joined, peer_at}
+use Rattle.broker_model.specs.Resolve.{past_of}
+use Rattle.broker_model.specs.Out.{Outgoing, stored, tokens_taken, out_for}
+use Rattle.broker_model.specs.Settle.{settle, history}
+use Rattle.broker_core.specs.declared.answers.Took.{Took}
+use Rattle.broker_core.specs.declared.answers.Took.TheVariants as took
+use Rattle.broker_core.specs.Broker.{Broker, full_in, full_for, nothing_left, take_refusal, take_refusal_from, IfBytes, IfNoBytes, IsBytesUnlessMemory}
+use Rattle.broker_core.specs.Stands.{end_of}
+use Rattle.broker_core.specs.Taking.{out_at, IsTaken}
+use Rattle.turn_lock.specs.Pairs.{own, NoneOf}
+use Rattle.turn_lock.proofs.PairsOfNumbers.{none-append}
+use Rattle.hub_lock.specs.declared.step.OuterStep.{OuterStep}
+use Rattle.hub_lock.specs.Histories.{History, entries_of, broker_of, writer_of, only}
+use Rattle.hub_lock.specs.Lawful.{IsMadeBy, AreMadeBy, IsLawful}
+use Rattle.hub_lock.specs.Passes.{PassSeat, PeerPass}
+use Rattle.hub_lock.specs.Calls.{Legal, TakesInto, IsTake, pass_having_seen}
+use Rattle.hub_lock.proofs.HistoriesGrow.{entries-more}
+use Rattle.hub_lock.proofs.ReadersStay.{writer-stays}
+use Rattle.hub_lock.proofs.LegalCalls.{writer-joined}
+use Rattle.desc_frame.specs.Frames.{Frame, frame, spelling}
+use Rattle.peer_link.specs.declared.ends.WriteEnd.{WriteEnd}
+use Rattle.peer_link.specs.declared.ends.WriteEnd.TheVariants as ends
+use Rattle.peer_link.specs.Made.{entries_by, journal_of, SawMore}
+use Rattle.peer_link.specs.Gains.{Gains, GainsCut}
+use Rattle.peer_link.specs.WritesPeer.{frame_at, frames_from, frames_of, is_cut, EndsAs, WritesPeer}
+use Rattle.peer_link.specs.Written.{Written, Writing, WritesOn}
+use Rattle.peer_link.proofs.StepsMade.{entries-same, entries-one}
+use Rattle.peer_link.proofs.ShellServed.{joined-more}
+use Rattle.peer_link.proofs.OutGrows.{Begins, begins-long, GoesOn, settle-goes, settle-keeps, history-keeps, took_of, IsOnly, only-one, history-goes, own-took, frame-stays, frames-stay, frames-more}
+
+-- a pass that made no step of a history took nothing in it, for the peer whose writer it is
+
+entries-cons : (x : ℕ × OuterStep) (xs : History) → entries_of (x ∷ xs) ≡ entries_of xs ++ x.1.entry ∷ []
+entries-cons x xs = reverse-append (x.1.entry ∷ []) (map (λ (s : ℕ × OuterStep). s.1.entry) xs)
+
+entries-append : (a b : History) → entries_of (a ++ b) ≡ entries_of b ++ entries_of a
+entries-append a b =
+    ap reverse (map-append (λ (s : ℕ × OuterStep). s.1.entry) a b)
+    ∙ reverse-append (map (λ (s : ℕ × OuterStep). s.1.entry) a) (map (λ (s : ℕ × OuterStep). s.1.entry) b)
+
+made-back : (h a b : History) → AreMadeBy h (a ++ b) → AreMadeBy h b
+made-back h [] b m = m
+made-back h (x ∷ a) b m = made-back h a b m.1
+
+made_else : (h : History) (q n m : ℕ) (e : Entry) → IsMadeBy h m e → writer_of h q ≡ Some n → (m == n) ≡ false → took_of q e ≡ 0
+made_else h q n m (entries.Took k c) made w other = by (k == q) refl
+  where
+    by : (b : Bool) → (k == q) ≡ b → (if b then c else 0) ≡ 0
+    by true same =
+        let same : Some m ≡ Some n = sym made.0 ∙ ap (writer_of h) (eqb-true k q same) ∙ w in
+        let number : m ≡ n = cc in
+        let yes = eq-eqb m n number in cc
+    by false same = refl
+made_else h q n m (entries.Join role) made w other = refl
+made_else h q n m (entries.Message k id opcode body) made w other = refl
+made_else h q n m (entries.Tokens k tokens) made w other = refl
+made_else h q n m (entries.BadSize k head) made w other = refl
+made_else h q n m (entries.End k cause) made w other = refl
+made_else h q n m (entries.Shell step) made w other = refl
+
+took-none : (h rest : History) (q n : ℕ) → AreMadeBy h rest → writer_of h q ≡ Some n → NoneOf n rest → sum_by (took_of q) (entries_of rest) ≡ 0
+took-none h [] q n made w free = refl
+took-none h (x ∷ rest) q n made w free =
+    let parts = ap (sum_by (took_of q)) (entries-cons x rest) in
+    let both = sum_by-append (took_of q) (entries_of rest) (x.1.entry ∷ []) in
+    let one = sum_by-cons (took_of q) x.1.entry [] in
+    let zero_is : sum_by (took_of q) [] ≡ 0 = refl in
+    let here = by (x.0 == n) refl free in
+    let later = took-none h rest q n made.1 w here.1 in
+    let none = here.0 in omega (arith, parts, both, one, zero_is, later, none)
+  where
+    by : (b : Bool) → (x.0 == n) ≡ b → (if b then x.1 ∷ own n rest else own n rest) ≡ [] → (took_of q x.1.entry ≡ 0) × NoneOf n rest
+    by true e f = absurd (cc)
+    by false e f = (made_else h q n x.0 x.1.entry made.0 w e, f)
+
+-- what is out for the peer where the take is played
+
+record Standing (limits : Limits) (h : History) (q : ℕ) (held now : Option (List ℕ)) (sizes : List ℕ) : Type 0 where
+  peer : Joined
+  there : peer_at (past_of (journal_of limits h)) q ≡ Some peer
+  front : sum sizes ≤ length (out_for limits.store (journal_of limits h) peer.label).put.bytes
+  taken : (out_for limits.store (journal_of limits h) peer.label).taken ≡ sum sizes
+  gained : Appends held now (joined (map spelling (frames_of (out_for limits.store (journal_of limits h) peer.label).put sizes)))
+
+journal-both : (limits : Limits) (seen rest : History)
+    → journal_of limits (seen ++ rest) ≡ history limits.store (entries_of rest ++ entries_of seen)
+journal-both limits seen rest = ap (history limits.store) (entries-append seen rest)
+
+from-nothing : (limits : Limits) (h : History) (q n : ℕ) (held now : Option (List ℕ)) → IsLawful limits h → writer_of h q ≡ Some n
+    → NoneOf n h → Appends held now [] → Standing limits h q held now []
+from-nothing limits h q n held now l w free gained =
+    let p = writer-joined limits h q n l w in
+    let none = took-none h h q n l.made_by w free in
+    let all : journal_of limits h ≡ history limits.store (entries_of h ++ []) = ap (history limits.store) (sym (append-nil (entries_of h))) in
+    let only : IsOnly (history limits.store (entries_of h ++ [])) q p.0.label =
+    subst (λ (J : List Entry). IsOnly J q p.0.label) all (only-one (journal_of limits h) q p.0 p.1) in
+    let goes = history-goes limits.store (entries_of h) [] q p.0.label only none in
+    let goes_here : GoesOn 0 (out_for limits.store [] p.0.label) (out_for limits.store (journal_of limits h) p.0.label) =
+    subst (λ (J : List Entry). GoesOn 0 (out_for limits.store [] p.0.label) (out_for limits.store J p.0.label)) (sym all) goes in
+    record { peer = p.0; there = p.1; front = omega arith; taken = goes_here.taken; gained = gained }
+
+from-before : (limits : Limits) (seen rest : History) (q n : ℕ) (held now : Option (List ℕ)) (sizes : List ℕ) → IsLawful limits (seen ++ rest)
+    → writer_of (seen ++ rest) q ≡ Some n → NoneOf n rest → Standing limits seen q held now sizes → Standing limits (seen ++ rest) q held now sizes
+from-before limits seen rest q n held now sizes l w free s =
+    let es : List Entry = entries_of rest in
+    let base : List Entry = entries_of seen in
+    let both = journal-both limits seen rest in
+    let none = took-none (seen ++ rest) rest q n (made-back (seen ++ rest) seen rest l.made_by) w free in
+    let there : peer_at (past_of (history limits.store (es ++ base))) q ≡ Some s.peer = history-keeps limits.store es base q s.peer s.there in
+    let only = only-one (history limits.store (es ++ base)) q s.peer there in
+    let goes = history-goes limits.store es base q s.peer.label only none in
+    let a : Outgoing = out_for limits.store (journal_of limits seen) s.peer.label in
+    let goes_here : GoesOn 0 a (out_for limits.store (journal_of limits (seen ++ rest)) s.peer.label) =
+    subst (λ (J : List Entry). GoesOn 0 a (out_for limits.store J s.peer.label)) (sym both) goes in
+    let b : Outgoing = out_for limits.store (journal_of limits (seen ++ rest)) s.peer.label in
+    let long = begins-long a.put b.put goes_here.put in
+    let front = s.front in
+    let taken = s.taken in
+    let more = goes_here.taken in
+    record {
+      peer = s.peer;
+      there = ap (λ (J : List Entry). peer_at (past_of J) q) both ∙ there;
+      front = omega (arith, front, long);
+      taken = omega (arith, taken, more);
+      gained = subst (λ (fs : List Frame). Appends held now (joined (map spelling fs)))
+          (sym (frames-stay a.put b.put 0 sizes goes_here.put (omega (arith, front)))) s.gained;
+    }
+
+some-out : (capacity : ℕ) (journal : List Entry) (q : ℕ) (out : Outgoing) (o : Option Joined) → peer_at (past_of journal) q ≡ o
+    → option_map (λ (peer : Joined). out_for capacity journal peer.label) o ≡ Some out
+    → (peer : Joined) × (peer_at (past_of journal) q ≡ Some peer) × (out_for capacity journal peer.label ≡ out)
+some-out capacity journal q out None e is = absurd (cc)
+some-out capacity journal q out (Some peer) e is = (peer, e, (let same : Some (out_for capacity journal peer.label) ≡ Some out = is in cc))
+
+none-of : (xs : List OuterStep) → map (λ (s : OuterStep). s.entry) xs ≡ [] → xs ≡ []
+none-of [] e = refl
+none-of (x ∷ xs) e = absurd (cc)
+
+-- the takes so far, and what is out for the peer by them, at the history where the next call is played
+record Before (limits : Limits) (pass : PeerPass) (h : History) (held now : Option (List ℕ)) : Type 0 where
+  sizes : List ℕ
+  each : AllByRecursion (IsWithin 4096) sizes
+  takes : entries_by pass.seat ≡ map (λ n. entries.Took pass.peer n) sizes
+  stands : Standing limits h pass.peer held now sizes
+
+before-call : (limits : Limits) (pass : PeerPass) (rest : History) (held now : Option (List ℕ))
+    → writer_of pass.seat.seen pass.peer ≡ Some pass.seat.number → NoneOf pass.seat.number rest → IsLawful limits (pass.seat.seen ++ rest)
+    → Writing limits pass held now → Before limits pass (pass.seat.seen ++ rest) held now
+before-call limits pass rest held now w free l (inl k) =
+    let mine : NoneOf pass.seat.number pass.seat.seen = none-of (own pass.seat.number pass.seat.seen) k.0 in
+    let w_now = writer-stays pass.seat.seen rest pass.peer pass.seat.number w in
+    record {
+      sizes = [];
+      each = tt;
+      takes = k.0;
+      stands = from-nothing limits (pass.seat.seen ++ rest) pass.peer pass.seat.number held now l w_now
+          (none-append pass.seat.number pass.seat.seen rest mine free) k.1;
+    }
+before-call limits pass rest held now w free l (inr k) =
+    let J : List Entry = journal_of limits pass.seat.seen in
+    let p = some-out limits.store J pass.peer k.out (peer_at (past_of J) pass.peer) refl k.queued in
+    let w_now = writer-stays pass.seat.seen rest pass.peer pass.seat.number w in
+    record {
+      sizes = k.sizes;
+      each = k.each;
+      takes = k.takes;
+      stands = from-before limits pass.seat.seen rest pass.peer pass.seat.number held now k.sizes l w_now free (record {
+        peer = p.0;
+        there = p.1;
+        front = subst (λ (o : Outgoing). sum k.sizes ≤ length o.put.bytes) (sym p.2) k.front;
+        taken = ap (λ (o : Outgoing). o.taken) p.2 ∙ k.taken;
+        gained = subst (λ (o : Outgoing). Appends held now (joined (map spelling (frames_of o.put k.sizes)))) (sym p.2) k.gained;
+      });
+    }
+
+-- what a take answers
+
+abbrev IsAnswer : Broker → ℕ → Outgoing → Took → Type 0
+IsAnswer b q out r = IfSome (take_refusal_from b q (Some out)) (λ why. r ≡ why)
+    × IfNone (take_refusal_from b q (Some out)) (IsBytesUnlessMemory r)
+
+abbrev by_stored : Broker → ℕ → Bool → Option Took
+by_stored b q t = (if t then Some (nothing_left (end_of b.journal q)) else option_map (λ kept. took.JournalFull kept) (full_for b (entries.Took q 0)))
+
+bytes-some : (b : Broker) (q : ℕ) (out : Outgoing) (n t : ℕ) → IsAnswer b q out (took.Bytes n t) → 1 ≤ length (stored out)
+bytes-some b q out n t a = by (length (stored out)) refl a
+  where
+    left : (o : Option EndCause) → took.Bytes n t ≡ nothing_left o → ⊥
+    left None e = absurd (cc)
+    left (Some cause) e = absurd (cc)
+    by : (k : ℕ) → length (stored out) ≡ k
+        → IfSome (by_stored b q (k == 0)) (λ why. took.Bytes n t ≡ why) × IfNone (by_stored b q (k == 0)) (IsBytesUnlessMemory (took.Bytes n t))
+        → 1 ≤ length (stored out)
+    by zero e k = absurd (left (end_of b.journal q) k.0)
+    by (suc m) e k = omega (arith, e)
+
+record IsClosed (b : Broker) (q : ℕ) (out : Outgoing) : Type 0 where
+  none : length (stored out) ≡ 0
+  cause : EndCause
+  ended : end_of b.journal q ≡ Some cause
+
+closed-is : (b : Broker) (q : ℕ) (out : Outgoing) → IsAnswer b q out took.Closed → IsClosed b q out
+closed-is b q out a = by (length (stored out) == 0) refl a
+  where
+    full : (o : Option Kept) → IfSome (option_map (λ kept. took.JournalFull kept) o) (λ why. took.Closed ≡ why)
+        → IfNone (option_map (λ kept. took.JournalFull kept) o) (IsBytesUnlessMemory took.Closed) → ⊥
+    full None x y = y
+    full (Some kept) x y = absurd (cc)
+    left : (o : Option EndCause) → end_of b.journal q ≡ o → length (stored out) ≡ 0 → took.Closed ≡ nothing_left o → IsClosed b q out
+    left None e z x = absurd (cc)
+    left (Some cause) e z x = record { none = z; cause = cause; ended = e }
+    by : (t : Bool) → (length (stored out) == 0) ≡ t
+        → IfSome (by_stored b q t) (λ why. took.Closed ≡ why) × IfNone (by_stored b q t) (IsBytesUnlessMemory took.Closed)
+        → IsClosed b q out
+    by true e k = left (end_of b.journal q) refl (eqb-true (length (stored out)) 0 e) k.0
+    by false e k = absurd (full (full_for b (entries.Took q 0)) k.0 k.1)
+
+full-is : (b : Broker) (q : ℕ) (out : Outgoing) (kept : Kept) → IsAnswer b q out (took.JournalFull kept) → full_for b (entries.Took q 0) ≡ Some kept
+full-is b q out kept a = by (length (stored out) == 0) a
+  where
+    full : (o : Option Kept) → full_for b (entries.Took q 0) ≡ o → IfSome (option_map (λ kept. took.JournalFull kept) o) (λ why. took.JournalFull kept ≡ why)
+        → IfNone (option_map (λ kept. took.JournalFull kept) o) (IsBytesUnlessMemory (took.JournalFull kept)) → full_for b (entries.Took q 0) ≡ Some kept
+    full None e x y = absurd y
+    full (Some k) e x y = e ∙ (let same : took.JournalFull kept ≡ took.JournalFull k = x in let less : k ≡ kept = cc in ap (λ k. Some k) less)
+    left : (o : Option EndCause) → took.JournalFull kept ≡ nothing_left o → ⊥
+    left None x = absurd (cc)
+    left (Some cause) x = absurd (cc)
+    by : (t : Bool) → IfSome (by_stored b q t) (λ why. took.JournalFull kept ≡ why) × IfNone (by_stored b q t) (IsBytesUnlessMemory (took.JournalFull kept))
+        → full_for b (entries.Took q 0) ≡ Some kept
+    by true k = absurd (left (end_of b.journal q) k.0)
+    by false k = full (full_for b (entries.Took q 0)) refl k.0 k.1
+
+-- of a call of the pass
+
+module _ (limits : Limits) (pass pass' : PeerPass) (held now : Option (List ℕ)) (buf places buf' places' : List ℕ) (r : Took)
+    (is : pass' ≡ pass_having_seen pass pass'.seat.seen) (w : writer_of pass.seat.seen pass.peer ≡ Some pass.seat.number)
+    (k : IsTake limits pass pass' buf places buf' places' r) where
+
+  abbrev turn : History
+  turn = pass.seat.seen ++ k.rest
+
+  abbrev journal : List Entry
+  journal = journal_of limits turn
+
+  before : Writing limits pass held now → Before limits pass turn held now
+  before s = before-call limits pass k.rest held now w k.apart k.lawful s
+
+  same-peer : pass'.peer ≡ pass.peer
+  same-peer = ap (λ (p : PeerPass). p.peer) is
+
+  abbrev out_by : Joined → Outgoing
+  out_by peer = out_for limits.store journal peer.label
+
+  out-here : (peer : Joined) → peer_at (past_of journal) pass.peer ≡ Some peer → out_at limits.store journal pass.peer ≡ Some (out_by peer)
+  out-here peer e = ap (option_map (λ (peer : Joined). out_by peer)) e
+
+  answer-here : (peer : Joined) → peer_at (past_of journal) pass.peer ≡ Some peer → IsAnswer (broker_of limits turn) pass.peer (out_by peer) r
+  answer-here peer e = (
+    subst (λ (o : Option Outgoing). IfSome (take_refusal_from (broker_of limits turn) pass.peer o) (λ why. r ≡ why)) (out-here peer e) k.answer.refused,
+    subst (λ (o : Option Outgoing). IfNone (take_refusal_from (broker_of limits turn) pass.peer o) (IsBytesUnlessMemory r)) (out-here peer e) k.answer.accepted,
+  )
+
+  -- nothing was taken
+
+  ends-so : (end : WriteEnd) → pass'.seat.seen ≡ turn → is_cut end ≡ false → (b : Before limits pass turn held now)
+      → EndsAs limits pass' (out_by b.stands.peer) b.sizes end → WritesPeer limits pass' held now end
+  ends-so end same uncut b e = record {
+    sizes = b.sizes;
+    each = b.each;
+    takes = ap (λ (p : PeerPass). entries_by p.seat) is ∙ entries-same pass.seat k.rest pass'.seat.seen k.apart same ∙ b.takes
+        ∙ ap (λ q. map (λ n. entries.Took q n) b.sizes) (sym same-peer);
+    out = out_by b.stands.peer;
+    queued = ap₂ (λ (h : History) q. out_at limits.store (journal_of limits h) q) same same-peer ∙ out-here b.stands.peer b.stands.there;
+    front = b.stands.front;
+    taken = b.stands.taken;
+    gained = subst (λ t. Gains t held now (map spelling (frames_of (out_by b.stands.peer).put b.sizes))) (sym uncut) b.stands.gained;
+    ends = e;
+  }
+
+  same-seen : (x : Took) → r ≡ x → IfNoBytes x (pass'.seat.seen ≡ turn)
+  same-seen x e = subst (λ (y : Took). IfNoBytes y (pass'.seat.seen ≡ turn)) e k.answer.same
+
+  pub closes : r ≡ took.Closed → Writing limits pass held now → WritesPeer limits pass' held now ends.Closed
+  closes e s =
+      let same : pass'.seat.seen ≡ turn = same-seen took.Closed e in
+      let b = before s in
+      let o : Outgoing = out_by b.stands.peer in
+      let c = closed-is (broker_of limits turn) pass.peer o
+      (subst (λ (x : Took). IsAnswer (broker_of limits turn) pass.peer o x) e (answer-here b.stands.peer b.stands.there)) in
+      let left = length-drop o.taken o.put.bytes in
+      let none = c.none in
+      let taken = b.stands.taken in
+      let front = b.stands.front in
+      ends-so ends.Closed same refl b (
+        (c.cause, ap₂ (λ (h : History) q. end_of (journal_of limits h) q) same same-peer ∙ c.ended),
+        omega (arith, left, none, taken, front),
+      )
+
+  pub fills : (kept : Kept) → r ≡ took.JournalFull kept → Writing limits pass held now
+      → WritesPeer limits pass' held now (ends.JournalFull kept)
+  fills kept e s =
+      let same : pass'.seat.seen ≡ turn = same-seen (took.JournalFull kept) e in
+      let b = before s in
+      let o : Outgoing = out_by b.stands.peer in
+      ends-so (ends.JournalFull kept) same refl b
+      (ap₂ (λ (h : History) q. full_in limits (journal_of limits h) (entries.Took q 0)) same same-peer
+      ∙ full-is (broker_of limits turn) pass.peer o kept
+      (subst (λ (x : Took). IsAnswer (broker_of limits turn) pass.peer o x) e (answer-here b.stands.peer b.stands.there)))
+
+  pub lacks : r ≡ took.NoMemory → Writing limits pass held now → WritesPeer limits pass' held now ends.NoMemory
+  lacks e s = ends-so ends.NoMemory (same-seen took.NoMemory e) refl (before s) tt
+
+  -- so many bytes were taken, which are still to be written
+
+  pub record OneMore (n t : ℕ) : Type 0 where
+    pub sizes : List ℕ
+    pub each : AllByRecursion (IsWithin 4096) (sizes ++ n ∷ [])
+    pub takes : entries_by pass'.seat ≡ map (λ n. entries.Took pass'.peer n) (sizes ++ n ∷ [])
+    pub out : Outgoing
+    pub queued : out_at limits.store (journal_of limits pass'.seat.seen) pass'.peer ≡ Some out
+    pub front : sum (sizes ++ n ∷ []) ≤ length out.put.bytes
+    pub taken : out.taken ≡ sum (sizes ++ n ∷ [])
+    pub frames : frames_of out.put (sizes ++ n ∷ []) ≡ frames_of out.put sizes ++ frame (take n buf') (take t places') ∷ []
+    pub gained : Appends held now (joined (map spelling (frames_of out.put sizes)))
+
+  sum-more : (xs : List ℕ) (n : ℕ) → sum (xs ++ n ∷ []) ≡ sum xs + n
+  sum-more xs n =
+      let both = sum_by-append (λ (x : ℕ). x) xs (n ∷ []) in
+      let one = sum_by-cons (λ (x : ℕ). x) n [] in
+      let none : sum [] ≡ 0 = refl in omega (arith, both, one, none)
+
+  each-more : (xs : List ℕ) (n : ℕ) → AllByRecursion (IsWithin 4096) xs → IsWithin 4096 n → AllByRecursion (IsWithin 4096) (xs ++ n ∷ [])
+  each-more [] n a i = (i, tt)
+  each-more (x ∷ xs) n a i = (a.0, each-more xs n a.1 i)
+
+  taken-here : (n t : ℕ) → r ≡ took.Bytes n t → (peer : Joined) → peer_at (past_of journal) pass.peer ≡ Some peer
+      → IsTaken (out_by peer) journal pass.peer buf places (n, t) buf' places' (entries.Took pass.peer n ∷ journal)
+  taken-here n t e peer there =
+      let some = subst (λ (o : Option Outgoing). IfSome o (λ out. IfBytes r (λ counts. IsTaken out journal pass.peer buf places counts buf' places'
+      (entries.Took pass.peer counts.0 ∷ journal)))) (out-here peer there) k.answer.bytes in
+      subst (λ (x : Took). IfBytes x (λ counts. IsTaken (out_by peer) journal pass.peer buf places counts buf' places'
+      (entries.Took pass.peer counts.0 ∷ journal))) e some
+
+  longer-here : (n t : ℕ) → r ≡ took.Bytes n t → pass'.seat.seen ≡ turn ++ (pass.seat.number, only (entries.Took pass.peer n)) ∷ []
+  longer-here n t e =
+      subst (λ (x : Took). IfBytes x (λ counts. pass'.seat.seen ≡ turn ++ (pass.seat.number, only (entries.Took pass.peer counts.0)) ∷ [])) e k.answer.taken
+
+  frame-here : (n t : ℕ) (o : Outgoing) → IsTaken o journal pass.peer buf places (n, t) buf' places' (entries.Took pass.peer n ∷ journal)
+      → n ≤ length (stored o) → frame_at o.put o.taken n ≡ frame (take n buf') (take t places')
+  frame-here n t o i le =
+      ap₂ (λ (bs : List ℕ) (ts : List ℕ). frame bs ts)
+      (sym (ap (take n) i.bytes ∙ take_at (take n (stored o)) (drop n buf) n (length-take-le n (stored o) le)))
+      (sym (ap (take t) i.tokens ∙ take_at (map (λ (t : Token). t.token) (tokens_taken n o)) (drop t places) t
+      (length-map (tokens_taken n o) (λ (t : Token). t.token) ∙ sym i.token_count)))
+
+  pub one-more : (n t : ℕ) → r ≡ took.Bytes n t → length buf ≡ 4096 → Writing limits pass held now → OneMore n t
+  one-more n t e size s =
+      let b = before s in
+      let peer = b.stands.peer in
+      let o : Outgoing = out_by peer in
+      let i = taken-here n t e peer b.stands.there in
+      let longer = longer-here n t e in
+      let some = bytes-some (broker_of limits turn) pass.peer o n t
+      (subst (λ (x : Took). IsAnswer (broker_of limits turn) pass.peer o x) e (answer-here peer b.stands.there)) in
+      let count : n ≡ min 4096 (length (stored o)) = i.count ∙ ap (λ m. min m (length (stored o))) size in
+      let few : IsWithin 4096 n = (grind (arith, count, some), grind (arith, count)) in
+      let less : n ≤ length (stored o) = grind (arith, count) in
+      let J' : List Entry = settle limits.store (entries.Took pass.peer n ∷ journal) in
+      let later : journal_of limits pass'.seat.seen ≡ J' =
+      ap (journal_of limits) longer ∙ ap (history limits.store) (entries-more turn pass.seat.number (only (entries.Took pass.peer n))) in
+      let o' : Outgoing = out_for limits.store J' peer.label in
+      let goes : GoesOn n o o' =
+      settle-goes limits.store (entries.Took pass.peer n) journal peer.label n (own-took pass.peer n journal peer b.stands.there) in
+      let there : peer_at (past_of J') pass.peer ≡ Some peer = settle-keeps limits.store (entries.Took pass.peer n) journal pass.peer peer b.stands.there in
+      let long = begins-long o.put o'.put goes.put in
+      let left = length-drop o.taken o.put.bytes in
+      let taken = b.stands.taken in
+      let front = b.stands.front in
+      let more = goes.taken in
+      let total = sum-more b.sizes n in
+      let at : o.taken ≡ sum b.sizes = taken in
+      let fits : 0 + sum b.sizes + n ≤ length o.put.bytes = omega (arith, left, taken, front, less) in record {
+        sizes = b.sizes;
+        each = each-more b.sizes n b.each few;
+        takes = ap (λ (p : PeerPass). entries_by p.seat) is
+            ∙ entries-one pass.seat k.rest pass'.seat.seen (entries.Took pass.peer n) k.apart longer
+            ∙ ap (λ (es : List Entry). es ++ entries.Took pass.peer n ∷ []) b.takes
+            ∙ sym (map-append (λ (n : ℕ). entries.Took pass.peer n) b.sizes (n ∷ []))
+            ∙ ap (λ q. map (λ n. entries.Took q n) (b.sizes ++ n ∷ [])) (sym same-peer);
+        out = o';
+        queued = ap₂ (λ (J : List Entry) q. out_at limits.store J q) later same-peer
+            ∙ ap (option_map (λ (peer : Joined). out_for limits.store J' peer.label)) there;
+        front = omega (arith, total, long, fits);
+        taken = omega (arith, total, more, taken);
+        frames = frames-more o'.put 0 b.sizes n
+            ∙ ap (λ (f : Frame). frames_of o'.put b.sizes ++ f ∷ [])
+            (frame-stays o.put o'.put (0 + sum b.sizes) n goes.put fits
+            ∙ ap (λ m. frame_at o.put m n) {x = 0 + sum b.sizes} {y = o.taken} (omega (arith, at))
+            ∙ frame-here n t o i less);
+        gained = subst (λ (fs : List Frame). Appends held now (joined (map spelling fs)))
+            (sym (frames-stay o.put o'.put 0 b.sizes goes.put (omega (arith, front)))) b.stands.gained;
+      }
+
+  pub wrote : (n t : ℕ) (now' : Option (List ℕ)) → OneMore n t → Appends now now' (spelling (frame (take n buf') (take t places')))
+      → Writing limits pass' held now'
+  wrote n t now' m a =
+      let f : Frame = frame (take n buf') (take t places') in
+      inr (record {
+        sizes = m.sizes ++ n ∷ [];
+        each = m.each;
+        takes = m.takes;
+        out = m.out;
+        queued = m.queued;
+        front = m.front;
+        taken = m.taken;
+        gained = subst (λ (fs : List (List ℕ)). Appends held now' (joined fs))
+            (sym (ap (map spelling) m.frames ∙ map-append spelling (frames_of m.out.put m.sizes) (f ∷ [])))
+            (subst (Appends held now') (sym (joined-more (map spelling (frames_of m.out.put m.sizes)) (spelling f)))
+            (Appends-trans held now now' (joined (map spelling (frames_of m.out.put m.sizes))) (spelling f) m.gained a));
+      })
+
+  pub wrote-part : (n t : ℕ) (now' : Option (List ℕ)) (part : ℕ) → OneMore n t
+      → part < length (spelling (frame (take n buf') (take t places')))
+      → Appends now now' (take part (spelling (frame (take n buf') (take t places')))) → WritesPeer limits pass' held now' ends.WriteFault
+  wrote-part n t now' part m short a =
+      let f : Frame = frame (take n buf') (take t places') in
+      record {
+        sizes = m.sizes ++ n ∷ [];
+        each = m.each;
+        takes = m.takes;
+        out = m.out;
+        queued = m.queued;
+        front = m.front;
+        taken = m.taken;
+        gained = record {
+          before = map spelling (frames_of m.out.put m.sizes);
+          last = spelling f;
+          pieces_are = ap (map spelling) m.frames ∙ map-append spelling (frames_of m.out.put m.sizes) (f ∷ []);
+          count = part;
+          short = short;
+          gained = Appends-trans held now now' (joined (map spelling (frames_of m.out.put m.sizes))) (take part (spelling f)) m.gained a;
+        };
+        ends = tt;
+      }
+
+-- a take's counts are within a frame's limits
+
+pub record IsSized (n t : ℕ) (bytes tokens : List ℕ) : Type 0 where
+  pub some : 1 ≤ n
+  pub few : n ≤ 4096
+  pub tokens_few : t ≤ 256
+
+pub sized : (limits : Limits) (pass pass' : PeerPass) (buf places buf' places' : List ℕ) (r : Took) (n t : ℕ)
+    → IsTake limits pass pass' buf places buf' places' r → writer_of pass.seat.seen pass.peer ≡ Some pass.seat.number
+    → r ≡ took.Bytes n t → length buf ≡ 4096 → length places ≡ 256 → length places' ≡ 256 → IsSized n t buf' places'
+sized limits pass pass' buf places buf' places' r n t k w e size room room' =
+    let turn : History = pass.seat.seen ++ k.rest in
+    let J : List Entry = journal_of limits turn in
+    let w_now = writer-stays pass.seat.seen k.rest pass.peer pass.seat.number w in
+    let p = writer-joined limits turn pass.peer pass.seat.number k.lawful w_now in
+    let o : Outgoing = out_for limits.store J p.0.label in
+    let out : out_at limits.store J pass.peer ≡ Some o = ap (option_map (λ (peer : Joined). out_for limits.store J peer.label)) p.1 in
+    let some = subst (λ (o : Option Outgoing). IfSome o (λ out. IfBytes r (λ counts. IsTaken out J pass.peer buf places counts buf' places'
+    (entries.Took pass.peer counts.0 ∷ J)))) out k.answer.bytes in
+    let i = subst (λ (x : Took). IfBytes x (λ counts. IsTaken o J pass.peer buf places counts buf' places'
+    (entries.Took pass.peer counts.0 ∷ J))) e some in
+    let a : IsAnswer (broker_of limits turn) pass.peer o r = (
+      subst (λ (o : Option Outgoing). IfSome (take_refusal_from (broker_of limits turn) pass.peer o) (λ why. r ≡ why)) out k.answer.refused,
+      subst (λ (o : Option Outgoing). IfNone (take_refusal_from (broker_of limits turn) pass.peer o) (IsBytesUnlessMemory r)) out k.answer.accepted,
+    ) in
+    let full = bytes-some (broker_of limits turn) pass.peer o n t (subst (λ (x : Took). IsAnswer (broker_of limits turn) pass.peer o x) e a) in
+    let count : n ≡ min 4096 (length (stored o)) = i.count ∙ ap (λ m. min m (length (stored o))) size in
+    let tokens = ap length i.tokens in
+    let sum = length-append (map (λ (t : Token). t.token) (tokens_taken n o)) (drop t places) in
+    let each = length-map (tokens_taken n o) (λ (t : Token). t.token) in
+    let c = i.token_count in
+    record { some = grind (arith, count, full); few = grind (arith, count); tokens_few = omega (arith, tokens, sum, each, c, room') }
+
+-- the pass stays its peer's writer
+pub writes-on : (limits : Limits) (a b : PeerPass) → b ≡ pass_having_seen a b.seat.seen → SawMore limits a.seat.seen b.seat.seen
+    → writer_of a.seat.seen a.peer ≡ Some a.seat.number → writer_of b.seat.seen b.peer ≡ Some b.seat.number
+writes-on limits a b is s w =
+    ap₂ (λ (h : History) q. writer_of h q) s.grew (ap (λ (p : PeerPass). p.peer) is)
+    ∙ writer-stays a.seat.seen s.more a.peer a.seat.number w ∙ ap (λ (p : PeerPass). Some p.seat.number) (sym is)
+
+pub own-by-peer : (p : PeerPass) (q : ℕ) → q ≡ p.peer → writer_of p.seat.seen q ≡ Some p.seat.number
+    → writer_of p.seat.seen p.peer ≡ Some p.seat.number
+own-by-peer p q e w = ap (writer_of p.seat.seen) (sym e) ∙ w

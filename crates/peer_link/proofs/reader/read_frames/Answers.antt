@@ -1,0 +1,64 @@
+use Rattle.std.proofs.Common.{◌≡◌, ◌≤◌, ◌++◌, [], refl, sym, ap, subst, arith}
+use Rattle.wio_core.proofs.Gathered.{TookFrom-both}
+use Rattle.wl_wire.specs.Messages.{bad_size_at}
+use Rattle.wl_wire.specs.Streams.{Assembly, begun}
+use Rattle.peer_link.proofs.StepsMade.{saw-none, saw-both, pass-both}
+use Rattle.peer_link.proofs.ShellServed.{entries-none, took-none}
+use Rattle.peer_link.proofs.MessagesMade.{same-peer}
+use Rattle.peer_link.proofs.FramesRead.{Reading, reading-begins, reading-goes, reading-ends, nothing-read}
+use Rattle.peer_link.proofs.reader.read_frames.Goals as goal
+
+pub returns-in-Err-clause-reads : goal.returns-in-Err-clause-reads
+returns-in-Err-clause-reads g c = (
+  [],
+  took-none (g.S.Source.given c.args.source.now) (g.S.Source.left c.args.source.now),
+  nothing-read c.args.hub.now.limits c.args.pass.now (g.S.Source.left c.args.source.now) (entries-none c.args.pass.now.seat c.requires.fresh),
+)
+
+pub loop-init : goal.loop-init
+loop-init g c = record {
+  pass = refl;
+  saw = saw-none c.args.hub.now.limits c.args.pass.now.seat.seen;
+  reads = (
+      [],
+      took-none (g.S.Source.given c.args.source.now) (g.S.Source.left c.args.source.now),
+      subst (λ (a : Assembly). Reading c.args.pass.now.peer c.args.pass.now [] (begun a)) (sym c.in-Ok.ensures.empty)
+          (reading-begins c.args.pass.now.peer c.args.pass.now (entries-none c.args.pass.now.seat c.requires.fresh)),
+  );
+  good = ap (λ (a : Assembly). bad_size_at (begun a)) c.in-Ok.ensures.empty;
+  given_quiet = λ e. e;
+  left_quiet = λ e. e;
+  faults = omega arith;
+}
+
+pub loop-preserved : goal.loop-preserved
+loop-preserved g c =
+    let i = c.loop.invariant in
+    let e = c.in_default.ensures in
+    let r = e.reads in record {
+      pass = pass-both c.args.pass.now c.loop.pass c.read_frame.new.pass i.pass e.pass;
+      saw = saw-both c.args.hub.now.limits c.args.pass.now.seat.seen c.loop.pass.seat.seen c.read_frame.new.pass.seat.seen i.saw e.saw;
+      reads = (
+          i.reads.0 ++ r.0,
+          TookFrom-both (g.S.Source.given c.args.source.now) (g.S.Source.given c.loop.source) (g.S.Source.given c.read_frame.new.source)
+    (g.S.Source.left c.args.source.now) (g.S.Source.left c.loop.source) (g.S.Source.left c.read_frame.new.source) i.reads.0 r.0 i.reads.1 r.1,
+          reading-goes c.args.pass.now.peer c.loop.pass c.read_frame.new.pass i.reads.0 (begun c.loop.assembler)
+              (begun c.read_frame.new.assembler) r.0 r.2.0 (same-peer c.args.pass.now c.loop.pass i.pass) i.reads.2 r.2.1 r.2.2 r.2.3,
+      );
+      good = r.2.4;
+      given_quiet = λ n. e.given_quiet (i.given_quiet n);
+      left_quiet = λ n. e.left_quiet (i.left_quiet n);
+      faults = (let a = i.faults in let b = e.never_falls in omega (arith, a, b));
+    }
+
+pub returns-in-Err-read_frame-clause-reads : goal.returns-in-Err-read_frame-clause-reads
+returns-in-Err-read_frame-clause-reads g c =
+    let i = c.loop.invariant in
+    let r = c.in-Err-read_frame.ensures.reads in (
+      i.reads.0 ++ r.0,
+      TookFrom-both (g.S.Source.given c.args.source.now) (g.S.Source.given c.loop.source) (g.S.Source.given c.read_frame.new.source)
+    (g.S.Source.left c.args.source.now) (g.S.Source.left c.loop.source) (g.S.Source.left c.read_frame.new.source) i.reads.0 r.0 i.reads.1 r.1,
+      reading-ends c.args.hub.now.limits c.args.pass.now.peer c.loop.pass c.read_frame.new.pass i.reads.0 (begun c.loop.assembler)
+          (begun c.read_frame.new.assembler) r.0 (g.S.Source.left c.read_frame.new.source) c.in-Err-read_frame.end
+          (same-peer c.args.pass.now c.loop.pass i.pass) c.in-Err-read_frame.ensures.pass i.reads.2 r.2,
+    )
