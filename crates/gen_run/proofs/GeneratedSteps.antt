@@ -1,16 +1,15 @@
 -- Each generated step is one that a line of form 1 can give: a join, a message, something that the shell says, or a take.
-use Rattle.std.proofs.Common.{◌≡◌, ℕ, zero, suc, ◌+◌, ◌-◌, ◌*◌, ◌/◌, ◌%◌, ◌^◌, ◌<◌, ◌≤◌, List, [], ◌∷◌, ◌++◌, length, map, Option, Some, None, refl, sym, ap, subst, ◌∙◌, arith}
-use Rattle.std.specs.Prelude.{codes, pos, unwrap_or, IfSome}
+use Rattle.std.proofs.Common.{◌≡◌, ℕ, zero, suc, ◌-◌, ◌%◌, ◌^◌, ◌<◌, ◌≤◌, List, [], ◌∷◌, ◌++◌, map, refl, sym, subst, arith}
+use Rattle.std.specs.Prelude.{codes, pos, unwrap_or}
 use Rattle.std.specs.List.{slice_get, AllByRecursion}
 use Rattle.seat_steps.specs.declared.step.Step.{Step}
 use Rattle.seat_steps.specs.declared.step.Step.TheVariants as steps
 use Rattle.seat_steps.specs.declared.step.PeerStep.TheVariants as peers
 use Rattle.seat_steps.specs.Ranges.{IsBody}
-use Rattle.wl_wire.specs.Spelling.{text_len}
 use Rattle.wl_proto.specs.declared.request.Request.TheVariants as requests
 use Rattle.wl_proto.specs.Grammar.{Value, word, signed, text, null, token}
 use Rattle.wl_proto.specs.Rows.{Message, request_message}
-use Rattle.wl_proto.specs.Spelling.{value_len, values_len, spelling, message_len}
+use Rattle.wl_proto.specs.Spelling.{value_len, values_len, message_len}
 use Rattle.wl_proto.proofs.Whole.{spelling_length}
 use Rattle.session_gen.specs.Sending.{sends, set_surrounding_text, commit_string, set_preedit_string}
 use Rattle.session_gen.specs.Setup.{Sent, sent_by, app_messages, method_messages, app_steps, method_steps, setup}

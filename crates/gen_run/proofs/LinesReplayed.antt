@@ -3,7 +3,6 @@ use Rattle.std.proofs.Common.{◌≡◌, ℕ, zero, suc, ◌+◌, ◌<◌, ◌�
 use Rattle.std.specs.Prelude.{if◌then◌else◌, min, nat_le, ◌==◌}
 use Rattle.std.specs.List.{AllByRecursion}
 use Rattle.relay_model.specs.declared.role.Role.{Role}
-use Rattle.seat_steps.specs.declared.limits.Limits.{Limits}
 use Rattle.seat_steps.specs.declared.step.Step.{Step}
 use Rattle.seat_steps.specs.declared.step.Step.TheVariants as steps
 use Rattle.seat_steps.specs.declared.step.PeerStep.TheVariants as peers
@@ -16,14 +15,13 @@ use Rattle.broker_model.specs.Limits.{weight_of, is_full}
 use Rattle.broker_model.specs.Out.{stored, out_for}
 use Rattle.broker_model.specs.Resolve.{past_of}
 use Rattle.broker_model.specs.Settle.{number_alive, settle}
-use Rattle.broker_core.specs.Broker.{Broker}
 use Rattle.broker_core.specs.Taking.{lives}
 use Rattle.session_play.specs.Played.{Waiting, Play, Played, went, with_step, step_played, steps_played, with_unread, unread_by, unread_of, bytes_played, with_peer, join_played, take_played, line_played}
 use Rattle.session_play.specs.Steps.{steps_in, behind}
 use Rattle.session_play.specs.Laws.{lines_played, unplayed}
 use Rattle.session_play.proofs.PrintedStepsAlone.{printed_steps}
 use Rattle.session_gen.specs.Generated.{step_count}
-use Rattle.gen_run.specs.Steps.{after_join, after_taken, after_take, after_step}
+use Rattle.gen_run.specs.Steps.{after_join, after_take, after_step}
 use Rattle.gen_run.specs.Room.{HasRoom}
 use Rattle.gen_run.specs.Journals.{limits, put_sum, method_dones, journal_of, step_at}
 use Rattle.gen_run.specs.Laws.{lines_up_to, LinesReplay}

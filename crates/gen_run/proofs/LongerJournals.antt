@@ -1,5 +1,5 @@
 -- How a journal grows by a step: it only goes on, by at most one counted entry, one peer that joins, and few ends.
-use Rattle.std.proofs.Common.{◌≡◌, ℕ, zero, suc, ◌+◌, ◌*◌, ◌<◌, ◌≤◌, List, [], ◌∷◌, ◌++◌, length, Bool, true, false, cond, Option, Some, None, refl, sym, ap, subst, ◌∙◌, arith, append_assoc, length-append}
+use Rattle.std.proofs.Common.{◌≡◌, ℕ, zero, suc, ◌+◌, ◌<◌, ◌≤◌, List, [], ◌∷◌, ◌++◌, length, Bool, true, false, cond, Option, Some, None, refl, sym, ap, ◌∙◌, arith, append_assoc, length-append}
 use Rattle.std.specs.Prelude.{if◌then◌else◌, min, nat_le, ◌==◌, not}
 use Rattle.std.specs.List.{count_by}
 use Rattle.std.proofs.lemmas.List.Sums.{sum_by-cons}
@@ -13,7 +13,7 @@ use Rattle.broker_model.specs.Ids.{Joined, peer_at}
 use Rattle.broker_model.specs.Limits.{is_end, is_counted, number_counted, weight_of, weight}
 use Rattle.broker_model.specs.Out.{stored, out_for}
 use Rattle.broker_model.specs.Resolve.{with_joined, past_of}
-use Rattle.broker_model.specs.Settle.{due, cause_of, with_end, settled, number_alive, settle}
+use Rattle.broker_model.specs.Settle.{due, cause_of, with_end, settled, number_alive}
 use Rattle.broker_model.proofs.Settling.{ends_fewer}
 use Rattle.broker_core.specs.Taking.{lives}
 use Rattle.broker_core.proofs.AliveAfterEntry.{counted_cons, weight_cons, same_settled, alive_plain, alive_join}

@@ -1,6 +1,6 @@
 -- Sums over what was put: of a journal that goes on, and how large they are at most.
-use Rattle.std.proofs.Common.{◌≡◌, ℕ, zero, suc, ◌+◌, ◌*◌, ◌-◌, ◌<◌, ◌≤◌, List, [], ◌∷◌, ◌++◌, length, Bool, true, false, refl, sym, ap, subst, ◌∙◌, arith}
-use Rattle.std.specs.Prelude.{if◌then◌else◌, ◌==◌, nat_le, map}
+use Rattle.std.proofs.Common.{◌≡◌, ℕ, suc, ◌+◌, ◌*◌, ◌-◌, ◌<◌, ◌≤◌, List, [], ◌∷◌, ◌++◌, length, Bool, true, false, refl, ap, ◌∙◌, arith}
+use Rattle.std.specs.Prelude.{if◌then◌else◌, ◌==◌, map}
 use Rattle.std.specs.List.{sum_by, flat_map}
 use Rattle.std.proofs.Math.Nat.{suc-mul}
 use Rattle.std.proofs.lemmas.Bool.{leb-true, eqb-true, eqb-false}
@@ -16,8 +16,8 @@ use Rattle.broker_model.specs.Groups.{Piece, pair_of}
 use Rattle.broker_model.specs.Out.{Outgoing, act_at, group_at, fits, before_group, out_for}
 use Rattle.seat_audience.specs.Lives.{Numbered}
 use Rattle.broker_core.specs.Stands.{numbered}
-use Rattle.broker_core.specs.Watched.{Watched, shown, shown_by, group_put, out_put, told_of, watched, watched_since}
-use Rattle.broker_core.specs.Watched.Watched.{Entered, Placed, Passed, Put}
+use Rattle.broker_core.specs.Watched.{Watched, shown, shown_by, group_put, out_put, watched, watched_since}
+use Rattle.broker_core.specs.Watched.Watched.{Entered, Put}
 use Rattle.broker_core.proofs.WatchedSince.{since_more, since_append}
 use Rattle.gen_run.specs.Journals.{limits, of_put, put_sum}
 

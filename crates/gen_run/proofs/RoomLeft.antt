@@ -1,12 +1,12 @@
 -- After any number of its steps, the journal of a generated session has room, and its counts are within their types.
-use Rattle.std.proofs.Common.{◌≡◌, ℕ, zero, suc, ◌+◌, ◌*◌, ◌^◌, ◌<◌, ◌≤◌, List, [], length, Bool, true, false, refl, sym, ap, subst, ◌∙◌, arith, add-one}
+use Rattle.std.proofs.Common.{◌≡◌, ℕ, zero, suc, ◌+◌, ◌*◌, ◌^◌, ◌<◌, ◌≤◌, List, length, Bool, true, false, refl, sym, ap, subst, arith}
 use Rattle.std.specs.Prelude.{if◌then◌else◌, ◌==◌}
 use Rattle.std.proofs.lemmas.Bool.{ne_eqb}
 use Rattle.broker_model.specs.declared.journal.Entry.{Entry}
 use Rattle.broker_model.specs.Limits.{number_counted, weight}
 use Rattle.broker_model.specs.Resolve.{past_of}
 use Rattle.broker_model.specs.Settle.{number_alive}
-use Rattle.session_gen.specs.Generated.{step_of, step_count}
+use Rattle.session_gen.specs.Generated.{step_count}
 use Rattle.gen_run.specs.Steps.{after_step}
 use Rattle.gen_run.specs.Room.{HasRoom}
 use Rattle.gen_run.specs.Events.{events_in}

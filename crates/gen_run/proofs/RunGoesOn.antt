@@ -1,12 +1,12 @@
 -- A generated session that is run step by step stands after each.
-use Rattle.std.proofs.Common.{◌≡◌, ℕ, suc, ◌+◌, ◌-◌, ◌^◌, ◌<◌, ◌≤◌, List, [], ◌∷◌, ◌++◌, length, refl, sym, ap, ap₂, subst, ◌∙◌, arith, add-one}
+use Rattle.std.proofs.Common.{◌≡◌, ℕ, suc, ◌+◌, ◌-◌, ◌^◌, ◌<◌, ◌≤◌, List, [], ◌++◌, length, refl, sym, ap, subst, ◌∙◌, arith, add-one}
 use Rattle.std.specs.List.{count_by}
 use Rattle.seat_steps.specs.declared.step.Step.{Step}
 use Rattle.broker_model.specs.declared.journal.Entry.{Entry}
 use Rattle.broker_model.specs.Limits.{is_end, number_counted}
 use Rattle.seat_objects.specs.Reached.{Reached}
 use Rattle.broker_core.specs.Broker.{Broker, IsWatched}
-use Rattle.broker_core.specs.Watched.{Watched, watched_since}
+use Rattle.broker_core.specs.Watched.{watched_since}
 use Rattle.session_gen.specs.Generated.{Progress, step_of, step_count}
 use Rattle.gen_run.specs.declared.counts.Counts.{Counts}
 use Rattle.gen_run.specs.declared.tally.Tally.{Tally}
@@ -14,7 +14,7 @@ use Rattle.gen_run.specs.declared.running.Run.{Run}
 use Rattle.gen_run.specs.Steps.{after_step}
 use Rattle.gen_run.specs.Room.{HasRoom}
 use Rattle.gen_run.specs.Journals.{limits, put_sum, method_dones, journal_of, step_at}
-use Rattle.gen_run.specs.Counts.{field_dones, activates, all_bytes, counts_in, counts_of}
+use Rattle.gen_run.specs.Counts.{counts_in, counts_of}
 use Rattle.gen_run.specs.Tallies.{MayTally, tally_of}
 use Rattle.gen_run.specs.Runs.{Stands}
 use Rattle.gen_run.proofs.LongerJournals.{grows, ends_and_counted}

@@ -1,40 +1,28 @@
 -- What a step that was taken, or refused, makes of a journal.
-use Rattle.std.proofs.Common.{◌≡◌, ℕ, ◌+◌, ◌<◌, ◌≤◌, List, [], ◌∷◌, length, min, Bool, true, false, not, ◌&&◌, ◌||◌, Option, Some, None, Result, Ok, Err, refl, sym, ap, subst, ◌∙◌, arith}
-use Rattle.std.specs.Prelude.{if◌then◌else◌, option_map, nat_le, nat_lt, ◌==◌, IfSome, IfNone, IsOkUnless}
+use Rattle.std.proofs.Common.{◌≡◌, ℕ, ◌+◌, ◌≤◌, List, ◌∷◌, length, min, Bool, true, false, not, ◌&&◌, ◌||◌, Option, Some, None, refl, sym, ap, subst, ◌∙◌, arith}
+use Rattle.std.specs.Prelude.{if◌then◌else◌, option_map, nat_le, nat_lt, ◌==◌, IfSome, IfNone}
 use Rattle.std.proofs.lemmas.Bool.{eqb-true, eqb-false, eq-eqb, ne_eqb, lt-leb, le-ltb}
 use Rattle.relay_model.specs.declared.act.EndCause.{EndCause}
-use Rattle.relay_model.specs.declared.role.Role.{Role}
 use Rattle.seat_steps.specs.declared.limits.Limits.{Limits}
 use Rattle.seat_steps.specs.declared.stamp.Stamp.{Stamp}
-use Rattle.seat_steps.specs.declared.step.Step.{Step}
-use Rattle.seat_steps.specs.declared.step.Step.TheVariants as steps
-use Rattle.seat_steps.specs.declared.step.PeerStep.TheVariants as peers
-use Rattle.seat_steps.specs.Ranges.{IsStep}
 use Rattle.broker_model.specs.declared.journal.Entry.{Entry}
 use Rattle.broker_model.specs.declared.journal.Entry.TheVariants as entries
-use Rattle.broker_model.specs.declared.journal.Kept.{Kept}
 use Rattle.broker_model.specs.Ids.{Joined, peer_at}
 use Rattle.broker_model.specs.Limits.{is_end, number_counted, weight_of, weight, is_full}
 use Rattle.broker_model.specs.Out.{Outgoing, stored, out_for}
 use Rattle.broker_model.specs.Resolve.{past_of}
-use Rattle.broker_model.specs.Settle.{number_alive, settle}
-use Rattle.broker_core.specs.declared.answers.JoinRefusal.{JoinRefusal}
-use Rattle.broker_core.specs.declared.answers.JoinRefusal.TheVariants as join
-use Rattle.broker_core.specs.declared.answers.Refused.{Refused}
-use Rattle.broker_core.specs.declared.answers.Refused.TheVariants as refused
 use Rattle.broker_core.specs.declared.answers.Took.{Took}
 use Rattle.broker_core.specs.declared.answers.Took.TheVariants as took
 use Rattle.broker_core.specs.Broker as broker
 use Rattle.broker_core.specs.Broker.{Broker, kept_in, join_refusal, entry_of, refusal, refusal_if_full, take_refusal, take_refusal_from, nothing_left, IsSaid, IsAccepted, IsBytesUnlessMemory}
 use Rattle.broker_core.specs.Stands.{end_of}
 use Rattle.broker_core.specs.Taking.{out_at, IsTaken}
-use Rattle.session_play.specs.Playing.{IsThere}
 use Rattle.seat_objects.specs.Reached.{Reached}
 use Rattle.broker_core.specs.Broker.{IsWatched}
 use Rattle.broker_core.specs.Watched.{Watched}
 use Rattle.broker_core.proofs.WatchedSince.{since_none}
 use Rattle.gen_run.specs.Room.{HasRoom}
-use Rattle.gen_run.specs.Steps.{entered, after_join, after_taken, after_take}
+use Rattle.gen_run.specs.Steps.{entered, after_take}
 
 -- a journal with room isn't full
 

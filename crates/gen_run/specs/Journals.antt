@@ -6,7 +6,7 @@ use Rattle.seat_steps.specs.Ranges.{form_1_weight}
 use Rattle.seat_steps.specs.declared.step.Step.{Step}
 use Rattle.broker_model.specs.declared.journal.Entry.{Entry}
 use Rattle.broker_core.specs.Watched.{Watched, watched_since}
-use Rattle.broker_core.specs.Watched.Watched.{Entered, Placed, Passed, Put}
+use Rattle.broker_core.specs.Watched.Watched.{Put}
 use Rattle.session_gen.specs.Generated.{step_of}
 use Rattle.gen_run.specs.Steps.{after_step}
 use Rattle.gen_run.specs.Events.{events_in}

@@ -1,4 +1,4 @@
-use Rattle.std.proofs.Common.{◌≡◌, ◌+◌, sym, ◌∙◌, arith, refl, true, false}
+use Rattle.std.proofs.Common.{◌+◌, sym, ◌∙◌, arith, refl, true, false}
 use Rattle.gen_run.proofs.EventsCounted.{begins, goes_on, ended}
 use Rattle.gen_run.proofs.events.events_in.Goals as goal
 

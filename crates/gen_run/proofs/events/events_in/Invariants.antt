@@ -1,5 +1,4 @@
-use Rattle.std.proofs.Common.{◌≡◌, ◌≤◌, length, ℕ, ◌+◌}
-use Rattle.gen_run.specs.Events.{events_in}
+use Rattle.std.proofs.Common.{length}
 use Rattle.gen_run.proofs.EventsCounted.{IsCounting}
 use Rattle.gen_run.proofs.events.events_in.Given as goal
 

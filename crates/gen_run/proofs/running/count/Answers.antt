@@ -1,5 +1,5 @@
-use Rattle.std.proofs.Common.{◌+◌, ◌-◌, ◌<◌, ◌≤◌, ap, arith}
-use Rattle.session_gen.specs.Generated.{Progress, step_count}
+use Rattle.std.proofs.Common.{ap, arith}
+use Rattle.session_gen.specs.Generated.{Progress}
 use Rattle.gen_run.proofs.RunGoesOn.{begins, goes_on, counted_all}
 use Rattle.gen_run.proofs.running.count.Goals as goal
 

@@ -1,4 +1,4 @@
-use Rattle.std.proofs.Common.{◌≡◌, ◌-◌}
+use Rattle.std.proofs.Common.{◌-◌}
 use Rattle.session_gen.specs.Generated.{step_count}
 use Rattle.gen_run.proofs.RunGoesOn.{IsRunOf}
 use Rattle.gen_run.proofs.running.count.Given as goal

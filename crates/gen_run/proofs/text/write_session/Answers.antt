@@ -1,6 +1,6 @@
-use Rattle.std.proofs.Common.{◌+◌, ◌-◌, ◌<◌, ◌≤◌, ap, sym, subst, arith, string_bytes}
-use Rattle.session_gen.specs.Generated.{Progress, step_count}
-use Rattle.gen_run.specs.Texts.{text_of, GrowsByFront}
+use Rattle.std.proofs.Common.{ap, arith}
+use Rattle.session_gen.specs.Generated.{Progress}
+use Rattle.gen_run.specs.Texts.{text_of}
 use Rattle.gen_run.proofs.RunGoesOn.{begins, goes_on}
 use Rattle.gen_run.proofs.TextFronts.{begins_writing, cut_off, ends_whole, ends_part, nothing_yet, of_number, on_ok, on_err, err_any}
 use Rattle.gen_run.proofs.text.write_session.Goals as goal

@@ -1,4 +1,4 @@
-use Rattle.std.proofs.Common.{◌≡◌, ◌-◌, ap₂, ℕ, refl}
+use Rattle.std.proofs.Common.{◌-◌, ap₂, ℕ, refl}
 use Rattle.gen_run.proofs.RunGoesOn.{counted_is}
 use Rattle.gen_run.proofs.running.Run.counts.Goals as goal
 
