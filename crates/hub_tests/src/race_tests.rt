@@ -6,9 +6,10 @@ use crate::link::{LIMITS, Link, ask, join};
 use broker_model::{Entry, Journal};
 use hub_lock::{Hub, HubPass};
 use std::alloc::Global;
+use std::process::Abort;
 use std::sync::Wait;
 use std::test::Fail;
-use std::thread::map_vec;
+use std::thread::{Threads, map_vec};
 
 const MESSAGES: u32 = 100;
 
@@ -48,7 +49,7 @@ fn eight<'a, R: Wait>(
 }
 
 // How many messages of the peer stand in their order.
-pub fn in_order(journal: &Journal, peer: u32) -> u32 {
+fn in_order(journal: &Journal, peer: u32) -> u32 {
     let mut next = 2u32;
     for number in 1..journal.len().saturating_add(1) {
         if let Some(Entry::Message { peer: of, body, .. }) = journal.entry(number) {
@@ -60,17 +61,33 @@ pub fn in_order(journal: &Journal, peer: u32) -> u32 {
     next.saturating_sub(2)
 }
 
+// All messages stand, each peer's in its order.
+fn all_stand<R: Abort>(rt: &R, journal: &Journal) {
+    assert_eq!(rt; journal.len(), 808);
+    for peer in 1..9 {
+        assert_eq!(rt; in_order(journal, peer), MESSAGES);
+    }
+}
+
+fn race<R: Abort + Threads + Wait + Sync>(
+    rt: &R,
+    alloc: Global,
+    hub: &Hub,
+    root: &mut HubPass,
+) -> Result<(), Fail>
+    requires own { IsOf hub.now root.old }
+{
+    let links = eight(rt, alloc, hub, root)?;
+    let steps = map_vec(rt, links, &|link| ask_all(rt, alloc, link))?;
+    assert_eq!(rt; steps.iter().sum::<u64>(), 800);
+    let session = hub.session(rt, root)?;
+    all_stand(rt, &session.journal);
+    Ok(())
+}
+
 #[test]
 fn messages_of_eight_readers_stand_in_order(rt: HostRuntime) -> Result<(), Fail> {
     let alloc = rt.alloc();
     let (hub, mut root) = Hub::new(alloc, LIMITS)?;
-    let links = eight(&rt, alloc, &hub, &mut root)?;
-    let steps = map_vec(&rt, links, &|link| ask_all(&rt, alloc, link))?;
-    assert_eq!(rt; steps.iter().sum::<u64>(), 800);
-    let session = hub.session(&rt, &mut root)?;
-    assert_eq!(rt; session.journal.len(), 808);
-    for peer in 1..9 {
-        assert_eq!(rt; in_order(&session.journal, peer), MESSAGES);
-    }
-    Ok(())
+    race(&rt, alloc, &hub, &mut root)
 }
