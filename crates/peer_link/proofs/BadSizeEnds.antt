@@ -76,6 +76,7 @@ other_lives k cause older q peer there other lives = by (peer_at (past_of older)
   where
     within : peer.label ≤ length older
     within = label_within older q peer there
+
     apart : (p : Joined) → peer_at (past_of older) k ≡ Some p → (peer.label == p.label) ≡ false
     apart p e = by (peer.label == p.label) refl
       where
@@ -84,6 +85,7 @@ other_lives k cause older q peer there other lives = by (peer_at (past_of older)
             let one : k ≡ q = one_number older k q p peer e there (sym (eqb-true peer.label p.label same)) in
             let yes = eq-eqb k q one in absurd (cc)
         by false same = same
+
     some : (p : Joined) → peer_at (past_of older) k ≡ Some p → (b : Bool) → is_peer (log_of (past_of older)) p.label ≡ b
         → is_peer (log_of (past_of (entries.End k cause ∷ older))) peer.label ≡ true
     some p e true l =
@@ -93,6 +95,7 @@ other_lives k cause older q peer there other lives = by (peer_at (past_of older)
         idle_end k cause older peer.label
         (end_idle k cause older (Some p) e (λ x same. let one : p ≡ x = cc in ap (λ (j : Joined). is_peer (log_of (past_of older)) j.label) (sym one) ∙ l))
         within ∙ lives
+
     by : (o : Option Joined) → peer_at (past_of older) k ≡ o → is_peer (log_of (past_of (entries.End k cause ∷ older))) peer.label ≡ true
     by None e =
         idle_end k cause older peer.label (end_idle k cause older None e (λ x same. absurd (cc))) within ∙ lives

@@ -137,6 +137,7 @@ ends-none limits q b frames rest left end why same made is stops =
   where
     stopped : (g : Got) → Some g ≡ Some why → entries_by b.seat ≡ link_steps b.peer frames → StopsBy b.peer frames rest left (entries_by b.seat) g
     stopped g e made = record { all = made; stops = subst (λ w. Stops w rest left) (let same : g ≡ why = cc in sym same) stops }
+
     by : (end : ReadEnd) → got_of end ≡ Some why → entries_by b.seat ≡ link_steps b.peer frames → EndsAs limits b frames rest left (entries_by b.seat) end
     by ends.Closed e made = stopped got.End e made
     by (ends.Torn n) e made = stopped (got.Torn n) e made
@@ -156,6 +157,7 @@ reading-ends limits q a b read waiting waiting' taken left end mine is r k =
   where
     peer : b.peer ≡ q
     peer = same-peer a b is ∙ mine
+
     in-frame : (f : Frame) → OneFrame taken f → MadeFirst limits a b (frame_steps q waiting f) end ⊎ EndedAfter limits a b (frame_steps q waiting f) end
         → ReadsLink limits b (read ++ taken) left end
     in-frame f o (inl m) = record {
@@ -173,9 +175,10 @@ reading-ends limits q a b read waiting waiting' taken left end mine is r k =
         inl (
             subst (λ q. entries_by b.seat ≡ link_steps q (r.frames ++ f ∷ [])) (sym peer)
             (m.entries ∙ ap₂ (λ (es : List Entry) (w : List ℕ). es ++ frame_steps q w f) r.made r.waits ∙ sym (steps-more q [] r.frames f))
-        ),
+            ),
       );
     }
+
     by : (NoFrame a b taken left end ⊎ (f : Frame) × OneFrame taken f × (MadeFirst limits a b (frame_steps q waiting f) end
         ⊎ EndedAfter limits a b (frame_steps q waiting f) end)) → ReadsLink limits b (read ++ taken) left end
     by (inl n) = record {

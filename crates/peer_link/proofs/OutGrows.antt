@@ -235,6 +235,7 @@ none-within at n long (t ∷ ts) le k =
     and-false : (b : Bool) → (b && false) ≡ false
     and-false true = refl
     and-false false = refl
+
     by : (b : Bool) → nat_lt t.offset (at + n) ≡ b → nat_lt t.offset (at + n) ≡ false
     by true e = let less = ltb-true t.offset (at + n) e in let far = k.0 in absurd (omega (arith, less, far, le))
     by false e = e
@@ -255,6 +256,7 @@ frame-stays a b at n g le =
     bytes : take n (drop at b.bytes) ≡ take n (drop at a.bytes)
     bytes = ap (λ l. take n (drop at l)) g.bytes_are ∙ ap (take n) (drop-append-le at a.bytes g.bytes (omega (arith, le)))
         ∙ take-append-le n (drop at a.bytes) g.bytes (let d = length-drop at a.bytes in omega (arith, d, le))
+
     tokens : tokens_within b at n ≡ tokens_within a at n
     tokens = ap (map (λ (t : Token). t.token))
         (ap (filter (is_within at n)) g.tokens_are ∙ filter-append (is_within at n) a.tokens g.tokens

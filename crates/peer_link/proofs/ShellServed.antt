@@ -160,7 +160,6 @@ module _ (limits : Limits) (given given₀ given₁ left left₀ left₁ held he
     (read more : List ℕ) (number : ℕ)
     (took : TookFrom given given₀ left left₀ read) (took_more : TookFrom given₀ given₁ left₀ left₁ more)
     (s : Serving limits s₀ r₀ read left₀ held held₀) where
-
   abbrev Comes : PassSeat → Option (List ℕ) → Result (Unit {0}) ShellEnd → Type 0
   Comes seat now result = (later : List ℕ) × TookFrom given given₁ left left₁ later
       × ServesOn limits seat r₁ later left₁ held now result

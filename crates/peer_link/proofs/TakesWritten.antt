@@ -205,6 +205,7 @@ bytes-some b q out n t a = by (length (stored out)) refl a
     left : (o : Option EndCause) → took.Bytes n t ≡ nothing_left o → ⊥
     left None e = absurd (cc)
     left (Some cause) e = absurd (cc)
+
     by : (k : ℕ) → length (stored out) ≡ k
         → IfSome (by_stored b q (k == 0)) (λ why. took.Bytes n t ≡ why) × IfNone (by_stored b q (k == 0)) (IsBytesUnlessMemory (took.Bytes n t))
         → 1 ≤ length (stored out)
@@ -223,9 +224,11 @@ closed-is b q out a = by (length (stored out) == 0) refl a
         → IfNone (option_map (λ kept. took.JournalFull kept) o) (IsBytesUnlessMemory took.Closed) → ⊥
     full None x y = y
     full (Some kept) x y = absurd (cc)
+
     left : (o : Option EndCause) → end_of b.journal q ≡ o → length (stored out) ≡ 0 → took.Closed ≡ nothing_left o → IsClosed b q out
     left None e z x = absurd (cc)
     left (Some cause) e z x = record { none = z; cause = cause; ended = e }
+
     by : (t : Bool) → (length (stored out) == 0) ≡ t
         → IfSome (by_stored b q t) (λ why. took.Closed ≡ why) × IfNone (by_stored b q t) (IsBytesUnlessMemory took.Closed)
         → IsClosed b q out
@@ -239,9 +242,11 @@ full-is b q out kept a = by (length (stored out) == 0) a
         → IfNone (option_map (λ kept. took.JournalFull kept) o) (IsBytesUnlessMemory (took.JournalFull kept)) → full_for b (entries.Took q 0) ≡ Some kept
     full None e x y = absurd y
     full (Some k) e x y = e ∙ (let same : took.JournalFull kept ≡ took.JournalFull k = x in let less : k ≡ kept = cc in ap (λ k. Some k) less)
+
     left : (o : Option EndCause) → took.JournalFull kept ≡ nothing_left o → ⊥
     left None x = absurd (cc)
     left (Some cause) x = absurd (cc)
+
     by : (t : Bool) → IfSome (by_stored b q t) (λ why. took.JournalFull kept ≡ why) × IfNone (by_stored b q t) (IsBytesUnlessMemory (took.JournalFull kept))
         → full_for b (entries.Took q 0) ≡ Some kept
     by true k = absurd (left (end_of b.journal q) k.0)
@@ -252,7 +257,6 @@ full-is b q out kept a = by (length (stored out) == 0) a
 module _ (limits : Limits) (pass pass' : PeerPass) (held now : Option (List ℕ)) (buf places buf' places' : List ℕ) (r : Took)
     (is : pass' ≡ pass_having_seen pass pass'.seat.seen) (w : writer_of pass.seat.seen pass.peer ≡ Some pass.seat.number)
     (k : IsTake limits pass pass' buf places buf' places' r) where
-
   abbrev turn : History
   turn = pass.seat.seen ++ k.rest
 

@@ -10,7 +10,7 @@ returns-in-End-clause-reads g c =
     let k = rw c.in-End.is at c.next.ensures.took c.new-reader.ensures in (
       k.0,
       took-gave (g.S.Source.given c.args.source.now) (g.S.Source.given c.next.new.source) (g.S.Source.left c.args.source.now)
-    (g.S.Source.left c.next.new.source) k.0 k.1,
+          (g.S.Source.left c.next.new.source) k.0 k.1,
       no-frame c.args.hub.now.limits c.args.pass.now (begun c.args.assembler.now) (begun c.args.assembler.now) k.0
           (g.S.Source.left c.next.new.source) ends.Closed got.End refl k.2,
     )
@@ -20,7 +20,7 @@ returns-in-Torn-clause-reads g c =
     let k = rw c.in-Torn.is at c.next.ensures.took c.new-reader.ensures in (
       k.0,
       took-gave (g.S.Source.given c.args.source.now) (g.S.Source.given c.next.new.source) (g.S.Source.left c.args.source.now)
-    (g.S.Source.left c.next.new.source) k.0 k.1,
+          (g.S.Source.left c.next.new.source) k.0 k.1,
       no-frame c.args.hub.now.limits c.args.pass.now (begun c.args.assembler.now) (begun c.args.assembler.now) k.0
           (g.S.Source.left c.next.new.source) (ends.Torn c.in-Torn.n) (got.Torn c.in-Torn.n) refl k.2,
     )
@@ -30,7 +30,7 @@ returns-in-BadFrame-clause-reads g c =
     let k = rw c.in-BadFrame.is at c.next.ensures.took c.new-reader.ensures in (
       k.0,
       took-gave (g.S.Source.given c.args.source.now) (g.S.Source.given c.next.new.source) (g.S.Source.left c.args.source.now)
-    (g.S.Source.left c.next.new.source) k.0 k.1,
+          (g.S.Source.left c.next.new.source) k.0 k.1,
       no-frame c.args.hub.now.limits c.args.pass.now (begun c.args.assembler.now) (begun c.args.assembler.now) k.0
           (g.S.Source.left c.next.new.source) (ends.BadFrame c.in-BadFrame.n c.in-BadFrame.t) (got.BadFrame c.in-BadFrame.n c.in-BadFrame.t) refl k.2,
     )
@@ -40,7 +40,7 @@ returns-in-ReadFault-clause-reads g c =
     let k = rw c.in-ReadFault.is at c.next.ensures.took c.new-reader.ensures in (
       k.0,
       took-gave (g.S.Source.given c.args.source.now) (g.S.Source.given c.next.new.source) (g.S.Source.left c.args.source.now)
-    (g.S.Source.left c.next.new.source) k.0 k.1,
+          (g.S.Source.left c.next.new.source) k.0 k.1,
       no-frame c.args.hub.now.limits c.args.pass.now (begun c.args.assembler.now) (begun c.args.assembler.now) k.0
           (g.S.Source.left c.next.new.source) ends.ReadFault got.ReadFault refl k.2,
     )

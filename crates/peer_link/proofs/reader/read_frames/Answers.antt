@@ -20,10 +20,10 @@ loop-init g c = record {
   pass = refl;
   saw = saw-none c.args.hub.now.limits c.args.pass.now.seat.seen;
   reads = (
-      [],
-      took-none (g.S.Source.given c.args.source.now) (g.S.Source.left c.args.source.now),
-      subst (λ (a : Assembly). Reading c.args.pass.now.peer c.args.pass.now [] (begun a)) (sym c.in-Ok.ensures.empty)
-          (reading-begins c.args.pass.now.peer c.args.pass.now (entries-none c.args.pass.now.seat c.requires.fresh)),
+    [],
+    took-none (g.S.Source.given c.args.source.now) (g.S.Source.left c.args.source.now),
+    subst (λ (a : Assembly). Reading c.args.pass.now.peer c.args.pass.now [] (begun a)) (sym c.in-Ok.ensures.empty)
+        (reading-begins c.args.pass.now.peer c.args.pass.now (entries-none c.args.pass.now.seat c.requires.fresh)),
   );
   good = ap (λ (a : Assembly). bad_size_at (begun a)) c.in-Ok.ensures.empty;
   given_quiet = λ e. e;
@@ -39,11 +39,11 @@ loop-preserved g c =
       pass = pass-both c.args.pass.now c.loop.pass c.read_frame.new.pass i.pass e.pass;
       saw = saw-both c.args.hub.now.limits c.args.pass.now.seat.seen c.loop.pass.seat.seen c.read_frame.new.pass.seat.seen i.saw e.saw;
       reads = (
-          i.reads.0 ++ r.0,
-          TookFrom-both (g.S.Source.given c.args.source.now) (g.S.Source.given c.loop.source) (g.S.Source.given c.read_frame.new.source)
-    (g.S.Source.left c.args.source.now) (g.S.Source.left c.loop.source) (g.S.Source.left c.read_frame.new.source) i.reads.0 r.0 i.reads.1 r.1,
-          reading-goes c.args.pass.now.peer c.loop.pass c.read_frame.new.pass i.reads.0 (begun c.loop.assembler)
-              (begun c.read_frame.new.assembler) r.0 r.2.0 (same-peer c.args.pass.now c.loop.pass i.pass) i.reads.2 r.2.1 r.2.2 r.2.3,
+        i.reads.0 ++ r.0,
+        TookFrom-both (g.S.Source.given c.args.source.now) (g.S.Source.given c.loop.source) (g.S.Source.given c.read_frame.new.source)
+            (g.S.Source.left c.args.source.now) (g.S.Source.left c.loop.source) (g.S.Source.left c.read_frame.new.source) i.reads.0 r.0 i.reads.1 r.1,
+        reading-goes c.args.pass.now.peer c.loop.pass c.read_frame.new.pass i.reads.0 (begun c.loop.assembler)
+            (begun c.read_frame.new.assembler) r.0 r.2.0 (same-peer c.args.pass.now c.loop.pass i.pass) i.reads.2 r.2.1 r.2.2 r.2.3,
       );
       good = r.2.4;
       given_quiet = λ n. e.given_quiet (i.given_quiet n);
@@ -57,7 +57,7 @@ returns-in-Err-read_frame-clause-reads g c =
     let r = c.in-Err-read_frame.ensures.reads in (
       i.reads.0 ++ r.0,
       TookFrom-both (g.S.Source.given c.args.source.now) (g.S.Source.given c.loop.source) (g.S.Source.given c.read_frame.new.source)
-    (g.S.Source.left c.args.source.now) (g.S.Source.left c.loop.source) (g.S.Source.left c.read_frame.new.source) i.reads.0 r.0 i.reads.1 r.1,
+          (g.S.Source.left c.args.source.now) (g.S.Source.left c.loop.source) (g.S.Source.left c.read_frame.new.source) i.reads.0 r.0 i.reads.1 r.1,
       reading-ends c.args.hub.now.limits c.args.pass.now.peer c.loop.pass c.read_frame.new.pass i.reads.0 (begun c.loop.assembler)
           (begun c.read_frame.new.assembler) r.0 (g.S.Source.left c.read_frame.new.source) c.in-Err-read_frame.end
           (same-peer c.args.pass.now c.loop.pass i.pass) c.in-Err-read_frame.ensures.pass i.reads.2 r.2,

@@ -15,10 +15,10 @@ loop-init g c = record {
   pass = refl;
   saw = saw-none c.args.hub.now.limits c.args.pass.now.seen;
   serves = (
-      [],
-      took-none (g.S.Source.given c.args.source.now) (g.S.Source.left c.args.source.now),
-      serving-begins c.args.hub.now.limits c.args.pass.now c.in-Ok.reader (g.S.Source.left c.args.source.now)
-          (g.K.Sink.held c.args.sink.now) c.requires.fresh c.in-Ok.ensures,
+    [],
+    took-none (g.S.Source.given c.args.source.now) (g.S.Source.left c.args.source.now),
+    serving-begins c.args.hub.now.limits c.args.pass.now c.in-Ok.reader (g.S.Source.left c.args.source.now)
+        (g.K.Sink.held c.args.sink.now) c.requires.fresh c.in-Ok.ensures,
   );
   ahead = can-begin c.in-Ok.reader c.in-Ok.ensures;
   few = few-begun c.args.pass.now c.requires.fresh;
