@@ -17,6 +17,3 @@ pub use ends::{ReadEnd, ShellEnd, WriteEnd};
 pub use reader::read_peer;
 pub use shell::read_shell;
 pub use writer::write_peer;
-
-#[cfg(test)]
-mod tests;
