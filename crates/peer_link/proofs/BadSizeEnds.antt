@@ -1,5 +1,5 @@
 -- A peer that sent a header with a bad size has ended for it
-use Rattle.std.proofs.Common.{◌≡◌, ◌≢◌, ℕ, zero, suc, ◌+◌, ◌≤◌, List, [], ◌∷◌, ◌++◌, length, Bool, true, false, not, Option, Some, None, refl, sym, ap, ap₂, ◌∙◌, subst, ◌⊎◌, inl, inr, arith}
+use Rattle.std.proofs.Common.{◌≡◌, ℕ, zero, suc, ◌+◌, ◌≤◌, List, [], ◌∷◌, ◌++◌, length, Bool, true, false, not, Option, Some, None, refl, sym, ap, ap₂, ◌∙◌, ◌⊎◌, inl, inr, arith}
 use Rattle.std.specs.Prelude.{if◌then◌else◌, ◌==◌, ◌&&◌, ◌||◌, Result, Ok, Err, IfSome}
 use Rattle.std.specs.List.{slice_get}
 use Rattle.std.proofs.lemmas.Bool.{eq-eqb, eqb-true}
@@ -21,7 +21,7 @@ use Rattle.broker_model.specs.declared.journal.Entry.TheVariants as entries
 use Rattle.broker_model.specs.Ids.{Joined, log_of, peer_in, peer_at}
 use Rattle.broker_model.specs.Resolve.{of_peer, only, refused_for, past_of}
 use Rattle.broker_model.specs.Out.{act_at, act_now, out_for}
-use Rattle.broker_model.specs.Settle.{is_bad, refused, is_due, due, cause_of, with_end, settled, number_alive, settle, history}
+use Rattle.broker_model.specs.Settle.{is_bad, refused, due, cause_of, with_end, settled, number_alive, settle, history}
 use Rattle.broker_model.proofs.Peers.{length_log}
 use Rattle.broker_model.proofs.Numbers.{label_within, one_number}
 use Rattle.broker_model.proofs.Settling.{IsSettled, settles}
@@ -30,14 +30,14 @@ use Rattle.broker_core.specs.declared.answers.Refused.{Refused}
 use Rattle.broker_core.specs.declared.answers.Refused.TheVariants as refusals
 use Rattle.broker_core.specs.declared.taking.Standing.{Standing}
 use Rattle.broker_core.specs.declared.taking.Standing.TheVariants.{Nobody, Alive, Over}
-use Rattle.broker_core.specs.Broker.{Broker, peer_entry, peer_refusal}
+use Rattle.broker_core.specs.Broker.{Broker, peer_refusal}
 use Rattle.broker_core.specs.Stands.{end_of}
 use Rattle.broker_core.specs.Taking.{standing_of}
 use Rattle.broker_core.proofs.OnlyEndsTakePeers.{peer_kept, peer_new, peer_ended}
 use Rattle.broker_core.proofs.WhoIsAlive.{going}
 use Rattle.hub_lock.specs.Histories as histories
 use Rattle.hub_lock.specs.Histories.{History, broker_of}
-use Rattle.hub_lock.specs.Passes.{PassSeat, PeerPass}
+use Rattle.hub_lock.specs.Passes.{PeerPass}
 use Rattle.hub_lock.specs.Calls.{LegalStep, UnlessMemory, pass_having_seen}
 use Rattle.hub_lock.proofs.HistoriesGrow.{entries-more}
 use Rattle.peer_link.specs.Made.{journal_of}

@@ -1,13 +1,12 @@
 -- The reading of a peer's link, frame by frame
-use Rattle.std.proofs.Common.{◌≡◌, ◌≢◌, ℕ, List, [], ◌∷◌, ◌++◌, length, map, take, Option, Some, None, refl, sym, ap, ap₂, ◌∙◌, subst, ◌⊎◌, inl, inr, append_assoc, append-nil}
+use Rattle.std.proofs.Common.{◌≡◌, ◌≢◌, ℕ, List, [], ◌∷◌, ◌++◌, map, take, Option, Some, refl, sym, ap, ap₂, ◌∙◌, subst, ◌⊎◌, inl, inr, append_assoc, append-nil}
 use Rattle.std.specs.Prelude.{Result, Ok, Err}
 use Rattle.std.proofs.lemmas.List.{map-append}
 use Rattle.relay_model.specs.declared.act.EndCause.{EndCause}
 use Rattle.relay_model.specs.declared.act.EndCause.TheVariants.{Gone}
 use Rattle.seat_steps.specs.declared.limits.Limits.{Limits}
 use Rattle.wio_core.specs.Lines.{TookFrom}
-use Rattle.wio_core.proofs.Gathered.{TookFrom-both}
-use Rattle.wl_wire.specs.Messages.{joined, bad_size_at}
+use Rattle.wl_wire.specs.Messages.{joined}
 use Rattle.broker_model.specs.declared.journal.Entry.{Entry}
 use Rattle.broker_model.specs.declared.journal.Entry.TheVariants as entries
 use Rattle.broker_model.specs.declared.journal.Kept.{Kept}
@@ -18,13 +17,13 @@ use Rattle.desc_frame.specs.declared.Got.TheVariants as got
 use Rattle.desc_frame.specs.Frames.{Frame, frame, IsFrame, spelling}
 use Rattle.desc_frame.specs.Answers.{Gave, Stops, IsFrameOf}
 use Rattle.hub_lock.specs.Histories.{History}
-use Rattle.hub_lock.specs.Passes.{PassSeat, PeerPass}
+use Rattle.hub_lock.specs.Passes.{PeerPass}
 use Rattle.hub_lock.specs.Calls.{pass_having_seen}
 use Rattle.peer_link.specs.declared.ends.ReadEnd.{ReadEnd}
 use Rattle.peer_link.specs.declared.ends.ReadEnd.TheVariants as ends
 use Rattle.peer_link.specs.Made.{entries_by, journal_of, SawMore, HasSeenFull}
 use Rattle.peer_link.specs.LinkSteps.{frame_steps, steps_behind, link_steps, AreFrames, spelled, HoldFrames}
-use Rattle.peer_link.specs.Submits.{WhyNot, MadeFirst, Submits, IsGoneRefusal}
+use Rattle.peer_link.specs.Submits.{WhyNot, MadeFirst, IsGoneRefusal}
 use Rattle.peer_link.specs.ReadsPeer.{StopsAt, StopsBy, BeganNothing, EndsAs, gone_after, ReadsPeer}
 use Rattle.peer_link.specs.ReadsFrame.{got_of, NoFrame, EndedAfter, OneFrame, MakesFrame, ReadsFrame, ReadsLink}
 use Rattle.peer_link.proofs.ShellServed.{joined-more}

@@ -3,6 +3,7 @@ pub mod StepsRefused
 pub mod AnswersGrow
 pub mod ShellServed
 pub mod OutGrows
+pub mod OthersTakeNothing
 pub mod TakesWritten
 pub mod MessagesMade
 pub mod FramesRead

@@ -1,11 +1,10 @@
 -- What the reader of lines answers to a shell's link
-use Rattle.std.proofs.Common.{◌≡◌, ℕ, ◌+◌, ◌-◌, ◌≤◌, List, [], ◌∷◌, ◌++◌, length, Option, Some, None, refl, sym, ap, ◌∙◌, subst, ◌⊎◌, inl, inr, arith, length-append}
-use Rattle.std.specs.Prelude.{Result, Ok, Err, IfOk, IfErr, MatchOption, OnSome}
+use Rattle.std.proofs.Common.{◌≡◌, ℕ, ◌-◌, List, [], ◌++◌, length, Option, Some, None, refl, sym, ap, ◌∙◌, subst, ◌⊎◌, inl, inr, arith, length-append}
+use Rattle.std.specs.Prelude.{Result, Ok, Err, IfOk, IfErr, MatchOption}
 use Rattle.std.specs.Option.{option_map}
-use Rattle.std.specs.Io.KnownBytes.{IsAtEnd}
 use Rattle.std.proofs.KnownBytes.{Appends-nil, Consumes-nil}
 use Rattle.wio_core.specs.Lines.{TookFrom}
-use Rattle.wio_core.specs.LineAnswers.{LinesAhead, WholeLine, LastLine, GoesOn, stop_of, Answers}
+use Rattle.wio_core.specs.LineAnswers.{LinesAhead, GoesOn, stop_of, Answers}
 use Rattle.wio_core.specs.declared.line_reader.LineStop.{LineStop}
 use Rattle.wio_core.specs.declared.line_reader.LineStop.TheVariants as stop
 use Rattle.wio_core.specs.declared.line_reader.NextLine.{NextLine}

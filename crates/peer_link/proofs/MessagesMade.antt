@@ -1,5 +1,5 @@
 -- Steps that are submitted one after the other
-use Rattle.std.proofs.Common.{◌≡◌, ◌≢◌, ℕ, ◌+◌, ◌-◌, ◌%◌, ◌<◌, ◌≤◌, Bool, true, false, leb, List, [], ◌∷◌, ◌++◌, length, drop, Option, Some, None, refl, sym, ap, ap₂, ◌∙◌, subst, arith, append_assoc, append-nil, length-drop}
+use Rattle.std.proofs.Common.{◌≡◌, ℕ, ◌%◌, Bool, true, false, List, [], ◌∷◌, ◌++◌, length, drop, Some, None, refl, sym, ap, ◌∙◌, subst, arith, append_assoc, append-nil, length-drop}
 use Rattle.std.specs.Prelude.{if◌then◌else◌, ◌&&◌, ◌==◌, not, nat_le, Result, Ok, Err}
 use Rattle.std.proofs.lemmas.Bool.{le-leb, leb-true, eq-eqb, eqb-true}
 use Rattle.seat_steps.specs.declared.limits.Limits.{Limits}
@@ -12,16 +12,16 @@ use Rattle.broker_model.specs.declared.journal.Entry.{Entry}
 use Rattle.broker_model.specs.declared.journal.Entry.TheVariants as entries
 use Rattle.broker_core.specs.Broker.{peer_entry}
 use Rattle.session_play.specs.Steps.{message_entry, steps_in, behind}
-use Rattle.session_play.specs.Unread.{IsFirst, IsUnfinished, IsLast}
+use Rattle.session_play.specs.Unread.{IsFirst, IsUnfinished}
 use Rattle.session_play.proofs.FirstSteps.{read_message, read_nothing, read_bad_size}
-use Rattle.desc_frame.specs.Frames.{Frame, frame}
+use Rattle.desc_frame.specs.Frames.{frame}
 use Rattle.hub_lock.specs.Passes.{PeerPass}
 use Rattle.hub_lock.specs.Calls.{pass_having_seen}
 use Rattle.peer_link.specs.declared.ends.ReadEnd.{ReadEnd}
 use Rattle.peer_link.specs.declared.ends.ReadEnd.TheVariants as ends
 use Rattle.peer_link.specs.Made.{entries_by}
-use Rattle.peer_link.specs.LinkSteps.{token_steps, steps_unless_bad, byte_steps, frame_steps}
-use Rattle.peer_link.specs.Submits.{WhyNot, MadeFirst, Submits}
+use Rattle.peer_link.specs.LinkSteps.{token_steps, steps_unless_bad, frame_steps}
+use Rattle.peer_link.specs.Submits.{MadeFirst, Submits}
 
 -- the pass is of the same peer
 pub same-peer : (a b : PeerPass) → b ≡ pass_having_seen a b.seat.seen → b.peer ≡ a.peer

@@ -1,16 +1,15 @@
 -- What is out for a peer, as the journal grows
-use Rattle.std.proofs.Common.{◌≡◌, ◌≢◌, ℕ, zero, suc, ◌+◌, ◌-◌, ◌<◌, ◌≤◌, Bool, true, false, leb, ltb, eqb, List, [], ◌∷◌, ◌++◌, length, map, reverse, take, drop, filter, Option, Some, None, refl, sym, ap, ap₂, ◌∙◌, subst, arith, append_assoc, append-nil, length-append, length-drop}
+use Rattle.std.proofs.Common.{◌≡◌, ℕ, zero, suc, ◌+◌, ◌≤◌, Bool, true, false, List, [], ◌∷◌, ◌++◌, length, map, take, drop, filter, Option, Some, None, refl, sym, ap, ap₂, ◌∙◌, subst, arith, append_assoc, append-nil, length-append, length-drop}
 use Rattle.std.specs.Prelude.{if◌then◌else◌, ◌==◌, ◌&&◌, nat_le, nat_lt, sum}
 use Rattle.std.specs.List.{sum_by}
-use Rattle.std.proofs.lemmas.Bool.{eq-eqb, eqb-true, lt-ltb, ltb-true, ltb-false}
-use Rattle.std.proofs.lemmas.List.{map-append, reverse-append, take-append-le, drop-append-le}
-use Rattle.std.proofs.lemmas.List.Sums.{sum_by-cons, sum_by-append}
-use Rattle.seat_steps.specs.declared.limits.Limits.{Limits}
+use Rattle.std.proofs.lemmas.Bool.{eq-eqb, eqb-true, ltb-true}
+use Rattle.std.proofs.lemmas.List.{take-append-le, drop-append-le}
+use Rattle.std.proofs.lemmas.List.Sums.{sum_by-cons}
 use Rattle.broker_model.specs.declared.journal.Entry.{Entry}
 use Rattle.broker_model.specs.declared.journal.Entry.TheVariants as entries
 use Rattle.broker_model.specs.Groups.{Token, Piece, later, followed_by}
 use Rattle.broker_model.specs.Ids.{Joined, Past, peer_in, peer_at}
-use Rattle.broker_model.specs.Resolve.{with_joined, past_of}
+use Rattle.broker_model.specs.Resolve.{past_of}
 use Rattle.broker_model.specs.Out.{Outgoing, fits, with_group, is_label, took_at, before_group, group_at, out_for}
 use Rattle.broker_model.specs.Settle.{due, cause_of, with_end, settled, settle, number_alive, history}
 use Rattle.broker_model.proofs.Peers.{joined_stays}

@@ -1,11 +1,11 @@
 -- What a shell's link comes to by one more line
-use Rattle.std.proofs.Common.{◌≡◌, ℕ, zero, suc, ◌+◌, ◌^◌, ◌<◌, ◌≤◌, List, [], ◌∷◌, ◌++◌, length, map, take, Bool, true, false, Option, Some, None, refl, sym, ap, ap₂, ◌∙◌, subst, ◌⊎◌, inl, inr, ⊎_elim, arith, append_assoc, append-nil, length-append}
+use Rattle.std.proofs.Common.{◌≡◌, ℕ, ◌+◌, ◌^◌, ◌<◌, ◌≤◌, List, [], ◌∷◌, ◌++◌, length, map, take, false, Option, Some, None, refl, sym, ap, ◌∙◌, subst, ◌⊎◌, inl, inr, ⊎_elim, arith, append_assoc, append-nil}
 use Rattle.std.specs.Prelude.{Result, Ok, Err}
-use Rattle.std.specs.Io.KnownBytes.{Appends, Consumes, IsAtEnd}
+use Rattle.std.specs.Io.KnownBytes.{Appends, IsAtEnd}
 use Rattle.std.proofs.KnownBytes.{Appends-trans, Appends-nil, Consumes-nil}
 use Rattle.std.proofs.lemmas.List.{map-append, length-map}
 use Rattle.wio_core.specs.Lines.{LacksFeed, TookFrom}
-use Rattle.wio_core.specs.LineAnswers.{LinesAhead, WholeLine, LastLine}
+use Rattle.wio_core.specs.LineAnswers.{LinesAhead}
 use Rattle.wio_core.specs.declared.line_reader.LineStop.{LineStop}
 use Rattle.wio_core.specs.declared.line_reader.LineStop.TheVariants as stop
 use Rattle.wio_core.proofs.Gathered.{TookFrom-both}
@@ -23,10 +23,10 @@ use Rattle.hub_lock.specs.Passes.{PassSeat, steps_of}
 use Rattle.peer_link.specs.declared.ends.ShellEnd.{ShellEnd}
 use Rattle.peer_link.specs.declared.ends.ShellEnd.TheVariants as ends
 use Rattle.peer_link.specs.Made.{entries_by}
-use Rattle.peer_link.specs.Gains.{Gains, GainsCut}
-use Rattle.peer_link.specs.ShellLines.{bytes_of, LackFeeds, HoldLines, IsLastLine, BeginWith, AreLines, IsOrder, AreOrders}
+use Rattle.peer_link.specs.Gains.{Gains}
+use Rattle.peer_link.specs.ShellLines.{bytes_of, LackFeeds, HoldLines, BeginWith, AreLines, IsOrder, AreOrders}
 use Rattle.peer_link.specs.ShellAnswers.{answer, answers_to}
-use Rattle.peer_link.specs.ReadsShell.{ReadsNear, BeginBad, BeginFull, EndsAs, is_cut, ReadsShell}
+use Rattle.peer_link.specs.ReadsShell.{ReadsNear, BeginBad, EndsAs, is_cut, ReadsShell}
 use Rattle.peer_link.proofs.AnswersGrow.{answers-none}
 use Rattle.peer_link.specs.Ordering.{CanGoOn, GiveLine, LooksAt, StopsReading, ReadsOrder, IsOrdered, WhyNoOrder, NotOrdered, IsHeld, Serving, ServesOn}
 

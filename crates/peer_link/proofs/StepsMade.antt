@@ -1,16 +1,15 @@
 -- What a legal call adds to the steps of its pass
-use Rattle.std.proofs.Common.{◌≡◌, ℕ, zero, suc, ◌+◌, ◌≤◌, List, [], ◌∷◌, ◌++◌, length, map, Bool, true, false, Option, Some, None, refl, sym, ap, ◌∙◌, subst, arith, append_assoc, append-nil, length-append}
+use Rattle.std.proofs.Common.{◌≡◌, ℕ, zero, suc, ◌+◌, ◌≤◌, List, [], ◌∷◌, ◌++◌, length, map, Option, Some, None, refl, sym, ap, ◌∙◌, arith, append_assoc, append-nil, length-append}
 use Rattle.std.proofs.lemmas.List.{map-append}
 use Rattle.seat_steps.specs.declared.limits.Limits.{Limits}
 use Rattle.broker_model.specs.declared.journal.Entry.{Entry}
 use Rattle.broker_model.specs.declared.journal.Entry.TheVariants as entries
-use Rattle.broker_model.specs.Settle.{due, cause_of, with_end, settled, settle, number_alive, history}
+use Rattle.broker_model.specs.Settle.{due, cause_of, with_end, settled, number_alive, history}
 use Rattle.turn_lock.specs.Pairs.{own, NoneOf}
 use Rattle.turn_lock.specs.Sights.{having_seen}
 use Rattle.turn_lock.proofs.PairsOfNumbers.{own-append, own-here}
 use Rattle.hub_lock.specs.declared.step.OuterStep.{OuterStep}
 use Rattle.hub_lock.specs.Histories.{History, entries_of, only}
-use Rattle.hub_lock.specs.Lawful.{IsLawful}
 use Rattle.hub_lock.specs.Passes.{PassSeat, PeerPass, steps_of}
 use Rattle.hub_lock.specs.Calls.{Legal, pass_having_seen}
 use Rattle.hub_lock.proofs.JournalOfSteps.{length-entries}

@@ -1,6 +1,6 @@
 -- Why a step isn't taken, by the journal at its turn
-use Rattle.std.proofs.Common.{◌≡◌, ℕ, List, [], ◌∷◌, ◌++◌, Option, Some, None, Result, Ok, Err, IfSome, IfNone, refl, sym, ap, ◌∙◌, subst, ◌⊎◌, inl, inr, append-nil}
-use Rattle.std.specs.Prelude.{option_map, IsOkUnless}
+use Rattle.std.proofs.Common.{◌≡◌, ℕ, [], ◌∷◌, ◌++◌, Option, Some, None, Result, Ok, Err, IfSome, IfNone, refl, sym, ap, ◌∙◌, subst, ◌⊎◌, inl, inr, append-nil}
+use Rattle.std.specs.Prelude.{option_map}
 use Rattle.relay_model.specs.declared.act.EndCause.{EndCause}
 use Rattle.seat_steps.specs.declared.limits.Limits.{Limits}
 use Rattle.seat_steps.specs.declared.step.Step.{Step}
@@ -15,13 +15,13 @@ use Rattle.broker_model.specs.Resolve.{past_of}
 use Rattle.broker_core.specs.declared.answers.Applied.{Applied}
 use Rattle.broker_core.specs.declared.answers.Refused.{Refused}
 use Rattle.broker_core.specs.declared.answers.Refused.TheVariants as refusals
-use Rattle.broker_core.specs.Broker.{Broker, full_in, full_for, refusal_if_full, peer_entry, peer_refusal, refusal, IsAccepted}
+use Rattle.broker_core.specs.Broker.{Broker, full_in, full_for, peer_entry, peer_refusal, refusal, IsAccepted}
 use Rattle.broker_core.specs.declared.taking.Standing.{Standing}
 use Rattle.broker_core.specs.declared.taking.Standing.TheVariants.{Nobody, Alive, Over}
 use Rattle.broker_core.specs.Stands.{end_of}
 use Rattle.broker_core.specs.Taking.{by_end, standing_in, standing_of}
 use Rattle.hub_lock.specs.Histories.{History, broker_of}
-use Rattle.hub_lock.specs.Passes.{PassSeat, PeerPass}
+use Rattle.hub_lock.specs.Passes.{PeerPass}
 use Rattle.hub_lock.specs.Plays.{Applies}
 use Rattle.hub_lock.specs.Calls.{LegalStep, UnlessMemory, pass_having_seen}
 use Rattle.peer_link.specs.declared.ends.ReadEnd.{ReadEnd}

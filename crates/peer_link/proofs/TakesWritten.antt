@@ -1,11 +1,11 @@
 -- What a take of a peer's writer comes to
-use Rattle.std.proofs.Common.{◌≡◌, ◌≢◌, ℕ, zero, suc, ◌+◌, ◌-◌, ◌<◌, ◌≤◌, Bool, true, false, List, [], ◌∷◌, ◌++◌, length, map, reverse, take, drop, min, Option, Some, None, refl, sym, ap, ap₂, ◌∙◌, subst, ◌⊎◌, inl, inr, arith, append_assoc, append-nil, length-append, length-take, length-drop}
+use Rattle.std.proofs.Common.{◌≡◌, ℕ, zero, suc, ◌+◌, ◌<◌, ◌≤◌, Bool, true, false, List, [], ◌∷◌, ◌++◌, length, map, take, drop, min, Option, Some, None, refl, sym, ap, ap₂, ◌∙◌, subst, inl, inr, arith, append-nil, length-append, length-drop}
 use Rattle.std.specs.Prelude.{if◌then◌else◌, ◌==◌, sum, option_map, IfSome, IfNone}
-use Rattle.std.specs.List.{sum_by, AllByRecursion}
+use Rattle.std.specs.List.{AllByRecursion}
 use Rattle.std.specs.Io.KnownBytes.{Appends}
 use Rattle.std.proofs.KnownBytes.{Appends-trans}
-use Rattle.std.proofs.lemmas.Bool.{eq-eqb, eqb-true}
-use Rattle.std.proofs.lemmas.List.{map-append, reverse-append, length-take-le, length-map, take_at}
+use Rattle.std.proofs.lemmas.Bool.{eqb-true}
+use Rattle.std.proofs.lemmas.List.{map-append, length-take-le, length-map, take_at}
 use Rattle.std.proofs.lemmas.List.Sums.{sum_by-cons, sum_by-append}
 use Rattle.relay_model.specs.declared.act.EndCause.{EndCause}
 use Rattle.seat_steps.specs.declared.limits.Limits.{Limits}
@@ -14,23 +14,23 @@ use Rattle.wl_wire.specs.Messages.{joined}
 use Rattle.broker_model.specs.declared.journal.Entry.{Entry}
 use Rattle.broker_model.specs.declared.journal.Entry.TheVariants as entries
 use Rattle.broker_model.specs.declared.journal.Kept.{Kept}
-use Rattle.broker_model.specs.Groups.{Token, Piece}
+use Rattle.broker_model.specs.Groups.{Token}
 use Rattle.broker_model.specs.Ids.{Joined, peer_at}
 use Rattle.broker_model.specs.Resolve.{past_of}
 use Rattle.broker_model.specs.Out.{Outgoing, stored, tokens_taken, out_for}
 use Rattle.broker_model.specs.Settle.{settle, history}
 use Rattle.broker_core.specs.declared.answers.Took.{Took}
 use Rattle.broker_core.specs.declared.answers.Took.TheVariants as took
-use Rattle.broker_core.specs.Broker.{Broker, full_in, full_for, nothing_left, take_refusal, take_refusal_from, IfBytes, IfNoBytes, IsBytesUnlessMemory}
+use Rattle.broker_core.specs.Broker.{Broker, full_in, full_for, nothing_left, take_refusal_from, IfBytes, IfNoBytes, IsBytesUnlessMemory}
 use Rattle.broker_core.specs.Stands.{end_of}
 use Rattle.broker_core.specs.Taking.{out_at, IsTaken}
 use Rattle.turn_lock.specs.Pairs.{own, NoneOf}
 use Rattle.turn_lock.proofs.PairsOfNumbers.{none-append}
 use Rattle.hub_lock.specs.declared.step.OuterStep.{OuterStep}
 use Rattle.hub_lock.specs.Histories.{History, entries_of, broker_of, writer_of, only}
-use Rattle.hub_lock.specs.Lawful.{IsMadeBy, AreMadeBy, IsLawful}
-use Rattle.hub_lock.specs.Passes.{PassSeat, PeerPass}
-use Rattle.hub_lock.specs.Calls.{Legal, TakesInto, IsTake, pass_having_seen}
+use Rattle.hub_lock.specs.Lawful.{IsLawful}
+use Rattle.hub_lock.specs.Passes.{PeerPass}
+use Rattle.hub_lock.specs.Calls.{IsTake, pass_having_seen}
 use Rattle.hub_lock.proofs.HistoriesGrow.{entries-more}
 use Rattle.hub_lock.proofs.ReadersStay.{writer-stays}
 use Rattle.hub_lock.proofs.LegalCalls.{writer-joined}
@@ -38,57 +38,13 @@ use Rattle.desc_frame.specs.Frames.{Frame, frame, spelling}
 use Rattle.peer_link.specs.declared.ends.WriteEnd.{WriteEnd}
 use Rattle.peer_link.specs.declared.ends.WriteEnd.TheVariants as ends
 use Rattle.peer_link.specs.Made.{entries_by, journal_of, SawMore}
-use Rattle.peer_link.specs.Gains.{Gains, GainsCut}
-use Rattle.peer_link.specs.WritesPeer.{frame_at, frames_from, frames_of, is_cut, EndsAs, WritesPeer}
-use Rattle.peer_link.specs.Written.{Written, Writing, WritesOn}
+use Rattle.peer_link.specs.Gains.{Gains}
+use Rattle.peer_link.specs.WritesPeer.{frame_at, frames_of, is_cut, EndsAs, WritesPeer}
+use Rattle.peer_link.specs.Written.{Writing}
 use Rattle.peer_link.proofs.StepsMade.{entries-same, entries-one}
 use Rattle.peer_link.proofs.ShellServed.{joined-more}
-use Rattle.peer_link.proofs.OutGrows.{Begins, begins-long, GoesOn, settle-goes, settle-keeps, history-keeps, took_of, IsOnly, only-one, history-goes, own-took, frame-stays, frames-stay, frames-more}
-
--- a pass that made no step of a history took nothing in it, for the peer whose writer it is
-
-entries-cons : (x : ℕ × OuterStep) (xs : History) → entries_of (x ∷ xs) ≡ entries_of xs ++ x.1.entry ∷ []
-entries-cons x xs = reverse-append (x.1.entry ∷ []) (map (λ (s : ℕ × OuterStep). s.1.entry) xs)
-
-entries-append : (a b : History) → entries_of (a ++ b) ≡ entries_of b ++ entries_of a
-entries-append a b =
-    ap reverse (map-append (λ (s : ℕ × OuterStep). s.1.entry) a b)
-    ∙ reverse-append (map (λ (s : ℕ × OuterStep). s.1.entry) a) (map (λ (s : ℕ × OuterStep). s.1.entry) b)
-
-made-back : (h a b : History) → AreMadeBy h (a ++ b) → AreMadeBy h b
-made-back h [] b m = m
-made-back h (x ∷ a) b m = made-back h a b m.1
-
-made_else : (h : History) (q n m : ℕ) (e : Entry) → IsMadeBy h m e → writer_of h q ≡ Some n → (m == n) ≡ false → took_of q e ≡ 0
-made_else h q n m (entries.Took k c) made w other = by (k == q) refl
-  where
-    by : (b : Bool) → (k == q) ≡ b → (if b then c else 0) ≡ 0
-    by true same =
-        let same : Some m ≡ Some n = sym made.0 ∙ ap (writer_of h) (eqb-true k q same) ∙ w in
-        let number : m ≡ n = cc in
-        let yes = eq-eqb m n number in cc
-    by false same = refl
-made_else h q n m (entries.Join role) made w other = refl
-made_else h q n m (entries.Message k id opcode body) made w other = refl
-made_else h q n m (entries.Tokens k tokens) made w other = refl
-made_else h q n m (entries.BadSize k head) made w other = refl
-made_else h q n m (entries.End k cause) made w other = refl
-made_else h q n m (entries.Shell step) made w other = refl
-
-took-none : (h rest : History) (q n : ℕ) → AreMadeBy h rest → writer_of h q ≡ Some n → NoneOf n rest → sum_by (took_of q) (entries_of rest) ≡ 0
-took-none h [] q n made w free = refl
-took-none h (x ∷ rest) q n made w free =
-    let parts = ap (sum_by (took_of q)) (entries-cons x rest) in
-    let both = sum_by-append (took_of q) (entries_of rest) (x.1.entry ∷ []) in
-    let one = sum_by-cons (took_of q) x.1.entry [] in
-    let zero_is : sum_by (took_of q) [] ≡ 0 = refl in
-    let here = by (x.0 == n) refl free in
-    let later = took-none h rest q n made.1 w here.1 in
-    let none = here.0 in omega (arith, parts, both, one, zero_is, later, none)
-  where
-    by : (b : Bool) → (x.0 == n) ≡ b → (if b then x.1 ∷ own n rest else own n rest) ≡ [] → (took_of q x.1.entry ≡ 0) × NoneOf n rest
-    by true e f = absurd (cc)
-    by false e f = (made_else h q n x.0 x.1.entry made.0 w e, f)
+use Rattle.peer_link.proofs.OthersTakeNothing.{entries-append, made-back, took-none}
+use Rattle.peer_link.proofs.OutGrows.{begins-long, GoesOn, settle-goes, settle-keeps, history-keeps, IsOnly, only-one, history-goes, own-took, frame-stays, frames-stay, frames-more}
 
 -- what is out for the peer where the take is played
 

@@ -1,5 +1,5 @@
 -- What the calls of a loop made of its pass
-use Rattle.std.specs.Prelude.{◌≡◌, ℕ, List, ◌++◌, map, Some}
+use Rattle.std.specs.Prelude.{◌≡◌, List, ◌++◌, map, Some}
 use Rattle.seat_steps.specs.declared.limits.Limits.{Limits}
 use Rattle.broker_model.specs.declared.journal.Entry.{Entry}
 use Rattle.broker_model.specs.declared.journal.Kept.{Kept}

@@ -1,7 +1,7 @@
 -- One order of a shell's link: how its line is read, given and answered
-use Rattle.std.specs.Prelude.{◌≡◌, ◌⊎◌, ℕ, ◌≤◌, ◌<◌, ◌^◌, List, [], ◌∷◌, ◌++◌, length, map, Option, Some, None, Result, Ok, Err}
+use Rattle.std.specs.Prelude.{◌≡◌, ◌⊎◌, ℕ, ◌≤◌, List, [], ◌∷◌, ◌++◌, length, map, Option, Some, None, Result, Ok, Err}
 use Rattle.std.specs.Io.KnownBytes.{Appends, IsAtEnd}
-use Rattle.wio_core.specs.Lines.{IsOpen, IsTooLong, TookFrom}
+use Rattle.wio_core.specs.Lines.{IsOpen, IsTooLong}
 use Rattle.wio_core.specs.LineAnswers.{LinesAhead, WholeLine, LastLine}
 use Rattle.wio_core.specs.declared.line_reader.LineStop.{LineStop}
 use Rattle.wio_core.specs.declared.line_reader.LineStop.TheVariants as stop

@@ -1,5 +1,5 @@
 -- The lines of a shell's link
-use Rattle.std.specs.Prelude.{◌≡◌, ◌⊎◌, ℕ, ◌<◌, ◌≤◌, List, [], ◌∷◌, ◌++◌, length, Option, Some, None}
+use Rattle.std.specs.Prelude.{◌≡◌, ◌⊎◌, ℕ, ◌<◌, List, [], ◌∷◌, ◌++◌, length, Option, Some}
 use Rattle.std.specs.Io.KnownBytes.{IsAtEnd}
 use Rattle.wio_core.specs.Lines.{LacksFeed, BeginsWithLine}
 use Rattle.seat_steps.specs.declared.step.ShellStep.{ShellStep}

@@ -1,5 +1,5 @@
 -- What became of steps that a peer's reader submitted in order
-use Rattle.std.specs.Prelude.{◌≡◌, ℕ, List, [], ◌∷◌, ◌++◌, Some, None, Result, Ok, Err}
+use Rattle.std.specs.Prelude.{◌≡◌, ℕ, List, ◌∷◌, ◌++◌, Some, None, Result, Ok, Err}
 use Rattle.relay_model.specs.declared.act.EndCause.TheVariants.{Bad}
 use Rattle.seat_steps.specs.declared.limits.Limits.{Limits}
 use Rattle.seat_steps.specs.declared.step.PeerStep.{PeerStep}

@@ -1,4 +1,4 @@
-use Rattle.std.proofs.Common.{◌≡◌, refl, inl, inr}
+use Rattle.std.proofs.Common.{refl, inl, inr}
 use Rattle.relay_model.specs.declared.act.EndCause.TheVariants.{Bad}
 use Rattle.peer_link.proofs.FramesRead.{made-not-fault}
 use Rattle.peer_link.proofs.frames.play_frame.Goals as goal

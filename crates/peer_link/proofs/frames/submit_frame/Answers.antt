@@ -1,4 +1,3 @@
-use Rattle.std.proofs.Common.{◌≡◌}
 use Rattle.std.proofs.lemmas.Result.{err_from_is_err_and}
 use Rattle.wl_wire.specs.Streams.{begun}
 use Rattle.peer_link.proofs.MessagesMade.{frame-stops, frame-made}

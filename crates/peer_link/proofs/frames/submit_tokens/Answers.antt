@@ -1,5 +1,4 @@
-use Rattle.std.proofs.Common.{◌≡◌, ◌∙◌, refl, sym, subst}
-use Rattle.broker_model.specs.declared.journal.Entry.{Entry}
+use Rattle.std.proofs.Common.{◌∙◌, refl, sym, subst}
 use Rattle.broker_model.specs.declared.journal.Entry.TheVariants as entries
 use Rattle.peer_link.specs.declared.ends.ReadEnd.TheVariants as ends
 use Rattle.peer_link.specs.Submits.{MadeFirst}

@@ -1,4 +1,4 @@
-use Rattle.std.proofs.Common.{◌≡◌, ◌++◌, refl}
+use Rattle.std.proofs.Common.{◌++◌, refl}
 use Rattle.std.proofs.lemmas.Result.{err_from_is_err_and}
 use Rattle.wl_wire.specs.Streams.{begun}
 use Rattle.peer_link.proofs.StepsMade.{saw-none, saw-both, pass-both}

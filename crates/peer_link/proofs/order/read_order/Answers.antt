@@ -1,4 +1,4 @@
-use Rattle.std.proofs.Common.{◌≡◌, refl, ap}
+use Rattle.std.proofs.Common.{refl, ap}
 use Rattle.wio_core.specs.declared.line_reader.NextLine.TheVariants as came
 use Rattle.peer_link.specs.Ordering.{CanGoOn}
 use Rattle.peer_link.proofs.LinesLooked.{if-ok, line-came, line-goes-on, end-came, long-came, fault-came, limit-never}

@@ -1,4 +1,4 @@
-use Rattle.std.proofs.Common.{rules, ◌≡◌, refl}
+use Rattle.std.proofs.Common.{rules, refl}
 use Rattle.wl_wire.specs.Streams.{begun}
 use Rattle.desc_frame.specs.declared.Got.TheVariants as got
 use Rattle.peer_link.specs.declared.ends.ReadEnd.TheVariants as ends

@@ -1,4 +1,4 @@
-use Rattle.std.proofs.Common.{◌≡◌, ◌≤◌, ◌++◌, [], refl, sym, ap, subst, arith}
+use Rattle.std.proofs.Common.{◌++◌, [], refl, sym, ap, subst, arith}
 use Rattle.wio_core.proofs.Gathered.{TookFrom-both}
 use Rattle.wl_wire.specs.Messages.{bad_size_at}
 use Rattle.wl_wire.specs.Streams.{Assembly, begun}

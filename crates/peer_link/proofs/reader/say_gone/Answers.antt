@@ -1,4 +1,4 @@
-use Rattle.std.proofs.Common.{◌≡◌, sym, subst}
+use Rattle.std.proofs.Common.{sym, subst}
 use Rattle.relay_model.specs.declared.act.EndCause.TheVariants.{Gone}
 use Rattle.broker_model.specs.declared.journal.Entry.TheVariants as entries
 use Rattle.peer_link.specs.declared.ends.ReadEnd.{ReadEnd}

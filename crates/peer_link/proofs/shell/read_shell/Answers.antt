@@ -1,4 +1,4 @@
-use Rattle.std.proofs.Common.{◌≡◌, ◌≤◌, [], refl, arith}
+use Rattle.std.proofs.Common.{[], refl, arith}
 use Rattle.peer_link.proofs.StepsMade.{saw-none, saw-both, seat-both}
 use Rattle.peer_link.proofs.ShellServed.{took-none, nothing-read, serving-begins, can-begin, few-begun}
 use Rattle.peer_link.proofs.shell.read_shell.Goals as goal

@@ -1,4 +1,4 @@
-use Rattle.std.proofs.Common.{◌≡◌, ◌+◌, ◌∙◌, ap, sym, subst, Ok, Err}
+use Rattle.std.proofs.Common.{◌+◌, ◌∙◌, ap}
 use Rattle.std.proofs.lemmas.Result.{err_from_is_err_and}
 use Rattle.peer_link.proofs.ShellServed.{counted, not-read, not-ordered, answered, not-answered}
 use Rattle.peer_link.proofs.shell.serve_line.Goals as goal

@@ -1,4 +1,4 @@
-use Rattle.std.proofs.Common.{◌≡◌, ◌≤◌, refl, sym, subst, inl, arith}
+use Rattle.std.proofs.Common.{refl, sym, subst, inl, arith}
 use Rattle.std.proofs.KnownBytes.{Appends-nil}
 use Rattle.hub_lock.specs.Passes.{IsOf, PeerPass}
 use Rattle.peer_link.proofs.StepsMade.{saw-none, saw-both, pass-both}
