@@ -1,0 +1,3 @@
+pub mod LinkTags
+pub mod LoopLaws
+pub mod Tags

@@ -1,0 +1,78 @@
+-- The tags of the jobs of links, and the tags and reports of their results
+use Rattle.std.specs.Prelude.{ℕ, List, Option, None}
+use Rattle.hub_lock.specs.Passes.{PassSeat}
+use Rattle.link_jobs.specs.Tags.{Part, Tag, Report, End}
+use Rattle.link_jobs.specs.Tags.Part.{reader, writer, shell}
+use Rattle.link_jobs.specs.Tags.End.{read, wrote, ordered}
+use Rattle.link_jobs.specs.declared.done.ReaderDone.{ReaderDone}
+use Rattle.link_jobs.specs.declared.done.WriterDone.{WriterDone}
+use Rattle.link_jobs.specs.declared.done.ShellDone.{ShellDone}
+use Rattle.link_jobs.specs.declared.link_job.LinkJob.{LinkJob}
+use Rattle.link_jobs.specs.declared.link_job.LinkJob.TheVariants as jobs
+use Rattle.link_jobs.specs.declared.link_job.LinkDone.{LinkDone}
+use Rattle.link_jobs.specs.declared.link_job.LinkDone.TheVariants as done
+
+-- the tag of a job with this pass
+abbrev pub tag_with : PassSeat → (peer : ℕ) → Part → Tag
+tag_with seat peer part =
+    record { number = seat.number; peer = peer; part = part; turn = seat.turn; limits = seat.constant }
+
+module _ {I O G : Type 0} {s : _} {k : _} where
+  abbrev pub job_tag : LinkJob I O G s k → Tag
+  job_tag (jobs.Reader job) = tag_with job.pass.seat job.pass.peer reader
+  job_tag (jobs.Writer job) = tag_with job.pass.seat job.pass.peer writer
+  job_tag (jobs.Shell job) = tag_with job.pass 0 shell
+
+-- the report of a reader, of a writer and of a shell
+module _ {I : Type 0} {s : _} where
+  abbrev pub reader_report : ReaderDone I s → Report
+  reader_report d = record {
+    number = d.pass.seat.number;
+    peer = d.pass.peer;
+    part = reader;
+    end = read d.end;
+    source_faults = s.fault_count d.source;
+    sink_faults = 0;
+    given = s.given d.source;
+    left = s.left d.source;
+    held = None;
+  }
+
+module _ {O : Type 0} {k : _} where
+  abbrev pub writer_report : WriterDone O k → Report
+  writer_report d = record {
+    number = d.pass.seat.number;
+    peer = d.pass.peer;
+    part = writer;
+    end = wrote d.end;
+    source_faults = 0;
+    sink_faults = k.fault_count d.sink;
+    given = None;
+    left = None;
+    held = k.held d.sink;
+  }
+
+module _ {I O : Type 0} {s : _} {k : _} where
+  abbrev pub shell_report : ShellDone I O s k → Report
+  shell_report d = record {
+    number = d.pass.number;
+    peer = 0;
+    part = shell;
+    end = ordered d.end;
+    source_faults = s.fault_count d.source;
+    sink_faults = k.fault_count d.sink;
+    given = s.given d.source;
+    left = s.left d.source;
+    held = k.held d.sink;
+  }
+
+module _ {I O : Type 0} {s : _} {k : _} where
+  abbrev pub done_tag : LinkDone I O s k → Tag
+  done_tag (done.Reader d) = tag_with d.pass.seat d.pass.peer reader
+  done_tag (done.Writer d) = tag_with d.pass.seat d.pass.peer writer
+  done_tag (done.Shell d) = tag_with d.pass 0 shell
+
+  abbrev pub done_report : LinkDone I O s k → Report
+  done_report (done.Reader d) = reader_report d
+  done_report (done.Writer d) = writer_report d
+  done_report (done.Shell d) = shell_report d

@@ -1,0 +1,42 @@
+//! What the jobs of a link give back.
+ghost use Rattle.std.specs.Prelude.{◌≡◌, ◌≤◌};
+ghost use Rattle.peer_link.specs.declared.ends.ReadEnd.TheVariants as read_ends;
+ghost use Rattle.peer_link.specs.declared.ends.WriteEnd.TheVariants as write_ends;
+ghost use Rattle.peer_link.specs.declared.ends.ShellEnd.TheVariants as shell_ends;
+ghost use Rattle.link_jobs.specs.LoopLaws.{HasRead, HasWritten, HasOrdered};
+
+use hub_lock::{ReaderPass, ShellPass, WriterPass};
+use peer_link::{ReadEnd, ShellEnd, WriteEnd};
+use wio_core::{Sink, Source};
+
+/// A reading that ended: the law of readers holds of it, and a fault has its cause.
+#[derive(Drop)]
+pub struct ReaderDone<S: Source + Drop> {
+    pub pass: ReaderPass,
+    pub source: S,
+    pub end: ReadEnd,
+    pub ghost law: { ∥ HasRead pass (S.given source) (S.left source) end ∥₁ },
+    pub ghost cause: { end ≡ read_ends.ReadFault → 1 ≤ S.fault_count source },
+}
+
+/// A writing that ended: the law of writers holds of it, and a fault has its cause.
+#[derive(Drop)]
+pub struct WriterDone<K: Sink + Drop> {
+    pub pass: WriterPass,
+    pub sink: K,
+    pub end: WriteEnd,
+    pub ghost law: { ∥ HasWritten pass (K.held sink) end ∥₁ },
+    pub ghost cause: { end ≡ write_ends.WriteFault → 1 ≤ K.fault_count sink },
+}
+
+/// A shell's link that ended: the law of shells holds of it, and each fault has its cause.
+#[derive(Drop)]
+pub struct ShellDone<S: Source + Drop, K: Sink + Drop> {
+    pub pass: ShellPass,
+    pub source: S,
+    pub sink: K,
+    pub end: ShellEnd,
+    pub ghost law: { ∥ HasOrdered pass (S.given source) (S.left source) (K.held sink) end ∥₁ },
+    pub ghost read_fault: { end ≡ shell_ends.ReadFault → 1 ≤ S.fault_count source },
+    pub ghost write_fault: { end ≡ shell_ends.WriteFault → 1 ≤ K.fault_count sink },
+}

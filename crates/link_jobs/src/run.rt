@@ -1,0 +1,68 @@
+//! The running of a link's jobs.
+ghost use Rattle.std.specs.Prelude.{◌≡◌};
+ghost use Rattle.turn_lock.specs.Sights.{having_seen};
+ghost use Rattle.hub_lock.specs.Calls.{pass_having_seen};
+
+use crate::done::{ReaderDone, ShellDone, WriterDone};
+use crate::jobs::{ReaderJob, ShellJob, WriterJob};
+use hub_lock::Gate;
+use link_nets::LinkSink;
+use peer_link::{read_peer, read_shell, write_peer};
+use std::sync::Wait;
+use wio_core::Source;
+
+/// Reads a peer's link up to its end.
+pub fn run_reader<R: Wait, S: Source + Drop, G: Gate + Drop>(
+    rt: &R,
+    job: ReaderJob<S, G>,
+) -> ReaderDone<S>
+    ensures pass { result.pass ≡ pass_having_seen job.pass result.pass.seat.seen }
+{
+    let ReaderJob {
+        alloc,
+        hub,
+        mut pass,
+        mut source,
+        gate,
+    } = job;
+    let end = read_peer(rt, alloc, &*hub, &mut pass, &mut source, &*gate);
+    ReaderDone { pass, source, end }
+}
+
+/// Writes to a peer's link up to its end, and hangs up: whoever still reads the link sees its end.
+pub fn run_writer<R: Wait, K: LinkSink>(rt: &R, job: WriterJob<K>) -> WriterDone<K>
+    ensures pass { result.pass ≡ pass_having_seen job.pass result.pass.seat.seen }
+{
+    let WriterJob {
+        hub,
+        mut pass,
+        mut sink,
+    } = job;
+    let end = write_peer(rt, &*hub, &mut pass, &mut sink);
+    sink.hang_up();
+    WriterDone { pass, sink, end }
+}
+
+/// Serves a shell's link up to its end, and hangs up.
+pub fn run_shell<R: Wait, S: Source + Drop, K: LinkSink>(
+    rt: &R,
+    job: ShellJob<S, K>,
+) -> ShellDone<S, K>
+    ensures pass { result.pass ≡ having_seen job.pass result.pass.seen }
+{
+    let ShellJob {
+        alloc,
+        hub,
+        mut pass,
+        mut source,
+        mut sink,
+    } = job;
+    let end = read_shell(rt, alloc, &*hub, &mut pass, &mut source, &mut sink);
+    sink.hang_up();
+    ShellDone {
+        pass,
+        source,
+        sink,
+        end,
+    }
+}

@@ -1,0 +1,2 @@
+pub mod MemNets
+pub mod NewLinks

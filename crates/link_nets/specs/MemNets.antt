@@ -1,0 +1,56 @@
+-- What contracts see of a net in memory
+use Rattle.std.specs.Prelude.{◌≡◌, ℕ, List, [], ◌∷◌, ◌++◌, Bool, true, take, Some}
+use Rattle.wio_core.specs.Io.{raised}
+use Rattle.wio_core.specs.Memory.{SourceInMemory, SinkInMemory}
+use Rattle.std.specs.List.{All, slice_get, remove}
+use Rattle.link_nets.specs.declared.door.Door.{Door}
+use Rattle.link_nets.specs.declared.door.Door.TheVariants.{App, Method, Shell}
+use Rattle.link_nets.specs.declared.mem_link.MemLink.{MemLink}
+
+-- a net: which doors are open, the links that wait, the doors of those that it gave, the numbers of the accepts that
+-- fail, and how many accepts and faults it had
+pub record NetInMemory : Type 0 where
+  pub app : Bool
+  pub method : Bool
+  pub shell : Bool
+  pub waiting : List MemLink
+  pub links : List Door
+  pub fail : List ℕ
+  pub calls : ℕ
+  pub faults : ℕ
+
+-- whether a door is open, where it is said of each
+abbrev pub is_open : (app method shell : Bool) → Door → Bool
+is_open app method shell App = app
+is_open app method shell Method = method
+is_open app method shell Shell = shell
+
+-- the net with the door open
+abbrev pub opening : Door → NetInMemory → NetInMemory
+opening App n = record n { app = true }
+opening Method n = record n { method = true }
+opening Shell n = record n { shell = true }
+
+-- no link waits at the door
+abbrev pub LacksLinkFor : Door → List MemLink → Type 0
+LacksLinkFor d waiting = All (λ (l : MemLink). l.door ≡ d → ⊥) waiting
+
+-- the first link that waits at the door stands there
+pub record IsPlaceFor (d : Door) (waiting : List MemLink) (at : ℕ) (link : MemLink) : Type 0 where
+  pub is : slice_get waiting at ≡ Some link
+  pub door : link.door ≡ d
+  pub first : LacksLinkFor d (take at waiting)
+
+-- the first link that waits at the door, and those that wait without it
+pub record IsFirstFor (d : Door) (waiting : List MemLink) (link : MemLink) (rest : List MemLink) : Type 0 where
+  pub at : ℕ
+  pub place : IsPlaceFor d waiting at link
+  pub left : rest ≡ remove waiting at
+
+-- an accept gave the first link that waits at the door
+pub record GivesLink (d : Door) (net net' : NetInMemory) (source : SourceInMemory) (sink : SinkInMemory) : Type 0 where
+  pub link : MemLink
+  pub first : IsFirstFor d net.waiting link net'.waiting
+  pub way_in : source ≡ link.source
+  pub way_out : sink ≡ link.sink
+  pub rest : net' ≡ record net { waiting = net'.waiting; links = net.links ++ d ∷ []; calls = raised net.calls }

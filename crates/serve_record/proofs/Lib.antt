@@ -1,0 +1,2 @@
+pub mod RecordGrows
+pub mod StepsText

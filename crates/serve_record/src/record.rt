@@ -1,0 +1,128 @@
+//! The whole recorded session goes out.
+ghost use Rattle.std.specs.Prelude.{◌≡◌, ◌≤◌, ◌++◌, length, Err, IfOk, OnOk, OnErr};
+ghost use Rattle.std.specs.Io.KnownBytes.{Appends};
+ghost use Rattle.wio_core.specs.Io.{Rose};
+ghost use Rattle.session_text.specs.declared.line.Line.TheVariants.{Header};
+ghost use Rattle.session_play.specs.Recorded.{recorded, text_line};
+ghost use Rattle.serve_record.specs.declared.record.RecordStop.TheVariants as stops;
+ghost use Rattle.serve_record.specs.Lines.{text_at, Holds, GainsFront};
+
+use crate::entry_lines::add_entry;
+use broker_model::{Journal, StampList};
+use hub_lock::Session;
+use seat_steps::Limits;
+use std::alloc::{AllocError, Global};
+use wio_core::{Failed, NoMemory, Sink, write_all};
+
+/// Why a recorded session isn't whole. What was written is a front of it.
+#[derive(Clone, Copy, Debug, PartialEq, Eq)]
+pub enum RecordStop {
+    /// The output failed.
+    WriteFault,
+    /// There was no memory.
+    NoMemory,
+}
+
+impl From<Failed> for RecordStop {
+    ghost from_gives = { λ _ e. e ≡ stops.WriteFault };
+
+    fn from(_: Failed) -> Self {
+        RecordStop::WriteFault
+    }
+}
+
+impl From<NoMemory> for RecordStop {
+    ghost from_gives = { λ _ e. e ≡ stops.NoMemory };
+
+    fn from(_: NoMemory) -> Self {
+        RecordStop::NoMemory
+    }
+}
+
+// So many bytes are written at once, or a line more.
+const PIECE: usize = 65_536;
+
+// Writes what waits, if it is a whole piece.
+#[tactic(auto, using(crate::proofs::RecordGrows::cut_is_front))]
+fn write_piece<K: Sink>(text: &mut Vec<u8>, output: &mut K) -> Result<(), Failed>
+    ensures whole { OnOk result (Holds (K.held output.old) (K.held output.new)
+        text.new.items text.old.items) }
+    ensures front { OnErr result (GainsFront (K.held output.old) (K.held output.new)
+        text.old.items) }
+    ensures never_falls { K.fault_count output.old ≤ K.fault_count output.new }
+    ensures cause { OnErr result (Rose (K.fault_count output.old) (K.fault_count output.new)) }
+{
+    if text.len() < PIECE {
+        return Ok(());
+    }
+    write_all(output, text.as_slice())?;
+    text.clear();
+    Ok(())
+}
+
+// The header and its line feed.
+fn header(alloc: Global, limits: &Limits) -> Result<Vec<u8>, NoMemory>
+    ensures { IfOk result (λ text. text.items ≡ text_line (Header limits.now)) }
+{
+    let (entries, store, weight) = (limits.entries, limits.store, limits.weight);
+    let line = format!(in alloc; "session 2 {entries} {store} {weight}\n")?;
+    Ok(line.into_bytes())
+}
+
+// Adds the line of the entry with the number, and writes what waits, if it is a whole piece.
+#[tactic(auto, using(crate::proofs::StepsText::is_there))]
+fn write_entry<K: Sink>(
+    alloc: Global,
+    session: &Session,
+    number: u32,
+    text: &mut Vec<u8>,
+    output: &mut K,
+) -> Result<(), RecordStop>
+    requires each { length session.now.stamps.stamps ≡ length session.now.journal.entries }
+    requires first { 1 ≤ number }
+    requires last { number ≤ length session.now.journal.entries }
+    ensures whole { OnOk result (Holds (K.held output.old) (K.held output.new) text.new.items
+        (text.old.items
+        ++ text_at session.now.journal.entries session.now.stamps.stamps number)) }
+    ensures front { OnErr result (GainsFront (K.held output.old) (K.held output.new)
+        (text.old.items
+        ++ text_at session.now.journal.entries session.now.stamps.stamps number)) }
+    ensures never_falls { K.fault_count output.old ≤ K.fault_count output.new }
+    ensures cause { result ≡ Err RecordStop.WriteFault →
+        Rose (K.fault_count output.old) (K.fault_count output.new) }
+{
+    let Some(entry) = session.journal.entry(number) else {
+        unreachable!()
+    };
+    let Some(stamp) = session.stamps.entry(number) else {
+        unreachable!()
+    };
+    add_entry(alloc, text, *stamp, entry)?;
+    write_piece(text, output)?;
+    Ok(())
+}
+
+/// Writes the recorded session: the header, the line of each entry that no other brings about behind
+/// its stamp, and the end. After `RecordStop` a front of it was written.
+pub fn write_record<K: Sink>(
+    alloc: Global,
+    session: &Session,
+    output: &mut K,
+) -> Result<(), RecordStop>
+    requires { length session.now.stamps.stamps ≡ length session.now.journal.entries }
+    ensures whole { OnOk result (Appends (K.held output.old) (K.held output.new)
+        (recorded session.now.limits session.now.journal.entries session.now.stamps.stamps)) }
+    ensures front { OnErr result (GainsFront (K.held output.old) (K.held output.new)
+        (recorded session.now.limits session.now.journal.entries session.now.stamps.stamps)) }
+    ensures never_falls { K.fault_count output.old ≤ K.fault_count output.new }
+    ensures cause { result ≡ Err RecordStop.WriteFault →
+        Rose (K.fault_count output.old) (K.fault_count output.new) }
+{
+    let mut text = header(alloc, &session.limits)?;
+    for before in 0..session.journal.len() {
+        write_entry(alloc, session, before + 1, &mut text, output)?;
+    }
+    text.extend_from_slice(b"end\n").map_err(NoMemory::from)?;
+    write_all(output, text.as_slice())?;
+    Ok(())
+}

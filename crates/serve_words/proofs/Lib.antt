@@ -1,0 +1,3 @@
+pub mod CountsWithin
+pub mod PairsOfWords
+pub mod RefusalsPassOn

@@ -1,0 +1,18 @@
+-- What the words ask for, as it was read
+use Rattle.serve_words.specs.declared.serving.Needed.{Needed}
+use Rattle.serve_words.specs.declared.serving.Serving.{Serving}
+use Rattle.serve_words.specs.Words as words
+use Rattle.serve_words.specs.Words.{doors_of}
+
+abbrev pub asked : Serving → words.Serving
+asked s = record {
+  app = s.app.now;
+  method = s.method.now;
+  shell = s.shell.now;
+  order = doors_of s.order.now;
+  limits = s.limits;
+}
+
+-- what has to be given
+abbrev pub needed : Needed → words.Needed
+needed n = record { app = n.app.now; method = n.method.now; shell = n.shell.now; order = n.order.now }

@@ -1,0 +1,152 @@
+//! What the words of `serve` ask for.
+ghost use Rattle.std.specs.Prelude.{◌≡◌, true, length, map, string_bytes, IfOk, IfSome};
+ghost use Rattle.std.specs.Option.{option_map};
+ghost use Rattle.serve_words.specs.Words as grammar;
+ghost use Rattle.serve_words.specs.Asked.{asked, needed};
+ghost use Rattle.serve_words.specs.Refusals.{Tells};
+ghost use Rattle.seat_steps.specs.Ranges.{IsLimits, IsWithin};
+
+use crate::pairs::{are_pairs, values_of};
+use crate::refusal::WordsRefusal;
+use link_nets::Door;
+use seat_steps::{
+    ENTRY_LIMIT, FORM_1_ENTRY_LIMIT, FORM_1_WEIGHT, Limits, STORE_LIMIT, WEIGHT_LIMIT,
+};
+
+// What a store holds where the words don't say it, in bytes.
+const STORE: u32 = 65_536;
+
+// The most letters of an order.
+const MOST_LETTERS: usize = 64;
+
+/// What the words ask for: the doors' paths, the letters of the doors of the links to accept, 1 to
+/// 64 in order, and the hub's limits.
+#[derive(Clone, Copy)]
+pub struct Serving<'a> {
+    pub app: &'a str,
+    pub method: &'a str,
+    pub shell: &'a str,
+    pub order: &'a [u8],
+    pub limits: Limits,
+}
+
+// What has to be given.
+#[derive(Clone, Copy)]
+struct Needed<'a> {
+    app: &'a str,
+    method: &'a str,
+    shell: &'a str,
+    order: &'a [u8],
+}
+
+/// The door of a letter: `a` for applications, `m` for methods, and any other for shells.
+pub fn door_of(letter: u8) -> Door
+    ensures { result ≡ grammar.door_of letter }
+{
+    match letter {
+        b'a' => Door::App,
+        b'm' => Door::Method,
+        _ => Door::Shell,
+    }
+}
+
+fn is_letter(letter: u8) -> bool
+    ensures { result ≡ grammar.is_letter letter }
+{
+    letter == b'a' || letter == b'm' || letter == b's'
+}
+
+fn are_letters(letters: &[u8]) -> bool
+    ensures { result ≡ grammar.are_letters letters.now }
+{
+    for letter in letters {
+        if !is_letter(*letter) {
+            return false;
+        }
+    }
+    true
+}
+
+fn is_order(letters: &[u8]) -> bool
+    ensures few { result ≡ true → IsWithin 64 (length letters.now) }
+    ensures told { result ≡ grammar.is_order letters.now }
+{
+    letters.len() >= 1 && letters.len() <= MOST_LETTERS && are_letters(letters)
+}
+
+fn limits_of(words: &[String]) -> Result<Limits, WordsRefusal>
+    ensures within { IfOk result IsLimits }
+    ensures told { Tells (λ l. l) result (grammar.limits_of (map string_bytes words.now)) }
+{
+    let entries = values_of(words, "--entries").number_or(FORM_1_ENTRY_LIMIT, ENTRY_LIMIT)?;
+    let store = values_of(words, "--store").number_or(STORE, STORE_LIMIT)?;
+    let weight = values_of(words, "--weight").number_or(FORM_1_WEIGHT as u32, WEIGHT_LIMIT as u32)?;
+    Ok(Limits {
+        entries,
+        store,
+        weight: u64::from(weight),
+    })
+}
+
+fn order_of(words: &[String]) -> Option<&[u8]>
+    ensures few { IfSome result (λ order. IsWithin 64 (length order.now)) }
+    ensures told { option_map (λ o. o.now) result ≡ grammar.order_of (map string_bytes words.now) }
+{
+    let letters = values_of(words, "--order").once()?.as_bytes();
+    if is_order(letters) {
+        Some(letters)
+    } else {
+        None
+    }
+}
+
+// What has to be given: the paths and the order.
+fn needed_by(words: &[String]) -> Option<Needed<'_>>
+    ensures few { IfSome result (λ needed. IsWithin 64 (length needed.order.now)) }
+    ensures told { option_map needed result ≡ grammar.needed_by (map string_bytes words.now) }
+{
+    let app = values_of(words, "--app").once()?;
+    let method = values_of(words, "--method").once()?;
+    let shell = values_of(words, "--shell").once()?;
+    let order = order_of(words)?;
+    Some(Needed {
+        app,
+        method,
+        shell,
+        order,
+    })
+}
+
+fn asked_by(words: &[String]) -> Result<Serving<'_>, WordsRefusal>
+    ensures within { IfOk result (λ asked. IsLimits asked.limits) }
+    ensures few { IfOk result (λ asked. IsWithin 64 (length asked.order.now)) }
+    ensures told { Tells asked result (grammar.asked_by (map string_bytes words.now)) }
+{
+    let Some(needed) = needed_by(words) else {
+        return Err(WordsRefusal::BadWords);
+    };
+    let limits = limits_of(words)?;
+    Ok(Serving {
+        app: needed.app,
+        method: needed.method,
+        shell: needed.shell,
+        order: needed.order,
+        limits,
+    })
+}
+
+/// What the words ask for, the first of which is `serve`. `BadWords` comes where they are in no
+/// grammar, else `NoMemory` may come.
+pub fn serve_of(words: &[String]) -> Result<Serving<'_>, WordsRefusal>
+    ensures within { IfOk result (λ asked. IsLimits asked.limits) }
+    ensures few { IfOk result (λ asked. IsWithin 64 (length asked.order.now)) }
+    ensures told { Tells asked result (grammar.serve_of (map string_bytes words.now)) }
+{
+    let [first, rest @ ..] = words else {
+        return Err(WordsRefusal::BadWords);
+    };
+    if first.as_str() != "serve" || !are_pairs(rest) {
+        return Err(WordsRefusal::BadWords);
+    }
+    asked_by(rest)
+}

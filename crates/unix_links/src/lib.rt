@@ -1,0 +1,15 @@
+//! Unix sockets as a net, and threads that do jobs: the edge to the system.
+#![tactic(auto)]
+
+mod job_thread;
+mod open_door;
+mod outcome;
+mod thread_spawner;
+mod unix_net;
+mod unix_sink;
+
+pub use job_thread::{JobThread, Running, begin_job};
+pub use outcome::{Given, Outcome};
+pub use thread_spawner::ThreadSpawner;
+pub use unix_net::{UnixNet, UnixSource};
+pub use unix_sink::UnixSink;

@@ -1,0 +1,119 @@
+//! Unix listeners as a net.
+ghost use Rattle.std.specs.Prelude.{◌≡◌, ◌≤◌, None, IsErr, IfOk};
+ghost use Rattle.wio_core.specs.Io.{raised};
+
+use crate::open_door::OpenDoor;
+use crate::unix_sink::UnixSink;
+use link_nets::{Door, Net};
+use std::alloc::Global;
+use std::fs::Files;
+use std::io::BufReader;
+use std::os::unix::net::{UnixListener, UnixStream};
+use std::time::Duration;
+use std::{io, net};
+use wio_core::{Failed, Sink, Source, StdSource};
+
+/// The way in of a Unix link. It is read ahead, so that many small frames cost one call of the system.
+pub type UnixSource = StdSource<BufReader<UnixStream>>;
+
+// How long a write waits for a peer that doesn't read before it fails, in seconds.
+const PATIENCE: u64 = 30;
+
+/// Three doors, each a Unix listener at its own path. A door's socket file can be used by its owner
+/// alone, and is removed where the net is dropped.
+#[derive(Drop)]
+pub struct UnixNet<R: Files + Copy> {
+    rt: R,
+    alloc: Global,
+    app: Option<OpenDoor<R>>,
+    method: Option<OpenDoor<R>>,
+    shell: Option<OpenDoor<R>>,
+    links: Vec<Door>,
+    faults: u64,
+}
+
+impl<R: Files + Copy> UnixNet<R> {
+    /// No door is open yet.
+    pub fn new(rt: R, alloc: Global) -> UnixNet<R> {
+        UnixNet {
+            rt,
+            alloc,
+            app: None,
+            method: None,
+            shell: None,
+            links: Vec::new(alloc),
+            faults: 0,
+        }
+    }
+
+    fn fault<T>(&mut self) -> Result<T, Failed>
+        ensures err { IsErr result }
+        ensures counted { self.new ≡ record self.old { faults = raised self.old.faults } }
+        ensures never_falls { self.old.faults ≤ self.new.faults }
+    {
+        self.faults = self.faults.saturating_add(1);
+        Err(Failed)
+    }
+}
+
+// Waits for a link, and gives its two ways.
+fn accept_link(alloc: Global, listener: &UnixListener) -> io::Result<(UnixSource, UnixSink)>
+    ensures gave { IfOk result (λ link. ⟦<UnixSource as Source>⟧.given link.0 ≡ None) }
+    ensures source { IfOk result (λ link. ⟦<UnixSource as Source>⟧.fault_count link.0 ≡ 0) }
+    ensures holds { IfOk result (λ link. ⟦<UnixSink as Sink>⟧.held link.1 ≡ None) }
+    ensures sink { IfOk result (λ link. ⟦<UnixSink as Sink>⟧.fault_count link.1 ≡ 0) }
+{
+    let (stream, _from) = listener.accept()?;
+    stream.set_write_timeout(Some(Duration::from_secs(PATIENCE)))?;
+    let out = stream.try_clone()?;
+    Ok((
+        StdSource::new(BufReader::new(alloc, stream)?),
+        UnixSink::new(out),
+    ))
+}
+
+impl<R: Files + net::Net + Copy> Net for UnixNet<R> {
+    ghost use Rattle.unix_links.specs.Opened.{is_open};
+
+    type In = UnixSource;
+
+    type Out = UnixSink;
+
+    ghost opened = { λ n d. is_open n.app n.method n.shell d };
+
+    ghost links = { λ n. n.links.items };
+
+    ghost fault_count = { λ n. n.faults };
+
+    fn listen(&mut self, door: Door, path: &str) -> Result<(), Failed> {
+        let Ok(opened) = OpenDoor::at(self.rt, self.alloc, path) else {
+            return self.fault();
+        };
+        match door {
+            Door::App => self.app = Some(opened),
+            Door::Method => self.method = Some(opened),
+            Door::Shell => self.shell = Some(opened),
+        }
+        Ok(())
+    }
+
+    fn accept(&mut self, door: Door) -> Result<(UnixSource, UnixSink), Failed> {
+        let opened = match door {
+            Door::App => &self.app,
+            Door::Method => &self.method,
+            Door::Shell => &self.shell,
+        };
+        let Some(opened) = opened else { unreachable!() };
+        let Ok(link) = accept_link(self.alloc, &opened.listener) else {
+            return self.fault();
+        };
+        if self.links.push(door).is_err() {
+            return self.fault();
+        }
+        Ok(link)
+    }
+
+    fn faults(&self) -> u64 {
+        self.faults
+    }
+}

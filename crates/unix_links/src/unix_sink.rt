@@ -1,0 +1,54 @@
+//! The way out of a Unix link.
+ghost use Rattle.std.specs.Prelude.{◌≡◌, None};
+
+use link_nets::LinkSink;
+use std::io::Write;
+use std::net::Shutdown;
+use std::os::unix::net::UnixStream;
+use wio_core::{Failed, Sink};
+
+/// A Unix stream as a sink. Where its bytes go is trusted, and no contract tells it. A peer that
+/// closed its side makes a write fail, and raises no signal.
+#[derive(Drop)]
+pub struct UnixSink {
+    stream: UnixStream,
+    faults: u64,
+}
+
+impl UnixSink {
+    /// Writes to this stream, to which no write failed yet.
+    pub fn new(stream: UnixStream) -> UnixSink
+        ensures held { ⟦<UnixSink as Sink>⟧.held result ≡ None }
+        ensures no_fault_yet { ⟦<UnixSink as Sink>⟧.fault_count result ≡ 0 }
+    {
+        UnixSink { stream, faults: 0 }
+    }
+}
+
+impl Sink for UnixSink {
+    ghost held = { λ _. None };
+
+    ghost fault_count = { λ s. s.faults };
+
+    /// A write that takes no byte is a fault.
+    fn write(&mut self, piece: &[u8]) -> Result<usize, Failed> {
+        match self.stream.write(piece) {
+            Ok(n) if n > 0 => Ok(n),
+            _ => {
+                self.faults = self.faults.saturating_add(1);
+                Err(Failed)
+            }
+        }
+    }
+
+    fn faults(&self) -> u64 {
+        self.faults
+    }
+}
+
+impl LinkSink for UnixSink {
+    /// Shuts both ways of the stream down.
+    fn hang_up(&mut self) {
+        let _ = self.stream.shutdown(Shutdown::Both);
+    }
+}
