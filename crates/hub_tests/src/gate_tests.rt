@@ -103,7 +103,7 @@ fn second_is_first<R: Abort>(rt: &R, journal: &Journal) {
     assert!(rt; first.is_some() && second.is_some() && second < first);
 }
 
-fn holds<R: Abort + Threads + Wait + Sync>(
+fn hold_one<R: Abort + Threads + Wait + Sync>(
     rt: &R,
     alloc: Global,
     hub: &Hub,
@@ -132,5 +132,5 @@ fn readers_run_beside_each_other(rt: HostRuntime) -> Result<(), Fail> {
         answered: AtomicU64::new(0),
         gave_up: AtomicU64::new(0),
     };
-    holds(&rt, alloc, &hub, &mut root, &gate)
+    hold_one(&rt, alloc, &hub, &mut root, &gate)
 }
