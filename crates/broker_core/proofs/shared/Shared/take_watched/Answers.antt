@@ -5,7 +5,7 @@ use Rattle.broker_core.specs.Broker.{full_for}
 use Rattle.broker_core.proofs.RefusalsTested.{take_place}
 use Rattle.broker_core.proofs.SharedAfterStep.{HasPlace, stepped, stays, has_place, within_plain}
 use Rattle.broker_core.proofs.CallWatched.{call_watched, nothing_watched, refused_watched}
-use Rattle.broker_core.proofs.takes.Shared.take_watched.Goals as goal
+use Rattle.broker_core.proofs.shared.Shared.take_watched.Goals as goal
 
 pub invariant_of-self-2 : goal.invariant_of-self-2
 invariant_of-self-2 g c =
