@@ -126,18 +126,25 @@ class Reactive(Link):
         self.link.settimeout(0.2)
         while not self.stop.is_set():
             try:
-                more = self.link.recv(65536)
+                if not self.take_more():
+                    break
             except TimeoutError:
                 continue
-            except OSError:
-                break
-            if not more:
-                break
-            self.pending = getattr(self, "pending", b"") + more
-            self.unframe()
             for event in self.cut_events():
                 self.answer(*event)
         self.link.settimeout(None)
+
+    def take_more(self):
+        """What the link has next, without its frames; False where it ended."""
+        try:
+            more = self.link.recv(65536)
+        except TimeoutError:
+            raise
+        except OSError:
+            return False
+        self.pending = getattr(self, "pending", b"") + more
+        self.unframe()
+        return bool(more)
 
     def unframe(self):
         while len(self.pending) >= 4:
@@ -149,15 +156,8 @@ class Reactive(Link):
             self.pending = self.pending[whole:]
 
     def read_on(self):
-        while True:
-            try:
-                more = self.link.recv(65536)
-            except OSError:
-                break
-            if not more:
-                break
-            self.pending = getattr(self, "pending", b"") + more
-            self.unframe()
+        while self.take_more():
+            pass
 
     def answer(self, object_id, opcode, body):
         raise NotImplementedError
