@@ -121,6 +121,7 @@ struct typing {
 };
 
 static pid_t start_server(const char *program, const char *order) {
+    fflush(stdout);
     pid_t child = fork();
     if (child == 0) {
         freopen("/dev/null", "w", stdout);

@@ -36,6 +36,14 @@ def letters(lines):
     return "s" + joins
 
 
+def send(link, data):
+    """Sends to a peer, unless the server hung up since it ended it."""
+    try:
+        link.sendall(data)
+    except BrokenPipeError:
+        pass
+
+
 def play(lines, server):
     """Plays all lines, and gives the peers in the order in which they joined."""
     shell = server.connect("s")
@@ -45,7 +53,7 @@ def play(lines, server):
         if words[0] == "join":
             peers.append(Peer(server.connect({"app": "a", "method": "m"}[words[1]])))
         elif words[0] == "bytes":
-            peers[int(words[1]) - 1].link.sendall(frames_of(bytes.fromhex(words[2])))
+            send(peers[int(words[1]) - 1].link, frames_of(bytes.fromhex(words[2])))
         elif words[0] not in ("session", "end", "take", "gone"):
             shell.sendall(line.encode() + b"\n")
         time.sleep(BETWEEN_LINES)
