@@ -4,9 +4,10 @@
   tools/cost.py            builds nothing: measures crates/wlim/out/wlim, which `rt run` in crates/wlim builds
   tools/cost.py PROGRAM    measures another build
 
-It prints, by valgrind's callgrind, instructions a step of `replay` in both forms, an act of `replay-acts`, and of one honest step (an
-application types by way of a method) alone and beside 62 peers of 240 surfaces each. The start of the program is
-taken off by measuring two lengths of each input.
+It prints, by valgrind's callgrind, instructions a step of `replay` in both forms, an act of `replay-acts`, and of one
+honest step (an application types by way of a method) alone, beside 62 peers of 240 surfaces each, and beside 62 peers
+whose objects and stores are nearly as many as they may be, with 64 keys down. The start of the program is taken off
+by measuring two lengths of each input.
 """
 import os
 import random
@@ -160,6 +161,23 @@ def pair(crowd, batches):
     return lines + ["end"]
 
 
+def attacked(crowd, batches):
+    """The same where each of the crowd has 255 objects and a store that is nearly full, and 64 keys are down."""
+    store = 8192
+    lines = [f"session 1 1000000 {store}"] + application(1) + input_method(2)
+    lines += [message(2, 5, 5, word(6)), "take 1 4096", "take 2 4096"]
+    for peer in range(3, 3 + crowd):
+        lines += application(peer)
+        lines += [message(peer, 3, 0, word(8 + surface)) for surface in range(249)]
+        # A sync is answered by 24 bytes, and its object is gone again.
+        lines += [message(peer, 1, 0, word(1000)) for _ in range((store - 400) // 24)]
+    lines += [f"key {key} {key + 1} 1" for key in range(64)]
+    lines += ["take 2 4096", "focus 1 6", message(1, 7, 1), message(1, 7, 7), "take 2 4096"]
+    for _ in range(batches):
+        lines += [message(2, 5, 0, text("a")), message(2, 5, 3, word(1)), "take 1 4096"]
+    return lines + ["end"]
+
+
 def instructions(program, command, lines):
     """All instructions of one run."""
     with tempfile.TemporaryDirectory() as folder:
@@ -194,6 +212,9 @@ def main():
     beside = each(program, "replay", lambda n: pair(62, n), 1000, 5000, 3)
     print(f"an honest step alone:    {alone:8.0f}")
     print(f"beside 62 peers of 240:  {beside:8.0f}   {beside / alone:.2f} times")
+    calm = each(program, "replay", lambda n: attacked(0, n), 1000, 5000, 3)
+    hostile = each(program, "replay", lambda n: attacked(62, n), 1000, 5000, 3)
+    print(f"under attack:            {hostile:8.0f}   {hostile / calm:.2f} times")
 
 
 if __name__ == "__main__":
