@@ -271,13 +271,13 @@ class ManyObjects(Hostile):
 
 
 class NeverReads(Hostile):
-    """Asks for its registry again and again, and reads nothing."""
+    """Asks for answers again and again, and reads none of them until its store is full."""
 
     def play(self):
         for number in range(2, 250):
             self.send(frame(message(1, 1, word(number))))
         while not self.stop.is_set():
-            self.send(frame(message(1, 0, word(250))))
+            self.send(frame(message(1, 0, word(250)) * 100))
             self.pause()
 
 
@@ -329,6 +329,7 @@ def one_round(program, seed, totals):
     for link in links:
         link.join(10)
     compare(program, session, links, status)
+    check_limits(session, most_threads, most_files, memory)
     totals["rounds"] += 1
     totals["messages"] += session.count(b" bytes ")
     totals["batches"] += sum(link.batches for link in links if isinstance(link, Field))
@@ -348,6 +349,15 @@ def count(server, what):
 def most_memory(server):
     with open(f"/proc/{server.process.pid}/status") as file:
         return int(re.search(r"VmHWM:\s+(\d+)", file.read()).group(1))
+
+
+def check_limits(session, most_threads, most_files, memory):
+    """A thread, a stack and a buffer for each job, the stores of all peers, and the journal: no more was in use."""
+    jobs = 2 * 64
+    bodies = sum(len(line.rpartition(b" ")[2]) // 2 for line in session.splitlines() if b" bytes " in line)
+    allowed = jobs * 65_536 + 64 * 2 * 65_536 + session.count(b"\n") * 192 + 2 * bodies + 8_000_000
+    if most_threads > jobs + 1 or most_files > 2 * 64 + 16 or memory * 1024 > allowed:
+        raise SystemExit(f"{most_threads} threads, {most_files} files, {memory} KB, allowed {allowed // 1024} KB")
 
 
 def ends(program, session):

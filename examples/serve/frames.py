@@ -67,8 +67,10 @@ class Server:
         raise SystemExit(f"nobody listens at {path}")
 
     def finish(self):
-        """Waits until the server ends: its status, and the session that it recorded."""
+        """Waits until the server ends: its status, and the session that it recorded. Its socket files are gone then."""
         status = self.process.wait()
+        if any(os.path.exists(path) for path in self.paths.values()):
+            raise SystemExit("a socket file is left")
         self.session.seek(0)
         session = self.session.read()
         self.session.close()
