@@ -1,0 +1,12 @@
+//! The tests of the hub: each call once on its happy path, writers that sleep until a bell rings, and
+//! readers that race.
+#![tactic(auto)]
+
+#[cfg(test)]
+mod call_tests;
+#[cfg(test)]
+mod link;
+#[cfg(test)]
+mod race_tests;
+#[cfg(test)]
+mod waking_tests;
