@@ -65,10 +65,18 @@ def play(lines, server):
     return peers
 
 
-def main():
-    program, path = sys.argv[1:]
+def lines_of(path):
+    """The lines of a session; in form 2 a moment and an author stand before each, which a link doesn't say."""
     with open(path) as file:
         lines = file.read().splitlines()
+    if not lines[0].startswith("session 2 "):
+        return lines
+    return lines[:1] + [line.split(" ", 2)[-1] for line in lines[1:]]
+
+
+def main():
+    program, path = sys.argv[1:]
+    lines = lines_of(path)
     server = Server(program, letters(lines))
     peers = play(lines, server)
     status, session = server.finish()

@@ -1,34 +1,10 @@
-// wlim: a broker between text fields and an input method, whose promise is proved.
+//! wlim: a broker between text fields and an input method, whose promise is proved.
 #![tactic(auto)]
 
-mod act_list;
-mod command;
-#[cfg(test)]
-mod fault_tests;
-mod follow;
-#[cfg(test)]
-mod hostile_tests;
-mod last_line;
-#[cfg(test)]
-mod line_tests;
-#[cfg(test)]
-mod migrate_tests;
-mod migration;
-mod printer;
-mod reading;
-mod run;
-mod script;
-mod session;
-mod session_line;
-#[cfg(test)]
-mod session_tests;
-mod status;
-#[cfg(test)]
-mod tests;
-mod writing;
+mod serve;
 
-use run::run_plain;
-use status::Status;
+use plain_run::{Status, run_plain};
+use serve::serve;
 use std::process::ExitCode;
 use std::{env, io};
 use wio_core::{StdSink, StdSource};
@@ -52,12 +28,23 @@ fn unread(why: io::ErrorKind) -> Status {
     }
 }
 
+// Whether the first word is `serve`: no others are the server's.
+fn asks_to_serve(words: &[String]) -> bool {
+    match words {
+        [] => false,
+        [first, ..] => first.as_str() == "serve",
+    }
+}
+
 fn main(rt: HostRuntime) -> ExitCode {
     let words = match words(&rt) {
         Ok(words) => words,
         Err(error) => return ExitCode::from(unread(error.kind()).number()),
     };
-    let mut input = StdSource::new(rt.stdin());
     let mut output = StdSink::new(rt.stdout());
+    if asks_to_serve(&words) {
+        return ExitCode::from(serve(rt, rt.alloc(), &words, &mut output).number());
+    }
+    let mut input = StdSource::new(rt.stdin());
     ExitCode::from(run_plain(rt.alloc(), &words, &mut input, &mut output).number())
 }

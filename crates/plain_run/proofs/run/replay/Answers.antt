@@ -1,0 +1,41 @@
+use Rattle.plain_run.proofs.Runs.{acts_ran, session_ran, migrated_ran, acts_law, session_law, migrated_law}
+use Rattle.plain_run.proofs.MigratedLines.{migration_begins}
+use Rattle.plain_run.proofs.ActsPlayed.{acts_begin}
+use Rattle.plain_run.proofs.SessionsPlayed.{session_begins}
+use Rattle.plain_run.proofs.run.replay.Goals as goal
+
+pub play_input-requires-clause-follows : goal.play_input-requires-clause-follows
+play_input-requires-clause-follows g c = session_begins
+
+pub play_input-requires-in-Ok-clause-follows : goal.play_input-requires-in-Ok-clause-follows
+play_input-requires-in-Ok-clause-follows g c = acts_begin
+
+pub play_input-requires-in-Migrate-clause-follows : goal.play_input-requires-in-Migrate-clause-follows
+play_input-requires-in-Migrate-clause-follows g c = migration_begins
+
+pub returns-in-Replay-clause-ran : goal.returns-in-Replay-clause-ran
+returns-in-Replay-clause-ran g c = session_ran c.args.command _ _ _ _ _ _ _ c.play_input.result c.in-Replay.is
+    c.play_input.ensures.ran
+
+pub returns-in-Replay-clause-line_by_line : goal.returns-in-Replay-clause-line_by_line
+returns-in-Replay-clause-line_by_line g c = λ other.
+    let l = c.play_input.ensures.line_by_line other in
+    (l.0, l.1, session_law c.args.command _ _ _ _ c.play_input.result l.0 c.in-Replay.is l.2)
+
+pub returns-in-Ok-clause-ran : goal.returns-in-Ok-clause-ran
+returns-in-Ok-clause-ran g c = acts_ran c.args.command _ _ _ _ _ _ _ c.play_input-in-Ok.result c.in-ReplayActs.is
+    c.play_input-in-Ok.ensures.ran
+
+pub returns-in-Ok-clause-line_by_line : goal.returns-in-Ok-clause-line_by_line
+returns-in-Ok-clause-line_by_line g c = λ other.
+    let l = c.play_input-in-Ok.ensures.line_by_line other in
+    (l.0, l.1, acts_law c.args.command _ _ _ _ c.play_input-in-Ok.result l.0 c.in-ReplayActs.is l.2)
+
+pub returns-in-Migrate-clause-ran : goal.returns-in-Migrate-clause-ran
+returns-in-Migrate-clause-ran g c = migrated_ran c.args.command _ _ _ _ _ _ _ c.play_input-in-Migrate.result c.in-Migrate.is
+    c.play_input-in-Migrate.ensures.ran
+
+pub returns-in-Migrate-clause-line_by_line : goal.returns-in-Migrate-clause-line_by_line
+returns-in-Migrate-clause-line_by_line g c = λ other.
+    let l = c.play_input-in-Migrate.ensures.line_by_line other in
+    (l.0, l.1, migrated_law c.args.command _ _ _ _ c.play_input-in-Migrate.result l.0 c.in-Migrate.is l.2)

@@ -1,0 +1,23 @@
+//! What the words of the command line name, over an input and an output: sessions and act lists
+//! that are played, sessions that are migrated, trials, and generated sessions.
+#![tactic(auto)]
+
+mod act_list;
+mod command;
+mod follow;
+mod generated;
+mod last_line;
+mod migration;
+mod printer;
+mod reading;
+mod run;
+mod script;
+mod session;
+mod session_line;
+mod status;
+mod trial;
+mod whole;
+mod writing;
+
+pub use run::run_plain;
+pub use status::Status;

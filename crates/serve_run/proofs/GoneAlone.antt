@@ -1,0 +1,52 @@
+-- What a reader's pass made whose job wasn't started, and a journal that was full for a join
+use Rattle.std.proofs.Common.{◌≡◌, inl, inr, ◌++◌, ◌∷◌, [], ℕ, Option, Result, Ok, Err, refl, sym, ap, ◌∙◌}
+use Rattle.relay_model.specs.declared.act.EndCause.{EndCause}
+use Rattle.relay_model.specs.declared.act.EndCause.TheVariants.{Gone}
+use Rattle.seat_steps.specs.declared.limits.Limits.{Limits}
+use Rattle.seat_steps.specs.declared.step.Step.TheVariants as steps
+use Rattle.seat_steps.specs.declared.step.PeerStep.TheVariants as peers
+use Rattle.broker_model.specs.declared.journal.Entry.TheVariants as entries
+use Rattle.broker_core.specs.declared.answers.Applied.{Applied}
+use Rattle.broker_core.specs.declared.answers.Refused.{Refused}
+use Rattle.broker_core.specs.declared.answers.Refused.TheVariants as refusals
+use Rattle.broker_core.specs.Stands.{end_of}
+use Rattle.turn_lock.specs.Pairs.{own}
+use Rattle.hub_lock.specs.Histories.{History}
+use Rattle.hub_lock.specs.Passes.{PeerPass, steps_of}
+use Rattle.hub_lock.specs.Calls.{LegalStep, pass_having_seen}
+use Rattle.peer_link.specs.declared.ends.ReadEnd.TheVariants as ends
+use Rattle.peer_link.specs.Made.{entries_by, journal_of}
+use Rattle.peer_link.proofs.StepsMade.{entries-same, entries-one}
+use Rattle.peer_link.proofs.ShellServed.{entries-none}
+use Rattle.peer_link.proofs.StepsRefused.{step-ended, refusal-is}
+use Rattle.serve_run.specs.Unserved.{SaysGone}
+use Rattle.serve_run.proofs.PassesBack.{none_long}
+
+-- the end of a link of a pass that made nothing
+pub says_gone : (limits : Limits) (before after : PeerPass) (r : Result Applied Refused) → steps_of before.seat ≡ 0
+    → after ≡ pass_having_seen before after.seat.seen → (r ≡ Err refusals.NoPeer → ⊥)
+    → LegalStep limits before.seat after.seat.seen (steps.Peer before.peer peers.Gone) r → SaysGone limits after
+says_gone limits before after (Ok applied) fresh is other legal =
+    let none = entries-none before.seat (none_long (own before.seat.number before.seat.seen) fresh) in
+    inl (ap (λ (p : PeerPass). entries_by p.seat) is
+    ∙ (entries-one before.seat legal.rest after.seat.seen (entries.End before.peer Gone) legal.apart legal.answer.applied
+    ∙ (ap (λ es. es ++ entries.End before.peer Gone ∷ []) none
+    ∙ ap (λ (p : PeerPass). entries.End p.peer Gone ∷ []) (sym is))))
+says_gone limits before after (Err refusals.NoPeer) fresh is other legal = absurd (other refl)
+says_gone limits before after (Err (refusals.Ended cause)) fresh is other legal =
+    let none = entries-none before.seat (none_long (own before.seat.number before.seat.seen) fresh) in
+    inr (
+      ap (λ (p : PeerPass). entries_by p.seat) is
+          ∙ (entries-same before.seat legal.rest after.seat.seen legal.apart legal.answer.same ∙ none),
+      cause,
+      ap (λ (p : PeerPass). end_at p.peer after.seat.seen) is
+          ∙ (ap (λ h. end_at before.peer h) legal.answer.same
+          ∙ step-ended limits (before.seat.seen ++ legal.rest) before.seat.number before.peer peers.Gone after.seat.seen cause legal.answer),
+    )
+  where
+    end_at : ℕ → History → Option EndCause
+    end_at q h = end_of (journal_of limits h) q
+says_gone limits before after (Err (refusals.JournalFull kept)) fresh is other legal =
+    absurd (refusal-is limits before after peers.Gone (refusals.JournalFull kept) (ends.JournalFull kept) refl other legal)
+says_gone limits before after (Err refusals.NoMemory) fresh is other legal =
+    absurd (refusal-is limits before after peers.Gone refusals.NoMemory ends.NoMemory refl other legal)

@@ -1,0 +1,77 @@
+-- The jobs and joins of one link more
+use Rattle.std.proofs.Common.{◌≡◌, ◌+◌, ◌≤◌, ◌++◌, ◌∷◌, [], ℕ, zero, suc, List, length, map, take, Option, Some, None, refl, sym, ap, ◌∙◌, arith, append-nil, length-append}
+use Rattle.std.proofs.lemmas.List.{append_assoc, map-append}
+use Rattle.std.proofs.lemmas.List.Elements.{All-append}
+use Rattle.relay_model.specs.declared.role.Role.{Role}
+use Rattle.hub_lock.specs.Passes.{HubId}
+use Rattle.link_nets.specs.declared.door.Door.{Door}
+use Rattle.link_jobs.specs.Tags.{Tag}
+use Rattle.serve_run.specs.LinkJobs.{LinkedJob, IsOnHub, job_tagged, role_at, jobs_by, joins_by, passes_by, jobs_of, joins_of, passes_of}
+use Rattle.serve_run.specs.Started.{AreStarted}
+
+pub jobs_counted : (next : ℕ) (role : Option Role) → length (jobs_by next role) ≡ passes_by role
+jobs_counted next None = refl
+jobs_counted next (Some role) = refl
+
+pub all_jobs_counted : (next : ℕ) (doors : List Door) → length (jobs_of next doors) ≡ passes_of doors
+all_jobs_counted next [] = refl
+all_jobs_counted next (d ∷ doors) =
+    let rest = all_jobs_counted (next + passes_by (role_at d)) doors in
+    let one = jobs_counted next (role_at d) in
+    let both = length-append (jobs_by next (role_at d)) (jobs_of (next + passes_by (role_at d)) doors) in omega arith
+
+pub passes_more : (doors : List Door) (d : Door) → passes_of (doors ++ d ∷ []) ≡ passes_of doors + passes_by (role_at d)
+passes_more [] d = omega arith
+passes_more (e ∷ doors) d = let rest = passes_more doors d in omega arith
+
+pub jobs_more : (next : ℕ) (doors : List Door) (d : Door)
+    → jobs_of next (doors ++ d ∷ []) ≡ jobs_of next doors ++ jobs_by (next + passes_of doors) (role_at d)
+jobs_more next [] d = append-nil (jobs_by next (role_at d)) ∙ ap (λ n. jobs_by n (role_at d)) (omega arith)
+jobs_more next (e ∷ doors) d =
+    ap (λ jobs. jobs_by next (role_at e) ++ jobs) (jobs_more (next + passes_by (role_at e)) doors d)
+    ∙ (sym (append_assoc (jobs_by next (role_at e)) (jobs_of (next + passes_by (role_at e)) doors)
+    (jobs_by (next + passes_by (role_at e) + passes_of doors) (role_at d)))
+    ∙ ap (λ n. (jobs_by next (role_at e) ++ jobs_of (next + passes_by (role_at e)) doors) ++ jobs_by n (role_at d)) (omega arith))
+
+pub joins_more : (next : ℕ) (doors : List Door) (d : Door)
+    → joins_of next (doors ++ d ∷ []) ≡ joins_of next doors ++ joins_by (next + passes_of doors) (role_at d)
+joins_more next [] d = append-nil (joins_by next (role_at d)) ∙ ap (λ n. joins_by n (role_at d)) (omega arith)
+joins_more next (e ∷ doors) d =
+    ap (λ joins. joins_by next (role_at e) ++ joins) (joins_more (next + passes_by (role_at e)) doors d)
+    ∙ (sym (append_assoc (joins_by next (role_at e)) (joins_of (next + passes_by (role_at e)) doors)
+    (joins_by (next + passes_by (role_at e) + passes_of doors) (role_at d)))
+    ∙ ap (λ n. (joins_by next (role_at e) ++ joins_of (next + passes_by (role_at e)) doors) ++ joins_by n (role_at d)) (omega arith))
+
+-- fewer doors bring no more passes
+pub passes_front : (doors : List Door) (n m : ℕ) → n ≤ m → passes_of (take n doors) ≤ passes_of (take m doors)
+passes_front doors zero m few = omega arith
+passes_front [] (suc n) m few = omega arith
+passes_front (d ∷ doors) (suc n) zero few = absurd (omega arith)
+passes_front (d ∷ doors) (suc n) (suc m) few = let rest = passes_front doors n m (omega arith) in omega arith
+
+-- the first of two lists, and some of the second
+pub take_past : {A : Type 0} (xs ys : List A) (n : ℕ) → take (length xs + n) (xs ++ ys) ≡ xs ++ take n ys
+take_past [] ys n = let same : 0 + n ≡ n = omega arith in ap (λ k. take k ys) same
+take_past (x ∷ xs) ys n =
+    let same : length (x ∷ xs) + n ≡ suc (length xs + n) = omega arith in
+    ap (λ k. take k (x ∷ (xs ++ ys))) same ∙ ap (λ zs. x ∷ zs) (take_past xs ys n)
+
+-- no job was started
+pub none_started : (hub : HubId) (started : List Tag) → AreStarted hub started started []
+none_started hub started = record {
+  tags = [];
+  are = sym (append-nil started);
+  jobs_are = refl;
+  on_hub = λ k d within. absurd (omega arith);
+}
+
+-- jobs were started, and then others
+pub started_both : (hub : HubId) (a b c : List Tag) (first then : List LinkedJob) → AreStarted hub a b first
+    → AreStarted hub b c then → AreStarted hub a c (first ++ then)
+started_both hub a b c first then one two = record {
+  tags = one.tags ++ two.tags;
+  are = two.are ∙ (ap (λ t. t ++ two.tags) one.are ∙ append_assoc a one.tags two.tags);
+  jobs_are = map-append job_tagged one.tags two.tags ∙ (ap (λ t. t ++ map job_tagged two.tags) one.jobs_are
+      ∙ ap (λ t. first ++ t) two.jobs_are);
+  on_hub = All-append (IsOnHub hub) one.tags two.tags one.on_hub two.on_hub;
+}

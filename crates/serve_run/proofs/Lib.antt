@@ -1,0 +1,14 @@
+pub mod GoneAlone
+pub mod HistoryCopied
+pub mod JobsInOrder
+pub mod JoinsRefused
+pub mod LawOfServer
+pub mod LawsKept
+pub mod LinksInOrder
+pub mod LinksStart
+pub mod NumbersTaken
+pub mod OnlyRootJoins
+pub mod PassesBack
+pub mod ResultsInOrder
+pub mod RootKept
+pub mod StartsCounted

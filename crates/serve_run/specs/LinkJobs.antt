@@ -1,0 +1,72 @@
+-- What the links of doors bring: joins, and jobs. Passes are numbered from 1 in the order in which they are made: a peer's
+-- reader's, then its writer's, or that of a shell.
+use Rattle.std.specs.Prelude.{◌≡◌, ℕ, ◌+◌, ◌≤◌, List, [], ◌∷◌, ◌++◌, Option, Some, None}
+use Rattle.std.specs.List.{slice_get}
+use Rattle.relay_model.specs.declared.role.Role.{Role}
+use Rattle.relay_model.specs.declared.role.Role.TheVariants as roles
+use Rattle.broker_model.specs.declared.journal.Entry.TheVariants as entries
+use Rattle.hub_lock.specs.declared.step.OuterStep.{OuterStep}
+use Rattle.hub_lock.specs.Histories.{joining}
+use Rattle.hub_lock.specs.Passes.{HubId}
+use Rattle.link_nets.specs.declared.door.Door.{Door}
+use Rattle.link_nets.specs.declared.door.Door.TheVariants as doors
+use Rattle.link_jobs.specs.Tags.{Part, Tag, Report}
+use Rattle.link_jobs.specs.Tags.Part.{reader, writer, shell}
+
+-- a job of a link: the number of its pass, and its part
+pub record LinkedJob : Type 0 where
+  pub number : ℕ
+  pub part : Part
+
+abbrev pub job : ℕ → Part → LinkedJob
+job number part = record { number = number; part = part }
+
+-- the role of the peer that comes through a door; a shell is none
+abbrev pub role_at : Door → Option Role
+role_at doors.App = Some roles.App
+role_at doors.Method = Some roles.Method
+role_at doors.Shell = None
+
+-- the jobs of a link whose first pass has that number
+abbrev pub jobs_by : (next : ℕ) → Option Role → List LinkedJob
+jobs_by next None = job next shell ∷ []
+jobs_by next (Some role) = job next reader ∷ job (next + 1) writer ∷ []
+
+-- how many passes it has
+abbrev pub passes_by : Option Role → ℕ
+passes_by None = 1
+passes_by (Some role) = 2
+
+-- the join of a link, if it has one
+abbrev pub joins_by : (next : ℕ) → Option Role → List OuterStep
+joins_by next None = []
+joins_by next (Some role) = joining (entries.Join role) next ∷ []
+
+-- the same of the links of these doors, in order
+abbrev pub jobs_of : (next : ℕ) → List Door → List LinkedJob
+jobs_of next [] = []
+jobs_of next (d ∷ ds) = jobs_by next (role_at d) ++ jobs_of (next + passes_by (role_at d)) ds
+
+abbrev pub passes_of : List Door → ℕ
+passes_of [] = 0
+passes_of (d ∷ ds) = passes_by (role_at d) + passes_of ds
+
+abbrev pub joins_of : (next : ℕ) → List Door → List OuterStep
+joins_of next [] = []
+joins_of next (d ∷ ds) = joins_by next (role_at d) ++ joins_of (next + passes_by (role_at d)) ds
+
+-- the job of a tag, and of a report
+abbrev pub job_tagged : Tag → LinkedJob
+job_tagged t = job t.number t.part
+
+abbrev pub job_reported : Report → LinkedJob
+job_reported r = job r.number r.part
+
+-- the tag is that of a job on this hub
+pub record IsOnHub (hub : HubId) (t : Tag) : Type 0 where
+  pub turn : t.turn ≡ hub.turn
+  pub limits : t.limits ≡ Some hub.limits
+
+-- the tags from the n-th on are those of jobs on this hub
+abbrev pub AreOnHub : HubId → ℕ → List Tag → Type 0
+AreOnHub hub n tags = (i : ℕ) (t : Tag) → n ≤ i → slice_get tags i ≡ Some t → IsOnHub hub t

@@ -1,0 +1,114 @@
+-- The server law: what a run of the server makes of the net, the spawner and the output
+use Rattle.std.specs.Prelude.{◌≡◌, ◌⊎◌, ℕ, ◌+◌, ◌-◌, ◌≤◌, Bool, true, List, [], ◌∷◌, ◌++◌, length, map, take, drop, Option, Result, Err, OnOk, IfErr}
+use Rattle.std.specs.Io.KnownBytes.{Appends}
+use Rattle.wio_core.specs.Io.{Rose}
+use Rattle.turn_lock.specs.Pairs.{own}
+use Rattle.broker_model.specs.declared.journal.Entry.{Entry}
+use Rattle.broker_model.specs.declared.journal.Entry.TheVariants as entries
+use Rattle.hub_lock.specs.Histories.{History, broker_of}
+use Rattle.hub_lock.specs.Lawful.{IsLawful}
+use Rattle.session_play.specs.Recorded.{recorded}
+use Rattle.link_nets.specs.declared.door.Door.{Door}
+use Rattle.link_jobs.specs.Tags.{Tag, Report}
+use Rattle.serve_words.specs.Words.{Serving}
+use Rattle.serve_record.specs.Lines.{GainsFront}
+use Rattle.serve_run.specs.declared.status.ServeStatus.{ServeStatus}
+use Rattle.serve_run.specs.declared.status.ServeStatus.TheVariants as statuses
+use Rattle.serve_run.specs.declared.stop.Stop.{Stop}
+use Rattle.serve_run.specs.declared.stop.Stop.TheVariants as stops
+use Rattle.serve_run.specs.LinkJobs.{job_reported, jobs_of, joins_of, passes_of}
+use Rattle.serve_run.specs.Reported.{HaveLaws}
+use Rattle.serve_run.specs.Started.{MayLack}
+use Rattle.serve_run.specs.Refused.{JoinedUnless}
+use Rattle.serve_run.specs.Statuses.{status_by, worst}
+use Rattle.serve_run.specs.Unserved.{AreUnserved}
+
+-- what is seen of the net, the spawner and the output at one moment
+pub record Sides : Type 0 where
+  pub opened : Door → Bool
+  pub links : List Door
+  pub net_faults : ℕ
+  pub started : List Tag
+  pub reports : List Report
+  pub before_start : ℕ
+  pub refusals : ℕ
+  pub held : Option (List ℕ)
+  pub output_faults : ℕ
+
+abbrev pub sides : (Door → Bool) → List Door → ℕ → List Tag → List Report → ℕ → ℕ → Option (List ℕ) → ℕ → Sides
+sides opened links net_faults started reports before_start refusals held output_faults = record {
+  opened = opened;
+  links = links;
+  net_faults = net_faults;
+  started = started;
+  reports = reports;
+  before_start = before_start;
+  refusals = refusals;
+  held = held;
+  output_faults = output_faults;
+}
+
+-- the recorded session of a history
+abbrev pub text_of : Serving → History → List ℕ
+text_of asked h =
+    let b = broker_of asked.limits h in recorded asked.limits b.journal b.stamps
+
+-- the text went out, or a front of it where the output failed or memory lacked
+abbrev pub IsWritten : ServeStatus → (held held_after : Option (List ℕ)) → (text : List ℕ) → Type 0
+IsWritten statuses.WriteFault held held_after text = GainsFront held held_after text
+IsWritten statuses.NoMemory held held_after text = GainsFront held held_after text
+IsWritten _ held held_after text = Appends held held_after text
+
+-- a step that joins a peer is the root's
+abbrev pub IsRootIfJoin : ℕ → Entry → Type 0
+IsRootIfJoin n (entries.Join role) = n ≡ 0
+IsRootIfJoin n _ = Unit {0}
+
+-- so it is with each step of the history
+abbrev pub OnlyRootJoins : History → Type 0
+OnlyRootJoins [] = Unit {0}
+OnlyRootJoins (s ∷ rest) = IsRootIfJoin s.0 s.1.entry × OnlyRootJoins rest
+
+-- One hub served. Its journal is that of the history, whose steps have the numbers of the passes that made them.
+pub record ServerLaw (asked : Serving) (before after : Sides) (status : ServeStatus) : Type 0 where
+  -- the journal is the history of its outer steps, and what is written is its recorded session
+  pub history : History
+  pub lawful : IsLawful asked.limits history
+  pub written : IsWritten status before.held after.held (text_of asked history)
+  -- why the accepting stopped, if it did
+  pub stop : Result (Unit {0}) Stop
+  -- the links came through the doors of the first letters
+  pub accepted : ℕ
+  pub within : accepted ≤ length asked.order
+  pub doors : after.links ≡ before.links ++ take accepted asked.order
+  -- each was joined, or all but the last; the joins of the root are theirs, in order, and, where there was memory for the
+  -- session, there are no others
+  pub joined : ℕ
+  pub none_more : joined ≤ accepted
+  pub near : accepted ≤ joined + 1
+  pub refused : JoinedUnless asked.limits history asked.order joined accepted stop
+  pub joins : own 0 history ≡ joins_of 1 (take joined asked.order)
+  pub only_root : ¬ (status ≡ statuses.NoMemory) → OnlyRootJoins history
+  -- the results that came are those of a reader and a writer of each peer that joined, and of each shell, in order; of
+  -- the last link some may lack. Each has its loop law.
+  pub given : List Report
+  pub reports : after.reports ≡ before.reports ++ given
+  pub served : ℕ
+  pub are : map job_reported given ≡ take served (jobs_of 1 (take joined asked.order))
+  pub before_last : passes_of (take (joined - 1) asked.order) ≤ served
+  pub laws : HaveLaws asked.limits history given
+  -- some lack only where memory or a thread did; of those a reader's pass says that its link is gone, and no other anything
+  pub lacks : (served ≡ passes_of (take joined asked.order)) ⊎ IfErr stop MayLack
+  pub unserved : AreUnserved asked.limits history (drop served (jobs_of 1 (take joined asked.order)))
+  -- as many came as jobs were started, none of them before the last start
+  pub as_many : length after.started ≡ length before.started + length given
+  pub starts : (after.before_start ≡ before.before_start) ⊎ (after.before_start ≡ length before.reports)
+  -- what a stop tells, and what the status is
+  pub all_accepted : OnOk stop (accepted ≡ length asked.order)
+  pub all_joined : OnOk stop (joined ≡ accepted)
+  pub all_served : OnOk stop (served ≡ passes_of asked.order)
+  pub all_open : OnOk stop ((d : Door) → after.opened d ≡ true)
+  pub net : stop ≡ Err stops.NetFault → Rose before.net_faults after.net_faults
+  pub threads : stop ≡ Err stops.NoThread → Rose before.refusals after.refusals
+  pub write : status ≡ statuses.WriteFault → Rose before.output_faults after.output_faults
+  pub status_is : (status ≡ status_by stop (worst given)) ⊎ ((status ≡ statuses.WriteFault) ⊎ (status ≡ statuses.NoMemory))

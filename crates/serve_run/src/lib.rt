@@ -1,0 +1,14 @@
+//! The server: links of applications, methods and shells over one hub, and its recorded session.
+#![tactic(auto)]
+
+mod accept;
+mod collect;
+mod open;
+mod serve;
+mod start;
+mod status;
+mod stop;
+
+pub use serve::run_serve;
+pub use status::ServeStatus;
+pub use stop::{Stop, Trouble};

@@ -1,0 +1,20 @@
+//! The doors open.
+ghost use Rattle.std.specs.Prelude.{◌≡◌, ◌≤◌, true, OnOk, OnErr};
+ghost use Rattle.wio_core.specs.Io.{Rose};
+ghost use Rattle.link_nets.specs.declared.door.Door.{Door};
+
+use link_nets::{Door, Net};
+use serve_words::Serving;
+use wio_core::Failed;
+
+/// Opens the app, the method and the shell door at their paths, in this order.
+pub(crate) fn open_all<N: Net>(net: &mut N, asked: &Serving<'_>) -> Result<(), Failed>
+    ensures open { OnOk result ((d : Door) → N.opened net.new d ≡ true) }
+    ensures links { N.links net.new ≡ N.links net.old }
+    ensures never_falls { N.fault_count net.old ≤ N.fault_count net.new }
+    ensures cause { OnErr result (Rose (N.fault_count net.old) (N.fault_count net.new)) }
+{
+    net.listen(Door::App, asked.app)?;
+    net.listen(Door::Method, asked.method)?;
+    net.listen(Door::Shell, asked.shell)
+}

@@ -1,0 +1,201 @@
+//! The server.
+ghost use Rattle.std.specs.Prelude.{◌≡◌, ◌⊎◌, ◌≤◌, ◌+◌, ◌*◌, ◌^◌, ◌++◌, ℕ, []};
+ghost use Rattle.std.specs.Prelude.{length, map, take, string_bytes, true, Some, None, Err, OnOk, IfSome};
+ghost use Rattle.std.specs.Arc.{arc_value};
+ghost use Rattle.wio_core.specs.Io.{Rose};
+ghost use Rattle.seat_steps.specs.Ranges.{IsLimits};
+ghost use Rattle.link_nets.specs.declared.door.Door.{Door};
+ghost use Rattle.serve_words.specs.Words.{doors_of};
+ghost use Rattle.serve_words.specs.Words as grammar;
+ghost use Rattle.serve_words.specs.Asked.{asked as asked'};
+ghost use Rattle.serve_run.specs.Started.{IsRootOf, LinksStarted};
+ghost use Rattle.serve_run.specs.ServerLaw.{ServerLaw, IsWritten, sides};
+ghost use Rattle.serve_run.specs.Statuses.{status_by};
+ghost use Rattle.session_play.specs.Recorded.{recorded};
+ghost use Rattle.turn_lock.specs.Sights.{fresh_seat};
+
+use crate::accept::accept_all;
+use crate::collect::collect;
+use crate::open::open_all;
+use crate::status::ServeStatus;
+use crate::stop::{Stop, Trouble, status_of};
+use hub_lock::{Gate, Hub, HubPass, Session};
+use link_jobs::{LinkJob, Spawner};
+use link_nets::Net;
+use serve_record::{RecordStop, write_record};
+use serve_words::{Serving, WordsRefusal, serve_of};
+use std::alloc::Global;
+use std::sync::{Arc, Wait};
+use wio_core::{NoMemory, Sink};
+
+// Opens the doors, and accepts and starts the links.
+fn serve_links<R: Wait, N: Net, G: Gate + Drop, W: Spawner<LinkJob<N::In, N::Out, G>>>(
+    rt: &R,
+    alloc: Global,
+    asked: &Serving<'_>,
+    hub: &Arc<Hub, Global>,
+    root: &mut HubPass,
+    net: &mut N,
+    spawner: &mut W,
+    gate: &Arc<G, Global>,
+) -> Result<(), Stop>
+    requires ready { (w : _) (j : _) → W.ready w j }
+    requires root { IsRootOf (arc_value hub.now) root.old }
+    requires room { root.old.next + 2 * length asked.now.order.now ≤ 2 ^ 63 }
+    ensures accepted { (count : ℕ) × (count ≤ length asked.now.order.now)
+        × (N.links net.new ≡ N.links net.old ++ take count (doors_of asked.now.order.now))
+        × LinksStarted (arc_value hub.now) root.old root.new (W.started spawner.old)
+        (W.started spawner.new) (doors_of asked.now.order.now) count result
+        × OnOk result (count ≡ length asked.now.order.now) }
+    ensures open { OnOk result ((d : Door) → N.opened net.new d ≡ true) }
+    ensures last { (W.before_start spawner.new ≡ W.before_start spawner.old)
+        ⊎ (W.before_start spawner.new ≡ length (W.reports spawner.old)) }
+    ensures reports { W.reports spawner.new ≡ W.reports spawner.old }
+    ensures never_falls { N.fault_count net.old ≤ N.fault_count net.new }
+    ensures refusals { W.refusal_count spawner.old ≤ W.refusal_count spawner.new }
+    ensures threads { result ≡ Err Stop.NoThread →
+        Rose (W.refusal_count spawner.old) (W.refusal_count spawner.new) }
+    ensures net { result ≡ Err Stop.NetFault →
+        Rose (N.fault_count net.old) (N.fault_count net.new) }
+{
+    if open_all(net, asked).is_err() {
+        return Err(Stop::NetFault);
+    }
+    accept_all(rt, alloc, hub, root, net, spawner, gate, asked.order)
+}
+
+// Writes the recorded session, and says how the run ended.
+fn write_session<K: Sink>(
+    alloc: Global,
+    session: &Session,
+    accepted: Result<(), Stop>,
+    trouble: Trouble,
+    output: &mut K,
+) -> ServeStatus
+    requires each { length session.now.stamps.stamps ≡ length session.now.journal.entries }
+    ensures written { IsWritten result (K.held output.old) (K.held output.new)
+        (recorded session.now.limits session.now.journal.entries session.now.stamps.stamps) }
+    ensures cause { result ≡ ServeStatus.WriteFault →
+        Rose (K.fault_count output.old) (K.fault_count output.new) }
+    ensures status { (result ≡ status_by accepted trouble)
+        ⊎ ((result ≡ ServeStatus.WriteFault) ⊎ (result ≡ ServeStatus.NoMemory)) }
+{
+    match write_record(alloc, session, output) {
+        Ok(()) => status_of(accepted, trouble),
+        Err(RecordStop::WriteFault) => ServeStatus::WriteFault,
+        Err(RecordStop::NoMemory) => ServeStatus::NoMemory,
+    }
+}
+
+// Serves what the words ask for, by a hub that nobody joined yet.
+fn serve_by<R: Wait, N: Net, W: Spawner<LinkJob<N::In, N::Out, G>>, G: Gate + Drop, K: Sink>(
+    rt: &R,
+    alloc: Global,
+    asked: &Serving<'_>,
+    hub: &Arc<Hub, Global>,
+    root: &mut HubPass,
+    net: &mut N,
+    spawner: &mut W,
+    gate: &Arc<G, Global>,
+    output: &mut K,
+) -> ServeStatus
+    requires ready { (w : _) (j : _) → W.ready w j }
+    requires idle { length (W.reports spawner.old) ≡ length (W.started spawner.old) }
+    requires limits { (arc_value hub.now).limits ≡ asked.now.limits }
+    requires order { length asked.now.order.now ≤ 64 }
+    requires new { root.old ≡
+        fresh_seat (arc_value hub.now).turn 0 (Some (arc_value hub.now).limits) [] }
+    ensures law { ServerLaw (asked' asked.now)
+        (sides (N.opened net.old) (N.links net.old) (N.fault_count net.old)
+        (W.started spawner.old) (W.reports spawner.old) (W.before_start spawner.old)
+        (W.refusal_count spawner.old) (K.held output.old) (K.fault_count output.old))
+        (sides (N.opened net.new) (N.links net.new) (N.fault_count net.new)
+        (W.started spawner.new) (W.reports spawner.new) (W.before_start spawner.new)
+        (W.refusal_count spawner.new) (K.held output.new) (K.fault_count output.new)) result }
+{
+    let accepted = serve_links(rt, alloc, asked, hub, root, net, spawner, gate);
+    let trouble = collect(&**hub, root, spawner);
+    match hub.session(rt, root) {
+        Ok(session) => write_session(alloc, &session, accepted, trouble, output),
+        Err(NoMemory) => ServeStatus::NoMemory,
+    }
+}
+
+// Serves what the words ask for.
+fn serve<R: Wait, N: Net, W: Spawner<LinkJob<N::In, N::Out, G>>, G: Gate + Drop, K: Sink>(
+    rt: &R,
+    alloc: Global,
+    asked: &Serving<'_>,
+    net: &mut N,
+    spawner: &mut W,
+    gate: &Arc<G, Global>,
+    output: &mut K,
+) -> ServeStatus
+    requires ready { (w : _) (j : _) → W.ready w j }
+    requires idle { length (W.reports spawner.old) ≡ length (W.started spawner.old) }
+    requires limits { IsLimits asked.now.limits }
+    requires order { length asked.now.order.now ≤ 64 }
+    ensures law { ((result ≡ ServeStatus.NoMemory) × (net.new ≡ net.old)
+        × (spawner.new ≡ spawner.old) × (output.new ≡ output.old))
+        ⊎ ServerLaw (asked' asked.now)
+        (sides (N.opened net.old) (N.links net.old) (N.fault_count net.old)
+        (W.started spawner.old) (W.reports spawner.old) (W.before_start spawner.old)
+        (W.refusal_count spawner.old) (K.held output.old) (K.fault_count output.old))
+        (sides (N.opened net.new) (N.links net.new) (N.fault_count net.new)
+        (W.started spawner.new) (W.reports spawner.new) (W.before_start spawner.new)
+        (W.refusal_count spawner.new) (K.held output.new) (K.fault_count output.new)) result }
+{
+    let Ok((hub, mut root)) = Hub::new(alloc, asked.limits) else {
+        return ServeStatus::NoMemory;
+    };
+    let Ok(hub) = Arc::new(alloc, hub) else {
+        return ServeStatus::NoMemory;
+    };
+    serve_by(
+        rt, alloc, asked, &hub, &mut root, net, spawner, gate, output,
+    )
+}
+
+/// Serves the links that the words ask for over one hub. It opens the three doors, accepts one link
+/// per letter of the order, joins those of applications and methods, and starts a reader and a
+/// writer for each, or one job for a shell. Where a door, a link, a join or a start fails it accepts
+/// no further links, and lets the jobs that run go on to their ends. When all are done it writes the
+/// hub's recorded session. The spawner has given the results of all that it started before. (Wait:
+/// it promises what it does if it returns.)
+pub fn run_serve<R: Wait, N: Net, W: Spawner<LinkJob<N::In, N::Out, G>>, G: Gate + Drop, K: Sink>(
+    rt: &R,
+    alloc: Global,
+    words: &[String],
+    net: &mut N,
+    spawner: &mut W,
+    gate: &Arc<G, Global>,
+    output: &mut K,
+) -> ServeStatus
+    requires ready { (w : _) (j : _) → W.ready w j }
+    requires idle { length (W.reports spawner.old) ≡ length (W.started spawner.old) }
+    // The words are in no grammar exactly where the answer says so, want of memory excepted, and
+    // then nothing is done.
+    ensures bad_words { result ≡ ServeStatus.BadWords →
+        grammar.serve_of (map string_bytes words.now) ≡ None }
+    ensures refused { grammar.serve_of (map string_bytes words.now) ≡ None →
+        (result ≡ ServeStatus.BadWords) ⊎ (result ≡ ServeStatus.NoMemory) }
+    ensures untouched { grammar.serve_of (map string_bytes words.now) ≡ None →
+        (net.new ≡ net.old) × (spawner.new ≡ spawner.old) × (output.new ≡ output.old) }
+    // The server law, where there was memory for a hub.
+    ensures law { IfSome (grammar.serve_of (map string_bytes words.now)) (λ asked.
+        ((result ≡ ServeStatus.NoMemory) × (net.new ≡ net.old)
+        × (spawner.new ≡ spawner.old) × (output.new ≡ output.old))
+        ⊎ ServerLaw asked
+        (sides (N.opened net.old) (N.links net.old) (N.fault_count net.old)
+        (W.started spawner.old) (W.reports spawner.old) (W.before_start spawner.old)
+        (W.refusal_count spawner.old) (K.held output.old) (K.fault_count output.old))
+        (sides (N.opened net.new) (N.links net.new) (N.fault_count net.new)
+        (W.started spawner.new) (W.reports spawner.new) (W.before_start spawner.new)
+        (W.refusal_count spawner.new) (K.held output.new) (K.fault_count output.new)) result) }
+{
+    match serve_of(words) {
+        Ok(asked) => serve(rt, alloc, &asked, net, spawner, gate, output),
+        Err(WordsRefusal::BadWords) => ServeStatus::BadWords,
+        Err(WordsRefusal::NoMemory) => ServeStatus::NoMemory,
+    }
+}

@@ -1,0 +1,156 @@
+//! A net with one link, whose source ends only once its sink has gained bytes.
+ghost use Rattle.std.specs.Prelude.{◌≡◌, None, true, IfSome};
+ghost use Rattle.std.proofs.Props.{props};
+
+use crate::gates::TURNS;
+use link_nets::{Door, LinkSink, Net};
+use std::alloc::{AllocError, Global};
+use std::sync::Arc;
+use std::sync::atomic::{AtomicU64, Ordering};
+use std::thread;
+use wio_core::{Failed, MemSource, Sink, Source};
+
+/// What the two ways of the link share.
+#[derive(Drop)]
+pub(crate) struct Shared {
+    gained: AtomicU64,
+    late: AtomicU64,
+}
+
+impl Shared {
+    pub(crate) fn new() -> Shared {
+        Shared {
+            gained: AtomicU64::new(0),
+            late: AtomicU64::new(0),
+        }
+    }
+
+    /// Whether the source waited in vain.
+    pub(crate) fn was_late(&self) -> bool {
+        self.late.load(Ordering::SeqCst) > 0
+    }
+
+    fn wait(&self) {
+        for _ in 0..TURNS {
+            if self.gained.load(Ordering::SeqCst) > 0 {
+                return;
+            }
+            thread::yield_now();
+        }
+        self.late.store(1, Ordering::SeqCst);
+    }
+}
+
+/// Gives bytes, and its end once the sink has gained some.
+#[derive(Drop)]
+pub(crate) struct LiveSource {
+    bytes: MemSource,
+    shared: Arc<Shared, Global>,
+}
+
+impl Source for LiveSource {
+    ghost given = { λ _. None };
+
+    ghost left = { λ _. None };
+
+    ghost fault_count = { λ s. s.bytes.faults };
+
+    fn read(&mut self, buf: &mut [u8]) -> Result<usize, Failed> {
+        let count = self.bytes.read(buf)?;
+        if count == 0 {
+            self.shared.wait();
+        }
+        Ok(count)
+    }
+
+    fn faults(&self) -> u64 {
+        self.bytes.faults()
+    }
+}
+
+/// Counts the bytes that it gains.
+#[derive(Drop)]
+pub(crate) struct LiveSink {
+    shared: Arc<Shared, Global>,
+}
+
+impl Sink for LiveSink {
+    ghost held = { λ _. None };
+
+    ghost fault_count = { λ _. 0 };
+
+    fn write(&mut self, piece: &[u8]) -> Result<usize, Failed> {
+        self.shared
+            .gained
+            .fetch_add(piece.len() as u64, Ordering::SeqCst);
+        Ok(piece.len())
+    }
+
+    fn faults(&self) -> u64 {
+        0
+    }
+}
+
+impl LinkSink for LiveSink {
+    fn hang_up(&mut self) {}
+}
+
+/// A net with one link.
+#[derive(Drop)]
+pub(crate) struct LiveNet {
+    link: Option<(LiveSource, LiveSink)>,
+    links: Vec<Door>,
+    faults: u64,
+    ghost whole: { IfSome link (λ l. l.0.bytes.faults ≡ 0) } by { Prim.hlevel props },
+}
+
+impl LiveNet {
+    pub(crate) fn new(
+        alloc: Global,
+        bytes: &[u8],
+        shared: &Arc<Shared, Global>,
+    ) -> Result<LiveNet, AllocError> {
+        let source = LiveSource {
+            bytes: MemSource::new(bytes.to_vec(alloc)?, 4096, Vec::new(alloc)),
+            shared: Arc::try_clone(shared)?,
+        };
+        let sink = LiveSink {
+            shared: Arc::try_clone(shared)?,
+        };
+        Ok(LiveNet {
+            link: Some((source, sink)),
+            links: Vec::new(alloc),
+            faults: 0,
+        })
+    }
+}
+
+impl Net for LiveNet {
+    type In = LiveSource;
+
+    type Out = LiveSink;
+
+    ghost opened = { λ n d. true };
+
+    ghost links = { λ n. n.links.items };
+
+    ghost fault_count = { λ n. n.faults };
+
+    fn listen(&mut self, _door: Door, _path: &str) -> Result<(), Failed> {
+        Ok(())
+    }
+
+    fn accept(&mut self, door: Door) -> Result<(LiveSource, LiveSink), Failed> {
+        if let Some(link) = self.link.take() {
+            if self.links.push(door).is_ok() {
+                return Ok(link);
+            }
+        }
+        self.faults = self.faults.saturating_add(1);
+        Err(Failed)
+    }
+
+    fn faults(&self) -> u64 {
+        self.faults
+    }
+}

@@ -1,0 +1,40 @@
+//! The server over Unix sockets and threads.
+use hub_lock::Gate;
+use link_jobs::LinkJob;
+use serve_run::{ServeStatus, run_serve};
+use std::alloc::Global;
+use std::fs::Files;
+use std::net::Net;
+use std::sync::{Arc, Wait};
+use std::thread::Threads;
+use unix_links::{ThreadSpawner, UnixNet, UnixSink, UnixSource, begin_job};
+use wio_core::Sink;
+
+/// Holds no reader.
+#[derive(Drop)]
+struct Open;
+
+impl Gate for Open {
+    fn before(&self, _peer: u32, _step: u64) {}
+
+    fn after(&self, _peer: u32, _step: u64) {}
+}
+
+/// Serves what the words ask for over real sockets, and writes the recorded session.
+pub fn serve<R: Threads + Wait + Files + Net + Copy + Send + Sync + 'static, K: Sink>(
+    rt: R,
+    alloc: Global,
+    words: &[String],
+    output: &mut K,
+) -> ServeStatus {
+    let Ok(gate) = Arc::new(alloc, Open) else {
+        return ServeStatus::NoMemory;
+    };
+    let mut net = UnixNet::new(rt, alloc);
+    let mut spawner = ThreadSpawner::new(
+        rt,
+        alloc,
+        move |job: LinkJob<UnixSource, UnixSink, Open>| begin_job(rt, alloc, job),
+    );
+    run_serve(&rt, alloc, words, &mut net, &mut spawner, &gate, output)
+}
