@@ -1,5 +1,5 @@
 #!/usr/bin/env bash
-# Replays every example and compares what comes with the transcript beside it.
+# Runs every example and compares what comes with the transcript beside it, or with what a trial shows.
 #
 #   tests/examples.sh            with the program as `rt try` makes it, unproved
 #   tests/examples.sh PROGRAM    with another build, as crates/wlim/out/wlim after `make build`
@@ -11,9 +11,13 @@ run() {
     if [ -n "$program" ]; then "$program" "$1" < "$2"; else (cd crates/wlim && rt try -- "$1" < "../../$2" 2> /dev/null); fi
 }
 
-for example in examples/*.session examples/*.acts; do
-    case $example in *.acts) command=replay-acts ;; *) command=replay ;; esac
+for example in examples/*.session examples/*.acts examples/*.trial; do
     wanted=${example%.*}.transcript
+    case $example in
+        *.acts) command=replay-acts ;;
+        *.trial) command=trial wanted=${example%.*}.shown ;;
+        *) command=replay ;;
+    esac
     if run $command "$example" | cmp -s - "$wanted"; then
         echo "same  $example"
     else

@@ -91,4 +91,6 @@ try() {
 
 for example in examples/*.acts; do try "$(basename "$example")" "$example" replay-acts; done
 for example in examples/*.session; do try "$(basename "$example")" "$example" replay; done
+for example in examples/*.trial; do try "$(basename "$example")" "$example" trial; done
+try "gen 7" /dev/null gen 7
 exit $failed

@@ -6,6 +6,7 @@
  */
 #define _GNU_SOURCE
 #include <pthread.h>
+#include <sched.h>
 #include <signal.h>
 #include <stdint.h>
 #include <stdio.h>
@@ -199,30 +200,38 @@ static long memory(pid_t process) {
     return most;
 }
 
+/* How many batches the method may be ahead of the app: a store has room for twice as many, and a peer whose store is
+   full is ended. */
+enum { TOGETHER = 64, AHEAD = 16 * TOGETHER };
+
 struct sending {
     int link;
     long count;
+    _Atomic long read;
 };
 
 static void *send_batches(void *data) {
     struct sending *s = data;
-    enum { TOGETHER = 64 };
     static uint8_t many[TOGETHER * 64];
     size_t size = 0;
     for (int at = 0; at < TOGETHER; at++)
         size += frame(batch, many + size);
-    for (long left = s->count; left > 0; left -= TOGETHER)
-        write_all(s->link, many, left >= TOGETHER ? size : size / TOGETHER * left);
+    for (long sent = 0; sent < s->count; sent += TOGETHER) {
+        while (sent - s->read > AHEAD)
+            sched_yield();
+        write_all(s->link, many, size);
+    }
     return NULL;
 }
 
-/* Seconds until the app got all batches, which the method sent without waiting. */
+/* Seconds until the app got all batches, which the method sent without waiting for each. */
 static double pipelined(int method, int app, long count) {
     pthread_t thread;
-    struct sending s = {method, count};
+    struct sending s = {method, count, 0};
     double begun = now();
     pthread_create(&thread, NULL, send_batches, &s);
-    read_bytes(app, BATCH * count);
+    for (long got = 0; got < BATCH * count; s.read = got / BATCH)
+        got += read_frame(app);
     pthread_join(thread, NULL);
     return now() - begun;
 }
@@ -297,7 +306,7 @@ static void served(const char *program, long count) {
 int main(int count, char **words) {
     if (count < 2)
         give_up("serve_speed PROGRAM [BATCHES]");
-    long batches = count > 2 ? atol(words[2]) : 200000;
+    long batches = (count > 2 ? atol(words[2]) : 200000) / TOGETHER * TOGETHER;
     char *program = realpath(words[1], NULL);
     char folder[] = "/tmp/serve_speed.XXXXXX";
     signal(SIGPIPE, SIG_IGN);
