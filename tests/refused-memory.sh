@@ -93,4 +93,14 @@ for example in examples/*.acts; do try "$(basename "$example")" "$example" repla
 for example in examples/*.session; do try "$(basename "$example")" "$example" replay; done
 for example in examples/*.trial; do try "$(basename "$example")" "$example" trial; done
 try "gen 7" /dev/null gen 7
+
+# Rows whose stores, popups and keys no example has.
+sed '1s/.*/session 1 1000000 163/' examples/one_batch.session > "$work/full"
+try "both stores full" "$work/full" replay
+printf '%s\n' peer "surface 1" "field 1" peer "surface 4" "method 4" "screen 1000 800" "area 2 100 200 900 600" \
+    "area 5 0 0 200 100" "focus 2" "enable 3" "rect 3 850 560 2 20" "commit 3" "popup 6 5" end > "$work/popup"
+try "a popup is placed" "$work/popup" replay-acts
+printf '%s\n' "trial 1" "single 40 27" "single 18 65" "compose c3a9 40 18" "fields 1" "use 1" "press 40" "show 1" \
+    "press 18" "show 1" end > "$work/compose"
+try "a composed letter" "$work/compose" trial
 exit $failed

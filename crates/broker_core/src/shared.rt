@@ -33,7 +33,11 @@ impl Model for Shared {
 
     ghost Value = { Broker };
 
-    ghost view = { λ s. record { limits = s.limits; journal = s.state.journal.entries; stamps = s.state.stamps.stamps } };
+    ghost view = { λ s. record {
+      limits = s.limits;
+      journal = s.state.journal.entries;
+      stamps = s.state.stamps.stamps;
+    } };
 
     ghost invariant = { λ s. IsBroker s.limits s.state };
 }
@@ -247,6 +251,7 @@ impl Shared {
     }
 
     // A whole message of a live peer.
+    #[inline(always)]
     fn message<W: Watch>(
         &mut self,
         number: u32,

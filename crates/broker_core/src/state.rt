@@ -91,6 +91,7 @@ impl State {
 
     // The relay takes the act, for which room was made, and each peer's group is put into its store
     // or left out. Who watches is told both, as of the entry with the number.
+    #[inline(always)]
     fn play<W: Watch>(&mut self, number: u32, act: &Act, watch: &mut W) -> Option<Route>
         requires reserved { IsReserved self.old.relay act.now }
         requires number { self.old.relay.state.acts < 4294967295 }
@@ -153,6 +154,7 @@ impl State {
     }
 
     /// A live peer ends. Takes no memory.
+    #[inline(never)]
     pub(crate) fn end<W: Watch>(
         &mut self,
         number: u32,

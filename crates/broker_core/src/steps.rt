@@ -34,6 +34,7 @@ use wl_wire::Bytes;
 
 impl State {
     // Room for one more entry with this act, and for an end of each peer that is alive after it. All is as before.
+    #[inline(always)]
     pub(crate) fn make_room(&mut self, act: &Act) -> Result<(), NoMemory>
         requires stands { Stands self.old }
         requires fits { FitsMessage act.now }
@@ -124,6 +125,7 @@ impl State {
     }
 
     /// A live peer sends a whole message.
+    #[inline(always)]
     pub(crate) fn message<W: Watch>(
         &mut self,
         number: u32,

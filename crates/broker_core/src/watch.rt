@@ -104,6 +104,7 @@ impl<'a, W: Watch> Post for Telling<'a, W> {
 
 /// The relay takes the act, for which room was made: the audience hears what it tells, and who
 /// watches is told what the shell is told.
+#[inline(always)]
 pub(crate) fn speak<W: Watch>(
     relay: &mut Relay,
     number: u32,

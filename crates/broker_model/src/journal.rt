@@ -220,6 +220,7 @@ impl Journal {
 
     /// Puts one more entry. Asks that there is room, that the numbers reach, and that an entry that
     /// isn't an end isn't too heavy. Takes no memory.
+    #[inline(always)]
     pub fn push(&mut self, entry: Entry)
         requires room { 0 < self.old.room }
         requires number { length self.old.entries < 4294967295 }

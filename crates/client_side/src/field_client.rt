@@ -1,5 +1,6 @@
 // The client of a trial's field.
-ghost use Rattle.std.specs.Prelude.{◌≡◌, ◌++◌, [], ◌∷◌, ℕ, List, true, false, IfOk, OnOk, OnErr, Ok, Err};
+ghost use Rattle.std.specs.Prelude.{◌≡◌, ◌++◌, [], ◌∷◌, ℕ, List, true, false, IfOk, OnOk, OnErr};
+ghost use Rattle.std.specs.Prelude.{Ok, Err};
 ghost use Rattle.trial_field.specs.Log.{IsEdit, entry_of};
 ghost use Rattle.client_side.specs.Happenings.{Happening, edited};
 ghost use Rattle.client_side.specs.FieldLog.{changes};

@@ -1,5 +1,6 @@
 // The client of a trial's method.
-ghost use Rattle.std.specs.Prelude.{◌≡◌, ◌++◌, [], ◌∷◌, ℕ, List, true, false, IfOk, OnOk, OnErr, Ok, Err};
+ghost use Rattle.std.specs.Prelude.{◌≡◌, ◌++◌, [], ◌∷◌, ℕ, List, true, false, IfOk, OnOk, OnErr};
+ghost use Rattle.std.specs.Prelude.{Ok, Err};
 ghost use Rattle.trial_field.specs.Log.{IsBatch, batch_of};
 ghost use Rattle.compose_method.specs.Table.{Table};
 ghost use Rattle.client_side.specs.MethodLog.{Happening, committed};

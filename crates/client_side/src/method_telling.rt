@@ -3,7 +3,8 @@ ghost use Rattle.std.specs.Prelude.{◌≡◌, ◌+◌, ◌≤◌, ◌++◌, len
 ghost use Rattle.trial_field.specs.Log.{IsBatch, batch_of};
 ghost use Rattle.trial_field.specs.declared.batch_view.TheConstants.{MAX_STRING, MAX_PREEDIT};
 ghost use Rattle.client_side.specs.Messages.{spelled};
-ghost use Rattle.client_side.specs.MethodSends.{deletion_sent, string_sent, preedit_sent, batch_sent};
+ghost use Rattle.client_side.specs.MethodSends.{deletion_sent, string_sent, preedit_sent};
+ghost use Rattle.client_side.specs.MethodSends.{batch_sent};
 
 use crate::outbox::Outbox;
 use trial_field::BatchView;

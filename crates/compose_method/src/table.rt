@@ -10,6 +10,7 @@ use crate::keys::Keys;
 use crate::singles::{Single, find_single, put_single};
 use std::alloc::Global;
 use std::marker::Model;
+use thiserror::Error;
 use wio_core::NoMemory;
 use wl_wire::Text;
 
@@ -26,13 +27,16 @@ pub const MAX_KEYS: usize = 8;
 pub const MAX_KEY_TEXT: usize = 64;
 
 /// Why a table doesn't take a single or an entry. The table is then as before.
-#[derive(Clone, Copy, Debug, PartialEq, Eq)]
+#[derive(Clone, Copy, Debug, PartialEq, Eq, Error)]
 pub enum TableRefusal {
     /// The key has a text already; or the keys are those of an entry, begin with them, or are a prefix of them.
+    #[error("the keys have a text already, or begin with keys that have one")]
     Clash,
     /// The table has [`MAX_SINGLES`] singles, or [`MAX_ENTRIES`] entries.
+    #[error("the table is full")]
     TooMany,
     /// There was no memory for it.
+    #[error("there was no memory")]
     NoMemory,
 }
 

@@ -56,7 +56,8 @@ impl Model for Pending {
       preedit = record { text = string_bytes p.preedit; begin = p.begin; end = p.end };
     } };
 
-    ghost invariant = { λ p. (STRING_LIMIT ≤ string_capacity p.string) × (PREEDIT_LIMIT ≤ string_capacity p.preedit) };
+    ghost invariant = { λ p. (STRING_LIMIT ≤ string_capacity p.string)
+        × (PREEDIT_LIMIT ≤ string_capacity p.preedit) };
 }
 
 // Puts a text in the place of the one that is kept, within the room that it has.

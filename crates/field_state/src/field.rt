@@ -4,7 +4,8 @@ ghost use Rattle.std.specs.Prelude.{◌≡◌, ◌≤◌, List, [], ◌∷◌, l
 ghost use Rattle.std.specs.Prelude.{option_map, IfOk, if◌then◌else◌};
 ghost use Rattle.field_state.specs.Calls.{Call, Enter, Leave, Enable, Disable, Surround, Cause};
 ghost use Rattle.field_state.specs.Calls.{Content, Rectangle, Commit, Displace, initial, is_place};
-ghost use Rattle.field_state.specs.Hold.{entered, answer, holds_after, has_effect, taken, commit_count};
+ghost use Rattle.field_state.specs.Hold.{entered, answer, holds_after, has_effect, taken};
+ghost use Rattle.field_state.specs.Hold.{commit_count};
 ghost use Rattle.field_state.specs.Current.{current};
 ghost use Rattle.field_state.specs.Stands.{Stands, pending_of};
 ghost use Rattle.field_state.specs.Changes.{fresh, focused, enabled, disabled, surrounded, caused};

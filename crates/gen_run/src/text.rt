@@ -1,5 +1,6 @@
 // A generated session as text.
-ghost use Rattle.std.specs.Prelude.{◌≡◌, ◌++◌, ◌+◌, ◌<◌, ◌≤◌, ◌∷◌, [], ℕ, List, Option, OnOk, OnErr, string_bytes};
+ghost use Rattle.std.specs.Prelude.{◌≡◌, ◌++◌, ◌+◌, ◌<◌, ◌≤◌, ◌∷◌, [], ℕ, List, Option, OnOk};
+ghost use Rattle.std.specs.Prelude.{OnErr, string_bytes};
 ghost use Rattle.std.specs.Io.KnownBytes.{Appends};
 ghost use Rattle.wio_core.specs.Io.{Rose};
 ghost use Rattle.seat_steps.specs.Ranges.{IsStep};
@@ -10,8 +11,8 @@ ghost use Rattle.gen_run.specs.Writing.{Writes};
 
 use crate::running::Run;
 use seat_steps::Step;
-use session_text::print_step;
 use std::alloc::{AllocError, Global};
+use transcript_text::print_step;
 use wio_core::{Failed, NoMemory, Sink, write_all};
 
 /// Why a session wasn't written whole. A front of it was.

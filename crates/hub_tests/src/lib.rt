@@ -7,6 +7,8 @@ mod call_tests;
 #[cfg(test)]
 mod link;
 #[cfg(test)]
+mod memory_tests;
+#[cfg(test)]
 mod race_tests;
 #[cfg(test)]
 mod waking_tests;

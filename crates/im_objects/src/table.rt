@@ -7,7 +7,8 @@ ghost use Rattle.std.specs.BTreeMap as tree;
 ghost use Rattle.std.specs.FinMap as map;
 ghost use Rattle.im_objects.specs.Calls.{Call, object_under, id_of, takes_effect};
 ghost use Rattle.im_objects.specs.Calls.Call.{Make, Drop};
-ghost use Rattle.im_objects.specs.Objects.{AreNear, IsLabelled, Stands, is_no_client_id, refusal_of, under_of, ids_of};
+ghost use Rattle.im_objects.specs.Objects.{AreNear, IsLabelled, Stands, is_no_client_id};
+ghost use Rattle.im_objects.specs.Objects.{refusal_of, under_of, ids_of};
 ghost use Rattle.wl_proto.specs.declared.interface.Interface.TheVariants.{Display};
 
 use crate::MakeRefusal;
@@ -48,7 +49,8 @@ pub struct Table {
 }
 
 impl Model for Table {
-    ghost use Rattle.im_objects.specs.Objects.{Objects, objects_code, under_of, ids_of, IsWhole, AreNear};
+    ghost use Rattle.im_objects.specs.Objects.{Objects, objects_code, under_of, ids_of, IsWhole};
+    ghost use Rattle.im_objects.specs.Objects.{AreNear};
 
     ghost Value = { Objects };
 

@@ -16,3 +16,5 @@ mod replay;
 mod replay_tests;
 #[cfg(test)]
 mod shell_tests;
+#[cfg(test)]
+mod writer_tests;

@@ -11,9 +11,6 @@ use std::process::Abort;
 use std::sync::Wait;
 use std::test::Fail;
 
-/// A header, and two bytes of the twelve that it announces.
-const TORN: [u8; 6] = [12, 0, 0, 0, 1, 0];
-
 /// A header that announces nothing.
 const EMPTY: [u8; 4] = [0, 0, 0, 0];
 
@@ -43,21 +40,28 @@ fn read_one<R: Wait>(
     Ok(read_all(rt, alloc, link.reads, bytes, fail, &Open))
 }
 
-// Frames, and what is none.
-fn ends<R: Abort + Wait>(rt: &R, alloc: Global, hub: &Hub, root: &mut HubPass) -> Result<(), Fail>
+// The first bytes of a frame, none of them or all but one at most.
+fn cut_frames<R: Abort + Wait>(
+    rt: &R,
+    alloc: Global,
+    hub: &Hub,
+    root: &mut HubPass,
+) -> Result<(), Fail>
     requires own { IsOf hub.now root.old }
     ensures own { IsOf hub.now root.new }
 {
-    let torn = read_one(rt, alloc, hub, root, &TORN, &[])?;
-    assert_eq!(rt; torn, (ReadEnd::Torn(6), 1));
-    let bad = read_one(rt, alloc, hub, root, &EMPTY, &[])?;
-    assert_eq!(rt; bad, (ReadEnd::BadFrame(0, 0), 1));
-    let none = read_one(rt, alloc, hub, root, &[], &[])?;
-    assert_eq!(rt; none, (ReadEnd::Closed, 1));
+    for count in 0..ASK.len() {
+        let wanted = match count {
+            0 => ReadEnd::Closed,
+            _ => ReadEnd::Torn(count),
+        };
+        let read = read_one(rt, alloc, hub, root, &ASK[..count], &[])?;
+        assert_eq!(rt; read, (wanted, 1), "{count} bytes");
+    }
     Ok(())
 }
 
-// A refused message, and a read that fails in mid-stream.
+// A header of no frame, a refused message, and a read that fails in mid-stream.
 fn other_ends<R: Abort + Wait>(
     rt: &R,
     alloc: Global,
@@ -67,6 +71,8 @@ fn other_ends<R: Abort + Wait>(
     requires own { IsOf hub.now root.old }
     ensures own { IsOf hub.now root.new }
 {
+    let bad = read_one(rt, alloc, hub, root, &EMPTY, &[])?;
+    assert_eq!(rt; bad, (ReadEnd::BadFrame(0, 0), 1));
     let refused = read_one(rt, alloc, hub, root, &BAD_SIZE, &[])?;
     assert_eq!(rt; refused, (ReadEnd::Ended(EndCause::Bad), 1));
     let failed = read_one(rt, alloc, hub, root, &ASK, &[4])?;
@@ -78,7 +84,7 @@ fn other_ends<R: Abort + Wait>(
 fn a_link_ends_by_what_it_gives(rt: HostRuntime) -> Result<(), Fail> {
     let alloc = rt.alloc();
     let (hub, mut root) = Hub::new(alloc, LIMITS)?;
-    ends(&rt, alloc, &hub, &mut root)?;
+    cut_frames(&rt, alloc, &hub, &mut root)?;
     other_ends(&rt, alloc, &hub, &mut root)
 }
 

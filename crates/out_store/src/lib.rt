@@ -1,7 +1,8 @@
 // A bounded store of the bytes that wait for a peer, with the tokens that travel with them.
 #![tactic(auto)]
 
-ghost use Rattle.std.specs.Prelude.{◌≡◌, ◌+◌, ◌++◌, ◌≤◌, ◌↔◌, [], length, min, take, drop, IsTrue, IfOk, if◌then◌else◌};
+ghost use Rattle.std.specs.Prelude.{◌≡◌, ◌+◌, ◌++◌, ◌≤◌, ◌↔◌, [], length, min, take, drop, IsTrue};
+ghost use Rattle.std.specs.Prelude.{IfOk, if◌then◌else◌};
 ghost use Rattle.out_store.specs.Queue.{queue, cells_of, bytes_of, tokens_of};
 ghost use Rattle.out_store.specs.Spacing.{IsSpaced};
 ghost use Rattle.out_store.specs.Runs.{NothingIsLost};
@@ -34,9 +35,11 @@ impl Model for Store {
 
     ghost Value = { Queue };
 
-    ghost view = { λ s. queue (cells_of s.bytes.items (offsets s.front s.begins.items)) s.bytes.capacity };
+    ghost view = { λ s. queue (cells_of s.bytes.items (offsets s.front s.begins.items))
+        s.bytes.capacity };
 
-    ghost invariant = { λ s. (IsSpaced 0 (offsets s.front s.begins.items) (length s.bytes.items)) × (s.bytes.capacity < 16 * (s.begins.capacity + 1)) };
+    ghost invariant = { λ s. (IsSpaced 0 (offsets s.front s.begins.items) (length s.bytes.items))
+        × (s.bytes.capacity < 16 * (s.begins.capacity + 1)) };
 }
 
 impl Store {

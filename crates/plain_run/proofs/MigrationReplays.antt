@@ -16,12 +16,12 @@ use Rattle.session_text.specs.Grammar.{spelling}
 use Rattle.session_text.specs.SessionGrammar.{long_header_words}
 use Rattle.session_text.specs.SessionReading.{one_shell_word, one_session_word}
 use Rattle.session_text.specs.StampedReading.{session_2_of}
-use Rattle.session_text.specs.Printing.{unstamped}
+use Rattle.transcript_text.specs.Printing.{unstamped}
 use Rattle.session_text.specs.Reading.{line_of}
 use Rattle.session_text.proofs.Laws.{reads_each, reads_only}
 use Rattle.session_text.proofs.Separators.{lacks, IsOutside, decimal_lacks, join_lacks}
 use Rattle.session_text.proofs.SpelledStamps.{long_header_parts}
-use Rattle.session_text.proofs.StampedSteps.{migrated_read}
+use Rattle.transcript_text.proofs.StampedSteps.{migrated_read}
 use Rattle.wio_core.specs.Lines.{LacksFeed}
 use Rattle.plain_run.specs.declared.reading.TheConstants.{INPUT_LIMIT, MIGRATE_LIMIT}
 use Rattle.plain_run.specs.declared.last_line.LastLine.TheVariants as last

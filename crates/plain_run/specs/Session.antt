@@ -7,7 +7,7 @@ use Rattle.session_text.specs.declared.line.Form.TheVariants.{Session, Session2}
 use Rattle.session_text.specs.declared.line.Line.{Line}
 use Rattle.session_text.specs.declared.line.Line.TheVariants as line
 use Rattle.session_text.specs.Reading.{line_of}
-use Rattle.session_text.specs.Printing.{unstamped}
+use Rattle.transcript_text.specs.Printing.{unstamped}
 use Rattle.broker_model.specs.Limits.{number_counted}
 use Rattle.plain_run.specs.declared.last_line.LastLine.TheVariants as last
 use Rattle.plain_run.specs.declared.session_line.Meaning.{Meaning}

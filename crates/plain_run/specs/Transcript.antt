@@ -8,7 +8,7 @@ use Rattle.session_text.specs.declared.line.Form.TheVariants.{Acts}
 use Rattle.session_text.specs.declared.line.Line.{Line}
 use Rattle.session_text.specs.declared.line.Line.TheVariants as line
 use Rattle.session_text.specs.Reading.{line_of}
-use Rattle.session_text.specs.Told.{told_line}
+use Rattle.transcript_text.specs.Told.{told_line}
 use Rattle.plain_run.specs.declared.last_line.LastLine.TheVariants as last
 use Rattle.plain_run.specs.declared.act_list.Verdict.{Verdict}
 use Rattle.plain_run.specs.declared.act_list.Verdict.TheVariants as verdict

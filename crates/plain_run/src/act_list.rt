@@ -1,5 +1,6 @@
 // An act list, played line by line.
-ghost use Rattle.std.specs.Prelude.{◌≡◌, ◌<◌, ◌∷◌, ◌++◌, ◌+◌, List, [], length, IfOk, OnOk, string_bytes, false};
+ghost use Rattle.std.specs.Prelude.{◌≡◌, ◌<◌, ◌∷◌, ◌++◌, ◌+◌, List, [], length, IfOk, OnOk};
+ghost use Rattle.std.specs.Prelude.{string_bytes, false};
 ghost use Rattle.relay_model.specs.declared.act.Act.{Act};
 ghost use Rattle.relay_model.specs.Told.{told};
 ghost use Rattle.seat_objects.specs.Fits.{FitsMessage};

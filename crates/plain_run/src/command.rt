@@ -3,7 +3,8 @@ ghost use Rattle.std.specs.Prelude.{◌≡◌, map, string_bytes, if◌then◌el
 ghost use Rattle.std.specs.Fmt.{decimal};
 ghost use Rattle.std.specs.Str.{bytes_eq};
 ghost use Rattle.session_text.specs.Words.{long_number_of};
-ghost use Rattle.plain_run.specs.Run.{command_named, task_named, gen_named, gen_text_named, task_of};
+ghost use Rattle.plain_run.specs.Run.{command_named, task_named, gen_named, gen_text_named};
+ghost use Rattle.plain_run.specs.Run.{task_of};
 
 use itoa::Buffer;
 

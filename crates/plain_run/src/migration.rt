@@ -1,6 +1,7 @@
 // A session of form 1 that is written as one of form 2, line by line.
 ghost use Rattle.std.specs.Prelude.{◌≡◌, ◌<◌, ◌^◌, ◌++◌, [], IfOk, OnOk};
-ghost use Rattle.plain_run.specs.Migrating.{line_text, migrated_end, migrated_header, migrated_line};
+ghost use Rattle.plain_run.specs.Migrating.{line_text, migrated_end, migrated_header};
+ghost use Rattle.plain_run.specs.Migrating.{migrated_line};
 ghost use Rattle.plain_run.specs.Session.{first_stage, meaning_of};
 ghost use Rattle.session_text.specs.declared.line.Form.TheVariants.{Session};
 ghost use Rattle.plain_run.specs.MigrationScript.{MigrationStands, migration_text};

@@ -4,8 +4,8 @@ ghost use Rattle.plain_run.specs.Transcript.{told_text};
 
 use relay_core::Post;
 use relay_model::Told;
-use session_text::write_told;
 use std::alloc::Global;
+use transcript_text::write_told;
 use wio_core::NoMemory;
 
 #[derive(Drop)]

@@ -2,7 +2,8 @@
 ghost use Rattle.std.specs.Prelude.{◌≡◌, ◌≤◌, IfOk, IfSome, if◌then◌else◌, nat_lt, length, take};
 ghost use Rattle.session_text.specs.declared.line.SessionLine.TheVariants as lines;
 ghost use Rattle.plain_run.specs.declared.session_line.Meaning.TheVariants as meaning;
-ghost use Rattle.plain_run.specs.Session.{first_stage, header_of, meaning_of, next_stage, opening_of};
+ghost use Rattle.plain_run.specs.Session.{first_stage, header_of, meaning_of, next_stage};
+ghost use Rattle.plain_run.specs.Session.{opening_of};
 
 use seat_steps::{Limits, Stamp};
 use session_text::{BadLine, Form, Line, SessionLine, read_line, read_piece, read_stamped_piece};

@@ -29,6 +29,7 @@ fn pending_text(field: &Field) -> &str
 }
 
 impl Machine {
+    #[inline(never)]
     fn copy_holder(&mut self) -> Result<(), NoMemory>
         ensures same { state self.new ≡ state self.old }
         ensures objects { self.new.objects ≡ self.old.objects }
@@ -41,6 +42,7 @@ impl Machine {
         }
     }
 
+    #[inline(never)]
     fn copy_pending(&mut self, field: Label) -> Result<(), NoMemory>
         ensures same { state self.new ≡ state self.old }
         ensures objects { self.new.objects ≡ self.old.objects }
@@ -53,6 +55,7 @@ impl Machine {
         }
     }
 
+    #[inline(never)]
     fn copy_edits(&mut self) -> Result<(), NoMemory>
         ensures same { state self.new ≡ state self.old }
         ensures objects { self.new.objects ≡ self.old.objects }
@@ -81,6 +84,7 @@ impl Machine {
     }
 
     /// Makes the room for one act, and what else it needs.
+    #[inline(always)]
     pub fn reserve(&mut self, act: &Act) -> Result<(), NoMemory>
         ensures same { state self.new ≡ state self.old }
         ensures room { OnOk result (0 < self.new.objects.room) }

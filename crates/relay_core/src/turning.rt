@@ -51,6 +51,7 @@ fn is_thing(objects: &Objects, label: Label) -> bool
 }
 
 impl Machine {
+    #[inline(always)]
     fn is_entered(&self, field: Label) -> bool
         ensures { result ≡ entered_in (state self.now) field }
     {
@@ -63,6 +64,7 @@ impl Machine {
     }
 
     // The act may do something; a press of a key that is refused does nothing besides.
+    #[inline(always)]
     fn is_live(&self, act: &Act) -> bool
         ensures { result ≡ is_live_in act.now (state self.now) }
     {
@@ -278,6 +280,7 @@ impl Machine {
     }
 
     /// Takes one act, and tells the post what the act tells.
+    #[inline(always)]
     pub fn turn<P: Post>(&mut self, act: &Act, post: &mut P) -> Option<Route>
         requires room { HasRoom self.old.objects.room act.now }
         requires spare { HasSpare (state self.old) self.old.spare act.now }

@@ -1,5 +1,6 @@
 // All to whom acts tell things.
-ghost use Rattle.std.specs.Prelude.{◌≡◌, ◌<◌, ◌++◌, length, map, None, option_map, IfSome, OnOk, OnErr};
+ghost use Rattle.std.specs.Prelude.{◌≡◌, ◌<◌, ◌++◌, length, map, None, option_map, IfSome, OnOk};
+ghost use Rattle.std.specs.Prelude.{OnErr};
 ghost use Rattle.std.specs.List.{slice_get};
 ghost use Rattle.std.specs.FinMap as finite;
 ghost use Rattle.im_objects.specs.Objects.{refusal_of};
@@ -38,6 +39,7 @@ impl Audience {
     /// What a message to the object with the id makes, and whether it was refused: of the sender at
     /// the place, and of the directory. `label` is the message's number. Asks that there is room in
     /// the directory. `NoMemory` is its one error, after which all is as before.
+    #[inline(always)]
     pub fn change(
         &mut self,
         place: usize,

@@ -33,7 +33,10 @@ impl Model for Directory {
 
     ghost Value = { Directed };
 
-    ghost view = { λ d. record { made = made_from d.objects.items; room = vec_capacity d.objects - vec_len d.objects } };
+    ghost view = { λ d. record {
+      made = made_from d.objects.items;
+      room = vec_capacity d.objects - vec_len d.objects;
+    } };
 
     ghost invariant = { λ d. AreFalling (made_from d.objects.items) };
 }

@@ -1,5 +1,6 @@
 // The group of one act for one peer, as it is gathered.
-ghost use Rattle.std.specs.Prelude.{◌≡◌, ◌+◌, ◌<◌, ◌≤◌, ◌++◌, length, take, map, vec_len, vec_capacity, IfOk, IfSome};
+ghost use Rattle.std.specs.Prelude.{◌≡◌, ◌+◌, ◌<◌, ◌≤◌, ◌++◌, length, take, map, vec_len};
+ghost use Rattle.std.specs.Prelude.{vec_capacity, IfOk, IfSome};
 ghost use Rattle.wl_proto.specs.Rows.{event_message};
 ghost use Rattle.wl_proto.specs.Spelling.{message_len, message_bytes};
 ghost use Rattle.out_store.specs.Spacing.{IsSpaced};
@@ -39,7 +40,10 @@ impl Model for Gathering {
     ghost Value = { Gathered };
 
     ghost view = { λ g. record {
-      group = record { bytes = take g.len g.bytes.items; tokens = map token_of_pair g.tokens.items };
+      group = record {
+        bytes = take g.len g.bytes.items;
+        tokens = map token_of_pair g.tokens.items;
+      };
       capacity = vec_len g.bytes;
       is_over = g.is_over;
     } };
@@ -48,7 +52,10 @@ impl Model for Gathering {
     ghost invariant = { λ g. (g.len ≤ vec_len g.bytes)
         × (16 * vec_len g.tokens ≤ g.len)
         × (vec_len g.bytes ≤ 16 * vec_capacity g.tokens)
-        × AreSpaced (record { bytes = take g.len g.bytes.items; tokens = map token_of_pair g.tokens.items }) };
+        × AreSpaced (record {
+          bytes = take g.len g.bytes.items;
+          tokens = map token_of_pair g.tokens.items;
+        }) };
 }
 
 // Writes the event behind the first `len` bytes.

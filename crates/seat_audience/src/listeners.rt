@@ -13,7 +13,8 @@ ghost use Rattle.seat_wire.specs.Events.{first_token};
 ghost use Rattle.seat_wire.specs.Asked.{asked};
 ghost use Rattle.seat_audience.specs.declared.live.Live.{Live};
 ghost use Rattle.seat_audience.specs.Changes.{IsChangedAt, first_due};
-ghost use Rattle.seat_audience.specs.Lives.{cleared, hears_message, delivered, is_number, number_of, AreRising};
+ghost use Rattle.seat_audience.specs.Lives.{cleared, hears_message, delivered, is_number};
+ghost use Rattle.seat_audience.specs.Lives.{number_of, AreRising};
 ghost use Rattle.seat_audience.specs.Marks.{is_marked, AreWithin};
 ghost use Rattle.seat_audience.specs.Visits.{map_at, at_marked, cause_of, changed_at, refusing};
 ghost use Rattle.seat_audience.specs.Visits.{waits, taken, IsAt, HasNone, IsAboveAll, AreInOrder};
@@ -54,7 +55,8 @@ impl Model for Listeners {
 
     ghost view = { λ l. record {
       items = l.peers.items;
-      room = min l.peers.room (min (l.told.bound - length l.peers.items) (l.due.bound - length l.peers.items));
+      room = min l.peers.room
+          (min (l.told.bound - length l.peers.items) (l.due.bound - length l.peers.items));
     } };
 
     ghost invariant = { λ l. (AreListening l.peers.items l.told.places l.due.places)
@@ -74,6 +76,7 @@ fn clear_each(peers: &mut Peers, told: &[usize])
 }
 
 // What is gathered for the peers at the places goes into their stores, or is left out.
+#[inline(always)]
 fn deliver_each(peers: &mut Peers, told: &[usize])
     requires within { AreWithin 0 (length peers.old.items) told.now }
     ensures items { peers.new.items ≡ map_at (at_marked told.now delivered) 0 peers.old.items }
@@ -225,6 +228,7 @@ impl Listeners {
     }
 
     /// What is gathered for each goes whole into its store, or is left out whole, which chokes it.
+    #[inline(always)]
     pub fn deliver(&mut self)
         ensures items { self.new.items ≡ map delivered self.old.items }
     {
@@ -264,6 +268,7 @@ impl Listeners {
     /// What a message to the object with the id makes of the peer at the place, and whether it was
     /// refused. `label` is the message's number. `NoMemory` is its one error, after which all is as
     /// before.
+    #[inline(always)]
     pub(crate) fn change(
         &mut self,
         place: usize,

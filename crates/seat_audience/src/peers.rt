@@ -196,6 +196,7 @@ impl Peers {
     }
 
     /// What is gathered for the peer at the place goes whole into its store, or is left out whole, which chokes it.
+    #[inline(never)]
     pub(crate) fn deliver(&mut self, place: usize)
         requires place { place < length self.old.items }
         ensures items { self.new.items ≡ changed_at place delivered self.old.items }

@@ -1,7 +1,8 @@
 // Whose fields may be entered, and the focus that comes to them and goes.
 ghost use Rattle.std.specs.Prelude.{◌≡◌, map};
 ghost use Rattle.seat_objects.specs.declared.object.Object.{Object};
-ghost use Rattle.seat_objects.specs.Listed.{PeersRise, IsCalm, widened, entered_by, left_for, visited, refocused_in};
+ghost use Rattle.seat_objects.specs.Listed.{PeersRise, IsCalm, widened, entered_by, left_for};
+ghost use Rattle.seat_objects.specs.Listed.{visited, refocused_in};
 
 use crate::change::Change;
 use crate::listed::{LiveField, of_peer};

@@ -1,5 +1,6 @@
 // What is listed beside the live objects: the fields of each peer, and the popups.
-ghost use Rattle.std.specs.Prelude.{◌≡◌, ◌<◌, ◌≤◌, ◌+◌, ◌++◌, ◌==◌, ℕ, filter, vec_len, vec_capacity};
+ghost use Rattle.std.specs.Prelude.{◌≡◌, ◌<◌, ◌≤◌, ◌+◌, ◌++◌, ◌==◌, ℕ, filter, vec_len};
+ghost use Rattle.std.specs.Prelude.{vec_capacity};
 ghost use Rattle.std.specs.List.{list_any};
 ghost use Rattle.seat_objects.specs.Listed.{PeersRise, LabelsRise, IsPart, of_peer, is_other};
 ghost use Rattle.seat_objects.specs.Listed.{field_entry, popup_of, without_field, without_popup};

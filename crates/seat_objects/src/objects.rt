@@ -1,5 +1,6 @@
 // The live objects of a seat: found by label, with the fields of each peer and the popups listed beside.
-ghost use Rattle.std.specs.Prelude.{◌≡◌, ◌≢◌, ◌≤◌, ◌<◌, ◌+◌, ◌∷◌, [], ◌++◌, map, filter, option_map, Some, OnOk};
+ghost use Rattle.std.specs.Prelude.{◌≡◌, ◌≢◌, ◌≤◌, ◌<◌, ◌+◌, ◌∷◌, [], ◌++◌, map, filter};
+ghost use Rattle.std.specs.Prelude.{option_map, Some, OnOk};
 ghost use Rattle.seat_objects.specs.Fits.{FitsMessage};
 ghost use Rattle.seat_objects.specs.Objects.{find, owner_in, area_in, has_popup_in, not_label};
 ghost use Rattle.seat_objects.specs.Objects.{not_peer, requested, refocused, committed, placed_at};
@@ -40,7 +41,8 @@ impl Model for Objects {
     ghost view = { λ o. record {
       items = o.shelf.items;
       room = min o.shelf.room
-          (min (vec_capacity o.fields - vec_len o.fields) (vec_capacity o.popups - vec_len o.popups));
+          (min (vec_capacity o.fields - vec_len o.fields)
+          (vec_capacity o.popups - vec_len o.popups));
       bound = o.bound;
     } };
 

@@ -2,7 +2,8 @@
 ghost use Rattle.relay_model.specs.Popups.{place_told};
 ghost use Rattle.relay_model.specs.Told.{to_grab};
 ghost use Rattle.seat_objects.specs.Reached.{Reached};
-ghost use Rattle.seat_objects.specs.Keyboard.{keymap_told, repeat_told, mods_told, keyboard_told, key_told};
+ghost use Rattle.seat_objects.specs.Keyboard.{keymap_told, repeat_told, mods_told, keyboard_told};
+ghost use Rattle.seat_objects.specs.Keyboard.{key_told};
 
 use crate::post::Post;
 use kbd_grab::{Grab, Keymap, Mods, Repeat, Route};

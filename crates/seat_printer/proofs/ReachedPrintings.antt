@@ -4,7 +4,7 @@ use Rattle.std.specs.Prelude.{Result, Ok, Err, is_err, OnOk, OnErr}
 use Rattle.std.proofs.lemmas.List.{append-nil}
 use Rattle.std.proofs.lemmas.Bool.{true≢false}
 use Rattle.seat_objects.specs.Reached.{Reached}
-use Rattle.session_text.specs.Transcript.{out_line}
+use Rattle.transcript_text.specs.Transcript.{out_line}
 use Rattle.broker_model.specs.declared.journal.Entry.{Entry}
 use Rattle.broker_core.specs.Watched.{Watched, watched_since}
 use Rattle.broker_core.specs.Watched.Watched.{Entered, Placed, Passed, Put}

@@ -1,6 +1,6 @@
 -- What a printer holds, and what it makes of each thing that it watches.
 use Rattle.std.specs.Prelude.{◌≡◌, ℕ, List, [], ◌++◌, Bool, true, false}
-use Rattle.session_text.specs.Transcript.{out_line, placed_line, pass_line}
+use Rattle.transcript_text.specs.Transcript.{out_line, placed_line, pass_line}
 use Rattle.broker_core.specs.Watched.{Watched}
 use Rattle.broker_core.specs.Watched.Watched.{Entered, Placed, Passed, Put}
 use Rattle.seat_printer.specs.Transcribed.{with_feed, head_text}

@@ -5,7 +5,7 @@ use Rattle.relay_model.specs.declared.said.Told.{Told}
 use Rattle.relay_model.specs.declared.said.Said.{Said}
 use Rattle.relay_model.specs.declared.said.Said.TheVariants as said
 use Rattle.relay_model.specs.Told.{told}
-use Rattle.session_text.specs.Transcript.{ended_line, took_line, out_line, placed_line, pass_line}
+use Rattle.transcript_text.specs.Transcript.{ended_line, took_line, out_line, placed_line, pass_line}
 use Rattle.broker_model.specs.declared.journal.Entry.{Entry}
 use Rattle.broker_model.specs.declared.journal.Entry.TheVariants.{End, Took}
 use Rattle.broker_model.specs.Ids.{Made, made_as}

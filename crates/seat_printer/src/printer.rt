@@ -1,5 +1,6 @@
 // Prints what it watches, as long as there is memory for it.
-ghost use Rattle.std.specs.Prelude.{◌≡◌, ◌++◌, [], ℕ, List, false, IfSome, IfNone, IfOk, OnOk, OnErr, string_bytes};
+ghost use Rattle.std.specs.Prelude.{◌≡◌, ◌++◌, [], ℕ, List, false, IfSome, IfNone, IfOk, OnOk};
+ghost use Rattle.std.specs.Prelude.{OnErr, string_bytes};
 ghost use Rattle.broker_model.specs.declared.journal.Entry.{Entry};
 ghost use Rattle.seat_objects.specs.Reached.{Reached};
 ghost use Rattle.broker_core.specs.Watched.{watched_since};
@@ -7,9 +8,9 @@ ghost use Rattle.seat_printer.specs.Transcribed.{with_feed, head_text, text_sinc
 ghost use Rattle.seat_printer.specs.Printed.{MayPrint, blank, closed, IsFront};
 
 use broker_core::{Entry, Watch};
-use session_text::{write_ended, write_out, write_pass, write_placed, write_took};
 use std::alloc::Global;
 use std::marker::Model;
+use transcript_text::{write_ended, write_out, write_pass, write_placed, write_took};
 use wio_core::NoMemory;
 
 // The line, if it was written, goes behind the text with its line feed, or nothing does.

@@ -2,12 +2,13 @@
 use crate::reading_tests::SHELL_LINES;
 use relay_model::{EndCause, Said, Told};
 use seat_steps::{PeerStep, Stamp, Step, TokenList};
-use session_text::{
-    Form, Line, print_ended, print_out, print_pass, print_placed, print_stamped, print_step,
-    print_told, print_took, read_line,
-};
+use session_text::{Form, Line, read_line};
 use std::process::Abort;
 use std::test::Fail;
+use transcript_text::{
+    print_ended, print_out, print_pass, print_placed, print_stamped, print_step, print_told,
+    print_took,
+};
 use wl_wire::{Bytes, Text};
 
 fn prints(rt: &impl Abort, line: Text, want: &str) {

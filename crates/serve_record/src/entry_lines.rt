@@ -11,8 +11,8 @@ use crate::fits::{is_bad_head, is_body, is_shell_step, is_within};
 use broker_model::Entry;
 use relay_model::EndCause;
 use seat_steps::{PeerStep, ShellStep, Stamp, Step, TOKEN_LIMIT, TokenList};
-use session_text::print_stamped;
 use std::alloc::Global;
+use transcript_text::print_stamped;
 use wio_core::NoMemory;
 use wl_wire::{Bytes, MESSAGE_LIMIT};
 

@@ -12,14 +12,17 @@ use broker_model::{Journal, StampList};
 use hub_lock::Session;
 use seat_steps::Limits;
 use std::alloc::{AllocError, Global};
+use thiserror::Error;
 use wio_core::{Failed, NoMemory, Sink, write_all};
 
 /// Why a recorded session isn't whole. What was written is a front of it.
-#[derive(Clone, Copy, Debug, PartialEq, Eq)]
+#[derive(Clone, Copy, Debug, PartialEq, Eq, Error)]
 pub enum RecordStop {
     /// The output failed.
+    #[error("the output failed")]
     WriteFault,
     /// There was no memory.
+    #[error("there was no memory")]
     NoMemory,
 }
 

@@ -7,6 +7,7 @@ use link_nets::{Door, MemLink, MemNet};
 use plain_run::run_plain;
 use serve_run::{ServeStatus, run_serve};
 use std::alloc::{AllocError, Global};
+use std::sync::atomic::{AtomicU64, Ordering};
 use std::sync::{Arc, Wait};
 use std::thread::Threads;
 use unix_links::{ThreadSpawner, begin_job};
@@ -51,20 +52,44 @@ pub(crate) fn words(alloc: Global, text: &str) -> Result<Vec<String>, AllocError
     Ok(words)
 }
 
-/// Serves these links, where the accepts with these numbers fail: the status, and what was written.
+/// Which accepts, starts of jobs and writes of the output fail, by their numbers from 1.
+#[derive(Clone, Copy)]
+pub(crate) struct Faults<'a> {
+    pub(crate) accepts: &'a [u64],
+    pub(crate) starts: &'a [u64],
+    pub(crate) writes: &'a [u64],
+}
+
+/// Nothing fails.
+pub(crate) const NO_FAULTS: Faults<'static> = Faults {
+    accepts: &[],
+    starts: &[],
+    writes: &[],
+};
+
+/// Serves these links, with these faults: the status, and what was written.
 pub(crate) fn served<R: Threads + Wait + Copy + Send + Sync + 'static>(
     rt: R,
     alloc: Global,
     links: Vec<MemLink>,
-    fail: Vec<u64>,
+    faults: Faults<'_>,
     line: &str,
 ) -> Result<(ServeStatus, Vec<u8>), AllocError> {
-    let Ok(mut net) = MemNet::new(alloc, links, fail) else {
+    let Ok(mut net) = MemNet::new(alloc, links, faults.accepts.to_vec(alloc)?) else {
         return Err(AllocError);
     };
     let gate = Arc::new(alloc, Open)?;
-    let mut spawner = ThreadSpawner::new(rt, alloc, move |job: MemJob| begin_job(rt, alloc, job));
-    let mut output = sink(alloc)?;
+    let next = AtomicU64::new(1);
+    let mut spawner = ThreadSpawner::new(rt, alloc, |job: MemJob| {
+        let number = next.fetch_add(1, Ordering::SeqCst);
+        if faults.starts.contains(&number) {
+            return Err(job);
+        }
+        begin_job(rt, alloc, job)
+    });
+    let Ok(mut output) = MemSink::new(alloc, ROOM, faults.writes.to_vec(alloc)?) else {
+        return Err(AllocError);
+    };
     let words = words(alloc, line)?;
     let status = run_serve(
         &rt,

@@ -1,6 +1,6 @@
 //! The worked rows of the server.
 use crate::gates::{HoldsFirst, Open};
-use crate::links::{link, served, sink, words};
+use crate::links::{NO_FAULTS, link, served, sink, words};
 use crate::live_net::{LiveNet, LiveSink, LiveSource, Shared};
 use link_jobs::LinkJob;
 use link_nets::{Door, MemNet};
@@ -56,7 +56,7 @@ fn a_shell(rt: HostRuntime) -> Result<(), Fail> {
     let lines = b"key 5 30 1\nscreen 10 10\nnonsense\n";
     links.push(link(alloc, Door::Shell, lines, 7)?)?;
     let line = "serve --app a --method m --shell s --order s";
-    let (status, written) = served(rt, alloc, links, Vec::new(alloc), line)?;
+    let (status, written) = served(rt, alloc, links, NO_FAULTS, line)?;
     assert_eq!(rt; status, ServeStatus::Ok);
     assert_eq!(rt;
         std::str::from_utf8(written.as_slice()).ok(),

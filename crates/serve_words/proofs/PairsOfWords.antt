@@ -1,6 +1,6 @@
 -- Words two by two, behind the first so many
-use Rattle.std.proofs.Common.{◌≡◌, ◌+◌, ◌<◌, ◌≤◌, ◌&&◌, ◌-◌, ◌++◌, ◌∷◌, [], ℕ, zero, suc, nat_eq, true, false, Bool, if◌then◌else◌, List, length, map, drop, get_or, length-drop, refl, sym, ap, ◌∙◌, subst, arith, add-one}
-use Rattle.std.proofs.lemmas.List.{drop_more, drop_all}
+use Rattle.std.proofs.Common.{◌≡◌, ◌+◌, ◌<◌, ◌≤◌, ◌&&◌, ◌-◌, ◌∷◌, [], ℕ, zero, suc, nat_eq, true, false, Bool, if◌then◌else◌, List, length, map, drop, get_or, length-drop, refl, sym, ap, ◌∙◌, arith}
+use Rattle.std.proofs.lemmas.List.{drop_more}
 use Rattle.std.specs.Str.{bytes_eq}
 use Rattle.serve_words.specs.Words.{is_option, is_value, are_pairs, values_of}
 
@@ -26,17 +26,25 @@ pub are_pairs_more : (words : List (List ℕ)) (i : ℕ) (option value : List �
     → are_pairs (drop i words) ≡ (is_option option && is_value value && are_pairs (drop (i + 2) words))
 are_pairs_more words i option value within one two = ap are_pairs (two_more words i option value within one two)
 
-pub values_more : (name : List ℕ) (words : List (List ℕ)) (i : ℕ) (option value : List ℕ) → i + 1 < length words
-    → get_or words i option ≡ option → get_or words (i + 1) value ≡ value
-    → values_of name (drop i words)
-    ≡ (if bytes_eq option name then value ∷ [] else []) ++ values_of name (drop (i + 2) words)
-values_more name words i option value within one two =
-    ap (values_of name) (two_more words i option value within one two) ∙ either (bytes_eq option name)
+pub at_most_one : (b : Bool) → (if b then 1 else 0) ≤ 1
+at_most_one true = omega arith
+at_most_one false = omega arith
+
+pub uses_more : (name : List ℕ) (words : List (List ℕ)) (i : ℕ) (option : List ℕ) → i + 1 < length words
+    → get_or words i option ≡ option
+    → length (values_of name (drop i words)) ≡ (if bytes_eq option name then 1 else 0) + length (values_of name (drop (i + 2) words))
+uses_more name words i option within one =
+    ap (λ ws. length (values_of name ws)) (drop_more words i option (omega arith)
+    ∙ (ap (λ o. o ∷ drop (i + 1) words) one
+    ∙ ap (λ rest. option ∷ rest) (drop_more words (i + 1) option within
+    ∙ ap (λ k. get_or words (i + 1) option ∷ drop k words) (omega arith))))
+    ∙ either (bytes_eq option name)
   where
-    either : (b : Bool) → (if b then value ∷ values_of name (drop (i + 2) words) else values_of name (drop (i + 2) words))
-        ≡ (if b then value ∷ [] else []) ++ values_of name (drop (i + 2) words)
-    either true = refl
-    either false = refl
+    either : (b : Bool)
+        → length (if b then get_or words (i + 1) option ∷ values_of name (drop (i + 2) words) else values_of name (drop (i + 2) words))
+        ≡ (if b then 1 else 0) + length (values_of name (drop (i + 2) words))
+    either true = omega arith
+    either false = omega arith
 
 -- words of which a pair isn't an option with a value
 pub no_pairs : (words : List (List ℕ)) (i : ℕ) (option value : List ℕ) → i + 1 < length words
@@ -68,7 +76,7 @@ one_left [] few = refl
 one_left (w ∷ []) few = refl
 one_left (w ∷ v ∷ words) few = absurd (omega arith)
 
-pub no_values_left : (name : List ℕ) (words : List (List ℕ)) → length words ≤ 1 → values_of name words ≡ []
+no_values_left : (name : List ℕ) (words : List (List ℕ)) → length words ≤ 1 → values_of name words ≡ []
 no_values_left name [] few = refl
 no_values_left name (w ∷ []) few = refl
 no_values_left name (w ∷ v ∷ words) few = absurd (omega arith)
@@ -79,7 +87,7 @@ pairs_left words i few =
     let long = length-drop i words in
     ap (λ n. nat_eq n 0) (sym long) ∙ one_left (drop i words) (omega arith)
 
-pub values_left : (name : List ℕ) (words : List (List ℕ)) (i : ℕ) → length words - i ≤ 1
-    → values_of name (drop i words) ≡ []
-values_left name words i few =
-    let long = length-drop i words in no_values_left name (drop i words) (omega arith)
+pub no_uses_left : (name : List ℕ) (words : List (List ℕ)) (i : ℕ) → length words - i ≤ 1
+    → length (values_of name (drop i words)) ≡ 0
+no_uses_left name words i few =
+    let long = length-drop i words in ap length (no_values_left name (drop i words) (omega arith))

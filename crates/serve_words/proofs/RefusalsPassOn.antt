@@ -1,5 +1,5 @@
 -- A refusal of a part is one of the whole
-use Rattle.std.proofs.Common.{◌≡◌, Option, Some, None, Result, Ok, Err, ap}
+use Rattle.std.proofs.Common.{Option, Err, ap}
 use Rattle.session_text.specs.Words.{◌>>=◌}
 use Rattle.serve_words.specs.declared.refusal.WordsRefusal.{WordsRefusal}
 use Rattle.serve_words.specs.declared.refusal.WordsRefusal.TheVariants as refusals

@@ -1,4 +1,5 @@
 pub mod Asked
+pub mod Options
 pub mod Refusals
-pub mod Values
+pub mod Shape
 pub mod Words

@@ -1,13 +1,17 @@
 //! What the words of `serve` ask for.
-ghost use Rattle.std.specs.Prelude.{◌≡◌, true, length, map, string_bytes, IfOk, IfSome};
+ghost use Rattle.std.specs.Prelude.{◌≡◌, ℕ, List, true, length, map, string_bytes, IfOk, IfSome};
 ghost use Rattle.std.specs.Option.{option_map};
 ghost use Rattle.serve_words.specs.Words as grammar;
 ghost use Rattle.serve_words.specs.Asked.{asked, needed};
+ghost use Rattle.serve_words.specs.Options.{HoldsValues};
 ghost use Rattle.serve_words.specs.Refusals.{Tells};
 ghost use Rattle.seat_steps.specs.Ranges.{IsLimits, IsWithin};
 
-use crate::pairs::{are_pairs, values_of};
+use crate::numbers::number_or;
+use crate::options::{matches_of, value_of};
+use crate::pairs::has_shape;
 use crate::refusal::WordsRefusal;
+use clap::ArgMatches;
 use link_nets::Door;
 use seat_steps::{
     ENTRY_LIMIT, FORM_1_ENTRY_LIMIT, FORM_1_WEIGHT, Limits, STORE_LIMIT, WEIGHT_LIMIT,
@@ -74,13 +78,14 @@ fn is_order(letters: &[u8]) -> bool
     letters.len() >= 1 && letters.len() <= MOST_LETTERS && are_letters(letters)
 }
 
-fn limits_of(words: &[String]) -> Result<Limits, WordsRefusal>
+fn limits_of(matches: &ArgMatches<'_>) -> Result<Limits, WordsRefusal>
     ensures within { IfOk result IsLimits }
-    ensures told { Tells (λ l. l) result (grammar.limits_of (map string_bytes words.now)) }
+    ensures told { (words : List (List ℕ)) → HoldsValues matches.now words →
+        Tells (λ l. l) result (grammar.limits_of words) }
 {
-    let entries = values_of(words, "--entries").number_or(FORM_1_ENTRY_LIMIT, ENTRY_LIMIT)?;
-    let store = values_of(words, "--store").number_or(STORE, STORE_LIMIT)?;
-    let weight = values_of(words, "--weight").number_or(FORM_1_WEIGHT as u32, WEIGHT_LIMIT as u32)?;
+    let entries = number_or(matches, "entries", FORM_1_ENTRY_LIMIT, ENTRY_LIMIT)?;
+    let store = number_or(matches, "store", STORE, STORE_LIMIT)?;
+    let weight = number_or(matches, "weight", FORM_1_WEIGHT as u32, WEIGHT_LIMIT as u32)?;
     Ok(Limits {
         entries,
         store,
@@ -88,11 +93,12 @@ fn limits_of(words: &[String]) -> Result<Limits, WordsRefusal>
     })
 }
 
-fn order_of(words: &[String]) -> Option<&[u8]>
+fn order_of<'a>(matches: &ArgMatches<'a>) -> Option<&'a [u8]>
     ensures few { IfSome result (λ order. IsWithin 64 (length order.now)) }
-    ensures told { option_map (λ o. o.now) result ≡ grammar.order_of (map string_bytes words.now) }
+    ensures told { (words : List (List ℕ)) → HoldsValues matches.now words →
+        option_map (λ o. o.now) result ≡ grammar.order_of words }
 {
-    let letters = values_of(words, "--order").once()?.as_bytes();
+    let letters = value_of(matches, "order")?.as_bytes();
     if is_order(letters) {
         Some(letters)
     } else {
@@ -101,14 +107,15 @@ fn order_of(words: &[String]) -> Option<&[u8]>
 }
 
 // What has to be given: the paths and the order.
-fn needed_by(words: &[String]) -> Option<Needed<'_>>
+fn needed_by<'a>(matches: &ArgMatches<'a>) -> Option<Needed<'a>>
     ensures few { IfSome result (λ needed. IsWithin 64 (length needed.order.now)) }
-    ensures told { option_map needed result ≡ grammar.needed_by (map string_bytes words.now) }
+    ensures told { (words : List (List ℕ)) → HoldsValues matches.now words →
+        option_map needed result ≡ grammar.needed_by words }
 {
-    let app = values_of(words, "--app").once()?;
-    let method = values_of(words, "--method").once()?;
-    let shell = values_of(words, "--shell").once()?;
-    let order = order_of(words)?;
+    let app = value_of(matches, "app")?;
+    let method = value_of(matches, "method")?;
+    let shell = value_of(matches, "shell")?;
+    let order = order_of(matches)?;
     Some(Needed {
         app,
         method,
@@ -117,15 +124,16 @@ fn needed_by(words: &[String]) -> Option<Needed<'_>>
     })
 }
 
-fn asked_by(words: &[String]) -> Result<Serving<'_>, WordsRefusal>
+fn asked_by<'a>(matches: &ArgMatches<'a>) -> Result<Serving<'a>, WordsRefusal>
     ensures within { IfOk result (λ asked. IsLimits asked.limits) }
     ensures few { IfOk result (λ asked. IsWithin 64 (length asked.order.now)) }
-    ensures told { Tells asked result (grammar.asked_by (map string_bytes words.now)) }
+    ensures told { (words : List (List ℕ)) → HoldsValues matches.now words →
+        Tells asked result (grammar.asked_by words) }
 {
-    let Some(needed) = needed_by(words) else {
+    let Some(needed) = needed_by(matches) else {
         return Err(WordsRefusal::BadWords);
     };
-    let limits = limits_of(words)?;
+    let limits = limits_of(matches)?;
     Ok(Serving {
         app: needed.app,
         method: needed.method,
@@ -145,8 +153,11 @@ pub fn serve_of(words: &[String]) -> Result<Serving<'_>, WordsRefusal>
     let [first, rest @ ..] = words else {
         return Err(WordsRefusal::BadWords);
     };
-    if first.as_str() != "serve" || !are_pairs(rest) {
+    if first.as_str() != "serve" || !has_shape(rest) {
         return Err(WordsRefusal::BadWords);
     }
-    asked_by(rest)
+    let Ok(matches) = matches_of(*first.allocator(), rest) else {
+        return Err(WordsRefusal::NoMemory);
+    };
+    asked_by(&matches)
 }

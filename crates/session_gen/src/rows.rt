@@ -6,7 +6,8 @@ ghost use Rattle.session_gen.specs.Sending.{IsShort, field_sends, method_sends};
 ghost use Rattle.session_gen.specs.Sending.{set_surrounding_text, commit_string};
 ghost use Rattle.session_gen.specs.Sending.{set_preedit_string};
 ghost use Rattle.session_gen.specs.Rows.{row_of, row_step, drawn, letter};
-ghost use Rattle.wl_proto.specs.declared.request.Request.TheVariants.{DeleteSurroundingText, InputMethodCommit};
+ghost use Rattle.wl_proto.specs.declared.request.Request.TheVariants.{DeleteSurroundingText};
+ghost use Rattle.wl_proto.specs.declared.request.Request.TheVariants.{InputMethodCommit};
 
 use crate::letters::letter_of;
 use crate::sending::request_step;

@@ -6,7 +6,8 @@ ghost use Rattle.wl_proto.specs.Rows.{request_message};
 ghost use Rattle.seat_steps.specs.Ranges.{IsStep};
 ghost use Rattle.session_gen.specs.Sending.{IsShort};
 ghost use Rattle.session_gen.specs.Sending.{bind as bind_message};
-ghost use Rattle.session_gen.specs.Setup.{to, app_messages, method_messages, app_steps, method_steps, setup};
+ghost use Rattle.session_gen.specs.Setup.{to, app_messages, method_messages, app_steps};
+ghost use Rattle.session_gen.specs.Setup.{method_steps, setup};
 
 use crate::sending::request_step;
 use relay_model::Role;

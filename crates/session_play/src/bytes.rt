@@ -33,6 +33,7 @@ impl Session {
     }
 
     // The message that the piece is, if it is a whole one and no bytes of the live peer wait.
+    #[inline(always)]
     fn whole<'a>(&self, number: u32, piece: &'a [u8]) -> Option<Raw<'a>>
         requires live { lives self.now.play.journal number ≡ true }
         ensures { IfSome result (λ raw.
@@ -54,6 +55,7 @@ impl Session {
     }
 
     // A whole message of a live peer.
+    #[inline(always)]
     fn message<W: Watch>(
         &mut self,
         number: u32,
@@ -125,6 +127,7 @@ impl Session {
     }
 
     /// Bytes of a peer. Those of one that isn't alive say nothing.
+    #[inline(always)]
     pub(crate) fn bytes<W: Watch>(
         &mut self,
         number: u32,

@@ -9,14 +9,17 @@ use seat_steps::{Limits, Stamp};
 use session_text::SessionLine;
 use std::alloc::Global;
 use std::marker::Model;
+use thiserror::Error;
 use wio_core::NoMemory;
 
 /// Where a session's line couldn't be played to its end. The text is what was written before.
-#[derive(Debug, Drop)]
+#[derive(Debug, Drop, Error)]
 pub enum PlayEnd {
     /// The journal is full for a step: so much it holds.
+    #[error("the journal is full with {} entries", .0.entries)]
     JournalFull(Kept, String),
     /// There was no memory.
+    #[error("there was no memory")]
     NoMemory(String),
 }
 
@@ -126,6 +129,7 @@ impl Player {
     }
 
     /// Plays the line of a peer's bytes, as `line_watched` does.
+    #[inline(always)]
     pub fn bytes_watched<W: Watch>(
         &mut self,
         number: u32,

@@ -7,6 +7,7 @@ use seat_steps::{Limits, PeerStep, Stamp, Step, TokenList};
 use session_text::SessionLine;
 use std::alloc::{AllocError, Global};
 use std::marker::Model;
+use thiserror::Error;
 use wio_core::NoMemory;
 use wl_wire::{Assembler, MESSAGE_LIMIT};
 
@@ -14,11 +15,13 @@ use wl_wire::{Assembler, MESSAGE_LIMIT};
 const FEW: usize = 256;
 
 /// Why a session isn't played further.
-#[derive(Clone, Copy, Debug, PartialEq, Eq)]
+#[derive(Clone, Copy, Debug, PartialEq, Eq, Error)]
 pub enum Stop {
     /// The journal is full for a step: so much it holds.
+    #[error("the journal is full with {} entries", .0.entries)]
     Full(Kept),
     /// There was no memory.
+    #[error("there was no memory")]
     NoMemory,
 }
 
@@ -71,7 +74,8 @@ impl Model for Session {
 }
 
 impl Session {
-    ghost use Rattle.std.specs.Prelude.{◌≡◌, ◌≤◌, [], length, IfOk, IfSome, true, if◌then◌else◌, Ok};
+    ghost use Rattle.std.specs.Prelude.{◌≡◌, ◌≤◌, [], length, IfOk, IfSome, true, if◌then◌else◌};
+    ghost use Rattle.std.specs.Prelude.{Ok};
     ghost use Rattle.relay_model.specs.declared.act.EndCause.TheVariants.{Gone};
     ghost use Rattle.seat_steps.specs.declared.step.Step.TheVariants as steps;
     ghost use Rattle.seat_steps.specs.Ranges.{IsLimits, IsStep, IsWithin, token_limit};
@@ -87,7 +91,8 @@ impl Session {
     ghost use Rattle.broker_core.specs.Taking.{lives, out_at, standing_of};
     ghost use Rattle.session_play.specs.Played.{step_played, gone_played, join_played, take_played};
     ghost use Rattle.session_play.specs.Played.{tokens_played, line_played};
-    ghost use Rattle.session_play.specs.Playing.{AreStamped, IsPlayed, IsWatched, IsThere, IsEnough};
+    ghost use Rattle.session_play.specs.Playing.{AreStamped, IsPlayed, IsWatched, IsThere};
+    ghost use Rattle.session_play.specs.Playing.{IsEnough};
 
     /// Nobody joined yet. `NoMemory` is its one error.
     pub(crate) fn new(alloc: Global, limits: Limits) -> Result<Session, NoMemory>

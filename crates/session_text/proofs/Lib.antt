@@ -11,6 +11,7 @@ pub mod Separators
 pub mod WordKinds
 mod LowerRead
 mod PieceLines
+mod UsualLines
 pub mod Parts
 pub mod SpelledActs
 pub mod ReadActs
@@ -22,8 +23,3 @@ pub mod ReadStamps
 pub mod Laws
 pub mod Asked
 pub mod NumberWords
-pub mod Printed
-pub mod StampedSteps
-pub mod FaultTexts
-pub mod PrintedLines
-pub mod Transcripts

@@ -1,5 +1,6 @@
 // A line is cut into its words at each space.
-ghost use Rattle.std.specs.Prelude.{◌≡◌, ◌<◌, ◌≤◌, ◌==◌, [], ◌∷◌, length, take, map, min, IfOk, IfSome, IfNone};
+ghost use Rattle.std.specs.Prelude.{◌≡◌, ◌<◌, ◌≤◌, ◌==◌, [], ◌∷◌, length, take, map, min, IfOk};
+ghost use Rattle.std.specs.Prelude.{IfSome, IfNone};
 ghost use Rattle.std.specs.List.{slice_split};
 ghost use Rattle.memchr.specs.Find.{IsFirstByte, NoneBefore, Nowhere, Passes, is_byte};
 
@@ -14,6 +15,7 @@ pub(crate) const MOST_WORDS: usize = 8;
 const NEAR: usize = 12;
 
 // The first space among the first bytes, as many as are near.
+#[inline(always)]
 fn near_space(line: &[u8]) -> Option<usize>
     ensures found { IfSome result (λ at. NoneBefore (Passes (is_byte 32) line.now) 0
         (length line.now) at × Passes (is_byte 32) line.now at) }
@@ -32,6 +34,7 @@ fn near_space(line: &[u8]) -> Option<usize>
 }
 
 // The first space.
+#[inline(always)]
 fn first_space(line: &[u8]) -> Option<usize>
     ensures { IsFirstByte (is_byte 32) line.now result }
 {
@@ -47,6 +50,7 @@ fn first_space(line: &[u8]) -> Option<usize>
 }
 
 /// The first word and what stands behind its space, if there is a space.
+#[inline(always)]
 pub(crate) fn first_word(line: &[u8]) -> Option<(&[u8], &[u8])>
     ensures cut { IfSome result (λ cut. slice_split (λ b. b == 32) line.now
         ≡ cut.0.now ∷ slice_split (λ b. b == 32) cut.1.now) }

@@ -25,10 +25,36 @@ const VALUES: [u16; 256] = [
     256, 256, 256, 256,
 ];
 
+// Sixteen times each of them: what the byte comes to as the first of a pair.
+const HIGH_VALUES: [u16; 256] = [
+    4096, 4096, 4096, 4096, 4096, 4096, 4096, 4096, 4096, 4096, 4096, 4096, 4096, 4096, 4096, 4096,
+    4096, 4096, 4096, 4096, 4096, 4096, 4096, 4096, 4096, 4096, 4096, 4096, 4096, 4096, 4096, 4096,
+    4096, 4096, 4096, 4096, 4096, 4096, 4096, 4096, 4096, 4096, 4096, 4096, 4096, 4096, 4096, 4096,
+    0, 16, 32, 48, 64, 80, 96, 112, 128, 144, 4096, 4096, 4096, 4096, 4096, 4096, 4096, 4096, 4096,
+    4096, 4096, 4096, 4096, 4096, 4096, 4096, 4096, 4096, 4096, 4096, 4096, 4096, 4096, 4096, 4096,
+    4096, 4096, 4096, 4096, 4096, 4096, 4096, 4096, 4096, 4096, 4096, 4096, 4096, 4096, 160, 176,
+    192, 208, 224, 240, 4096, 4096, 4096, 4096, 4096, 4096, 4096, 4096, 4096, 4096, 4096, 4096,
+    4096, 4096, 4096, 4096, 4096, 4096, 4096, 4096, 4096, 4096, 4096, 4096, 4096, 4096, 4096, 4096,
+    4096, 4096, 4096, 4096, 4096, 4096, 4096, 4096, 4096, 4096, 4096, 4096, 4096, 4096, 4096, 4096,
+    4096, 4096, 4096, 4096, 4096, 4096, 4096, 4096, 4096, 4096, 4096, 4096, 4096, 4096, 4096, 4096,
+    4096, 4096, 4096, 4096, 4096, 4096, 4096, 4096, 4096, 4096, 4096, 4096, 4096, 4096, 4096, 4096,
+    4096, 4096, 4096, 4096, 4096, 4096, 4096, 4096, 4096, 4096, 4096, 4096, 4096, 4096, 4096, 4096,
+    4096, 4096, 4096, 4096, 4096, 4096, 4096, 4096, 4096, 4096, 4096, 4096, 4096, 4096, 4096, 4096,
+    4096, 4096, 4096, 4096, 4096, 4096, 4096, 4096, 4096, 4096, 4096, 4096, 4096, 4096, 4096, 4096,
+    4096, 4096, 4096, 4096, 4096, 4096, 4096, 4096, 4096, 4096, 4096, 4096, 4096, 4096, 4096, 4096,
+    4096, 4096, 4096, 4096, 4096, 4096, 4096, 4096, 4096, 4096, 4096, 4096, 4096,
+];
+
 fn value_of(digit: u8) -> u16
     ensures { result ≡ value_of digit }
 {
     VALUES[digit as usize]
+}
+
+fn high_value_of(digit: u8) -> u16
+    ensures { result ≡ 16 * value_of digit }
+{
+    HIGH_VALUES[digit as usize]
 }
 
 // Reads the pair at the place into the byte there. Answers the bits of its value beside those before.
@@ -43,13 +69,14 @@ fn decode_at(word: &[u8], bytes: &mut [u8], at: usize, all: u16) -> u16
     ensures more { all ≤ result }
     ensures bytes { IsBytes bytes.new }
 {
-    let value = 16 * value_of(word[2 * at]) + value_of(word[2 * at + 1]);
+    let value = high_value_of(word[2 * at]) + value_of(word[2 * at + 1]);
     bytes[at] = (value % 256) as u8;
     all | value
 }
 
 /// Decodes pairs of digits into the buffer, which has a byte for each. True where there are only
 /// digits in lower case; else what stands in the buffer says nothing.
+#[inline(always)]
 pub(crate) fn decode_lower(word: &[u8], bytes: &mut [u8]) -> bool
     requires pairs { length word.now ≡ 2 * length bytes.old }
     ensures read { result ≡ true → word.now ≡ encode_lower bytes.new }

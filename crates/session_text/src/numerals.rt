@@ -1,12 +1,15 @@
 // Decimal numbers in the one spelling that is printed: without a sign but `-`, and without a zero in
 // front of other digits.
-ghost use Rattle.std.specs.Prelude.{◌≡◌, ◌+◌, ◌*◌, ◌≤◌, ◌<◌, ◌^◌, ◌↔◌, ℕ, length, get_or, IfSome, IfNone, IsTrue};
+ghost use Rattle.std.specs.Prelude.{◌≡◌, ◌+◌, ◌*◌, ◌≤◌, ◌<◌, ◌^◌, ◌↔◌, ℕ, length, get_or, IfSome};
+ghost use Rattle.std.specs.Prelude.{IfNone, IsTrue};
 ghost use Rattle.std.specs.Fmt.{decimal};
 ghost use Rattle.std.specs.Str.Parse.{AllDigits, digits_value};
-ghost use Rattle.session_text.specs.Words.{IsPlain, long_number_of, long_of, negative_of, number_of};
+ghost use Rattle.session_text.specs.Words.{IsPlain, long_number_of, long_of, negative_of};
+ghost use Rattle.session_text.specs.Words.{number_of};
 ghost use Rattle.session_text.specs.Words.{positive_of, signed_of, unsigned_of};
 
 // The number that the digits write, if there are only digits.
+#[inline(always)]
 fn digits_number(digits: &[u8]) -> Option<u64>
     requires few { length digits.now ≤ 19 }
     ensures value { IfSome result (λ n. n ≡ digits_value 10 digits.now) }
@@ -24,6 +27,7 @@ fn digits_number(digits: &[u8]) -> Option<u64>
 }
 
 // From one to so many bytes, of which the first is no zero in front of others.
+#[inline(always)]
 fn is_plain(most: usize, word: &[u8]) -> bool
     ensures { IsTrue result ↔ IsPlain most word.now }
 {
@@ -31,6 +35,7 @@ fn is_plain(most: usize, word: &[u8]) -> bool
 }
 
 // The number that is printed so, if it has at most ten digits.
+#[inline(always)]
 fn numeral(word: &[u8]) -> Option<u64>
     ensures small { IfSome result (λ n. n < 10 ^ 10) }
     ensures value { IfSome result (λ n. word.now ≡ decimal n) }
@@ -51,6 +56,7 @@ fn without_sign(number: u64) -> Option<u32>
 }
 
 /// The number of 32 bits that is written so.
+#[inline(always)]
 pub(crate) fn parsed_number(word: &[u8]) -> Option<u32>
     ensures { result ≡ number_of word.now }
 {
@@ -102,6 +108,7 @@ fn begins_with_minus(word: &[u8]) -> bool
 }
 
 /// The number of 32 bits with a sign that is written so.
+#[inline(always)]
 pub(crate) fn parsed_signed(word: &[u8]) -> Option<i32>
     ensures { result ≡ signed_of word.now }
 {

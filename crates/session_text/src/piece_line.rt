@@ -16,6 +16,7 @@ use crate::numerals::{parsed_long_number, parsed_number};
 use seat_steps::Stamp;
 
 // What stands behind the name of such a line.
+#[inline(always)]
 fn behind_name(line: &[u8]) -> Option<&[u8]>
     ensures { IfSome result (λ rest. line.now ≡ codes "bytes " ++ rest.now) }
 {

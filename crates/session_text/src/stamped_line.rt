@@ -4,7 +4,8 @@ ghost use Rattle.session_text.specs.Reading.{Reads};
 ghost use Rattle.session_text.specs.Words.{numbers_of};
 ghost use Rattle.session_text.specs.StampedReading.{moment_of, link_of, tokens_of, tokens_line_of};
 ghost use Rattle.session_text.specs.SessionReading.{session_of};
-ghost use Rattle.session_text.specs.StampedReading.{behind_stamp, long_header_of, plain_line, stamped_of};
+ghost use Rattle.session_text.specs.StampedReading.{behind_stamp, long_header_of, plain_line};
+ghost use Rattle.session_text.specs.StampedReading.{stamped_of};
 ghost use Rattle.session_text.specs.StampedReading.{header_words_of, end_of, session_2_of};
 
 use crate::line::{BadLine, Line, SessionLine};

@@ -2,7 +2,8 @@
 ghost use Rattle.std.specs.Prelude.{◌≡◌, ℕ, ◌+◌, ◌≤◌, ◌<◌, ◌↔◌, false, List, [], ◌∷◌, ◌++◌, ◌-◌};
 ghost use Rattle.std.specs.Prelude.{take, drop, length, IfOk, IsCharBoundary, string_bytes};
 ghost use Rattle.std.specs.Prelude.{string_len, string_capacity};
-ghost use Rattle.trial_field.specs.Log.{Entry, done, entry_of, batch_of, IsBatch, HasNoZero, IsEdit};
+ghost use Rattle.trial_field.specs.Log.{Entry, done, entry_of, batch_of, IsBatch, HasNoZero};
+ghost use Rattle.trial_field.specs.Log.{IsEdit};
 ghost use Rattle.trial_field.specs.FieldText.{FieldText, whole, after, text_of, insert, left};
 ghost use Rattle.trial_field.specs.FieldText.{right, rub, delete, IsSamePlace};
 ghost use Rattle.trial_field.specs.Window.{IsWindow};

@@ -14,17 +14,21 @@ use crate::trial::Trial;
 use broker_core::Kept;
 use seat_steps::{FORM_1_WEIGHT, Limits};
 use std::alloc::Global;
+use thiserror::Error;
 use trial_script::{Actions, Ending, Script, read_script};
 use wio_core::NoMemory;
 
 /// Why a script wasn't played to its end. The text is what was shown before: a line for each `show`.
-#[derive(Debug, Drop)]
+#[derive(Debug, Drop, Error)]
 pub enum TrialEnd {
     /// The line with this number, from 1, is outside the grammar, or is missing.
+    #[error("line {0} is no line of a trial")]
     BadLine(u64, String),
     /// The journal is full for a step: so much it holds.
+    #[error("the journal is full with {} entries", .0.entries)]
     JournalFull(Kept, String),
     /// There was no memory.
+    #[error("there was no memory")]
     NoMemory,
 }
 

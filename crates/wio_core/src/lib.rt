@@ -1,11 +1,13 @@
 // Sources and sinks of bytes, and the answer for want of memory that every crate above shares.
 #![tactic(auto)]
 
-ghost use Rattle.std.specs.Prelude.{◌≡◌, ℕ, ◌<◌, ◌≤◌, List, Option, length, take, IfOk, OnOk, OnErr};
+ghost use Rattle.std.specs.Prelude.{◌≡◌, ℕ, ◌<◌, ◌≤◌, List, Option, length, take, IfOk, OnOk};
+ghost use Rattle.std.specs.Prelude.{OnErr};
 ghost use Rattle.std.specs.Io.KnownBytes.{Appends, Keeps};
 ghost use Rattle.wio_core.specs.Io.{Reads, Rose, StaysQuiet};
 
 use std::alloc::{AllocError, AllocFailed};
+use thiserror::Error;
 
 mod line_reader;
 mod line_search;
@@ -20,11 +22,13 @@ pub use mem_source::MemSource;
 pub use std_io::{StdSink, StdSource};
 
 /// A read or a write failed. The source or the sink counts it among its faults.
-#[derive(Clone, Copy, Debug, PartialEq, Eq)]
+#[derive(Clone, Copy, Debug, PartialEq, Eq, Error)]
+#[error("a read or a write failed")]
 pub struct Failed;
 
 /// There was no memory for a growth. The one answer whose coming no clause tells; after it all is as before.
-#[derive(Clone, Copy, Debug, PartialEq, Eq)]
+#[derive(Clone, Copy, Debug, PartialEq, Eq, Error)]
+#[error("there was no memory")]
 pub struct NoMemory;
 
 impl From<AllocError> for NoMemory {

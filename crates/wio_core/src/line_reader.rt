@@ -242,6 +242,7 @@ impl LineReader {
 
     /// The next line of the bytes that are held and of those that the source has left. It reads while
     /// no whole line is held, and no byte past the limit. (no memory)
+    #[inline(always)]
     pub fn next<S: Source>(&mut self, source: &mut S) -> NextLine<'_>
         requires { self.old.settled ≢ Some LineStop.ReadFault }
         ensures* answer { sem 𝓛 (Rests the_row self.entry (λ new. Answers self.old new

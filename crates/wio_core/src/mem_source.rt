@@ -24,7 +24,14 @@ impl Model for MemSource {
 
     ghost Value = { SourceInMemory };
 
-    ghost view = { λ s. record { given = take s.at s.bytes.items; left = drop s.at s.bytes.items; chunk = s.chunk; fail = s.fail.items; calls = s.calls; faults = s.faults } };
+    ghost view = { λ s. record {
+      given = take s.at s.bytes.items;
+      left = drop s.at s.bytes.items;
+      chunk = s.chunk;
+      fail = s.fail.items;
+      calls = s.calls;
+      faults = s.faults;
+    } };
 
     ghost invariant = { λ s. (s.at ≤ length s.bytes.items) × (0 < s.chunk) };
 }

@@ -1,10 +1,14 @@
 // Why a message is no message of an interface.
 
+use thiserror::Error;
+
 /// Why a message can't be read.
-#[derive(Clone, Copy, Debug, PartialEq, Eq)]
+#[derive(Clone, Copy, Debug, PartialEq, Eq, Error)]
 pub enum Refuse {
     /// The interface has no row with the opcode.
+    #[error("the interface has no row with the opcode")]
     Opcode,
     /// The body is no spelling of the row's arguments, or the row has a descriptor and no token was given.
+    #[error("the body is no spelling of the row's arguments")]
     Malformed,
 }

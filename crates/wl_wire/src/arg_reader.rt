@@ -1,7 +1,8 @@
 // The arguments of a message are read from the left.
 ghost use Rattle.std.specs.Prelude.{◌≡◌, ◌<◌, ◌^◌, ◌↔◌, List, [], IsOk};
 ghost use Rattle.std.specs.Option.{option_copied};
-ghost use Rattle.wl_wire.specs.Reading.{Reads, Gives, word_at, int_at, text_at, string_behind, string_at};
+ghost use Rattle.wl_wire.specs.Reading.{Reads, Gives, word_at, int_at, text_at, string_behind};
+ghost use Rattle.wl_wire.specs.Reading.{string_at};
 ghost use Rattle.wl_wire.specs.Spelled.{TakesSpelled, GivesSpelled, IsUint, IsInt, IsString};
 
 use crate::valid::text_of;

@@ -1,5 +1,6 @@
 // The arguments of a message are written from the left.
-ghost use Rattle.std.specs.Prelude.{◌≡◌, ◌+◌, ◌-◌, ◌%◌, ◌<◌, ◌≤◌, ◌^◌, List, length, [], ◌++◌, drop};
+ghost use Rattle.std.specs.Prelude.{◌≡◌, ◌+◌, ◌-◌, ◌%◌, ◌<◌, ◌≤◌, ◌^◌, List, length, [], ◌++◌};
+ghost use Rattle.std.specs.Prelude.{drop};
 
 /// Writes arguments into a buffer, one after the other.
 #[derive(Debug, Drop)]

@@ -22,7 +22,8 @@ impl Model for Text {
 }
 
 impl Text {
-    ghost use Rattle.std.specs.Prelude.{◌≡◌, ◌==◌, [], length, IfOk, IsTrue, IsUtf8, MatchResult, false};
+    ghost use Rattle.std.specs.Prelude.{◌≡◌, ◌==◌, [], length, IfOk, IsTrue, IsUtf8, MatchResult};
+    ghost use Rattle.std.specs.Prelude.{false};
     ghost use Rattle.wl_wire.specs.Texts.{IsText, has_no_zero};
     ghost use Rattle.wl_wire.specs.Texts as texts;
 

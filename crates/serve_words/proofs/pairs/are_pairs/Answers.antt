@@ -1,6 +1,5 @@
-use Rattle.std.proofs.Common.{rules, ◌≡◌, ◌+◌, ◌-◌, ◌≤◌, ◌<◌, ◌∙◌, nat_eq, sym, ap, subst, arith, length, map, drop, get_or, string_bytes}
+use Rattle.std.proofs.Common.{rules, ◌+◌, ◌-◌, ◌∙◌, nat_eq, sym, ap, arith, map, string_bytes}
 use Rattle.std.proofs.lemmas.List.{length-map}
-use Rattle.serve_words.specs.Words.{are_pairs}
 use Rattle.serve_words.proofs.PairsOfWords.{word_is, no_pairs, one_pair, pairs_left}
 use Rattle.serve_words.proofs.pairs.are_pairs.Goals as goal
 

@@ -11,15 +11,15 @@ returns c =
     let word = c.args.word.now in
     let bytes = c.args.bytes.now in
     let at = c.args.at in
-    let value = 16 * c.value_of.result + c.value_of-2.result in
+    let value = c.high_value_of.result + c.value_of.result in
     record {
       long = length-set bytes at (value % 256);
       read = λ small before.
           let two : value < 256 = omega (arith, le_or_r c.args.all value) in
           let same : value ≡ value % 256 = omega arith in
           read_more word bytes at value c.requires.pairs c.requires.place
-          (ap (λ x. 16 * x + c.value_of-2.result) c.value_of.ensures
-          ∙ ap (λ x. 16 * value_of (get_or word (2 * at) 0) + x) c.value_of-2.ensures) two before
+          (ap (λ x. x + c.value_of.result) c.high_value_of.ensures
+          ∙ ap (λ x. 16 * value_of (get_or word (2 * at) 0) + x) c.value_of.ensures) two before
           ∙ ap (λ x. encode_lower (take (at + 1) (slice_set bytes at x))) same;
       more = le_or_l c.args.all value;
       bytes = bytes_set bytes at (value % 256) c.requires.place (omega arith) c.requires.bytes;

@@ -18,37 +18,3 @@ returns-clause-stamps c = record { header = refl; join = refl; tokens = refl; at
 pub returns-clause-others : goal.returns-clause-others
 unfolding digits line_of number_of numbers_of long_number_of count_of bytes_of role_of one_shell_word three_shell_words four_shell_words five_shell_words one_session_word two_session_words three_session_words four_session_words header_of link_of tokens_of behind_stamp long_header_of session_2_of
 returns-clause-others c = record { wide_store = refl; no_bytes = refl; take_of_nothing = refl; end_of_a_link = refl; stamp_in_form_1 = refl; moment_in_form_1 = refl; tokens_in_form_1 = refl; header_2_in_form_1 = refl; bare_in_form_2 = refl; stamped_end = refl; no_token = refl; no_weight = refl; wide_moment = refl }
-
-pub returns-clause-steps : goal.returns-clause-steps
-unfolding digits encode_with
-returns-clause-steps c = record { commit_string = refl; commit = refl; bad_size = refl; join = refl; tokens = refl; at = refl }
-
-pub returns-clause-events : goal.returns-clause-events
-unfolding digits encode_with
-returns-clause-events c = record {
-  enter = refl;
-  leave = refl;
-  preedit = refl;
-  commit_string = refl;
-  delete = refl;
-  field_done = refl;
-  activate = refl;
-  deactivate = refl;
-  surrounding = refl;
-  change_cause = refl;
-  content_type = refl;
-  method_done = refl;
-  unavailable = refl;
-  popup = refl;
-  keymap = refl;
-  key = refl;
-  modifiers = refl;
-  repeat = refl;
-  global = refl;
-  callback_done = refl;
-  delete_id = refl;
-  capabilities = refl;
-  error = refl;
-  pass = refl;
-  placed = refl;
-}

@@ -1,6 +1,6 @@
 use Rattle.std.proofs.Common.{ℕ, List, refl, sym, subst}
 use Rattle.std.specs.Prelude.{string_bytes}
-use Rattle.session_text.specs.Transcript.{pass_line}
+use Rattle.transcript_text.specs.Transcript.{pass_line}
 use Rattle.broker_core.specs.Watched.{Watched}
 use Rattle.broker_core.specs.Watched.Watched.{Passed}
 use Rattle.seat_printer.specs.Transcribed.{with_feed}

@@ -1,0 +1,45 @@
+//! A link to which nothing can be written: what was taken for it stays taken.
+ghost use Rattle.hub_lock.specs.Passes.{IsOf};
+
+use crate::link::{ASK, LIMITS, Link, Open, join, read_all, write_all};
+use broker_model::{Entry, Journal};
+use hub_lock::{Hub, HubPass};
+use peer_link::{ReadEnd, WriteEnd};
+use std::alloc::Global;
+use std::process::Abort;
+use std::sync::Wait;
+use std::test::Fail;
+use wio_core::MemSink;
+
+// Whether all that the peer was told stands as taken, behind its join, its message and its end.
+fn is_taken(journal: &Journal) -> bool {
+    let Some(Entry::Took { peer, bytes }) = journal.entry(4) else {
+        return false;
+    };
+    journal.len() == 4 && *peer == 1 && *bytes == 112
+}
+
+// The link gives its frame and ends, and then the first write to it fails.
+fn fails<R: Abort + Wait>(rt: &R, alloc: Global, hub: &Hub, root: &mut HubPass) -> Result<(), Fail>
+    requires own { IsOf hub.now root.old }
+{
+    let Some(link) = join(rt, hub, root) else {
+        return Err(Fail::new("no peer joined"));
+    };
+    let Link { reads, writes } = link;
+    let read = read_all(rt, alloc, reads, ASK.to_vec(alloc)?, Vec::new(alloc), &Open);
+    assert_eq!(rt; read, (ReadEnd::Closed, 2));
+    let mut sink = MemSink::new(alloc, 200, [1].to_vec(alloc)?)?;
+    assert_eq!(rt; write_all(rt, writes, &mut sink), WriteEnd::WriteFault);
+    assert!(rt; sink.held().is_empty());
+    let session = hub.session(rt, root)?;
+    assert!(rt; is_taken(&session.journal));
+    Ok(())
+}
+
+#[test]
+fn a_failed_write_leaves_what_was_taken(rt: HostRuntime) -> Result<(), Fail> {
+    let alloc = rt.alloc();
+    let (hub, mut root) = Hub::new(alloc, LIMITS)?;
+    fails(&rt, alloc, &hub, &mut root)
+}

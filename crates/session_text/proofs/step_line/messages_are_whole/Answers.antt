@@ -1,5 +1,0 @@
-use Rattle.session_text.proofs.Printed.{message_whole}
-use Rattle.session_text.proofs.step_line.messages_are_whole.Goals as goal
-
-pub returns : goal.returns
-returns c = message_whole

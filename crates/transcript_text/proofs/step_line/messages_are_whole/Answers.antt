@@ -1,0 +1,5 @@
+use Rattle.transcript_text.proofs.Printed.{message_whole}
+use Rattle.transcript_text.proofs.step_line.messages_are_whole.Goals as goal
+
+pub returns : goal.returns
+returns c = message_whole

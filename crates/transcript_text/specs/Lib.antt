@@ -1,0 +1,5 @@
+pub mod Laws
+pub mod Printing
+pub mod Told
+pub mod Transcript
+pub mod Worked

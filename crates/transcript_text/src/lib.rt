@@ -1,0 +1,18 @@
+//! Lines of text as they are printed: the steps of a session, what is told, and the lines of a
+//! transcript.
+#![tactic(auto)]
+
+mod printing;
+mod short_line;
+mod step_line;
+mod told_line;
+mod transcript_line;
+mod worked;
+
+pub use step_line::{messages_are_whole, print_stamped, print_step};
+pub use told_line::{print_told, write_told};
+pub use transcript_line::{
+    print_ended, print_out, print_pass, print_placed, print_took, write_ended, write_out,
+    write_pass, write_placed, write_took,
+};
+pub use worked::worked_printed_lines;
