@@ -77,8 +77,6 @@ def session(steps):
         kind = draw.randrange(16)
         if kind < 1:
             lines.append(f"focus {peer} 6")
-        elif kind < 2 and draw.random() < 0.3:
-            lines.append("unfocus")
         elif kind < 4:
             lines.append(message(peer, 7, 1))
         elif kind < 7:
