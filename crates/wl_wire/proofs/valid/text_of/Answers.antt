@@ -1,9 +1,9 @@
 use Rattle.std.proofs.Common.{sym}
-use Rattle.wl_wire.proofs.Texts.{is_text-of, is_text-not_utf8}
+use Rattle.wl_wire.proofs.Texts.{plain_utf8, is_text-plain}
 use Rattle.wl_wire.proofs.valid.text_of.Goals as goal
 
-pub returns-in-Ok-clause-some : goal.returns-in-Ok-clause-some
-returns-in-Ok-clause-some c = (c.in-Ok.ensures.0, is_text-of _ (sym c.if-not-all_nonzero.ensures) c.in-Ok.ensures.1)
+pub from_utf8_unchecked-requires : goal.from_utf8_unchecked-requires
+from_utf8_unchecked-requires c = plain_utf8 c.args.bytes.now (sym c.if-is_plain.ensures)
 
-pub returns-in-Err-clause-none : goal.returns-in-Err-clause-none
-returns-in-Err-clause-none c = is_text-not_utf8 _ (sym c.if-not-all_nonzero.ensures) c.in-Err.ensures
+pub returns-then-is_plain-clause-some : goal.returns-then-is_plain-clause-some
+returns-then-is_plain-clause-some c = (c.from_utf8_unchecked.ensures, is_text-plain c.args.bytes.now (sym c.if-is_plain.ensures))
