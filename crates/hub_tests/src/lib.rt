@@ -11,4 +11,6 @@ mod memory_tests;
 #[cfg(test)]
 mod race_tests;
 #[cfg(test)]
+mod turn_lock_tests;
+#[cfg(test)]
 mod waking_tests;

@@ -8,8 +8,6 @@ mod line;
 mod line_words;
 mod lines;
 mod script;
-#[cfg(test)]
-mod tests;
 
 pub use action::{Action, Actions, Edits, FieldEdit};
 pub use keys::KeyList;

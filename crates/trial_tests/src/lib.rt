@@ -10,3 +10,5 @@ mod gen_run_tests;
 mod session_gen_tests;
 #[cfg(test)]
 mod trial_run_tests;
+#[cfg(test)]
+mod trial_script_tests;

@@ -15,6 +15,3 @@ pub use crossing::{may_be_shared, may_cross};
 pub use seat::Seat;
 pub use story::Story;
 pub use turn::Turn;
-
-#[cfg(test)]
-mod tests;

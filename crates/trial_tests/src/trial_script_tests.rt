@@ -1,5 +1,6 @@
-use crate::{Ending, read_script};
+// Scripts, how many fields and actions they have, and where they end.
 use std::test::Fail;
+use trial_script::{Ending, read_script};
 
 #[test]
 fn scripts_end_where_they_do(rt: HostRuntime) -> Result<(), Fail> {

@@ -1,13 +1,13 @@
 //! Threads make turns, and the histories are looked at.
 ghost use Rattle.std.specs.Prelude.{◌≡◌, ◌+◌, ◌-◌, ◌<◌, ◌^◌, [], Some, IfOk};
 ghost use Rattle.turn_lock.specs.Sights.{fresh_seat, after_split};
-ghost use Rattle.turn_lock.specs.SightsInTests.{AllOf};
+ghost use Rattle.hub_tests.specs.SightsInTests.{AllOf};
 
-use crate::{Seat, Story, Turn};
 use std::alloc::Global;
 use std::sync::Wait;
 use std::test::Fail;
 use std::thread::{Threads, join};
+use turn_lock::{Seat, Story, Turn};
 use wio_core::NoMemory;
 
 #[derive(Drop)]
