@@ -1,11 +1,12 @@
 // The arguments of a message as the writer takes them, one by one.
 ghost use Rattle.std.specs.Prelude.{◌≡◌, ◌+◌, ◌<◌, ◌≤◌, ◌^◌, ◌++◌, List, length, drop};
 ghost use Rattle.std.specs.Option.{option_copied};
+ghost use Rattle.wl_wire.specs.Spelling.{text_len};
 ghost use Rattle.wl_wire.specs.Writing.{written, room};
 ghost use Rattle.wl_proto.specs.Grammar.{signed, string_value};
 ghost use Rattle.wl_proto.specs.Grammar as grammar;
 ghost use Rattle.wl_proto.specs.Spelling.{value_bytes, value_len, values_len, spelling, row_bytes};
-ghost use Rattle.wl_proto.specs.Arguments.{value_of, values_of, out_after};
+ghost use Rattle.wl_proto.specs.Arguments.{value_of, values_of, out_after, most, put_result};
 
 use wl_wire::ArgWriter;
 
@@ -40,6 +41,26 @@ pub fn int_argument(n: i32) -> Argument<'static>
     ensures { value_of result ≡ signed n }
 {
     Argument::Signed(n)
+}
+
+// How many bytes a text takes.
+pub fn text_size(text: &str) -> usize
+    ensures size { result ≡ text_len (length text.now) }
+    ensures below { result < 2 ^ 63 + 8 }
+{
+    let len = text.len();
+    4 + len + (4 - len % 4)
+}
+
+// How many bytes a string takes that may be null.
+pub fn string_size(text: Option<&str>) -> usize
+    ensures size { result ≡ value_len (string_value (option_copied text.entry)) }
+    ensures below { result < 2 ^ 63 + 8 }
+{
+    match text {
+        Some(text) => text_size(text),
+        None => 4,
+    }
 }
 
 fn len_of(argument: Argument) -> usize
@@ -135,4 +156,14 @@ pub fn put_message(out: &mut [u8], receiver: u32, opcode: u32, arguments: &[Argu
         out.old }
 {
     put_parts(out, receiver, opcode, arguments)
+}
+
+// The same with one premise and one clause, as each row has it.
+#[inline(always)]
+#[tactic(auto, unfolding(crate::specs::Arguments::most, crate::specs::Arguments::put_result))]
+pub fn put_arguments(out: &mut [u8], receiver: u32, opcode: u16, arguments: &[Argument]) -> usize
+    requires { 8 + values_len (values_of arguments.now) ≤ most out.old }
+    ensures { put_result receiver opcode (values_of arguments.now) out.old ≡ (result, out.new) }
+{
+    put_message(out, receiver, opcode as u32, arguments)
 }

@@ -1,4 +1,5 @@
-// Events are read by their rows.
+// Events are read by their rows. A row of several arguments has a function of its own, where its opcode is a
+// number: the proof then computes its kinds.
 ghost use Rattle.std.specs.Prelude.{List};
 ghost use Rattle.wl_proto.specs.Reading.{Gives, event_reading};
 ghost use Rattle.wl_proto.specs.Rows.{event_message, event_kinds};
@@ -56,6 +57,24 @@ fn seat_event<'a>(opcode: u16, body: &'a [u8], tokens: &[u32]) -> Result<Event<'
     }
 }
 
+#[inline(always)]
+#[tactic(auto, unfolding(crate::specs::Reading::event_reading))]
+fn preedit_string_event<'a>(body: &'a [u8], tokens: &[u32]) -> Result<Event<'a>, Refuse>
+    ensures { Gives event_message result
+        (event_reading interface.TextInput 2 tokens.now body.now) }
+{
+    row!(body tokens Event PreeditString { text: string, begin: int, end: int })
+}
+
+#[inline(always)]
+#[tactic(auto, unfolding(crate::specs::Reading::event_reading))]
+fn delete_surrounding_text_event<'a>(body: &'a [u8], tokens: &[u32]) -> Result<Event<'a>, Refuse>
+    ensures { Gives event_message result
+        (event_reading interface.TextInput 4 tokens.now body.now) }
+{
+    row!(body tokens Event DeleteSurroundingText { before: uint, after: uint })
+}
+
 #[tactic(auto, unfolding(crate::specs::Reading::event_reading))]
 fn text_input_event<'a>(opcode: u16, body: &'a [u8], tokens: &[u32]) -> Result<Event<'a>, Refuse>
     ensures { Gives event_message result
@@ -64,12 +83,30 @@ fn text_input_event<'a>(opcode: u16, body: &'a [u8], tokens: &[u32]) -> Result<E
     match opcode {
         0 => row!(body tokens Event Enter { surface: uint }),
         1 => row!(body tokens Event Leave { surface: uint }),
-        2 => row!(body tokens Event PreeditString { text: string, begin: int, end: int }),
+        2 => preedit_string_event(body, tokens),
         3 => row!(body tokens Event CommitString { text: string }),
-        4 => row!(body tokens Event DeleteSurroundingText { before: uint, after: uint }),
+        4 => delete_surrounding_text_event(body, tokens),
         5 => row!(body tokens Event TextInputDone { serial: uint }),
         _ => Err(Refuse::Opcode),
     }
+}
+
+#[inline(always)]
+#[tactic(auto, unfolding(crate::specs::Reading::event_reading))]
+fn surrounding_text_event<'a>(body: &'a [u8], tokens: &[u32]) -> Result<Event<'a>, Refuse>
+    ensures { Gives event_message result
+        (event_reading interface.InputMethod 2 tokens.now body.now) }
+{
+    row!(body tokens Event SurroundingText { text: text, cursor: uint, anchor: uint })
+}
+
+#[inline(always)]
+#[tactic(auto, unfolding(crate::specs::Reading::event_reading))]
+fn content_type_event<'a>(body: &'a [u8], tokens: &[u32]) -> Result<Event<'a>, Refuse>
+    ensures { Gives event_message result
+        (event_reading interface.InputMethod 4 tokens.now body.now) }
+{
+    row!(body tokens Event ContentType { hint: uint, purpose: uint })
 }
 
 #[tactic(auto, unfolding(crate::specs::Reading::event_reading))]
@@ -80,9 +117,9 @@ fn input_method_event<'a>(opcode: u16, body: &'a [u8], tokens: &[u32]) -> Result
     match opcode {
         0 => row!(body tokens Event Activate {}),
         1 => row!(body tokens Event Deactivate {}),
-        2 => row!(body tokens Event SurroundingText { text: text, cursor: uint, anchor: uint }),
+        2 => surrounding_text_event(body, tokens),
         3 => row!(body tokens Event TextChangeCause { cause: uint }),
-        4 => row!(body tokens Event ContentType { hint: uint, purpose: uint }),
+        4 => content_type_event(body, tokens),
         5 => row!(body tokens Event InputMethodDone {}),
         6 => row!(body tokens Event Unavailable {}),
         _ => Err(Refuse::Opcode),
@@ -104,17 +141,52 @@ fn input_popup_surface_event<'a>(
     }
 }
 
+#[inline(always)]
+#[tactic(auto, unfolding(crate::specs::Reading::event_reading))]
+fn keymap_event<'a>(body: &'a [u8], tokens: &[u32]) -> Result<Event<'a>, Refuse>
+    ensures { Gives event_message result
+        (event_reading interface.KeyboardGrab 0 tokens.now body.now) }
+{
+    row!(body tokens Event Keymap { format: uint, token: descriptor, size: uint })
+}
+
+#[inline(always)]
+#[tactic(auto, unfolding(crate::specs::Reading::event_reading))]
+fn key_event<'a>(body: &'a [u8], tokens: &[u32]) -> Result<Event<'a>, Refuse>
+    ensures { Gives event_message result
+        (event_reading interface.KeyboardGrab 1 tokens.now body.now) }
+{
+    row!(body tokens Event Key { serial: uint, time: uint, key: uint, state: uint })
+}
+
+#[inline(always)]
+#[tactic(auto, unfolding(crate::specs::Reading::event_reading))]
+fn modifiers_event<'a>(body: &'a [u8], tokens: &[u32]) -> Result<Event<'a>, Refuse>
+    ensures { Gives event_message result
+        (event_reading interface.KeyboardGrab 2 tokens.now body.now) }
+{
+    row!(body tokens Event Modifiers { serial: uint, depressed: uint, latched: uint, locked: uint, group: uint })
+}
+
+#[inline(always)]
+#[tactic(auto, unfolding(crate::specs::Reading::event_reading))]
+fn repeat_info_event<'a>(body: &'a [u8], tokens: &[u32]) -> Result<Event<'a>, Refuse>
+    ensures { Gives event_message result
+        (event_reading interface.KeyboardGrab 3 tokens.now body.now) }
+{
+    row!(body tokens Event RepeatInfo { rate: int, delay: int })
+}
+
 #[tactic(auto, unfolding(crate::specs::Reading::event_reading))]
 fn keyboard_grab_event<'a>(opcode: u16, body: &'a [u8], tokens: &[u32]) -> Result<Event<'a>, Refuse>
     ensures { Gives event_message result
         (event_reading interface.KeyboardGrab opcode tokens.now body.now) }
 {
     match opcode {
-        0 => row!(body tokens Event Keymap { format: uint, token: descriptor, size: uint }),
-        1 => row!(body tokens Event Key { serial: uint, time: uint, key: uint, state: uint }),
-        2 =>
-            row!(body tokens Event Modifiers { serial: uint, depressed: uint, latched: uint, locked: uint, group: uint }),
-        3 => row!(body tokens Event RepeatInfo { rate: int, delay: int }),
+        0 => keymap_event(body, tokens),
+        1 => key_event(body, tokens),
+        2 => modifiers_event(body, tokens),
+        3 => repeat_info_event(body, tokens),
         _ => Err(Refuse::Opcode),
     }
 }

@@ -1,13 +1,14 @@
 // Events are written by their rows.
 ghost use Rattle.std.specs.Prelude.{◌≡◌, ◌<◌, ◌≤◌, ◌^◌, ◌++◌, List, length, drop};
 ghost use Rattle.wl_proto.specs.Rows.{event_message};
+ghost use Rattle.wl_proto.specs.Arguments.{most, message_put};
 ghost use Rattle.wl_proto.specs.Spelling.{message_len, message_bytes};
 
 use crate::argument::{
-    Argument, int_argument, message_size, put_message, string_argument, text_argument,
+    Argument, int_argument, put_arguments, string_argument, string_size, text_argument, text_size,
 };
 use crate::event::Event;
-use crate::rows::{argument, put_row, row_size};
+use crate::rows::{argument, put_row, row_size, size_from};
 
 // The rows: an opcode, and the arguments with their kinds. `$row` is what is done with one of them.
 macro_rules! by_row {
@@ -49,13 +50,23 @@ pub fn event_len(event: &Event) -> usize
     by_row!(event row_size)
 }
 
+// One premise and one clause: they are proved at each row.
+#[inline(always)]
+fn put_event(id: u32, event: &Event, out: &mut [u8]) -> usize
+    requires { message_len (event_message event.now) ≤ most out.old }
+    ensures { message_put id (event_message event.now) out.old ≡ (result, out.new) }
+{
+    by_row!(event put_row out id)
+}
+
 /// Writes the event to the object of this id into the front of the buffer, and says how many bytes
 /// it has. The rest of the buffer stays. The descriptor's token is not written. Takes no memory.
+#[tactic(auto, unfolding(crate::specs::Arguments::most, crate::specs::Arguments::put_result))]
 pub fn write_event(id: u32, event: &Event, out: &mut [u8]) -> usize
     requires short { message_len (event_message event.now) ≤ 4096 }
     requires room { message_len (event_message event.now) ≤ length out.old }
     ensures len { result ≡ message_len (event_message event.now) }
     ensures bytes { out.new ≡ message_bytes id (event_message event.now) ++ drop result out.old }
 {
-    by_row!(event put_row out id)
+    put_event(id, event, out)
 }

@@ -1,4 +1,5 @@
-// Requests are read by their rows.
+// Requests are read by their rows. A row of several arguments has a function of its own, where its opcode is a
+// number: the proof then computes its kinds.
 ghost use Rattle.std.specs.Prelude.{List};
 ghost use Rattle.wl_proto.specs.Reading.{Gives, request_reading};
 ghost use Rattle.wl_proto.specs.Rows.{request_message, request_kinds};
@@ -50,6 +51,15 @@ fn compositor_request<'a>(
     }
 }
 
+#[inline(always)]
+#[tactic(auto, unfolding(crate::specs::Reading::request_reading))]
+fn damage_request<'a>(body: &'a [u8], tokens: &[u32]) -> Result<Request<'a>, Refuse>
+    ensures { Gives request_message result
+        (request_reading interface.Surface 2 tokens.now body.now) }
+{
+    row!(body tokens Request Damage { x: int, y: int, width: int, height: int })
+}
+
 #[tactic(auto, unfolding(crate::specs::Reading::request_reading))]
 fn surface_request<'a>(opcode: u16, body: &'a [u8], tokens: &[u32]) -> Result<Request<'a>, Refuse>
     ensures { Gives request_message result
@@ -57,7 +67,7 @@ fn surface_request<'a>(opcode: u16, body: &'a [u8], tokens: &[u32]) -> Result<Re
 {
     match opcode {
         0 => row!(body tokens Request SurfaceDestroy {}),
-        2 => row!(body tokens Request Damage { x: int, y: int, width: int, height: int }),
+        2 => damage_request(body, tokens),
         6 => row!(body tokens Request SurfaceCommit {}),
         _ => Err(Refuse::Opcode),
     }
@@ -92,6 +102,33 @@ fn text_input_manager_request<'a>(
     }
 }
 
+#[inline(always)]
+#[tactic(auto, unfolding(crate::specs::Reading::request_reading))]
+fn surrounding_text_request<'a>(body: &'a [u8], tokens: &[u32]) -> Result<Request<'a>, Refuse>
+    ensures { Gives request_message result
+        (request_reading interface.TextInput 3 tokens.now body.now) }
+{
+    row!(body tokens Request SetSurroundingText { text: text, cursor: int, anchor: int })
+}
+
+#[inline(always)]
+#[tactic(auto, unfolding(crate::specs::Reading::request_reading))]
+fn content_type_request<'a>(body: &'a [u8], tokens: &[u32]) -> Result<Request<'a>, Refuse>
+    ensures { Gives request_message result
+        (request_reading interface.TextInput 5 tokens.now body.now) }
+{
+    row!(body tokens Request SetContentType { hint: uint, purpose: uint })
+}
+
+#[inline(always)]
+#[tactic(auto, unfolding(crate::specs::Reading::request_reading))]
+fn cursor_rectangle_request<'a>(body: &'a [u8], tokens: &[u32]) -> Result<Request<'a>, Refuse>
+    ensures { Gives request_message result
+        (request_reading interface.TextInput 6 tokens.now body.now) }
+{
+    row!(body tokens Request SetCursorRectangle { x: int, y: int, width: int, height: int })
+}
+
 #[tactic(auto, unfolding(crate::specs::Reading::request_reading))]
 fn text_input_request<'a>(
     opcode: u16,
@@ -105,11 +142,10 @@ fn text_input_request<'a>(
         0 => row!(body tokens Request TextInputDestroy {}),
         1 => row!(body tokens Request Enable {}),
         2 => row!(body tokens Request Disable {}),
-        3 => row!(body tokens Request SetSurroundingText { text: text, cursor: int, anchor: int }),
+        3 => surrounding_text_request(body, tokens),
         4 => row!(body tokens Request SetTextChangeCause { cause: uint }),
-        5 => row!(body tokens Request SetContentType { hint: uint, purpose: uint }),
-        6 =>
-            row!(body tokens Request SetCursorRectangle { x: int, y: int, width: int, height: int }),
+        5 => content_type_request(body, tokens),
+        6 => cursor_rectangle_request(body, tokens),
         7 => row!(body tokens Request TextInputCommit {}),
         _ => Err(Refuse::Opcode),
     }
@@ -131,6 +167,36 @@ fn input_method_manager_request<'a>(
     }
 }
 
+#[inline(always)]
+#[tactic(auto, unfolding(crate::specs::Reading::request_reading))]
+fn preedit_string_request<'a>(body: &'a [u8], tokens: &[u32]) -> Result<Request<'a>, Refuse>
+    ensures { Gives request_message result
+        (request_reading interface.InputMethod 1 tokens.now body.now) }
+{
+    row!(body tokens Request SetPreeditString { text: text, begin: int, end: int })
+}
+
+#[inline(always)]
+#[tactic(auto, unfolding(crate::specs::Reading::request_reading))]
+fn delete_surrounding_text_request<'a>(
+    body: &'a [u8],
+    tokens: &[u32],
+) -> Result<Request<'a>, Refuse>
+    ensures { Gives request_message result
+        (request_reading interface.InputMethod 2 tokens.now body.now) }
+{
+    row!(body tokens Request DeleteSurroundingText { before: uint, after: uint })
+}
+
+#[inline(always)]
+#[tactic(auto, unfolding(crate::specs::Reading::request_reading))]
+fn get_popup_surface_request<'a>(body: &'a [u8], tokens: &[u32]) -> Result<Request<'a>, Refuse>
+    ensures { Gives request_message result
+        (request_reading interface.InputMethod 4 tokens.now body.now) }
+{
+    row!(body tokens Request GetInputPopupSurface { id: uint, surface: uint })
+}
+
 #[tactic(auto, unfolding(crate::specs::Reading::request_reading))]
 fn input_method_request<'a>(
     opcode: u16,
@@ -142,10 +208,10 @@ fn input_method_request<'a>(
 {
     match opcode {
         0 => row!(body tokens Request CommitString { text: text }),
-        1 => row!(body tokens Request SetPreeditString { text: text, begin: int, end: int }),
-        2 => row!(body tokens Request DeleteSurroundingText { before: uint, after: uint }),
+        1 => preedit_string_request(body, tokens),
+        2 => delete_surrounding_text_request(body, tokens),
         3 => row!(body tokens Request InputMethodCommit { serial: uint }),
-        4 => row!(body tokens Request GetInputPopupSurface { id: uint, surface: uint }),
+        4 => get_popup_surface_request(body, tokens),
         5 => row!(body tokens Request GrabKeyboard { keyboard: uint }),
         6 => row!(body tokens Request InputMethodDestroy {}),
         _ => Err(Refuse::Opcode),

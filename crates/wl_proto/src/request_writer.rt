@@ -1,11 +1,12 @@
 // Requests are written by their rows.
 ghost use Rattle.std.specs.Prelude.{◌≡◌, ◌<◌, ◌≤◌, ◌^◌, ◌++◌, List, length, drop};
 ghost use Rattle.wl_proto.specs.Rows.{request_message};
+ghost use Rattle.wl_proto.specs.Arguments.{most, message_put};
 ghost use Rattle.wl_proto.specs.Spelling.{message_len, message_bytes};
 
-use crate::argument::{Argument, int_argument, message_size, put_message, text_argument};
+use crate::argument::{Argument, int_argument, put_arguments, text_argument, text_size};
 use crate::request::Request;
-use crate::rows::{argument, put_row, row_size};
+use crate::rows::{argument, put_row, row_size, size_from};
 
 // The rows: an opcode, and the arguments with their kinds. `$row` is what is done with one of them.
 macro_rules! by_row {
@@ -54,9 +55,19 @@ pub fn request_len(request: &Request) -> usize
     by_row!(request row_size)
 }
 
+// One premise and one clause: they are proved at each row.
+#[inline(always)]
+fn put_request(id: u32, request: &Request, out: &mut [u8]) -> usize
+    requires { message_len (request_message request.now) ≤ most out.old }
+    ensures { message_put id (request_message request.now) out.old ≡ (result, out.new) }
+{
+    by_row!(request put_row out id)
+}
+
 /// Writes the request to the object of this id into the front of the buffer, and says how many
 /// bytes it has. The rest of the buffer stays. The descriptor's token is not written. Takes no
 /// memory.
+#[tactic(auto, unfolding(crate::specs::Arguments::most, crate::specs::Arguments::put_result))]
 pub fn write_request(id: u32, request: &Request, out: &mut [u8]) -> usize
     requires short { message_len (request_message request.now) ≤ 4096 }
     requires room { message_len (request_message request.now) ≤ length out.old }
@@ -64,5 +75,5 @@ pub fn write_request(id: u32, request: &Request, out: &mut [u8]) -> usize
     ensures bytes { out.new ≡ message_bytes id (request_message request.now) ++ drop result
         out.old }
 {
-    by_row!(request put_row out id)
+    put_request(id, request, out)
 }
