@@ -2,4 +2,3 @@ pub mod Pairs
 pub mod Sights
 pub mod Rule
 pub mod Steps
-pub mod SightsInTests
