@@ -1,4 +1,5 @@
-# `make demo` replays two examples, unproved; `make build` proves and builds the program; `make examples` replays all examples;
+# `make demo` replays two examples, unproved; `make build` proves and builds the program, `make examples` replays all
+# examples by it;
 # `make test` is the gate; `make gate-cost` runs the gate from nothing and prints what each crate costs it; `make cost` counts the
 # instructions of a step; `make claims` checks that each README names calls and clauses that are there.
 .PHONY: demo build examples test gate-cost cost claims
@@ -10,7 +11,7 @@ build:
 	cd crates/wlim && rt run -- replay < ../../examples/one_batch.session
 
 examples:
-	tests/examples.sh
+	tests/examples.sh crates/wlim/out/wlim
 
 test:
 	rt ci
