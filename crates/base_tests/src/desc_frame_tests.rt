@@ -3,6 +3,7 @@ ghost use Rattle.std.specs.Prelude.{◌<◌};
 
 use desc_frame::{FrameReader, FrameWriter, Got};
 use std::alloc::{AllocError, Global};
+use std::process::Abort;
 use std::test::Fail;
 use wio_core::{Failed, MemSink, MemSource};
 
@@ -27,73 +28,98 @@ fn first_answers(alloc: Global, all: &[u8], chunk: usize) -> Result<(Got, Got), 
     Ok((first, reader.next(&mut source, &mut bytes, &mut tokens)))
 }
 
+/// What the reader answers to the first bytes of the frame, twice.
+fn cut_answers(count: usize) -> (Got, Got) {
+    match count {
+        0 => (Got::End, Got::End),
+        16 => (Got::Bytes(12, 0), Got::End),
+        _ => (Got::Torn(count), Got::Torn(count)),
+    }
+}
+
+/// Bytes that are no frame, and what the reader answers, twice.
+const NO_FRAMES: [(&[u8], Got); 4] = [
+    (&[12, 0, 0, 0, 1, 0], Got::Torn(6)),
+    (&[0, 0, 0, 0], Got::BadFrame(0, 0)),
+    (&[1, 16, 0, 0], Got::BadFrame(4097, 0)),
+    (&[0, 16, 1, 1], Got::BadFrame(4096, 257)),
+];
+
 #[test]
 fn cut_frames_are_torn_where_they_end(rt: HostRuntime) -> Result<(), Fail> {
     for chunk in [1, 2, 3, 5] {
-        for c in 0..17 {
-            let want = match c {
-                0 => (Got::End, Got::End),
-                16 => (Got::Bytes(12, 0), Got::End),
-                _ => (Got::Torn(c), Got::Torn(c)),
-            };
-            assert_eq!(rt;
-                first_answers(rt.alloc(), &FRAME[..c], chunk)?,
-                want,
-                "{c} bytes"
-            );
+        for count in 0..17 {
+            let answers = first_answers(rt.alloc(), &FRAME[..count], chunk)?;
+            assert_eq!(rt; answers, cut_answers(count), "{count} bytes");
         }
-        assert_eq!(rt;
-            first_answers(rt.alloc(), &[12, 0, 0, 0, 1, 0], chunk)?.0,
-            Got::Torn(6)
-        );
-        assert_eq!(rt;
-            first_answers(rt.alloc(), &[0, 0, 0, 0], chunk)?.0,
-            Got::BadFrame(0, 0)
-        );
-        assert_eq!(rt;
-            first_answers(rt.alloc(), &[1, 16, 0, 0], chunk)?.1,
-            Got::BadFrame(4097, 0)
-        );
-        assert_eq!(rt;
-            first_answers(rt.alloc(), &[0, 16, 1, 1], chunk)?.1,
-            Got::BadFrame(4096, 257)
-        );
     }
     Ok(())
 }
 
 #[test]
-fn a_frame_is_written_and_read(rt: HostRuntime) -> Result<(), Fail> {
-    let mut sink = MemSink::new(rt.alloc(), 20, Vec::new(rt.alloc()))?;
-    assert_eq!(rt;
-        FrameWriter::put(&mut sink, b"ab", &[7, 0x0102_0304]),
-        Ok(())
-    );
-    assert_eq!(rt; sink.held(), WITH_TOKENS.as_slice());
-    assert_eq!(rt; FrameWriter::put(&mut sink, b"ab", &[7]), Err(Failed));
-    assert_eq!(rt; sink.held(), WITH_TOKENS.as_slice());
+fn what_is_no_frame_stays_none(rt: HostRuntime) -> Result<(), Fail> {
+    for chunk in [1, 2, 3, 5] {
+        for (bytes, want) in &NO_FRAMES {
+            let answers = first_answers(rt.alloc(), bytes, chunk)?;
+            assert_eq!(rt; answers, (*want, *want), "{bytes:?}");
+        }
+    }
+    Ok(())
+}
 
-    let mut source = MemSource::new(WITH_TOKENS.to_vec(rt.alloc())?, 3, Vec::new(rt.alloc()));
+fn put_two_tokens(sink: &mut MemSink) -> Result<(), Failed> {
+    FrameWriter::put(sink, b"ab", &[7, 0x0102_0304])
+}
+
+fn put_one_token(sink: &mut MemSink) -> Result<(), Failed> {
+    FrameWriter::put(sink, b"ab", &[7])
+}
+
+// A group with two tokens is written, and one that has no room is not.
+fn written(rt: &impl Abort, sink: &mut MemSink) {
+    assert_eq!(rt; put_two_tokens(sink), Ok(()));
+    assert_eq!(rt; sink.held(), WITH_TOKENS.as_slice());
+    assert_eq!(rt; put_one_token(sink), Err(Failed));
+    assert_eq!(rt; sink.held(), WITH_TOKENS.as_slice());
+}
+
+#[test]
+fn a_frame_is_written(rt: HostRuntime) -> Result<(), Fail> {
+    let mut sink = MemSink::new(rt.alloc(), 20, Vec::new(rt.alloc()))?;
+    written(&rt, &mut sink);
+    Ok(())
+}
+
+// The group with two tokens is read.
+fn read(rt: &impl Abort, source: &mut MemSource) {
     let mut bytes = [0; 4096];
     let mut tokens = [0; 256];
-    assert_eq!(rt;
-        FrameReader::new().next(&mut source, &mut bytes, &mut tokens),
-        Got::Bytes(2, 2)
-    );
+    let got = FrameReader::new().next(source, &mut bytes, &mut tokens);
+    assert_eq!(rt; got, Got::Bytes(2, 2));
     assert_eq!(rt; bytes[..2], b"ab"[..]);
     assert_eq!(rt; tokens[..2], [7, 0x0102_0304][..]);
+}
+
+#[test]
+fn a_frame_is_read(rt: HostRuntime) -> Result<(), Fail> {
+    let mut source = MemSource::new(WITH_TOKENS.to_vec(rt.alloc())?, 3, Vec::new(rt.alloc()));
+    read(&rt, &mut source);
     Ok(())
+}
+
+// What a reader answers where the source fails at this call.
+fn failed_at(alloc: Global, call: u64) -> Result<Got, AllocError> {
+    let fail = [call].to_vec(alloc)?;
+    let mut source = MemSource::new(FRAME.to_vec(alloc)?, 8, fail);
+    let mut bytes = [0; 4096];
+    let mut tokens = [0; 256];
+    Ok(FrameReader::new().next(&mut source, &mut bytes, &mut tokens))
 }
 
 #[test]
 fn a_failed_read_is_a_fault(rt: HostRuntime) -> Result<(), Fail> {
-    let mut bytes = [0; 4096];
-    let mut tokens = [0; 256];
     for call in 1..4 {
-        let fail = [call].to_vec(rt.alloc())?;
-        let mut source = MemSource::new(FRAME.to_vec(rt.alloc())?, 8, fail);
-        let got = FrameReader::new().next(&mut source, &mut bytes, &mut tokens);
-        assert_eq!(rt; got, Got::ReadFault, "call {call}");
+        assert_eq!(rt; failed_at(rt.alloc(), call)?, Got::ReadFault, "call {call}");
     }
     Ok(())
 }

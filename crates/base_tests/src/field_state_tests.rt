@@ -29,16 +29,26 @@ const RECT: Rect = Rect {
     height: 0,
 };
 
-fn surround(
-    rt: &impl Abort,
-    field: &mut Field,
-    text: &str,
-    cursor: i32,
-    anchor: i32,
-    has_effect: bool,
-) {
-    assert!(rt; text.len() <= SURROUNDING_LIMIT);
-    assert_eq!(rt; field.set_surrounding(text, cursor, anchor), has_effect);
+const NARROW: Rect = Rect {
+    x: 1,
+    y: -2,
+    width: -1,
+    height: 0,
+};
+
+const LOW: Rect = Rect {
+    x: 1,
+    y: -2,
+    width: 3,
+    height: -1,
+};
+
+// Whether the text has an effect, where it is short enough to be told.
+fn surround(field: &mut Field, text: &str, cursor: i32, anchor: i32) -> Option<bool> {
+    if text.len() > SURROUNDING_LIMIT {
+        return None;
+    }
+    Some(field.set_surrounding(text, cursor, anchor))
 }
 
 fn shows(
@@ -61,9 +71,9 @@ fn take(rt: &impl Abort, field: &mut Field, step: Step) {
         Step::Leave => field.leave(),
         Step::Enable => field.enable(),
         Step::Disable => field.disable(),
-        Step::Surround(text, cursor, anchor, has_effect) => surround(
-            rt, field, text, cursor, anchor, has_effect,
-        ),
+        Step::Surround(text, cursor, anchor, has_effect) => {
+            assert_eq!(rt; surround(field, text, cursor, anchor), Some(has_effect));
+        }
         Step::Cause(cause) => field.set_cause(cause),
         Step::Content(hint, purpose) => field.set_content(hint, purpose),
         Step::Rectangle(rect, has_effect) => assert_eq!(rt; field.set_rect(rect), has_effect),
@@ -89,120 +99,105 @@ fn play(rt: &impl Abort, alloc: Global, steps: &[Step]) -> Result<(), NoMemory> 
     Ok(())
 }
 
-#[test]
-fn a_commit_shows_what_was_set_and_the_next_one_no_cause(rt: HostRuntime) -> Result<(), Fail> {
-    let steps = [
-        Step::Enter,
-        Step::Enable,
-        Step::Surround("ab", 1, 1, true),
-        Step::Cause(1),
-        Step::Content(2, 3),
-        Step::Rectangle(RECT, true),
-        Step::Shows(None, 0, (0, 0), None),
-        Step::Commit(Taken::Begun),
-        Step::Shows(Some(("ab", 1, 1)), 1, (2, 3), Some(RECT)),
-        Step::Commit(Taken::Updated),
-        Step::Shows(Some(("ab", 1, 1)), 0, (2, 3), Some(RECT)),
-    ];
-    play(&rt, rt.alloc(), &steps)?;
-    Ok(())
-}
+const A_COMMIT_SHOWS_WHAT_WAS_SET_AND_THE_NEXT_ONE_NO_CAUSE: [Step; 11] = [
+    Step::Enter,
+    Step::Enable,
+    Step::Surround("ab", 1, 1, true),
+    Step::Cause(1),
+    Step::Content(2, 3),
+    Step::Rectangle(RECT, true),
+    Step::Shows(None, 0, (0, 0), None),
+    Step::Commit(Taken::Begun),
+    Step::Shows(Some(("ab", 1, 1)), 1, (2, 3), Some(RECT)),
+    Step::Commit(Taken::Updated),
+    Step::Shows(Some(("ab", 1, 1)), 0, (2, 3), Some(RECT)),
+];
+
+const AN_ENABLE_FORGETS_WHAT_WAS_SET_BEFORE_IT: [Step; 5] = [
+    Step::Enter,
+    Step::Surround("ab", 1, 1, true),
+    Step::Enable,
+    Step::Commit(Taken::Begun),
+    Step::Shows(None, 0, (0, 0), None),
+];
+
+const REQUESTS_WITHOUT_EFFECT_ANSWER_FALSE: [Step; 14] = [
+    Step::Surround("é", 2, 2, false),
+    Step::Rectangle(RECT, false),
+    Step::Enter,
+    Step::Enable,
+    Step::Surround("é", 0, 2, true),
+    Step::Surround("é", 1, 2, false),
+    Step::Surround("é", 2, 1, false),
+    Step::Surround("é", 3, 2, false),
+    Step::Surround("é", 0, -1, false),
+    Step::Rectangle(RECT, true),
+    Step::Rectangle(NARROW, false),
+    Step::Rectangle(LOW, false),
+    Step::Commit(Taken::Begun),
+    Step::Shows(Some(("é", 0, 2)), 0, (0, 0), Some(RECT)),
+];
+
+const THE_WORD_OF_A_COMMIT_IS_THE_LAST_SINCE_THE_ONE_BEFORE: [Step; 12] = [
+    Step::Enter,
+    Step::Enable,
+    Step::Disable,
+    Step::Commit(Taken::Nothing),
+    Step::Enable,
+    Step::Commit(Taken::Begun),
+    Step::Enable,
+    Step::Commit(Taken::Begun),
+    Step::Disable,
+    Step::Commit(Taken::Ended),
+    Step::Disable,
+    Step::Commit(Taken::Nothing),
+];
+
+const A_DISPLACED_FIELD_HOLDS_AGAIN_ONLY_BY_AN_ENABLE: [Step; 14] = [
+    Step::Enter,
+    Step::Enable,
+    Step::Content(2, 3),
+    Step::Commit(Taken::Begun),
+    Step::Displace,
+    Step::Shows(None, 0, (0, 0), None),
+    Step::Commit(Taken::Nothing),
+    Step::Disable,
+    Step::Commit(Taken::Nothing),
+    Step::Count(3),
+    Step::Enable,
+    Step::Displace,
+    Step::Commit(Taken::Begun),
+    Step::Shows(None, 0, (0, 0), None),
+];
+
+const COMMITS_COUNT_OUTSIDE_AND_A_LEAVE_KEEPS_ONLY_THEIR_COUNT: [Step; 14] = [
+    Step::Enable,
+    Step::Commit(Taken::Nothing),
+    Step::Commit(Taken::Nothing),
+    Step::Count(2),
+    Step::Enter,
+    Step::Enable,
+    Step::Surround("ab", 0, 2, true),
+    Step::Cause(1),
+    Step::Content(2, 3),
+    Step::Rectangle(RECT, true),
+    Step::Commit(Taken::Begun),
+    Step::Leave,
+    Step::Shows(None, 0, (0, 0), None),
+    Step::Count(3),
+];
 
 #[test]
-fn an_enable_forgets_what_was_set_before_it(rt: HostRuntime) -> Result<(), Fail> {
-    let steps = [
-        Step::Enter,
-        Step::Surround("ab", 1, 1, true),
-        Step::Enable,
-        Step::Commit(Taken::Begun),
-        Step::Shows(None, 0, (0, 0), None),
-    ];
-    play(&rt, rt.alloc(), &steps)?;
-    Ok(())
-}
-
-#[test]
-fn requests_without_effect_answer_false(rt: HostRuntime) -> Result<(), Fail> {
-    let steps = [
-        Step::Surround("é", 2, 2, false),
-        Step::Rectangle(RECT, false),
-        Step::Enter,
-        Step::Enable,
-        Step::Surround("é", 0, 2, true),
-        Step::Surround("é", 1, 2, false),
-        Step::Surround("é", 2, 1, false),
-        Step::Surround("é", 3, 2, false),
-        Step::Surround("é", 0, -1, false),
-        Step::Rectangle(RECT, true),
-        Step::Rectangle(Rect { width: -1, ..RECT }, false),
-        Step::Rectangle(Rect { height: -1, ..RECT }, false),
-        Step::Commit(Taken::Begun),
-        Step::Shows(Some(("é", 0, 2)), 0, (0, 0), Some(RECT)),
-    ];
-    play(&rt, rt.alloc(), &steps)?;
-    Ok(())
-}
-
-#[test]
-fn the_word_of_a_commit_is_the_last_since_the_one_before(rt: HostRuntime) -> Result<(), Fail> {
-    let steps = [
-        Step::Enter,
-        Step::Enable,
-        Step::Disable,
-        Step::Commit(Taken::Nothing),
-        Step::Enable,
-        Step::Commit(Taken::Begun),
-        Step::Enable,
-        Step::Commit(Taken::Begun),
-        Step::Disable,
-        Step::Commit(Taken::Ended),
-        Step::Disable,
-        Step::Commit(Taken::Nothing),
-    ];
-    play(&rt, rt.alloc(), &steps)?;
-    Ok(())
-}
-
-#[test]
-fn a_displaced_field_holds_again_only_by_an_enable(rt: HostRuntime) -> Result<(), Fail> {
-    let steps = [
-        Step::Enter,
-        Step::Enable,
-        Step::Content(2, 3),
-        Step::Commit(Taken::Begun),
-        Step::Displace,
-        Step::Shows(None, 0, (0, 0), None),
-        Step::Commit(Taken::Nothing),
-        Step::Disable,
-        Step::Commit(Taken::Nothing),
-        Step::Count(3),
-        Step::Enable,
-        Step::Displace,
-        Step::Commit(Taken::Begun),
-        Step::Shows(None, 0, (0, 0), None),
-    ];
-    play(&rt, rt.alloc(), &steps)?;
-    Ok(())
-}
-
-#[test]
-fn commits_count_outside_and_a_leave_keeps_only_their_count(rt: HostRuntime) -> Result<(), Fail> {
-    let steps = [
-        Step::Enable,
-        Step::Commit(Taken::Nothing),
-        Step::Commit(Taken::Nothing),
-        Step::Count(2),
-        Step::Enter,
-        Step::Enable,
-        Step::Surround("ab", 0, 2, true),
-        Step::Cause(1),
-        Step::Content(2, 3),
-        Step::Rectangle(RECT, true),
-        Step::Commit(Taken::Begun),
-        Step::Leave,
-        Step::Shows(None, 0, (0, 0), None),
-        Step::Count(3),
-    ];
-    play(&rt, rt.alloc(), &steps)?;
+fn each_list_of_steps_is_answered(rt: HostRuntime) -> Result<(), Fail> {
+    for steps in [
+        A_COMMIT_SHOWS_WHAT_WAS_SET_AND_THE_NEXT_ONE_NO_CAUSE.as_slice(),
+        AN_ENABLE_FORGETS_WHAT_WAS_SET_BEFORE_IT.as_slice(),
+        REQUESTS_WITHOUT_EFFECT_ANSWER_FALSE.as_slice(),
+        THE_WORD_OF_A_COMMIT_IS_THE_LAST_SINCE_THE_ONE_BEFORE.as_slice(),
+        A_DISPLACED_FIELD_HOLDS_AGAIN_ONLY_BY_AN_ENABLE.as_slice(),
+        COMMITS_COUNT_OUTSIDE_AND_A_LEAVE_KEEPS_ONLY_THEIR_COUNT.as_slice(),
+    ] {
+        play(&rt, rt.alloc(), steps)?;
+    }
     Ok(())
 }

@@ -9,78 +9,91 @@ fn turn_all(rt: &impl Abort, grab: &mut Grab, rows: &[(u32, bool, Route)]) {
     }
 }
 
+const WHERE_64_ARE_DOWN: [(u32, bool, Route); 6] = [
+    (64, true, Route::TooMany),
+    // pressed again, a key that is down
+    (63, true, Route::Pass),
+    // the key that was refused is up
+    (64, false, Route::Pass),
+    (64, true, Route::TooMany),
+    (7, false, Route::Pass),
+    (64, true, Route::Pass),
+];
+
 #[test]
 fn refuses_the_65th_key(rt: HostRuntime) -> Result<(), Fail> {
     let mut grab = Grab::new(rt.alloc())?;
     for key in 0..64 {
         assert_eq!(rt; grab.key(key, true), Route::Pass, "key {key}");
     }
-    let rows = [
-        (64, true, Route::TooMany),
-        // pressed again, a key that is down
-        (63, true, Route::Pass),
-        // the key that was refused is up
-        (64, false, Route::Pass),
-        (64, true, Route::TooMany),
-        (7, false, Route::Pass),
-        (64, true, Route::Pass),
-    ];
-    turn_all(&rt, &mut grab, &rows);
+    turn_all(&rt, &mut grab, &WHERE_64_ARE_DOWN);
     Ok(())
 }
+
+const BEFORE_A_GRAB: [(u32, bool, Route); 1] = [(30, true, Route::Pass)];
+
+const UNDER_THE_FIRST: [(u32, bool, Route); 4] = [
+    (31, true, Route::ToGrab(5)),
+    // pressed before the grab stood
+    (30, true, Route::Pass),
+    (31, true, Route::ToGrab(5)),
+    // a release of a key that is up
+    (32, false, Route::Pass),
+];
+
+const UNDER_THE_NEXT: [(u32, bool, Route); 4] = [
+    (31, true, Route::Nowhere),
+    (31, false, Route::Nowhere),
+    // a first press again
+    (31, true, Route::ToGrab(9)),
+    (30, false, Route::Pass),
+];
 
 #[test]
 fn keys_follow_their_first_press(rt: HostRuntime) -> Result<(), Fail> {
     let mut grab = Grab::new(rt.alloc())?;
-    turn_all(&rt, &mut grab, &[(30, true, Route::Pass)]);
+    turn_all(&rt, &mut grab, &BEFORE_A_GRAB);
     grab.fall();
     grab.stand(5);
     assert_eq!(rt; grab.standing(), Some(5));
-    let rows = [
-        (31, true, Route::ToGrab(5)),
-        // pressed before the grab stood
-        (30, true, Route::Pass),
-        (31, true, Route::ToGrab(5)),
-        // a release of a key that is up
-        (32, false, Route::Pass),
-    ];
-    turn_all(&rt, &mut grab, &rows);
+    turn_all(&rt, &mut grab, &UNDER_THE_FIRST);
     grab.fall();
     grab.stand(9);
-    let rows = [
-        (31, true, Route::Nowhere),
-        (31, false, Route::Nowhere),
-        // a first press again
-        (31, true, Route::ToGrab(9)),
-        (30, false, Route::Pass),
-    ];
-    turn_all(&rt, &mut grab, &rows);
+    turn_all(&rt, &mut grab, &UNDER_THE_NEXT);
     Ok(())
+}
+
+const MAP: Keymap = Keymap {
+    format: 1,
+    token: 7,
+    size: 100,
+};
+
+const MODS: Mods = Mods {
+    depressed: 1,
+    latched: 2,
+    locked: 4,
+    group: 0,
+};
+
+const REPEAT: Repeat = Repeat {
+    rate: 25,
+    delay: 600,
+};
+
+// Tells each, and compares what is kept.
+fn keeps(rt: &impl Abort, grab: &mut Grab) {
+    grab.keymap(MAP);
+    grab.repeat(REPEAT);
+    grab.mods(MODS);
+    assert_eq!(rt; grab.last_keymap(), Some(MAP));
+    assert_eq!(rt; grab.last_repeat(), Some(REPEAT));
+    assert_eq!(rt; grab.last_mods(), Some(MODS));
 }
 
 #[test]
 fn keeps_what_was_told_last(rt: HostRuntime) -> Result<(), Fail> {
-    let map = Keymap {
-        format: 1,
-        token: 7,
-        size: 100,
-    };
-    let mods = Mods {
-        depressed: 1,
-        latched: 2,
-        locked: 4,
-        group: 0,
-    };
-    let repeat = Repeat {
-        rate: 25,
-        delay: 600,
-    };
     let mut grab = Grab::new(rt.alloc())?;
-    grab.keymap(map);
-    grab.repeat(repeat);
-    grab.mods(mods);
-    assert_eq!(rt; grab.last_keymap(), Some(map));
-    assert_eq!(rt; grab.last_repeat(), Some(repeat));
-    assert_eq!(rt; grab.last_mods(), Some(mods));
+    keeps(&rt, &mut grab);
     Ok(())
 }

@@ -42,21 +42,20 @@ fn told_of(alloc: Global, bytes: Vec<u8>, fails: u64, limit: Option<u64>) -> Res
     Ok(told)
 }
 
+const TEXT: &[u8] = b"focus 2\n\nscreen 1000 800\nkey 5 30 1";
+
+/// Which read fails, the limit, and what is told of the text.
+const TOLD: [(u64, Option<u64>, &[u8]); 3] = [
+    (0, None, b"focus 2||screen 1000 800|key 5 30 1|end"),
+    (0, Some(30), b"focus 2||screen 1000 800|limit"),
+    (3, None, b"focus 2||screen 1000 800|fault"),
+];
+
 #[test]
 fn lines_come_whole_from_pieces(rt: HostRuntime) -> Result<(), Fail> {
-    let text = b"focus 2\n\nscreen 1000 800\nkey 5 30 1";
-    let rows = [
-        (
-            0,
-            None,
-            b"focus 2||screen 1000 800|key 5 30 1|end".as_slice(),
-        ),
-        (0, Some(30), b"focus 2||screen 1000 800|limit".as_slice()),
-        (3, None, b"focus 2||screen 1000 800|fault".as_slice()),
-    ];
-    for (fails, limit, want) in rows {
-        let told = told_of(rt.alloc(), text.to_vec(rt.alloc())?, fails, limit)?;
-        assert_eq!(rt; told.as_slice(), want);
+    for (fails, limit, want) in &TOLD {
+        let told = told_of(rt.alloc(), TEXT.to_vec(rt.alloc())?, *fails, *limit)?;
+        assert_eq!(rt; told.as_slice(), *want);
     }
     Ok(())
 }

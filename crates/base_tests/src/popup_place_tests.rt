@@ -1,6 +1,106 @@
 use popup_place::{Placed, Rect, Size, place};
+use std::process::Abort;
 
-fn rect(x: i32, y: i32, width: i32, height: i32) -> Rect {
+/// The size of the screen, where the surface stands, the cursor on it (place and size), the size of the popup; and then
+/// where the popup is placed, and the cursor as it sees it.
+type Row = ([i32; 2], [i32; 2], [i32; 4], [i32; 2], [i64; 2], [i32; 4]);
+
+const LEAST: i32 = i32::MIN;
+
+const MOST: i32 = i32::MAX;
+
+const BESIDE_THE_CURSOR: [Row; 5] = [
+    // above, since under the cursor the screen ends
+    (
+        [1000, 800],
+        [100, 200],
+        [850, 560, 2, 20],
+        [200, 100],
+        [800, 660],
+        [150, 100, 2, 20],
+    ),
+    // under
+    (
+        [1000, 800],
+        [100, 200],
+        [10, 20, 2, 20],
+        [200, 100],
+        [110, 240],
+        [0, -20, 2, 20],
+    ),
+    // under, and just so: the popup ends where the screen does
+    (
+        [1000, 800],
+        [0, 0],
+        [800, 600, 2, 100],
+        [200, 100],
+        [800, 700],
+        [0, -100, 2, 100],
+    ),
+    // above, and just so
+    (
+        [1000, 800],
+        [0, 0],
+        [0, 450, 2, 20],
+        [10, 450],
+        [0, 0],
+        [0, 450, 2, 20],
+    ),
+    // wider than the screen
+    (
+        [1000, 800],
+        [100, 0],
+        [0, 0, 1, 1],
+        [1001, 5],
+        [0, 1],
+        [100, -1, 1, 1],
+    ),
+];
+
+// Under the cursor where neither place fits.
+const NEITHER_FITS: [Row; 1] = [(
+    [100, 100],
+    [0, 0],
+    [10, 10, 1, 10],
+    [200, 90],
+    [0, 20],
+    [10, -10, 1, 10],
+)];
+
+const EXTREMES: [Row; 3] = [
+    (
+        [1000, 800],
+        [MOST, MOST],
+        [MOST, MOST, 1, 1],
+        [10, 10],
+        [990, 4294967295],
+        [2147483647, -1, 1, 1],
+    ),
+    (
+        [1000, 800],
+        [LEAST, LEAST],
+        [LEAST, LEAST, 0, 0],
+        [10, 10],
+        [0, -4294967296],
+        [-2147483648, 0, 0, 0],
+    ),
+    (
+        [MOST, MOST],
+        [0, 0],
+        [0, LEAST, 0, 0],
+        [MOST, MOST],
+        [0, -2147483648],
+        [0, 0, 0, 0],
+    ),
+];
+
+fn size(by: [i32; 2]) -> Size {
+    let [width, height] = by;
+    Size { width, height }
+}
+
+fn rect(by: [i32; 4]) -> Rect {
+    let [x, y, width, height] = by;
     Rect {
         x,
         y,
@@ -9,85 +109,25 @@ fn rect(x: i32, y: i32, width: i32, height: i32) -> Rect {
     }
 }
 
-fn size(width: i32, height: i32) -> Size {
-    Size { width, height }
-}
-
-fn placed(x: i64, y: i64, seen: Rect) -> Placed {
+fn placed(at: [i64; 2], seen: Rect) -> Placed {
+    let [x, y] = at;
     Placed { x, y, seen }
 }
 
-#[test]
-fn places_beside_the_cursor(rt: HostRuntime) {
-    let screen = size(1000, 800);
-    for (origin, cursor, popup, want) in [
-        // above, since under the cursor the screen ends
-        (
-            (100, 200),
-            rect(850, 560, 2, 20),
-            size(200, 100),
-            placed(800, 660, rect(150, 100, 2, 20)),
-        ),
-        // under
-        (
-            (100, 200),
-            rect(10, 20, 2, 20),
-            size(200, 100),
-            placed(110, 240, rect(0, -20, 2, 20)),
-        ),
-        // under, and just so: the popup ends where the screen does
-        (
-            (0, 0),
-            rect(800, 600, 2, 100),
-            size(200, 100),
-            placed(800, 700, rect(0, -100, 2, 100)),
-        ),
-        // above, and just so
-        (
-            (0, 0),
-            rect(0, 450, 2, 20),
-            size(10, 450),
-            placed(0, 0, rect(0, 450, 2, 20)),
-        ),
-        // wider than the screen
-        (
-            (100, 0),
-            rect(0, 0, 1, 1),
-            size(1001, 5),
-            placed(0, 1, rect(100, -1, 1, 1)),
-        ),
-    ] {
-        assert_eq!(rt; place(screen, origin, cursor, popup), want, "at {cursor:?}");
+fn answers(rt: &impl Abort, rows: &[Row]) {
+    for (screen, origin, cursor, popup, at, seen) in rows {
+        let [x, y] = *origin;
+        assert_eq!(rt;
+            place(size(*screen), (x, y), rect(*cursor), size(*popup)),
+            placed(*at, rect(*seen)),
+            "at {cursor:?}"
+        );
     }
 }
 
 #[test]
-fn stays_under_where_neither_place_fits(rt: HostRuntime) {
-    let answer = place(size(100, 100), (0, 0), rect(10, 10, 1, 10), size(200, 90));
-    assert_eq!(rt; answer, placed(0, 20, rect(10, -10, 1, 10)));
-}
-
-#[test]
-fn cuts_the_extremes(rt: HostRuntime) {
-    let screen = size(1000, 800);
-    let popup = size(10, 10);
-    let least = i32::MIN;
-    let most = i32::MAX;
-    let far_right = place(screen, (most, most), rect(most, most, 1, 1), popup);
-    assert_eq!(rt;
-        far_right,
-        placed(990, 4294967295, rect(2147483647, -1, 1, 1))
-    );
-    let far_left = place(screen, (least, least), rect(least, least, 0, 0), popup);
-    assert_eq!(rt;
-        far_left,
-        placed(0, -4294967296, rect(-2147483648, 0, 0, 0))
-    );
-    let tallest = place(
-        size(most, most),
-        (0, 0),
-        rect(0, least, 0, 0),
-        size(most, most),
-    );
-    assert_eq!(rt; tallest, placed(0, -2147483648, rect(0, 0, 0, 0)));
+fn popups_are_placed(rt: HostRuntime) {
+    answers(&rt, &BESIDE_THE_CURSOR);
+    answers(&rt, &NEITHER_FITS);
+    answers(&rt, &EXTREMES);
 }

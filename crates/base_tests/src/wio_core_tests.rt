@@ -1,7 +1,10 @@
 // What no clause tells: that memory is found, and what std's readers and writers move.
-use std::alloc::AllocError;
+ghost use Rattle.std.specs.Prelude.{◌<◌};
+
+use std::alloc::{AllocError, Global};
 use std::collections::VecDeque;
 use std::io::{self, Cursor, Write};
+use std::process::Abort;
 use std::test::Fail;
 use wio_core::{Failed, MemSink, MemSource, Sink, Source, StdSink, StdSource, write_all};
 
@@ -37,37 +40,51 @@ fn drain<S: Source>(source: &mut S, gained: &mut Vec<u8>) -> Result<u64, AllocEr
     Ok(source.faults())
 }
 
+// What a source in memory of these pieces gives over two failed reads.
+fn memory_gives(rt: &impl Abort, alloc: Global, chunk: usize) -> Result<(), AllocError>
+    requires { 0 < chunk }
+{
+    let bytes = b"input method".to_vec(alloc)?;
+    let mut source = MemSource::new(bytes, chunk, [2, 4].to_vec(alloc)?);
+    let mut gained = Vec::new(alloc);
+    assert_eq!(rt; drain(&mut source, &mut gained)?, 2, "pieces of {chunk}");
+    assert_eq!(rt;
+        gained.as_slice(),
+        b"input method".as_slice(),
+        "pieces of {chunk}"
+    );
+    Ok(())
+}
+
 #[test]
 fn sources_in_memory_give_their_bytes_in_any_pieces(rt: HostRuntime) -> Result<(), Fail> {
     for chunk in [1, 2, 3, 5] {
-        let bytes = b"input method".to_vec(rt.alloc())?;
-        let mut source = MemSource::new(bytes, chunk, [2, 4].to_vec(rt.alloc())?);
-        let mut gained = Vec::new(rt.alloc());
-        assert_eq!(rt; drain(&mut source, &mut gained)?, 2, "pieces of {chunk}");
-        assert_eq!(rt;
-            gained.as_slice(),
-            b"input method".as_slice(),
-            "pieces of {chunk}"
-        );
+        memory_gives(&rt, rt.alloc(), chunk)?;
     }
     Ok(())
+}
+
+const PIECES: [(&[u8], Result<(), Failed>); 5] = [
+    (b"abc", Ok(())),
+    (b"abc", Err(Failed)),
+    (b"abc", Err(Failed)),
+    (b"de", Ok(())),
+    (b"", Ok(())),
+];
+
+// What fits is held.
+fn holds_what_fits(rt: &impl Abort, sink: &mut MemSink) {
+    for (piece, want) in &PIECES {
+        assert_eq!(rt; write_all(sink, piece), *want);
+    }
+    assert_eq!(rt; sink.held(), b"abcde".as_slice());
+    assert_eq!(rt; sink.faults(), 2);
 }
 
 #[test]
 fn a_sink_in_memory_holds_what_fits(rt: HostRuntime) -> Result<(), Fail> {
     let mut sink = MemSink::new(rt.alloc(), 5, [2].to_vec(rt.alloc())?)?;
-    let rows = [
-        (b"abc", Ok(())),
-        (b"abc", Err(Failed)),
-        (b"abc", Err(Failed)),
-    ];
-    for (piece, want) in rows {
-        assert_eq!(rt; write_all(&mut sink, piece), want);
-    }
-    assert_eq!(rt; write_all(&mut sink, b"de"), Ok(()));
-    assert_eq!(rt; write_all(&mut sink, b""), Ok(()));
-    assert_eq!(rt; sink.held(), b"abcde".as_slice());
-    assert_eq!(rt; sink.faults(), 2);
+    holds_what_fits(&rt, &mut sink);
     Ok(())
 }
 

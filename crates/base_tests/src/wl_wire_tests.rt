@@ -2,26 +2,33 @@ use std::process::Abort;
 use std::test::Fail;
 use wl_wire::{ArgReader, ArgWriter, Assembler, Bytes, Fed, Malformed, Text};
 
+const TEXTS: [(&[u8], bool); 5] = [
+    (b"", true),
+    (b"a", true),
+    (b"\xc3\xa9", true),
+    (b"a\0", false),
+    (b"\xc3", false),
+];
+
+// The bytes are a text or come back.
+fn is_text_or_back(rt: &impl Abort, owned: Vec<u8>, bytes: &[u8], is_text: bool) {
+    match Text::from_bytes(owned) {
+        Ok(text) => {
+            assert!(rt; is_text, "{bytes:?} is no text");
+            assert_eq!(rt; text.as_bytes(), bytes);
+            assert_eq!(rt; text.is_empty(), bytes.is_empty());
+        }
+        Err(back) => {
+            assert!(rt; !is_text, "{bytes:?} is a text");
+            assert_eq!(rt; back.as_slice(), bytes);
+        }
+    }
+}
+
 #[test]
 fn a_text_is_utf8_without_a_zero_byte(rt: HostRuntime) -> Result<(), Fail> {
-    for (bytes, is_text) in [
-        (b"".as_slice(), true),
-        (b"a", true),
-        (b"\xc3\xa9", true),
-        (b"a\0", false),
-        (b"\xc3", false),
-    ] {
-        match Text::from_bytes(Vec::from_slice(rt.alloc(), bytes)?) {
-            Ok(text) => {
-                assert!(rt; is_text, "{bytes:?} is no text");
-                assert_eq!(rt; text.as_bytes(), bytes);
-                assert_eq!(rt; text.is_empty(), bytes.is_empty());
-            }
-            Err(back) => {
-                assert!(rt; !is_text, "{bytes:?} is a text");
-                assert_eq!(rt; back.as_slice(), bytes);
-            }
-        }
+    for (bytes, is_text) in &TEXTS {
+        is_text_or_back(&rt, Vec::from_slice(rt.alloc(), bytes)?, bytes, *is_text);
     }
     Ok(())
 }
@@ -49,19 +56,25 @@ fn completes(rt: &impl Abort, assembler: &mut Assembler, piece: &[u8], want: (u3
     }
 }
 
-#[test]
-fn messages_come_whole_however_they_are_cut(rt: HostRuntime) -> Result<(), Fail> {
-    let stream = [
-        1, 0, 0, 0, 1, 0, 12, 0, 2, 0, 0, 0, 7, 0, 0, 0, 1, 0, 8, 0, 7, 0, 0, 0, 7, 0, 8, 0,
-    ];
-    let mut assembler = Assembler::new(rt.alloc())?;
-    for byte in &stream[..11] {
+const STREAM: [u8; 28] = [
+    1, 0, 0, 0, 1, 0, 12, 0, 2, 0, 0, 0, 7, 0, 0, 0, 1, 0, 8, 0, 7, 0, 0, 0, 7, 0, 8, 0,
+];
+
+// The first message byte by byte, and two at once.
+fn come_whole(rt: &impl Abort, assembler: &mut Assembler) {
+    for byte in &STREAM[..11] {
         assert_eq!(rt; assembler.feed(&[*byte]), Fed::Need);
     }
-    completes(&rt, &mut assembler, &stream[11..], (1, 1, 1));
-    completes(&rt, &mut assembler, &stream[12..], (7, 1, 8));
-    completes(&rt, &mut assembler, &stream[20..], (7, 7, 8));
+    completes(rt, assembler, &STREAM[11..], (1, 1, 1));
+    completes(rt, assembler, &STREAM[12..], (7, 1, 8));
+    completes(rt, assembler, &STREAM[20..], (7, 7, 8));
     assert_eq!(rt; assembler.feed(&[]), Fed::Need);
+}
+
+#[test]
+fn messages_come_whole_however_they_are_cut(rt: HostRuntime) -> Result<(), Fail> {
+    let mut assembler = Assembler::new(rt.alloc())?;
+    come_whole(&rt, &mut assembler);
     Ok(())
 }
 
@@ -77,49 +90,55 @@ fn stays_bad(rt: &impl Abort, assembler: &mut Assembler, header: &[u8], size: us
     }
 }
 
+const BAD_SIZES: [(u8, u8, usize); 3] = [(4, 0, 4), (10, 0, 10), (4, 16, 4100)];
+
 #[test]
 fn a_bad_size_stays(rt: HostRuntime) -> Result<(), Fail> {
-    for (low, high, size) in [(4, 0, 4), (10, 0, 10), (4, 16, 4100)] {
+    for (low, high, size) in &BAD_SIZES {
         let mut assembler = Assembler::new(rt.alloc())?;
-        stays_bad(&rt, &mut assembler, &[9, 0, 0, 0, 0, 0, low, high], size);
+        stays_bad(&rt, &mut assembler, &[9, 0, 0, 0, 0, 0, *low, *high], *size);
     }
     Ok(())
 }
 
+/// What a string is read as, and how many bytes are left behind it.
+const STRINGS: [(&[u8], Result<Option<&str>, Malformed>, usize); 8] = [
+    (b"\x02\0\0\0a\0\0\xff", Ok(Some("a")), 0),
+    (b"\x01\0\0\0\0\x01\x02\x03", Ok(Some("")), 0),
+    (b"\0\0\0\0\x01", Ok(None), 1),
+    (b"\x02\0\0\0ab\0\0", Err(Malformed), 8),
+    (b"\x03\0\0\0a\0\0\0", Err(Malformed), 8),
+    (b"\x02\0\0\0\xff\0\0\0", Err(Malformed), 8),
+    (b"\x01\0\0\0", Err(Malformed), 4),
+    (b"\x01\0\0", Err(Malformed), 3),
+];
+
 #[test]
-fn a_string_is_read_as_the_grammar_has_it(rt: HostRuntime) -> Result<(), Fail> {
-    for (body, read, left) in [
-        (b"\x02\0\0\0a\0\0\xff".as_slice(), Ok(Some("a")), 0),
-        (b"\x01\0\0\0\0\x01\x02\x03", Ok(Some("")), 0),
-        (b"\0\0\0\0\x01", Ok(None), 1),
-        (b"\x02\0\0\0ab\0\0", Err(Malformed), 8),
-        (b"\x03\0\0\0a\0\0\0", Err(Malformed), 8),
-        (b"\x02\0\0\0\xff\0\0\0", Err(Malformed), 8),
-        (b"\x01\0\0\0", Err(Malformed), 4),
-        (b"\x01\0\0", Err(Malformed), 3),
-    ] {
+fn a_string_is_read_as_the_grammar_has_it(rt: HostRuntime) {
+    for (body, read, left) in &STRINGS {
         let mut args = ArgReader::new(body);
-        assert!(rt; args.string() == read, "{body:?}");
-        assert_eq!(rt; args.rest.len(), left);
-        assert_eq!(rt; args.finish().is_ok(), left == 0);
+        assert!(rt; args.string() == *read, "{body:?}");
+        assert_eq!(rt; args.rest.len(), *left);
+        assert_eq!(rt; args.finish().is_ok(), *left == 0);
     }
-    Ok(())
 }
 
+const WRITTEN: &[u8; 20] = b"\x01\x02\0\0\xfe\xff\xff\xff\x02\0\0\0a\0\0\0\x09\x09\x09\x09";
+
 #[test]
-fn arguments_are_written_with_zero_padding(rt: HostRuntime) -> Result<(), Fail> {
+fn arguments_are_written_with_zero_padding(rt: HostRuntime) {
     let mut out = [9; 20];
     let mut args = ArgWriter::new(&mut out);
     args.uint(513);
     args.int(-2);
     args.string("a");
     assert_eq!(rt; args.finish(), 16);
-    assert_eq!(rt;
-        out.as_slice(),
-        b"\x01\x02\0\0\xfe\xff\xff\xff\x02\0\0\0a\0\0\0\x09\x09\x09\x09".as_slice()
-    );
-    let mut args = ArgReader::new(&out);
+    assert_eq!(rt; out, *WRITTEN);
+}
+
+#[test]
+fn arguments_are_read(rt: HostRuntime) {
+    let mut args = ArgReader::new(WRITTEN);
     assert_eq!(rt; args.uint(), Ok(513));
     assert_eq!(rt; args.int(), Ok(-2));
-    Ok(())
 }

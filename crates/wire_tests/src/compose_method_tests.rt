@@ -7,73 +7,97 @@ use std::process::Abort;
 use std::test::Fail;
 use wl_proto::Event;
 
+// A press with the string and the preedit of its batch, a press that goes on, or an event.
+#[derive(Clone, Copy)]
+enum Step {
+    Types(u32, &'static str, &'static str),
+    GoesOn(u32),
+    Activate,
+    Deactivate,
+    Done,
+}
+
 // A quote and an e with texts of their own, and an e that the two make.
-fn accents(rt: &impl Abort, alloc: Global) -> ComposeTable {
-    let mut table = ComposeTable::new(alloc).expect(rt, "a table");
-    assert_eq!(rt; table.single(40, "'"), Ok(()));
-    assert_eq!(rt; table.single(18, "e"), Ok(()));
-    assert_eq!(rt; table.entry("é", &[40, 18]), Ok(()));
-    table
+fn put_accents(rt: &impl Abort, table: &mut ComposeTable) {
+    assert!(rt; table.single(40, "'").is_ok());
+    assert!(rt; table.single(18, "e").is_ok());
+    assert!(rt; table.entry("é", &[40, 18]).is_ok());
 }
 
-fn active(rt: &impl Abort, alloc: Global) -> Method {
-    let table = accents(rt, alloc);
-    let mut method = Method::new(alloc, table).expect(rt, "a method");
-    method.event(&Event::Activate);
-    method
+fn accents(rt: &impl Abort, alloc: Global) -> Result<ComposeTable, Fail> {
+    let mut table = ComposeTable::new(alloc)?;
+    put_accents(rt, &mut table);
+    Ok(table)
 }
 
-// Presses the key, and compares the string and the preedit of its batch.
-fn row(rt: &impl Abort, method: &mut Method, key: u32, string: &str, preedit: &str) {
+// Whether the key types the string and shows the preedit.
+fn types(method: &mut Method, key: u32, string: &str, preedit: &str) -> bool {
     match method.press(key) {
-        Some((typed, shown)) => {
-            assert_eq!(rt; typed, string, "at {key}");
-            assert_eq!(rt; shown, preedit, "at {key}");
+        Some((typed, shown)) => typed == string && shown == preedit,
+        None => false,
+    }
+}
+
+fn take(rt: &impl Abort, method: &mut Method, step: Step) {
+    match step {
+        Step::Types(key, string, preedit) => {
+            assert!(rt;
+                types(method, key, string, preedit),
+                "{key}, {string}, {preedit}"
+            );
         }
-        None => assert!(rt; false, "at {key}"),
+        Step::GoesOn(key) => assert!(rt; method.press(key).is_none(), "at {key}"),
+        Step::Activate => method.event(&Event::Activate),
+        Step::Deactivate => method.event(&Event::Deactivate),
+        Step::Done => method.event(&Event::InputMethodDone),
     }
 }
 
-// Presses these keys in turn, and compares the string and the preedit of each batch.
-fn rows(rt: &impl Abort, method: &mut Method, rows: &[(u32, &str, &str)]) {
-    for (key, string, preedit) in rows {
-        row(rt, method, *key, string, preedit);
-    }
-}
+const PRESSES_TYPE_ENTRIES_FIRST: [Step; 9] = [
+    Step::Activate,
+    Step::Types(40, "", "'"),
+    Step::Types(18, "é", ""),
+    Step::Types(18, "e", ""),
+    Step::Types(40, "", "'"),
+    Step::Types(40, "'", "'"),
+    Step::Types(18, "é", ""),
+    Step::Types(40, "", "'"),
+    Step::Types(99, "'", ""),
+];
 
-#[test]
-fn presses_type_entries_first(rt: HostRuntime) -> Result<(), Fail> {
-    let mut method = active(&rt, rt.alloc());
-    let presses = [
-        (40, "", "'"),
-        (18, "é", ""),
-        (18, "e", ""),
-        (40, "", "'"),
-        (40, "'", "'"),
-        (18, "é", ""),
-        (40, "", "'"),
-        (99, "'", ""),
-    ];
-    rows(&rt, &mut method, &presses);
+const ONLY_ACTIVATION_AND_DEACTIVATION_EMPTY_WHAT_WAITS: [Step; 13] = [
+    Step::GoesOn(40),
+    Step::Activate,
+    Step::Types(40, "", "'"),
+    Step::Done,
+    Step::Types(18, "é", ""),
+    Step::Types(40, "", "'"),
+    Step::Activate,
+    Step::Types(18, "e", ""),
+    Step::Types(40, "", "'"),
+    Step::Deactivate,
+    Step::GoesOn(18),
+    Step::Activate,
+    Step::Types(18, "e", ""),
+];
+
+// Each list is played over a method of its own.
+fn play(rt: &impl Abort, alloc: Global, steps: &[Step]) -> Result<(), Fail> {
+    let mut method = Method::new(alloc, accents(rt, alloc)?)?;
+    for step in steps {
+        take(rt, &mut method, *step);
+    }
     Ok(())
 }
 
 #[test]
-fn only_activation_and_deactivation_empty_what_waits(rt: HostRuntime) -> Result<(), Fail> {
-    let table = accents(&rt, rt.alloc());
-    let mut method = Method::new(rt.alloc(), table)?;
-    assert!(rt; method.press(40).is_none());
-    method.event(&Event::Activate);
-    rows(&rt, &mut method, &[(40, "", "'")]);
-    method.event(&Event::InputMethodDone);
-    rows(&rt, &mut method, &[(18, "é", ""), (40, "", "'")]);
-    method.event(&Event::Activate);
-    rows(&rt, &mut method, &[(18, "e", ""), (40, "", "'")]);
-    method.event(&Event::Deactivate);
-    assert!(rt; method.press(18).is_none());
-    method.event(&Event::Activate);
-    rows(&rt, &mut method, &[(18, "e", "")]);
-    Ok(())
+fn each_list_of_presses_is_typed(rt: HostRuntime) -> Result<(), Fail> {
+    play(&rt, rt.alloc(), &PRESSES_TYPE_ENTRIES_FIRST)?;
+    play(
+        &rt,
+        rt.alloc(),
+        &ONLY_ACTIVATION_AND_DEACTIVATION_EMPTY_WHAT_WAITS,
+    )
 }
 
 // Asks for an entry of these keys, and compares the answer.
@@ -83,23 +107,32 @@ fn ask(rt: &impl Abort, table: &mut ComposeTable, keys: &[u32], want: Result<(),
     assert_eq!(rt; table.entry("x", keys), want, "{keys:?}");
 }
 
+fn ask_single(rt: &impl Abort, table: &mut ComposeTable, key: u32, want: Result<(), TableRefusal>) {
+    assert_eq!(rt; table.single(key, "x"), want, "{key}");
+}
+
+// Entries that clash, and the table filled up.
+fn clash_and_fill(rt: &impl Abort, table: &mut ComposeTable) {
+    let clash = Err(TableRefusal::Clash);
+    ask(rt, table, &[40, 18], clash);
+    ask(rt, table, &[40, 18, 1], clash);
+    ask(rt, table, &[1, 2, 3], Ok(()));
+    ask(rt, table, &[1, 2], clash);
+    for key in 2..MAX_SINGLES as u32 {
+        ask_single(rt, table, 1_000 + key, Ok(()));
+    }
+    ask_single(rt, table, 1, Err(TableRefusal::TooMany));
+    ask_single(rt, table, 18, clash);
+    for key in 2..MAX_ENTRIES as u32 {
+        ask(rt, table, &[9_000 - key, 7], Ok(()));
+    }
+    ask(rt, table, &[1, 1], Err(TableRefusal::TooMany));
+    ask(rt, table, &[40, 18], clash);
+}
+
 #[test]
 fn a_clash_comes_before_a_full_table(rt: HostRuntime) -> Result<(), Fail> {
-    let clash = Err(TableRefusal::Clash);
-    let mut table = accents(&rt, rt.alloc());
-    ask(&rt, &mut table, &[40, 18], clash);
-    ask(&rt, &mut table, &[40, 18, 1], clash);
-    ask(&rt, &mut table, &[1, 2, 3], Ok(()));
-    ask(&rt, &mut table, &[1, 2], clash);
-    for key in 2..MAX_SINGLES as u32 {
-        assert_eq!(rt; table.single(1_000 + key, "x"), Ok(()));
-    }
-    assert_eq!(rt; table.single(1, "x"), Err(TableRefusal::TooMany));
-    assert_eq!(rt; table.single(18, "x"), clash);
-    for key in 2..MAX_ENTRIES as u32 {
-        ask(&rt, &mut table, &[9_000 - key, 7], Ok(()));
-    }
-    ask(&rt, &mut table, &[1, 1], Err(TableRefusal::TooMany));
-    ask(&rt, &mut table, &[40, 18], clash);
+    let mut table = accents(&rt, rt.alloc())?;
+    clash_and_fill(&rt, &mut table);
     Ok(())
 }

@@ -1,88 +1,138 @@
 // What no clause tells: that memory is found, and that a table is used as its callers use it.
 use im_objects::{Label, MakeRefusal, Table};
+use std::alloc::Global;
+use std::process::Abort;
 use std::test::Fail;
 use wl_proto::Interface;
 
-// Makes a callback under the id, where no live object has the label.
-fn ask(table: &mut Table, id: u32, label: Label) -> Option<Result<(), MakeRefusal>> {
+// A call with what it has to answer.
+#[derive(Clone, Copy)]
+enum Step {
+    // Makes an object under the id, where no live object has the label.
+    Make(Interface, u32, Label, Result<(), MakeRefusal>),
+    // Makes callbacks under the ids 2 to 257.
+    Fill,
+    Drop(u32, bool),
+    Find(u32, Option<(Interface, Label)>),
+    FindLabel(Label, Option<u32>),
+    Length(usize),
+}
+
+// Makes the object, where no live object has the label.
+fn made(
+    table: &mut Table,
+    interface: Interface,
+    id: u32,
+    label: Label,
+) -> Option<Result<(), MakeRefusal>> {
     match table.find_label(label) {
-        None => Some(table.make(id, Interface::Callback, label)),
+        None => Some(table.make(id, interface, label)),
         Some(_) => None,
     }
 }
 
-#[test]
-fn refuses_the_257th_object(rt: HostRuntime) -> Result<(), Fail> {
-    let mut table = Table::new(rt.alloc(), 1000)?;
+fn make(
+    rt: &impl Abort,
+    table: &mut Table,
+    interface: Interface,
+    id: u32,
+    label: Label,
+    want: Result<(), MakeRefusal>,
+) {
+    assert_eq!(rt; made(table, interface, id, label), Some(want), "id {id}");
+}
+
+fn fill(rt: &impl Abort, table: &mut Table) {
     for id in 2..258 {
-        assert_eq!(rt; ask(&mut table, id, id), Some(Ok(())), "object {id}");
+        make(rt, table, Interface::Callback, id, id, Ok(()));
     }
-    assert_eq!(rt; ask(&mut table, 258, 258), Some(Err(MakeRefusal::TooMany)));
-    assert_eq!(rt; table.len(), 257);
-    assert_eq!(rt; table.find(258), None);
-    assert_eq!(rt; table.find_label(258), None);
-    assert!(rt; table.drop_id(100));
-    assert_eq!(rt; ask(&mut table, 258, 258), Some(Ok(())));
-    for id in [1, 2, 99, 101, 257, 258] {
-        let label = if id == 1 { 1000 } else { id };
-        assert_eq!(rt; table.find_label(label), Some(id));
+}
+
+fn take(rt: &impl Abort, table: &mut Table, step: Step) {
+    match step {
+        Step::Make(interface, id, label, want) => make(rt, table, interface, id, label, want),
+        Step::Fill => fill(rt, table),
+        Step::Drop(id, want) => assert_eq!(rt; table.drop_id(id), want, "id {id}"),
+        Step::Find(id, want) => assert_eq!(rt; table.find(id), want, "id {id}"),
+        Step::FindLabel(label, want) => assert_eq!(rt; table.find_label(label), want),
+        Step::Length(want) => assert_eq!(rt; table.len(), want),
+    }
+}
+
+const CALLBACK: Interface = Interface::Callback;
+
+const REFUSES_THE_257TH_OBJECT: [Step; 13] = [
+    Step::Fill,
+    Step::Make(CALLBACK, 258, 258, Err(MakeRefusal::TooMany)),
+    Step::Length(257),
+    Step::Find(258, None),
+    Step::FindLabel(258, None),
+    Step::Drop(100, true),
+    Step::Make(CALLBACK, 258, 258, Ok(())),
+    Step::FindLabel(1000, Some(1)),
+    Step::FindLabel(2, Some(2)),
+    Step::FindLabel(99, Some(99)),
+    Step::FindLabel(101, Some(101)),
+    Step::FindLabel(257, Some(257)),
+    Step::FindLabel(258, Some(258)),
+];
+
+const AN_ID_USED_ANEW_NAMES_THE_NEW_OBJECT: [Step; 11] = [
+    Step::Make(Interface::TextInput, 3, 8, Ok(())),
+    Step::Find(3, Some((Interface::TextInput, 8))),
+    Step::FindLabel(8, Some(3)),
+    Step::Drop(3, true),
+    Step::Drop(3, false),
+    Step::Find(3, None),
+    Step::FindLabel(8, None),
+    Step::Make(CALLBACK, 3, 9, Ok(())),
+    Step::Find(3, Some((CALLBACK, 9))),
+    Step::FindLabel(8, None),
+    Step::FindLabel(9, Some(3)),
+];
+
+const THE_DISPLAY_STAYS: [Step; 3] = [
+    Step::Drop(1, false),
+    Step::Find(1, Some((Interface::Display, 1000))),
+    Step::FindLabel(1000, Some(1)),
+];
+
+// The table is full; the ids are out of range, taken, or free.
+const THE_FIRST_REFUSAL_THAT_APPLIES_IS_TOLD: [Step; 14] = [
+    Step::Fill,
+    Step::Make(CALLBACK, 0, 2000, Err(MakeRefusal::IdRange)),
+    Step::Make(CALLBACK, 0xFF00_0000, 2000, Err(MakeRefusal::IdRange)),
+    Step::Make(CALLBACK, 0xFFFF_FFFF, 2000, Err(MakeRefusal::IdRange)),
+    Step::Make(CALLBACK, 1, 2000, Err(MakeRefusal::IdTaken)),
+    Step::Make(CALLBACK, 257, 2000, Err(MakeRefusal::IdTaken)),
+    Step::Make(CALLBACK, 258, 2000, Err(MakeRefusal::TooMany)),
+    Step::Make(CALLBACK, 0xFEFF_FFFF, 2000, Err(MakeRefusal::TooMany)),
+    Step::FindLabel(2000, None),
+    Step::Drop(2, true),
+    Step::Make(CALLBACK, 1, 2000, Err(MakeRefusal::IdTaken)),
+    Step::Make(CALLBACK, 0xFF00_0000, 2000, Err(MakeRefusal::IdRange)),
+    Step::Make(CALLBACK, 0xFEFF_FFFF, 2000, Ok(())),
+    Step::Find(0xFEFF_FFFF, Some((CALLBACK, 2000))),
+];
+
+// Each list is played over a table of its own, whose display has the label 1000.
+fn play(rt: &impl Abort, alloc: Global, steps: &[Step]) -> Result<(), Fail> {
+    let mut table = Table::new(alloc, 1000)?;
+    for step in steps {
+        take(rt, &mut table, *step);
     }
     Ok(())
 }
 
 #[test]
-fn an_id_used_anew_names_the_new_object(rt: HostRuntime) -> Result<(), Fail> {
-    let mut table = Table::new(rt.alloc(), 7)?;
-    assert_eq!(rt; table.make(3, Interface::TextInput, 8), Ok(()));
-    assert_eq!(rt; table.find(3), Some((Interface::TextInput, 8)));
-    assert_eq!(rt; table.find_label(8), Some(3));
-    assert!(rt; table.drop_id(3));
-    assert!(rt; !table.drop_id(3));
-    assert_eq!(rt; table.find(3), None);
-    assert_eq!(rt; table.find_label(8), None);
-    assert_eq!(rt; ask(&mut table, 3, 9), Some(Ok(())));
-    assert_eq!(rt; table.find(3), Some((Interface::Callback, 9)));
-    assert_eq!(rt; table.find_label(8), None);
-    assert_eq!(rt; table.find_label(9), Some(3));
-    Ok(())
-}
-
-#[test]
-fn the_display_stays(rt: HostRuntime) -> Result<(), Fail> {
-    let mut table = Table::new(rt.alloc(), 7)?;
-    assert!(rt; !table.drop_id(1));
-    assert_eq!(rt; table.find(1), Some((Interface::Display, 7)));
-    assert_eq!(rt; table.find_label(7), Some(1));
-    Ok(())
-}
-
-#[test]
-fn the_first_refusal_that_applies_is_told(rt: HostRuntime) -> Result<(), Fail> {
-    let mut table = Table::new(rt.alloc(), 1000)?;
-    for id in 2..258 {
-        assert_eq!(rt; ask(&mut table, id, id), Some(Ok(())), "object {id}");
+fn each_list_of_steps_is_answered(rt: HostRuntime) -> Result<(), Fail> {
+    for steps in [
+        REFUSES_THE_257TH_OBJECT.as_slice(),
+        AN_ID_USED_ANEW_NAMES_THE_NEW_OBJECT.as_slice(),
+        THE_DISPLAY_STAYS.as_slice(),
+        THE_FIRST_REFUSAL_THAT_APPLIES_IS_TOLD.as_slice(),
+    ] {
+        play(&rt, rt.alloc(), steps)?;
     }
-    // The table is full; the ids are out of range, taken, or free.
-    let rows = [
-        (0, MakeRefusal::IdRange),
-        (0xFF00_0000, MakeRefusal::IdRange),
-        (0xFFFF_FFFF, MakeRefusal::IdRange),
-        (1, MakeRefusal::IdTaken),
-        (257, MakeRefusal::IdTaken),
-        (258, MakeRefusal::TooMany),
-        (0xFEFF_FFFF, MakeRefusal::TooMany),
-    ];
-    for (id, refusal) in rows {
-        assert_eq!(rt; ask(&mut table, id, 2000), Some(Err(refusal)), "id {id}");
-        assert_eq!(rt; table.find_label(2000), None);
-    }
-    assert!(rt; table.drop_id(2));
-    assert_eq!(rt; ask(&mut table, 1, 2000), Some(Err(MakeRefusal::IdTaken)));
-    assert_eq!(rt;
-        ask(&mut table, 0xFF00_0000, 2000),
-        Some(Err(MakeRefusal::IdRange))
-    );
-    assert_eq!(rt; ask(&mut table, 0xFEFF_FFFF, 2000), Some(Ok(())));
-    assert_eq!(rt; table.find(0xFEFF_FFFF), Some((Interface::Callback, 2000)));
     Ok(())
 }

@@ -39,16 +39,18 @@ fn committed(body: &[u8]) -> Result<&str, Refuse> {
     }
 }
 
+const BODIES: [(&[u8], Result<&str, Refuse>); 5] = [
+    (b"\x02\0\0\0a\0\0\xff", Ok("a")),
+    (b"\x02\0\0\0ab\0\0", Err(Refuse::Malformed)),
+    (b"\x01\0\0\0", Err(Refuse::Malformed)),
+    (b"\0\0\0\0", Err(Refuse::Malformed)),
+    (b"\x02\0\0\0a\0\0\0\0\0\0\0", Err(Refuse::Malformed)),
+];
+
 #[test]
 fn a_commit_string_is_read_or_malformed(rt: HostRuntime) {
-    for (body, read) in [
-        (b"\x02\0\0\0a\0\0\xff".as_slice(), Ok("a")),
-        (b"\x02\0\0\0ab\0\0", Err(Refuse::Malformed)),
-        (b"\x01\0\0\0", Err(Refuse::Malformed)),
-        (b"\0\0\0\0", Err(Refuse::Malformed)),
-        (b"\x02\0\0\0a\0\0\0\0\0\0\0", Err(Refuse::Malformed)),
-    ] {
-        assert!(rt; committed(body) == read, "{body:?}");
+    for (body, read) in &BODIES {
+        assert!(rt; committed(body) == *read, "{body:?}");
     }
 }
 
@@ -71,22 +73,26 @@ fn a_descriptor_is_the_first_token(rt: HostRuntime) {
     assert_eq!(rt; keymap_token(&[]), Err(Refuse::Malformed));
 }
 
+const NO_ROWS: [(Interface, u16); 3] = [
+    (Interface::Surface, 1),
+    (Interface::Callback, 0),
+    (Interface::TextInput, 8),
+];
+
+// No request has the opcode.
+fn has_no_row(interface: Interface, opcode: u16) -> bool {
+    let raw = Raw {
+        id: 5,
+        opcode,
+        body: &[],
+    };
+    matches!(read_request(interface, &raw, &[]), Err(Refuse::Opcode))
+}
+
 #[test]
 fn an_opcode_without_a_row_is_refused(rt: HostRuntime) {
-    for (interface, opcode) in [
-        (Interface::Surface, 1),
-        (Interface::Callback, 0),
-        (Interface::TextInput, 8),
-    ] {
-        let raw = Raw {
-            id: 5,
-            opcode,
-            body: &[],
-        };
-        match read_request(interface, &raw, &[]) {
-            Ok(_) => assert!(rt; false, "a request was read"),
-            Err(refuse) => assert_eq!(rt; refuse, Refuse::Opcode),
-        }
+    for (interface, opcode) in &NO_ROWS {
+        assert!(rt; has_no_row(*interface, *opcode), "opcode {opcode}");
     }
 }
 
