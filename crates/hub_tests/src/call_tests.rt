@@ -139,13 +139,15 @@ fn counts<R: Abort>(rt: &R, reader: &ReaderPass, writer: &WriterPass, shell: &Sh
     assert_eq!(rt; (shell.steps(), shell.seen()), (1, 6));
 }
 
+const AUTHORS: [(u32, u64); 7] = [(1, 0), (2, 1), (3, 2), (4, 1), (5, 2), (6, 3), (7, 1)];
+
 // The number of the pass whose call made each step.
 fn authors<R: Abort>(rt: &R, stamps: &StampList) {
-    for (number, author) in [(1, 0), (2, 1), (3, 2), (4, 1), (5, 2), (6, 3), (7, 1)] {
-        assert_eq!(rt;
-            stamps.entry(number).map(|stamp| stamp.author),
-            Some(author)
-        );
+    for &(number, author) in &AUTHORS {
+        match stamps.entry(number) {
+            Some(stamp) => assert_eq!(rt; stamp.author, author, "{number}"),
+            None => assert!(rt; false, "{number}"),
+        }
     }
 }
 
@@ -183,6 +185,30 @@ fn check<R: Abort + Wait>(rt: &R, hub: &Hub, root: &mut HubPass) -> Result<(), F
     Ok(())
 }
 
+// The calls of all passes but the root.
+fn use_passes<R: Abort + Wait>(
+    rt: &R,
+    alloc: Global,
+    hub: &Hub,
+    reader: &mut ReaderPass,
+    writer: &mut WriterPass,
+    shell: &mut ShellPass,
+) -> Result<(), Fail>
+    requires reads { IsOf hub.now reader.old.seat }
+    requires writes { IsOf hub.now writer.old.seat }
+    requires orders { IsOf hub.now shell.old }
+    ensures reads { IsOf hub.now reader.new.seat }
+    ensures writes { IsOf hub.now writer.new.seat }
+    ensures orders { IsOf hub.now shell.new }
+{
+    ask_and_take(rt, alloc, hub, reader, writer)?;
+    ask_and_wait(rt, alloc, hub, reader, writer)?;
+    pass_key(rt, hub, shell);
+    end(rt, hub, reader, writer);
+    counts(rt, reader, writer, shell);
+    Ok(())
+}
+
 fn all_calls<R: Abort + Wait>(
     rt: &R,
     alloc: Global,
@@ -196,11 +222,7 @@ fn all_calls<R: Abort + Wait>(
         return Err(Fail::new("no peer joined"));
     };
     let mut shell = hub.shell(root);
-    ask_and_take(rt, alloc, hub, &mut reader, &mut writer)?;
-    ask_and_wait(rt, alloc, hub, &mut reader, &mut writer)?;
-    pass_key(rt, hub, &mut shell);
-    end(rt, hub, &mut reader, &mut writer);
-    counts(rt, &reader, &writer, &shell);
+    use_passes(rt, alloc, hub, &mut reader, &mut writer, &mut shell)?;
     finish_all(hub, root, reader, writer, shell);
     check(rt, hub, root)
 }

@@ -69,6 +69,17 @@ fn all_stand<R: Abort>(rt: &R, journal: &Journal) {
     }
 }
 
+// Each peer asks in a thread of its own.
+fn ask_beside<R: Abort + Threads + Wait + Sync>(
+    rt: &R,
+    alloc: Global,
+    links: Vec<Link<'_>>,
+) -> Result<(), Fail> {
+    let steps = map_vec(rt, links, &|link| ask_all(rt, alloc, link))?;
+    assert_eq!(rt; steps.as_slice(), [MESSAGES as u64; 8].as_slice());
+    Ok(())
+}
+
 fn race<R: Abort + Threads + Wait + Sync>(
     rt: &R,
     alloc: Global,
@@ -78,8 +89,7 @@ fn race<R: Abort + Threads + Wait + Sync>(
     requires own { IsOf hub.now root.old }
 {
     let links = eight(rt, alloc, hub, root)?;
-    let steps = map_vec(rt, links, &|link| ask_all(rt, alloc, link))?;
-    assert_eq!(rt; steps.as_slice(), [MESSAGES as u64; 8].as_slice());
+    ask_beside(rt, alloc, links)?;
     let session = hub.session(rt, root)?;
     all_stand(rt, &session.journal);
     Ok(())

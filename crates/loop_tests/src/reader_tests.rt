@@ -1,7 +1,7 @@
 //! How links end by what they give, and which steps were made of it.
 ghost use Rattle.hub_lock.specs.Passes.{IsOf};
 
-use crate::link::{ASK, LIMITS, Open, join, read_all};
+use crate::link::{ASK, LIMITS, Open, Reads, join, read_all};
 use broker_model::{Entry, Journal};
 use hub_lock::{Hub, HubPass};
 use peer_link::ReadEnd;
@@ -20,6 +20,18 @@ const BAD_SIZE: [u8; 20] = [8, 0, 0, 0, 1, 0, 0, 0, 1, 0, 7, 0, 8, 0, 0, 0, 1, 1
 /// A frame with the token 9 and the message of `ASK`.
 const WITH_TOKEN: [u8; 20] = [12, 0, 1, 0, 9, 0, 0, 0, 1, 0, 0, 0, 1, 0, 12, 0, 2, 0, 0, 0];
 
+fn read_link<R: Wait>(
+    rt: &R,
+    alloc: Global,
+    reads: Reads<'_>,
+    bytes: &[u8],
+    fail: &[u64],
+) -> Result<(ReadEnd, u64), Fail> {
+    let bytes = bytes.to_vec(alloc)?;
+    let fail = fail.to_vec(alloc)?;
+    Ok(read_all(rt, alloc, reads, bytes, fail, &Open))
+}
+
 // How the link of a peer that joins ends, and how many steps its reader made, where the link gives
 // these bytes, and the reads of these numbers fail.
 fn read_one<R: Wait>(
@@ -36,8 +48,7 @@ fn read_one<R: Wait>(
     let Some(link) = join(rt, hub, root) else {
         return Err(Fail::new("no peer joined"));
     };
-    let (bytes, fail) = (bytes.to_vec(alloc)?, fail.to_vec(alloc)?);
-    Ok(read_all(rt, alloc, link.reads, bytes, fail, &Open))
+    read_link(rt, alloc, link.reads, bytes, fail)
 }
 
 // The first bytes of a frame, none of them or all but one at most.

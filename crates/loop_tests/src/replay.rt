@@ -102,10 +102,13 @@ fn play_all(
     Ok(())
 }
 
-/// What the takes of a journal for the peer take, where its steps are made again.
-pub fn replayed(alloc: Global, journal: &Journal, peer: u32) -> Result<Vec<u8>, Fail> {
-    let mut taken = Vec::new(alloc);
+/// Adds what the takes of a journal for the peer take, where its steps are made again.
+pub fn replay(
+    alloc: Global,
+    journal: &Journal,
+    peer: u32,
+    taken: &mut Vec<u8>,
+) -> Result<(), Fail> {
     let mut shared = Shared::new(alloc, LIMITS)?;
-    play_all(alloc, &mut shared, journal, peer, &mut taken)?;
-    Ok(taken)
+    play_all(alloc, &mut shared, journal, peer, taken)
 }

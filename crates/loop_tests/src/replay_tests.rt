@@ -4,7 +4,7 @@ ghost use Rattle.std.specs.Prelude.{◌≡◌};
 ghost use Rattle.hub_lock.specs.Passes.{IsOf};
 
 use crate::link::{LIMITS, Link, Open, Reads, Writes, join as join_hub, read_all, write_all};
-use crate::replay::replayed;
+use crate::replay::replay;
 use broker_model::{Entry, Journal};
 use hub_lock::{Hub, HubPass};
 use peer_link::{ReadEnd, WriteEnd};
@@ -123,19 +123,26 @@ fn in_order(journal: &Journal, peer: u32) -> u32 {
     next.saturating_sub(2)
 }
 
+// Whether the peer was told what the journal's takes take, where its steps are made again.
+fn is_replayed(alloc: Global, journal: &Journal, peer: u32, told: &[u8]) -> Result<bool, Fail> {
+    let mut taken = Vec::new(alloc);
+    replay(alloc, journal, peer, &mut taken)?;
+    Ok(told == taken.as_slice())
+}
+
 // The peer's messages stand in their order, and its writer wrote what the journal says.
 fn stands(alloc: Global, journal: &Journal, done: &Done) -> Result<bool, Fail> {
     let Some(bytes) = &done.wrote else {
         return Ok(false);
     };
     let told = unframed(alloc, bytes)?;
-    let taken = replayed(alloc, journal, done.peer)?;
-    Ok(
-        done.read
-            && in_order(journal, done.peer) == MESSAGES
-            && told.len() == TOLD * MESSAGES as usize
-            && told == taken,
-    )
+    if !done.read
+        || in_order(journal, done.peer) != MESSAGES
+        || told.len() != TOLD * MESSAGES as usize
+    {
+        return Ok(false);
+    }
+    is_replayed(alloc, journal, done.peer, &told)
 }
 
 // How many links stand so.
@@ -157,7 +164,22 @@ fn serve_all<R: Threads + Wait + Sync>(
     map_vec(rt, links, &|link| serve(rt, alloc, link))
 }
 
-fn replay<R: Abort + Threads + Wait + Sync>(
+// All links stand so in the hub's journal.
+fn all_stand<R: Abort + Wait>(
+    rt: &R,
+    alloc: Global,
+    hub: &Hub,
+    root: &mut HubPass,
+    all: &[Done],
+) -> Result<(), Fail>
+    requires own { IsOf hub.now root.old }
+{
+    let session = hub.session(rt, root)?;
+    assert_eq!(rt; number_that_stand(alloc, &session.journal, all)?, PEERS);
+    Ok(())
+}
+
+fn serve_and_replay<R: Abort + Threads + Wait + Sync>(
     rt: &R,
     alloc: Global,
     hub: &Hub,
@@ -167,14 +189,12 @@ fn replay<R: Abort + Threads + Wait + Sync>(
 {
     let links = links(rt, alloc, hub, root)?;
     let done = serve_all(rt, alloc, links)?;
-    let session = hub.session(rt, root)?;
-    assert_eq!(rt; number_that_stand(alloc, &session.journal, &done)?, PEERS);
-    Ok(())
+    all_stand(rt, alloc, hub, root, &done)
 }
 
 #[test]
 fn a_replay_gives_what_the_writers_wrote(rt: HostRuntime) -> Result<(), Fail> {
     let alloc = rt.alloc();
     let (hub, mut root) = Hub::new(alloc, LIMITS)?;
-    replay(&rt, alloc, &hub, &mut root)
+    serve_and_replay(&rt, alloc, &hub, &mut root)
 }

@@ -20,18 +20,50 @@ fn is_taken(journal: &Journal) -> bool {
 }
 
 // The link gives its frame and ends, and then the first write to it fails.
-fn fails<R: Abort + Wait>(rt: &R, alloc: Global, hub: &Hub, root: &mut HubPass) -> Result<(), Fail>
+fn ends_unwritten<R: Abort + Wait>(
+    rt: &R,
+    alloc: Global,
+    link: Link<'_>,
+    bytes: Vec<u8>,
+    sink: &mut MemSink,
+) {
+    let Link { reads, writes } = link;
+    let read = read_all(rt, alloc, reads, bytes, Vec::new(alloc), &Open);
+    assert_eq!(rt; read, (ReadEnd::Closed, 2));
+    assert_eq!(rt; write_all(rt, writes, sink), WriteEnd::WriteFault);
+    assert!(rt; sink.held().is_empty());
+}
+
+// The same of a peer that joins.
+fn join_unwritten<R: Abort + Wait>(
+    rt: &R,
+    alloc: Global,
+    hub: &Hub,
+    root: &mut HubPass,
+    sink: &mut MemSink,
+) -> Result<(), Fail>
     requires own { IsOf hub.now root.old }
+    ensures own { IsOf hub.now root.new }
 {
+    let bytes = ASK.to_vec(alloc)?;
     let Some(link) = join(rt, hub, root) else {
         return Err(Fail::new("no peer joined"));
     };
-    let Link { reads, writes } = link;
-    let read = read_all(rt, alloc, reads, ASK.to_vec(alloc)?, Vec::new(alloc), &Open);
-    assert_eq!(rt; read, (ReadEnd::Closed, 2));
+    ends_unwritten(rt, alloc, link, bytes, sink);
+    Ok(())
+}
+
+fn fails<R: Abort + Wait>(rt: &R, alloc: Global, hub: &Hub, root: &mut HubPass) -> Result<(), Fail>
+    requires own { IsOf hub.now root.old }
+    ensures own { IsOf hub.now root.new }
+{
     let mut sink = MemSink::new(alloc, 200, [1].to_vec(alloc)?)?;
-    assert_eq!(rt; write_all(rt, writes, &mut sink), WriteEnd::WriteFault);
-    assert!(rt; sink.held().is_empty());
+    join_unwritten(rt, alloc, hub, root, &mut sink)
+}
+
+fn took_all<R: Abort + Wait>(rt: &R, hub: &Hub, root: &mut HubPass) -> Result<(), Fail>
+    requires own { IsOf hub.now root.old }
+{
     let session = hub.session(rt, root)?;
     assert!(rt; is_taken(&session.journal));
     Ok(())
@@ -41,5 +73,6 @@ fn fails<R: Abort + Wait>(rt: &R, alloc: Global, hub: &Hub, root: &mut HubPass) 
 fn a_failed_write_leaves_what_was_taken(rt: HostRuntime) -> Result<(), Fail> {
     let alloc = rt.alloc();
     let (hub, mut root) = Hub::new(alloc, LIMITS)?;
-    fails(&rt, alloc, &hub, &mut root)
+    fails(&rt, alloc, &hub, &mut root)?;
+    took_all(&rt, &hub, &mut root)
 }

@@ -1,8 +1,6 @@
 // Act lists.
-use crate::runs::{answers, joined, run};
+use crate::runs::{answers, answers_beside};
 use plain_run::Status;
-use std::alloc::Global;
-use std::process::Abort;
 use std::test::Fail;
 
 // The acts up to the first activation, and what they tell.
@@ -72,23 +70,12 @@ const AFTER_THE_BEGINNING: [(&str, &str, &str, &str); 12] = [
     ),
 ];
 
-fn after_the_beginning(
-    rt: &impl Abort,
-    alloc: Global,
-    first: (&str, &str),
-    second: (&str, &str),
-) -> Result<(), Fail> {
-    let input = joined(alloc, &[BEGINNING, first.0, second.0])?;
-    let output = joined(alloc, &[BEGUN, first.1, second.1])?;
-    let (input, output) = (input.as_str(), output.as_str());
-    answers(rt, alloc, "replay-acts", input, output, Status::Ok)
-}
-
 #[test]
 fn what_follows_the_beginning(rt: HostRuntime) -> Result<(), Fail> {
     let alloc = rt.alloc();
     for &(string, relayed, acts, told) in &AFTER_THE_BEGINNING {
-        after_the_beginning(&rt, alloc, (string, relayed), (acts, told))?;
+        let (input, output) = ([BEGINNING, string, acts], [BEGUN, relayed, told]);
+        answers(&rt, alloc, "replay-acts", &input, &output, Status::Ok)?;
     }
     Ok(())
 }
@@ -180,39 +167,27 @@ const OTHER_INPUTS: [(&str, &str, Status); 16] = [
 fn other_inputs_give_their_answers(rt: HostRuntime) -> Result<(), Fail> {
     let alloc = rt.alloc();
     for &(input, output, status) in &OTHER_INPUTS {
-        answers(&rt, alloc, "replay-acts", input, output, status)?;
+        answers(&rt, alloc, "replay-acts", &[input], &[output], status)?;
     }
     Ok(())
 }
 
-fn decides_alone(
-    rt: &impl Abort,
-    alloc: Global,
-    words: &[&str],
-    fails: (&[u64], &[u64]),
-    status: Status,
-) -> Result<(), Fail> {
-    let input = joined(alloc, &[BEGINNING, STRING, "end\n"])?;
-    let (answer, text) = run(alloc, words, input.as_str(), fails.0, fails.1)?;
-    assert_eq!(rt; answer, status);
-    assert!(rt; text.is_empty());
-    Ok(())
-}
+const FAULTS_AND_WORDS: [(&[&str], &[u64], &[u64], Status); 5] = [
+    (&["replay-acts"], &[2], &[], Status::ReadFault),
+    (&["replay-acts"], &[], &[1], Status::WriteFault),
+    (&["replay", "x"], &[], &[], Status::BadWords),
+    (&["replays"], &[], &[], Status::BadWords),
+    (&[], &[], &[], Status::BadWords),
+];
 
+// They decide alone, and nothing is written.
 #[test]
 fn faults_and_words_decide(rt: HostRuntime) -> Result<(), Fail> {
     let alloc = rt.alloc();
-    decides_alone(&rt, alloc, &["replay-acts"], (&[2], &[]), Status::ReadFault)?;
-    decides_alone(
-        &rt,
-        alloc,
-        &["replay-acts"],
-        (&[], &[1]),
-        Status::WriteFault,
-    )?;
-    decides_alone(&rt, alloc, &["replay", "x"], (&[], &[]), Status::BadWords)?;
-    decides_alone(&rt, alloc, &["replays"], (&[], &[]), Status::BadWords)?;
-    decides_alone(&rt, alloc, &[], (&[], &[]), Status::BadWords)?;
+    for &(words, reads, writes, status) in &FAULTS_AND_WORDS {
+        let input = [BEGINNING, STRING, "end\n"];
+        answers_beside(&rt, alloc, words, &input, (reads, writes), &[], status)?;
+    }
     assert_eq!(rt; Status::JournalFull.number(), 7);
     Ok(())
 }

@@ -1,5 +1,5 @@
 // Refused messages, on the top call: which fault is told where several could be.
-use crate::runs::{answers, joined};
+use crate::runs::answers;
 use crate::session_tests::{
     CAPABILITIES, FIELD, HEADER, METHOD, METHOD_CAPABILITIES, METHOD_OFFERED, OFFERED, REGISTRY,
     SMALL,
@@ -75,22 +75,14 @@ const FIRST_FAULTS: [(&str, &str, &str); 11] = [
     ),
 ];
 
-fn is_told_first(
-    rt: &impl Abort,
-    alloc: Global,
-    peer: &str,
-    message: &str,
-    error: &str,
-) -> Result<(), Fail> {
-    let input = joined(
-        alloc,
-        &[
+#[test]
+fn the_first_fault_is_told(rt: HostRuntime) -> Result<(), Fail> {
+    let alloc = rt.alloc();
+    for &(peer, message, error) in &FIRST_FAULTS {
+        let input = [
             SMALL, REGISTRY, FIELD, METHOD, POPUP, "bytes ", peer, message, "\nend\n",
-        ],
-    )?;
-    let output = joined(
-        alloc,
-        &[
+        ];
+        let output = [
             OFFERED,
             CAPABILITIES,
             METHOD_OFFERED,
@@ -101,32 +93,19 @@ fn is_told_first(
             "\n17 ended ",
             peer,
             "bad\nend 17\n",
-        ],
-    )?;
-    let (input, output) = (input.as_str(), output.as_str());
-    answers(rt, alloc, "replay", input, output, Status::Ok)
-}
-
-#[test]
-fn the_first_fault_is_told(rt: HostRuntime) -> Result<(), Fail> {
-    let alloc = rt.alloc();
-    for &(peer, message, error) in &FIRST_FAULTS {
-        is_told_first(&rt, alloc, peer, message, error)?;
+        ];
+        answers(&rt, alloc, "replay", &input, &output, Status::Ok)?;
     }
     Ok(())
 }
 
-// An application makes 256 objects, its registry, the five of `FIELD`, and surfaces with the ids
-// from 256 on, and then sends the message.
-fn crowded(alloc: Global, message: &str) -> Result<String, Fail> {
-    let mut text = joined(alloc, &[HEADER, REGISTRY, FIELD])?;
+// An application that has its registry and the five objects of `FIELD` makes 250 surfaces with the ids
+// from 256 on, and so has 256 objects.
+fn surfaces(alloc: Global) -> Result<String, Fail> {
+    let mut text = String::new(alloc);
     for low in 0..250u8 {
-        text.push_str("bytes 1 0300000000000c00")?;
-        text.push_str(format!(in alloc; "{low:02x}010000\n")?.as_str())?;
+        text.push_str(format!(in alloc; "bytes 1 0300000000000c00{low:02x}010000\n")?.as_str())?;
     }
-    text.push_str("bytes 1 ")?;
-    text.push_str(message)?;
-    text.push_str("\nend\n")?;
     Ok(text)
 }
 
@@ -141,27 +120,30 @@ const REFUSED: [(&str, &str); 4] = [
     ("0400000000000c0008000000", TOO_MANY),
 ];
 
-fn is_refused(rt: &impl Abort, alloc: Global, message: &str, error: &str) -> Result<(), Fail> {
-    let input = crowded(alloc, message)?;
-    let output = joined(
-        alloc,
-        &[
-            OFFERED,
-            CAPABILITIES,
-            "258 out 1 ",
-            error,
-            "\n259 ended 1 bad\nend 259\n",
-        ],
-    )?;
-    let (input, output) = (input.as_str(), output.as_str());
-    answers(rt, alloc, "replay", input, output, Status::Ok)
+// An application with these surfaces sends the message.
+fn crowded<'a>(surfaces: &'a str, message: &'a str) -> [&'a str; 7] {
+    [
+        HEADER, REGISTRY, FIELD, surfaces, "bytes 1 ", message, "\nend\n",
+    ]
+}
+
+fn is_refused(rt: &impl Abort, alloc: Global, input: &[&str], error: &str) -> Result<(), Fail> {
+    let output = [
+        OFFERED,
+        CAPABILITIES,
+        "258 out 1 ",
+        error,
+        "\n259 ended 1 bad\nend 259\n",
+    ];
+    answers(rt, alloc, "replay", input, &output, Status::Ok)
 }
 
 #[test]
 fn one_object_more_is_refused(rt: HostRuntime) -> Result<(), Fail> {
-    let alloc = rt.alloc();
+    let surfaces = surfaces(rt.alloc())?;
     for &(message, error) in &REFUSED {
-        is_refused(&rt, alloc, message, error)?;
+        let input = crowded(surfaces.as_str(), message);
+        is_refused(&rt, rt.alloc(), &input, error)?;
     }
     Ok(())
 }

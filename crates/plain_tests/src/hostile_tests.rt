@@ -1,5 +1,5 @@
 // Peers that send what no client would, inputs that are cut, and writes that fail, on the top call.
-use crate::runs::{answers, joined, run};
+use crate::runs::{answers, joined, run_parts, sink};
 use crate::session_tests::{
     ACTIVATE, CAPABILITIES, COMMIT, ENABLED, ENTER, FIELD, HEADER, METHOD, METHOD_CAPABILITIES,
     METHOD_OFFERED, OFFERED, REGISTRY, RELAYED, STRING,
@@ -18,44 +18,26 @@ const UNKNOWN: &str =
 const MALFORMED: &str =
     "18 out 1 01000000000028000100000001000000120000006d616c666f726d65642072657175657374000000\n19 ended 1 bad\n";
 
-// The base session up to its batch.
-fn base_input(alloc: Global) -> Result<String, Fail> {
-    joined(
-        alloc,
-        &[HEADER, REGISTRY, FIELD, METHOD, ENABLED, STRING, COMMIT],
-    )
+// The base session up to its batch, with the lines of a row behind it.
+fn base_with<'a>(lines: &'a str, end: &'a str) -> [&'a str; 9] {
+    [
+        HEADER, REGISTRY, FIELD, METHOD, ENABLED, STRING, COMMIT, lines, end,
+    ]
 }
 
-// What it tells.
-fn base_output(alloc: Global) -> Result<String, Fail> {
-    joined(
-        alloc,
-        &[
-            OFFERED,
-            CAPABILITIES,
-            METHOD_OFFERED,
-            METHOD_CAPABILITIES,
-            ENTER,
-            ACTIVATE,
-            RELAYED,
-        ],
-    )
-}
-
-// The base session with these lines behind it.
-fn played(alloc: Global, lines: &str) -> Result<String, Fail> {
-    let mut input = base_input(alloc)?;
-    input.push_str(lines)?;
-    input.push_str("end\n")?;
-    Ok(input)
-}
-
-// What is told of it.
-fn told_of(alloc: Global, told: &str, last: &str) -> Result<String, Fail> {
-    let mut output = base_output(alloc)?;
-    output.push_str(told)?;
-    output.push_str(last)?;
-    Ok(output)
+// What it tells, and what is told of the row.
+fn told_with<'a>(told: &'a str, last: &'a str) -> [&'a str; 9] {
+    [
+        OFFERED,
+        CAPABILITIES,
+        METHOD_OFFERED,
+        METHOD_CAPABILITIES,
+        ENTER,
+        ACTIVATE,
+        RELAYED,
+        told,
+        last,
+    ]
 }
 
 // Each row is played after the base session.
@@ -93,34 +75,52 @@ const MALICIOUS: [(&str, &str, &str); 6] = [
     ),
 ];
 
-fn nobody_else_hears(
-    rt: &impl Abort,
-    alloc: Global,
-    lines: &str,
-    told: &str,
-    last: &str,
-) -> Result<(), Fail> {
-    let input = played(alloc, lines)?;
-    let output = told_of(alloc, told, last)?;
-    let (input, output) = (input.as_str(), output.as_str());
-    answers(rt, alloc, "replay", input, output, Status::Ok)
-}
-
 #[test]
 fn nobody_else_hears_of_a_malicious_peer(rt: HostRuntime) -> Result<(), Fail> {
     let alloc = rt.alloc();
     for &(lines, told, last) in &MALICIOUS {
-        nobody_else_hears(&rt, alloc, lines, told, last)?;
+        let (input, output) = (base_with(lines, "end\n"), told_with(told, last));
+        answers(&rt, alloc, "replay", &input, &output, Status::Ok)?;
     }
     Ok(())
 }
 
-// The first lines of a text.
-fn first_lines(alloc: Global, text: &str, count: usize) -> Result<String, Fail> {
+// 251 surfaces, with the ids from 8 to 258: with them the application has 257 objects.
+fn surfaces(alloc: Global) -> Result<String, Fail> {
+    let mut lines = String::new(alloc);
+    for id in 8..259u32 {
+        let (low, high) = (id % 256, id / 256);
+        lines.push_str("bytes 1 0300000000000c00")?;
+        lines.push_str(format!(in alloc; "{low:02x}{high:02x}0000\n")?.as_str())?;
+    }
+    Ok(lines)
+}
+
+const TOO_MANY: &str =
+    "268 out 1 0100000000002800010000000300000011000000746f6f206d616e79206f626a6563747300000000\n269 ended 1 bad\n";
+
+const WENT_BEHIND_THEM: &str = "269 out 2 05000000010008000500000005000800\nend 269\n";
+
+#[test]
+fn the_257th_object_ends_its_peer(rt: HostRuntime) -> Result<(), Fail> {
+    let lines = surfaces(rt.alloc())?;
+    let input = base_with(lines.as_str(), "end\n");
+    let output = told_with(TOO_MANY, WENT_BEHIND_THEM);
+    answers(&rt, rt.alloc(), "replay", &input, &output, Status::Ok)
+}
+
+// The first lines of a text that is given in parts.
+fn first_lines(alloc: Global, parts: &[&str], count: usize) -> Result<String, Fail> {
     let mut first = String::new(alloc);
-    for line in text.lines().take(count) {
-        first.push_str(line)?;
-        first.push('\n')?;
+    let mut left = count;
+    for part in parts {
+        for line in part.lines() {
+            if left > 0 {
+                left -= 1;
+                first.push_str(line)?;
+                first.push('\n')?;
+            }
+        }
     }
     Ok(first)
 }
@@ -141,12 +141,11 @@ fn told_by(cut: usize) -> usize {
 
 // Of the base session's 18 lines so many are there.
 fn tells_its_whole_lines(rt: &impl Abort, alloc: Global, cut: usize) -> Result<(), Fail> {
-    let (base, shown) = (base_input(alloc)?, base_output(alloc)?);
-    let input = first_lines(alloc, base.as_str(), cut)?;
-    let mut output = first_lines(alloc, shown.as_str(), told_by(cut))?;
-    output.push_str(format!(in alloc; "bad line {}\n", cut.saturating_add(1))?.as_str())?;
-    let (input, output) = (input.as_str(), output.as_str());
-    answers(rt, alloc, "replay", input, output, Status::BadSession)
+    let input = first_lines(alloc, &base_with("", ""), cut)?;
+    let output = first_lines(alloc, &told_with("", ""), told_by(cut))?;
+    let last = format!(in alloc; "bad line {}\n", cut.saturating_add(1))?;
+    let (input, output) = ([input.as_str()], [output.as_str(), last.as_str()]);
+    answers(rt, alloc, "replay", &input, &output, Status::BadSession)
 }
 
 #[test]
@@ -158,29 +157,27 @@ fn a_cut_session_tells_its_whole_lines(rt: HostRuntime) -> Result<(), Fail> {
 }
 
 // A transcript line is written before the next line is read. Of the eight the last two are ready together.
-fn leaves_a_front(rt: &impl Abort, alloc: Global, fails: u64) -> Result<(), Fail> {
-    let input = played(alloc, "")?;
-    let output = told_of(alloc, "", "end 17\n")?;
-    let (answer, text) = run(alloc, &["replay"], input.as_str(), &[], &[fails])?;
-    let fails_early = fails <= 7;
-    assert_eq!(rt;
-        answer == Status::WriteFault,
-        fails_early,
-        "at write {fails}"
-    );
-    assert_eq!(rt; answer == Status::Ok, !fails_early, "at write {fails}");
-    assert!(rt;
-        output.as_bytes().starts_with(text.as_slice()),
-        "at write {fails}"
-    );
-    assert_eq!(rt; text.len() < output.len(), fails_early, "at write {fails}");
+fn leaves_a_front(rt: &impl Abort, alloc: Global, whole: &[u8], fails: u64) -> Result<(), Fail> {
+    let mut sink = sink(alloc, 1000, &[fails])?;
+    let input = base_with("", "end\n");
+    let status = run_parts(alloc, &["replay"], &input, &[], &mut sink)?;
+    let wanted = if fails <= 7 {
+        Status::WriteFault
+    } else {
+        Status::Ok
+    };
+    assert_eq!(rt; status, wanted, "at write {fails}");
+    assert!(rt; whole.starts_with(sink.held()), "at write {fails}");
+    let is_short = sink.held().len() < whole.len();
+    assert_eq!(rt; is_short, fails <= 7, "at write {fails}");
     Ok(())
 }
 
 #[test]
 fn a_failed_write_leaves_a_front(rt: HostRuntime) -> Result<(), Fail> {
+    let whole = joined(rt.alloc(), &told_with("", "end 17\n"))?;
     for fails in 1..=8u64 {
-        leaves_a_front(&rt, rt.alloc(), fails)?;
+        leaves_a_front(&rt, rt.alloc(), &whole, fails)?;
     }
     Ok(())
 }

@@ -1,11 +1,13 @@
-// How the tests run a command, and the texts that several of them share.
+// How the tests run a command. Inputs and outputs are given in parts.
+ghost use Rattle.std.specs.Prelude.{◌<◌};
+
 use plain_run::{Status, run_plain};
 use std::alloc::Global;
 use std::process::Abort;
 use std::test::Fail;
 use wio_core::{MemSink, MemSource};
 
-pub(crate) fn word_list(alloc: Global, words: &[&str]) -> Result<Vec<String>, Fail> {
+fn word_list(alloc: Global, words: &[&str]) -> Result<Vec<String>, Fail> {
     let mut list = Vec::new(alloc);
     for word in words {
         list.push(String::from_str(alloc, word)?)?;
@@ -13,20 +15,78 @@ pub(crate) fn word_list(alloc: Global, words: &[&str]) -> Result<Vec<String>, Fa
     Ok(list)
 }
 
-// The status of a run, and what it wrote. The input is read in pieces of 16 bytes; the numbered reads and writes fail.
+pub(crate) fn joined(alloc: Global, parts: &[&str]) -> Result<Vec<u8>, Fail> {
+    let mut bytes = Vec::new(alloc);
+    for part in parts {
+        bytes.extend_from_slice(part.as_bytes())?;
+    }
+    Ok(bytes)
+}
+
+// An input that is read in pieces of at most so many bytes, where the numbered reads fail.
+pub(crate) fn source(
+    alloc: Global,
+    bytes: Vec<u8>,
+    chunk: usize,
+    reads: &[u64],
+) -> Result<MemSource, Fail>
+    requires { 0 < chunk }
+{
+    let reads = Vec::from_slice(alloc, reads)?;
+    Ok(MemSource::new(bytes, chunk, reads))
+}
+
+// An output that holds so many bytes, where the numbered writes fail.
+pub(crate) fn sink(alloc: Global, room: usize, writes: &[u64]) -> Result<MemSink, Fail> {
+    let writes = Vec::from_slice(alloc, writes)?;
+    Ok(MemSink::new(alloc, room, writes)?)
+}
+
+// The status of a run.
 pub(crate) fn run(
     alloc: Global,
     words: &[&str],
-    input: &str,
-    reads: &[u64],
-    writes: &[u64],
-) -> Result<(Status, Vec<u8>), Fail> {
+    input: &mut MemSource,
+    output: &mut MemSink,
+) -> Result<Status, Fail> {
     let words = word_list(alloc, words)?;
-    let bytes = Vec::from_slice(alloc, input.as_bytes())?;
-    let mut source = MemSource::new(bytes, 16, Vec::from_slice(alloc, reads)?);
-    let mut sink = MemSink::new(alloc, 1000, Vec::from_slice(alloc, writes)?)?;
-    let status = run_plain(alloc, &words, &mut source, &mut sink);
-    Ok((status, Vec::from_slice(alloc, sink.held())?))
+    Ok(run_plain(alloc, &words, input, output))
+}
+
+// The status of a run whose input is read in pieces of 16 bytes, where the numbered reads fail.
+pub(crate) fn run_parts(
+    alloc: Global,
+    words: &[&str],
+    input: &[&str],
+    reads: &[u64],
+    output: &mut MemSink,
+) -> Result<Status, Fail> {
+    let mut input = source(alloc, joined(alloc, input)?, 16, reads)?;
+    run(alloc, words, &mut input, output)
+}
+
+// The output holds these parts.
+fn holds(rt: &impl Abort, alloc: Global, output: &MemSink, parts: &[&str]) -> Result<(), Fail> {
+    let wanted = joined(alloc, parts)?;
+    assert_eq!(rt; output.held(), wanted.as_slice());
+    Ok(())
+}
+
+// The words answer the input with this output and this status, where the numbered reads and writes
+// fail.
+pub(crate) fn answers_beside(
+    rt: &impl Abort,
+    alloc: Global,
+    words: &[&str],
+    input: &[&str],
+    fails: (&[u64], &[u64]),
+    output: &[&str],
+    status: Status,
+) -> Result<(), Fail> {
+    let mut sink = sink(alloc, 1000, fails.1)?;
+    let answer = run_parts(alloc, words, input, fails.0, &mut sink)?;
+    assert_eq!(rt; answer, status, "{words:?} of {input:?}");
+    holds(rt, alloc, &sink, output)
 }
 
 // The command answers the input with this output and this status.
@@ -34,36 +94,9 @@ pub(crate) fn answers(
     rt: &impl Abort,
     alloc: Global,
     command: &str,
-    input: &str,
-    output: &str,
+    input: &[&str],
+    output: &[&str],
     status: Status,
 ) -> Result<(), Fail> {
-    let (answer, text) = run(alloc, &[command], input, &[], &[])?;
-    assert_eq!(rt; answer, status, "of {input}");
-    assert_eq!(rt; text.as_slice(), output.as_bytes(), "of {input}");
-    Ok(())
-}
-
-// It does so where the numbered reads and writes fail.
-pub(crate) fn answers_beside(
-    rt: &impl Abort,
-    alloc: Global,
-    command: &str,
-    input: &str,
-    fails: (&[u64], &[u64]),
-    output: &str,
-    status: Status,
-) -> Result<(), Fail> {
-    let (answer, text) = run(alloc, &[command], input, fails.0, fails.1)?;
-    assert_eq!(rt; answer, status, "of {input}");
-    assert_eq!(rt; text.as_slice(), output.as_bytes(), "of {input}");
-    Ok(())
-}
-
-pub(crate) fn joined(alloc: Global, parts: &[&str]) -> Result<String, Fail> {
-    let mut text = String::new(alloc);
-    for part in parts {
-        text.push_str(part)?;
-    }
-    Ok(text)
+    answers_beside(rt, alloc, &[command], input, (&[], &[]), output, status)
 }

@@ -1,8 +1,6 @@
 // Sessions and their transcripts, on the top call.
-use crate::runs::{answers, joined};
+use crate::runs::answers;
 use plain_run::Status;
-use std::alloc::Global;
-use std::process::Abort;
 use std::test::Fail;
 
 pub(crate) const HEADER: &str = "session 1 1000000 65536\n";
@@ -101,45 +99,29 @@ const STRINGS: [(&str, &str, &str, &str, &str); 10] = [
     ),
 ];
 
-fn a_string_comes_to(
-    rt: &impl Abort,
-    alloc: Global,
-    input: (&str, &str, &str),
-    output: (&str, &str),
-) -> Result<(), Fail> {
-    let session = joined(
-        alloc,
-        &[
-            input.0, REGISTRY, FIELD, METHOD, ENABLED, STRING, input.1, COMMIT, input.2,
-        ],
-    )?;
-    let transcript = joined(
-        alloc,
-        &[
+#[test]
+fn what_a_string_comes_to(rt: HostRuntime) -> Result<(), Fail> {
+    let alloc = rt.alloc();
+    for &(header, before, more, relayed, told) in &STRINGS {
+        let input = [
+            header, REGISTRY, FIELD, METHOD, ENABLED, STRING, before, COMMIT, more,
+        ];
+        let output = [
             OFFERED,
             CAPABILITIES,
             METHOD_OFFERED,
             METHOD_CAPABILITIES,
             ENTER,
             ACTIVATE,
-            output.0,
-            output.1,
-        ],
-    )?;
-    let status = if output.1.starts_with("bad line") {
-        Status::BadSession
-    } else {
-        Status::Ok
-    };
-    let (session, transcript) = (session.as_str(), transcript.as_str());
-    answers(rt, alloc, "replay", session, transcript, status)
-}
-
-#[test]
-fn what_a_string_comes_to(rt: HostRuntime) -> Result<(), Fail> {
-    let alloc = rt.alloc();
-    for &(header, before, more, relayed, told) in &STRINGS {
-        a_string_comes_to(&rt, alloc, (header, before, more), (relayed, told))?;
+            relayed,
+            told,
+        ];
+        let status = if told.starts_with("bad line") {
+            Status::BadSession
+        } else {
+            Status::Ok
+        };
+        answers(&rt, alloc, "replay", &input, &output, status)?;
     }
     Ok(())
 }
@@ -237,44 +219,35 @@ const OTHER_SESSIONS: [(&str, &str, &str, &str, &str, Status); 14] = [
     ),
 ];
 
-fn session_comes_to(
-    rt: &impl Abort,
-    alloc: Global,
-    input: &[&str],
-    output: &[&str],
-    status: Status,
-) -> Result<(), Fail> {
-    let input = joined(alloc, input)?;
-    let output = joined(alloc, output)?;
-    let (input, output) = (input.as_str(), output.as_str());
-    answers(rt, alloc, "replay", input, output, status)
-}
-
 #[test]
 fn other_sessions_give_their_transcripts(rt: HostRuntime) -> Result<(), Fail> {
     let alloc = rt.alloc();
     for &(header, first, second, told, last, status) in &OTHER_SESSIONS {
-        session_comes_to(&rt, alloc, &[header, first, second], &[told, last], status)?;
+        let (input, output) = ([header, first, second], [told, last]);
+        answers(&rt, alloc, "replay", &input, &output, status)?;
     }
     Ok(())
 }
 
 #[test]
 fn a_full_journal_ends_the_transcript(rt: HostRuntime) -> Result<(), Fail> {
-    session_comes_to(
+    let input = [
+        "session 1 8 65536\n",
+        REGISTRY,
+        FIELD,
+        METHOD,
+        ENABLED,
+        STRING,
+        COMMIT,
+        "end\n",
+    ];
+    let output = [OFFERED, CAPABILITIES, "journal full 8\n"];
+    answers(
         &rt,
         rt.alloc(),
-        &[
-            "session 1 8 65536\n",
-            REGISTRY,
-            FIELD,
-            METHOD,
-            ENABLED,
-            STRING,
-            COMMIT,
-            "end\n",
-        ],
-        &[OFFERED, CAPABILITIES, "journal full 8\n"],
+        "replay",
+        &input,
+        &output,
         Status::JournalFull,
     )
 }

@@ -1,10 +1,9 @@
 // Scripts of trials, and generated sessions, on the top call.
-use crate::runs::{answers, answers_beside, joined, run, word_list};
-use plain_run::{Status, run_plain};
+use crate::runs::{answers, answers_beside, run, run_parts, sink, source};
+use plain_run::Status;
 use std::alloc::Global;
 use std::process::Abort;
 use std::test::Fail;
-use wio_core::{MemSink, MemSource};
 
 // What is written of a script whose fields are one, with the method's keys `e` and an accent.
 const TABLE: &str = "trial 1\nsingle 40 27\nsingle 18 65\ncompose c3a9 40 18\nfields 1\n";
@@ -57,41 +56,62 @@ const SCRIPTS: [(&str, &str, Status); 10] = [
 fn scripts_show_their_fields(rt: HostRuntime) -> Result<(), Fail> {
     let alloc = rt.alloc();
     for &(input, output, status) in &SCRIPTS {
-        answers(&rt, alloc, "trial", input, output, status)?;
+        answers(&rt, alloc, "trial", &[input], &[output], status)?;
     }
     Ok(())
 }
 
-fn trial_beside(
-    rt: &impl Abort,
-    alloc: Global,
-    fails: (&[u64], &[u64]),
-    output: &str,
-    status: Status,
-) -> Result<(), Fail> {
-    let input = joined(alloc, &[TABLE, "use 1\npress 18\nshow 1\nend\n"])?;
-    answers_beside(rt, alloc, "trial", input.as_str(), fails, output, status)
-}
+const TRIAL_FAULTS: [(&[u64], &[u64], &str, Status); 3] = [
+    (&[2], &[], "", Status::ReadFault),
+    (&[], &[1], "", Status::WriteFault),
+    (&[], &[], "show 1 65 1 -\nend\n", Status::Ok),
+];
 
 #[test]
 fn faults_of_a_trial(rt: HostRuntime) -> Result<(), Fail> {
     let alloc = rt.alloc();
-    trial_beside(&rt, alloc, (&[2], &[]), "", Status::ReadFault)?;
-    trial_beside(&rt, alloc, (&[], &[1]), "", Status::WriteFault)?;
-    trial_beside(&rt, alloc, (&[], &[]), "show 1 65 1 -\nend\n", Status::Ok)
+    for &(reads, writes, output, status) in &TRIAL_FAULTS {
+        let input = [TABLE, "use 1\npress 18\nshow 1\nend\n"];
+        answers_beside(
+            &rt,
+            alloc,
+            &["trial"],
+            &input,
+            (reads, writes),
+            &[output],
+            status,
+        )?;
+    }
+    Ok(())
 }
+
+// Nothing is read: a read would fail.
+const COUNTS: [(&str, &[u64], &[u64], &str, Status); 2] = [
+    (
+        "nonsense",
+        &[1],
+        &[],
+        "gen 7 entries 19449 dones 30 activates 87 ends 0 queued 33548\n",
+        Status::Ok,
+    ),
+    ("", &[], &[1], "", Status::WriteFault),
+];
 
 #[test]
 fn a_number_gives_its_counts(rt: HostRuntime) -> Result<(), Fail> {
     let alloc = rt.alloc();
-    let counts = "gen 7 entries 19449 dones 30 activates 87 ends 0 queued 33548\n";
-    // Nothing is read: a read would fail.
-    let (answer, text) = run(alloc, &["gen", "7"], "nonsense", &[1], &[])?;
-    assert_eq!(rt; answer, Status::Ok);
-    assert_eq!(rt; text.as_slice(), counts.as_bytes());
-    let (answer, text) = run(alloc, &["gen", "7"], "", &[], &[1])?;
-    assert_eq!(rt; answer, Status::WriteFault);
-    assert!(rt; text.is_empty());
+    for &(input, reads, writes, output, status) in &COUNTS {
+        let words = ["gen", "7"];
+        answers_beside(
+            &rt,
+            alloc,
+            &words,
+            &[input],
+            (reads, writes),
+            &[output],
+            status,
+        )?;
+    }
     Ok(())
 }
 
@@ -111,39 +131,33 @@ const OTHER_WORDS: [&[&str]; 12] = [
 ];
 
 // Nothing is read: a read would fail.
-fn is_no_command(rt: &impl Abort, alloc: Global, words: &[&str]) -> Result<(), Fail> {
-    let (answer, text) = run(alloc, words, "trial 1\n", &[1], &[])?;
-    assert_eq!(rt; answer, Status::BadWords, "of {words:?}");
-    assert!(rt; text.is_empty());
-    Ok(())
-}
-
 #[test]
 fn other_words_are_in_no_grammar(rt: HostRuntime) -> Result<(), Fail> {
-    for words in &OTHER_WORDS {
-        is_no_command(&rt, rt.alloc(), words)?;
+    let alloc = rt.alloc();
+    for &words in &OTHER_WORDS {
+        let (input, status) = (["trial 1\n"], Status::BadWords);
+        answers_beside(&rt, alloc, words, &input, (&[1], &[]), &[], status)?;
     }
     Ok(())
 }
 
-// What the words write of the input.
-fn written(alloc: Global, words: &[&str], input: Vec<u8>) -> Result<(Status, Vec<u8>), Fail> {
-    let words = word_list(alloc, words)?;
-    let mut source = MemSource::new(input, 16_384, Vec::new(alloc));
-    let mut sink = MemSink::new(alloc, 4_000_000, Vec::new(alloc))?;
-    let status = run_plain(alloc, &words, &mut source, &mut sink);
-    Ok((status, Vec::from_slice(alloc, sink.held())?))
+// A generated session's transcript ends with as many entries as the counts of its number have.
+fn is_replayed(rt: &impl Abort, alloc: Global, session: &[u8]) -> Result<(), Fail> {
+    let mut input = source(alloc, Vec::from_slice(alloc, session)?, 16_384, &[])?;
+    let mut output = sink(alloc, 4_000_000, &[])?;
+    let status = run(alloc, &["replay"], &mut input, &mut output)?;
+    assert_eq!(rt; status, Status::Ok);
+    assert!(rt; output.held().ends_with(b"\nend 19449\n"));
+    Ok(())
 }
 
-// The session of a number replays with as many entries as its counts have.
 #[test]
 fn a_generated_session_replays(rt: HostRuntime) -> Result<(), Fail> {
     let alloc = rt.alloc();
-    let (answer, text) = written(alloc, &["gen", "7", "text"], Vec::new(alloc))?;
-    assert_eq!(rt; answer, Status::Ok);
-    assert!(rt; text.starts_with(b"session 1 1000000 65536\njoin app\n"));
-    let (answer, transcript) = written(alloc, &["replay"], text)?;
-    assert_eq!(rt; answer, Status::Ok);
-    assert!(rt; transcript.ends_with(b"\nend 19449\n"));
-    Ok(())
+    let mut output = sink(alloc, 4_000_000, &[])?;
+    let status = run_parts(alloc, &["gen", "7", "text"], &[], &[], &mut output)?;
+    assert_eq!(rt; status, Status::Ok);
+    let session = output.held();
+    assert!(rt; session.starts_with(b"session 1 1000000 65536\njoin app\n"));
+    is_replayed(&rt, alloc, session)
 }

@@ -159,22 +159,22 @@ fn fits(act: &Act) -> bool
     }
 }
 
-// What the relay tells of the acts.
-fn relay_text(rt: &(impl Abort + AllocGlobal), acts: &[Act]) -> Result<String, Fail> {
-    let alloc = rt.alloc();
-    let mut relay = Relay::new(alloc)?;
-    let mut tape = Tape {
-        alloc,
-        text: String::new(alloc),
-        failed: false,
-    };
+// Takes the acts in turn.
+fn take(rt: &impl Abort, relay: &mut Relay, acts: &[Act], tape: &mut Tape) -> Result<(), NoMemory> {
     for act in acts {
         assert!(rt; fits(act) && relay.acts() < u32::MAX);
         relay.reserve(act)?;
-        let _ = relay.step(act, &mut tape);
+        let _ = relay.step(act, tape);
     }
     assert!(rt; !tape.failed);
-    Ok(tape.text)
+    Ok(())
+}
+
+// What a relay tells of the acts.
+fn relay_text(rt: &(impl Abort + AllocGlobal), acts: &[Act], tape: &mut Tape) -> Result<(), Fail> {
+    let mut relay = Relay::new(rt.alloc())?;
+    take(rt, &mut relay, acts, tape)?;
+    Ok(())
 }
 
 // What the slow evaluator tells of them.
@@ -189,21 +189,35 @@ fn plain_text(rt: &(impl Abort + AllocGlobal), acts: &[Act]) -> Result<String, F
 
 // Both tell the same, which has so many bytes as text.
 fn agree(rt: &(impl Abort + AllocGlobal), acts: &[Act]) -> Result<usize, Fail> {
+    let alloc = rt.alloc();
+    let mut tape = Tape {
+        alloc,
+        text: String::new(alloc),
+        failed: false,
+    };
+    relay_text(rt, acts, &mut tape)?;
     let plain = plain_text(rt, acts)?;
-    let relay = relay_text(rt, acts)?;
-    assert_eq!(rt; plain.as_str(), relay.as_str(), "{acts:?}");
+    assert_eq!(rt; plain.as_str(), tape.text.as_str(), "{acts:?}");
     Ok(plain.len())
+}
+
+// The act of the line, or none of another.
+fn act_of(alloc: Global, line: &str) -> Result<Option<Act>, Fail> {
+    match read_line(alloc, Form::Acts, line.as_bytes())? {
+        Line::Act(act) => Ok(Some(act)),
+        _ => Ok(None),
+    }
 }
 
 // Each list of lines, up to its `end`.
 fn agree_on_lines(rt: &(impl Abort + AllocGlobal), lines: &[&str]) -> Result<(), Fail> {
     let mut acts = Vec::new(rt.alloc());
-    for text in lines {
-        match read_line(rt.alloc(), Form::Acts, text.as_bytes())? {
-            Line::Act(act) => acts.push(act)?,
-            _ => {
+    for line in lines {
+        match act_of(rt.alloc(), line)? {
+            Some(act) => acts.push(act)?,
+            None => {
                 assert!(rt; agree(rt, &acts)? > 0);
-                acts = Vec::new(rt.alloc());
+                acts.clear();
             }
         }
     }
@@ -311,17 +325,33 @@ struct Rolled {
     bit: u32,
 }
 
-fn field_act(by: Rolled, text: Text) -> Act {
-    let field = by.one;
+// An act that carries a text.
+fn text_act(by: Rolled, text: Text) -> Act {
     match by.kind {
-        0..=2 => Act::Enable { field },
-        3 => Act::Disable { field },
-        4 => Act::Surround {
-            field,
+        0 | 1 => Act::MString {
+            method: by.one,
+            text,
+        },
+        2 => Act::MPreedit {
+            method: by.one,
+            text,
+            begin: place(by.few),
+            end: place(by.bit),
+        },
+        _ => Act::Surround {
+            field: by.one,
             text,
             cursor: place(by.few),
             anchor: place(by.bit),
         },
+    }
+}
+
+fn field_act(by: Rolled) -> Act {
+    let field = by.one;
+    match by.kind {
+        0..=2 => Act::Enable { field },
+        3 => Act::Disable { field },
         5 => Act::Cause {
             field,
             cause: by.bit,
@@ -339,16 +369,9 @@ fn field_act(by: Rolled, text: Text) -> Act {
     }
 }
 
-fn method_act(by: Rolled, text: Text) -> Act {
+fn method_act(by: Rolled) -> Act {
     let method = by.one;
     match by.kind {
-        0 | 1 => Act::MString { method, text },
-        2 => Act::MPreedit {
-            method,
-            text,
-            begin: place(by.few),
-            end: place(by.bit),
-        },
         3 => Act::MDelete {
             method,
             before: by.bit,
@@ -437,6 +460,15 @@ fn objects(sort: u32) -> (u32, u32) {
     }
 }
 
+// Surrounding text of a field, and strings and preedits of a method.
+fn has_text(sort: u32, kind: u32) -> bool {
+    match sort {
+        0..=6 => kind == 4,
+        7..=11 => kind < 3,
+        _ => false,
+    }
+}
+
 fn random_act(alloc: Global, seed: &mut u64) -> Result<Act, NoMemory> {
     let sort = roll(seed, 16);
     let (first, second) = objects(sort);
@@ -447,10 +479,13 @@ fn random_act(alloc: Global, seed: &mut u64) -> Result<Act, NoMemory> {
         few: roll(seed, 6),
         bit: roll(seed, 2),
     };
-    let text = text(alloc, roll(seed, 3))?;
+    let which = roll(seed, 3);
+    if has_text(sort, by.kind) {
+        return Ok(text_act(by, text(alloc, which)?));
+    }
     Ok(match sort {
-        0..=6 => field_act(by, text),
-        7..=11 => method_act(by, text),
+        0..=6 => field_act(by),
+        7..=11 => method_act(by),
         12..=14 => shell_act(by),
         _ => object_act(by),
     })

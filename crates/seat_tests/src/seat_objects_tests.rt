@@ -9,6 +9,7 @@ use seat_objects::{
 use std::alloc::Global;
 use std::process::Abort;
 use std::test::Fail;
+use wio_core::NoMemory;
 
 /// Counts what it is told, and keeps whom it told last.
 #[derive(Drop)]
@@ -26,32 +27,44 @@ impl Post for Tally {
     }
 }
 
-#[test]
-fn each_part_is_told(rt: HostRuntime) -> Result<(), Fail> {
-    let alloc = rt.alloc();
-    let mut post = Tally { told: 0, last: 0 };
-    tell_activate(Some(5), None, Text::empty(alloc), &mut post);
-    assert_eq!(rt; (post.told, post.last), (3, 5));
-    tell_deactivate(Some(5), &mut post);
-    assert_eq!(rt; (post.told, post.last), (5, 5));
-    tell_unavailable(6, &mut post);
-    tell_deleted(7, Some(1), &mut post);
-    assert_eq!(rt; (post.told, post.last), (7, 1));
-    tell_grab(Some(8), Said::Activate, &mut post);
-    tell_key(Route::Pass, 1, 5, 30, 1, &mut post);
-    assert_eq!(rt; (post.told, post.last), (9, 0));
-    let group = Group {
+fn told(rt: &impl Abort, post: &Tally, count: u32, last: Label) {
+    assert_eq!(rt; (post.told, post.last), (count, last));
+}
+
+fn tell_parts(rt: &impl Abort, alloc: Global, post: &mut Tally) {
+    tell_activate(Some(5), None, Text::empty(alloc), post);
+    told(rt, post, 3, 5);
+    tell_deactivate(Some(5), post);
+    told(rt, post, 5, 5);
+    tell_unavailable(6, post);
+    tell_deleted(7, Some(1), post);
+    told(rt, post, 7, 1);
+    tell_grab(Some(8), Said::Activate, post);
+    tell_key(Route::Pass, 1, 5, 30, 1, post);
+    told(rt, post, 9, 0);
+}
+
+fn group(string: Text, text: Text) -> Group {
+    Group {
         before: 1,
         after: 0,
-        string: Text::of(alloc, "a")?,
+        string,
         preedit: Preedit {
-            text: Text::empty(alloc),
+            text,
             begin: 0,
             end: 0,
         },
-    };
-    tell_group(3, group, 1, &mut post);
-    assert_eq!(rt; (post.told, post.last), (12, 3));
+    }
+}
+
+#[test]
+fn each_part_is_told(rt: HostRuntime) -> Result<(), Fail> {
+    let alloc = rt.alloc();
+    let string = Text::of(alloc, "a")?;
+    let mut post = Tally { told: 0, last: 0 };
+    tell_parts(&rt, alloc, &mut post);
+    tell_group(3, group(string, Text::empty(alloc)), 1, &mut post);
+    told(&rt, &post, 12, 3);
     Ok(())
 }
 
@@ -68,20 +81,27 @@ fn focus_comes_and_goes(rt: &impl Abort, objects: &mut Objects) {
     assert_eq!(rt; objects.owner(3), Some(1));
 }
 
+// An object of the peer 1.
+fn make(rt: &impl Abort, objects: &mut Objects, label: Label, kind: Kind) -> Result<(), NoMemory> {
+    objects.reserve()?;
+    assert!(rt; objects.bound() <= u64::from(label));
+    objects.make(Object {
+        label,
+        peer: 1,
+        kind,
+    });
+    Ok(())
+}
+
+fn make_two(rt: &impl Abort, alloc: Global, objects: &mut Objects) -> Result<(), NoMemory> {
+    make(rt, objects, 2, Kind::Surface { area: NO_AREA })?;
+    make(rt, objects, 3, Kind::Field(Field::new(alloc)?))
+}
+
 #[test]
 fn fields_of_the_peer_are_told(rt: HostRuntime) -> Result<(), Fail> {
-    let alloc = rt.alloc();
-    let surface = Kind::Surface { area: NO_AREA };
-    let mut objects = Objects::new(alloc);
-    for (label, kind) in [(2, surface), (3, Kind::Field(Field::new(alloc)?))] {
-        objects.reserve()?;
-        assert!(rt; objects.bound() <= u64::from(label));
-        objects.make(Object {
-            label,
-            peer: 1,
-            kind,
-        });
-    }
+    let mut objects = Objects::new(rt.alloc());
+    make_two(&rt, rt.alloc(), &mut objects)?;
     focus_comes_and_goes(&rt, &mut objects);
     Ok(())
 }
