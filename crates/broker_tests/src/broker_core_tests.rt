@@ -1,4 +1,6 @@
 // What no clause tells: that memory is found, and that the shared state answers as its callers use it.
+ghost use Rattle.seat_steps.specs.Ranges.{IsLimits};
+
 use broker_core::{Applied, JoinRefusal, Kept, Refused, Shared, Took};
 use relay_core::Route;
 use relay_model::{EndCause, Role};
@@ -6,6 +8,7 @@ use seat_steps::{FORM_1_WEIGHT, Limits, PeerStep, ShellStep, Stamp, Step, TokenL
 use std::alloc::Global;
 use std::process::Abort;
 use std::test::Fail;
+use wio_core::NoMemory;
 use wl_wire::Bytes;
 
 const GIVEN: Stamp = Stamp {
@@ -13,116 +16,187 @@ const GIVEN: Stamp = Stamp {
     author: 3,
 };
 
-// An application joins and asks for its registry, and a key passes.
-fn all_calls(rt: &impl Abort, alloc: Global, shared: &mut Shared) -> Result<(), Fail> {
+// A step of the first peer, or a key.
+#[derive(Clone, Copy)]
+enum Kind {
+    Registry,
+    Tokens,
+    Gone,
+    Key,
+}
+
+// A call with what it has to answer, or what a reader has to give.
+#[derive(Clone, Copy)]
+enum Call {
+    Join(Role, Result<u32, JoinRefusal>),
+    // 64 methods join.
+    Fill,
+    Goes(Kind),
+    Answers(Kind, Result<Applied, Refused>),
+    Stored(usize),
+    Take(Took),
+    // How many are alive, how many entries and stamps there are, and what the entries weigh.
+    Shows(u32, u32, u64),
+}
+
+fn ask_registry(alloc: Global, shared: &mut Shared) -> Result<Result<Applied, Refused>, NoMemory> {
     let registry = PeerStep::Message {
         id: 1,
         opcode: 1,
         body: Bytes::from_slice(alloc, &[2, 0, 0, 0])?,
     };
+    Ok(shared.apply(&Step::Peer(1, registry), GIVEN))
+}
+
+fn send_tokens(alloc: Global, shared: &mut Shared) -> Result<Result<Applied, Refused>, NoMemory> {
+    let tokens = PeerStep::Tokens(TokenList::from_slice(alloc, &[7, 8])?);
+    Ok(shared.apply(&Step::Peer(1, tokens), GIVEN))
+}
+
+fn go(shared: &mut Shared) -> Result<Applied, Refused> {
+    shared.apply(&Step::Peer(1, PeerStep::Gone), GIVEN)
+}
+
+fn press(shared: &mut Shared) -> Result<Applied, Refused> {
     let key = ShellStep::Key {
         time: 5,
         key: 30,
         state: 1,
     };
-    let mut bytes = [0; 200];
-    let mut tokens = [0; 256];
-    assert_eq!(rt; shared.join(Role::App, GIVEN), Ok(1));
-    assert!(rt; shared.apply(&Step::Peer(1, registry), GIVEN).is_ok());
-    assert_eq!(rt; shared.stored(1), Some(112));
-    assert_eq!(rt;
-        shared.take(1, &mut bytes, &mut tokens, GIVEN),
-        Took::Bytes(112, 0)
-    );
-    assert_eq!(rt;
-        shared.apply(&Step::Shell(key), GIVEN),
-        Ok(Applied {
-            entry: 4,
-            route: Some(Route::Pass)
-        })
-    );
-    let tokens = PeerStep::Tokens(TokenList::from_slice(alloc, &[7, 8])?);
-    assert!(rt; shared.apply(&Step::Peer(1, tokens), GIVEN).is_ok());
-    assert_eq!(rt; shared.peers(), 1);
-    assert_eq!(rt; shared.journal().len(), 5);
-    assert_eq!(rt; shared.journal().kept().weight, 92);
-    assert_eq!(rt; shared.stamps().len(), 5);
-    assert_eq!(rt; shared.stamps().entry(5), Some(&GIVEN));
+    shared.apply(&Step::Shell(key), GIVEN)
+}
+
+fn answer(
+    alloc: Global,
+    shared: &mut Shared,
+    kind: Kind,
+) -> Result<Result<Applied, Refused>, NoMemory> {
+    match kind {
+        Kind::Registry => ask_registry(alloc, shared),
+        Kind::Tokens => send_tokens(alloc, shared),
+        Kind::Gone => Ok(go(shared)),
+        Kind::Key => Ok(press(shared)),
+    }
+}
+
+fn join(shared: &mut Shared, role: Role) -> Result<u32, JoinRefusal> {
+    shared.join(role, GIVEN)
+}
+
+fn take(shared: &mut Shared) -> Took {
+    shared.take(1, &mut [0; 200], &mut [0; 256], GIVEN)
+}
+
+fn fill(rt: &impl Abort, shared: &mut Shared) {
+    for number in 1..65 {
+        assert_eq!(rt; join(shared, Role::Method), Ok(number));
+    }
+}
+
+fn shows(rt: &impl Abort, shared: &Shared, peers: u32, entries: u32, weight: u64) {
+    assert_eq!(rt; shared.peers(), peers);
+    assert_eq!(rt; shared.journal().len(), entries);
+    assert_eq!(rt; shared.journal().kept().weight, weight);
+    assert_eq!(rt; shared.stamps().len(), entries);
+    assert_eq!(rt; shared.stamps().entry(entries), Some(&GIVEN));
+}
+
+fn make_call(
+    rt: &impl Abort,
+    alloc: Global,
+    shared: &mut Shared,
+    call: Call,
+) -> Result<(), NoMemory> {
+    match call {
+        Call::Join(role, want) => assert_eq!(rt; join(shared, role), want),
+        Call::Fill => fill(rt, shared),
+        Call::Goes(kind) => assert!(rt; answer(alloc, shared, kind)?.is_ok()),
+        Call::Answers(kind, want) => assert_eq!(rt; answer(alloc, shared, kind)?, want),
+        Call::Stored(want) => assert_eq!(rt; shared.stored(1), Some(want)),
+        Call::Take(want) => assert_eq!(rt; take(shared), want),
+        Call::Shows(peers, entries, weight) => shows(rt, shared, peers, entries, weight),
+    }
     Ok(())
 }
 
+fn call_all(
+    rt: &impl Abort,
+    alloc: Global,
+    shared: &mut Shared,
+    calls: &[Call],
+) -> Result<(), NoMemory> {
+    for each in calls {
+        make_call(rt, alloc, shared, *each)?;
+    }
+    Ok(())
+}
+
+// An application joins and asks for its registry, and a key passes.
+const EACH_CALL_ANSWERS: [Call; 7] = [
+    Call::Join(Role::App, Ok(1)),
+    Call::Goes(Kind::Registry),
+    Call::Stored(112),
+    Call::Take(Took::Bytes(112, 0)),
+    Call::Answers(
+        Kind::Key,
+        Ok(Applied {
+            entry: 4,
+            route: Some(Route::Pass),
+        }),
+    ),
+    Call::Goes(Kind::Tokens),
+    Call::Shows(1, 5, 92),
+];
+
+const FULL: Kept = Kept {
+    entries: 1,
+    weight: 16,
+};
+
+// Nobody is there, the journal is full, and the peer ended.
+const EACH_REFUSAL_HAS_ITS_CAUSE: [Call; 8] = [
+    Call::Answers(Kind::Gone, Err(Refused::NoPeer)),
+    Call::Take(Took::NoPeer),
+    Call::Join(Role::App, Ok(1)),
+    Call::Take(Took::Empty),
+    Call::Join(Role::App, Err(JoinRefusal::JournalFull(FULL))),
+    Call::Goes(Kind::Gone),
+    Call::Answers(Kind::Gone, Err(Refused::Ended(EndCause::Gone))),
+    Call::Take(Took::Closed),
+];
+
+const THE_65TH_PEER_IS_REFUSED: [Call; 2] = [
+    Call::Fill,
+    Call::Join(Role::App, Err(JoinRefusal::TooManyPeers(64))),
+];
+
+// Each list has a state of its own.
+fn play(rt: &impl Abort, alloc: Global, limits: Limits, calls: &[Call]) -> Result<(), NoMemory>
+    requires { IsLimits limits }
+{
+    let mut shared = Shared::new(alloc, limits)?;
+    call_all(rt, alloc, &mut shared, calls)
+}
+
 #[test]
-fn each_call_answers(rt: HostRuntime) -> Result<(), Fail> {
-    let limits = Limits {
+fn each_list_of_calls_is_answered(rt: HostRuntime) -> Result<(), Fail> {
+    let five = Limits {
         entries: 5,
         store: 128,
         weight: FORM_1_WEIGHT,
     };
-    let alloc = rt.alloc();
-    let mut shared = Shared::new(alloc, limits)?;
-    all_calls(&rt, alloc, &mut shared)
-}
-
-// Nobody is there, the journal is full, and the peer ended.
-fn all_refusals(rt: &impl Abort, shared: &mut Shared) {
-    let full = Kept {
-        entries: 1,
-        weight: 16,
-    };
-    let gone = Step::Peer(1, PeerStep::Gone);
-    assert_eq!(rt; shared.apply(&gone, GIVEN), Err(Refused::NoPeer));
-    assert_eq!(rt;
-        shared.take(1, &mut [0], &mut [0; 256], GIVEN),
-        Took::NoPeer
-    );
-    assert_eq!(rt; shared.join(Role::App, GIVEN), Ok(1));
-    assert_eq!(rt; shared.take(1, &mut [0], &mut [0; 256], GIVEN), Took::Empty);
-    assert_eq!(rt;
-        shared.join(Role::App, GIVEN),
-        Err(JoinRefusal::JournalFull(full))
-    );
-    assert!(rt; shared.apply(&gone, GIVEN).is_ok());
-    assert_eq!(rt;
-        shared.apply(&gone, GIVEN),
-        Err(Refused::Ended(EndCause::Gone))
-    );
-    assert_eq!(rt;
-        shared.take(1, &mut [0], &mut [0; 256], GIVEN),
-        Took::Closed
-    );
-}
-
-#[test]
-fn each_refusal_has_its_cause(rt: HostRuntime) -> Result<(), Fail> {
-    let limits = Limits {
+    play(&rt, rt.alloc(), five, &EACH_CALL_ANSWERS)?;
+    let one = Limits {
         entries: 1,
         store: 64,
         weight: FORM_1_WEIGHT,
     };
-    let mut shared = Shared::new(rt.alloc(), limits)?;
-    all_refusals(&rt, &mut shared);
-    Ok(())
-}
-
-// 64 join.
-fn fill(rt: &impl Abort, shared: &mut Shared) {
-    for number in 1..65 {
-        assert_eq!(rt; shared.join(Role::Method, GIVEN), Ok(number));
-    }
-    assert_eq!(rt;
-        shared.join(Role::App, GIVEN),
-        Err(JoinRefusal::TooManyPeers(64))
-    );
-}
-
-#[test]
-fn the_65th_peer_is_refused(rt: HostRuntime) -> Result<(), Fail> {
-    let limits = Limits {
+    play(&rt, rt.alloc(), one, &EACH_REFUSAL_HAS_ITS_CAUSE)?;
+    let hundred = Limits {
         entries: 100,
         store: 64,
         weight: FORM_1_WEIGHT,
     };
-    let mut shared = Shared::new(rt.alloc(), limits)?;
-    fill(&rt, &mut shared);
+    play(&rt, rt.alloc(), hundred, &THE_65TH_PEER_IS_REFUSED)?;
     Ok(())
 }

@@ -2,6 +2,8 @@
 use broker_model::{Entry, Journal, Kept, StampList};
 use relay_model::{EndCause, Role};
 use seat_steps::{Limits, ShellStep, Stamp, TokenList, WEIGHT_LIMIT};
+use std::alloc::Global;
+use std::process::Abort;
 use std::test::Fail;
 use wl_wire::Bytes;
 
@@ -20,65 +22,80 @@ fn put(journal: &mut Journal, limit: u32, entry: Entry) -> Result<bool, Fail> {
     Ok(true)
 }
 
-#[test]
-fn a_journal_of_three_entries(rt: HostRuntime) -> Result<(), Fail> {
-    let mut journal = Journal::new(rt.alloc());
-    assert!(rt; put(&mut journal, 2, Entry::Join(Role::App))?);
-    let message = Entry::Message {
+fn message(body: Vec<u8>) -> Entry {
+    Entry::Message {
         peer: 1,
         id: 1,
         opcode: 1,
-        body: Bytes::new(vec![in rt.alloc(); 2, 0, 0, 0]?),
-    };
-    assert!(rt; put(&mut journal, 2, message)?);
-    assert!(rt; !put(&mut journal, 2, Entry::Join(Role::Method))?);
-    let end = Entry::End {
-        peer: 1,
-        cause: EndCause::Gone,
-    };
-    assert!(rt; put(&mut journal, 2, end)?);
-    let want = Kept {
-        entries: 2,
-        weight: 36,
-    };
-    assert_eq!(rt; journal.kept(), want);
-
-    let copy = journal.copy(rt.alloc())?;
-    for journal in [&journal, &copy] {
-        assert_eq!(rt; journal.len(), 3);
-        assert!(rt; matches!(journal.entry(0), None));
-        assert!(rt; matches!(journal.entry(1), Some(Entry::Join(Role::App))));
-        assert!(rt; matches!(journal.entry(2), Some(Entry::Message { .. })));
-        assert!(rt; matches!(journal.entry(3), Some(Entry::End { .. })));
-        assert!(rt; matches!(journal.entry(4), None));
+        body: Bytes::new(body),
     }
-    assert_eq!(rt; copy.kept(), want);
+}
+
+const GONE: EndCause = EndCause::Gone;
+
+// An entry too many is left out, and an end is none.
+fn put_three(rt: &impl Abort, alloc: Global, journal: &mut Journal) -> Result<(), Fail> {
+    assert!(rt; put(journal, 2, Entry::Join(Role::App))?);
+    let body = vec![in alloc; 2, 0, 0, 0]?;
+    assert!(rt; put(journal, 2, message(body))?);
+    assert!(rt; !put(journal, 2, Entry::Join(Role::Method))?);
+    assert!(rt;
+        put(
+            journal,
+            2,
+            Entry::End {
+                peer: 1,
+                cause: GONE
+            }
+        )?
+    );
+    Ok(())
+}
+
+fn shows_three(rt: &impl Abort, journal: &Journal) {
+    assert_eq!(rt; journal.len(), 3);
+    assert!(rt; matches!(journal.entry(0), None));
+    assert!(rt; matches!(journal.entry(1), Some(Entry::Join(Role::App))));
+    assert!(rt; matches!(journal.entry(2), Some(Entry::Message { .. })));
+    assert!(rt; matches!(journal.entry(3), Some(Entry::End { .. })));
+    assert!(rt; matches!(journal.entry(4), None));
+    weighs(rt, journal, 36);
+}
+
+fn weighs(rt: &impl Abort, journal: &Journal, weight: u64) {
+    let want = Kept { entries: 2, weight };
+    assert_eq!(rt; journal.kept(), want);
+}
+
+#[test]
+fn a_journal_of_three_entries(rt: HostRuntime) -> Result<(), Fail> {
+    let mut journal = Journal::new(rt.alloc());
+    put_three(&rt, rt.alloc(), &mut journal)?;
+    shows_three(&rt, &journal);
+    shows_three(&rt, &journal.copy(rt.alloc())?);
+    Ok(())
+}
+
+// The entry and its copy are put.
+fn put_twice(
+    rt: &impl Abort,
+    alloc: Global,
+    journal: &mut Journal,
+    limit: u32,
+    entry: Entry,
+) -> Result<(), Fail> {
+    let copy = entry.copy(alloc)?;
+    assert!(rt; put(journal, limit, entry)?);
+    assert!(rt; put(journal, limit, copy)?);
     Ok(())
 }
 
 #[test]
 fn a_body_weighs_its_bytes(rt: HostRuntime) -> Result<(), Fail> {
     let mut journal = Journal::new(rt.alloc());
-    let mut body = Vec::new(rt.alloc());
-    for _ in 0..4088 {
-        body.push(0)?;
-    }
-    let message = Entry::Message {
-        peer: 1,
-        id: 1,
-        opcode: 0,
-        body: Bytes::new(body),
-    };
-    let copy = message.copy(rt.alloc())?;
-    assert!(rt; put(&mut journal, 1_000_000, message)?);
-    assert!(rt; put(&mut journal, 1_000_000, copy)?);
-    assert_eq!(rt;
-        journal.kept(),
-        Kept {
-            entries: 2,
-            weight: 8208
-        }
-    );
+    let body = vec![in rt.alloc(); 0; 4088]?;
+    put_twice(&rt, rt.alloc(), &mut journal, 1_000_000, message(body))?;
+    weighs(&rt, &journal, 8208);
     Ok(())
 }
 
@@ -89,74 +106,103 @@ fn tokens_weigh_4_each(rt: HostRuntime) -> Result<(), Fail> {
         peer: 1,
         tokens: TokenList::from_slice(rt.alloc(), &[7, 8])?,
     };
-    let copy = tokens.copy(rt.alloc())?;
-    assert!(rt; put(&mut journal, 2, tokens)?);
-    assert!(rt; put(&mut journal, 2, copy)?);
-    assert_eq!(rt;
-        journal.kept(),
-        Kept {
-            entries: 2,
-            weight: 48
-        }
-    );
+    put_twice(&rt, rt.alloc(), &mut journal, 2, tokens)?;
+    weighs(&rt, &journal, 48);
     Ok(())
 }
 
+// What the entry with this number says.
+fn entry(number: u32) -> Entry {
+    match number {
+        1 => Entry::Join(Role::App),
+        2 => Entry::Shell(ShellStep::At { moment: 9 }),
+        3 => Entry::Shell(ShellStep::Unfocus),
+        _ => Entry::End {
+            peer: 1,
+            cause: EndCause::Full,
+        },
+    }
+}
+
+/// Each entry with the stamp of its call, and the stamp that it has.
+const STAMPS: [(u32, Stamp, Stamp); 4] = [
+    (
+        1,
+        Stamp {
+            moment: 5,
+            author: 1,
+        },
+        Stamp {
+            moment: 5,
+            author: 1,
+        },
+    ),
+    (
+        2,
+        Stamp {
+            moment: 6,
+            author: 2,
+        },
+        Stamp {
+            moment: 9,
+            author: 2,
+        },
+    ),
+    (
+        3,
+        Stamp {
+            moment: 3,
+            author: 4,
+        },
+        Stamp {
+            moment: 9,
+            author: 4,
+        },
+    ),
+    (
+        4,
+        Stamp {
+            moment: 20,
+            author: 7,
+        },
+        Stamp {
+            moment: 9,
+            author: 0,
+        },
+    ),
+];
+
 // Puts the stamp that the entry has, where its call gave this one.
-fn put_stamp(stamps: &mut StampList, entry: &Entry, moment: u64, author: u64) -> Result<(), Fail> {
+fn put_stamp(stamps: &mut StampList, entry: &Entry, given: Stamp) -> Result<(), Fail> {
     if stamps.len() == u32::MAX {
         return Ok(());
     }
-    let stamp = stamps.next(entry, Stamp { moment, author });
+    let stamp = stamps.next(entry, given);
     stamps.reserve(1)?;
     stamps.push(stamp);
     Ok(())
 }
 
+fn put_stamps(stamps: &mut StampList) -> Result<(), Fail> {
+    for (number, given, _) in &STAMPS {
+        put_stamp(stamps, &entry(*number), *given)?;
+    }
+    Ok(())
+}
+
+fn shows_stamps(rt: &impl Abort, stamps: &StampList) {
+    assert_eq!(rt; stamps.len(), 4);
+    assert_eq!(rt; stamps.entry(0), None);
+    for (number, _, want) in &STAMPS {
+        assert_eq!(rt; stamps.entry(*number), Some(want));
+    }
+    assert_eq!(rt; stamps.entry(5), None);
+}
+
 #[test]
 fn moments_never_fall(rt: HostRuntime) -> Result<(), Fail> {
     let mut stamps = StampList::new(rt.alloc());
-    let cause = EndCause::Full;
-    put_stamp(&mut stamps, &Entry::Join(Role::App), 5, 1)?;
-    put_stamp(
-        &mut stamps,
-        &Entry::Shell(ShellStep::At { moment: 9 }),
-        6,
-        2,
-    )?;
-    put_stamp(&mut stamps, &Entry::Shell(ShellStep::Unfocus), 3, 4)?;
-    put_stamp(&mut stamps, &Entry::End { peer: 1, cause }, 20, 7)?;
-    let copy = stamps.copy(rt.alloc())?;
-    assert_eq!(rt; copy.len(), 4);
-    assert_eq!(rt; copy.entry(0), None);
-    assert_eq!(rt;
-        copy.entry(1),
-        Some(&Stamp {
-            moment: 5,
-            author: 1
-        })
-    );
-    assert_eq!(rt;
-        copy.entry(2),
-        Some(&Stamp {
-            moment: 9,
-            author: 2
-        })
-    );
-    assert_eq!(rt;
-        copy.entry(3),
-        Some(&Stamp {
-            moment: 9,
-            author: 4
-        })
-    );
-    assert_eq!(rt;
-        copy.entry(4),
-        Some(&Stamp {
-            moment: 9,
-            author: 0
-        })
-    );
-    assert_eq!(rt; copy.entry(5), None);
+    put_stamps(&mut stamps)?;
+    shows_stamps(&rt, &stamps.copy(rt.alloc())?);
     Ok(())
 }

@@ -1,6 +1,7 @@
 // What no clause tells: that memory is found, and that a group is gathered as its callers gather it.
 use relay_model::Role;
 use seat_audience::{Gathering, Live};
+use std::process::Abort;
 use std::test::Fail;
 use wl_proto::Event;
 
@@ -17,45 +18,62 @@ const KEYMAP_BYTES: &[u8] = &[7, 0, 0, 0, 0, 0, 16, 0, 1, 0, 0, 0, 5, 0, 0, 0];
 
 const COMMIT_STRING_BYTES: &[u8] = &[9, 0, 0, 0, 3, 0, 16, 0, 3, 0, 0, 0, 104, 105, 0, 0];
 
+fn put_keymap(gathering: &mut Gathering) {
+    gathering.put(7, &KEYMAP, Some(42));
+}
+
+fn put_string(gathering: &mut Gathering) {
+    gathering.put(9, &COMMIT_STRING, None);
+}
+
+// Both are gathered, in this order, with the token at this place.
+fn holds_both(rt: &impl Abort, gathering: &Gathering, first: &[u8], last: &[u8], place: usize) {
+    assert!(rt; !gathering.is_over());
+    assert_eq!(rt; gathering.bytes().len(), 32);
+    assert!(rt; gathering.bytes().starts_with(first));
+    assert!(rt; gathering.bytes().ends_with(last));
+    assert_eq!(rt; gathering.tokens(), [(place, 42)].as_slice());
+}
+
+// These alone are gathered.
+fn holds(
+    rt: &impl Abort,
+    gathering: &Gathering,
+    is_over: bool,
+    bytes: &[u8],
+    tokens: &[(usize, u32)],
+) {
+    assert_eq!(rt; gathering.is_over(), is_over);
+    assert_eq!(rt; gathering.bytes(), bytes);
+    assert_eq!(rt; gathering.tokens(), tokens);
+}
+
 #[test]
 fn a_keymap_and_a_string_are_gathered(rt: HostRuntime) -> Result<(), Fail> {
     let mut gathering = Gathering::new(rt.alloc(), 32)?;
-    gathering.put(7, &KEYMAP, Some(42));
-    gathering.put(9, &COMMIT_STRING, None);
-    assert!(rt; !gathering.is_over());
-    assert_eq!(rt; gathering.bytes().len(), 32);
-    assert!(rt; gathering.bytes().starts_with(KEYMAP_BYTES));
-    assert!(rt; gathering.bytes().ends_with(COMMIT_STRING_BYTES));
-    assert_eq!(rt; gathering.tokens(), [(0, 42)].as_slice());
-
+    put_keymap(&mut gathering);
+    put_string(&mut gathering);
+    holds_both(&rt, &gathering, KEYMAP_BYTES, COMMIT_STRING_BYTES, 0);
     gathering.clear();
-    assert!(rt; gathering.bytes().is_empty() && gathering.tokens().is_empty());
-    gathering.put(9, &COMMIT_STRING, None);
-    gathering.put(7, &KEYMAP, Some(42));
-    assert!(rt; !gathering.is_over());
-    assert_eq!(rt; gathering.bytes().len(), 32);
-    assert!(rt; gathering.bytes().starts_with(COMMIT_STRING_BYTES));
-    assert!(rt; gathering.bytes().ends_with(KEYMAP_BYTES));
-    assert_eq!(rt; gathering.tokens(), [(16, 42)].as_slice());
+    holds(&rt, &gathering, false, &[], &[]);
+    put_string(&mut gathering);
+    put_keymap(&mut gathering);
+    holds_both(&rt, &gathering, COMMIT_STRING_BYTES, KEYMAP_BYTES, 16);
     Ok(())
 }
 
 #[test]
 fn what_follows_one_that_was_left_out_is_left_out(rt: HostRuntime) -> Result<(), Fail> {
     let mut gathering = Gathering::new(rt.alloc(), 31)?;
-    gathering.put(7, &KEYMAP, Some(42));
-    gathering.put(9, &COMMIT_STRING, None);
-    assert!(rt; gathering.is_over());
+    put_keymap(&mut gathering);
+    put_string(&mut gathering);
+    holds(&rt, &gathering, true, KEYMAP_BYTES, &[(0, 42)]);
     gathering.put(9, &Event::Activate, None);
-    assert!(rt; gathering.is_over());
-    assert_eq!(rt; gathering.bytes(), KEYMAP_BYTES);
-    assert_eq!(rt; gathering.tokens(), [(0, 42)].as_slice());
-
+    holds(&rt, &gathering, true, KEYMAP_BYTES, &[(0, 42)]);
     gathering.clear();
-    assert!(rt; !gathering.is_over());
-    gathering.put(9, &COMMIT_STRING, None);
-    assert_eq!(rt; gathering.bytes(), COMMIT_STRING_BYTES);
-    assert!(rt; gathering.tokens().is_empty());
+    holds(&rt, &gathering, false, &[], &[]);
+    put_string(&mut gathering);
+    holds(&rt, &gathering, false, COMMIT_STRING_BYTES, &[]);
     Ok(())
 }
 

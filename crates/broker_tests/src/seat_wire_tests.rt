@@ -3,23 +3,24 @@ use im_objects::{DISPLAY_ID, Table};
 use relay_core::Relay;
 use relay_model::{Act, Role};
 use seat_wire::{Argument, Meaning, Sender, meaning_of};
+use std::alloc::Global;
+use std::process::Abort;
 use std::test::Fail;
+use wio_core::NoMemory;
 use wl_proto::Interface;
 
-#[test]
-fn a_new_peer_syncs(rt: HostRuntime) -> Result<(), Fail> {
-    let relay = Relay::new(rt.alloc())?;
-    let table = Table::new(rt.alloc(), 1)?;
+// A peer that is new asks for a callback.
+fn syncs(rt: &impl Abort, alloc: Global, relay: &Relay, table: &Table) -> Result<(), NoMemory> {
     let sender = Sender {
         label: 1,
         role: Role::App,
-        table: &table,
+        table,
         tokens: &[],
     };
-    let meaning = meaning_of(rt.alloc(), &relay, &sender, DISPLAY_ID, 0, &[2, 0, 0, 0])?;
+    let meaning = meaning_of(alloc, relay, &sender, DISPLAY_ID, 0, &[2, 0, 0, 0])?;
     assert!(rt;
         matches!(
-            meaning,
+            &meaning,
             Meaning {
                 act: Act::Sync { peer: 1 },
                 made: Some(Argument {
@@ -37,29 +38,38 @@ const PREEDIT: [u8; 20] = [
     7, 0, 0, 0, 110, 97, 195, 175, 118, 101, 0, 0, 0, 0, 0, 0, 6, 0, 0, 0,
 ];
 
-#[test]
-fn an_act_has_a_text_of_its_own(rt: HostRuntime) -> Result<(), Fail> {
-    let relay = Relay::new(rt.alloc())?;
-    let mut table = Table::new(rt.alloc(), 1)?;
-    assert_eq!(rt; table.make(2, Interface::InputMethod, 7), Ok(()));
-    let sender = Sender {
-        label: 1,
-        role: Role::Method,
-        table: &table,
-        tokens: &[],
-    };
-    let meaning = meaning_of(rt.alloc(), &relay, &sender, 2, 1, &PREEDIT)?;
-    match &meaning.act {
+// The act has the text, the cursor, and the label of the method.
+fn is_preedit(act: &Act) -> bool {
+    match act {
         Act::MPreedit {
             method,
             text,
             begin,
             end,
-        } => {
-            assert_eq!(rt; (*method, *begin, *end), (7, 0, 6));
-            assert_eq!(rt; text.as_str(), "naïve");
-        }
-        _ => assert!(rt; false),
+        } => *method == 7 && *begin == 0 && *end == 6 && text.as_str() == "naïve",
+        _ => false,
     }
+}
+
+// An act has a text of its own.
+fn shows(rt: &impl Abort, alloc: Global, relay: &Relay, table: &Table) -> Result<(), NoMemory> {
+    let sender = Sender {
+        label: 1,
+        role: Role::Method,
+        table,
+        tokens: &[],
+    };
+    let meaning = meaning_of(alloc, relay, &sender, 2, 1, &PREEDIT)?;
+    assert!(rt; is_preedit(&meaning.act));
+    Ok(())
+}
+
+#[test]
+fn messages_come_to_acts(rt: HostRuntime) -> Result<(), Fail> {
+    let relay = Relay::new(rt.alloc())?;
+    let mut table = Table::new(rt.alloc(), 1)?;
+    syncs(&rt, rt.alloc(), &relay, &table)?;
+    assert_eq!(rt; table.make(2, Interface::InputMethod, 7), Ok(()));
+    shows(&rt, rt.alloc(), &relay, &table)?;
     Ok(())
 }

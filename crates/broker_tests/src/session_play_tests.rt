@@ -1,7 +1,7 @@
 // What no clause tells: that memory is found, and that a player answers as its callers use it.
 ghost use Rattle.std.specs.Prelude.{length, IfOk};
 ghost use Rattle.seat_steps.specs.Ranges.{piece_limit, token_limit};
-ghost use Rattle.seat_steps.specs.Ranges.{IsWithin};
+ghost use Rattle.seat_steps.specs.Ranges.{IsLimits, IsWithin};
 ghost use Rattle.session_text.specs.Steps.{IsSessionLine};
 
 use broker_core::Kept;
@@ -35,70 +35,84 @@ fn sent(alloc: Global, tokens: &[u32]) -> Result<SessionLine, Fail>
     Ok(SessionLine::Tokens(1, TokenList::from_slice(alloc, tokens)?))
 }
 
+fn is_played(player: &mut Player, line: &SessionLine) -> bool
+    requires { IsSessionLine line.now }
+{
+    player.line(line, GIVEN).is_ok()
+}
+
+fn is_full(player: &mut Player, line: &SessionLine) -> bool
+    requires { IsSessionLine line.now }
+{
+    matches!(&player.line(line, GIVEN), Err(PlayEnd::JournalFull(_, _)))
+}
+
+fn goes(player: &mut Player) -> Result<(), Stop> {
+    player.line_watched(&SessionLine::Gone(1), GIVEN, &mut ())
+}
+
 // An application joins, asks for its registry in two pieces, sends two tokens, and goes.
 fn all_calls(rt: &impl Abort, alloc: Global, player: &mut Player) -> Result<(), Fail> {
-    assert!(rt; player.line(&SessionLine::Join(Role::App), GIVEN).is_ok());
-    assert!(rt;
-        player
-            .line(&piece(alloc, &[1, 0, 0, 0, 1, 0])?, GIVEN)
-            .is_ok()
-    );
+    assert!(rt; is_played(player, &SessionLine::Join(Role::App)));
+    assert!(rt; is_played(player, &piece(alloc, &[1, 0, 0, 0, 1, 0])?));
     assert_eq!(rt; player.entries(), 1);
-    assert!(rt;
-        player
-            .line(&piece(alloc, &[12, 0, 2, 0, 0, 0])?, GIVEN)
-            .is_ok()
-    );
+    assert!(rt; is_played(player, &piece(alloc, &[12, 0, 2, 0, 0, 0])?));
     assert_eq!(rt; player.entries(), 2);
-    assert!(rt; player.line(&sent(alloc, &[7, 8])?, GIVEN).is_ok());
-    assert_eq!(rt;
-        player.line_watched(&SessionLine::Gone(1), GIVEN, &mut ()),
-        Ok(())
-    );
+    assert!(rt; is_played(player, &sent(alloc, &[7, 8])?));
+    assert_eq!(rt; goes(player), Ok(()));
     assert_eq!(rt; player.journal().len(), 4);
     assert_eq!(rt; player.stamps().len(), 4);
     assert_eq!(rt; player.stamps().entry(2), Some(&GIVEN));
     Ok(())
 }
 
+const FULL: Kept = Kept {
+    entries: 1,
+    weight: 16,
+};
+
+// The second join is one entry too many, and nothing is played after it.
+fn all_refusals(rt: &impl Abort, player: &mut Player) {
+    assert!(rt; is_played(player, &SessionLine::Join(Role::App)));
+    assert!(rt; is_full(player, &SessionLine::Join(Role::App)));
+    assert_eq!(rt; goes(player), Err(Stop::Full(FULL)));
+    assert!(rt; is_full(player, &SessionLine::Gone(1)));
+    assert_eq!(rt; player.entries(), 1);
+}
+
+fn play_lines(
+    rt: &impl Abort,
+    alloc: Global,
+    player: &mut Player,
+    entries: u32,
+) -> Result<(), Fail> {
+    if entries == 1 {
+        all_refusals(rt, player);
+        return Ok(());
+    }
+    all_calls(rt, alloc, player)
+}
+
+// The lines are played that there are for so many entries.
+fn play(rt: &impl Abort, alloc: Global, limits: Limits) -> Result<(), Fail>
+    requires { IsLimits limits }
+{
+    let mut player = Player::new(alloc, limits)?;
+    play_lines(rt, alloc, &mut player, limits.entries)
+}
+
 #[test]
-fn lines_are_played(rt: HostRuntime) -> Result<(), Fail> {
-    let limits = Limits {
+fn lines_are_played_and_an_error_stays(rt: HostRuntime) -> Result<(), Fail> {
+    let four = Limits {
         entries: 4,
         store: 128,
         weight: FORM_1_WEIGHT,
     };
-    let alloc = rt.alloc();
-    let mut player = Player::new(alloc, limits)?;
-    all_calls(&rt, alloc, &mut player)
-}
-
-// The second join is one entry too many, and nothing is played after it.
-fn all_refusals(rt: &impl Abort, player: &mut Player) {
-    let full = Kept {
-        entries: 1,
-        weight: 16,
-    };
-    assert!(rt; player.line(&SessionLine::Join(Role::App), GIVEN).is_ok());
-    let again = player.line(&SessionLine::Join(Role::App), GIVEN);
-    assert!(rt; matches!(again, Err(PlayEnd::JournalFull(_, _))));
-    assert_eq!(rt;
-        player.line_watched(&SessionLine::Gone(1), GIVEN, &mut ()),
-        Err(Stop::Full(full))
-    );
-    let gone = player.line(&SessionLine::Gone(1), GIVEN);
-    assert!(rt; matches!(gone, Err(PlayEnd::JournalFull(_, _))));
-    assert_eq!(rt; player.entries(), 1);
-}
-
-#[test]
-fn an_error_stays(rt: HostRuntime) -> Result<(), Fail> {
-    let limits = Limits {
+    play(&rt, rt.alloc(), four)?;
+    let one = Limits {
         entries: 1,
         store: 64,
         weight: FORM_1_WEIGHT,
     };
-    let mut player = Player::new(rt.alloc(), limits)?;
-    all_refusals(&rt, &mut player);
-    Ok(())
+    play(&rt, rt.alloc(), one)
 }
