@@ -19,9 +19,10 @@ const ROOM: usize = 65_536;
 /// A job of a link in memory.
 pub(crate) type MemJob = LinkJob<MemSource, MemSink, Open>;
 
-/// A sink in memory.
-pub(crate) fn sink(alloc: Global) -> Result<MemSink, AllocError> {
-    match MemSink::new(alloc, ROOM, Vec::new(alloc)) {
+/// A sink in memory, where the writes with these numbers fail.
+pub(crate) fn sink(alloc: Global, fail: &[u64]) -> Result<MemSink, AllocError> {
+    let fail = fail.to_vec(alloc)?;
+    match MemSink::new(alloc, ROOM, fail) {
         Ok(sink) => Ok(sink),
         Err(_) => Err(AllocError),
     }
@@ -36,11 +37,15 @@ pub(crate) fn link(
 ) -> Result<MemLink, AllocError>
     requires { 0 < chunk }
 {
-    let source = MemSource::new(bytes.to_vec(alloc)?, chunk, Vec::new(alloc));
-    let Ok(sink) = MemSink::new(alloc, ROOM, Vec::new(alloc)) else {
-        return Err(AllocError);
-    };
-    Ok(MemLink { door, source, sink })
+    let bytes = bytes.to_vec(alloc)?;
+    match MemSink::new(alloc, ROOM, Vec::new(alloc)) {
+        Ok(sink) => Ok(MemLink {
+            door,
+            source: MemSource::new(bytes, chunk, Vec::new(alloc)),
+            sink,
+        }),
+        Err(_) => Err(AllocError),
+    }
 }
 
 /// The words of a text, which blanks part.
@@ -52,64 +57,87 @@ pub(crate) fn words(alloc: Global, text: &str) -> Result<Vec<String>, AllocError
     Ok(words)
 }
 
-/// Which accepts, starts of jobs and writes of the output fail, by their numbers from 1.
-#[derive(Clone, Copy)]
-pub(crate) struct Faults<'a> {
-    pub(crate) accepts: &'a [u64],
-    pub(crate) starts: &'a [u64],
-    pub(crate) writes: &'a [u64],
-}
-
-/// Nothing fails.
-pub(crate) const NO_FAULTS: Faults<'static> = Faults {
-    accepts: &[],
-    starts: &[],
-    writes: &[],
-};
-
-/// Serves these links, with these faults: the status, and what was written.
-pub(crate) fn served<R: Threads + Wait + Copy + Send + Sync + 'static>(
-    rt: R,
+/// A net of these links, where the accepts with these numbers fail.
+pub(crate) fn net_of(
     alloc: Global,
     links: Vec<MemLink>,
-    faults: Faults<'_>,
-    line: &str,
-) -> Result<(ServeStatus, Vec<u8>), AllocError> {
-    let Ok(mut net) = MemNet::new(alloc, links, faults.accepts.to_vec(alloc)?) else {
-        return Err(AllocError);
-    };
-    let gate = Arc::new(alloc, Open)?;
+    fail: &[u64],
+) -> Result<MemNet, AllocError> {
+    let fail = fail.to_vec(alloc)?;
+    match MemNet::new(alloc, links, fail) {
+        Ok(net) => Ok(net),
+        Err(_) => Err(AllocError),
+    }
+}
+
+// Serves the net, where the starts of jobs with these numbers, counted from 1, are refused.
+fn serve_words<R: Threads + Wait + Copy + Send + Sync + 'static>(
+    rt: R,
+    alloc: Global,
+    words: &[String],
+    net: &mut MemNet,
+    starts: &[u64],
+    gate: &Arc<Open, Global>,
+    output: &mut MemSink,
+) -> ServeStatus {
     let next = AtomicU64::new(1);
     let mut spawner = ThreadSpawner::new(rt, alloc, |job: MemJob| {
         let number = next.fetch_add(1, Ordering::SeqCst);
-        if faults.starts.contains(&number) {
+        if starts.contains(&number) {
             return Err(job);
         }
         begin_job(rt, alloc, job)
     });
-    let Ok(mut output) = MemSink::new(alloc, ROOM, faults.writes.to_vec(alloc)?) else {
-        return Err(AllocError);
-    };
-    let words = words(alloc, line)?;
-    let status = run_serve(
-        &rt,
-        alloc,
-        &words,
-        &mut net,
-        &mut spawner,
-        &gate,
-        &mut output,
-    );
-    Ok((status, output.held().to_vec(alloc)?))
+    run_serve(&rt, alloc, words, net, &mut spawner, gate, output)
 }
 
-/// The transcript of a recorded session.
-pub(crate) fn replayed(alloc: Global, session: &[u8]) -> Result<Vec<u8>, AllocError> {
+fn serve_line<R: Threads + Wait + Copy + Send + Sync + 'static>(
+    rt: R,
+    alloc: Global,
+    line: &str,
+    net: &mut MemNet,
+    starts: &[u64],
+    gate: &Arc<Open, Global>,
+    output: &mut MemSink,
+) -> Result<ServeStatus, AllocError> {
+    let words = words(alloc, line)?;
+    Ok(serve_words(rt, alloc, &words, net, starts, gate, output))
+}
+
+/// Serves the net by the words of the line, where the starts of jobs with these numbers, counted
+/// from 1, are refused, and nobody is held.
+pub(crate) fn serve<R: Threads + Wait + Copy + Send + Sync + 'static>(
+    rt: R,
+    alloc: Global,
+    line: &str,
+    net: &mut MemNet,
+    starts: &[u64],
+    output: &mut MemSink,
+) -> Result<ServeStatus, AllocError> {
+    let gate = Arc::new(alloc, Open)?;
+    serve_line(rt, alloc, line, net, starts, &gate, output)
+}
+
+// Runs the words over the session.
+fn play(
+    alloc: Global,
+    words: &[String],
+    session: &[u8],
+    output: &mut MemSink,
+) -> Result<(), AllocError> {
     let mut input = MemSource::new(session.to_vec(alloc)?, 4096, Vec::new(alloc));
-    let mut output = sink(alloc)?;
+    let _status = run_plain(alloc, words, &mut input, output);
+    Ok(())
+}
+
+/// Writes the transcript of a recorded session.
+pub(crate) fn replay(
+    alloc: Global,
+    session: &[u8],
+    output: &mut MemSink,
+) -> Result<(), AllocError> {
     let words = words(alloc, "replay")?;
-    let _status = run_plain(alloc, &words, &mut input, &mut output);
-    output.held().to_vec(alloc)
+    play(alloc, &words, session, output)
 }
 
 /// The line of a transcript that says what the first peer was told: these bytes.

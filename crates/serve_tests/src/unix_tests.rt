@@ -1,15 +1,18 @@
 //! The server over Unix sockets.
 use crate::gates::Open;
-use crate::links::{replayed, sink, told_line, words};
+use crate::links::{replay, sink, told_line, words};
 use link_jobs::LinkJob;
 use serve_run::{ServeStatus, run_serve};
 use std::alloc::{AllocError, Global};
+use std::fs::Files;
 use std::io::{Read, Write};
 use std::net::{Net, Shutdown};
 use std::os::unix::fs::PermissionsExt;
 use std::os::unix::net::UnixStream;
-use std::sync::Arc;
+use std::process::Abort;
+use std::sync::{Arc, Wait};
 use std::test::Fail;
+use std::thread::Threads;
 use std::{fs, io, thread};
 use unix_links::{ThreadSpawner, UnixNet, UnixSink, UnixSource, begin_job};
 use wio_core::MemSink;
@@ -42,12 +45,129 @@ fn talk<R: Net>(rt: &R, alloc: Global, path: &str, bytes: &[u8]) -> io::Result<V
     Ok(answer)
 }
 
-// The three clients, one after the other.
-fn clients<R: Net>(rt: &R, alloc: Global) -> io::Result<(Vec<u8>, Vec<u8>, Vec<u8>)> {
+// Serves at Unix sockets by the words.
+fn serve_words<R: Threads + Wait + Files + Net + Copy + Send + Sync + 'static>(
+    rt: R,
+    alloc: Global,
+    words: &[String],
+    net: &mut UnixNet<R>,
+    gate: &Arc<Open, Global>,
+    output: &mut MemSink,
+) -> ServeStatus {
+    let mut spawner = ThreadSpawner::new(rt, alloc, move |job: UnixJob| begin_job(rt, alloc, job));
+    run_serve(&rt, alloc, words, net, &mut spawner, gate, output)
+}
+
+fn serve_line<R: Threads + Wait + Files + Net + Copy + Send + Sync + 'static>(
+    rt: R,
+    alloc: Global,
+    line: &str,
+    net: &mut UnixNet<R>,
+    gate: &Arc<Open, Global>,
+    output: &mut MemSink,
+) -> Result<ServeStatus, AllocError> {
+    let words = words(alloc, line)?;
+    Ok(serve_words(rt, alloc, &words, net, gate, output))
+}
+
+// Serves at Unix sockets by the words of the line, and holds nobody.
+fn serve<R: Threads + Wait + Files + Net + Copy + Send + Sync + 'static>(
+    rt: R,
+    alloc: Global,
+    line: &str,
+    net: &mut UnixNet<R>,
+    output: &mut MemSink,
+) -> Result<ServeStatus, AllocError> {
+    let gate = Arc::new(alloc, Open)?;
+    serve_line(rt, alloc, line, net, &gate, output)
+}
+
+// How many bytes come back.
+fn count_answer<R: Net>(rt: &R, alloc: Global, path: &str, bytes: &[u8]) -> io::Result<usize> {
+    Ok(talk(rt, alloc, path, bytes)?.len())
+}
+
+// Whether the shell is answered so.
+fn shell_is_told<R: Net>(rt: &R, alloc: Global, lines: &[u8], wanted: &[u8]) -> io::Result<bool> {
+    let answer = talk(rt, alloc, "serve_shell.sock", lines)?;
+    Ok(answer.as_slice() == wanted)
+}
+
+/// What three clients got, one after the other.
+#[derive(Drop)]
+struct Answers {
+    app: Vec<u8>,
+    method: usize,
+    shell: bool,
+}
+
+fn clients<R: Net>(rt: &R, alloc: Global) -> io::Result<Answers> {
     let app = talk(rt, alloc, "serve_app.sock", &REGISTRY)?;
-    let method = talk(rt, alloc, "serve_method.sock", &REGISTRY)?;
-    let shell = talk(rt, alloc, "serve_shell.sock", b"key 5 30 1\nscreen 10 10\n")?;
-    Ok((app, method, shell))
+    let method = count_answer(rt, alloc, "serve_method.sock", &REGISTRY)?;
+    let lines = b"key 5 30 1\nscreen 10 10\n";
+    let shell = shell_is_told(rt, alloc, lines, b"9 pass\n10\n")?;
+    Ok(Answers { app, method, shell })
+}
+
+const THREE_DOORS: &str =
+    "serve --app serve_app.sock --method serve_method.sock --shell serve_shell.sock --order ams";
+
+// A socket file that nobody listens at.
+fn leave_a_file<R: Files + Net>(rt: &R) -> io::Result<()> {
+    let stale = std::os::unix::net::UnixListener::bind(rt, "serve_app.sock")?;
+    drop(stale);
+    Ok(())
+}
+
+fn are_served<R: Abort>(rt: &R, status: ServeStatus, answers: &Answers) {
+    assert_eq!(rt; status, ServeStatus::Ok);
+    assert_eq!(rt; answers.app.len(), 116);
+    assert!(rt; answers.method > 4);
+    assert!(rt; answers.shell);
+}
+
+fn is_private<R: Abort + Files>(rt: &R) -> io::Result<()> {
+    let mode = fs::metadata(rt, "serve_app.sock")?.permissions().mode();
+    assert_eq!(rt; mode & 0o777, 0o600);
+    Ok(())
+}
+
+fn are_gone<R: Abort + Files>(rt: &R) {
+    assert!(rt; fs::metadata(rt, "serve_app.sock").is_err());
+    assert!(rt; fs::metadata(rt, "serve_shell.sock").is_err());
+}
+
+const PARTS: [&str; 10] = [
+    "session 2 1000000 65536 134217728\n",
+    " join app\n",
+    " bytes 1 0100000001000c0002000000\n",
+    " gone 1\n",
+    " join method\n",
+    " bytes 2 0100000001000c0002000000\n",
+    " gone 2\n",
+    " key 5 30 1\n",
+    " screen 10 10\n",
+    "\nend\n",
+];
+
+// The session has all parts.
+fn has_parts<R: Abort>(rt: &R, session: &[u8]) {
+    let text = std::str::from_utf8(session).ok().expect(rt, "text");
+    for &part in &PARTS {
+        assert!(rt; text.contains(part), "{part}");
+    }
+}
+
+// The session replays to what the application got.
+fn tells_app<R: Abort>(rt: &R, alloc: Global, session: &[u8], app: &[u8]) -> Result<(), Fail> {
+    let told = told_line(alloc, app.get(4..).unwrap_or(&[]))?;
+    let mut transcript = sink(alloc, &[])?;
+    replay(alloc, session, &mut transcript)?;
+    let text = std::str::from_utf8(transcript.held())
+        .ok()
+        .expect(rt, "text");
+    assert!(rt; text.contains(told.as_str()));
+    Ok(())
 }
 
 // Three doors, each at its own path: an application's, a method's and a shell's bytes go over real
@@ -56,56 +176,18 @@ fn clients<R: Net>(rt: &R, alloc: Global) -> io::Result<(Vec<u8>, Vec<u8>, Vec<u
 #[test]
 fn three_doors(rt: HostRuntime) -> Result<(), Fail> {
     let alloc = rt.alloc();
-    let stale = std::os::unix::net::UnixListener::bind(&rt, "serve_app.sock")?;
-    drop(stale);
+    leave_a_file(&rt)?;
     let mut net = UnixNet::new(rt, alloc);
-    let gate = Arc::new(alloc, Open)?;
-    let mut spawner = ThreadSpawner::new(rt, alloc, move |job: UnixJob| begin_job(rt, alloc, job));
-    let mut output = sink(alloc)?;
-    let words = words(
-        alloc,
-        "serve --app serve_app.sock --method serve_method.sock --shell serve_shell.sock --order ams",
-    )?;
+    let mut output = sink(alloc, &[])?;
     let talking = thread::spawn(&rt, move || clients(&rt, alloc))?;
-    let status = run_serve(
-        &rt,
-        alloc,
-        &words,
-        &mut net,
-        &mut spawner,
-        &gate,
-        &mut output,
-    );
-    let (app, method, shell) = talking.join(&rt)?;
-    assert_eq!(rt; status, ServeStatus::Ok);
-    assert_eq!(rt; app.len(), 116);
-    assert!(rt; method.len() > 4);
-    assert_eq!(rt; std::str::from_utf8(&shell).ok(), Some("9 pass\n10\n"));
-    let mode = fs::metadata(&rt, "serve_app.sock")?.permissions().mode();
-    assert_eq!(rt; mode & 0o777, 0o600);
+    let status = serve(rt, alloc, THREE_DOORS, &mut net, &mut output)?;
+    let answers = talking.join(&rt)?;
+    are_served(&rt, status, &answers);
+    is_private(&rt)?;
     drop(net);
-    assert!(rt; fs::metadata(&rt, "serve_app.sock").is_err());
-    assert!(rt; fs::metadata(&rt, "serve_shell.sock").is_err());
-    let text = std::str::from_utf8(output.held()).ok().expect(&rt, "text");
-    for part in [
-        "session 2 1000000 65536 134217728\n",
-        " join app\n",
-        " bytes 1 0100000001000c0002000000\n",
-        " gone 1\n",
-        " join method\n",
-        " bytes 2 0100000001000c0002000000\n",
-        " gone 2\n",
-        " key 5 30 1\n",
-        " screen 10 10\n",
-        "\nend\n",
-    ] {
-        assert!(rt; text.contains(part));
-    }
-    let transcript = replayed(alloc, output.held())?;
-    let transcript = std::str::from_utf8(&transcript).ok().expect(&rt, "text");
-    let told = told_line(alloc, app.get(4..).unwrap_or(&[]))?;
-    assert!(rt; transcript.contains(told.as_str()));
-    Ok(())
+    are_gone(&rt);
+    has_parts(&rt, output.held());
+    tells_app(&rt, alloc, output.held(), &answers.app)
 }
 
 // A door that can't be opened: nothing is accepted, and the session is written.
@@ -113,22 +195,9 @@ fn three_doors(rt: HostRuntime) -> Result<(), Fail> {
 fn a_listen_fails(rt: HostRuntime) -> Result<(), Fail> {
     let alloc = rt.alloc();
     let mut net = UnixNet::new(rt, alloc);
-    let gate = Arc::new(alloc, Open)?;
-    let mut spawner = ThreadSpawner::new(rt, alloc, move |job: UnixJob| begin_job(rt, alloc, job));
-    let mut output = sink(alloc)?;
-    let words = words(
-        alloc,
-        "serve --app no_such_folder/app.sock --method m.sock --shell s.sock --order a",
-    )?;
-    let status = run_serve(
-        &rt,
-        alloc,
-        &words,
-        &mut net,
-        &mut spawner,
-        &gate,
-        &mut output,
-    );
+    let mut output = sink(alloc, &[])?;
+    let line = "serve --app no_such_folder/app.sock --method m.sock --shell s.sock --order a";
+    let status = serve(rt, alloc, line, &mut net, &mut output)?;
     assert_eq!(rt; status, ServeStatus::NetFault);
     assert_eq!(rt;
         std::str::from_utf8(output.held()).ok(),
@@ -149,7 +218,7 @@ fn syncs(alloc: Global) -> Result<Vec<u8>, AllocError> {
 
 // An application that sends 12,000 messages, or as many as the server takes of it before it hangs up,
 // and never reads, and a shell that is served meanwhile.
-fn deaf_client<R: Net>(rt: &R, alloc: Global) -> io::Result<Vec<u8>> {
+fn deaf_client<R: Net>(rt: &R, alloc: Global) -> io::Result<usize> {
     let mut deaf = connect(rt, "deaf_app.sock")?;
     let frame = syncs(alloc)?;
     for _ in 0..40 {
@@ -157,38 +226,25 @@ fn deaf_client<R: Net>(rt: &R, alloc: Global) -> io::Result<Vec<u8>> {
             break;
         }
     }
-    let answer = talk(rt, alloc, "deaf_shell.sock", b"key 5 30 1\n")?;
+    let count = count_answer(rt, alloc, "deaf_shell.sock", b"key 5 30 1\n")?;
     drop(deaf);
-    Ok(answer)
+    Ok(count)
 }
+
+const DEAF: &str =
+    "serve --app deaf_app.sock --method deaf_m.sock --shell deaf_shell.sock --order as --store 1000";
 
 // A peer that never reads is ended when its store is full, which no `gone` says, and holds up nobody.
 #[test]
 fn a_peer_never_reads(rt: HostRuntime) -> Result<(), Fail> {
     let alloc = rt.alloc();
     let mut net = UnixNet::new(rt, alloc);
-    let gate = Arc::new(alloc, Open)?;
-    let mut spawner = ThreadSpawner::new(rt, alloc, move |job: UnixJob| begin_job(rt, alloc, job));
-    let Ok(mut output) = MemSink::new(alloc, 4_194_304, Vec::new(alloc)) else {
-        return Err(AllocError.into());
-    };
-    let words = words(
-        alloc,
-        "serve --app deaf_app.sock --method deaf_m.sock --shell deaf_shell.sock --order as --store 1000",
-    )?;
+    let mut output = MemSink::new(alloc, 4_194_304, Vec::new(alloc))?;
     let talking = thread::spawn(&rt, move || deaf_client(&rt, alloc))?;
-    let status = run_serve(
-        &rt,
-        alloc,
-        &words,
-        &mut net,
-        &mut spawner,
-        &gate,
-        &mut output,
-    );
+    let status = serve(rt, alloc, DEAF, &mut net, &mut output)?;
     let shell = talking.join(&rt)?;
     assert_eq!(rt; status, ServeStatus::Ok);
-    assert!(rt; shell.len() > 6);
+    assert!(rt; shell > 6);
     let text = std::str::from_utf8(output.held()).ok().expect(&rt, "text");
     assert!(rt; text.contains(" key 5 30 1\n"));
     assert!(rt; !text.contains(" gone 1\n"));
