@@ -3,6 +3,7 @@
 
   tools/gate_cost.py [CRATE ..]             runs `rt ci --anew` and prints, for each crate, what its proof, its
                                             tests and its must-fail edits cost, from nothing
+  tools/gate_cost.py --kept [CRATE ..]      the same of what no earlier run on this machine kept, for a gate in parts
   tools/gate_cost.py --functions CRATE ..   proves each crate anew, function by function, and prints the dearest ten
 
 The first looks at the prover's processes while the gate runs, so a process that lives for less than a fifth of a
@@ -156,7 +157,8 @@ def main(words):
         for crate in words[1:]:
             functions(crate, stands_on)
         return 0
-    status, seen = watch(["rt", "ci", "--anew", *words])
+    command = ["rt", "ci", *words[1:]] if words[:1] == ["--kept"] else ["rt", "ci", "--anew", *words]
+    status, seen = watch(command)
     print(table(seen))
     used = resource.getrusage(resource.RUSAGE_CHILDREN)
     print(f"all that ran: {(used.ru_utime + used.ru_stime) / 60:.1f} minutes of processor time")
