@@ -6,6 +6,10 @@
 cd "$(dirname "$0")/.." || exit 1
 program=$1
 failed=0
+if [ -n "$program" ] && [ ! -x "$program" ]; then
+    echo "$program isn't built: make build"
+    exit 1
+fi
 
 run() {
     if [ -n "$program" ]; then "$program" "$1" < "$2"; else (cd crates/wlim && rt try -- "$1" < "../../$2" 2> /dev/null); fi

@@ -2,13 +2,16 @@
 """What the gate costs, in minutes of processor time.
 
   tools/gate_cost.py [CRATE ..]             runs `rt ci --anew` and prints, for each crate, what its proof, its
-                                            tests and its must-fail edits cost, from nothing
+                                            tests and its must-fail edits cost, from nothing, then the dearest
+                                            functions (each with its share of the first check of its crate's edits),
+                                            and the edits over half a minute
   tools/gate_cost.py --kept [CRATE ..]      the same of what no earlier run on this machine kept, for a gate in parts
   tools/gate_cost.py --functions CRATE ..   proves each crate anew, function by function, and prints the dearest ten
 
 The first looks at the prover's processes while the gate runs, so a process that lives for less than a fifth of a
 second is missed; the last line has the exact sum of all that ran. Run it on an idle machine.
 """
+import glob
 import os
 import re
 import resource
@@ -59,10 +62,27 @@ def kind_of(words, folder):
     return "tests" if "--test" in words else "proof"
 
 
+def edit_of(folder, crate):
+    """Which edit of the crate was applied in the folder; none in that of the first check before its edits."""
+    base = f"crates/{crate}/must-fail"
+    for name in sorted(os.listdir(base)) if os.path.isdir(base) else []:
+        try:
+            with open(f"{base}/{name}") as file:
+                words = re.findall(r"^(file|new): ?(.*)$", file.read(), re.M)
+            path = next(value for word, value in words if word == "file")
+            with open(f"crates/{crate}/{path}") as file, open(f"{folder}/{path}") as edited:
+                before, after = file.read(), edited.read()
+        except (OSError, StopIteration):
+            continue
+        if before != after and all(value in after for word, value in words if word == "new"):
+            return name
+    return ""
+
+
 def watch(command):
-    """Runs the command; what each prover process below it cost, by crate and kind."""
+    """Runs the command; what each prover process below it cost, by crate, kind and edit."""
     gate = subprocess.Popen(command)
-    seen = {}
+    seen, names, functions_of, looked = {}, {}, {}, 0.0
     while gate.poll() is None:
         for key, parent, words, folder, seconds in processes():
             if "--crate-name" not in words:
@@ -70,19 +90,64 @@ def watch(command):
             if key not in seen and not descends(parent, gate.pid):
                 continue
             crate = words[words.index("--crate-name") + 1]
-            seen[key] = (crate, kind_of(words, folder), folder, seconds)
+            kind = kind_of(words, folder)
+            if key not in names:
+                names[key] = edit_of(folder, crate) if kind == "edits" else ""
+            seen[key] = (crate, kind, folder, seconds, names[key])
+        if time.monotonic() - looked > 10:
+            look_at_seeds(gate.pid, functions_of)
+            looked = time.monotonic()
         time.sleep(INTERVAL)
-    return gate.returncode, seen.values()
+    return gate.returncode, seen.values(), functions_of
+
+
+def look_at_seeds(gate, functions_of):
+    """Notes for each crate when each module of its edits' first check was finished."""
+    for seed in glob.glob(f"/tmp/rt-edits-{gate}-*/seed"):
+        found = []
+        try:
+            for at, _, names in os.walk(seed):
+                found += [(os.lstat(f"{at}/{it}").st_mtime, it) for it in names if it.endswith(".oantt")]
+        except OSError:
+            continue
+        own = [it for it in sorted(found) if re.match(r"Rattle-\w+[-.]", it[1])]
+        if own:
+            crate = re.match(r"Rattle-(\w+)[-.]", own[-1][1]).group(1)
+            if len(own) > len(functions_of.get(crate, [])):
+                functions_of[crate] = own
+
+
+# What the prover makes of one function: the modules behind its name.
+PARTS = re.compile(r"\.(Code|Lts|Tie|Symbol|Goals|Proof|Proved|Answers|Arms|Mir)\b.*")
+
+
+def dearest_functions(functions_of, number=20):
+    """The functions that took most of the first checks, in seconds by the clock."""
+    costs = {}
+    for crate, modules in functions_of.items():
+        for (before, _), (now, name) in zip(modules, modules[1:]):
+            path = re.match(rf"Rattle-{crate}[-.](?:proofs\.)?(.*?)(\.decls)?\.oantt", name)
+            if path:
+                key = f"{crate}: {PARTS.sub('', path.group(1))}"
+                costs[key] = costs.get(key, 0.0) + now - before
+    top = sorted(costs.items(), key=lambda item: -item[1])[:number]
+    return [f"{seconds:8.1f}  {name}" for name, seconds in top]
+
+
+def dear_edits(seen):
+    """The edits that cost more than half a minute."""
+    dear = [(seconds, crate, name) for crate, _, _, seconds, name in seen if name and seconds > 30]
+    return [f"{seconds:8.1f}  {crate}: {name}" for seconds, crate, name in sorted(dear, reverse=True)]
 
 
 def table(seen):
     costs = {}
-    edits = set()
-    for crate, kind, folder, seconds in seen:
+    edits = {}
+    for crate, kind, _, seconds, name in seen:
         row = costs.setdefault(crate, {"proof": 0.0, "tests": 0.0, "edits": 0.0, "number": 0})
         row[kind] += seconds / 60
-        if kind == "edits" and folder not in edits:
-            edits.add(folder)
+        if kind == "edits" and name and name not in edits.setdefault(crate, set()):
+            edits[crate].add(name)
             row["number"] += 1
     lines = ["| crate | proof | tests | edits | edits tried | sum |", "|---|---|---|---|---|---|"]
     total = {"proof": 0.0, "tests": 0.0, "edits": 0.0, "number": 0}
@@ -158,8 +223,12 @@ def main(words):
             functions(crate, stands_on)
         return 0
     command = ["rt", "ci", *words[1:]] if words[:1] == ["--kept"] else ["rt", "ci", "--anew", *words]
-    status, seen = watch(command)
+    status, seen, functions_of = watch(command)
     print(table(seen))
+    print("the dearest functions of crates with edits, in seconds by the clock")
+    print(*dearest_functions(functions_of), sep="\n")
+    print("edits over half a minute, in seconds of processor time")
+    print(*dear_edits(seen), sep="\n")
     used = resource.getrusage(resource.RUSAGE_CHILDREN)
     print(f"all that ran: {(used.ru_utime + used.ru_stime) / 60:.1f} minutes of processor time")
     return status

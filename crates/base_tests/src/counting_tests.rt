@@ -1,23 +1,24 @@
+use crate::equal::equal;
 use serial_count::{Count32, Since};
 
 #[test]
 fn counts_round(rt: HostRuntime) {
     let mut count = Count32::at(4294967294);
     count.next();
-    assert_eq!(rt; count.get(), 4294967295);
+    equal(&rt, count.get(), 4294967295);
     count.next();
-    assert_eq!(rt; count, Count32::at(0));
+    equal(&rt, count, Count32::at(0));
 }
 
 #[test]
 fn stays_at_the_limit(rt: HostRuntime) {
     let mut since = Since::at(4294967295);
     since.next();
-    assert_eq!(rt; since.get(), 4294967296);
+    equal(&rt, since.get(), 4294967296);
     since.next();
-    assert_eq!(rt; since, Since::at(18446744073709551615));
+    equal(&rt, since, Since::at(18446744073709551615));
     since.begin();
-    assert_eq!(rt; since.get(), 1);
+    equal(&rt, since.get(), 1);
     since.next();
-    assert_eq!(rt; since.get(), 2);
+    equal(&rt, since.get(), 2);
 }

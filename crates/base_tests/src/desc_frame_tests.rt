@@ -1,6 +1,7 @@
 // What no clause tells: frames as they stand in a file, and that sources and sinks of the kit's own kind serve.
 ghost use Rattle.std.specs.Prelude.{◌<◌};
 
+use crate::equal::{equal, equal_at};
 use desc_frame::{FrameReader, FrameWriter, Got};
 use std::alloc::{AllocError, Global};
 use std::process::Abort;
@@ -50,7 +51,7 @@ fn cut_frames_are_torn_where_they_end(rt: HostRuntime) -> Result<(), Fail> {
     for chunk in [1, 2, 3, 5] {
         for count in 0..17 {
             let answers = first_answers(rt.alloc(), &FRAME[..count], chunk)?;
-            assert_eq!(rt; answers, cut_answers(count), "{count} bytes");
+            equal_at(&rt, &count, answers, cut_answers(count));
         }
     }
     Ok(())
@@ -61,7 +62,7 @@ fn what_is_no_frame_stays_none(rt: HostRuntime) -> Result<(), Fail> {
     for chunk in [1, 2, 3, 5] {
         for (bytes, want) in &NO_FRAMES {
             let answers = first_answers(rt.alloc(), bytes, chunk)?;
-            assert_eq!(rt; answers, (*want, *want), "{bytes:?}");
+            equal_at(&rt, &bytes, answers, (*want, *want));
         }
     }
     Ok(())
@@ -77,10 +78,10 @@ fn put_one_token(sink: &mut MemSink) -> Result<(), Failed> {
 
 // A group with two tokens is written, and one that has no room is not.
 fn written(rt: &impl Abort, sink: &mut MemSink) {
-    assert_eq!(rt; put_two_tokens(sink), Ok(()));
-    assert_eq!(rt; sink.held(), WITH_TOKENS.as_slice());
-    assert_eq!(rt; put_one_token(sink), Err(Failed));
-    assert_eq!(rt; sink.held(), WITH_TOKENS.as_slice());
+    equal(rt, put_two_tokens(sink), Ok(()));
+    equal(rt, sink.held(), WITH_TOKENS.as_slice());
+    equal(rt, put_one_token(sink), Err(Failed));
+    equal(rt, sink.held(), WITH_TOKENS.as_slice());
 }
 
 #[test]
@@ -95,9 +96,9 @@ fn read(rt: &impl Abort, source: &mut MemSource) {
     let mut bytes = [0; 4096];
     let mut tokens = [0; 256];
     let got = FrameReader::new().next(source, &mut bytes, &mut tokens);
-    assert_eq!(rt; got, Got::Bytes(2, 2));
-    assert_eq!(rt; bytes[..2], b"ab"[..]);
-    assert_eq!(rt; tokens[..2], [7, 0x0102_0304][..]);
+    equal(rt, got, Got::Bytes(2, 2));
+    equal(rt, &bytes[..2], &b"ab"[..]);
+    equal(rt, &tokens[..2], &[7, 0x0102_0304][..]);
 }
 
 #[test]
@@ -119,7 +120,7 @@ fn failed_at(alloc: Global, call: u64) -> Result<Got, AllocError> {
 #[test]
 fn a_failed_read_is_a_fault(rt: HostRuntime) -> Result<(), Fail> {
     for call in 1..4 {
-        assert_eq!(rt; failed_at(rt.alloc(), call)?, Got::ReadFault, "call {call}");
+        equal_at(&rt, &call, failed_at(rt.alloc(), call)?, Got::ReadFault);
     }
     Ok(())
 }

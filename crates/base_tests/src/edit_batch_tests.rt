@@ -1,3 +1,4 @@
+use crate::equal::equal;
 use edit_batch::{Edits, Pending};
 use std::process::Abort;
 use std::test::Fail;
@@ -30,7 +31,7 @@ const STRING_ALONE: Edits<'static> = Edits {
 };
 
 fn holds(rt: &impl Abort, pending: &Pending, want: &Edits<'_>) {
-    assert_eq!(rt; pending.edits(), *want);
+    equal(rt, pending.edits(), *want);
 }
 
 // Twice each kind.

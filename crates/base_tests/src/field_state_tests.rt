@@ -1,3 +1,4 @@
+use crate::equal::equal;
 use field_state::{Field, SURROUNDING_LIMIT, Taken};
 use popup_place::Rect;
 use std::alloc::Global;
@@ -59,10 +60,10 @@ fn shows(
     content: (u32, u32),
     rect: Option<Rect>,
 ) {
-    assert_eq!(rt; field.surrounding(), surrounding);
-    assert_eq!(rt; field.cause(), cause);
-    assert_eq!(rt; field.content(), content);
-    assert_eq!(rt; field.rect(), rect);
+    equal(rt, field.surrounding(), surrounding);
+    equal(rt, field.cause(), cause);
+    equal(rt, field.content(), content);
+    equal(rt, field.rect(), rect);
 }
 
 fn take(rt: &impl Abort, field: &mut Field, step: Step) {
@@ -72,12 +73,12 @@ fn take(rt: &impl Abort, field: &mut Field, step: Step) {
         Step::Enable => field.enable(),
         Step::Disable => field.disable(),
         Step::Surround(text, cursor, anchor, has_effect) => {
-            assert_eq!(rt; surround(field, text, cursor, anchor), Some(has_effect));
+            equal(rt, surround(field, text, cursor, anchor), Some(has_effect));
         }
         Step::Cause(cause) => field.set_cause(cause),
         Step::Content(hint, purpose) => field.set_content(hint, purpose),
-        Step::Rectangle(rect, has_effect) => assert_eq!(rt; field.set_rect(rect), has_effect),
-        Step::Commit(taken) => assert_eq!(rt; field.commit(), taken),
+        Step::Rectangle(rect, has_effect) => equal(rt, field.set_rect(rect), has_effect),
+        Step::Commit(taken) => equal(rt, field.commit(), taken),
         Step::Displace => field.displace(),
         Step::Shows(surrounding, cause, content, rect) => shows(
             rt,
@@ -87,7 +88,7 @@ fn take(rt: &impl Abort, field: &mut Field, step: Step) {
             content,
             rect,
         ),
-        Step::Count(count) => assert_eq!(rt; field.count(), count),
+        Step::Count(count) => equal(rt, field.count(), count),
     }
 }
 

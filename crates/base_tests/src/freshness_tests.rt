@@ -1,3 +1,4 @@
+use crate::equal::equal_at;
 use serial_count::{Count32, Since, fresh};
 
 /// The count of dones, the dones of the activation, a serial, and whether it is fresh.
@@ -24,6 +25,6 @@ const ROWS: [(u32, u64, u32, bool); 11] = [
 fn tells_fresh_serials(rt: HostRuntime) {
     for (count, since, serial, want) in &ROWS {
         let answer = fresh(Count32::at(*count), Since::at(*since), *serial);
-        assert_eq!(rt; answer, *want, "serial {serial} at {count} and {since}");
+        equal_at(&rt, &(serial, count, since), answer, *want);
     }
 }

@@ -1,3 +1,4 @@
+use crate::equal::{equal, equal_at};
 use kbd_grab::{Grab, Keymap, Mods, Repeat, Route};
 use std::process::Abort;
 use std::test::Fail;
@@ -5,7 +6,7 @@ use std::test::Fail;
 // Presses or releases these keys in turn, and compares where each goes.
 fn turn_all(rt: &impl Abort, grab: &mut Grab, rows: &[(u32, bool, Route)]) {
     for (key, pressed, route) in rows {
-        assert_eq!(rt; grab.key(*key, *pressed), *route, "key {key}");
+        equal_at(rt, &key, grab.key(*key, *pressed), *route);
     }
 }
 
@@ -24,7 +25,7 @@ const WHERE_64_ARE_DOWN: [(u32, bool, Route); 6] = [
 fn refuses_the_65th_key(rt: HostRuntime) -> Result<(), Fail> {
     let mut grab = Grab::new(rt.alloc())?;
     for key in 0..64 {
-        assert_eq!(rt; grab.key(key, true), Route::Pass, "key {key}");
+        equal_at(&rt, &key, grab.key(key, true), Route::Pass);
     }
     turn_all(&rt, &mut grab, &WHERE_64_ARE_DOWN);
     Ok(())
@@ -55,7 +56,7 @@ fn keys_follow_their_first_press(rt: HostRuntime) -> Result<(), Fail> {
     turn_all(&rt, &mut grab, &BEFORE_A_GRAB);
     grab.fall();
     grab.stand(5);
-    assert_eq!(rt; grab.standing(), Some(5));
+    equal(&rt, grab.standing(), Some(5));
     turn_all(&rt, &mut grab, &UNDER_THE_FIRST);
     grab.fall();
     grab.stand(9);
@@ -86,9 +87,9 @@ fn keeps(rt: &impl Abort, grab: &mut Grab) {
     grab.keymap(MAP);
     grab.repeat(REPEAT);
     grab.mods(MODS);
-    assert_eq!(rt; grab.last_keymap(), Some(MAP));
-    assert_eq!(rt; grab.last_repeat(), Some(REPEAT));
-    assert_eq!(rt; grab.last_mods(), Some(MODS));
+    equal(rt, grab.last_keymap(), Some(MAP));
+    equal(rt, grab.last_repeat(), Some(REPEAT));
+    equal(rt, grab.last_mods(), Some(MODS));
 }
 
 #[test]

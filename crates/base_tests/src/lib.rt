@@ -9,6 +9,8 @@ mod desc_frame_tests;
 #[cfg(test)]
 mod edit_batch_tests;
 #[cfg(test)]
+mod equal;
+#[cfg(test)]
 mod field_state_tests;
 #[cfg(test)]
 mod freshness_tests;

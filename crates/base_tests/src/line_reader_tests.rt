@@ -1,6 +1,7 @@
 // The answers of a reader of lines over sources in memory.
 ghost use Rattle.std.specs.Prelude.{◌≡◌, ◌≢◌, Some};
 
+use crate::equal::equal;
 use std::alloc::{AllocError, Global};
 use std::test::Fail;
 use wio_core::{LineReader, LineStop, MemSource, NextLine};
@@ -55,7 +56,7 @@ const TOLD: [(u64, Option<u64>, &[u8]); 3] = [
 fn lines_come_whole_from_pieces(rt: HostRuntime) -> Result<(), Fail> {
     for (fails, limit, want) in &TOLD {
         let told = told_of(rt.alloc(), TEXT.to_vec(rt.alloc())?, *fails, *limit)?;
-        assert_eq!(rt; told.as_slice(), *want);
+        equal(&rt, told.as_slice(), *want);
     }
     Ok(())
 }
@@ -66,7 +67,7 @@ fn a_line_has_at_most_8400_bytes(rt: HostRuntime) -> Result<(), Fail> {
         let mut bytes = vec![in rt.alloc(); b'a'; length]?;
         bytes.push(b'\n')?;
         let told = told_of(rt.alloc(), bytes, 0, None)?;
-        assert_eq!(rt; told.len(), want);
+        equal(&rt, told.len(), want);
     }
     Ok(())
 }

@@ -1,4 +1,5 @@
 // What no clause tells: that memory is found, and that a store is used as its callers use it.
+use crate::equal::equal;
 use out_store::Store;
 use std::process::Abort;
 use std::test::Fail;
@@ -16,13 +17,14 @@ fn whole_or_not(rt: &impl Abort, store: &mut Store) {
     let mut buf = [0; 8];
     assert!(rt; put(store, b"abc"));
     assert!(rt; !put(store, b"de"));
-    assert_eq!(rt; take(store, &mut buf), (3, 0));
-    assert_eq!(rt; buf, *b"abc\0\0\0\0\0");
+    equal(rt, take(store, &mut buf), (3, 0));
+    equal(rt, buf, *b"abc\0\0\0\0\0");
     assert!(rt; put(store, b"de"));
     assert!(rt; put(store, b"fg"));
-    assert_eq!(rt;
+    equal(
+        rt,
         (store.len(), store.capacity(), store.is_empty()),
-        (4, 4, false)
+        (4, 4, false),
     );
 }
 
@@ -46,8 +48,8 @@ const TAKEN: [(usize, usize, [u32; 2]); 6] = [
 fn take_all(rt: &impl Abort, store: &mut Store) {
     for (bytes, count, want) in &TAKEN {
         let mut tokens = [0; 256];
-        assert_eq!(rt; store.take(&mut [0; 17], &mut tokens), (*bytes, *count));
-        assert_eq!(rt; [tokens[0], tokens[1]], *want);
+        equal(rt, store.take(&mut [0; 17], &mut tokens), (*bytes, *count));
+        equal(rt, [tokens[0], tokens[1]], *want);
     }
     assert!(rt; store.is_empty());
 }

@@ -1,3 +1,4 @@
+use crate::equal::equal_at;
 use popup_place::{Placed, Rect, Size, place};
 use std::process::Abort;
 
@@ -117,10 +118,11 @@ fn placed(at: [i64; 2], seen: Rect) -> Placed {
 fn answers(rt: &impl Abort, rows: &[Row]) {
     for (screen, origin, cursor, popup, at, seen) in rows {
         let [x, y] = *origin;
-        assert_eq!(rt;
+        equal_at(
+            rt,
+            &cursor,
             place(size(*screen), (x, y), rect(*cursor), size(*popup)),
             placed(*at, rect(*seen)),
-            "at {cursor:?}"
         );
     }
 }

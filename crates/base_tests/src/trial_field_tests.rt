@@ -2,6 +2,7 @@
 ghost use Rattle.std.specs.Prelude.{◌≡◌, pos};
 ghost use Rattle.trial_field.specs.Log.{IsEdit, IsBatch};
 
+use crate::equal::{equal, equal_at};
 use std::process::Abort;
 use std::test::Fail;
 use trial_field::{BatchView, Edit, MAX_TEXT, TrialField, character_laws, leave_law};
@@ -17,9 +18,9 @@ fn row(
 )
     requires { IsEdit edit }
 {
-    assert_eq!(rt; field.edit(&edit), changes, "at {edit:?}");
-    assert_eq!(rt; field.text(), text, "at {edit:?}");
-    assert_eq!(rt; field.cursor(), cursor, "at {edit:?}");
+    equal_at(rt, &edit, field.edit(&edit), changes);
+    equal_at(rt, &edit, field.text(), text);
+    equal_at(rt, &edit, field.cursor(), cursor);
 }
 
 #[test]
@@ -49,9 +50,9 @@ fn batch_row(
     requires { IsBatch batch }
 {
     field.done(&batch);
-    assert_eq!(rt; field.text(), text, "at {batch:?}");
-    assert_eq!(rt; field.cursor(), cursor, "at {batch:?}");
-    assert_eq!(rt; field.preedit(), preedit, "at {batch:?}");
+    equal_at(rt, &batch, field.text(), text);
+    equal_at(rt, &batch, field.cursor(), cursor);
+    equal_at(rt, &batch, field.preedit(), preedit);
 }
 
 fn batch<'a>(before: u32, after: u32, string: &'a str, preedit: &'a str) -> BatchView<'a>
@@ -85,7 +86,7 @@ fn a_batch_deletes_then_inserts_then_shows(rt: HostRuntime) -> Result<(), Fail> 
     batch_row(&rt, at, batch(3, 0, "abcd", "p"), "abcd", 4, "p");
     row(&rt, at, Edit::Left, true, "abcd", 3);
     row(&rt, at, Edit::Left, true, "abcd", 2);
-    assert_eq!(rt; at.preedit(), "p");
+    equal(&rt, at.preedit(), "p");
     batch_row(&rt, at, batch(1, 1, "y", "q"), "ayd", 2, "q");
     // The range would leave the text at either side.
     batch_row(&rt, at, batch(3, 0, "", "r"), "ayd", 2, "r");
@@ -99,28 +100,28 @@ fn a_full_text_takes_no_more(rt: HostRuntime) -> Result<(), Fail> {
     for _ in 0..4_096 {
         assert!(rt; field.edit(&Edit::Insert("0123456789abcdef")));
     }
-    assert_eq!(rt; field.text().len(), MAX_TEXT);
+    equal(&rt, field.text().len(), MAX_TEXT);
     assert!(rt; !field.edit(&Edit::Insert("a")));
     assert!(rt; field.edit(&Edit::Rub));
     assert!(rt; !field.edit(&Edit::Insert("é")));
-    assert_eq!(rt; field.cursor(), 65_535);
+    equal(&rt, field.cursor(), 65_535);
     assert!(rt; field.edit(&Edit::Insert("a")));
-    assert_eq!(rt; field.text().len(), 65_536);
+    equal(&rt, field.text().len(), 65_536);
     Ok(())
 }
 
 #[test]
 fn a_window_begins_and_ends_between_characters(rt: HostRuntime) -> Result<(), Fail> {
     let mut field = TrialField::new(rt.alloc())?;
-    assert_eq!(rt; field.surround_window(), (0, 0));
+    equal(&rt, field.surround_window(), (0, 0));
     for _ in 0..10_000 {
         assert!(rt; field.edit(&Edit::Insert("€")));
     }
-    assert_eq!(rt; field.surround_window(), (28_002, 30_000));
+    equal(&rt, field.surround_window(), (28_002, 30_000));
     for _ in 0..5_000 {
         assert!(rt; field.edit(&Edit::Left));
     }
-    assert_eq!(rt; field.cursor(), 15_000);
-    assert_eq!(rt; field.surround_window(), (13_002, 17_001));
+    equal(&rt, field.cursor(), 15_000);
+    equal(&rt, field.surround_window(), (13_002, 17_001));
     Ok(())
 }

@@ -1,6 +1,7 @@
 // What no clause tells: that memory is found, and what std's readers and writers move.
 ghost use Rattle.std.specs.Prelude.{◌<◌};
 
+use crate::equal::{equal, equal_at};
 use std::alloc::{AllocError, Global};
 use std::collections::VecDeque;
 use std::io::{self, Cursor, Write};
@@ -47,12 +48,8 @@ fn memory_gives(rt: &impl Abort, alloc: Global, chunk: usize) -> Result<(), Allo
     let bytes = b"input method".to_vec(alloc)?;
     let mut source = MemSource::new(bytes, chunk, [2, 4].to_vec(alloc)?);
     let mut gained = Vec::new(alloc);
-    assert_eq!(rt; drain(&mut source, &mut gained)?, 2, "pieces of {chunk}");
-    assert_eq!(rt;
-        gained.as_slice(),
-        b"input method".as_slice(),
-        "pieces of {chunk}"
-    );
+    equal_at(rt, &chunk, drain(&mut source, &mut gained)?, 2);
+    equal_at(rt, &chunk, gained.as_slice(), b"input method".as_slice());
     Ok(())
 }
 
@@ -75,10 +72,10 @@ const PIECES: [(&[u8], Result<(), Failed>); 5] = [
 // What fits is held.
 fn holds_what_fits(rt: &impl Abort, sink: &mut MemSink) {
     for (piece, want) in &PIECES {
-        assert_eq!(rt; write_all(sink, piece), *want);
+        equal(rt, write_all(sink, piece), *want);
     }
-    assert_eq!(rt; sink.held(), b"abcde".as_slice());
-    assert_eq!(rt; sink.faults(), 2);
+    equal(rt, sink.held(), b"abcde".as_slice());
+    equal(rt, sink.faults(), 2);
 }
 
 #[test]
@@ -92,24 +89,25 @@ fn a_sink_in_memory_holds_what_fits(rt: HostRuntime) -> Result<(), Fail> {
 fn readers_and_writers_of_std_move_the_same_bytes(rt: HostRuntime) -> Result<(), Fail> {
     let mut source = StdSource::new(Cursor::new(b"surface".as_slice()));
     let mut gained = Vec::new(rt.alloc());
-    assert_eq!(rt; drain(&mut source, &mut gained)?, 0);
-    assert_eq!(rt; gained.as_slice(), b"surface".as_slice());
+    equal(&rt, drain(&mut source, &mut gained)?, 0);
+    equal(&rt, gained.as_slice(), b"surface".as_slice());
 
     let mut written = VecDeque::new(rt.alloc());
-    assert_eq!(rt;
+    equal(
+        &rt,
         write_all(&mut StdSink::new(&mut written), b"surface"),
-        Ok(())
+        Ok(()),
     );
     let mut again = StdSource::new(written);
-    assert_eq!(rt; drain(&mut again, &mut gained)?, 0);
-    assert_eq!(rt; gained.as_slice(), b"surfacesurface".as_slice());
+    equal(&rt, drain(&mut again, &mut gained)?, 0);
+    equal(&rt, gained.as_slice(), b"surfacesurface".as_slice());
     Ok(())
 }
 
 #[test]
 fn a_writer_that_takes_nothing_is_a_fault(rt: HostRuntime) {
     let mut sink = StdSink::new(Narrow { room: 5 });
-    assert_eq!(rt; write_all(&mut sink, b"abc"), Ok(()));
-    assert_eq!(rt; write_all(&mut sink, b"def"), Err(Failed));
-    assert_eq!(rt; sink.faults(), 1);
+    equal(&rt, write_all(&mut sink, b"abc"), Ok(()));
+    equal(&rt, write_all(&mut sink, b"def"), Err(Failed));
+    equal(&rt, sink.faults(), 1);
 }

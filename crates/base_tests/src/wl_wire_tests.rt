@@ -1,3 +1,4 @@
+use crate::equal::equal;
 use std::process::Abort;
 use std::test::Fail;
 use wl_wire::{ArgReader, ArgWriter, Assembler, Bytes, Fed, Malformed, Text};
@@ -15,12 +16,12 @@ fn is_text_or_back(rt: &impl Abort, owned: Vec<u8>, bytes: &[u8], is_text: bool)
     match Text::from_bytes(owned) {
         Ok(text) => {
             assert!(rt; is_text, "{bytes:?} is no text");
-            assert_eq!(rt; text.as_bytes(), bytes);
-            assert_eq!(rt; text.is_empty(), bytes.is_empty());
+            equal(rt, text.as_bytes(), bytes);
+            equal(rt, text.is_empty(), bytes.is_empty());
         }
         Err(back) => {
             assert!(rt; !is_text, "{bytes:?} is a text");
-            assert_eq!(rt; back.as_slice(), bytes);
+            equal(rt, back.as_slice(), bytes);
         }
     }
 }
@@ -37,10 +38,10 @@ fn a_text_is_utf8_without_a_zero_byte(rt: HostRuntime) -> Result<(), Fail> {
 fn texts_and_bytes_are_copied(rt: HostRuntime) -> Result<(), Fail> {
     let text = Text::of(rt.alloc(), "ab")?;
     assert!(rt; text.copy(rt.alloc())? == text);
-    assert_eq!(rt; text.as_str(), "ab");
+    equal(&rt, text.as_str(), "ab");
     let bytes = Bytes::new(text.into_bytes());
     assert!(rt; bytes.copy(rt.alloc())? == bytes);
-    assert_eq!(rt; bytes.as_slice(), b"ab".as_slice());
+    equal(&rt, bytes.as_slice(), b"ab".as_slice());
     Ok(())
 }
 
@@ -49,7 +50,7 @@ fn completes(rt: &impl Abort, assembler: &mut Assembler, piece: &[u8], want: (u3
     match assembler.feed(piece) {
         Fed::Whole(used) => {
             let raw = assembler.message();
-            assert_eq!(rt; (raw.id, raw.opcode, used), want);
+            equal(rt, (raw.id, raw.opcode, used), want);
         }
         Fed::Need => assert!(rt; false, "no message"),
         Fed::BadSize(size) => assert!(rt; false, "bad size {size}"),
@@ -63,12 +64,12 @@ const STREAM: [u8; 28] = [
 // The first message byte by byte, and two at once.
 fn come_whole(rt: &impl Abort, assembler: &mut Assembler) {
     for byte in &STREAM[..11] {
-        assert_eq!(rt; assembler.feed(&[*byte]), Fed::Need);
+        equal(rt, assembler.feed(&[*byte]), Fed::Need);
     }
     completes(rt, assembler, &STREAM[11..], (1, 1, 1));
     completes(rt, assembler, &STREAM[12..], (7, 1, 8));
     completes(rt, assembler, &STREAM[20..], (7, 7, 8));
-    assert_eq!(rt; assembler.feed(&[]), Fed::Need);
+    equal(rt, assembler.feed(&[]), Fed::Need);
 }
 
 #[test]
@@ -80,11 +81,11 @@ fn messages_come_whole_however_they_are_cut(rt: HostRuntime) -> Result<(), Fail>
 
 // A header with a bad size, which every later piece is answered by.
 fn stays_bad(rt: &impl Abort, assembler: &mut Assembler, header: &[u8], size: usize) {
-    assert_eq!(rt; assembler.feed(header), Fed::BadSize(size));
+    equal(rt, assembler.feed(header), Fed::BadSize(size));
     match assembler.feed(b"piece") {
         Fed::BadSize(again) => {
-            assert_eq!(rt; again, size);
-            assert_eq!(rt; assembler.head().as_slice(), header);
+            equal(rt, again, size);
+            equal(rt, assembler.head().as_slice(), header);
         }
         _ => assert!(rt; false, "the bad size was forgotten"),
     }
@@ -118,8 +119,8 @@ fn a_string_is_read_as_the_grammar_has_it(rt: HostRuntime) {
     for (body, read, left) in &STRINGS {
         let mut args = ArgReader::new(body);
         assert!(rt; args.string() == *read, "{body:?}");
-        assert_eq!(rt; args.rest.len(), *left);
-        assert_eq!(rt; args.finish().is_ok(), *left == 0);
+        equal(&rt, args.rest.len(), *left);
+        equal(&rt, args.finish().is_ok(), *left == 0);
     }
 }
 
@@ -132,13 +133,13 @@ fn arguments_are_written_with_zero_padding(rt: HostRuntime) {
     args.uint(513);
     args.int(-2);
     args.string("a");
-    assert_eq!(rt; args.finish(), 16);
-    assert_eq!(rt; out, *WRITTEN);
+    equal(&rt, args.finish(), 16);
+    equal(&rt, out, *WRITTEN);
 }
 
 #[test]
 fn arguments_are_read(rt: HostRuntime) {
     let mut args = ArgReader::new(WRITTEN);
-    assert_eq!(rt; args.uint(), Ok(513));
-    assert_eq!(rt; args.int(), Ok(-2));
+    equal(&rt, args.uint(), Ok(513));
+    equal(&rt, args.int(), Ok(-2));
 }

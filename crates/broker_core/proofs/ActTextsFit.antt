@@ -23,7 +23,7 @@ use Rattle.broker_model.specs.Requests.{surround, cause, content, cursor, string
 use Rattle.broker_model.specs.Refusals.{request_fault}
 use Rattle.broker_model.specs.Resolve.{Meaning, label_at, of_request, of_reading, of_message, of_peer, surface_at, on_surface, shell_act, past_of}
 use Rattle.broker_model.specs.Out.{act_at}
-use Rattle.broker_core.proofs.EachElement.{either_way}
+use Rattle.broker_model.proofs.EachElement.{either_way}
 use Rattle.broker_core.proofs.BodyLengths.{IsReadWithin, request_within}
 
 -- the body of a message has at most as many bytes as a message has beside its header

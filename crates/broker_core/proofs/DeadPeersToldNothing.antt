@@ -24,14 +24,14 @@ use Rattle.broker_model.proofs.Peers.{length_log}
 use Rattle.broker_model.proofs.Fields.{other_entry}
 use Rattle.broker_model.proofs.Named.{IsFound, found, IsWith, made_with}
 use Rattle.broker_model.proofs.Sound.{sound}
-use Rattle.broker_core.proofs.EachElement.{each_weaker}
-use Rattle.broker_core.proofs.WhoIsTold.{Hears, IsHeard, owner_lives, all_heard}
+use Rattle.broker_model.proofs.EachElement.{each_weaker}
+use Rattle.broker_core.proofs.WhoIsTold.{Hears, IsHeard, all_heard}
 use Rattle.relay_model.specs.declared.act.Act.{Act}
 use Rattle.relay_model.specs.declared.act.Act.TheVariants as acts
 use Rattle.relay_model.specs.declared.act.EndCause.{EndCause}
 use Rattle.relay_model.specs.Activation.{serving, notice}
 use Rattle.relay_model.proofs.ActivationLaws.{serving_alive}
-use Rattle.broker_model.proofs.Owners.{owned}
+use Rattle.broker_model.proofs.Owners.{owned, owner_lives}
 use Rattle.broker_model.proofs.Settling.{end_cleaned, end_log}
 use Rattle.broker_core.proofs.OnlyEndsTakePeers.{gone_now, peer_kept, peer_new, peer_ended}
 use Rattle.broker_core.proofs.EndedPeersKept.{IsLast}

@@ -18,7 +18,7 @@ use Rattle.broker_core.specs.declared.state.State.{State}
 use Rattle.broker_core.specs.Stands.{IsReady, IsReadyFor, numbered, is_alive, roster}
 use Rattle.broker_core.specs.Watched.{Watched, shown_by, group_put, gathered_put, told_live, out_put, told_of}
 use Rattle.broker_core.proofs.DeadPeersToldNothing.{dead_told}
-use Rattle.broker_core.proofs.EachElement.{all_then}
+use Rattle.broker_model.proofs.EachElement.{all_then}
 use Rattle.broker_core.proofs.GroupRoom.{room_fits, whole}
 use Rattle.broker_core.proofs.GatheredGroup.{IsGathered, gathered_all}
 use Rattle.broker_core.proofs.PopupNumbers.{number_kept}

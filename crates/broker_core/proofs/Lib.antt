@@ -2,7 +2,6 @@ pub mod BodyLengths
 pub mod GatheredGroup
 pub mod PutGroups
 pub mod NewLabels
-pub mod EachElement
 pub mod WhoIsTold
 pub mod DeadPeersToldNothing
 pub mod ToldMessagesFit

@@ -12,7 +12,7 @@ use Rattle.std.proofs.lemmas.Bool.{eq-eqb, ne_eqb}
 use Rattle.seat_audience.proofs.Placing.{key_over}
 use Rattle.broker_core.specs.Stands.{roster}
 use Rattle.broker_core.specs.Watched.{number_at}
-use Rattle.broker_core.proofs.EachElement.{each_weaker}
+use Rattle.broker_model.proofs.EachElement.{each_weaker}
 use Rattle.broker_core.proofs.ReadyForEnd.{place_in_joined}
 use Rattle.broker_core.proofs.RosterAfterEntry.{each_alive}
 

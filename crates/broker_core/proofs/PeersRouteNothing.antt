@@ -22,7 +22,7 @@ use Rattle.broker_model.specs.Refusals.{request_fault}
 use Rattle.broker_model.specs.Resolve.{Meaning, label_at, of_request, of_reading, of_message, of_peer, past_of}
 use Rattle.broker_model.specs.Out.{act_at}
 use Rattle.broker_core.specs.Broker.{peer_entry}
-use Rattle.broker_core.proofs.EachElement.{either_way}
+use Rattle.broker_model.proofs.EachElement.{either_way}
 
 -- the act is no key
 abbrev IsOther : Act → Type 0

@@ -14,8 +14,8 @@ use Rattle.broker_model.proofs.Sound.{sound}
 use Rattle.seat_audience.specs.Lives.{Numbered}
 use Rattle.broker_core.specs.Stands.{numbered, is_alive, roster}
 use Rattle.broker_core.specs.Watched.{number_at, maker}
-use Rattle.broker_core.proofs.EachElement.{each_of}
-use Rattle.broker_core.proofs.WhoIsTold.{owner_lives}
+use Rattle.broker_model.proofs.EachElement.{each_of}
+use Rattle.broker_model.proofs.Owners.{owner_lives}
 use Rattle.broker_core.proofs.LivePeersKept.{all_more}
 use Rattle.relay_model.specs.declared.act.Act.{Act}
 

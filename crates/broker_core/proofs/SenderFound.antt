@@ -20,7 +20,7 @@ use Rattle.seat_audience.specs.declared.live.Live.{Live}
 use Rattle.broker_core.specs.declared.state.State.{State}
 use Rattle.seat_audience.specs.Lives.{number_of, is_number}
 use Rattle.broker_core.specs.Stands.{Stands, IsLive}
-use Rattle.broker_core.proofs.WhoIsTold.{owner_lives}
+use Rattle.broker_model.proofs.Owners.{owner_lives}
 use Rattle.broker_core.proofs.ReadyForEnd.{of_number}
 use Rattle.broker_core.proofs.RosterAfterEntry.{at_number, is_there, each_alive}
 use Rattle.std.specs.List.{slice_get, AllByRecursion}

@@ -18,7 +18,7 @@ use Rattle.relay_model.specs.Keys.{standing, last_keymap, last_repeat, last_mods
 use Rattle.relay_model.specs.Popups.{cursor, ready_surface, told_where, popup_told, each_popup}
 use Rattle.relay_model.specs.Globals.{offered, global_told}
 use Rattle.relay_model.specs.Told.{to, leave, enter, each_entered, leaves, around_said, state_said, holders_state, notice_said, to_method, enters_new, enters, to_holder, deleted, keymap_said, repeat_said, mods_said, keyboard_said, to_grab, own, told_by, key_told, told}
-use Rattle.broker_core.proofs.EachElement.{either_way, each_of, each_append, each_map, each_flat}
+use Rattle.broker_model.proofs.EachElement.{either_way, each_of, each_append, each_map, each_flat}
 use Rattle.relay_model.specs.Idle.{is_live, cleaned, history}
 use Rattle.broker_model.specs.Ids.{Made, made_as}
 use Rattle.broker_model.specs.Groups.{id_of}

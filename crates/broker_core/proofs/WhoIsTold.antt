@@ -3,7 +3,6 @@ use Rattle.std.proofs.Common.{◌≡◌, ℕ, ◌≤◌, List, [], ◌∷◌, le
 use Rattle.std.specs.Prelude.{not, nat_lt, if◌then◌else◌, is_some, filter}
 use Rattle.std.specs.List.{AllByRecursion}
 use Rattle.std.proofs.lemmas.Bool.{eqb-true, cases_lt}
-use Rattle.std.proofs.lemmas.Option.{same_Some}
 use Rattle.relay_model.specs.declared.act.Act.{Act}
 use Rattle.relay_model.specs.declared.act.Act.TheVariants as acts
 use Rattle.relay_model.specs.declared.said.Told.{Told}
@@ -24,9 +23,9 @@ use Rattle.relay_model.proofs.FocusLaws.{entered_field}
 use Rattle.relay_model.proofs.HoldLaws.{holder_entered}
 use Rattle.relay_model.proofs.ActivationLaws.{serving_alive}
 use Rattle.relay_core.proofs.GrabLaws.{standing_alive}
-use Rattle.broker_model.proofs.Owners.{owned}
+use Rattle.broker_model.proofs.Owners.{owner_lives}
 use Rattle.broker_model.proofs.Sound.{lived}
-use Rattle.broker_core.proofs.EachElement.{either_way, each_of, each_weaker, each_append, each_map, each_flat, each_kept}
+use Rattle.broker_model.proofs.EachElement.{either_way, each_of, each_weaker, each_append, each_map, each_flat, each_kept}
 
 -- the label is the shell's, or that of an object that is alive after a history, or that of the next act
 abbrev pub Hears : List Act → ℕ → Type 0
@@ -54,15 +53,6 @@ hears_later act log x l =
 
 hears_field : (log : List Act) (f : ℕ) → entered log f ≡ true → alive log f ≡ true
 hears_field log f e = kind_alive is_field_kind log f (entered_field log f e)
-
--- the peer of what is alive is a live peer
-
-pub owner_lives : (log : List Act) (x p : ℕ) → IsHistory log → peer_of log x ≡ Some p → is_peer log p ≡ true
-owner_lives log x p i h = by (object log x) refl h
-  where
-    by : (o : Option Object) → object log x ≡ o → owner o ≡ Some p → is_peer log p ≡ true
-    by None e k = cc
-    by (Some o) e k = ap (is_peer log) (sym (same_Some o.peer p k)) ∙ (owned log x o i e).lives
 
 -- all that is told to one object
 heard_saids : (log : List Act) (x : ℕ) (saids : List Said) → Hears log x → AreHeard log (map (to x) saids)

@@ -1,4 +1,6 @@
+pub mod EachElement
 pub mod Owners
+pub mod ToldToFields
 pub mod Peers
 pub mod Numbers
 pub mod Settling

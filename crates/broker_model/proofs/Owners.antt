@@ -2,6 +2,7 @@
 use Rattle.std.proofs.Common.{◌≡◌, ℕ, ◌+◌, ◌≤◌, List, [], ◌∷◌, length, Bool, true, false, Option, Some, None, ap, refl, sym, ◌∙◌, subst, arith}
 use Rattle.std.specs.Prelude.{◌==◌, ◌&&◌, not, if◌then◌else◌}
 use Rattle.std.proofs.lemmas.Bool.{ne_eqb, eqb-true, true≢false}
+use Rattle.std.proofs.lemmas.Option.{same_Some}
 use Rattle.relay_model.specs.declared.act.Act.{Act}
 use Rattle.relay_model.specs.declared.act.Act.TheVariants as acts
 use Rattle.relay_model.specs.Objects.{Kind, PeerKind, SurfaceKind, FieldKind, MethodKind, ThingKind, PopupKind, GrabKind, Object, is_at, is_peer_kind, is_field_kind, is_kind, owner, made_for, made, maker, remains, object, alive, peer_of, is_peer}
@@ -187,3 +188,11 @@ maker_is (act ∷ older) f o t e = maker_by act older f o (f == length older + 1
 -- an act made later leaves that
 pub maker_stays : (act : Act) (log : List Act) (f : ℕ) → f ≤ length log → maker_of (act ∷ log) f ≡ maker_of log f
 maker_stays act log f w = rw (ne_eqb f (length log + 1) (λ e. omega arith)) refl
+
+-- the peer of what is alive is a live peer
+pub owner_lives : (log : List Act) (x p : ℕ) → IsHistory log → peer_of log x ≡ Some p → is_peer log p ≡ true
+owner_lives log x p i h = by (object log x) refl h
+  where
+    by : (o : Option Object) → object log x ≡ o → owner o ≡ Some p → is_peer log p ≡ true
+    by None e k = cc
+    by (Some o) e k = ap (is_peer log) (sym (same_Some o.peer p k)) ∙ (owned log x o i e).lives

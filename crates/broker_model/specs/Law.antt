@@ -1,20 +1,22 @@
 -- The promise, over every list of outer steps.
-use Rattle.std.specs.Prelude.{◌≡◌, ℕ, ◌≤◌, length, List, [], ◌∷◌, ◌++◌, ◌==◌, true, false, if◌then◌else◌, Option, Some, None, ◌⊎◌}
-use Rattle.std.specs.List.{Contains}
+use Rattle.std.specs.Prelude.{◌≡◌, ℕ, ◌≤◌, length, List, [], ◌∷◌, ◌++◌, ◌==◌, Bool, true, false, if◌then◌else◌, Option, Some, None, ◌⊎◌}
+use Rattle.std.specs.List.{Contains, AllByRecursion}
 use Rattle.relay_model.specs.declared.act.Act.{Act}
 use Rattle.relay_model.specs.declared.act.Act.TheVariants.{Field}
 use Rattle.relay_model.specs.declared.act.EndCause.TheVariants.{Full}
 use Rattle.relay_model.specs.declared.said.Said.{Said}
+use Rattle.relay_model.specs.declared.said.Said.TheVariants as said
 use Rattle.relay_model.specs.Objects.{next, peer_of}
 use Rattle.relay_model.specs.Batch.{group_of, relayed}
 use Rattle.relay_model.specs.Idle as idle
+use Rattle.relay_model.specs.Told.{told}
 use Rattle.seat_steps.specs.declared.stamp.Stamp.{Stamp}
 use Rattle.broker_model.specs.declared.journal.Entry.{Entry}
 use Rattle.broker_model.specs.declared.journal.Entry.TheVariants.{End}
 use Rattle.broker_model.specs.Ids.{Made, Joined, log_of, peer_at, made_as}
 use Rattle.broker_model.specs.Resolve.{past_of, resolve}
 use Rattle.broker_model.specs.Groups.{said_piece}
-use Rattle.broker_model.specs.Out.{act_now, group_at, stored, out_for}
+use Rattle.broker_model.specs.Out.{act_at, act_now, group_at, stored, out_for}
 use Rattle.broker_model.specs.Settle.{is_due, history}
 use Rattle.broker_model.specs.Waiting.{takes_token}
 use Rattle.broker_model.specs.Stamps.{latest, given_before, stamps, step_stamps}
@@ -67,6 +69,18 @@ pub record IsAlone (e : Entry) (older : List Entry) (f : ℕ) : Type 0 where
 -- so it is with each entry that relays a batch
 abbrev pub WholeGroups : Type 0
 WholeGroups = (e : Entry) (older : List Entry) (f : ℕ) → relays e older f ≡ true → IsAlone e older f
+
+-- the event says that a field is entered or left
+abbrev pub is_entering : Said → Bool
+is_entering (said.Enter surface) = true
+is_entering (said.Leave surface) = true
+is_entering _ = false
+
+-- An entry that relays no batch to a field tells it that it is entered or left, and nothing else: no done, and nothing that a done would apply.
+abbrev pub NothingElse : Type 0
+NothingElse =
+    (e : Entry) (older : List Entry) (f p : ℕ) → maker_of (log_of (past_of (e ∷ older))) f ≡ Some p → relays e older f ≡ false →
+    AllByRecursion (λ t. t.to ≡ f → is_entering t.event ≡ true) (told (act_at e older) (resolve older))
 
 -- no more bytes are stored than the capacity
 abbrev pub StoresHold : Type 0

@@ -1,5 +1,5 @@
 -- Worked rows of tokens and stamps: what waits, what it weighs, and when each entry came.
-use Rattle.std.specs.Prelude.{◌≡◌, ℕ, List, [], ◌∷◌, replicate, Bool, true, false, Option, Some, None, codes}
+use Rattle.std.specs.Prelude.{◌≡◌, ℕ, List, [], ◌∷◌, replicate, true, false, Some, None, codes}
 use Rattle.wl_proto.specs.declared.table.Kind.TheVariants.{Uint, Descriptor}
 use Rattle.wl_proto.specs.Grammar.{token}
 use Rattle.wl_proto.specs.Reading.{values_at}

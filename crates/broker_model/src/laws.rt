@@ -1,5 +1,5 @@
 // The promise, over the definitions alone.
-ghost use Rattle.broker_model.specs.Law.{RelayLaw, WholeGroups, NobodyIsDue, StoresHold};
+ghost use Rattle.broker_model.specs.Law.{RelayLaw, WholeGroups, NothingElse, NobodyIsDue, StoresHold};
 ghost use Rattle.broker_model.specs.Tables.{FoundById, FoundByLabel, CountedLive};
 ghost use Rattle.broker_model.specs.Stored.{GroupsAreSpaced, CellsArePut, CellsAreTaken};
 ghost use Rattle.broker_model.specs.Stored.{BytesAreOut, TokensAreOut};
@@ -8,11 +8,13 @@ ghost use Rattle.broker_model.specs.Law.{FewWait, NoneTaken, StampEach, MomentsR
 /// After any outer steps, what is queued for each field is what is relayed to it, in order and once
 /// each; or all of that but the last group, which did not fit the store of the field's peer, and
 /// then that peer was ended for it. What is put or left out with such a group is its bytes and
-/// nothing else. No live peer is left that has to be ended, and no store holds more than its
-/// capacity.
+/// nothing else, and any other step tells a field that it is entered or left and nothing else, so
+/// there is no done but those of the groups. No live peer is left that has to be ended, and no store
+/// holds more than its capacity.
 pub fn relay_law()
     ensures law { RelayLaw }
     ensures whole_groups { WholeGroups }
+    ensures nothing_else { NothingElse }
     ensures nobody_is_due { NobodyIsDue }
     ensures stores_hold { StoresHold }
 {}

@@ -1,6 +1,7 @@
 // What no clause tells: that memory is found, and that the shared state answers as its callers use it.
 ghost use Rattle.seat_steps.specs.Ranges.{IsLimits};
 
+use crate::equal::equal;
 use broker_core::{Applied, JoinRefusal, Kept, Refused, Shared, Took};
 use relay_core::Route;
 use relay_model::{EndCause, Role};
@@ -89,16 +90,16 @@ fn take(shared: &mut Shared) -> Took {
 
 fn fill(rt: &impl Abort, shared: &mut Shared) {
     for number in 1..65 {
-        assert_eq!(rt; join(shared, Role::Method), Ok(number));
+        equal(rt, join(shared, Role::Method), Ok(number));
     }
 }
 
 fn shows(rt: &impl Abort, shared: &Shared, peers: u32, entries: u32, weight: u64) {
-    assert_eq!(rt; shared.peers(), peers);
-    assert_eq!(rt; shared.journal().len(), entries);
-    assert_eq!(rt; shared.journal().kept().weight, weight);
-    assert_eq!(rt; shared.stamps().len(), entries);
-    assert_eq!(rt; shared.stamps().entry(entries), Some(&GIVEN));
+    equal(rt, shared.peers(), peers);
+    equal(rt, shared.journal().len(), entries);
+    equal(rt, shared.journal().kept().weight, weight);
+    equal(rt, shared.stamps().len(), entries);
+    equal(rt, shared.stamps().entry(entries), Some(&GIVEN));
 }
 
 fn make_call(
@@ -108,12 +109,12 @@ fn make_call(
     call: Call,
 ) -> Result<(), NoMemory> {
     match call {
-        Call::Join(role, want) => assert_eq!(rt; join(shared, role), want),
+        Call::Join(role, want) => equal(rt, join(shared, role), want),
         Call::Fill => fill(rt, shared),
         Call::Goes(kind) => assert!(rt; answer(alloc, shared, kind)?.is_ok()),
-        Call::Answers(kind, want) => assert_eq!(rt; answer(alloc, shared, kind)?, want),
-        Call::Stored(want) => assert_eq!(rt; shared.stored(1), Some(want)),
-        Call::Take(want) => assert_eq!(rt; take(shared), want),
+        Call::Answers(kind, want) => equal(rt, answer(alloc, shared, kind)?, want),
+        Call::Stored(want) => equal(rt, shared.stored(1), Some(want)),
+        Call::Take(want) => equal(rt, take(shared), want),
         Call::Shows(peers, entries, weight) => shows(rt, shared, peers, entries, weight),
     }
     Ok(())

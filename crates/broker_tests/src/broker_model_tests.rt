@@ -1,4 +1,5 @@
 // What no clause tells: that memory is found, and that a journal is used as its callers use it.
+use crate::equal::equal;
 use broker_model::{Entry, Journal, Kept, StampList};
 use relay_model::{EndCause, Role};
 use seat_steps::{Limits, ShellStep, Stamp, TokenList, WEIGHT_LIMIT};
@@ -53,7 +54,7 @@ fn put_three(rt: &impl Abort, alloc: Global, journal: &mut Journal) -> Result<()
 }
 
 fn shows_three(rt: &impl Abort, journal: &Journal) {
-    assert_eq!(rt; journal.len(), 3);
+    equal(rt, journal.len(), 3);
     assert!(rt; matches!(journal.entry(0), None));
     assert!(rt; matches!(journal.entry(1), Some(Entry::Join(Role::App))));
     assert!(rt; matches!(journal.entry(2), Some(Entry::Message { .. })));
@@ -64,7 +65,7 @@ fn shows_three(rt: &impl Abort, journal: &Journal) {
 
 fn weighs(rt: &impl Abort, journal: &Journal, weight: u64) {
     let want = Kept { entries: 2, weight };
-    assert_eq!(rt; journal.kept(), want);
+    equal(rt, journal.kept(), want);
 }
 
 #[test]
@@ -191,12 +192,12 @@ fn put_stamps(stamps: &mut StampList) -> Result<(), Fail> {
 }
 
 fn shows_stamps(rt: &impl Abort, stamps: &StampList) {
-    assert_eq!(rt; stamps.len(), 4);
-    assert_eq!(rt; stamps.entry(0), None);
+    equal(rt, stamps.len(), 4);
+    equal(rt, stamps.entry(0), None);
     for (number, _, want) in &STAMPS {
-        assert_eq!(rt; stamps.entry(*number), Some(want));
+        equal(rt, stamps.entry(*number), Some(want));
     }
-    assert_eq!(rt; stamps.entry(5), None);
+    equal(rt, stamps.entry(5), None);
 }
 
 #[test]

@@ -1,4 +1,5 @@
 // What no clause tells: that memory is found, and that a group is gathered as its callers gather it.
+use crate::equal::equal;
 use relay_model::Role;
 use seat_audience::{Gathering, Live};
 use std::process::Abort;
@@ -29,10 +30,10 @@ fn put_string(gathering: &mut Gathering) {
 // Both are gathered, in this order, with the token at this place.
 fn holds_both(rt: &impl Abort, gathering: &Gathering, first: &[u8], last: &[u8], place: usize) {
     assert!(rt; !gathering.is_over());
-    assert_eq!(rt; gathering.bytes().len(), 32);
+    equal(rt, gathering.bytes().len(), 32);
     assert!(rt; gathering.bytes().starts_with(first));
     assert!(rt; gathering.bytes().ends_with(last));
-    assert_eq!(rt; gathering.tokens(), [(place, 42)].as_slice());
+    equal(rt, gathering.tokens(), [(place, 42)].as_slice());
 }
 
 // These alone are gathered.
@@ -43,9 +44,9 @@ fn holds(
     bytes: &[u8],
     tokens: &[(usize, u32)],
 ) {
-    assert_eq!(rt; gathering.is_over(), is_over);
-    assert_eq!(rt; gathering.bytes(), bytes);
-    assert_eq!(rt; gathering.tokens(), tokens);
+    equal(rt, gathering.is_over(), is_over);
+    equal(rt, gathering.bytes(), bytes);
+    equal(rt, gathering.tokens(), tokens);
 }
 
 #[test]
@@ -81,8 +82,8 @@ fn what_follows_one_that_was_left_out_is_left_out(rt: HostRuntime) -> Result<(),
 fn no_more_than_256_tokens_wait(rt: HostRuntime) -> Result<(), Fail> {
     let live = Live::new(rt.alloc(), 64, 1, 1, Role::App)?;
     let waiting = live.waiting_with(rt.alloc(), &[7; 257])?;
-    assert_eq!(rt; waiting.len(), 256);
+    equal(&rt, waiting.len(), 256);
     let two = live.waiting_with(rt.alloc(), &[7, 8])?;
-    assert_eq!(rt; two.as_slice(), [7, 8].as_slice());
+    equal(&rt, two.as_slice(), [7, 8].as_slice());
     Ok(())
 }

@@ -1,4 +1,5 @@
 // What no clause tells: that memory is found, and the lines as they are read.
+use crate::equal::equal;
 use broker_core::{Entry, Watch};
 use relay_model::EndCause;
 use seat_printer::Printer;
@@ -19,10 +20,10 @@ const LINES: &str = "3 ended 1 gone\n3 out 2 01ff 0:7\n3 placed 2 9 10 -5\n3 pas
 fn check(rt: &impl Abort, mut printer: Printer) {
     watch(&mut printer);
     printer.close();
-    assert_eq!(rt; printer.text(), LINES);
+    equal(rt, printer.text(), LINES);
     assert!(rt; !printer.is_short());
     printer.clear();
-    assert_eq!(rt; printer.text(), "");
+    equal(rt, printer.text(), "");
     watch(&mut printer);
     assert!(rt; printer.finish().is_some());
 }

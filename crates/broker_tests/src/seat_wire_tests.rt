@@ -1,4 +1,5 @@
 // What no clause tells: that memory is found for what a message comes to, and for the text of an act.
+use crate::equal::equal;
 use im_objects::{DISPLAY_ID, Table};
 use relay_core::Relay;
 use relay_model::{Act, Role};
@@ -69,7 +70,7 @@ fn messages_come_to_acts(rt: HostRuntime) -> Result<(), Fail> {
     let relay = Relay::new(rt.alloc())?;
     let mut table = Table::new(rt.alloc(), 1)?;
     syncs(&rt, rt.alloc(), &relay, &table)?;
-    assert_eq!(rt; table.make(2, Interface::InputMethod, 7), Ok(()));
+    equal(&rt, table.make(2, Interface::InputMethod, 7), Ok(()));
     shows(&rt, rt.alloc(), &relay, &table)?;
     Ok(())
 }

@@ -4,6 +4,7 @@ ghost use Rattle.seat_steps.specs.Ranges.{piece_limit, token_limit};
 ghost use Rattle.seat_steps.specs.Ranges.{IsLimits, IsWithin};
 ghost use Rattle.session_text.specs.Steps.{IsSessionLine};
 
+use crate::equal::equal;
 use broker_core::Kept;
 use relay_model::Role;
 use seat_steps::{FORM_1_WEIGHT, Limits, Stamp, TokenList};
@@ -55,14 +56,14 @@ fn goes(player: &mut Player) -> Result<(), Stop> {
 fn all_calls(rt: &impl Abort, alloc: Global, player: &mut Player) -> Result<(), Fail> {
     assert!(rt; is_played(player, &SessionLine::Join(Role::App)));
     assert!(rt; is_played(player, &piece(alloc, &[1, 0, 0, 0, 1, 0])?));
-    assert_eq!(rt; player.entries(), 1);
+    equal(rt, player.entries(), 1);
     assert!(rt; is_played(player, &piece(alloc, &[12, 0, 2, 0, 0, 0])?));
-    assert_eq!(rt; player.entries(), 2);
+    equal(rt, player.entries(), 2);
     assert!(rt; is_played(player, &sent(alloc, &[7, 8])?));
-    assert_eq!(rt; goes(player), Ok(()));
-    assert_eq!(rt; player.journal().len(), 4);
-    assert_eq!(rt; player.stamps().len(), 4);
-    assert_eq!(rt; player.stamps().entry(2), Some(&GIVEN));
+    equal(rt, goes(player), Ok(()));
+    equal(rt, player.journal().len(), 4);
+    equal(rt, player.stamps().len(), 4);
+    equal(rt, player.stamps().entry(2), Some(&GIVEN));
     Ok(())
 }
 
@@ -75,9 +76,9 @@ const FULL: Kept = Kept {
 fn all_refusals(rt: &impl Abort, player: &mut Player) {
     assert!(rt; is_played(player, &SessionLine::Join(Role::App)));
     assert!(rt; is_full(player, &SessionLine::Join(Role::App)));
-    assert_eq!(rt; goes(player), Err(Stop::Full(FULL)));
+    equal(rt, goes(player), Err(Stop::Full(FULL)));
     assert!(rt; is_full(player, &SessionLine::Gone(1)));
-    assert_eq!(rt; player.entries(), 1);
+    equal(rt, player.entries(), 1);
 }
 
 fn play_lines(

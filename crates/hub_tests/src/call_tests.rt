@@ -3,6 +3,7 @@ ghost use Rattle.std.specs.Prelude.{◌≡◌, ◌≤◌, ◌^◌};
 ghost use Rattle.seat_steps.specs.Ranges.{IsPeerStep};
 ghost use Rattle.hub_lock.specs.Passes.{IsOf};
 
+use crate::equal::{equal, equal_at};
 use crate::link::{LIMITS, ask};
 use broker_core::{Applied, Refused, Took};
 use broker_model::StampList;
@@ -77,10 +78,10 @@ fn ask_and_take<R: Abort + Wait>(
     ensures writes { IsOf hub.now writer.new.seat }
 {
     let step = ask(alloc, 2)?;
-    assert_eq!(rt; take(rt, hub, writer), Took::Empty);
-    assert_eq!(rt; submit(rt, hub, reader, &step), Ok(entry(2)));
-    assert_eq!(rt; take(rt, hub, writer), Took::Bytes(112, 0));
-    assert_eq!(rt; take(rt, hub, writer), Took::Empty);
+    equal(rt, take(rt, hub, writer), Took::Empty);
+    equal(rt, submit(rt, hub, reader, &step), Ok(entry(2)));
+    equal(rt, take(rt, hub, writer), Took::Bytes(112, 0));
+    equal(rt, take(rt, hub, writer), Took::Empty);
     Ok(())
 }
 
@@ -98,8 +99,8 @@ fn ask_and_wait<R: Abort + Wait>(
     ensures writes { IsOf hub.now writer.new.seat }
 {
     let step = ask(alloc, 3)?;
-    assert_eq!(rt; submit(rt, hub, reader, &step), Ok(entry(4)));
-    assert_eq!(rt; wait_take(rt, hub, writer), Took::Bytes(112, 0));
+    equal(rt, submit(rt, hub, reader, &step), Ok(entry(4)));
+    equal(rt, wait_take(rt, hub, writer), Took::Bytes(112, 0));
     Ok(())
 }
 
@@ -112,7 +113,7 @@ fn pass_key<R: Abort + Wait>(rt: &R, hub: &Hub, shell: &mut ShellPass)
         entry: 6,
         route: Some(Route::Pass),
     };
-    assert_eq!(rt; order(rt, hub, shell), Ok(passed));
+    equal(rt, order(rt, hub, shell), Ok(passed));
 }
 
 // The link ends: nothing is to be taken then, and no step is accepted.
@@ -122,21 +123,30 @@ fn end<R: Abort + Wait>(rt: &R, hub: &Hub, reader: &mut ReaderPass, writer: &mut
     ensures reads { IsOf hub.now reader.new.seat }
     ensures writes { IsOf hub.now writer.new.seat }
 {
-    assert_eq!(rt; submit(rt, hub, reader, &PeerStep::Gone), Ok(entry(7)));
-    assert_eq!(rt; take(rt, hub, writer), Took::Closed);
-    assert_eq!(rt; wait_take(rt, hub, writer), Took::Closed);
-    assert_eq!(rt;
+    equal(rt, submit(rt, hub, reader, &PeerStep::Gone), Ok(entry(7)));
+    equal(rt, take(rt, hub, writer), Took::Closed);
+    equal(rt, wait_take(rt, hub, writer), Took::Closed);
+    equal(
+        rt,
         submit(rt, hub, reader, &PeerStep::Gone),
-        Err(Refused::Ended(EndCause::Gone))
+        Err(Refused::Ended(EndCause::Gone)),
     );
 }
 
 // What each pass has counted, and has seen.
 fn counts<R: Abort>(rt: &R, reader: &ReaderPass, writer: &WriterPass, shell: &ShellPass) {
-    assert_eq!(rt; (reader.peer(), reader.steps(), reader.seen()), (1, 3, 7));
-    assert_eq!(rt; (writer.peer(), writer.steps(), writer.seen()), (1, 2, 7));
-    assert_eq!(rt; writer.bytes(), 224);
-    assert_eq!(rt; (shell.steps(), shell.seen()), (1, 6));
+    equal(
+        rt,
+        (reader.peer(), reader.steps(), reader.seen()),
+        (1, 3, 7),
+    );
+    equal(
+        rt,
+        (writer.peer(), writer.steps(), writer.seen()),
+        (1, 2, 7),
+    );
+    equal(rt, writer.bytes(), 224);
+    equal(rt, (shell.steps(), shell.seen()), (1, 6));
 }
 
 const AUTHORS: [(u32, u64); 7] = [(1, 0), (2, 1), (3, 2), (4, 1), (5, 2), (6, 3), (7, 1)];
@@ -145,7 +155,7 @@ const AUTHORS: [(u32, u64); 7] = [(1, 0), (2, 1), (3, 2), (4, 1), (5, 2), (6, 3)
 fn authors<R: Abort>(rt: &R, stamps: &StampList) {
     for &(number, author) in &AUTHORS {
         match stamps.entry(number) {
-            Some(stamp) => assert_eq!(rt; stamp.author, author, "{number}"),
+            Some(stamp) => equal_at(rt, &number, stamp.author, author),
             None => assert!(rt; false, "{number}"),
         }
     }
@@ -174,13 +184,13 @@ fn finish_all(
 fn check<R: Abort + Wait>(rt: &R, hub: &Hub, root: &mut HubPass) -> Result<(), Fail>
     requires own { IsOf hub.now root.old }
 {
-    assert_eq!(rt; (root.made(), root.steps(), root.bytes()), (3, 7, 224));
+    equal(rt, (root.made(), root.steps(), root.bytes()), (3, 7, 224));
     let Session {
         limits,
         journal,
         stamps,
     } = hub.session(rt, root)?;
-    assert_eq!(rt; (limits, journal.len(), root.seen()), (LIMITS, 7, 7));
+    equal(rt, (limits, journal.len(), root.seen()), (LIMITS, 7, 7));
     authors(rt, &stamps);
     Ok(())
 }

@@ -5,6 +5,8 @@
 #[cfg(test)]
 mod call_tests;
 #[cfg(test)]
+mod equal;
+#[cfg(test)]
 mod link;
 #[cfg(test)]
 mod memory_tests;

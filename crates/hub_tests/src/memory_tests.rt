@@ -4,6 +4,7 @@ ghost use Rattle.std.specs.Prelude.{◌≡◌, ◌≤◌, IfOk};
 ghost use Rattle.seat_steps.specs.Ranges.{IsPeerStep};
 ghost use Rattle.hub_lock.specs.Passes.{IsOf};
 
+use crate::equal::equal;
 use crate::link::{LIMITS, Link, ask, join};
 use broker_core::{Applied, Refused, Took};
 use hub_lock::{Hub, HubPass, ReaderPass, WriterPass};
@@ -87,12 +88,12 @@ fn ask_and_end<R: Abort + Wait>(rt: &R, alloc: Global, link: Link<'_>) -> Result
     } = link;
     let step = ask_again(alloc)?;
     let asked = submit_again(rt, hub, &mut reader, &step);
-    assert_eq!(rt; (reader.peer(), asked.is_ok()), (1, true));
-    assert_eq!(rt; take_again(rt, hub, &mut writer), Took::Bytes(112, 0));
-    assert_eq!(rt; take_again(rt, hub, &mut writer), Took::Empty);
+    equal(rt, (reader.peer(), asked.is_ok()), (1, true));
+    equal(rt, take_again(rt, hub, &mut writer), Took::Bytes(112, 0));
+    equal(rt, take_again(rt, hub, &mut writer), Took::Empty);
     let ended = submit_again(rt, hub, &mut reader, &PeerStep::Gone);
     assert!(rt; ended.is_ok());
-    assert_eq!(rt; take_again(rt, hub, &mut writer), Took::Closed);
+    equal(rt, take_again(rt, hub, &mut writer), Took::Closed);
     Ok(())
 }
 
@@ -108,7 +109,7 @@ fn all_again<R: Abort + Wait>(
         return Err(Fail::new("no peer joined"));
     };
     ask_and_end(rt, alloc, link)?;
-    assert_eq!(rt; entries(rt, hub, root)?, 4);
+    equal(rt, entries(rt, hub, root)?, 4);
     Ok(())
 }
 

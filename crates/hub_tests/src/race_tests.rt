@@ -2,6 +2,7 @@
 ghost use Rattle.std.specs.Prelude.{◌≡◌};
 ghost use Rattle.hub_lock.specs.Passes.{IsOf};
 
+use crate::equal::equal;
 use crate::link::{LIMITS, Link, ask, join};
 use broker_model::{Entry, Journal};
 use hub_lock::{Hub, HubPass};
@@ -63,9 +64,9 @@ fn in_order(journal: &Journal, peer: u32) -> u32 {
 
 // All messages stand, each peer's in its order.
 fn all_stand<R: Abort>(rt: &R, journal: &Journal) {
-    assert_eq!(rt; journal.len(), 808);
+    equal(rt, journal.len(), 808);
     for peer in 1..9 {
-        assert_eq!(rt; in_order(journal, peer), MESSAGES);
+        equal(rt, in_order(journal, peer), MESSAGES);
     }
 }
 
@@ -76,7 +77,7 @@ fn ask_beside<R: Abort + Threads + Wait + Sync>(
     links: Vec<Link<'_>>,
 ) -> Result<(), Fail> {
     let steps = map_vec(rt, links, &|link| ask_all(rt, alloc, link))?;
-    assert_eq!(rt; steps.as_slice(), [MESSAGES as u64; 8].as_slice());
+    equal(rt, steps.as_slice(), [MESSAGES as u64; 8].as_slice());
     Ok(())
 }
 

@@ -3,6 +3,7 @@ ghost use Rattle.std.specs.Prelude.{◌≡◌, ◌+◌, ◌-◌, ◌<◌, ◌^�
 ghost use Rattle.turn_lock.specs.Sights.{fresh_seat, after_split};
 ghost use Rattle.hub_tests.specs.SightsInTests.{AllOf};
 
+use crate::equal::equal;
 use std::alloc::Global;
 use std::sync::Wait;
 use std::test::Fail;
@@ -226,9 +227,10 @@ fn log_of_eight<R: Threads + Wait + Sync>(rt: &R, alloc: Global) -> Result<Log, 
 #[test]
 fn calls_of_two_threads_stand_in_order(rt: HostRuntime) -> Result<(), Fail> {
     let log = log_of_two(&rt, rt.alloc())?;
-    assert_eq!(rt;
+    equal(
+        &rt,
         (log.calls.len(), in_order(&log, 1), in_order(&log, 2)),
-        (2000, 1000, 1000)
+        (2000, 1000, 1000),
     );
     Ok(())
 }
@@ -236,9 +238,9 @@ fn calls_of_two_threads_stand_in_order(rt: HostRuntime) -> Result<(), Fail> {
 #[test]
 fn calls_of_eight_threads_stand_in_order(rt: HostRuntime) -> Result<(), Fail> {
     let log = log_of_eight(&rt, rt.alloc())?;
-    assert_eq!(rt; log.calls.len(), 8000);
+    equal(&rt, log.calls.len(), 8000);
     for seat in 1..9 {
-        assert_eq!(rt; in_order(&log, seat), 1000);
+        equal(&rt, in_order(&log, seat), 1000);
     }
     Ok(())
 }

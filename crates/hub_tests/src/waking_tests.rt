@@ -3,6 +3,7 @@
 ghost use Rattle.std.specs.Prelude.{◌≡◌};
 ghost use Rattle.hub_lock.specs.Passes.{IsOf};
 
+use crate::equal::equal;
 use crate::link::{LIMITS, Link, ask, join as join_hub};
 use broker_core::Took;
 use hub_lock::{Hub, HubPass, ReaderPass, WriterPass};
@@ -136,7 +137,7 @@ fn a_step_wakes_a_writer(rt: HostRuntime) -> Result<(), Fail> {
     let alloc = rt.alloc();
     let (hub, mut root) = Hub::new(alloc, LIMITS)?;
     let made = wakes(&rt, alloc, &hub, &mut root, asks)?;
-    assert_eq!(rt; made, (201, 200));
+    equal(&rt, made, (201, 200));
     Ok(())
 }
 
@@ -154,6 +155,6 @@ fn an_end_wakes_a_writer(rt: HostRuntime) -> Result<(), Fail> {
     let alloc = rt.alloc();
     let (hub, mut root) = Hub::new(alloc, SMALL)?;
     let made = wakes(&rt, alloc, &hub, &mut root, asks)?;
-    assert_eq!(rt; made, (1, 0));
+    equal(&rt, made, (1, 0));
     Ok(())
 }

@@ -3,6 +3,7 @@
 ghost use Rattle.std.specs.Prelude.{◌≡◌};
 ghost use Rattle.hub_lock.specs.Passes.{IsOf};
 
+use crate::equal::equal;
 use crate::link::{ASK, LIMITS, Link, join as join_hub, read_all, write_all};
 use hub_lock::{Gate, Hub, HubPass};
 use peer_link::{ReadEnd, WriteEnd};
@@ -101,8 +102,8 @@ fn hold_end<R: Abort + Threads + Wait + Sync>(
         return Err(Fail::new("no peer joined"));
     };
     let (read, wrote) = both_ends(rt, alloc, link, ASK.to_vec(alloc)?, board);
-    assert_eq!(rt; read, (ReadEnd::Closed, 2));
-    assert_eq!(rt; wrote, WriteEnd::Closed);
+    equal(rt, read, (ReadEnd::Closed, 2));
+    equal(rt, wrote, WriteEnd::Closed);
     Ok(())
 }
 
@@ -115,7 +116,7 @@ fn a_writer_runs_beside_its_reader(rt: HostRuntime) -> Result<(), Fail> {
         gave_up: AtomicU64::new(0),
     };
     hold_end(&rt, alloc, &hub, &mut root, &board)?;
-    assert_eq!(rt; board.wrote.load(Ordering::SeqCst), TOLD);
-    assert_eq!(rt; board.gave_up.load(Ordering::SeqCst), 0);
+    equal(&rt, board.wrote.load(Ordering::SeqCst), TOLD);
+    equal(&rt, board.gave_up.load(Ordering::SeqCst), 0);
     Ok(())
 }

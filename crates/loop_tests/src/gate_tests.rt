@@ -2,6 +2,7 @@
 //! each other, which no contract says.
 ghost use Rattle.hub_lock.specs.Passes.{IsOf};
 
+use crate::equal::equal;
 use crate::link::{ASK, LIMITS, Reads, join, read_all};
 use broker_model::{Entry, Journal};
 use hub_lock::{Gate, Hub, HubPass};
@@ -125,8 +126,8 @@ fn hold_one<R: Abort + Threads + Wait + Sync>(
     requires own { IsOf hub.now root.old }
 {
     let readers = two(rt, alloc, hub, root)?;
-    assert_eq!(rt; read_beside(rt, alloc, readers, gate)?, 2);
-    assert_eq!(rt; gate.gave_up.load(Ordering::SeqCst), 0);
+    equal(rt, read_beside(rt, alloc, readers, gate)?, 2);
+    equal(rt, gate.gave_up.load(Ordering::SeqCst), 0);
     let session = hub.session(rt, root)?;
     second_is_first(rt, &session.journal);
     Ok(())

@@ -5,6 +5,8 @@
 #[cfg(test)]
 mod beside_tests;
 #[cfg(test)]
+mod equal;
+#[cfg(test)]
 mod gate_tests;
 #[cfg(test)]
 mod link;

@@ -1,6 +1,7 @@
 //! How links end by what they give, and which steps were made of it.
 ghost use Rattle.hub_lock.specs.Passes.{IsOf};
 
+use crate::equal::{equal, equal_at};
 use crate::link::{ASK, LIMITS, Open, Reads, join, read_all};
 use broker_model::{Entry, Journal};
 use hub_lock::{Hub, HubPass};
@@ -67,7 +68,7 @@ fn cut_frames<R: Abort + Wait>(
             _ => ReadEnd::Torn(count),
         };
         let read = read_one(rt, alloc, hub, root, &ASK[..count], &[])?;
-        assert_eq!(rt; read, (wanted, 1), "{count} bytes");
+        equal_at(rt, &count, read, (wanted, 1));
     }
     Ok(())
 }
@@ -83,11 +84,11 @@ fn other_ends<R: Abort + Wait>(
     ensures own { IsOf hub.now root.new }
 {
     let bad = read_one(rt, alloc, hub, root, &EMPTY, &[])?;
-    assert_eq!(rt; bad, (ReadEnd::BadFrame(0, 0), 1));
+    equal(rt, bad, (ReadEnd::BadFrame(0, 0), 1));
     let refused = read_one(rt, alloc, hub, root, &BAD_SIZE, &[])?;
-    assert_eq!(rt; refused, (ReadEnd::Ended(EndCause::Bad), 1));
+    equal(rt, refused, (ReadEnd::Ended(EndCause::Bad), 1));
     let failed = read_one(rt, alloc, hub, root, &ASK, &[4])?;
-    assert_eq!(rt; failed, (ReadEnd::ReadFault, 2));
+    equal(rt, failed, (ReadEnd::ReadFault, 2));
     Ok(())
 }
 
@@ -119,7 +120,7 @@ fn tokens_come_first<R: Abort + Wait>(
     requires own { IsOf hub.now root.old }
 {
     let read = read_one(rt, alloc, hub, root, &WITH_TOKEN, &[])?;
-    assert_eq!(rt; read, (ReadEnd::Closed, 3));
+    equal(rt, read, (ReadEnd::Closed, 3));
     let session = hub.session(rt, root)?;
     assert!(rt; stands(&session.journal, 2));
     Ok(())

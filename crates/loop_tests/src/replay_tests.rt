@@ -3,6 +3,7 @@
 ghost use Rattle.std.specs.Prelude.{◌≡◌};
 ghost use Rattle.hub_lock.specs.Passes.{IsOf};
 
+use crate::equal::equal;
 use crate::link::{LIMITS, Link, Open, Reads, Writes, join as join_hub, read_all, write_all};
 use crate::replay::replay;
 use broker_model::{Entry, Journal};
@@ -175,7 +176,7 @@ fn all_stand<R: Abort + Wait>(
     requires own { IsOf hub.now root.old }
 {
     let session = hub.session(rt, root)?;
-    assert_eq!(rt; number_that_stand(alloc, &session.journal, all)?, PEERS);
+    equal(rt, number_that_stand(alloc, &session.journal, all)?, PEERS);
     Ok(())
 }
 

@@ -3,6 +3,7 @@ ghost use Rattle.std.specs.Prelude.{◌≤◌};
 ghost use Rattle.turn_lock.specs.Pairs.{NoneOf};
 ghost use Rattle.hub_lock.specs.Passes.{IsOf};
 
+use crate::equal::equal;
 use crate::link::LIMITS;
 use hub_lock::{Hub, HubPass, ShellPass};
 use peer_link::{ShellEnd, read_shell};
@@ -59,8 +60,8 @@ fn answers<R: Abort + Wait>(
     let mut source = MemSource::new(LINES.to_vec(alloc)?, 7, Vec::new(alloc));
     let mut sink = MemSink::new(alloc, 100, Vec::new(alloc))?;
     let served = serve(rt, alloc, hub, root, &mut source, &mut sink);
-    assert_eq!(rt; served, (ShellEnd::BadLine(3), 2));
-    assert_eq!(rt; sink.held(), b"1 pass\n2\n".as_slice());
+    equal(rt, served, (ShellEnd::BadLine(3), 2));
+    equal(rt, sink.held(), b"1 pass\n2\n".as_slice());
     Ok(())
 }
 

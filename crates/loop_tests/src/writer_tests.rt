@@ -1,6 +1,7 @@
 //! A link to which nothing can be written: what was taken for it stays taken.
 ghost use Rattle.hub_lock.specs.Passes.{IsOf};
 
+use crate::equal::equal;
 use crate::link::{ASK, LIMITS, Link, Open, join, read_all, write_all};
 use broker_model::{Entry, Journal};
 use hub_lock::{Hub, HubPass};
@@ -29,8 +30,8 @@ fn ends_unwritten<R: Abort + Wait>(
 ) {
     let Link { reads, writes } = link;
     let read = read_all(rt, alloc, reads, bytes, Vec::new(alloc), &Open);
-    assert_eq!(rt; read, (ReadEnd::Closed, 2));
-    assert_eq!(rt; write_all(rt, writes, sink), WriteEnd::WriteFault);
+    equal(rt, read, (ReadEnd::Closed, 2));
+    equal(rt, write_all(rt, writes, sink), WriteEnd::WriteFault);
     assert!(rt; sink.held().is_empty());
 }
 

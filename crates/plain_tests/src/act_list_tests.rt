@@ -1,4 +1,5 @@
 // Act lists.
+use crate::equal::equal;
 use crate::runs::{answers, answers_beside};
 use plain_run::Status;
 use std::test::Fail;
@@ -188,6 +189,6 @@ fn faults_and_words_decide(rt: HostRuntime) -> Result<(), Fail> {
         let input = [BEGINNING, STRING, "end\n"];
         answers_beside(&rt, alloc, words, &input, (reads, writes), &[], status)?;
     }
-    assert_eq!(rt; Status::JournalFull.number(), 7);
+    equal(&rt, Status::JournalFull.number(), 7);
     Ok(())
 }

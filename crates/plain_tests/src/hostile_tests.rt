@@ -1,4 +1,5 @@
 // Peers that send what no client would, inputs that are cut, and writes that fail, on the top call.
+use crate::equal::equal_at;
 use crate::runs::{answers, joined, run_parts, sink};
 use crate::session_tests::{
     ACTIVATE, CAPABILITIES, COMMIT, ENABLED, ENTER, FIELD, HEADER, METHOD, METHOD_CAPABILITIES,
@@ -166,10 +167,10 @@ fn leaves_a_front(rt: &impl Abort, alloc: Global, whole: &[u8], fails: u64) -> R
     } else {
         Status::Ok
     };
-    assert_eq!(rt; status, wanted, "at write {fails}");
+    equal_at(rt, &fails, status, wanted);
     assert!(rt; whole.starts_with(sink.held()), "at write {fails}");
     let is_short = sink.held().len() < whole.len();
-    assert_eq!(rt; is_short, fails <= 7, "at write {fails}");
+    equal_at(rt, &fails, is_short, fails <= 7);
     Ok(())
 }
 

@@ -1,5 +1,6 @@
 // What is written before the input goes on, on the top call.
 use crate::act_list_tests::{BEGINNING, BEGUN, STRING};
+use crate::equal::equal;
 use crate::runs::{answers, answers_beside, run, sink, source};
 use crate::session_tests::{FIELD, HEADER, OFFERED, REGISTRY};
 use plain_run::Status;
@@ -100,7 +101,7 @@ fn a_failed_write_ends_the_reading(rt: HostRuntime) -> Result<(), Fail> {
     let mut input = source(alloc, bytes, 65536, &[])?;
     let mut output = sink(alloc, 1000, &[1])?;
     let status = run(alloc, &["replay-acts"], &mut input, &mut output)?;
-    assert_eq!(rt; status, Status::WriteFault);
+    equal(&rt, status, Status::WriteFault);
     let left = left_unread(alloc, &mut input)?;
     assert!(rt; length <= left.saturating_add(16421));
     Ok(())

@@ -1,4 +1,5 @@
 // Sessions of form 2, and those of form 1 that become one, on the top call.
+use crate::equal::equal;
 use crate::runs::{answers, run_parts, sink};
 use crate::session_tests::{
     ACTIVATE, CAPABILITIES, COMMIT, ENABLED, ENTER, FIELD, HEADER, METHOD, METHOD_CAPABILITIES,
@@ -123,7 +124,7 @@ fn a_migrated_session_replays_as_it_did(rt: HostRuntime) -> Result<(), Fail> {
     answers(&rt, alloc, "replay", &WHOLE, &TRANSCRIPT, Status::Ok)?;
     let mut migrated = sink(alloc, 1000, &[])?;
     let status = run_parts(alloc, &["migrate"], &WHOLE, &[], &mut migrated)?;
-    assert_eq!(rt; status, Status::Ok);
+    equal(&rt, status, Status::Ok);
     let text = from_utf8(migrated.held())?;
     answers(&rt, alloc, "replay", &[text], &TRANSCRIPT, Status::Ok)
 }

@@ -1,6 +1,7 @@
 // How the tests run a command. Inputs and outputs are given in parts.
 ghost use Rattle.std.specs.Prelude.{◌<◌};
 
+use crate::equal::{equal, equal_at};
 use plain_run::{Status, run_plain};
 use std::alloc::Global;
 use std::process::Abort;
@@ -68,7 +69,7 @@ pub(crate) fn run_parts(
 // The output holds these parts.
 fn holds(rt: &impl Abort, alloc: Global, output: &MemSink, parts: &[&str]) -> Result<(), Fail> {
     let wanted = joined(alloc, parts)?;
-    assert_eq!(rt; output.held(), wanted.as_slice());
+    equal(rt, output.held(), wanted.as_slice());
     Ok(())
 }
 
@@ -85,7 +86,7 @@ pub(crate) fn answers_beside(
 ) -> Result<(), Fail> {
     let mut sink = sink(alloc, 1000, fails.1)?;
     let answer = run_parts(alloc, words, input, fails.0, &mut sink)?;
-    assert_eq!(rt; answer, status, "{words:?} of {input:?}");
+    equal_at(rt, &(words, input), answer, status);
     holds(rt, alloc, &sink, output)
 }
 

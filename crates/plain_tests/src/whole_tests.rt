@@ -1,4 +1,5 @@
 // Scripts of trials, and generated sessions, on the top call.
+use crate::equal::equal;
 use crate::runs::{answers, answers_beside, run, run_parts, sink, source};
 use plain_run::Status;
 use std::alloc::Global;
@@ -146,7 +147,7 @@ fn is_replayed(rt: &impl Abort, alloc: Global, session: &[u8]) -> Result<(), Fai
     let mut input = source(alloc, Vec::from_slice(alloc, session)?, 16_384, &[])?;
     let mut output = sink(alloc, 4_000_000, &[])?;
     let status = run(alloc, &["replay"], &mut input, &mut output)?;
-    assert_eq!(rt; status, Status::Ok);
+    equal(rt, status, Status::Ok);
     assert!(rt; output.held().ends_with(b"\nend 19449\n"));
     Ok(())
 }
@@ -156,7 +157,7 @@ fn a_generated_session_replays(rt: HostRuntime) -> Result<(), Fail> {
     let alloc = rt.alloc();
     let mut output = sink(alloc, 4_000_000, &[])?;
     let status = run_parts(alloc, &["gen", "7", "text"], &[], &[], &mut output)?;
-    assert_eq!(rt; status, Status::Ok);
+    equal(&rt, status, Status::Ok);
     let session = output.held();
     assert!(rt; session.starts_with(b"session 1 1000000 65536\njoin app\n"));
     is_replayed(&rt, alloc, session)

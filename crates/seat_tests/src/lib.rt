@@ -3,6 +3,8 @@
 #![tactic(auto)]
 
 #[cfg(test)]
+mod equal;
+#[cfg(test)]
 mod plain_relay_tests;
 #[cfg(test)]
 mod printing_tests;

@@ -2,6 +2,7 @@
 ghost use Rattle.std.specs.Prelude.{◌≡◌, ◌<◌, true};
 ghost use Rattle.seat_objects.specs.Fits.{FitsMessage};
 
+use crate::equal::equal_at;
 use plain_relay::plain_told;
 use relay_core::{Post, Relay};
 use relay_model::{Act, EndCause, Fault, Keymap, Mods, Rect, Repeat, Role, Size, Text, Told};
@@ -197,7 +198,7 @@ fn agree(rt: &(impl Abort + AllocGlobal), acts: &[Act]) -> Result<usize, Fail> {
     };
     relay_text(rt, acts, &mut tape)?;
     let plain = plain_text(rt, acts)?;
-    assert_eq!(rt; plain.as_str(), tape.text.as_str(), "{acts:?}");
+    equal_at(rt, &acts, plain.as_str(), tape.text.as_str());
     Ok(plain.len())
 }
 

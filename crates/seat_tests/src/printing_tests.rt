@@ -1,4 +1,5 @@
 // Lines that are printed: of what is told, of a session's steps, of its transcript.
+use crate::equal::equal;
 use crate::reading_tests::SHELL_LINES;
 use relay_model::{EndCause, Said, Told};
 use seat_steps::{PeerStep, Stamp, Step, TokenList};
@@ -12,7 +13,7 @@ use transcript_text::{
 use wl_wire::{Bytes, Text};
 
 fn prints(rt: &impl Abort, line: Text, want: &str) {
-    assert_eq!(rt; line.as_str(), want);
+    equal(rt, line.as_str(), want);
 }
 
 #[test]

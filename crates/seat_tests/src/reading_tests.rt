@@ -1,4 +1,5 @@
 // Lines that are read, and what each says; and lines that are refused.
+use crate::equal::equal;
 use session_text::Form::{self, Acts, Session, Session2, Shell};
 use session_text::{BadLine, read_line};
 use std::alloc::{AllocGlobal, Global};
@@ -217,7 +218,7 @@ fn reads(rt: &(impl Abort + AllocGlobal), form: Form, lines: &[(&str, &str)]) ->
     for (text, want) in lines {
         let line = read_line(rt.alloc(), form, text.as_bytes())?;
         let shown = format!(in rt.alloc(); "{line:?}")?;
-        assert_eq!(rt; shown.as_str(), *want);
+        equal(rt, shown.as_str(), *want);
     }
     Ok(())
 }

@@ -2,6 +2,7 @@
 ghost use Rattle.std.specs.Prelude.{◌≡◌, true};
 ghost use Rattle.seat_objects.specs.Fits.{FitsMessage};
 
+use crate::equal::equal;
 use relay_core::{Post, Relay};
 use relay_model::{Act, Said, Text, Told};
 use std::process::Abort;
@@ -109,6 +110,6 @@ fn one_string_comes_to_its_field(rt: HostRuntime) -> Result<(), Fail> {
     open(&rt, &mut relay, &mut post)?;
     assert!(rt; post.told == 4 && !relay.has_popup(2));
     relay_string(&rt, &mut relay, &mut post, Text::of(rt.alloc(), "a")?)?;
-    assert_eq!(rt; (post.told, relay.acts()), (6, 10));
+    equal(&rt, (post.told, relay.acts()), (6, 10));
     Ok(())
 }

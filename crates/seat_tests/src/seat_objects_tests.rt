@@ -1,4 +1,5 @@
 // What no clause tells: that memory is found, and that calls on a concrete post tell what they should.
+use crate::equal::equal;
 use field_state::Field;
 use kbd_grab::Route;
 use relay_model::{Label, Said, Text, Told};
@@ -28,7 +29,7 @@ impl Post for Tally {
 }
 
 fn told(rt: &impl Abort, post: &Tally, count: u32, last: Label) {
-    assert_eq!(rt; (post.told, post.last), (count, last));
+    equal(rt, (post.told, post.last), (count, last));
 }
 
 fn tell_parts(rt: &impl Abort, alloc: Global, post: &mut Tally) {
@@ -75,10 +76,10 @@ fn focus_comes_and_goes(rt: &impl Abort, objects: &mut Objects) {
     tell_enters(objects, Some(1), 2, &mut post);
     tell_leaves(objects, Some(1), 2, &mut post);
     objects.commit(3, None);
-    assert_eq!(rt; (post.told, post.last), (2, 3));
-    assert_eq!(rt; objects.count_of(3), 1);
+    equal(rt, (post.told, post.last), (2, 3));
+    equal(rt, objects.count_of(3), 1);
     assert!(rt; objects.is_surface(2) && !objects.is_surface(3));
-    assert_eq!(rt; objects.owner(3), Some(1));
+    equal(rt, objects.owner(3), Some(1));
 }
 
 // An object of the peer 1.

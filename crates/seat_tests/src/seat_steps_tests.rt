@@ -1,3 +1,4 @@
+use crate::equal::equal;
 use seat_steps::{PeerStep, Step};
 use std::test::Fail;
 use wl_wire::Bytes;
@@ -13,7 +14,7 @@ fn a_step_is_copied(rt: HostRuntime) -> Result<(), Fail> {
     let copied = Step::Peer(3, message).copy(rt.alloc())?;
     match &copied {
         Step::Peer(peer, PeerStep::Message { id, opcode, body }) => {
-            assert_eq!(rt; (*peer, *id, *opcode, body.len()), (3, 1, 1, 4));
+            equal(&rt, (*peer, *id, *opcode, body.len()), (3, 1, 1, 4));
         }
         _ => assert!(rt; false),
     }

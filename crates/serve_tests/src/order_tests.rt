@@ -1,4 +1,5 @@
 //! Orders, words and faults.
+use crate::equal::{equal, equal_at};
 use crate::links::{link, net_of, serve, sink};
 use link_nets::{Door, MemLink};
 use serve_run::ServeStatus;
@@ -59,7 +60,7 @@ fn serve_order<R: Threads + Wait + Copy + Send + Sync + 'static>(
 
 fn has_lines<R: Abort>(rt: &R, session: &[u8], lines: &[(&str, u64)]) {
     for &(word, wanted) in lines {
-        assert_eq!(rt; count(session, word), wanted, "{word}");
+        equal_at(rt, &word, count(session, word), wanted);
     }
 }
 
@@ -72,7 +73,7 @@ fn sixty_four_letters(rt: HostRuntime) -> Result<(), Fail> {
         "serve --app a --method m --shell s --order amsamsamsamsamsamsamsamsamsamsamsamsamsamsamsamsamsamsamsamsamsa";
     let mut output = sink(alloc, &[])?;
     let status = serve_order(rt, alloc, line, order, (&[], &[]), &mut output)?;
-    assert_eq!(rt; status, ServeStatus::Ok);
+    equal(&rt, status, ServeStatus::Ok);
     let lines = [(" join ", 43), (" key ", 21), (" gone ", 43)];
     has_lines(&rt, output.held(), &lines);
     Ok(())
@@ -163,9 +164,9 @@ fn is_served<R: Abort + Threads + Wait + Copy + Send + Sync + 'static>(
 ) -> Result<(), Fail> {
     let mut output = sink(alloc, row.writes)?;
     let status = serve_faulty(rt, alloc, row, &mut output)?;
-    assert_eq!(rt; status, row.status, "{}", row.order);
+    equal_at(&rt, &row.order, status, row.status);
     if let Some(session) = row.session {
-        assert_eq!(rt; output.held(), session.as_bytes(), "{}", row.order);
+        equal_at(&rt, &row.order, output.held(), session.as_bytes());
     }
     has_lines(&rt, output.held(), row.lines);
     Ok(())
@@ -202,7 +203,7 @@ fn bad_words(rt: HostRuntime) -> Result<(), Fail> {
     let mut output = sink(alloc, &[])?;
     for &line in &BAD_WORDS {
         let status = serve(rt, alloc, line, &mut net, &[], &mut output)?;
-        assert_eq!(rt; status, ServeStatus::BadWords, "{line}");
+        equal_at(&rt, &line, status, ServeStatus::BadWords);
         assert!(rt; output.held().is_empty(), "{line}");
     }
     Ok(())

@@ -1,4 +1,5 @@
 //! The worked rows of the server.
+use crate::equal::equal;
 use crate::gates::{HoldsFirst, Open};
 use crate::links::{link, net_of, serve, sink, words};
 use crate::live_net::{LiveNet, LiveSink, LiveSource, Shared};
@@ -49,7 +50,7 @@ fn serve_two<R: Abort + Threads + Wait + Copy + Send + Sync + 'static>(
 ) -> Result<(), Fail> {
     let gate = Arc::new(alloc, HoldsFirst::new())?;
     let status = serve_held(rt, alloc, words, net, &gate, output);
-    assert_eq!(rt; status, ServeStatus::Ok);
+    equal(&rt, status, ServeStatus::Ok);
     assert!(rt; !gate.was_late());
     Ok(())
 }
@@ -90,10 +91,11 @@ fn a_shell(rt: HostRuntime) -> Result<(), Fail> {
     let mut output = sink(alloc, &[])?;
     let line = "serve --app a --method m --shell s --order s";
     let status = serve(rt, alloc, line, &mut net, &[], &mut output)?;
-    assert_eq!(rt; status, ServeStatus::Ok);
-    assert_eq!(rt;
+    equal(&rt, status, ServeStatus::Ok);
+    equal(
+        &rt,
         std::str::from_utf8(output.held()).ok(),
-        Some("session 2 1000000 65536 134217728\n0 1 key 5 30 1\n0 1 screen 10 10\nend\n")
+        Some("session 2 1000000 65536 134217728\n0 1 key 5 30 1\n0 1 screen 10 10\nend\n"),
     );
     Ok(())
 }
@@ -123,7 +125,7 @@ fn serve_one<R: Abort + Threads + Wait + Copy + Send + Sync + 'static>(
 ) -> Result<(), Fail> {
     let words = words(alloc, "serve --app a --method m --shell s --order a")?;
     let status = serve_live(rt, alloc, &words, net, gate, output);
-    assert_eq!(rt; status, ServeStatus::Ok);
+    equal(&rt, status, ServeStatus::Ok);
     Ok(())
 }
 

@@ -1,4 +1,5 @@
 //! The server over Unix sockets.
+use crate::equal::equal;
 use crate::gates::Open;
 use crate::links::{replay, sink, told_line, words};
 use link_jobs::LinkJob;
@@ -120,15 +121,15 @@ fn leave_a_file<R: Files + Net>(rt: &R) -> io::Result<()> {
 }
 
 fn are_served<R: Abort>(rt: &R, status: ServeStatus, answers: &Answers) {
-    assert_eq!(rt; status, ServeStatus::Ok);
-    assert_eq!(rt; answers.app.len(), 116);
+    equal(rt, status, ServeStatus::Ok);
+    equal(rt, answers.app.len(), 116);
     assert!(rt; answers.method > 4);
     assert!(rt; answers.shell);
 }
 
 fn is_private<R: Abort + Files>(rt: &R) -> io::Result<()> {
     let mode = fs::metadata(rt, "serve_app.sock")?.permissions().mode();
-    assert_eq!(rt; mode & 0o777, 0o600);
+    equal(rt, mode & 0o777, 0o600);
     Ok(())
 }
 
@@ -198,10 +199,11 @@ fn a_listen_fails(rt: HostRuntime) -> Result<(), Fail> {
     let mut output = sink(alloc, &[])?;
     let line = "serve --app no_such_folder/app.sock --method m.sock --shell s.sock --order a";
     let status = serve(rt, alloc, line, &mut net, &mut output)?;
-    assert_eq!(rt; status, ServeStatus::NetFault);
-    assert_eq!(rt;
+    equal(&rt, status, ServeStatus::NetFault);
+    equal(
+        &rt,
         std::str::from_utf8(output.held()).ok(),
-        Some("session 2 1000000 65536 134217728\nend\n")
+        Some("session 2 1000000 65536 134217728\nend\n"),
     );
     Ok(())
 }
@@ -243,7 +245,7 @@ fn a_peer_never_reads(rt: HostRuntime) -> Result<(), Fail> {
     let talking = thread::spawn(&rt, move || deaf_client(&rt, alloc))?;
     let status = serve(rt, alloc, DEAF, &mut net, &mut output)?;
     let shell = talking.join(&rt)?;
-    assert_eq!(rt; status, ServeStatus::Ok);
+    equal(&rt, status, ServeStatus::Ok);
     assert!(rt; shell > 6);
     let text = std::str::from_utf8(output.held()).ok().expect(&rt, "text");
     assert!(rt; text.contains(" key 5 30 1\n"));

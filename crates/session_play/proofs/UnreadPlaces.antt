@@ -7,7 +7,7 @@ use Rattle.std.proofs.lemmas.Option.{same_Some}
 use Rattle.wl_wire.specs.Streams.{begun}
 use Rattle.broker_model.specs.declared.journal.Entry.{Entry}
 use Rattle.broker_core.specs.Taking.{lives}
-use Rattle.broker_core.proofs.EachElement.{map_filter}
+use Rattle.broker_model.proofs.EachElement.{map_filter}
 use Rattle.session_play.specs.declared.unread.Unread.{Unread}
 use Rattle.session_play.specs.Played.{Waiting, of_live, unread_by, with_unread}
 use Rattle.session_play.specs.Playing.{is_waiting}

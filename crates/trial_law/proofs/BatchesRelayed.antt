@@ -26,7 +26,7 @@ use Rattle.relay_model.proofs.HoldLaws.{kept_same}
 use Rattle.client_side.specs.Happenings.{Happening}
 use Rattle.broker_model.specs.declared.journal.Entry.{Entry}
 use Rattle.broker_model.specs.Ids.{Made, log_of, made_as}
-use Rattle.broker_model.specs.Law.{maker_of, IsAlone}
+use Rattle.broker_model.specs.Law.{maker_of, IsAlone, is_entering}
 use Rattle.broker_model.specs.Groups.{message_of, said_piece, message_piece, followed_by}
 use Rattle.broker_model.specs.Out.{act_at, act_now, group_at, fits, before_group, out_for}
 use Rattle.broker_model.specs.Queued.{relays, is_put_for, is_put, queued}
@@ -40,7 +40,7 @@ use Rattle.seat_objects.specs.Fits.{FitsMessage}
 use Rattle.seat_audience.specs.Tells.{IsShort}
 use Rattle.broker_core.proofs.ActTextsFit.{IsBodyShort, act_fits}
 use Rattle.broker_core.proofs.ToldMessagesFit.{all_short}
-use Rattle.broker_core.proofs.EachElement.{either_way, each_append}
+use Rattle.broker_model.proofs.EachElement.{either_way, each_append}
 use Rattle.trial_run.proofs.FirstMessages.{found_first}
 use Rattle.trial_law.specs.RelayedBatches.{batches_in, group_told, groups_told}
 use Rattle.trial_law.specs.FieldLogs.{events_in, happenings}
@@ -49,7 +49,7 @@ use Rattle.trial_law.proofs.HeardInPieces.{waiting}
 use Rattle.trial_law.proofs.ClientIds.{AreOwn}
 use Rattle.trial_law.proofs.RequestsWait.{no_messages}
 use Rattle.trial_law.proofs.GroupsHeard.{piece_messages, IsSpelled, Tells, tells_nothing, GroupOf, tells_more, IsStillMessage, still_group, done_waits, told_messages, told_joined, joined_both, TellsSo, told_each, all_messages, IsHeaded, headed}
-use Rattle.trial_law.proofs.ToldToFields.{IsEntering, IsWell, told_entering}
+use Rattle.broker_model.proofs.ToldToFields.{IsWell, told_entering}
 
 -- ---- what a fresh batch tells
 
@@ -227,12 +227,12 @@ each_pair : {A : Type 0} (P Q R : A → Type 0) (xs : List A) → ((x : A) → P
 each_pair P Q R [] f h k = tt
 each_pair P Q R (x ∷ xs) f h k = (f x h.0 k.0, each_pair P Q R xs f h.1 k.1)
 
-entering_opcode : (made : List Made) (s : Said) (x : Message) → IsEntering s → message_of made s ≡ Some x → x.opcode ≤ 1
+entering_opcode : (made : List Made) (s : Said) (x : Message) → is_entering s ≡ true → message_of made s ≡ Some x → x.opcode ≤ 1
 entering_opcode made (said.Enter surface) x h e =
     (let same = ap (λ (m : Message). m.opcode) (same_Some _ x e) in omega arith)
 entering_opcode made (said.Leave surface) x h e =
     (let same = ap (λ (m : Message). m.opcode) (same_Some _ x e) in omega arith)
-entering_opcode made _ x h e = absurd h
+entering_opcode made _ x h e = cc
 
 still_entry : (e : Entry) (older : List Entry) (p f : ℕ) → IsInput (e ∷ older) p f → AreShortBodies (e ∷ older) →
     relays e older f ≡ false → GroupOf (entry_messages e older p) []
@@ -250,7 +250,7 @@ still_entry e older p f h short r =
     let with = made_with made t.to m is in
     let label : m.label ≡ f = h.only m with.among own (sym head.id-is ∙ seven) in
     let low : m.label ≤ length (e ∷ older) = (sound (e ∷ older) m with.among).within in
-    let enters : IsEntering t.event =
+    let enters : is_entering t.event ≡ true =
     w (h.maker (subst (λ n. n ≤ length (e ∷ older)) label low)) (sym with.named ∙ label) in
     subst (λ n. n ≤ 1) (sym head.opcode-is) (entering_opcode made t.event x enters q))
     (all_short (act_at e older) (resolve older) (act_fits e older short.0) (all_fit older short.1))

@@ -12,7 +12,6 @@ pub mod ClientIds
 pub mod RequestsWait
 pub mod SetupSent
 pub mod ClientsKnown
-pub mod ToldToFields
 pub mod GroupsHeard
 pub mod BatchesRelayed
 pub mod TextsRelayed

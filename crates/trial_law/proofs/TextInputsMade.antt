@@ -25,10 +25,9 @@ use Rattle.broker_model.specs.Requests.{Argument, global_at, new_of, act_of}
 use Rattle.broker_model.specs.Refusals.{request_fault}
 use Rattle.broker_model.specs.Resolve.{Meaning, label_at, made_new, of_request, of_reading, of_message, of_peer, means, past_of, resolve}
 use Rattle.broker_model.proofs.Named.{IsIn, found}
-use Rattle.broker_model.proofs.Owners.{maker_stays}
+use Rattle.broker_model.proofs.Owners.{maker_stays, owner_lives}
 use Rattle.broker_model.proofs.Peers.{length_log}
 use Rattle.broker_model.proofs.Sound.{sound}
-use Rattle.broker_core.proofs.WhoIsTold.{owner_lives}
 use Rattle.trial_law.proofs.ClientIds.{either, reading_interface}
 
 -- ---- which request makes a text input

@@ -1,4 +1,5 @@
 // Generated sessions, against counts that a program worked out which shares nothing with the broker.
+use crate::equal::equal;
 use gen_run::{WriteEnd, count, summary, write_session};
 use std::alloc::Global;
 use std::process::Abort;
@@ -24,9 +25,9 @@ const COUNTS: [(u64, &str); 3] = [
 fn generated_sessions_have_their_counts(rt: HostRuntime) -> Result<(), Fail> {
     let alloc = rt.alloc();
     for &(number, line) in &COUNTS {
-        assert_eq!(rt; summary(alloc, number)?.as_str(), line);
+        equal(&rt, summary(alloc, number)?.as_str(), line);
     }
-    assert_eq!(rt; count(alloc, 1)?.queued, 33204);
+    equal(&rt, count(alloc, 1)?.queued, 33204);
     Ok(())
 }
 
@@ -45,7 +46,7 @@ fn leaves_a_front(rt: &impl Abort, alloc: Global, whole: &[u8]) -> Result<(), Fa
     let fail = Vec::from_slice(alloc, &[2])?;
     let mut sink = MemSink::new(alloc, 4_000_000, fail)?;
     let end = write_session(alloc, 7, &mut sink);
-    assert_eq!(rt; end, Err(WriteEnd::WriteFault));
+    equal(rt, end, Err(WriteEnd::WriteFault));
     assert!(rt; sink.held().len() >= 16_384);
     assert!(rt; whole.starts_with(sink.held()));
     Ok(())
@@ -55,11 +56,11 @@ fn leaves_a_front(rt: &impl Abort, alloc: Global, whole: &[u8]) -> Result<(), Fa
 fn a_generated_session_is_written(rt: HostRuntime) -> Result<(), Fail> {
     let alloc = rt.alloc();
     let mut sink = MemSink::new(alloc, 4_000_000, Vec::new(alloc))?;
-    assert_eq!(rt; write_session(alloc, 7, &mut sink), Ok(()));
+    equal(&rt, write_session(alloc, 7, &mut sink), Ok(()));
     let text = sink.held();
     let front = b"session 1 1000000 65536\njoin app\nbytes 1 0100000001000c0002000000\n";
     assert!(rt; text.starts_with(front));
     assert!(rt; text.ends_with(b"\nend\n"));
-    assert_eq!(rt; line_feeds(text), 20_035);
+    equal(&rt, line_feeds(text), 20_035);
     leaves_a_front(&rt, alloc, text)
 }

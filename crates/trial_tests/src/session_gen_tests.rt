@@ -1,5 +1,6 @@
 // The set-up and the first drawn steps of the number 7, whose first words are 2442223337, 414063806
 // and 2743600285.
+use crate::equal::equal;
 use session_gen::{Gen, STEPS};
 use std::alloc::Global;
 use std::process::Abort;
@@ -26,7 +27,7 @@ fn next_is(
     wanted: &str,
 ) -> Result<(), Fail> {
     let told = next_told(rt, alloc, session, dones)?;
-    assert_eq!(rt; told.as_str(), wanted);
+    equal(rt, told.as_str(), wanted);
     Ok(())
 }
 
@@ -46,7 +47,7 @@ const DRAWN: [&str; 10] = [
 #[test]
 fn makes_the_first_steps_of_a_number(rt: HostRuntime) -> Result<(), Fail> {
     let mut session = Gen::new(7);
-    assert_eq!(rt; session.left(), STEPS);
+    equal(&rt, session.left(), STEPS);
     next_is(&rt, rt.alloc(), &mut session, 0, "Join(App)")?;
     next_is(
         &rt,
@@ -59,7 +60,7 @@ fn makes_the_first_steps_of_a_number(rt: HostRuntime) -> Result<(), Fail> {
         assert!(rt; session.left() > 0);
         let _ = session.next_step(rt.alloc(), 0)?;
     }
-    assert_eq!(rt; session.left(), 20_000);
+    equal(&rt, session.left(), 20_000);
     for &row in &DRAWN {
         next_is(&rt, rt.alloc(), &mut session, 1, row)?;
     }

@@ -1,4 +1,5 @@
 // Whole scripts, against what they show. Lists are written with `;` between lines.
+use crate::equal::equal_at;
 use std::alloc::Global;
 use std::process::Abort;
 use std::test::Fail;
@@ -31,7 +32,7 @@ fn is_text(
     shown: &str,
 ) -> Result<(), Fail> {
     let wanted = lines(alloc, &[(shown, 1)])?;
-    assert_eq!(rt; text, wanted.as_str(), "{script}");
+    equal_at(rt, &script, text, wanted.as_str());
     Ok(())
 }
 
@@ -56,7 +57,7 @@ fn is_bad(
 ) -> Result<(), Fail> {
     match run_lines(alloc, script)? {
         Err(TrialEnd::BadLine(found, text)) => {
-            assert_eq!(rt; found, number, "{script}");
+            equal_at(rt, &script, found, number);
             is_text(rt, alloc, script, text.as_str(), shown)
         }
         other => {

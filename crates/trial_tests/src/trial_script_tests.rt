@@ -1,4 +1,5 @@
 // Scripts, how many fields and actions they have, and where they end.
+use crate::equal::equal_at;
 use std::test::Fail;
 use trial_script::{Ending, read_script};
 
@@ -37,9 +38,9 @@ fn scripts_end_where_they_do(rt: HostRuntime) -> Result<(), Fail> {
         ),
     ] {
         let script = read_script(alloc, text.as_bytes())?;
-        assert_eq!(rt; script.ending, ending, "{text}");
-        assert_eq!(rt; script.fields, fields, "{text}");
-        assert_eq!(rt; script.actions.as_slice().len(), actions, "{text}");
+        equal_at(&rt, &text, script.ending, ending);
+        equal_at(&rt, &text, script.fields, fields);
+        equal_at(&rt, &text, script.actions.as_slice().len(), actions);
     }
     Ok(())
 }

@@ -1,6 +1,7 @@
 // The worked rows, and each public call once.
 ghost use Rattle.compose_method.specs.Table.{AreKeys};
 
+use crate::equal::equal_at;
 use compose_method::{ComposeTable, MAX_ENTRIES, MAX_SINGLES, Method, TableRefusal};
 use std::alloc::Global;
 use std::process::Abort;
@@ -104,11 +105,11 @@ fn each_list_of_presses_is_typed(rt: HostRuntime) -> Result<(), Fail> {
 fn ask(rt: &impl Abort, table: &mut ComposeTable, keys: &[u32], want: Result<(), TableRefusal>)
     requires { AreKeys keys.now }
 {
-    assert_eq!(rt; table.entry("x", keys), want, "{keys:?}");
+    equal_at(rt, &keys, table.entry("x", keys), want);
 }
 
 fn ask_single(rt: &impl Abort, table: &mut ComposeTable, key: u32, want: Result<(), TableRefusal>) {
-    assert_eq!(rt; table.single(key, "x"), want, "{key}");
+    equal_at(rt, &key, table.single(key, "x"), want);
 }
 
 // Entries that clash, and the table filled up.

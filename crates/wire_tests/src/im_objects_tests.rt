@@ -1,4 +1,5 @@
 // What no clause tells: that memory is found, and that a table is used as its callers use it.
+use crate::equal::{equal, equal_at};
 use im_objects::{Label, MakeRefusal, Table};
 use std::alloc::Global;
 use std::process::Abort;
@@ -39,7 +40,7 @@ fn make(
     label: Label,
     want: Result<(), MakeRefusal>,
 ) {
-    assert_eq!(rt; made(table, interface, id, label), Some(want), "id {id}");
+    equal_at(rt, &id, made(table, interface, id, label), Some(want));
 }
 
 fn fill(rt: &impl Abort, table: &mut Table) {
@@ -52,10 +53,10 @@ fn take(rt: &impl Abort, table: &mut Table, step: Step) {
     match step {
         Step::Make(interface, id, label, want) => make(rt, table, interface, id, label, want),
         Step::Fill => fill(rt, table),
-        Step::Drop(id, want) => assert_eq!(rt; table.drop_id(id), want, "id {id}"),
-        Step::Find(id, want) => assert_eq!(rt; table.find(id), want, "id {id}"),
-        Step::FindLabel(label, want) => assert_eq!(rt; table.find_label(label), want),
-        Step::Length(want) => assert_eq!(rt; table.len(), want),
+        Step::Drop(id, want) => equal_at(rt, &id, table.drop_id(id), want),
+        Step::Find(id, want) => equal_at(rt, &id, table.find(id), want),
+        Step::FindLabel(label, want) => equal(rt, table.find_label(label), want),
+        Step::Length(want) => equal(rt, table.len(), want),
     }
 }
 

@@ -5,6 +5,8 @@
 #[cfg(test)]
 mod compose_method_tests;
 #[cfg(test)]
+mod equal;
+#[cfg(test)]
 mod im_objects_tests;
 #[cfg(test)]
 mod message_row_tests;

@@ -1,4 +1,5 @@
 // Every row, written and read back. The words are from the profile's table, and not from the program.
+use crate::equal::equal;
 use std::process::Abort;
 use wl_proto::{
     Event, Interface, Request, event_len, read_event, read_request, request_len, write_event,
@@ -8,9 +9,9 @@ use wl_wire::Raw;
 
 // The bytes are these words, of which the second has the opcode.
 fn written_as(rt: &impl Abort, bytes: &[u8], words: &[u32]) -> u16 {
-    assert_eq!(rt; bytes.len(), 4 * words.len());
+    equal(rt, bytes.len(), 4 * words.len());
     for (place, word) in bytes.chunks_exact(4).zip(words) {
-        assert_eq!(rt; place, word.to_le_bytes().as_slice());
+        equal(rt, place, word.to_le_bytes().as_slice());
     }
     match words {
         [_, second, ..] => (second % 65536) as u16,

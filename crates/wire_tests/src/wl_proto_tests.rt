@@ -1,4 +1,5 @@
 // The worked examples of the wire.
+use crate::equal::equal;
 use wl_proto::{
     Event, Interface, Refuse, Request, SURFACE_REQUESTS, Sig, SigTable, read_event, read_request,
     write_event,
@@ -9,19 +10,22 @@ use wl_wire::Raw;
 fn events_are_written_as_in_the_examples(rt: HostRuntime) {
     let mut out = [0; 16];
     let event = Event::CommitString { text: Some("a") };
-    assert_eq!(rt; write_event(5, &event, &mut out), 16);
-    assert_eq!(rt;
+    equal(&rt, write_event(5, &event, &mut out), 16);
+    equal(
+        &rt,
         out.as_slice(),
-        b"\x05\0\0\0\x03\0\x10\0\x02\0\0\0a\0\0\0".as_slice()
+        b"\x05\0\0\0\x03\0\x10\0\x02\0\0\0a\0\0\0".as_slice(),
     );
     let mut out = [9; 16];
-    assert_eq!(rt;
+    equal(
+        &rt,
         write_event(5, &Event::TextInputDone { serial: 1 }, &mut out),
-        12
+        12,
     );
-    assert_eq!(rt;
+    equal(
+        &rt,
         out.as_slice(),
-        b"\x05\0\0\0\x05\0\x0c\0\x01\0\0\0\x09\x09\x09\x09".as_slice()
+        b"\x05\0\0\0\x05\0\x0c\0\x01\0\0\0\x09\x09\x09\x09".as_slice(),
     );
 }
 
@@ -69,8 +73,8 @@ fn keymap_token(tokens: &[u32]) -> Result<u32, Refuse> {
 
 #[test]
 fn a_descriptor_is_the_first_token(rt: HostRuntime) {
-    assert_eq!(rt; keymap_token(&[8, 9]), Ok(8));
-    assert_eq!(rt; keymap_token(&[]), Err(Refuse::Malformed));
+    equal(&rt, keymap_token(&[8, 9]), Ok(8));
+    equal(&rt, keymap_token(&[]), Err(Refuse::Malformed));
 }
 
 const NO_ROWS: [(Interface, u16); 3] = [
@@ -104,5 +108,5 @@ fn opcodes_rise_in_a_table(rt: HostRuntime) {
         kinds: [None; 5],
     };
     assert!(rt; !SigTable { rows: [row, row] }.opcodes_rise());
-    assert_eq!(rt; Interface::InputMethod.name(), "zwp_input_method_v2");
+    equal(&rt, Interface::InputMethod.name(), "zwp_input_method_v2");
 }

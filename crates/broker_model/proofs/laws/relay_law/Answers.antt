@@ -3,6 +3,9 @@ use Rattle.broker_model.proofs.Settling.{IsSettled, history_settled}
 use Rattle.broker_model.proofs.Queues.{relay_law}
 use Rattle.broker_model.proofs.Quiet.{stores_hold}
 use Rattle.broker_model.proofs.Whole.{whole_groups}
+use Rattle.broker_model.proofs.ToldToFields.{told_entering}
+use Rattle.broker_model.specs.Resolve.{resolve}
+use Rattle.broker_model.specs.Out.{act_at}
 use Rattle.broker_model.proofs.laws.relay_law.Goals as goal
 
 pub returns-clause-law : goal.returns-clause-law
@@ -10,6 +13,9 @@ returns-clause-law c = relay_law
 
 pub returns-clause-whole_groups : goal.returns-clause-whole_groups
 returns-clause-whole_groups c = whole_groups
+
+pub returns-clause-nothing_else : goal.returns-clause-nothing_else
+returns-clause-nothing_else c = λ e older f p. told_entering (act_at e older) (resolve older) f p
 
 pub returns-clause-nobody_is_due : goal.returns-clause-nobody_is_due
 returns-clause-nobody_is_due c = λ capacity steps q peer e.

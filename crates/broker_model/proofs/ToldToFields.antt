@@ -22,10 +22,9 @@ use Rattle.relay_model.specs.Told.{to, leave, enter, each_entered, leaves, notic
 use Rattle.relay_model.proofs.Histories.{IsHistory, live, history_is, cleaned_again}
 use Rattle.relay_model.proofs.ActivationLaws.{serving_within}
 use Rattle.relay_model.proofs.ObjectLaws.{alive_within}
-use Rattle.broker_model.specs.Law.{field_peer, maker_of}
-use Rattle.broker_model.proofs.Owners.{remains_some, maker_stays}
-use Rattle.broker_core.proofs.EachElement.{either_way, each_of, each_weaker, each_append, each_map, each_flat, each_kept}
-use Rattle.broker_core.proofs.WhoIsTold.{owner_lives}
+use Rattle.broker_model.specs.Law.{field_peer, maker_of, is_entering}
+use Rattle.broker_model.proofs.Owners.{remains_some, maker_stays, owner_lives}
+use Rattle.broker_model.proofs.EachElement.{either_way, each_of, each_weaker, each_append, each_map, each_flat, each_kept}
 
 -- ---- what a field is
 
@@ -152,14 +151,9 @@ grab_standing (act ∷ older) g e = stood act older (standing older) g (λ n. gr
 
 -- ---- what is told to the label of a field
 
--- that a field is entered or left
-abbrev pub IsEntering : Said → Type 0
-IsEntering (said.Enter surface) = Unit {0}
-IsEntering (said.Leave surface) = Unit {0}
-IsEntering _ = ⊥
-
+-- told to the field f, it says that the field is entered or left
 abbrev pub IsWell : ℕ → Told → Type 0
-IsWell f t = t.to ≡ f → IsEntering t.event
+IsWell f t = t.to ≡ f → is_entering t.event ≡ true
 
 abbrev AreWell : ℕ → List Told → Type 0
 AreWell f ts = AllByRecursion (IsWell f) ts
@@ -167,7 +161,7 @@ AreWell f ts = AllByRecursion (IsWell f) ts
 spare : (f x : ℕ) (saids : List Said) → (x ≡ f → ⊥) → AreWell f (map (to x) saids)
 spare f x saids d = each_map (IsWell f) (to x) saids (each_of (λ s. IsWell f (to x s)) saids (λ s e. absurd (d e)))
 
-entered_well : (f : ℕ) (say : ℕ → ℕ → Told) (now : List Act) (o : Option ℕ) → ((s x : ℕ) → IsEntering (say s x).event) →
+entered_well : (f : ℕ) (say : ℕ → ℕ → Told) (now : List Act) (o : Option ℕ) → ((s x : ℕ) → is_entering (say s x).event ≡ true) →
     AreWell f (each_entered say now o)
 entered_well f say now None h = tt
 entered_well f say now (Some s) h =
@@ -175,16 +169,16 @@ entered_well f say now (Some s) h =
     (each_of (λ x. IsWell f (say s x)) (filter (entered now) (fields now)) (λ x e. h s x))
 
 leaves_well : (f : ℕ) (act : Act) (log : List Act) → AreWell f (leaves act log)
-leaves_well f (acts.Focus s) log = entered_well f leave log (focus log) (λ t x. tt)
-leaves_well f acts.Unfocus log = entered_well f leave log (focus log) (λ t x. tt)
+leaves_well f (acts.Focus s) log = entered_well f leave log (focus log) (λ t x. refl)
+leaves_well f acts.Unfocus log = entered_well f leave log (focus log) (λ t x. refl)
 leaves_well f _ log = tt
 
 new_well : (f x : ℕ) (now : List Act) (o : Option ℕ) → AreWell f (enters_new now x o)
 new_well f x now None = tt
-new_well f x now (Some s) = either_way (AllByRecursion (IsWell f)) (entered now x) (enter s x ∷ []) [] (λ e. tt, tt) tt
+new_well f x now (Some s) = either_way (AllByRecursion (IsWell f)) (entered now x) (enter s x ∷ []) [] (λ e. refl, tt) tt
 
 enters_well : (f : ℕ) (act : Act) (log : List Act) → AreWell f (enters act log)
-enters_well f (acts.Focus s) log = entered_well f enter (acts.Focus s ∷ log) (focus (acts.Focus s ∷ log)) (λ t x. tt)
+enters_well f (acts.Focus s) log = entered_well f enter (acts.Focus s ∷ log) (focus (acts.Focus s ∷ log)) (λ t x. refl)
 enters_well f (acts.Field p) log = new_well f (next log) (acts.Field p ∷ log) (focus (acts.Field p ∷ log))
 enters_well f _ log = tt
 
