@@ -1,10 +1,11 @@
 #!/usr/bin/env python3
 """Checks the claims of README.md and of each crates/NAME/README.md against the sources.
 
-A claim is a row `claim | call | clause` of a table with that head. Each call has to be a function of the sources (of the
-crate itself in its own README), and each clause the name of an `ensures` of one of the row's calls, of a ghost member or a
-function of the crate, or of what its specifications define. `its ensures` and `definitions` name no clause. Prints each row that fails, and how many were looked
-at; ends with 1 if any failed.
+A claim is a row `claim | call | clause` of a table with that head. Each call has to be a function of the sources (of
+the crate itself in its own README), and each clause the name of an `ensures` of one of the row's calls, of a ghost
+member or a function of the crate, or of what its specifications define. `its ensures` and `definitions` name no clause.
+docs/AUDIT.md has to tell how many must-fail edits there are. Prints what fails, and how many were looked at; ends with 1
+if any failed.
 """
 import glob
 import os
@@ -95,8 +96,22 @@ def main():
             if problems:
                 failed += 1
                 print(f"{os.path.relpath(path, ROOT)}:{number}: {'; '.join(problems)}")
+    for told, counted in counts_of_edits():
+        looked_at += 1
+        if told != counted:
+            failed += 1
+            print(f"docs/AUDIT.md: {told} where {counted} are")
     print(f"{looked_at} claims, {failed} that don't stand")
     return 1 if failed else 0
+
+
+def counts_of_edits():
+    """How many crates have must-fail edits and how many these are, as docs/AUDIT.md tells and as they are."""
+    edits = glob.glob(f"{ROOT}/crates/*/must-fail/*.edit")
+    folders = {os.path.dirname(edit) for edit in edits}
+    with open(f"{ROOT}/docs/AUDIT.md") as file:
+        told = re.search(r"of (\d+) crates have (\d+) such\s+changes", file.read())
+    return zip(map(int, told.groups()) if told else (0, 0), (len(folders), len(edits)))
 
 
 if __name__ == "__main__":
