@@ -8,9 +8,9 @@ ghost use Rattle.broker_model.specs.Law.{FewWait, NoneTaken, StampEach, MomentsR
 /// After any outer steps, what is queued for each field is what is relayed to it, in order and once
 /// each; or all of that but the last group, which did not fit the store of the field's peer, and
 /// then that peer was ended for it. What is put or left out with such a group is its bytes and
-/// nothing else, and any other step tells a field that it is entered or left and nothing else, so
-/// there is no done but those of the groups. No live peer is left that has to be ended, and no store
-/// holds more than its capacity.
+/// nothing else, and any other step tells a field at most that it is entered or left, so there is
+/// no done but those of the groups. No live peer is left that has to be ended, and no store holds
+/// more than its capacity.
 pub fn relay_law()
     ensures law { RelayLaw }
     ensures whole_groups { WholeGroups }
@@ -19,21 +19,22 @@ pub fn relay_law()
     ensures stores_hold { StoresHold }
 {}
 
-/// Of a live peer, after any entries: the table that had a call for each object that was made and
-/// kept, and for each that was dropped, has under each id the object that the id names, for each
-/// label the id of the live object that has it, and as many objects as the peer has alive, its
-/// display with them.
+/// A peer's table is told of each object that the peer makes and keeps, and of each that it drops.
+/// After any entries the table of a live peer finds under each id the object that the id names, and
+/// for each label the id of the live object that has it. It counts as many objects as the peer has
+/// alive, its display with them.
 pub fn table_law()
     ensures by_id { FoundById }
     ensures by_label { FoundByLabel }
     ensures counted { CountedLive }
 {}
 
-/// The tokens of each group lie among its bytes as `Store::put_group` asks for it. Each entry's
-/// group goes behind the cells of what is out for its peer, but for what of it was taken ahead, if
-/// the store's own test has room for it. Otherwise they stay. What an entry takes goes from the
-/// front of those cells. Their bytes are what is stored for the peer, and the tokens of the first
-/// of them are those that go with as many of the next bytes.
+/// A store keeps what is out for its peer in cells: bytes, some with a token that goes with them.
+/// The tokens of each group lie among its bytes as `Store::put_group` asks for it. If the store's
+/// own test finds room for an entry's group, the group goes behind the cells, but for what of it was
+/// taken ahead; otherwise the cells stay. What an entry takes goes from their front. Their bytes
+/// are what is stored for the peer, and the tokens of the first of them are those that go with as
+/// many of the next bytes.
 pub fn store_law()
     ensures spaced { GroupsAreSpaced }
     ensures put { CellsArePut }

@@ -51,7 +51,7 @@ abbrev pub dones : List Act → ℕ → List ℕ
 dones [] m = []
 dones (act ∷ older) m = (if is_some (notice_to m act older) then dones older m ++ next older ∷ [] else dones older m)
 
--- the act that began the present activation of m, after the acts that told it nothing more than an update
+-- the act that began the present activation of m after the act n, where `before` began it until then
 abbrev pub begun_by : ℕ → Option Notice → Option ℕ → Option ℕ
 begun_by n (Some Activates) before = Some n
 begun_by n (Some Updates) before = before
@@ -63,6 +63,7 @@ abbrev pub begun_for : List Act → ℕ → Option ℕ
 begun_for [] m = None
 begun_for (act ∷ older) m = begun_by (next older) (notice_to m act older) (begun_for older m)
 
+-- the act that began the present activation of a method, where there is one
 abbrev pub begun_of : List Act → Option ℕ → Option ℕ
 begun_of log None = None
 begun_of log (Some m) = begun_for log m
@@ -71,6 +72,7 @@ begun_of log (Some m) = begun_for log m
 abbrev pub begun : List Act → Option ℕ
 begun log = begun_of log (serving log)
 
+-- the element at a place, counted from 1, where there is one
 abbrev pub at_position : List ℕ → Option ℕ → Option ℕ
 at_position xs None = None
 at_position xs (Some n) = slice_get xs (n - 1)

@@ -25,12 +25,15 @@ pub record Batch : Type 0 where
   pub string : List ℕ
   pub preedit : Preedit
 
+-- nothing is deleted
 abbrev pub no_deletion : Deletion
 no_deletion = record { before = 0; after = 0 }
 
+-- no preedit is shown
 abbrev pub no_preedit : Preedit
 no_preedit = record { text = []; begin = pos 0; end = pos 0 }
 
+-- a batch without edits
 abbrev pub no_batch : Batch
 no_batch = record { deletion = no_deletion; string = []; preedit = no_preedit }
 
@@ -46,6 +49,7 @@ last_deletion from [] m = no_deletion
 last_deletion from (act ∷ older) m =
     (if nat_le (next older) from then no_deletion else deletion_by act m (last_deletion from older m))
 
+-- what an act makes of the last string of m, where rest is what the acts before it say
 abbrev pub string_by : Act → ℕ → List ℕ → List ℕ
 string_by (MString n text) m rest = (if n == m then text else rest)
 string_by (MCommit n serial) m rest = (if n == m then [] else rest)
@@ -56,6 +60,7 @@ abbrev pub last_string : ℕ → List Act → ℕ → List ℕ
 last_string from [] m = []
 last_string from (act ∷ older) m = (if nat_le (next older) from then [] else string_by act m (last_string from older m))
 
+-- what an act makes of the last preedit of m, where rest is what the acts before it say
 abbrev pub preedit_by : Act → ℕ → Preedit → Preedit
 preedit_by (MPreedit n text begin end) m rest =
     (if n == m then record { text = text; begin = begin; end = end } else rest)
@@ -92,19 +97,24 @@ commits (_ ∷ older) f = commits older f
 abbrev pub commit_count : List Act → ℕ → ℕ
 commit_count log f = commits log f % 2 ^ 32
 
+-- the event of a deletion, unless it deletes nothing
 abbrev pub deletion_said : Deletion → List Said
 deletion_said d = (if d.before == 0 && d.after == 0 then [] else said.Delete d.before d.after ∷ [])
 
+-- the event of a string, unless it is empty
 abbrev pub string_said : List ℕ → List Said
 string_said text = (if length text == 0 then [] else said.CommitString text ∷ [])
 
+-- the number is 0
 abbrev pub is_zero : ℤ → Bool
 is_zero (pos n) = n == 0
 is_zero (negsuc n) = false
 
+-- the preedit has no text, and both its cursors are 0
 abbrev pub is_no_preedit : Preedit → Bool
 is_no_preedit p = (length p.text == 0) && is_zero p.begin && is_zero p.end
 
+-- the event of a preedit, unless it is none
 abbrev pub preedit_said : Preedit → List Said
 preedit_said p = (if is_no_preedit p then [] else said.Preedit p.text p.begin p.end ∷ [])
 
@@ -112,6 +122,7 @@ preedit_said p = (if is_no_preedit p then [] else said.Preedit p.text p.begin p.
 abbrev pub group : Batch → ℕ → List Said
 group b count = deletion_said b.deletion ++ (string_said b.string ++ (preedit_said b.preedit ++ said.FieldDone count ∷ []))
 
+-- the group of the batch that the act commits, told to the field f; no other act has one
 abbrev pub group_of : Act → List Act → ℕ → List Said
 group_of (MCommit m serial) older f = group (batch older m) (commit_count older f)
 group_of _ older f = []

@@ -23,10 +23,12 @@ word_past from (act ∷ older) f = (if nat_le (next older) from then None else w
 abbrev pub word : List Act → ℕ → Option Word
 word log f = (if entered log f then word_past (entered_since log f) log f else None)
 
+-- the word is enable
 abbrev pub is_enabled : Option Word → Bool
 is_enabled (Some Enabled) = true
 is_enabled _ = false
 
+-- the word is disable
 abbrev pub is_disabled : Option Word → Bool
 is_disabled (Some Disabled) = true
 is_disabled _ = false
@@ -41,6 +43,7 @@ abbrev pub ends : Act → List Act → Option ℕ → Bool
 ends (Commit f) older held = is_at held f && is_disabled (word older f)
 ends _ older held = false
 
+-- the field that the act commits
 abbrev pub committed : Act → Option ℕ
 committed (Commit f) = Some f
 committed _ = None
@@ -51,6 +54,7 @@ kept act older None = None
 kept act older (Some h) =
     (if entered (act ∷ older) h && (entered_since (act ∷ older) h == entered_since older h) then Some h else None)
 
+-- the holder after an act, where `held` held before it
 abbrev pub holder_after : Act → List Act → Option ℕ → Option ℕ
 holder_after act older held =
     (if begins_hold act older then committed act else (if ends act older held then None else kept act older held))

@@ -17,6 +17,7 @@ abbrev pub is_place : List ℕ → ℤ → Bool
 is_place text (pos n) = is_boundary text n
 is_place text (negsuc n) = false
 
+-- the number is 0 or more
 abbrev pub is_not_negative : ℤ → Bool
 is_not_negative (pos n) = true
 is_not_negative (negsuc n) = false
@@ -25,9 +26,11 @@ is_not_negative (negsuc n) = false
 abbrev pub is_sized : Rect → Bool
 is_sized rect = is_not_negative rect.width && is_not_negative rect.height
 
--- The act does something: the objects that it names are alive and of its kind, a focus moves the focus, a request of a field other than commit and drop
--- comes while the field is entered, a surrounding text or a rectangle is one, the surface of a new popup has none, and a press isn't refused. What is
--- taken of a peer's bytes is nothing on the seat, so such an act stands as Idle.
+-- The act does something. The objects that it names are alive and of its kind. A focus moves the focus. A request of a
+-- field other than commit and drop comes while the field is entered. The cursor and the anchor of a surrounding text
+-- are at the beginning of a character of it or at its end. No side of a rectangle is negative. The surface of a new
+-- popup has no popup. A press isn't refused.
+-- A step that takes bytes for a peer does nothing on the seat, so it stands in the log as Idle.
 abbrev pub is_live : Act → List Act → Bool
 is_live acts.Peer older = true
 is_live (acts.Gone p cause) older = is_peer older p
