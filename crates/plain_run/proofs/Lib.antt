@@ -12,6 +12,7 @@ pub mod Answering
 pub mod ActsPlayed
 pub mod Sessions
 pub mod SessionsPlayed
+pub mod LinesReplayed
 pub mod MigratedLines
 pub mod WholeLines
 pub mod MigrationReplays

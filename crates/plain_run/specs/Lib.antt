@@ -7,6 +7,7 @@ pub mod Writing
 pub mod Transcript
 pub mod Printing
 pub mod Session
+pub mod Replayed
 pub mod Migrating
 pub mod ActScript
 pub mod MigrationScript

@@ -7,6 +7,7 @@ mod command;
 mod follow;
 mod generated;
 mod last_line;
+mod laws;
 mod migration;
 mod printer;
 mod reading;
@@ -19,5 +20,6 @@ mod trial;
 mod whole;
 mod writing;
 
+pub use laws::replay_law;
 pub use run::run_plain;
 pub use status::Status;
