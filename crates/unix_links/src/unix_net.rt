@@ -1,5 +1,5 @@
 //! Unix listeners as a net.
-ghost use Rattle.std.specs.Prelude.{◌≡◌, ◌≤◌, None, IsErr, IfOk};
+ghost use Rattle.std.specs.Prelude.{◌≡◌, ◌≤◌, [], None, IsErr, IfOk, false};
 ghost use Rattle.wio_core.specs.Io.{raised};
 
 use crate::open_door::OpenDoor;
@@ -32,9 +32,15 @@ pub struct UnixNet<R: Files + Copy> {
     faults: u64,
 }
 
-impl<R: Files + Copy> UnixNet<R> {
-    /// No door is open yet.
-    pub fn new(rt: R, alloc: Global) -> UnixNet<R> {
+impl<R: Files + net::Net + Copy> UnixNet<R> {
+    /// No door is open yet, no link was accepted, and nothing failed.
+    pub fn new(rt: R, alloc: Global) -> UnixNet<R>
+        ensures app_is_shut { ⟦<UnixNet<R> as Net>⟧.opened result Door.App ≡ false }
+        ensures method_is_shut { ⟦<UnixNet<R> as Net>⟧.opened result Door.Method ≡ false }
+        ensures shell_is_shut { ⟦<UnixNet<R> as Net>⟧.opened result Door.Shell ≡ false }
+        ensures no_link_yet { ⟦<UnixNet<R> as Net>⟧.links result ≡ [] }
+        ensures no_fault_yet { ⟦<UnixNet<R> as Net>⟧.fault_count result ≡ 0 }
+    {
         UnixNet {
             rt,
             alloc,
@@ -45,7 +51,9 @@ impl<R: Files + Copy> UnixNet<R> {
             faults: 0,
         }
     }
+}
 
+impl<R: Files + Copy> UnixNet<R> {
     fn fault<T>(&mut self) -> Result<T, Failed>
         ensures err { IsErr result }
         ensures counted { self.new ≡ record self.old { faults = raised self.old.faults } }
