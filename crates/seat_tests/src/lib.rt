@@ -3,6 +3,8 @@
 #![tactic(auto)]
 
 #[cfg(test)]
+mod acts_by_number;
+#[cfg(test)]
 mod equal;
 #[cfg(test)]
 mod plain_relay_tests;
