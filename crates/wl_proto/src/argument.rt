@@ -1,5 +1,5 @@
 // The arguments of a message as the writer takes them, one by one.
-ghost use Rattle.std.specs.Prelude.{◌≡◌, ◌+◌, ◌<◌, ◌≤◌, ◌^◌, ◌++◌, List, length, drop};
+ghost use Rattle.std.specs.Prelude.{◌≡◌, ◌+◌, ◌<◌, ◌≤◌, ◌^◌, ◌++◌, List, [], ◌∷◌, length, drop};
 ghost use Rattle.std.specs.Option.{option_copied};
 ghost use Rattle.wl_wire.specs.Spelling.{text_len};
 ghost use Rattle.wl_wire.specs.Writing.{written, room};
@@ -166,4 +166,102 @@ pub fn put_arguments(out: &mut [u8], receiver: u32, opcode: u16, arguments: &[Ar
     ensures { put_result receiver opcode (values_of arguments.now) out.old ≡ (result, out.new) }
 {
     put_message(out, receiver, opcode as u32, arguments)
+}
+
+// A message with no argument.
+#[inline(always)]
+pub fn put_nothing(out: &mut [u8], receiver: u32, opcode: u16) -> usize
+    requires { 8 ≤ most out.old }
+    ensures { put_result receiver opcode [] out.old ≡ (result, out.new) }
+{
+    put_arguments(out, receiver, opcode, &[])
+}
+
+// A message with one argument.
+#[inline(always)]
+pub fn put_one(out: &mut [u8], receiver: u32, opcode: u16, first: Argument) -> usize
+    requires { 8 + values_len (values_of (first ∷ [])) ≤ most out.old }
+    ensures { put_result receiver opcode (values_of (first.entry ∷ [])) out.old
+        ≡ (result, out.new) }
+{
+    put_arguments(out, receiver, opcode, &[first])
+}
+
+// A message with two arguments.
+#[inline(always)]
+pub fn put_two(
+    out: &mut [u8],
+    receiver: u32,
+    opcode: u16,
+    first: Argument,
+    second: Argument,
+) -> usize
+    requires { 8 + values_len (values_of (first ∷ second ∷ [])) ≤ most out.old }
+    ensures { put_result receiver opcode (values_of (first.entry ∷ second.entry ∷ [])) out.old
+        ≡ (result, out.new) }
+{
+    put_arguments(out, receiver, opcode, &[first, second])
+}
+
+// A message with three arguments.
+#[inline(always)]
+pub fn put_three(
+    out: &mut [u8],
+    receiver: u32,
+    opcode: u16,
+    first: Argument,
+    second: Argument,
+    third: Argument,
+) -> usize
+    requires { 8 + values_len (values_of (first ∷ second ∷ third ∷ [])) ≤ most out.old }
+    ensures { put_result receiver opcode
+        (values_of (first.entry ∷ second.entry ∷ third.entry ∷ [])) out.old ≡
+        (result, out.new) }
+{
+    put_arguments(out, receiver, opcode, &[first, second, third])
+}
+
+// A message with four arguments.
+#[inline(always)]
+pub fn put_four(
+    out: &mut [u8],
+    receiver: u32,
+    opcode: u16,
+    first: Argument,
+    second: Argument,
+    third: Argument,
+    fourth: Argument,
+) -> usize
+    requires { 8 + values_len (values_of (first ∷ second ∷ third ∷ fourth ∷ [])) ≤ most out.old }
+    ensures { put_result receiver opcode
+        (values_of (first.entry ∷ second.entry ∷ third.entry ∷ fourth.entry ∷ [])) out.old ≡
+        (result, out.new) }
+{
+    put_arguments(out, receiver, opcode, &[first, second, third, fourth])
+}
+
+// A message with five arguments.
+#[inline(always)]
+pub fn put_five(
+    out: &mut [u8],
+    receiver: u32,
+    opcode: u16,
+    first: Argument,
+    second: Argument,
+    third: Argument,
+    fourth: Argument,
+    fifth: Argument,
+) -> usize
+    requires { 8 + values_len (values_of (first ∷ second ∷ third ∷ fourth ∷ fifth ∷ [])) ≤
+        most out.old }
+    ensures { put_result receiver opcode
+        (values_of (first.entry ∷ second.entry ∷ third.entry ∷ fourth.entry ∷ fifth.entry ∷ []))
+        out.old ≡ (result, out.new) }
+{
+    put_arguments(
+        out,
+        receiver,
+        opcode,
+        &[first, second, third, fourth, fifth],
+    )
 }

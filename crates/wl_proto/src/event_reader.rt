@@ -1,16 +1,19 @@
-// Events are read by their rows. A row of several arguments has a function of its own, where its opcode is a
-// number: the proof then computes its kinds.
+// Events are read by their rows: the opcode says which kinds of arguments the body has.
 ghost use Rattle.std.specs.Prelude.{List};
 ghost use Rattle.wl_proto.specs.Reading.{Gives, event_reading};
 ghost use Rattle.wl_proto.specs.Rows.{event_message, event_kinds};
 ghost use Rattle.wl_proto.specs.declared.interface.Interface.TheVariants as interface;
 ghost use Rattle.wl_proto.specs.Spelled.{Answers};
 
+use crate::bodies::{
+    arguments, five_words, four_ints, four_words, nothing, one_string, one_word, row,
+    string_two_ints, text_two_words, two_ints, two_words, two_words_text, word_text_word,
+    word_token_word,
+};
 use crate::event::Event;
 use crate::interface::Interface;
-use crate::reading::{argument, first_token, int, row, string, text, uint};
 use crate::refuse::Refuse;
-use wl_wire::{ArgReader, Raw};
+use wl_wire::Raw;
 
 #[tactic(auto, unfolding(crate::specs::Reading::event_reading))]
 fn display_event<'a>(opcode: u16, body: &'a [u8], tokens: &[u32]) -> Result<Event<'a>, Refuse>
@@ -57,24 +60,6 @@ fn seat_event<'a>(opcode: u16, body: &'a [u8], tokens: &[u32]) -> Result<Event<'
     }
 }
 
-#[inline(always)]
-#[tactic(auto, unfolding(crate::specs::Reading::event_reading))]
-fn preedit_string_event<'a>(body: &'a [u8], tokens: &[u32]) -> Result<Event<'a>, Refuse>
-    ensures { Gives event_message result
-        (event_reading interface.TextInput 2 tokens.now body.now) }
-{
-    row!(body tokens Event PreeditString { text: string, begin: int, end: int })
-}
-
-#[inline(always)]
-#[tactic(auto, unfolding(crate::specs::Reading::event_reading))]
-fn delete_surrounding_text_event<'a>(body: &'a [u8], tokens: &[u32]) -> Result<Event<'a>, Refuse>
-    ensures { Gives event_message result
-        (event_reading interface.TextInput 4 tokens.now body.now) }
-{
-    row!(body tokens Event DeleteSurroundingText { before: uint, after: uint })
-}
-
 #[tactic(auto, unfolding(crate::specs::Reading::event_reading))]
 fn text_input_event<'a>(opcode: u16, body: &'a [u8], tokens: &[u32]) -> Result<Event<'a>, Refuse>
     ensures { Gives event_message result
@@ -83,30 +68,12 @@ fn text_input_event<'a>(opcode: u16, body: &'a [u8], tokens: &[u32]) -> Result<E
     match opcode {
         0 => row!(body tokens Event Enter { surface: uint }),
         1 => row!(body tokens Event Leave { surface: uint }),
-        2 => preedit_string_event(body, tokens),
+        2 => row!(body tokens Event PreeditString { text: string, begin: int, end: int }),
         3 => row!(body tokens Event CommitString { text: string }),
-        4 => delete_surrounding_text_event(body, tokens),
+        4 => row!(body tokens Event DeleteSurroundingText { before: uint, after: uint }),
         5 => row!(body tokens Event TextInputDone { serial: uint }),
         _ => Err(Refuse::Opcode),
     }
-}
-
-#[inline(always)]
-#[tactic(auto, unfolding(crate::specs::Reading::event_reading))]
-fn surrounding_text_event<'a>(body: &'a [u8], tokens: &[u32]) -> Result<Event<'a>, Refuse>
-    ensures { Gives event_message result
-        (event_reading interface.InputMethod 2 tokens.now body.now) }
-{
-    row!(body tokens Event SurroundingText { text: text, cursor: uint, anchor: uint })
-}
-
-#[inline(always)]
-#[tactic(auto, unfolding(crate::specs::Reading::event_reading))]
-fn content_type_event<'a>(body: &'a [u8], tokens: &[u32]) -> Result<Event<'a>, Refuse>
-    ensures { Gives event_message result
-        (event_reading interface.InputMethod 4 tokens.now body.now) }
-{
-    row!(body tokens Event ContentType { hint: uint, purpose: uint })
 }
 
 #[tactic(auto, unfolding(crate::specs::Reading::event_reading))]
@@ -117,9 +84,9 @@ fn input_method_event<'a>(opcode: u16, body: &'a [u8], tokens: &[u32]) -> Result
     match opcode {
         0 => row!(body tokens Event Activate {}),
         1 => row!(body tokens Event Deactivate {}),
-        2 => surrounding_text_event(body, tokens),
+        2 => row!(body tokens Event SurroundingText { text: text, cursor: uint, anchor: uint }),
         3 => row!(body tokens Event TextChangeCause { cause: uint }),
-        4 => content_type_event(body, tokens),
+        4 => row!(body tokens Event ContentType { hint: uint, purpose: uint }),
         5 => row!(body tokens Event InputMethodDone {}),
         6 => row!(body tokens Event Unavailable {}),
         _ => Err(Refuse::Opcode),
@@ -141,52 +108,17 @@ fn input_popup_surface_event<'a>(
     }
 }
 
-#[inline(always)]
-#[tactic(auto, unfolding(crate::specs::Reading::event_reading))]
-fn keymap_event<'a>(body: &'a [u8], tokens: &[u32]) -> Result<Event<'a>, Refuse>
-    ensures { Gives event_message result
-        (event_reading interface.KeyboardGrab 0 tokens.now body.now) }
-{
-    row!(body tokens Event Keymap { format: uint, token: descriptor, size: uint })
-}
-
-#[inline(always)]
-#[tactic(auto, unfolding(crate::specs::Reading::event_reading))]
-fn key_event<'a>(body: &'a [u8], tokens: &[u32]) -> Result<Event<'a>, Refuse>
-    ensures { Gives event_message result
-        (event_reading interface.KeyboardGrab 1 tokens.now body.now) }
-{
-    row!(body tokens Event Key { serial: uint, time: uint, key: uint, state: uint })
-}
-
-#[inline(always)]
-#[tactic(auto, unfolding(crate::specs::Reading::event_reading))]
-fn modifiers_event<'a>(body: &'a [u8], tokens: &[u32]) -> Result<Event<'a>, Refuse>
-    ensures { Gives event_message result
-        (event_reading interface.KeyboardGrab 2 tokens.now body.now) }
-{
-    row!(body tokens Event Modifiers { serial: uint, depressed: uint, latched: uint, locked: uint, group: uint })
-}
-
-#[inline(always)]
-#[tactic(auto, unfolding(crate::specs::Reading::event_reading))]
-fn repeat_info_event<'a>(body: &'a [u8], tokens: &[u32]) -> Result<Event<'a>, Refuse>
-    ensures { Gives event_message result
-        (event_reading interface.KeyboardGrab 3 tokens.now body.now) }
-{
-    row!(body tokens Event RepeatInfo { rate: int, delay: int })
-}
-
 #[tactic(auto, unfolding(crate::specs::Reading::event_reading))]
 fn keyboard_grab_event<'a>(opcode: u16, body: &'a [u8], tokens: &[u32]) -> Result<Event<'a>, Refuse>
     ensures { Gives event_message result
         (event_reading interface.KeyboardGrab opcode tokens.now body.now) }
 {
     match opcode {
-        0 => keymap_event(body, tokens),
-        1 => key_event(body, tokens),
-        2 => modifiers_event(body, tokens),
-        3 => repeat_info_event(body, tokens),
+        0 => row!(body tokens Event Keymap { format: uint, token: descriptor, size: uint }),
+        1 => row!(body tokens Event Key { serial: uint, time: uint, key: uint, state: uint }),
+        2 =>
+            row!(body tokens Event Modifiers { serial: uint, depressed: uint, latched: uint, locked: uint, group: uint }),
+        3 => row!(body tokens Event RepeatInfo { rate: int, delay: int }),
         _ => Err(Refuse::Opcode),
     }
 }

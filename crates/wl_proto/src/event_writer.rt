@@ -5,49 +5,74 @@ ghost use Rattle.wl_proto.specs.Arguments.{most, message_put};
 ghost use Rattle.wl_proto.specs.Spelling.{message_len, message_bytes};
 
 use crate::argument::{
-    Argument, int_argument, put_arguments, string_argument, string_size, text_argument, text_size,
+    Argument, int_argument, put_five, put_four, put_nothing, put_one, put_three, put_two,
+    string_argument, string_size, text_argument, text_size,
 };
 use crate::event::Event;
-use crate::rows::{argument, put_row, row_size, size_from};
-
-// The rows: an opcode, and the arguments with their kinds. `$row` is what is done with one of them.
-macro_rules! by_row {
-    ($event:ident $row:ident $($context:ident)*) => {
-        match *$event {
-            Event::Error { object, code, message } => $row!($($context)* 0 uint object, uint code, text message),
-            Event::DeleteId { id } => $row!($($context)* 1 uint id),
-            Event::Global { name, interface, version } => $row!($($context)* 0 uint name, text interface, uint version),
-            Event::GlobalRemove { name } => $row!($($context)* 1 uint name),
-            Event::CallbackDone { value } => $row!($($context)* 0 uint value),
-            Event::Capabilities { value } => $row!($($context)* 0 uint value),
-            Event::Enter { surface } => $row!($($context)* 0 uint surface),
-            Event::Leave { surface } => $row!($($context)* 1 uint surface),
-            Event::PreeditString { text, begin, end } => $row!($($context)* 2 string text, int begin, int end),
-            Event::CommitString { text } => $row!($($context)* 3 string text),
-            Event::DeleteSurroundingText { before, after } => $row!($($context)* 4 uint before, uint after),
-            Event::TextInputDone { serial } => $row!($($context)* 5 uint serial),
-            Event::Activate => $row!($($context)* 0),
-            Event::Deactivate => $row!($($context)* 1),
-            Event::SurroundingText { text, cursor, anchor } => $row!($($context)* 2 text text, uint cursor, uint anchor),
-            Event::TextChangeCause { cause } => $row!($($context)* 3 uint cause),
-            Event::ContentType { hint, purpose } => $row!($($context)* 4 uint hint, uint purpose),
-            Event::InputMethodDone => $row!($($context)* 5),
-            Event::Unavailable => $row!($($context)* 6),
-            Event::TextInputRectangle { x, y, width, height } => $row!($($context)* 0 int x, int y, int width, int height),
-            Event::Keymap { format, token, size } => $row!($($context)* 0 uint format, descriptor token, uint size),
-            Event::Key { serial, time, key, state } => $row!($($context)* 1 uint serial, uint time, uint key, uint state),
-            Event::Modifiers { serial, depressed, latched, locked, group } => $row!($($context)* 2 uint serial, uint depressed, uint latched, uint locked, uint group),
-            Event::RepeatInfo { rate, delay } => $row!($($context)* 3 int rate, int delay),
-        }
-    };
-}
+use crate::rows::{argument, put_row};
 
 /// How many bytes the event has on the wire, its header included: 8 to 4,096, as its text is within
 /// the limits. Takes no memory.
 pub fn event_len(event: &Event) -> usize
     ensures len { result ≡ message_len (event_message event.now) }
 {
-    by_row!(event row_size)
+    match *event {
+        Event::Activate | Event::Deactivate | Event::InputMethodDone | Event::Unavailable => 8,
+        Event::DeleteId { .. }
+        | Event::GlobalRemove { .. }
+        | Event::CallbackDone { .. }
+        | Event::Capabilities { .. }
+        | Event::Enter { .. }
+        | Event::Leave { .. }
+        | Event::TextInputDone { .. }
+        | Event::TextChangeCause { .. } => 12,
+        Event::DeleteSurroundingText { .. }
+        | Event::ContentType { .. }
+        | Event::Keymap { .. }
+        | Event::RepeatInfo { .. } => 16,
+        Event::TextInputRectangle { .. } | Event::Key { .. } => 24,
+        Event::Modifiers { .. } => 28,
+        Event::CommitString { text } => string_size(text) + 8,
+        Event::PreeditString { text, .. } => string_size(text) + 16,
+        Event::Error { message: text, .. }
+        | Event::Global {
+            interface: text,
+            ..
+        }
+        | Event::SurroundingText { text, .. } => text_size(text) + 16,
+    }
+}
+
+// The rows: an opcode, and the arguments with their kinds. Rows that are written alike share an arm.
+macro_rules! put_by_row {
+    ($event:ident $out:ident $id:ident) => {
+        match *$event {
+            Event::Activate => put_row!(put_nothing $out $id 0),
+            Event::Deactivate => put_row!(put_nothing $out $id 1),
+            Event::InputMethodDone => put_row!(put_nothing $out $id 5),
+            Event::Unavailable => put_row!(put_nothing $out $id 6),
+            Event::CallbackDone { value: word }
+            | Event::Capabilities { value: word }
+            | Event::Enter { surface: word } => put_row!(put_one $out $id 0 uint word),
+            Event::DeleteId { id: word }
+            | Event::GlobalRemove { name: word }
+            | Event::Leave { surface: word } => put_row!(put_one $out $id 1 uint word),
+            Event::TextChangeCause { cause } => put_row!(put_one $out $id 3 uint cause),
+            Event::TextInputDone { serial } => put_row!(put_one $out $id 5 uint serial),
+            Event::CommitString { text } => put_row!(put_one $out $id 3 string text),
+            Event::DeleteSurroundingText { before: first, after: second }
+            | Event::ContentType { hint: first, purpose: second } => put_row!(put_two $out $id 4 uint first, uint second),
+            Event::RepeatInfo { rate, delay } => put_row!(put_two $out $id 3 int rate, int delay),
+            Event::Error { object, code, message } => put_row!(put_three $out $id 0 uint object, uint code, text message),
+            Event::Global { name, interface, version } => put_row!(put_three $out $id 0 uint name, text interface, uint version),
+            Event::PreeditString { text, begin, end } => put_row!(put_three $out $id 2 string text, int begin, int end),
+            Event::SurroundingText { text, cursor, anchor } => put_row!(put_three $out $id 2 text text, uint cursor, uint anchor),
+            Event::Keymap { format, token, size } => put_row!(put_three $out $id 0 uint format, descriptor token, uint size),
+            Event::TextInputRectangle { x, y, width, height } => put_row!(put_four $out $id 0 int x, int y, int width, int height),
+            Event::Key { serial, time, key, state } => put_row!(put_four $out $id 1 uint serial, uint time, uint key, uint state),
+            Event::Modifiers { serial, depressed, latched, locked, group } => put_row!(put_five $out $id 2 uint serial, uint depressed, uint latched, uint locked, uint group),
+        }
+    };
 }
 
 // One premise and one clause: they are proved at each row.
@@ -56,7 +81,7 @@ fn put_event(id: u32, event: &Event, out: &mut [u8]) -> usize
     requires { message_len (event_message event.now) ≤ most out.old }
     ensures { message_put id (event_message event.now) out.old ≡ (result, out.new) }
 {
-    by_row!(event put_row out id)
+    put_by_row!(event out id)
 }
 
 /// Writes the event to the object of this id into the front of the buffer, and says how many bytes

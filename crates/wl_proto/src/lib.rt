@@ -2,6 +2,7 @@
 #![tactic(auto)]
 
 mod argument;
+mod bodies;
 mod event;
 mod event_reader;
 mod event_writer;

@@ -1,16 +1,18 @@
-// Requests are read by their rows. A row of several arguments has a function of its own, where its opcode is a
-// number: the proof then computes its kinds.
+// Requests are read by their rows: the opcode says which kinds of arguments the body has.
 ghost use Rattle.std.specs.Prelude.{List};
 ghost use Rattle.wl_proto.specs.Reading.{Gives, request_reading};
 ghost use Rattle.wl_proto.specs.Rows.{request_message, request_kinds};
 ghost use Rattle.wl_proto.specs.declared.interface.Interface.TheVariants as interface;
 ghost use Rattle.wl_proto.specs.Spelled.{Answers};
 
+use crate::bodies::{
+    arguments, four_ints, nothing, one_text, one_word, row, text_two_ints, two_words,
+    word_text_two_words,
+};
 use crate::interface::Interface;
-use crate::reading::{argument, int, row, text, uint};
 use crate::refuse::Refuse;
 use crate::request::Request;
-use wl_wire::{ArgReader, Raw};
+use wl_wire::Raw;
 
 #[tactic(auto, unfolding(crate::specs::Reading::request_reading))]
 fn display_request<'a>(opcode: u16, body: &'a [u8], tokens: &[u32]) -> Result<Request<'a>, Refuse>
@@ -51,15 +53,6 @@ fn compositor_request<'a>(
     }
 }
 
-#[inline(always)]
-#[tactic(auto, unfolding(crate::specs::Reading::request_reading))]
-fn damage_request<'a>(body: &'a [u8], tokens: &[u32]) -> Result<Request<'a>, Refuse>
-    ensures { Gives request_message result
-        (request_reading interface.Surface 2 tokens.now body.now) }
-{
-    row!(body tokens Request Damage { x: int, y: int, width: int, height: int })
-}
-
 #[tactic(auto, unfolding(crate::specs::Reading::request_reading))]
 fn surface_request<'a>(opcode: u16, body: &'a [u8], tokens: &[u32]) -> Result<Request<'a>, Refuse>
     ensures { Gives request_message result
@@ -67,7 +60,7 @@ fn surface_request<'a>(opcode: u16, body: &'a [u8], tokens: &[u32]) -> Result<Re
 {
     match opcode {
         0 => row!(body tokens Request SurfaceDestroy {}),
-        2 => damage_request(body, tokens),
+        2 => row!(body tokens Request Damage { x: int, y: int, width: int, height: int }),
         6 => row!(body tokens Request SurfaceCommit {}),
         _ => Err(Refuse::Opcode),
     }
@@ -102,33 +95,6 @@ fn text_input_manager_request<'a>(
     }
 }
 
-#[inline(always)]
-#[tactic(auto, unfolding(crate::specs::Reading::request_reading))]
-fn surrounding_text_request<'a>(body: &'a [u8], tokens: &[u32]) -> Result<Request<'a>, Refuse>
-    ensures { Gives request_message result
-        (request_reading interface.TextInput 3 tokens.now body.now) }
-{
-    row!(body tokens Request SetSurroundingText { text: text, cursor: int, anchor: int })
-}
-
-#[inline(always)]
-#[tactic(auto, unfolding(crate::specs::Reading::request_reading))]
-fn content_type_request<'a>(body: &'a [u8], tokens: &[u32]) -> Result<Request<'a>, Refuse>
-    ensures { Gives request_message result
-        (request_reading interface.TextInput 5 tokens.now body.now) }
-{
-    row!(body tokens Request SetContentType { hint: uint, purpose: uint })
-}
-
-#[inline(always)]
-#[tactic(auto, unfolding(crate::specs::Reading::request_reading))]
-fn cursor_rectangle_request<'a>(body: &'a [u8], tokens: &[u32]) -> Result<Request<'a>, Refuse>
-    ensures { Gives request_message result
-        (request_reading interface.TextInput 6 tokens.now body.now) }
-{
-    row!(body tokens Request SetCursorRectangle { x: int, y: int, width: int, height: int })
-}
-
 #[tactic(auto, unfolding(crate::specs::Reading::request_reading))]
 fn text_input_request<'a>(
     opcode: u16,
@@ -142,10 +108,11 @@ fn text_input_request<'a>(
         0 => row!(body tokens Request TextInputDestroy {}),
         1 => row!(body tokens Request Enable {}),
         2 => row!(body tokens Request Disable {}),
-        3 => surrounding_text_request(body, tokens),
+        3 => row!(body tokens Request SetSurroundingText { text: text, cursor: int, anchor: int }),
         4 => row!(body tokens Request SetTextChangeCause { cause: uint }),
-        5 => content_type_request(body, tokens),
-        6 => cursor_rectangle_request(body, tokens),
+        5 => row!(body tokens Request SetContentType { hint: uint, purpose: uint }),
+        6 =>
+            row!(body tokens Request SetCursorRectangle { x: int, y: int, width: int, height: int }),
         7 => row!(body tokens Request TextInputCommit {}),
         _ => Err(Refuse::Opcode),
     }
@@ -167,36 +134,6 @@ fn input_method_manager_request<'a>(
     }
 }
 
-#[inline(always)]
-#[tactic(auto, unfolding(crate::specs::Reading::request_reading))]
-fn preedit_string_request<'a>(body: &'a [u8], tokens: &[u32]) -> Result<Request<'a>, Refuse>
-    ensures { Gives request_message result
-        (request_reading interface.InputMethod 1 tokens.now body.now) }
-{
-    row!(body tokens Request SetPreeditString { text: text, begin: int, end: int })
-}
-
-#[inline(always)]
-#[tactic(auto, unfolding(crate::specs::Reading::request_reading))]
-fn delete_surrounding_text_request<'a>(
-    body: &'a [u8],
-    tokens: &[u32],
-) -> Result<Request<'a>, Refuse>
-    ensures { Gives request_message result
-        (request_reading interface.InputMethod 2 tokens.now body.now) }
-{
-    row!(body tokens Request DeleteSurroundingText { before: uint, after: uint })
-}
-
-#[inline(always)]
-#[tactic(auto, unfolding(crate::specs::Reading::request_reading))]
-fn get_popup_surface_request<'a>(body: &'a [u8], tokens: &[u32]) -> Result<Request<'a>, Refuse>
-    ensures { Gives request_message result
-        (request_reading interface.InputMethod 4 tokens.now body.now) }
-{
-    row!(body tokens Request GetInputPopupSurface { id: uint, surface: uint })
-}
-
 #[tactic(auto, unfolding(crate::specs::Reading::request_reading))]
 fn input_method_request<'a>(
     opcode: u16,
@@ -208,10 +145,10 @@ fn input_method_request<'a>(
 {
     match opcode {
         0 => row!(body tokens Request CommitString { text: text }),
-        1 => preedit_string_request(body, tokens),
-        2 => delete_surrounding_text_request(body, tokens),
+        1 => row!(body tokens Request SetPreeditString { text: text, begin: int, end: int }),
+        2 => row!(body tokens Request DeleteSurroundingText { before: uint, after: uint }),
         3 => row!(body tokens Request InputMethodCommit { serial: uint }),
-        4 => get_popup_surface_request(body, tokens),
+        4 => row!(body tokens Request GetInputPopupSurface { id: uint, surface: uint }),
         5 => row!(body tokens Request GrabKeyboard { keyboard: uint }),
         6 => row!(body tokens Request InputMethodDestroy {}),
         _ => Err(Refuse::Opcode),

@@ -4,55 +4,86 @@ ghost use Rattle.wl_proto.specs.Rows.{request_message};
 ghost use Rattle.wl_proto.specs.Arguments.{most, message_put};
 ghost use Rattle.wl_proto.specs.Spelling.{message_len, message_bytes};
 
-use crate::argument::{Argument, int_argument, put_arguments, text_argument, text_size};
+use crate::argument::{
+    Argument, int_argument, put_four, put_nothing, put_one, put_three, put_two, text_argument,
+    text_size,
+};
 use crate::request::Request;
-use crate::rows::{argument, put_row, row_size, size_from};
-
-// The rows: an opcode, and the arguments with their kinds. `$row` is what is done with one of them.
-macro_rules! by_row {
-    ($request:ident $row:ident $($context:ident)*) => {
-        match *$request {
-            Request::Sync { callback } => $row!($($context)* 0 uint callback),
-            Request::GetRegistry { registry } => $row!($($context)* 1 uint registry),
-            Request::Bind { name, interface, version, id } => $row!($($context)* 0 uint name, text interface, uint version, uint id),
-            Request::CreateSurface { id } => $row!($($context)* 0 uint id),
-            Request::SurfaceDestroy => $row!($($context)* 0),
-            Request::Damage { x, y, width, height } => $row!($($context)* 2 int x, int y, int width, int height),
-            Request::SurfaceCommit => $row!($($context)* 6),
-            Request::GetPointer { id } => $row!($($context)* 0 uint id),
-            Request::GetKeyboard { id } => $row!($($context)* 1 uint id),
-            Request::GetTouch { id } => $row!($($context)* 2 uint id),
-            Request::TextInputManagerDestroy => $row!($($context)* 0),
-            Request::GetTextInput { id, seat } => $row!($($context)* 1 uint id, uint seat),
-            Request::TextInputDestroy => $row!($($context)* 0),
-            Request::Enable => $row!($($context)* 1),
-            Request::Disable => $row!($($context)* 2),
-            Request::SetSurroundingText { text, cursor, anchor } => $row!($($context)* 3 text text, int cursor, int anchor),
-            Request::SetTextChangeCause { cause } => $row!($($context)* 4 uint cause),
-            Request::SetContentType { hint, purpose } => $row!($($context)* 5 uint hint, uint purpose),
-            Request::SetCursorRectangle { x, y, width, height } => $row!($($context)* 6 int x, int y, int width, int height),
-            Request::TextInputCommit => $row!($($context)* 7),
-            Request::GetInputMethod { seat, input_method } => $row!($($context)* 0 uint seat, uint input_method),
-            Request::InputMethodManagerDestroy => $row!($($context)* 1),
-            Request::CommitString { text } => $row!($($context)* 0 text text),
-            Request::SetPreeditString { text, begin, end } => $row!($($context)* 1 text text, int begin, int end),
-            Request::DeleteSurroundingText { before, after } => $row!($($context)* 2 uint before, uint after),
-            Request::InputMethodCommit { serial } => $row!($($context)* 3 uint serial),
-            Request::GetInputPopupSurface { id, surface } => $row!($($context)* 4 uint id, uint surface),
-            Request::GrabKeyboard { keyboard } => $row!($($context)* 5 uint keyboard),
-            Request::InputMethodDestroy => $row!($($context)* 6),
-            Request::InputPopupSurfaceDestroy => $row!($($context)* 0),
-            Request::KeyboardGrabRelease => $row!($($context)* 0),
-        }
-    };
-}
+use crate::rows::{argument, put_row};
 
 /// How many bytes the request has on the wire, its header included: 8 to 4,096, as its text is within the limits. Takes
 /// no memory.
 pub fn request_len(request: &Request) -> usize
     ensures len { result ≡ message_len (request_message request.now) }
 {
-    by_row!(request row_size)
+    match *request {
+        Request::SurfaceDestroy
+        | Request::SurfaceCommit
+        | Request::TextInputManagerDestroy
+        | Request::TextInputDestroy
+        | Request::Enable
+        | Request::Disable
+        | Request::TextInputCommit
+        | Request::InputMethodManagerDestroy
+        | Request::InputMethodDestroy
+        | Request::InputPopupSurfaceDestroy
+        | Request::KeyboardGrabRelease => 8,
+        Request::Sync { .. }
+        | Request::GetRegistry { .. }
+        | Request::CreateSurface { .. }
+        | Request::GetPointer { .. }
+        | Request::GetKeyboard { .. }
+        | Request::GetTouch { .. }
+        | Request::SetTextChangeCause { .. }
+        | Request::InputMethodCommit { .. }
+        | Request::GrabKeyboard { .. } => 12,
+        Request::GetTextInput { .. }
+        | Request::SetContentType { .. }
+        | Request::GetInputMethod { .. }
+        | Request::DeleteSurroundingText { .. }
+        | Request::GetInputPopupSurface { .. } => 16,
+        Request::Damage { .. } | Request::SetCursorRectangle { .. } => 24,
+        Request::CommitString { text } => text_size(text) + 8,
+        Request::SetSurroundingText { text, .. } | Request::SetPreeditString { text, .. } =>
+            text_size(text) + 16,
+        Request::Bind { interface, .. } => text_size(interface) + 20,
+    }
+}
+
+// The rows: an opcode, and the arguments with their kinds. Rows that are written alike share an arm.
+macro_rules! put_by_row {
+    ($request:ident $out:ident $id:ident) => {
+        match *$request {
+            Request::SurfaceDestroy
+            | Request::TextInputManagerDestroy
+            | Request::TextInputDestroy
+            | Request::InputPopupSurfaceDestroy
+            | Request::KeyboardGrabRelease => put_row!(put_nothing $out $id 0),
+            Request::Enable | Request::InputMethodManagerDestroy => put_row!(put_nothing $out $id 1),
+            Request::Disable => put_row!(put_nothing $out $id 2),
+            Request::SurfaceCommit | Request::InputMethodDestroy => put_row!(put_nothing $out $id 6),
+            Request::TextInputCommit => put_row!(put_nothing $out $id 7),
+            Request::Sync { callback: word }
+            | Request::CreateSurface { id: word }
+            | Request::GetPointer { id: word } => put_row!(put_one $out $id 0 uint word),
+            Request::GetRegistry { registry: word } | Request::GetKeyboard { id: word } => put_row!(put_one $out $id 1 uint word),
+            Request::GetTouch { id: word } => put_row!(put_one $out $id 2 uint word),
+            Request::InputMethodCommit { serial } => put_row!(put_one $out $id 3 uint serial),
+            Request::SetTextChangeCause { cause } => put_row!(put_one $out $id 4 uint cause),
+            Request::GrabKeyboard { keyboard } => put_row!(put_one $out $id 5 uint keyboard),
+            Request::CommitString { text } => put_row!(put_one $out $id 0 text text),
+            Request::GetInputMethod { seat, input_method } => put_row!(put_two $out $id 0 uint seat, uint input_method),
+            Request::GetTextInput { id: field, seat } => put_row!(put_two $out $id 1 uint field, uint seat),
+            Request::DeleteSurroundingText { before, after } => put_row!(put_two $out $id 2 uint before, uint after),
+            Request::GetInputPopupSurface { id: popup, surface } => put_row!(put_two $out $id 4 uint popup, uint surface),
+            Request::SetContentType { hint, purpose } => put_row!(put_two $out $id 5 uint hint, uint purpose),
+            Request::SetPreeditString { text, begin, end } => put_row!(put_three $out $id 1 text text, int begin, int end),
+            Request::SetSurroundingText { text, cursor, anchor } => put_row!(put_three $out $id 3 text text, int cursor, int anchor),
+            Request::Damage { x, y, width, height } => put_row!(put_four $out $id 2 int x, int y, int width, int height),
+            Request::SetCursorRectangle { x, y, width, height } => put_row!(put_four $out $id 6 int x, int y, int width, int height),
+            Request::Bind { name, interface, version, id: made } => put_row!(put_four $out $id 0 uint name, text interface, uint version, uint made),
+        }
+    };
 }
 
 // One premise and one clause: they are proved at each row.
@@ -61,7 +92,7 @@ fn put_request(id: u32, request: &Request, out: &mut [u8]) -> usize
     requires { message_len (request_message request.now) ≤ most out.old }
     ensures { message_put id (request_message request.now) out.old ≡ (result, out.new) }
 {
-    by_row!(request put_row out id)
+    put_by_row!(request out id)
 }
 
 /// Writes the request to the object of this id into the front of the buffer, and says how many
