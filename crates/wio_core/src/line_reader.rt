@@ -1,8 +1,9 @@
 // The lines of a source, lent one at a time.
 ghost use Rattle.std.specs.Prelude.{◌≡◌, ◌≢◌, ◌+◌, ◌<◌, ◌≤◌, ◌++◌, ◌∷◌, ℕ, List, [], drop, length};
-ghost use Rattle.std.specs.Prelude.{Option, Some, None, IfOk, IfErr, OnOk, IfSome, OnSome, IsTrue};
+ghost use Rattle.std.specs.Prelude.{Option, Some, None, IfOk, IfErr, OnOk, OnErr, IfSome, OnSome, IsTrue};
 ghost use Rattle.std.specs.Prelude.{◌↔◌};
 ghost use Rattle.wio_core.specs.Io.{Rose, StaysQuiet};
+ghost use Rattle.wio_core.specs.LineAnswers.{Tells, HasFaultCause};
 ghost use Rattle.wio_core.specs.Lines.{LacksFeed, IsOpen, HasLine, TookFrom, Gathers, HasCause};
 
 use crate::line_search::{Front, look};
@@ -177,6 +178,73 @@ fn whole_line(bytes: &[u8]) -> Option<usize>
     }
 }
 
+/// Lets go of the bytes that were lent, and says how long the line behind them is, or why none comes.
+/// The line that comes and its line feed are lent then.
+#[inline(always)]
+fn turn<S: Source>(
+    window: &mut Window,
+    lent: &mut usize,
+    known: &mut Option<usize>,
+    room: &mut Option<u64>,
+    source: &mut S,
+) -> Result<usize, LineStop>
+    requires lent { lent.old ≤ length window.old }
+    requires line { IfSome known.old (λ n. HasLine (drop lent.old window.old) n) }
+    ensures took { (read : List ℕ)
+        × TookFrom (S.given source.old) (S.given source.new)
+        (S.left source.old) (S.left source.new) read
+        × Gathers (drop lent.old window.old) window.new room.old room.new read }
+    ensures line { IfOk result (λ n. HasLine window.new n) }
+    ensures lent { IfOk result (λ n. lent.new ≡ n + 1) }
+    ensures known { IfSome known.new (λ n. HasLine (drop lent.new window.new) n) }
+    ensures stop { IfErr result (λ why. HasCause why window.new room.new (S.left source.new)) }
+    ensures none_lent { OnErr result (lent.new ≡ 0) }
+    ensures none_known { OnErr result (known.new ≡ None) }
+    ensures near { length window.new ≤ 16384 }
+    ensures waits { ¬ IsOpen (drop lent.old window.old) → source.new ≡ source.old }
+
+    ensures given_quiet { StaysQuiet (S.given source.old) (S.given source.new) }
+    ensures left_quiet { StaysQuiet (S.left source.old) (S.left source.new) }
+    ensures never_falls { S.fault_count source.old ≤ S.fault_count source.new }
+    ensures cause { result ≡ Err LineStop.ReadFault
+        → Rose (S.fault_count source.old) (S.fault_count source.new) }
+{
+    window.consume(*lent);
+    *lent = 0;
+    let n = front_line(known.take(), window, room, source)?;
+    *lent = n + 1;
+    *known = whole_line(&window.held()[n + 1..]);
+    Ok(n)
+}
+
+/// Settles why no line comes, and gives the answer: the last line where the source ended, which is
+/// lent then.
+#[inline(always)]
+fn settle<'a>(
+    why: LineStop,
+    window: &'a Window,
+    lent: &mut usize,
+    settled: &mut Option<LineStop>,
+) -> NextLine<'a>
+    requires { lent.old ≡ 0 }
+    ensures lent { lent.new ≤ length window.now }
+    ensures settled { settled.new ≡ Some why }
+    ensures tells { (room : Option ℕ) → (left : Option (List ℕ))
+        → HasCause why window.now room left
+        → Tells result window.now (record
+        { held = drop lent.new window.now; room = room; settled = Some why }) left }
+    ensures cause { (before after : ℕ) → (why ≡ LineStop.ReadFault → Rose before after)
+        → HasFaultCause result before after }
+{
+    *settled = Some(why);
+    let rest = window.held().len();
+    if why == LineStop::End && rest > 0 {
+        *lent = rest;
+        return NextLine::Line(window.held());
+    }
+    why.answer()
+}
+
 /// Reads a source by lines. Contracts see the bytes that it took and gave in no line, how many it
 /// may still take, and what it answers from now on, if that is settled.
 #[derive(Drop)]
@@ -259,24 +327,15 @@ impl LineReader {
         if let Some(why) = self.settled {
             return why.answer();
         }
-        self.window.consume(self.lent);
-        self.lent = 0;
-        let known = self.known.take();
-        match front_line(known, &mut self.window, &mut self.room, source) {
-            Ok(n) => {
-                self.lent = n + 1;
-                self.known = whole_line(&self.window.held()[n + 1..]);
-                NextLine::Line(&self.window.held()[..n])
-            }
-            Err(why) => {
-                self.settled = Some(why);
-                let rest = self.window.held().len();
-                if why == LineStop::End && rest > 0 {
-                    self.lent = rest;
-                    return NextLine::Line(self.window.held());
-                }
-                why.answer()
-            }
+        match turn(
+            &mut self.window,
+            &mut self.lent,
+            &mut self.known,
+            &mut self.room,
+            source,
+        ) {
+            Ok(n) => NextLine::Line(&self.window.held()[..n]),
+            Err(why) => settle(why, &self.window, &mut self.lent, &mut self.settled),
         }
     }
 }
