@@ -11,19 +11,28 @@ use crate::machine::Machine;
 use relay_model::{Fault, Interface, Label, Role, Said, Told};
 use seat_objects::{Kind, Post, tell_deleted};
 
+// Tells the object an event.
+#[inline(always)]
+fn tell<P: Post>(object: Label, event: Said, post: &mut P)
+    ensures { Reached P.may_follow post.old (to object event ∷ []) post.new }
+{
+    post.tell(&Told { to: object, event });
+}
+
 // Every global has version 1.
 fn tell_global<P: Post>(registry: Label, name: u32, interface: Interface, post: &mut P)
     ensures { Reached P.may_follow post.old (to registry (Said.Global name interface 1) ∷ [])
         post.new }
 {
-    post.tell(&Told {
-        to: registry,
-        event: Said::Global {
+    tell(
+        registry,
+        Said::Global {
             name,
             interface,
             version: 1,
         },
-    });
+        post,
+    );
 }
 
 // Tells a new registry the globals that are offered to the role.
@@ -41,10 +50,7 @@ fn tell_globals<P: Post>(registry: Label, role: Role, post: &mut P)
 pub fn tell_synced<P: Post>(callback: Label, peer: Label, post: &mut P)
     ensures { Reached P.may_follow post.old (synced callback peer) post.new }
 {
-    post.tell(&Told {
-        to: callback,
-        event: Said::CallbackDone { value: 0 },
-    });
+    tell(callback, Said::CallbackDone { value: 0 }, post);
     tell_deleted(callback, Some(peer), post);
 }
 
@@ -52,20 +58,14 @@ pub fn tell_synced<P: Post>(callback: Label, peer: Label, post: &mut P)
 fn tell_capabilities<P: Post>(seat: Label, post: &mut P)
     ensures { Reached P.may_follow post.old (to seat (Said.Capabilities 0) ∷ []) post.new }
 {
-    post.tell(&Told {
-        to: seat,
-        event: Said::Capabilities { value: 0 },
-    });
+    tell(seat, Said::Capabilities { value: 0 }, post);
 }
 
 /// Tells the peer that a message was refused, and of which object it is an error.
 pub fn tell_error<P: Post>(peer: Label, object: Label, fault: Fault, post: &mut P)
     ensures { Reached P.may_follow post.old (to peer (Said.Error object fault) ∷ []) post.new }
 {
-    post.tell(&Told {
-        to: peer,
-        event: Said::Error { object, fault },
-    });
+    tell(peer, Said::Error { object, fault }, post);
 }
 
 impl Machine {

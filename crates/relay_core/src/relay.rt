@@ -45,6 +45,8 @@ impl Relay {
     pub fn new(alloc: Global) -> Result<Relay, NoMemory>
         ensures { IfOk result (λ relay. StandsFor relay []) }
     {
+        let pending = Pending::new(alloc)?;
+        let keys = Grab::new(alloc)?;
         Ok(Relay {
             machine: Machine {
                 alloc,
@@ -53,7 +55,7 @@ impl Relay {
                 focus: None,
                 holder: None,
                 serving: None,
-                pending: Pending::new(alloc)?,
+                pending,
                 active: false,
                 dones: Count32::at(0),
                 since: Since::at(0),
@@ -61,7 +63,7 @@ impl Relay {
                     width: 0,
                     height: 0,
                 },
-                keys: Grab::new(alloc)?,
+                keys,
                 spare: Spare::new(alloc),
             },
         })
