@@ -1,5 +1,6 @@
 pub mod ScriptWords
 pub mod SpelledLines
+pub mod TwoWords
 pub mod ReadLines
 pub mod Laws
 pub mod LinesTaken

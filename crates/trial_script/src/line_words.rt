@@ -1,5 +1,6 @@
 //! A script's lines, by the number of a line's words.
-ghost use Rattle.std.specs.Prelude.{map};
+ghost use Rattle.std.specs.Prelude.{◌≡◌, ℕ, List, Some, codes, true, false, map};
+ghost use Rattle.std.specs.Str.{bytes_eq};
 ghost use Rattle.session_text.specs.Reading.{Reads};
 ghost use Rattle.trial_script.specs.Words.{field_of, key_text_of};
 ghost use Rattle.trial_script.specs.Reading.{one_word, header_of, two_words, three_words};
@@ -66,32 +67,59 @@ fn read_header(form: &[u8]) -> Result<Line, BadLine>
     }
 }
 
+// The line of that name about the field with the number.
+#[inline(always)]
 #[tactic(auto, unfolding(crate::specs::Reading::two_words))]
+fn line_of_field(key: &[u8], n: u32) -> Option<Line>
+    requires header { bytes_eq key.now (codes "trial") ≡ false }
+    requires press { bytes_eq key.now (codes "press") ≡ false }
+    ensures { (a : List ℕ) → field_of a ≡ Some n → result ≡ two_words key.now a }
+{
+    if key == b"fields".as_slice() {
+        Some(Line::Fields(n))
+    } else if key == b"use".as_slice() {
+        Some(Line::Act(Action::Use(n)))
+    } else if key == b"left".as_slice() {
+        Some(Line::Act(Action::Edit(n, FieldEdit::Left)))
+    } else if key == b"right".as_slice() {
+        Some(Line::Act(Action::Edit(n, FieldEdit::Right)))
+    } else if key == b"rub".as_slice() {
+        Some(Line::Act(Action::Edit(n, FieldEdit::Rub)))
+    } else if key == b"pause".as_slice() {
+        Some(Line::Act(Action::Pause(n)))
+    } else if key == b"resume".as_slice() {
+        Some(Line::Act(Action::Resume(n)))
+    } else if key == b"show".as_slice() {
+        Some(Line::Act(Action::Show(n)))
+    } else {
+        None
+    }
+}
+
+// What stands behind `press`.
+#[inline(always)]
+#[tactic(auto, using(crate::proofs::TwoWords::pressed))]
+fn read_press(key: &[u8], a: &[u8]) -> Result<Line, BadLine>
+    requires { bytes_eq key.now (codes "press") ≡ true }
+    ensures { Reads result (two_words key.now a.now) }
+{
+    Ok(Line::Act(Action::Press(number(a)?)))
+}
+
+#[tactic(auto, using(crate::proofs::TwoWords::by_name))]
 fn read_two(key: &[u8], a: &[u8]) -> Result<Line, BadLine>
     ensures { Reads result (two_words key.now a.now) }
 {
     if key == b"trial".as_slice() {
-        read_header(a)
-    } else if key == b"fields".as_slice() {
-        Ok(Line::Fields(field(a)?))
-    } else if key == b"use".as_slice() {
-        Ok(Line::Act(Action::Use(field(a)?)))
-    } else if key == b"press".as_slice() {
-        Ok(Line::Act(Action::Press(number(a)?)))
-    } else if key == b"left".as_slice() {
-        Ok(Line::Act(Action::Edit(field(a)?, FieldEdit::Left)))
-    } else if key == b"right".as_slice() {
-        Ok(Line::Act(Action::Edit(field(a)?, FieldEdit::Right)))
-    } else if key == b"rub".as_slice() {
-        Ok(Line::Act(Action::Edit(field(a)?, FieldEdit::Rub)))
-    } else if key == b"pause".as_slice() {
-        Ok(Line::Act(Action::Pause(field(a)?)))
-    } else if key == b"resume".as_slice() {
-        Ok(Line::Act(Action::Resume(field(a)?)))
-    } else if key == b"show".as_slice() {
-        Ok(Line::Act(Action::Show(field(a)?)))
-    } else {
-        Err(BadLine::Grammar)
+        return read_header(a);
+    }
+    if key == b"press".as_slice() {
+        return read_press(key, a);
+    }
+    let n = field(a)?;
+    match line_of_field(key, n) {
+        Some(line) => Ok(line),
+        None => Err(BadLine::Grammar),
     }
 }
 
