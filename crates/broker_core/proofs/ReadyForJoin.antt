@@ -28,7 +28,7 @@ use Rattle.broker_core.specs.declared.state.State.{State}
 use Rattle.broker_core.specs.declared.state.Ended.{Ended}
 use Rattle.seat_audience.specs.Changes.{IsNewcomer}
 use Rattle.seat_audience.specs.Lives.{Numbered, who}
-use Rattle.broker_core.specs.Stands.{Holds, Stands, AreLeft, IsReady, CanTake, Ready, IsReadyFor, roster}
+use Rattle.broker_core.specs.Stands.{Holds, Stands, StandsFor, AreLeft, IsLive, IsReady, CanTake, Ready, IsReadyFor, roster}
 use Rattle.broker_core.proofs.TableAfterAct.{calls_joined, calls_other}
 use Rattle.broker_core.proofs.DeadPeersToldNothing.{quiet}
 use Rattle.broker_core.proofs.EndedPeersKept.{left_join}
@@ -53,6 +53,35 @@ pub record IsJoining (role : Role) (l : Live) (s t : State) : Type 0 where
   pub labels : t.labels.items ≡ s.labels.items ++ (length s.journal.entries + 1) ∷ []
   pub ended : t.ended.items ≡ s.ended.items ++ None ∷ []
   pub capacity : t.capacity ≡ s.capacity
+
+-- a state stands while no more than room is made, and after a change that failed
+pub still_stands : (s t : State) → Stands s → t.journal ≡ s.journal → t.stamps ≡ s.stamps → t.relay ≡ s.relay → t.capacity ≡ s.capacity →
+    t.audience.directory.made ≡ s.audience.directory.made → t.audience.live.items ≡ s.audience.live.items → t.labels.items ≡ s.labels.items →
+    t.ended.items ≡ s.ended.items → Stands t
+still_stands s t v journal stamped relayed capacity made live labels ended =
+    let J : List Entry = s.journal.entries in
+    let c : ℕ = s.capacity in
+    let many : length t.audience.live.items ≡ length s.audience.live.items = ap length live in
+    let room : t.journal.room ≡ s.journal.room = ap (λ j. j.room) journal in
+    let stamp_room : t.stamps.room ≡ s.stamps.room = ap (λ l. l.room) stamped in
+    let it : StandsFor c J t = record {
+      recorded = ap (λ j. j.entries) journal;
+      relayed = subst (λ r. relay.StandsFor r (resolve J)) (sym relayed) v.relayed;
+      made = made ∙ v.made;
+      who = ap (map who) live ∙ v.who;
+      live = subst (λ (ls : List Live). AllByRecursion (IsLive c J) ls) (sym live) v.live;
+      labels = labels ∙ v.labels;
+      left = subst (λ (ends : List (Option Ended)). AreLeft c J ends) (sym ended) v.left;
+      fit = v.fit;
+      store = capacity;
+      room = (let a = v.room in omega arith);
+      stamp_room = (let a = v.stamp_room in omega arith);
+      stamped = ap (λ l. length l.stamps) stamped ∙ v.stamped;
+      ends = (let a = v.ends in omega arith);
+      joins = v.joins;
+    } in
+    subst (λ (i : ℕ). StandsFor i t.journal.entries t) (sym capacity)
+    (subst (λ (j : List Entry). StandsFor c j t) (sym it.recorded) it)
 
 -- how long a journal is
 

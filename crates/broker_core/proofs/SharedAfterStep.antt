@@ -101,6 +101,28 @@ becomes limits e given b s t v i h =
     ∙ ap (λ (journal : List Entry). record { limits = limits; journal = journal; stamps = stamps journal (given ∷ gave) }) now
     ∙ ap (with_step e given) v
 
+-- it stays one, and shows the same, where a call that took nothing left its journal and its stamps
+pub stays_as : (limits : Limits) (s t : State) → IsBroker limits s → Stands t → t.capacity ≡ s.capacity → t.journal.entries ≡ s.journal.entries →
+    t.stamps.stamps ≡ s.stamps.stamps → IsBroker limits t
+stays_as limits s t b v c j p = record {
+  stands = v;
+  capacity = c ∙ b.capacity;
+  limited = b.limited;
+  steps = subst (λ (J : List Entry). history limits.store (outer J) ≡ J) (sym j) b.steps;
+  counted = subst (λ (J : List Entry). number_counted J ≤ limits.entries) (sym j) b.counted;
+  light = subst (λ (J : List Entry). weight J ≤ limits.weight) (sym j) b.light;
+  few = subst (λ (J : List Entry). number_alive J ≤ 64) (sym j) b.few;
+  stamped = subst (λ (J : List Entry). stamps J (step_stamps J t.stamps.stamps) ≡ t.stamps.stamps) (sym j)
+      (subst (λ (ss : List Stamp). stamps s.journal.entries (step_stamps s.journal.entries ss) ≡ ss) (sym p) b.stamped);
+}
+
+pub shows_as : (limits : Limits) (b : Broker) (s t : State) → shown limits s ≡ b → t.journal.entries ≡ s.journal.entries →
+    t.stamps.stamps ≡ s.stamps.stamps → shown limits t ≡ b
+shows_as limits b s t v j p =
+    ap (λ (J : List Entry). record { limits = limits; journal = J; stamps = t.stamps.stamps }) j
+    ∙ ap (λ (ss : List Stamp). record { limits = limits; journal = s.journal.entries; stamps = ss }) p
+    ∙ v
+
 -- how many peers joined, the ends that follow don't change
 pub joined_stays : (e : Entry) (s m t : State) → m.journal.entries ≡ e ∷ s.journal.entries → t.journal.entries ≡ settle m.capacity m.journal.entries →
     length (past_of t.journal.entries).joined ≡ length (past_of m.journal.entries).joined

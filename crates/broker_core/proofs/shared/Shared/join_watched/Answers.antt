@@ -4,9 +4,17 @@ use Rattle.broker_model.specs.declared.journal.Entry.TheVariants as entries
 use Rattle.broker_model.specs.Settle.{number_alive}
 use Rattle.broker_core.specs.Broker.{Broker, full_for}
 use Rattle.broker_core.proofs.RefusalsTested.{join_place}
-use Rattle.broker_core.proofs.SharedAfterStep.{HasPlace, stepped, stays, has_place, within_join, joined_stays}
+use Rattle.broker_core.proofs.SharedAfterStep.{HasPlace, stepped, stays, becomes, stays_as, shows_as, has_place, within_join, joined_stays}
 use Rattle.broker_core.proofs.CallWatched.{call_watched, nothing_watched, refused_watched}
 use Rattle.broker_core.proofs.shared.Shared.join_watched.Goals as goal
+
+pub invariant_of-self : goal.invariant_of-self
+invariant_of-self g c =
+    stays_as c.self.inside.limits c.self.inside.state c.join.new.self c.self.invariant c.in_default-join.ensures.stands c.in_default-join.ensures.capacity c.in_default-join.ensures.err c.in_default-join.ensures.unstamped
+
+pub returns-in_default-join-clause-err : goal.returns-in_default-join-clause-err
+returns-in_default-join-clause-err g c =
+    shows_as c.self.inside.limits c.args.self.now c.self.inside.state c.join.new.self c.self.view_is c.in_default-join.ensures.err c.in_default-join.ensures.unstamped
 
 pub invariant_of-self-2 : goal.invariant_of-self-2
 invariant_of-self-2 g c =
@@ -19,6 +27,13 @@ invariant_of-self-2 g c =
     has_place c.self.inside.limits e c.args.self.now c.self.inside.state c.self.view_is refl open_.1 in
     stays c.self.inside.limits e c.args.stamp c.self.inside.state c.settle.new.self c.self.invariant
     (within_join c.self.inside.limits c.args.role c.self.inside.state few place)
+    (stepped e c.args.stamp c.self.inside.state c.join.new.self c.settle.new.self refl c.in-Ok.ensures.capacity c.in-Ok.ensures.ok c.in-Ok.ensures.stamped c.settle.ensures.stands
+    c.settle.ensures.capacity c.settle.ensures.settled c.settle.ensures.stamped)
+
+pub returns-clause-ok : goal.returns-clause-ok
+returns-clause-ok g c =
+    let e : Entry = entries.Join c.args.role in
+    becomes c.self.inside.limits e c.args.stamp c.args.self.now c.self.inside.state c.settle.new.self c.self.view_is c.self.invariant
     (stepped e c.args.stamp c.self.inside.state c.join.new.self c.settle.new.self refl c.in-Ok.ensures.capacity c.in-Ok.ensures.ok c.in-Ok.ensures.stamped c.settle.ensures.stands
     c.settle.ensures.capacity c.settle.ensures.settled c.settle.ensures.stamped)
 

@@ -1,9 +1,13 @@
 use Rattle.std.proofs.Common.{refl}
 use Rattle.broker_model.specs.declared.journal.Entry.{Entry}
 use Rattle.broker_model.specs.declared.journal.Entry.TheVariants as entries
-use Rattle.broker_core.proofs.SharedAfterStep.{HasPlace, stepped, stays, becomes, has_place, within_plain}
+use Rattle.broker_core.proofs.SharedAfterStep.{HasPlace, stepped, stays, becomes, stays_as, has_place, within_plain}
 use Rattle.broker_core.proofs.CallWatched.{call_watched, refused_watched}
 use Rattle.broker_core.proofs.shared.Shared.shell.Goals as goal
+
+pub invariant_of-self : goal.invariant_of-self
+invariant_of-self g c =
+    stays_as c.self.inside.limits c.self.inside.state c.shell.new.self c.self.invariant c.in_err-route.ensures.stands c.in_err-route.ensures.capacity c.in_err-route.ensures.err c.in_err-route.ensures.unstamped
 
 pub invariant_of-self-2 : goal.invariant_of-self-2
 invariant_of-self-2 g c =

@@ -3,9 +3,17 @@ use Rattle.broker_model.specs.declared.journal.Entry.{Entry}
 use Rattle.broker_model.specs.declared.journal.Entry.TheVariants as entries
 use Rattle.broker_core.specs.Broker.{full_for}
 use Rattle.broker_core.proofs.RefusalsTested.{take_place}
-use Rattle.broker_core.proofs.SharedAfterStep.{HasPlace, stepped, stays, has_place, within_plain}
+use Rattle.broker_core.proofs.SharedAfterStep.{HasPlace, stepped, stays, stays_as, shows_as, has_place, within_plain}
 use Rattle.broker_core.proofs.CallWatched.{call_watched, nothing_watched, refused_watched}
 use Rattle.broker_core.proofs.shared.Shared.take_watched.Goals as goal
+
+pub invariant_of-self : goal.invariant_of-self
+invariant_of-self g c =
+    stays_as c.self.inside.limits c.self.inside.state c.take.new.self c.self.invariant c.in_default-take.ensures.stands c.in_default-take.ensures.capacity c.in_default-take.ensures.err c.in_default-take.ensures.unstamped
+
+pub returns-in_default-take-clause-same : goal.returns-in_default-take-clause-same
+returns-in_default-take-clause-same g c =
+    shows_as c.self.inside.limits c.args.self.now c.self.inside.state c.take.new.self c.self.view_is c.in_default-take.ensures.err c.in_default-take.ensures.unstamped
 
 pub invariant_of-self-2 : goal.invariant_of-self-2
 invariant_of-self-2 g c =

@@ -4,7 +4,7 @@ use Rattle.broker_model.specs.declared.journal.Entry.TheVariants as entries
 use Rattle.broker_core.specs.Taking.{standing_of}
 use Rattle.broker_core.specs.Broker.{Broker}
 use Rattle.broker_core.proofs.WhoIsAlive.{alive_there}
-use Rattle.broker_core.proofs.SharedAfterStep.{HasPlace, stepped, stays, becomes, has_place, within_plain}
+use Rattle.broker_core.proofs.SharedAfterStep.{HasPlace, stepped, stays, becomes, stays_as, has_place, within_plain}
 use Rattle.broker_core.proofs.CallWatched.{call_watched, refused_watched}
 use Rattle.broker_core.proofs.shared.Shared.tokens.Goals as goal
 
@@ -12,6 +12,10 @@ pub tokens-requires-clause-live : goal.tokens-requires-clause-live
 tokens-requires-clause-live g c =
     alive_there c.self.inside.state c.args.number c.self.invariant.stands
     (ap (λ (b : Broker). standing_of b.journal c.args.number) c.self.view_is ∙ c.requires.live)
+
+pub invariant_of-self : goal.invariant_of-self
+invariant_of-self g c =
+    stays_as c.self.inside.limits c.self.inside.state c.tokens.new.self c.self.invariant c.in_err-tokens.ensures.stands c.in_err-tokens.ensures.capacity c.in_err-tokens.ensures.err c.in_err-tokens.ensures.unstamped
 
 pub invariant_of-self-2 : goal.invariant_of-self-2
 invariant_of-self-2 g c =

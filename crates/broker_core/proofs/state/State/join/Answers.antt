@@ -11,7 +11,7 @@ use Rattle.seat_audience.specs.Directed.{IsNewest}
 use Rattle.seat_audience.specs.Visits.{IsAboveAll}
 use Rattle.broker_core.specs.Stands.{CanTake}
 use Rattle.broker_core.proofs.NewestPeer.{above_all, newcomer_number, newcomer_label}
-use Rattle.broker_core.proofs.ReadyForJoin.{ready_join}
+use Rattle.broker_core.proofs.ReadyForJoin.{ready_join, still_stands}
 use Rattle.broker_core.proofs.NewLabels.{newest}
 use Rattle.broker_core.proofs.state.State.join.Goals as goal
 
@@ -75,3 +75,15 @@ enter-requires-clause-ready g c =
       ended = ended;
       capacity = refl;
     })
+
+pub returns-in_err-reserve-clause-stands : goal.returns-in_err-reserve-clause-stands
+returns-in_err-reserve-clause-stands g c = still_stands c.make_room.new.self _ c.make_room.ensures.stands refl refl refl refl refl c.reserve.ensures.same refl refl
+
+pub returns-in_err-reserve-2-clause-stands : goal.returns-in_err-reserve-2-clause-stands
+returns-in_err-reserve-2-clause-stands g c = still_stands c.make_room.new.self _ c.make_room.ensures.stands refl refl refl refl refl c.reserve.ensures.same c.reserve-2.ensures.items refl
+
+pub returns-in_err-reserve-3-clause-stands : goal.returns-in_err-reserve-3-clause-stands
+returns-in_err-reserve-3-clause-stands g c = still_stands c.make_room.new.self _ c.make_room.ensures.stands refl refl refl refl refl c.reserve.ensures.same c.reserve-2.ensures.items c.reserve-3.ensures.items
+
+pub returns-in_err-live-clause-stands : goal.returns-in_err-live-clause-stands
+returns-in_err-live-clause-stands g c = still_stands c.make_room.new.self _ c.make_room.ensures.stands refl refl refl refl refl c.reserve.ensures.same c.reserve-2.ensures.items c.reserve-3.ensures.items
