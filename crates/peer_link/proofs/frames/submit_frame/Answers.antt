@@ -1,5 +1,6 @@
 use Rattle.std.proofs.lemmas.Result.{err_from_is_err_and}
 use Rattle.wl_wire.specs.Streams.{begun}
+use Rattle.peer_link.proofs.StepsMade.{saw-both, pass-both}
 use Rattle.peer_link.proofs.MessagesMade.{frame-stops, frame-made}
 use Rattle.peer_link.proofs.frames.submit_frame.Goals as goal
 
@@ -15,3 +16,13 @@ returns-clause-made g c =
     frame-made c.args.hub.now.limits c.args.pass.now c.submit_tokens.new.pass c.submit_messages.new.pass (begun c.args.assembler.now)
     c.args.bytes.now c.args.tokens.now c.submit_messages.result c.requires.good c.submit_tokens.ensures.pass
     c.in_ok-submit_tokens.ensures.made c.submit_messages.ensures.made
+
+pub returns-clause-pass : goal.returns-clause-pass
+returns-clause-pass g c =
+    pass-both c.args.pass.now c.submit_tokens.new.pass c.submit_messages.new.pass c.submit_tokens.ensures.pass
+    c.submit_messages.ensures.pass
+
+pub returns-clause-saw : goal.returns-clause-saw
+returns-clause-saw g c =
+    saw-both c.args.hub.now.limits c.args.pass.now.seat.seen c.submit_tokens.new.pass.seat.seen c.submit_messages.new.pass.seat.seen
+    c.submit_tokens.ensures.saw c.submit_messages.ensures.saw

@@ -1,6 +1,7 @@
-use Rattle.std.proofs.Common.{◌++◌, refl}
+use Rattle.std.proofs.Common.{◌++◌, refl, sym, subst}
 use Rattle.std.proofs.lemmas.Result.{err_from_is_err_and}
 use Rattle.wl_wire.specs.Streams.{begun}
+use Rattle.hub_lock.specs.Passes.{IsOf, PeerPass}
 use Rattle.peer_link.proofs.StepsMade.{saw-none, saw-both, pass-both}
 use Rattle.peer_link.proofs.MessagesMade.{same-peer, way-begins, way-goes, way-stops, way-ends, way-bad, way-bad-stops}
 use Rattle.peer_link.proofs.messages.submit_messages.Goals as goal
@@ -59,3 +60,36 @@ returns-in-BadSize-clause-made g c =
     way-bad c.args.pass.now.peer c.in-BadSize.field-0 (begun c.args.assembler.now ++ c.args.piece.now) c.args.pass.now c.messages.pass
     c.submit_bad_size.new.pass c.messages.assembler c.feed.new.self c.messages.rest.now
     (same-peer c.args.pass.now c.messages.pass i.pass) i.way c.in-BadSize.ensures.one c.in_ok-submit_bad_size-in-BadSize.ensures.made
+
+pub submit_message-requires-clause-own : goal.submit_message-requires-clause-own
+submit_message-requires-clause-own g c = subst (λ (p : PeerPass). IsOf c.args.hub.now p.seat) (sym c.messages.invariant.pass) c.requires.own
+
+pub submit_bad_size-requires-clause-own : goal.submit_bad_size-requires-clause-own
+submit_bad_size-requires-clause-own g c = subst (λ (p : PeerPass). IsOf c.args.hub.now p.seat) (sym c.messages.invariant.pass) c.requires.own
+
+pub returns-in_err-submit_message-in-Whole-clause-pass : goal.returns-in_err-submit_message-in-Whole-clause-pass
+returns-in_err-submit_message-in-Whole-clause-pass g c =
+    pass-both c.args.pass.now c.messages.pass c.submit_message.new.pass c.messages.invariant.pass c.in_err-submit_message-in-Whole.ensures.pass
+
+pub returns-in_err-submit_message-in-Whole-clause-saw : goal.returns-in_err-submit_message-in-Whole-clause-saw
+returns-in_err-submit_message-in-Whole-clause-saw g c =
+    saw-both c.args.hub.now.limits c.args.pass.now.seat.seen c.messages.pass.seat.seen c.submit_message.new.pass.seat.seen
+    c.messages.invariant.saw c.in_err-submit_message-in-Whole.ensures.saw
+
+pub returns-in_err-submit_bad_size-in-BadSize-clause-pass : goal.returns-in_err-submit_bad_size-in-BadSize-clause-pass
+returns-in_err-submit_bad_size-in-BadSize-clause-pass g c =
+    pass-both c.args.pass.now c.messages.pass c.submit_bad_size.new.pass c.messages.invariant.pass c.in_err-submit_bad_size-in-BadSize.ensures.pass
+
+pub returns-in_err-submit_bad_size-in-BadSize-clause-saw : goal.returns-in_err-submit_bad_size-in-BadSize-clause-saw
+returns-in_err-submit_bad_size-in-BadSize-clause-saw g c =
+    saw-both c.args.hub.now.limits c.args.pass.now.seat.seen c.messages.pass.seat.seen c.submit_bad_size.new.pass.seat.seen
+    c.messages.invariant.saw c.in_err-submit_bad_size-in-BadSize.ensures.saw
+
+pub returns-in-BadSize-clause-pass : goal.returns-in-BadSize-clause-pass
+returns-in-BadSize-clause-pass g c =
+    pass-both c.args.pass.now c.messages.pass c.submit_bad_size.new.pass c.messages.invariant.pass c.in_ok-submit_bad_size-in-BadSize.ensures.pass
+
+pub returns-in-BadSize-clause-saw : goal.returns-in-BadSize-clause-saw
+returns-in-BadSize-clause-saw g c =
+    saw-both c.args.hub.now.limits c.args.pass.now.seat.seen c.messages.pass.seat.seen c.submit_bad_size.new.pass.seat.seen
+    c.messages.invariant.saw c.in_ok-submit_bad_size-in-BadSize.ensures.saw

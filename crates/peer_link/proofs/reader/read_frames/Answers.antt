@@ -2,6 +2,7 @@ use Rattle.std.proofs.Common.{◌++◌, [], refl, sym, ap, subst, arith}
 use Rattle.wio_core.proofs.Gathered.{TookFrom-both}
 use Rattle.wl_wire.specs.Messages.{bad_size_at}
 use Rattle.wl_wire.specs.Streams.{Assembly, begun}
+use Rattle.hub_lock.specs.Passes.{IsOf, PeerPass}
 use Rattle.peer_link.proofs.StepsMade.{saw-none, saw-both, pass-both}
 use Rattle.peer_link.proofs.ShellServed.{entries-none, took-none}
 use Rattle.peer_link.proofs.MessagesMade.{same-peer}
@@ -62,3 +63,15 @@ returns-in-Err-read_frame-clause-reads g c =
           (begun c.read_frame.new.assembler) r.0 (g.S.Source.left c.read_frame.new.source) c.in-Err-read_frame.end
           (same-peer c.args.pass.now c.loop.pass i.pass) c.in-Err-read_frame.ensures.pass i.reads.2 r.2,
     )
+
+pub read_frame-requires-clause-own : goal.read_frame-requires-clause-own
+read_frame-requires-clause-own g c = subst (λ (p : PeerPass). IsOf c.args.hub.now p.seat) (sym c.loop.invariant.pass) c.requires.own
+
+pub returns-in-Err-read_frame-clause-pass : goal.returns-in-Err-read_frame-clause-pass
+returns-in-Err-read_frame-clause-pass g c =
+    pass-both c.args.pass.now c.loop.pass c.read_frame.new.pass c.loop.invariant.pass c.in-Err-read_frame.ensures.pass
+
+pub returns-in-Err-read_frame-clause-saw : goal.returns-in-Err-read_frame-clause-saw
+returns-in-Err-read_frame-clause-saw g c =
+    saw-both c.args.hub.now.limits c.args.pass.now.seat.seen c.loop.pass.seat.seen c.read_frame.new.pass.seat.seen
+    c.loop.invariant.saw c.in-Err-read_frame.ensures.saw

@@ -1,4 +1,5 @@
-use Rattle.std.proofs.Common.{[], refl, arith}
+use Rattle.std.proofs.Common.{[], refl, sym, subst, arith}
+use Rattle.hub_lock.specs.Passes.{IsOf, PassSeat}
 use Rattle.peer_link.proofs.StepsMade.{saw-none, saw-both, seat-both}
 use Rattle.peer_link.proofs.ShellServed.{took-none, nothing-read, serving-begins, can-begin, few-begun}
 use Rattle.peer_link.proofs.shell.read_shell.Goals as goal
@@ -52,3 +53,15 @@ returns-in-Err-serve_line-clause-law g c =
     let i = c.loop.invariant in
     let s = c.in-Err-serve_line.ensures.serves (g.S.Source.given c.args.source.now) (g.S.Source.left c.args.source.now)
     (g.K.Sink.held c.args.sink.now) i.serves.0 i.serves.1 i.serves.2 in (s.0, s.1, s.2)
+
+pub serve_line-requires-clause-own : goal.serve_line-requires-clause-own
+serve_line-requires-clause-own g c = subst (λ (p : PassSeat). IsOf c.args.hub.now p) (sym c.loop.invariant.pass) c.requires.own
+
+pub returns-in-Err-serve_line-clause-pass : goal.returns-in-Err-serve_line-clause-pass
+returns-in-Err-serve_line-clause-pass g c =
+    seat-both c.args.pass.now c.loop.pass c.serve_line.new.pass c.loop.invariant.pass c.in-Err-serve_line.ensures.pass
+
+pub returns-in-Err-serve_line-clause-saw : goal.returns-in-Err-serve_line-clause-saw
+returns-in-Err-serve_line-clause-saw g c =
+    saw-both c.args.hub.now.limits c.args.pass.now.seen c.loop.pass.seen c.serve_line.new.pass.seen c.loop.invariant.saw
+    c.in-Err-serve_line.ensures.saw

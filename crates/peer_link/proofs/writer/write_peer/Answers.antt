@@ -33,3 +33,12 @@ loop-preserved g c =
       quiet = λ n. e.quiet (i.quiet n);
       faults = (let a = i.faults in let b = e.never_falls in omega (arith, a, b));
     }
+
+pub returns-in-Err-clause-pass : goal.returns-in-Err-clause-pass
+returns-in-Err-clause-pass g c =
+    pass-both c.args.pass.now c.loop.pass c.write_next.new.pass c.loop.invariant.pass c.in-Err.ensures.pass
+
+pub returns-in-Err-clause-saw : goal.returns-in-Err-clause-saw
+returns-in-Err-clause-saw g c =
+    saw-both c.args.hub.now.limits c.args.pass.now.seat.seen c.loop.pass.seat.seen c.write_next.new.pass.seat.seen c.loop.invariant.saw
+    c.in-Err.ensures.saw
