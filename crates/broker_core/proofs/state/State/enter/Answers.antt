@@ -1,4 +1,4 @@
-use Rattle.std.proofs.Common.{◌≡◌, ◌∷◌, ◌≤◌, ◌+◌, ℕ, suc, List, length, map, subst, sym, ap, ◌∙◌, arith}
+use Rattle.std.proofs.Common.{rules, ◌≡◌, ◌∷◌, ◌≤◌, ◌+◌, ℕ, suc, List, length, map, subst, sym, ap, ◌∙◌, arith}
 use Rattle.std.specs.List.{AllByRecursion}
 use Rattle.relay_model.specs.declared.act.Act.{Act}
 use Rattle.relay_model.specs.Told.{told}
@@ -65,3 +65,6 @@ returns-clause-watched g c =
       subst (λ (m : ℕ). R c.args.watch.now (Entered (m + 1) e) mid) number c.entered.ensures,
       subst (λ (events : List Watched). Reached R mid events after) (told_is_watched e s c.requires.ready) by_number,
     )
+
+pub returns-clause-stamped : goal.returns-clause-stamped
+returns-clause-stamped g c = search rules

@@ -37,3 +37,6 @@ returns-clause-typed c presses so_far =
       goes_on = rw (c.type_keys.ensures.text, pushed) law.0;
       waits = c.show_keys.ensures.text ∙ ap (own_texts t) (c.deref.ensures.value ∙ c.type_keys.ensures.rest ∙ ap (rest_of t) pushed ∙ law.1);
     }
+
+pub returns-then-not-self-clause-press : goal.returns-then-not-self-clause-press
+returns-then-not-self-clause-press c = search rules

@@ -13,3 +13,6 @@ swap-requires g c =
           (ap (λ m. m.0.is_live) e ∙ k.live) (ap (λ m. m.0.constant) e ∙ c.requires.ready.2)
           (sym (ap (λ m. m.0.seen) e)) k.fits,
     )
+
+pub count-requires-clause-ready : goal.count-requires-clause-ready
+count-requires-clause-ready g c = search rules

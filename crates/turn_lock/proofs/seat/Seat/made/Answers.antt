@@ -1,0 +1,5 @@
+use Rattle.std.proofs.Common.{rules}
+use Rattle.turn_lock.proofs.seat.Seat.made.Goals as goal
+
+pub returns : goal.returns
+returns g c = search rules
