@@ -188,16 +188,18 @@ const COMMITS_COUNT_OUTSIDE_AND_A_LEAVE_KEEPS_ONLY_THEIR_COUNT: [Step; 14] = [
     Step::Count(3),
 ];
 
+const LISTS: [&[Step]; 6] = [
+    &A_COMMIT_SHOWS_WHAT_WAS_SET_AND_THE_NEXT_ONE_NO_CAUSE,
+    &AN_ENABLE_FORGETS_WHAT_WAS_SET_BEFORE_IT,
+    &REQUESTS_WITHOUT_EFFECT_ANSWER_FALSE,
+    &THE_WORD_OF_A_COMMIT_IS_THE_LAST_SINCE_THE_ONE_BEFORE,
+    &A_DISPLACED_FIELD_HOLDS_AGAIN_ONLY_BY_AN_ENABLE,
+    &COMMITS_COUNT_OUTSIDE_AND_A_LEAVE_KEEPS_ONLY_THEIR_COUNT,
+];
+
 #[test]
 fn each_list_of_steps_is_answered(rt: HostRuntime) -> Result<(), Fail> {
-    for steps in [
-        A_COMMIT_SHOWS_WHAT_WAS_SET_AND_THE_NEXT_ONE_NO_CAUSE.as_slice(),
-        AN_ENABLE_FORGETS_WHAT_WAS_SET_BEFORE_IT.as_slice(),
-        REQUESTS_WITHOUT_EFFECT_ANSWER_FALSE.as_slice(),
-        THE_WORD_OF_A_COMMIT_IS_THE_LAST_SINCE_THE_ONE_BEFORE.as_slice(),
-        A_DISPLACED_FIELD_HOLDS_AGAIN_ONLY_BY_AN_ENABLE.as_slice(),
-        COMMITS_COUNT_OUTSIDE_AND_A_LEAVE_KEEPS_ONLY_THEIR_COUNT.as_slice(),
-    ] {
+    for steps in &LISTS {
         play(&rt, rt.alloc(), steps)?;
     }
     Ok(())

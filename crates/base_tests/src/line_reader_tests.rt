@@ -46,7 +46,7 @@ fn told_of(alloc: Global, bytes: Vec<u8>, fails: u64, limit: Option<u64>) -> Res
 const TEXT: &[u8] = b"focus 2\n\nscreen 1000 800\nkey 5 30 1";
 
 /// Which read fails, the limit, and what is told of the text.
-const TOLD: [(u64, Option<u64>, &[u8]); 3] = [
+static TOLD: [(u64, Option<u64>, &[u8]); 3] = [
     (0, None, b"focus 2||screen 1000 800|key 5 30 1|end"),
     (0, Some(30), b"focus 2||screen 1000 800|limit"),
     (3, None, b"focus 2||screen 1000 800|fault"),

@@ -61,7 +61,7 @@ fn sources_in_memory_give_their_bytes_in_any_pieces(rt: HostRuntime) -> Result<(
     Ok(())
 }
 
-const PIECES: [(&[u8], Result<(), Failed>); 5] = [
+static PIECES: [(&[u8], Result<(), Failed>); 5] = [
     (b"abc", Ok(())),
     (b"abc", Err(Failed)),
     (b"abc", Err(Failed)),

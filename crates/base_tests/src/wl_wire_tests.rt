@@ -1,9 +1,9 @@
-use crate::equal::equal;
+use crate::equal::{equal, equal_at};
 use std::process::Abort;
 use std::test::Fail;
 use wl_wire::{ArgReader, ArgWriter, Assembler, Bytes, Fed, Malformed, Text};
 
-const TEXTS: [(&[u8], bool); 5] = [
+static TEXTS: [(&[u8], bool); 5] = [
     (b"", true),
     (b"a", true),
     (b"\xc3\xa9", true),
@@ -15,12 +15,12 @@ const TEXTS: [(&[u8], bool); 5] = [
 fn is_text_or_back(rt: &impl Abort, owned: Vec<u8>, bytes: &[u8], is_text: bool) {
     match Text::from_bytes(owned) {
         Ok(text) => {
-            assert!(rt; is_text, "{bytes:?} is no text");
+            equal_at(rt, &bytes, true, is_text);
             equal(rt, text.as_bytes(), bytes);
             equal(rt, text.is_empty(), bytes.is_empty());
         }
         Err(back) => {
-            assert!(rt; !is_text, "{bytes:?} is a text");
+            equal_at(rt, &bytes, false, is_text);
             equal(rt, back.as_slice(), bytes);
         }
     }
@@ -37,11 +37,9 @@ fn a_text_is_utf8_without_a_zero_byte(rt: HostRuntime) -> Result<(), Fail> {
 #[test]
 fn texts_and_bytes_are_copied(rt: HostRuntime) -> Result<(), Fail> {
     let text = Text::of(rt.alloc(), "ab")?;
-    assert!(rt; text.copy(rt.alloc())? == text);
-    equal(&rt, text.as_str(), "ab");
+    equal(&rt, text.copy(rt.alloc())?.as_str(), "ab");
     let bytes = Bytes::new(text.into_bytes());
-    assert!(rt; bytes.copy(rt.alloc())? == bytes);
-    equal(&rt, bytes.as_slice(), b"ab".as_slice());
+    equal(&rt, bytes.copy(rt.alloc())?.as_slice(), bytes.as_slice());
     Ok(())
 }
 
@@ -91,7 +89,7 @@ fn stays_bad(rt: &impl Abort, assembler: &mut Assembler, header: &[u8], size: us
     }
 }
 
-const BAD_SIZES: [(u8, u8, usize); 3] = [(4, 0, 4), (10, 0, 10), (4, 16, 4100)];
+static BAD_SIZES: [(u8, u8, usize); 3] = [(4, 0, 4), (10, 0, 10), (4, 16, 4100)];
 
 #[test]
 fn a_bad_size_stays(rt: HostRuntime) -> Result<(), Fail> {
@@ -103,7 +101,7 @@ fn a_bad_size_stays(rt: HostRuntime) -> Result<(), Fail> {
 }
 
 /// What a string is read as, and how many bytes are left behind it.
-const STRINGS: [(&[u8], Result<Option<&str>, Malformed>, usize); 8] = [
+static STRINGS: [(&[u8], Result<Option<&str>, Malformed>, usize); 8] = [
     (b"\x02\0\0\0a\0\0\xff", Ok(Some("a")), 0),
     (b"\x01\0\0\0\0\x01\x02\x03", Ok(Some("")), 0),
     (b"\0\0\0\0\x01", Ok(None), 1),
@@ -118,7 +116,7 @@ const STRINGS: [(&[u8], Result<Option<&str>, Malformed>, usize); 8] = [
 fn a_string_is_read_as_the_grammar_has_it(rt: HostRuntime) {
     for (body, read, left) in &STRINGS {
         let mut args = ArgReader::new(body);
-        assert!(rt; args.string() == *read, "{body:?}");
+        equal_at(&rt, body, args.string(), *read);
         equal(&rt, args.rest.len(), *left);
         equal(&rt, args.finish().is_ok(), *left == 0);
     }

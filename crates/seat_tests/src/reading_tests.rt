@@ -1,5 +1,5 @@
 // Lines that are read, and what each says; and lines that are refused.
-use crate::equal::equal;
+use crate::equal::{equal, equal_at};
 use session_text::Form::{self, Acts, Session, Session2, Shell};
 use session_text::{BadLine, read_line};
 use std::alloc::{AllocGlobal, Global};
@@ -239,7 +239,7 @@ fn is_refused(alloc: Global, form: Form, text: &str) -> bool {
 #[test]
 fn refuses_other_lines(rt: HostRuntime) {
     for (form, text) in OTHERS.iter() {
-        assert!(rt; is_refused(rt.alloc(), *form, text), "{text}");
+        equal_at(&rt, text, is_refused(rt.alloc(), *form, text), true);
     }
 }
 
@@ -253,18 +253,27 @@ fn long_line(alloc: Global, front: &str, pairs: usize, back: &str) -> Result<Str
     Ok(line)
 }
 
+/// A form, a line's front, how many pairs of digits, and its back; and whether it is refused.
+static LONG: [(Form, &str, usize, &str, bool); 6] = [
+    (Acts, "mstring 5 ", 4083, "", false),
+    (Acts, "mstring 5 ", 4084, "", true),
+    (Acts, "surround 3 ", 4075, " 0 0", false),
+    (Acts, "surround 3 ", 4076, " 0 0", true),
+    (Session, "bytes 1 ", 4096, "", false),
+    (Session, "bytes 1 ", 4097, "", true),
+];
+
 // Texts and bytes at their limits are read, and those that are a byte longer are not.
 #[test]
 fn keeps_long_words_within_their_limits(rt: HostRuntime) -> Result<(), Fail> {
-    for (form, front, limit, back) in [
-        (Acts, "mstring 5 ", 4083, ""),
-        (Acts, "surround 3 ", 4075, " 0 0"),
-        (Session, "bytes 1 ", 4096, ""),
-    ] {
-        let longest = long_line(rt.alloc(), front, limit, back)?;
-        assert!(rt; !is_refused(rt.alloc(), form, longest.as_str()), "{front}");
-        let longer = long_line(rt.alloc(), front, limit + 1, back)?;
-        assert!(rt; is_refused(rt.alloc(), form, longer.as_str()), "{front}");
+    for (form, front, pairs, back, refused) in &LONG {
+        let line = long_line(rt.alloc(), front, *pairs, back)?;
+        equal_at(
+            &rt,
+            front,
+            is_refused(rt.alloc(), *form, line.as_str()),
+            *refused,
+        );
     }
     Ok(())
 }

@@ -19,47 +19,86 @@ fn method_sends(rt: &impl Abort, client: &mut MethodClient, piece: &[u8], wanted
     client.sent();
 }
 
+/// The rest of an enter.
+static ENTER: [u8; 7] = [0, 12, 0, 6, 0, 0, 0];
+
+/// The state that an enter asks for.
+static STATE: [u8; 80] = [
+    7, 0, 0, 0, 1, 0, 8, 0, 7, 0, 0, 0, 3, 0, 24, 0, 2, 0, 0, 0, 97, 0, 0, 0, 1, 0, 0, 0, 1, 0, 0,
+    0, 7, 0, 0, 0, 5, 0, 16, 0, 0, 0, 0, 0, 0, 0, 0, 0, 7, 0, 0, 0, 6, 0, 24, 0, 0, 0, 0, 0, 0, 0,
+    0, 0, 1, 0, 0, 0, 1, 0, 0, 0, 7, 0, 0, 0, 7, 0, 8, 0,
+];
+
+/// The string "a", and a done with the serial 1.
+static STRING: [u8; 28] = [
+    7, 0, 0, 0, 3, 0, 16, 0, 2, 0, 0, 0, 97, 0, 0, 0, 7, 0, 0, 0, 5, 0, 12, 0, 1, 0, 0, 0,
+];
+
+/// The state after it.
+static STATE_AFTER: [u8; 44] = [
+    7, 0, 0, 0, 3, 0, 24, 0, 3, 0, 0, 0, 97, 97, 0, 0, 2, 0, 0, 0, 2, 0, 0, 0, 7, 0, 0, 0, 4, 0,
+    12, 0, 0, 0, 0, 0, 7, 0, 0, 0, 7, 0, 8, 0,
+];
+
+/// The same done once more.
+static DONE: [u8; 12] = [7, 0, 0, 0, 5, 0, 12, 0, 1, 0, 0, 0];
+
+fn field_begins(rt: &impl Abort, client: &mut FieldClient) {
+    equal(rt, client.to_send().len(), 164);
+    client.sent();
+    equal(rt, client.edit(&Edit::Insert("a")).ok(), Some(true));
+}
+
+// An enter that is cut, a string, and what is no event.
+fn field_goes_on(rt: &impl Abort, client: &mut FieldClient) {
+    field_sends(rt, client, &[7, 0, 0, 0, 0], &[]);
+    field_sends(rt, client, &ENTER, &STATE);
+    equal(rt, client.commits(), 1);
+    field_sends(rt, client, &STRING, &STATE_AFTER);
+    equal(rt, client.field().text(), "aa");
+    field_sends(rt, client, &DONE, &[]);
+    let other = [9, 0, 0, 0, 0, 0, 12, 0, 0, 0, 0, 0];
+    equal(rt, client.receive(&other), Err(ClientFault::BadEvent));
+    equal(rt, client.receive(&[]), Err(ClientFault::BadEvent));
+}
+
 #[test]
 fn a_field_tells_what_it_becomes(rt: HostRuntime) -> Result<(), Fail> {
     let mut client = FieldClient::new(rt.alloc())?;
-    let at = &mut client;
-    equal(&rt, at.to_send().len(), 164);
-    at.sent();
-    assert!(rt; at.edit(&Edit::Insert("a"))?);
-    // An enter that is cut, and then the state that it asks for.
-    field_sends(&rt, at, &[7, 0, 0, 0, 0], &[]);
-    field_sends(
-        &rt,
-        at,
-        &[0, 12, 0, 6, 0, 0, 0],
-        &[
-            7, 0, 0, 0, 1, 0, 8, 0, 7, 0, 0, 0, 3, 0, 24, 0, 2, 0, 0, 0, 97, 0, 0, 0, 1, 0, 0, 0,
-            1, 0, 0, 0, 7, 0, 0, 0, 5, 0, 16, 0, 0, 0, 0, 0, 0, 0, 0, 0, 7, 0, 0, 0, 6, 0, 24, 0,
-            0, 0, 0, 0, 0, 0, 0, 0, 1, 0, 0, 0, 1, 0, 0, 0, 7, 0, 0, 0, 7, 0, 8, 0,
-        ],
-    );
-    equal(&rt, at.commits(), 1);
-    // The string "a", with the serial 1, and the same serial once more.
-    field_sends(
-        &rt,
-        at,
-        &[
-            7, 0, 0, 0, 3, 0, 16, 0, 2, 0, 0, 0, 97, 0, 0, 0, 7, 0, 0, 0, 5, 0, 12, 0, 1, 0, 0, 0,
-        ],
-        &[
-            7, 0, 0, 0, 3, 0, 24, 0, 3, 0, 0, 0, 97, 97, 0, 0, 2, 0, 0, 0, 2, 0, 0, 0, 7, 0, 0, 0,
-            4, 0, 12, 0, 0, 0, 0, 0, 7, 0, 0, 0, 7, 0, 8, 0,
-        ],
-    );
-    equal(&rt, at.field().text(), "aa");
-    field_sends(&rt, at, &[7, 0, 0, 0, 5, 0, 12, 0, 1, 0, 0, 0], &[]);
-    equal(
-        &rt,
-        at.receive(&[9, 0, 0, 0, 0, 0, 12, 0, 0, 0, 0, 0]),
-        Err(ClientFault::BadEvent),
-    );
-    equal(&rt, at.receive(&[]), Err(ClientFault::BadEvent));
+    field_begins(&rt, &mut client);
+    field_goes_on(&rt, &mut client);
     Ok(())
+}
+
+/// A key that goes down, and up.
+static PRESS: [u8; 24] = [
+    6, 0, 0, 0, 1, 0, 24, 0, 9, 0, 0, 0, 100, 0, 0, 0, 30, 0, 0, 0, 1, 0, 0, 0,
+];
+
+static RELEASE: [u8; 24] = [
+    6, 0, 0, 0, 1, 0, 24, 0, 10, 0, 0, 0, 100, 0, 0, 0, 30, 0, 0, 0, 0, 0, 0, 0,
+];
+
+/// An activation with its done.
+static ACTIVATION: [u8; 32] = [
+    5, 0, 0, 0, 0, 0, 8, 0, 5, 0, 0, 0, 4, 0, 16, 0, 0, 0, 0, 0, 0, 0, 0, 0, 5, 0, 0, 0, 5, 0, 8, 0,
+];
+
+/// The string "a", and a commit with the serial 1.
+static TYPED: [u8; 28] = [
+    5, 0, 0, 0, 0, 0, 16, 0, 2, 0, 0, 0, 97, 0, 0, 0, 5, 0, 0, 0, 3, 0, 12, 0, 1, 0, 0, 0,
+];
+
+// A press before the activation, and one after it; and a keymap, for which no descriptor is given.
+fn method_goes_on(rt: &impl Abort, client: &mut MethodClient) {
+    equal(rt, client.to_send().len(), 124);
+    client.sent();
+    method_sends(rt, client, &PRESS, &[]);
+    method_sends(rt, client, &ACTIVATION, &[]);
+    method_sends(rt, client, &PRESS, &TYPED);
+    method_sends(rt, client, &RELEASE, &[]);
+    let keymap = [6, 0, 0, 0, 0, 0, 16, 0, 1, 0, 0, 0, 16, 0, 0, 0];
+    equal(rt, client.receive(&keymap), Err(ClientFault::BadEvent));
 }
 
 #[test]
@@ -67,50 +106,6 @@ fn a_method_types_what_is_pressed(rt: HostRuntime) -> Result<(), Fail> {
     let mut table = ComposeTable::new(rt.alloc())?;
     equal(&rt, table.single(30, "a"), Ok(()));
     let mut client = MethodClient::new(rt.alloc(), table)?;
-    let at = &mut client;
-    equal(&rt, at.to_send().len(), 124);
-    at.sent();
-    // A press before the activation, the activation with its done, a press, a release.
-    method_sends(
-        &rt,
-        at,
-        &[
-            6, 0, 0, 0, 1, 0, 24, 0, 9, 0, 0, 0, 100, 0, 0, 0, 30, 0, 0, 0, 1, 0, 0, 0,
-        ],
-        &[],
-    );
-    method_sends(
-        &rt,
-        at,
-        &[
-            5, 0, 0, 0, 0, 0, 8, 0, 5, 0, 0, 0, 4, 0, 16, 0, 0, 0, 0, 0, 0, 0, 0, 0, 5, 0, 0, 0, 5,
-            0, 8, 0,
-        ],
-        &[],
-    );
-    method_sends(
-        &rt,
-        at,
-        &[
-            6, 0, 0, 0, 1, 0, 24, 0, 9, 0, 0, 0, 100, 0, 0, 0, 30, 0, 0, 0, 1, 0, 0, 0,
-        ],
-        &[
-            5, 0, 0, 0, 0, 0, 16, 0, 2, 0, 0, 0, 97, 0, 0, 0, 5, 0, 0, 0, 3, 0, 12, 0, 1, 0, 0, 0,
-        ],
-    );
-    method_sends(
-        &rt,
-        at,
-        &[
-            6, 0, 0, 0, 1, 0, 24, 0, 10, 0, 0, 0, 100, 0, 0, 0, 30, 0, 0, 0, 0, 0, 0, 0,
-        ],
-        &[],
-    );
-    // No descriptor is given, so no keymap is an event.
-    equal(
-        &rt,
-        at.receive(&[6, 0, 0, 0, 0, 0, 16, 0, 1, 0, 0, 0, 16, 0, 0, 0]),
-        Err(ClientFault::BadEvent),
-    );
+    method_goes_on(&rt, &mut client);
     Ok(())
 }

@@ -1,5 +1,5 @@
 // Whole scripts, against what they show. Lists are written with `;` between lines.
-use crate::equal::equal_at;
+use crate::equal::{equal, equal_at};
 use std::alloc::Global;
 use std::process::Abort;
 use std::test::Fail;
@@ -40,8 +40,8 @@ fn is_text(
 fn shows(rt: &impl Abort, alloc: Global, script: &str, shown: &str) -> Result<(), Fail> {
     match run_lines(alloc, script)? {
         Ok(text) => is_text(rt, alloc, script, text.as_str(), shown),
-        Err(end) => {
-            assert!(rt; false, "{script}: {end:?}");
+        Err(_end) => {
+            equal_at(rt, &script, false, true);
             Ok(())
         }
     }
@@ -60,8 +60,8 @@ fn is_bad(
             equal_at(rt, &script, found, number);
             is_text(rt, alloc, script, text.as_str(), shown)
         }
-        other => {
-            assert!(rt; false, "{script}: {other:?}");
+        _other => {
+            equal_at(rt, &script, 0, number);
             Ok(())
         }
     }
@@ -151,27 +151,21 @@ fn batch(alloc: Global, letters: usize) -> Result<String, Fail> {
     lines(alloc, &[("batch 0 0 ", 1), ("61", letters), (" - 0 0;", 1)])
 }
 
-// The script ends behind its last line, and shows a text that ends so.
-fn shows_at_last(rt: &impl Abort, alloc: Global, script: &str, wanted: &str) {
+// Whether the script ends behind its last line, and shows a text that ends so.
+fn shows_at_last(alloc: Global, script: &str, wanted: &str) -> bool {
     match run_trial(alloc, script.as_bytes()) {
-        Ok(text) => assert!(rt; text.as_str().ends_with(wanted), "{}", text.len()),
-        Err(end) => assert!(rt; false, "{end:?}"),
+        Ok(text) => text.as_str().ends_with(wanted),
+        Err(_) => false,
     }
 }
 
-// The script ends behind its last line, and shows this text.
-fn shows_all(
-    rt: &impl Abort,
-    alloc: Global,
-    script: &str,
-    parts: &[(&str, usize)],
-) -> Result<(), Fail> {
+// Whether the script ends behind its last line, and shows this text.
+fn shows_all(alloc: Global, script: &str, parts: &[(&str, usize)]) -> Result<bool, Fail> {
     let wanted = lines(alloc, parts)?;
     match run_trial(alloc, script.as_bytes()) {
-        Ok(text) => assert!(rt; text.as_str() == wanted.as_str(), "{}", text.len()),
-        Err(end) => assert!(rt; false, "{end:?}"),
+        Ok(text) => Ok(text.as_str() == wanted.as_str()),
+        Err(_) => Ok(false),
     }
-    Ok(())
 }
 
 // A field, and its peer's store, that many batches go to.
@@ -199,7 +193,8 @@ fn a_field_whose_peer_ended_goes_on_by_itself(rt: HostRuntime) -> Result<(), Fai
         ("61", 63_999),
         (" 64000 -;", 1),
     ];
-    shows_all(&rt, alloc, script.as_str(), &wanted)
+    equal(&rt, shows_all(alloc, script.as_str(), &wanted)?, true);
+    Ok(())
 }
 
 // Once it reads, the field tells its state for each enter before the method takes anything. Each time
@@ -217,7 +212,8 @@ fn a_method_whose_peer_ended_types_nothing_more(rt: HostRuntime) -> Result<(), F
     let alloc = rt.alloc();
     let script = lines(alloc, &ENTERED_OFTEN)?;
     let wanted = [("show 1 62", 1), ("61", 2000), ("64 2002 -;", 1)];
-    shows_all(&rt, alloc, script.as_str(), &wanted)
+    equal(&rt, shows_all(alloc, script.as_str(), &wanted)?, true);
+    Ok(())
 }
 
 // A text that is filled by batches, and a letter more.
@@ -235,6 +231,10 @@ fn a_text_is_as_long_as_it_may_be(rt: HostRuntime) -> Result<(), Fail> {
     let alloc = rt.alloc();
     let (most, last) = (batch(alloc, 4083)?, batch(alloc, 208)?);
     let script = lines(alloc, &filled(most.as_str(), last.as_str()))?;
-    shows_at_last(&rt, alloc, script.as_str(), " 65536 -\n");
+    equal(
+        &rt,
+        shows_at_last(alloc, script.as_str(), " 65536 -\n"),
+        true,
+    );
     Ok(())
 }

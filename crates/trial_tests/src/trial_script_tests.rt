@@ -3,44 +3,46 @@ use crate::equal::equal_at;
 use std::test::Fail;
 use trial_script::{Ending, read_script};
 
+/// A script, how many fields and actions it has, and where it ends.
+static SCRIPTS: [(&str, u32, usize, Ending); 9] = [
+    ("", 0, 0, Ending::Unended(1)),
+    ("trial 2\n", 0, 0, Ending::BadLine(1)),
+    ("trial 1\nfields 1\nuse 1\nend\nrest", 1, 1, Ending::End),
+    (
+        "trial 1\nsingle 40 27\nsingle 18 65\ncompose c3a9 40 18\nfields 2\nuse 1\npress 40\nshow 2",
+        2,
+        3,
+        Ending::Unended(9),
+    ),
+    (
+        "trial 1\nsingle 40 27\nsingle 40 65\n",
+        0,
+        0,
+        Ending::BadLine(3),
+    ),
+    (
+        "trial 1\ncompose 61 1 2 3\ncompose 62 1 2\n",
+        0,
+        0,
+        Ending::BadLine(3),
+    ),
+    ("trial 1\ncompose 61 1\n", 0, 0, Ending::BadLine(2)),
+    ("trial 1\nfields 17\n", 0, 0, Ending::BadLine(2)),
+    (
+        "trial 1\nfields 2\nleave\ninsert 2 -\nleft 1\nright 1\nrub 1\npause 1\nresume 1\nbatch 0 0 78 - -1 0\nuse 3\nend\n",
+        2,
+        8,
+        Ending::BadLine(11),
+    ),
+];
+
 #[test]
 fn scripts_end_where_they_do(rt: HostRuntime) -> Result<(), Fail> {
-    let alloc = rt.alloc();
-    for (text, fields, actions, ending) in [
-        ("", 0, 0, Ending::Unended(1)),
-        ("trial 2\n", 0, 0, Ending::BadLine(1)),
-        ("trial 1\nfields 1\nuse 1\nend\nrest", 1, 1, Ending::End),
-        (
-            "trial 1\nsingle 40 27\nsingle 18 65\ncompose c3a9 40 18\nfields 2\nuse 1\npress 40\nshow 2",
-            2,
-            3,
-            Ending::Unended(9),
-        ),
-        (
-            "trial 1\nsingle 40 27\nsingle 40 65\n",
-            0,
-            0,
-            Ending::BadLine(3),
-        ),
-        (
-            "trial 1\ncompose 61 1 2 3\ncompose 62 1 2\n",
-            0,
-            0,
-            Ending::BadLine(3),
-        ),
-        ("trial 1\ncompose 61 1\n", 0, 0, Ending::BadLine(2)),
-        ("trial 1\nfields 17\n", 0, 0, Ending::BadLine(2)),
-        (
-            "trial 1\nfields 2\nleave\ninsert 2 -\nleft 1\nright 1\nrub 1\npause 1\nresume 1\nbatch 0 0 78 - -1 0\nuse 3\nend\n",
-            2,
-            8,
-            Ending::BadLine(11),
-        ),
-    ] {
-        let script = read_script(alloc, text.as_bytes())?;
-        equal_at(&rt, &text, script.ending, ending);
-        equal_at(&rt, &text, script.fields, fields);
-        equal_at(&rt, &text, script.actions.as_slice().len(), actions);
+    for (text, fields, actions, ending) in &SCRIPTS {
+        let script = read_script(rt.alloc(), text.as_bytes())?;
+        equal_at(&rt, text, script.ending, *ending);
+        equal_at(&rt, text, script.fields, *fields);
+        equal_at(&rt, text, script.actions.as_slice().len(), *actions);
     }
     Ok(())
 }

@@ -42,19 +42,16 @@ fn types(method: &mut Method, key: u32, string: &str, preedit: &str) -> bool {
 fn take(rt: &impl Abort, method: &mut Method, step: Step) {
     match step {
         Step::Types(key, string, preedit) => {
-            assert!(rt;
-                types(method, key, string, preedit),
-                "{key}, {string}, {preedit}"
-            );
+            equal_at(rt, &key, types(method, key, string, preedit), true);
         }
-        Step::GoesOn(key) => assert!(rt; method.press(key).is_none(), "at {key}"),
+        Step::GoesOn(key) => equal_at(rt, &key, method.press(key).is_none(), true),
         Step::Activate => method.event(&Event::Activate),
         Step::Deactivate => method.event(&Event::Deactivate),
         Step::Done => method.event(&Event::InputMethodDone),
     }
 }
 
-const PRESSES_TYPE_ENTRIES_FIRST: [Step; 9] = [
+static PRESSES_TYPE_ENTRIES_FIRST: [Step; 9] = [
     Step::Activate,
     Step::Types(40, "", "'"),
     Step::Types(18, "é", ""),
@@ -66,7 +63,7 @@ const PRESSES_TYPE_ENTRIES_FIRST: [Step; 9] = [
     Step::Types(99, "'", ""),
 ];
 
-const ONLY_ACTIVATION_AND_DEACTIVATION_EMPTY_WHAT_WAITS: [Step; 13] = [
+static ONLY_ACTIVATION_AND_DEACTIVATION_EMPTY_WHAT_WAITS: [Step; 13] = [
     Step::GoesOn(40),
     Step::Activate,
     Step::Types(40, "", "'"),

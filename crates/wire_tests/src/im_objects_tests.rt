@@ -125,14 +125,16 @@ fn play(rt: &impl Abort, alloc: Global, steps: &[Step]) -> Result<(), Fail> {
     Ok(())
 }
 
+const LISTS: [&[Step]; 4] = [
+    &REFUSES_THE_257TH_OBJECT,
+    &AN_ID_USED_ANEW_NAMES_THE_NEW_OBJECT,
+    &THE_DISPLAY_STAYS,
+    &THE_FIRST_REFUSAL_THAT_APPLIES_IS_TOLD,
+];
+
 #[test]
 fn each_list_of_steps_is_answered(rt: HostRuntime) -> Result<(), Fail> {
-    for steps in [
-        REFUSES_THE_257TH_OBJECT.as_slice(),
-        AN_ID_USED_ANEW_NAMES_THE_NEW_OBJECT.as_slice(),
-        THE_DISPLAY_STAYS.as_slice(),
-        THE_FIRST_REFUSAL_THAT_APPLIES_IS_TOLD.as_slice(),
-    ] {
+    for steps in &LISTS {
         play(&rt, rt.alloc(), steps)?;
     }
     Ok(())

@@ -1,5 +1,5 @@
 // Every row, written and read back. The words are from the profile's table, and not from the program.
-use crate::equal::equal;
+use crate::equal::{equal, equal_at};
 use std::process::Abort;
 use wl_proto::{
     Event, Interface, Request, event_len, read_event, read_request, request_len, write_event,
@@ -50,9 +50,11 @@ fn request_is(rt: &impl Abort, interface: Interface, request: &Request, words: &
         opcode,
         body: &out[8..size],
     };
-    assert!(rt;
-        request_again(interface, &raw) == Some((out, size)),
-        "row {opcode}"
+    equal_at(
+        rt,
+        &opcode,
+        request_again(interface, &raw),
+        Some((out, size)),
     );
 }
 
@@ -87,13 +89,10 @@ fn event_is(rt: &impl Abort, interface: Interface, event: &Event, words: &[u32])
         opcode,
         body: &out[8..size],
     };
-    assert!(rt;
-        event_again(interface, &raw) == Some((out, size)),
-        "row {opcode}"
-    );
+    equal_at(rt, &opcode, event_again(interface, &raw), Some((out, size)));
 }
 
-const REQUESTS_OF_THE_CORE: [(Interface, Request<'static>, &[u32]); 10] = [
+static REQUESTS_OF_THE_CORE: [(Interface, Request<'static>, &[u32]); 10] = [
     (
         Interface::Display,
         Request::Sync { callback: 2 },
@@ -156,7 +155,7 @@ const REQUESTS_OF_THE_CORE: [(Interface, Request<'static>, &[u32]); 10] = [
     ),
 ];
 
-const REQUESTS_OF_THE_TEXT_INPUT: [(Interface, Request<'static>, &[u32]); 10] = [
+static REQUESTS_OF_THE_TEXT_INPUT: [(Interface, Request<'static>, &[u32]); 10] = [
     (
         Interface::TextInputManager,
         Request::TextInputManagerDestroy,
@@ -213,7 +212,7 @@ const REQUESTS_OF_THE_TEXT_INPUT: [(Interface, Request<'static>, &[u32]); 10] = 
     ),
 ];
 
-const REQUESTS_OF_THE_INPUT_METHOD: [(Interface, Request<'static>, &[u32]); 11] = [
+static REQUESTS_OF_THE_INPUT_METHOD: [(Interface, Request<'static>, &[u32]); 11] = [
     (
         Interface::InputMethodManager,
         Request::GetInputMethod {
@@ -281,7 +280,7 @@ const REQUESTS_OF_THE_INPUT_METHOD: [(Interface, Request<'static>, &[u32]); 11] 
     ),
 ];
 
-const EVENTS_OF_THE_CORE_AND_THE_TEXT_INPUT: [(Interface, Event<'static>, &[u32]); 12] = [
+static EVENTS_OF_THE_CORE_AND_THE_TEXT_INPUT: [(Interface, Event<'static>, &[u32]); 12] = [
     (
         Interface::Display,
         Event::Error {
@@ -359,7 +358,7 @@ const EVENTS_OF_THE_CORE_AND_THE_TEXT_INPUT: [(Interface, Event<'static>, &[u32]
     ),
 ];
 
-const EVENTS_OF_THE_INPUT_METHOD: [(Interface, Event<'static>, &[u32]); 12] = [
+static EVENTS_OF_THE_INPUT_METHOD: [(Interface, Event<'static>, &[u32]); 12] = [
     (Interface::InputMethod, Event::Activate, &[7, 0x0008_0000]),
     (Interface::InputMethod, Event::Deactivate, &[7, 0x0008_0001]),
     (

@@ -1,5 +1,5 @@
 // The worked examples of the wire.
-use crate::equal::equal;
+use crate::equal::{equal, equal_at};
 use wl_proto::{
     Event, Interface, Refuse, Request, SURFACE_REQUESTS, Sig, SigTable, read_event, read_request,
     write_event,
@@ -43,7 +43,7 @@ fn committed(body: &[u8]) -> Result<&str, Refuse> {
     }
 }
 
-const BODIES: [(&[u8], Result<&str, Refuse>); 5] = [
+static BODIES: [(&[u8], Result<&str, Refuse>); 5] = [
     (b"\x02\0\0\0a\0\0\xff", Ok("a")),
     (b"\x02\0\0\0ab\0\0", Err(Refuse::Malformed)),
     (b"\x01\0\0\0", Err(Refuse::Malformed)),
@@ -54,7 +54,7 @@ const BODIES: [(&[u8], Result<&str, Refuse>); 5] = [
 #[test]
 fn a_commit_string_is_read_or_malformed(rt: HostRuntime) {
     for (body, read) in &BODIES {
-        assert!(rt; committed(body) == *read, "{body:?}");
+        equal_at(&rt, body, committed(body), *read);
     }
 }
 
@@ -77,7 +77,7 @@ fn a_descriptor_is_the_first_token(rt: HostRuntime) {
     equal(&rt, keymap_token(&[]), Err(Refuse::Malformed));
 }
 
-const NO_ROWS: [(Interface, u16); 3] = [
+static NO_ROWS: [(Interface, u16); 3] = [
     (Interface::Surface, 1),
     (Interface::Callback, 0),
     (Interface::TextInput, 8),
@@ -96,7 +96,7 @@ fn has_no_row(interface: Interface, opcode: u16) -> bool {
 #[test]
 fn an_opcode_without_a_row_is_refused(rt: HostRuntime) {
     for (interface, opcode) in &NO_ROWS {
-        assert!(rt; has_no_row(*interface, *opcode), "opcode {opcode}");
+        equal_at(&rt, opcode, has_no_row(*interface, *opcode), true);
     }
 }
 
