@@ -1,6 +1,7 @@
 // A generated session, run step by step.
 ghost use Rattle.std.specs.Prelude.{◌≡◌, IfOk};
 ghost use Rattle.gen_run.specs.Counts.{counts_of};
+ghost use Rattle.gen_run.specs.Runs.{Stands};
 
 use crate::counts::Counts;
 use crate::playing::play;
@@ -89,13 +90,22 @@ impl Run {
     }
 }
 
+// Makes all steps of a run that stands before its first one, and gives its counts.
+fn count_run(alloc: Global, number: u64, run: &mut Run) -> Result<Counts, NoMemory>
+    requires stands { Stands run.old }
+    requires first { run.old.session ≡ record { number = number; made = 0 } }
+    ensures { IfOk result (λ counts. counts ≡ counts_of number) }
+{
+    while run.left() > 0 {
+        run.next(alloc)?;
+    }
+    Ok(run.counts())
+}
+
 /// The counts of the session of the number. `NoMemory` is its one error.
 pub fn count(alloc: Global, number: u64) -> Result<Counts, NoMemory>
     ensures { IfOk result (λ counts. counts ≡ counts_of number) }
 {
     let mut run = Run::new(alloc, number)?;
-    while run.left() > 0 {
-        run.next(alloc)?;
-    }
-    Ok(run.counts())
+    count_run(alloc, number, &mut run)
 }

@@ -119,6 +119,31 @@ fn write_step<K: Sink>(
     write_page(page, output)
 }
 
+// Writes all of a run that stands before its first step.
+fn write_run<K: Sink>(
+    alloc: Global,
+    number: u64,
+    run: &mut Run,
+    output: &mut K,
+) -> Result<(), WriteEnd>
+    requires stands { Stands run.old }
+    requires first { run.old.session ≡ record { number = number; made = 0 } }
+    ensures whole { OnOk result
+        (Appends (K.held output.old) (K.held output.new) (text_of number)) }
+    ensures front { OnErr result
+        (GrowsByFront (K.held output.old) (K.held output.new) (text_of number)) }
+    ensures never_falls { K.fault_count output.old ≤ K.fault_count output.new }
+    ensures cause { result ≡ Err WriteEnd.WriteFault →
+        Rose (K.fault_count output.old) (K.fault_count output.new) }
+{
+    let mut page = String::from_str(alloc, HEADER)?;
+    'steps: while run.left() > 0 {
+        write_step(alloc, run, &mut page, output)?;
+    }
+    page.push_str("end\n")?;
+    write_page(&mut page, output)
+}
+
 /// Writes the session of the number: its header, the line of each step, and `end`. It is written
 /// piece by piece, and only the journal grows meanwhile.
 ///
@@ -134,10 +159,5 @@ pub fn write_session<K: Sink>(alloc: Global, number: u64, output: &mut K) -> Res
         Rose (K.fault_count output.old) (K.fault_count output.new) }
 {
     let mut run = Run::new(alloc, number)?;
-    let mut page = String::from_str(alloc, HEADER)?;
-    'steps: while run.left() > 0 {
-        write_step(alloc, &mut run, &mut page, output)?;
-    }
-    page.push_str("end\n")?;
-    write_page(&mut page, output)
+    write_run(alloc, number, &mut run, output)
 }

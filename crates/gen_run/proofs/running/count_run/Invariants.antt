@@ -1,7 +1,7 @@
 use Rattle.std.proofs.Common.{◌-◌}
 use Rattle.session_gen.specs.Generated.{step_count}
 use Rattle.gen_run.proofs.RunGoesOn.{IsRunOf}
-use Rattle.gen_run.proofs.running.count.Given as goal
+use Rattle.gen_run.proofs.running.count_run.Given as goal
 
 abbrev pub invariant-loop-alloc : goal.invariant-loop-alloc
 invariant-loop-alloc l = IsRunOf l.number l.run

@@ -1,10 +1,10 @@
 use Rattle.std.proofs.Common.{ap, arith}
 use Rattle.session_gen.specs.Generated.{Progress}
 use Rattle.gen_run.proofs.RunGoesOn.{begins, goes_on, counted_all}
-use Rattle.gen_run.proofs.running.count.Goals as goal
+use Rattle.gen_run.proofs.running.count_run.Goals as goal
 
 pub loop-alloc-init : goal.loop-alloc-init
-loop-alloc-init c = begins c.args.number c.in_ok-run.run' c.in_ok-run.ensures.stands c.in_ok-run.ensures.new
+loop-alloc-init c = begins c.args.number c.args.run.now c.requires.stands c.requires.first
 
 pub loop-alloc-preserved : goal.loop-alloc-preserved
 loop-alloc-preserved c =

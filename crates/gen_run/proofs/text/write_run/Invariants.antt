@@ -2,7 +2,7 @@ use Rattle.std.proofs.Common.{◌≤◌, ◌-◌, string_bytes}
 use Rattle.session_gen.specs.Generated.{step_count}
 use Rattle.gen_run.specs.Writing.{Writes}
 use Rattle.gen_run.proofs.RunGoesOn.{IsRunOf}
-use Rattle.gen_run.proofs.text.write_session.Given as goal
+use Rattle.gen_run.proofs.text.write_run.Given as goal
 
 abbrev pub invariant-steps : goal.invariant-steps
 invariant-steps g l = record {
