@@ -1,3 +1,4 @@
+//! Counts of dones, round and at their limit.
 use crate::equal::equal;
 use serial_count::{Count32, Since};
 

@@ -1,4 +1,4 @@
-// What no clause tells: frames as they stand in a file, and that sources and sinks of the kit's own kind serve.
+//! What no clause tells: frames as they stand in a file, and that sources and sinks of the kit's own kind serve.
 ghost use Rattle.std.specs.Prelude.{◌<◌};
 
 use crate::equal::{equal, equal_at};

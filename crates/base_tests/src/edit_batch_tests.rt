@@ -1,3 +1,4 @@
+//! Batches of edits, as they gather and are applied.
 use crate::equal::equal;
 use edit_batch::{Edits, Pending};
 use std::process::Abort;

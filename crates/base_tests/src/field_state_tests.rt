@@ -1,3 +1,4 @@
+//! A field's states over its requests, and what it takes.
 use crate::equal::equal;
 use field_state::{Field, SURROUNDING_LIMIT, Taken};
 use popup_place::Rect;

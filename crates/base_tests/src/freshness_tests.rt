@@ -1,3 +1,4 @@
+//! Worked rows of fresh serials.
 use crate::equal::equal_at;
 use serial_count::{Count32, Since, fresh};
 

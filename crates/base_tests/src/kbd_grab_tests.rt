@@ -1,3 +1,4 @@
+//! Where keys go, with a grab and without.
 use crate::equal::{equal, equal_at};
 use kbd_grab::{Grab, Keymap, Mods, Repeat, Route};
 use std::process::Abort;

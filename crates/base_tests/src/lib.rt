@@ -1,5 +1,5 @@
-// The tests of the crates that stand alone: what no clause of theirs says, each public call once on its happy path, and
-// the worked rows. They stand apart, so that those crates are proved once and not again beside their tests.
+//! The tests of the crates that stand alone: what no clause of theirs says, each public call once on its happy path,
+//! and the worked rows. They stand apart, so that those crates are proved once and not again beside their tests.
 #![tactic(auto)]
 
 #[cfg(test)]

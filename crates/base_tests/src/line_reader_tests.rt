@@ -1,4 +1,4 @@
-// The answers of a reader of lines over sources in memory.
+//! The answers of a reader of lines over sources in memory.
 ghost use Rattle.std.specs.Prelude.{◌≡◌, ◌≢◌, Some};
 
 use crate::equal::equal;

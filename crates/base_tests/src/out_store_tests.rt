@@ -1,4 +1,4 @@
-// What no clause tells: that memory is found, and that a store is used as its callers use it.
+//! What no clause tells: that memory is found, and that a store is used as its callers use it.
 use crate::equal::equal;
 use out_store::Store;
 use std::process::Abort;

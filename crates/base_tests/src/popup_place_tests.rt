@@ -1,3 +1,4 @@
+//! Worked rows of popups beside a cursor.
 use crate::equal::equal_at;
 use popup_place::{Placed, Rect, Size, place};
 use std::process::Abort;

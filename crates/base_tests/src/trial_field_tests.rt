@@ -1,4 +1,4 @@
-// The worked rows, and each public call once.
+//! The worked rows, and each public call once.
 ghost use Rattle.std.specs.Prelude.{◌≡◌, pos};
 ghost use Rattle.trial_field.specs.Log.{IsEdit, IsBatch};
 

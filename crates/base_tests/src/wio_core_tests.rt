@@ -1,4 +1,4 @@
-// What no clause tells: that memory is found, and what std's readers and writers move.
+//! What no clause tells: that memory is found, and what std's readers and writers move.
 ghost use Rattle.std.specs.Prelude.{◌<◌};
 
 use crate::equal::{equal, equal_at};

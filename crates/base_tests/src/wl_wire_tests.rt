@@ -1,3 +1,4 @@
+//! Texts, arguments and messages in bytes.
 use crate::equal::{equal, equal_at};
 use std::process::Abort;
 use std::test::Fail;

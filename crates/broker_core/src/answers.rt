@@ -1,4 +1,4 @@
-// What the calls of the shared state answer.
+//! What the calls of the shared state answer.
 use broker_model::Kept;
 use relay_core::Route;
 use relay_model::EndCause;

@@ -1,4 +1,4 @@
-// What the calls of the shared state lead to, over the definitions alone.
+//! What the calls of the shared state lead to, over the definitions alone.
 ghost use Rattle.broker_core.specs.Calls.{CallLaw};
 
 /// After any calls that were answered with success the journal is the history of their steps, and

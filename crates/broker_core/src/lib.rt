@@ -1,4 +1,4 @@
-// The shared state of all peers of a seat: one journal, and for each peer what is stored for it.
+//! The shared state of all peers of a seat: one journal, and for each peer what is stored for it.
 #![tactic(auto)]
 
 mod answers;

@@ -1,4 +1,4 @@
-// The shared state of all peers as its callers see it.
+//! The shared state of all peers as its callers see it.
 use crate::answers::{Applied, JoinRefusal, Refused};
 use crate::limits::{ENTRY_WEIGHT, full};
 use crate::state::State;

@@ -1,4 +1,4 @@
-// The state of all peers of a seat. It stands for the journal of what happened.
+//! The state of all peers of a seat. It stands for the journal of what happened.
 ghost use Rattle.std.specs.Prelude.{◌≡◌, ◌≤◌, ◌<◌, ◌+◌, ◌∷◌, [], ℕ, List, map, length, Option};
 ghost use Rattle.std.specs.Prelude.{Some, None, IsSome, IfSome, IfOk, OnOk, OnErr};
 ghost use Rattle.std.specs.List.{AllByRecursion};

@@ -1,4 +1,4 @@
-// What peers and the shell do, as one entry each.
+//! What peers and the shell do, as one entry each.
 ghost use Rattle.std.specs.Prelude.{◌≡◌, ◌≤◌, ◌<◌, ◌+◌, ◌++◌, ◌∷◌, [], ℕ, List, map, take, drop};
 ghost use Rattle.std.specs.Prelude.{min, length, Option, Some, None, IsSome, IfSome, IfOk, OnOk};
 ghost use Rattle.std.specs.Prelude.{OnErr};

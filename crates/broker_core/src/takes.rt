@@ -1,4 +1,4 @@
-// What the callers of the shared state take of what is stored for peers.
+//! What the callers of the shared state take of what is stored for peers.
 use crate::answers::Took;
 use crate::limits::ENTRY_WEIGHT;
 use crate::shared::Shared;

@@ -1,4 +1,4 @@
-// Who is there, and what is taken of what is stored for each.
+//! Who is there, and what is taken of what is stored for each.
 ghost use Rattle.std.specs.Prelude.{◌≡◌, ◌≤◌, ◌<◌, ◌-◌, ℕ, ◌++◌, ◌∷◌, [], List, length, min, take};
 ghost use Rattle.std.specs.Prelude.{drop, set, Option, option_map, IsSome, IsSomeAnd, IfSome};
 ghost use Rattle.std.specs.Prelude.{IfNone, IfOk, OnErr};

@@ -1,4 +1,4 @@
-// Who watches what the entries of a journal make.
+//! Who watches what the entries of a journal make.
 ghost use Rattle.std.specs.Prelude.{◌≡◌, ◌<◌, ◌∷◌, List, map};
 ghost use Rattle.std.specs.List.{AllByRecursion, flat_map};
 ghost use Rattle.relay_model.specs.declared.act.Act.{Act};

@@ -1,4 +1,4 @@
-// What happened, step by step.
+//! What happened, step by step.
 use relay_model::{EndCause, Role};
 use seat_steps::{Limits, ShellStep, TokenList};
 use std::alloc::Global;

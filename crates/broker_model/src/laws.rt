@@ -1,4 +1,4 @@
-// The promise, over the definitions alone.
+//! The promise, over the definitions alone.
 ghost use Rattle.broker_model.specs.Law.{RelayLaw, WholeGroups, NothingElse, NobodyIsDue, StoresHold};
 ghost use Rattle.broker_model.specs.Tables.{FoundById, FoundByLabel, CountedLive};
 ghost use Rattle.broker_model.specs.Stored.{GroupsAreSpaced, CellsArePut, CellsAreTaken};

@@ -1,4 +1,4 @@
-// The shared state of all peers of a seat, as definitions over its one journal.
+//! The shared state of all peers of a seat, as definitions over its one journal.
 #![tactic(auto)]
 
 mod journal;

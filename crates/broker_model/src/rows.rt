@@ -1,4 +1,4 @@
-// The worked rows, which the definitions compute.
+//! The worked rows, which the definitions compute.
 ghost use Rattle.broker_model.specs.Rows.{RegistryIsMade, GlobalsAreTold, NothingNamed, SizeIsBad};
 ghost use Rattle.broker_model.specs.Rows.{IdIsTaken, IdIsUsedAgain, PointerIsMissing, SeatIsWrong};
 ghost use Rattle.broker_model.specs.Rows.{OpcodeIsUnknown, BodyIsMalformed, IdIsTheServers};

@@ -1,4 +1,4 @@
-// When each entry of a journal came, and through which link.
+//! When each entry of a journal came, and through which link.
 use crate::journal::Entry;
 use relay_model::EndCause;
 use seat_steps::{ShellStep, Stamp};

@@ -1,4 +1,4 @@
-// What no clause tells: that memory is found, and that the shared state answers as its callers use it.
+//! What no clause tells: that memory is found, and that the shared state answers as its callers use it.
 ghost use Rattle.seat_steps.specs.Ranges.{IsLimits};
 
 use crate::equal::equal;

@@ -1,4 +1,4 @@
-// What no clause tells: that memory is found, and that a journal is used as its callers use it.
+//! What no clause tells: that memory is found, and that a journal is used as its callers use it.
 use crate::equal::equal;
 use broker_model::{Entry, Journal, Kept, StampList};
 use relay_model::{EndCause, Role};

@@ -1,5 +1,5 @@
-// The tests of the state of all peers, of transcripts and of played sessions: each public call once on its happy path,
-// and the refusals that no clause shows to be met.
+//! The tests of the state of all peers, of transcripts and of played sessions: each public call once on its happy path,
+//! and the refusals that no clause shows to be met.
 #![tactic(auto)]
 
 #[cfg(test)]

@@ -1,4 +1,4 @@
-// What no clause tells: that memory is found, and that a group is gathered as its callers gather it.
+//! What no clause tells: that memory is found, and that a group is gathered as its callers gather it.
 use crate::equal::equal;
 use relay_model::Role;
 use seat_audience::{Gathering, Live};

@@ -1,4 +1,4 @@
-// What no clause tells: that memory is found, and the lines as they are read.
+//! What no clause tells: that memory is found, and the lines as they are read.
 use crate::equal::equal;
 use broker_core::{Entry, Watch};
 use relay_model::EndCause;

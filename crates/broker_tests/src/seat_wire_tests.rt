@@ -1,4 +1,4 @@
-// What no clause tells: that memory is found for what a message comes to, and for the text of an act.
+//! What no clause tells: that memory is found for what a message comes to, and for the text of an act.
 use crate::equal::equal;
 use im_objects::{DISPLAY_ID, Table};
 use relay_core::Relay;

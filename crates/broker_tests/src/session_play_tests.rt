@@ -1,4 +1,4 @@
-// What no clause tells: that memory is found, and that a player answers as its callers use it.
+//! What no clause tells: that memory is found, and that a player answers as its callers use it.
 ghost use Rattle.std.specs.Prelude.{length, IfOk};
 ghost use Rattle.seat_steps.specs.Ranges.{piece_limit, token_limit};
 ghost use Rattle.seat_steps.specs.Ranges.{IsLimits, IsWithin};

@@ -1,4 +1,4 @@
-// Messages at the front of bytes, and the events that they spell.
+//! Messages at the front of bytes, and the events that they spell.
 ghost use Rattle.std.specs.Prelude.{◌≡◌, ◌≤◌, [], length, IfSome, IfNone};
 ghost use Rattle.wl_wire.specs.Messages.{id_of, opcode_of, body_of};
 ghost use Rattle.client_side.specs.Fronts.{IsFront};

@@ -1,4 +1,4 @@
-// Why a client doesn't take a piece.
+//! Why a client doesn't take a piece.
 use thiserror::Error;
 use wio_core::NoMemory;
 

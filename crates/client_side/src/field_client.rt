@@ -1,4 +1,4 @@
-// The client of a trial's field.
+//! The client of a trial's field.
 ghost use Rattle.std.specs.Prelude.{◌≡◌, ◌++◌, [], ◌∷◌, ℕ, List, true, false, IfOk, OnOk, OnErr};
 ghost use Rattle.std.specs.Prelude.{Ok, Err};
 ghost use Rattle.trial_field.specs.Log.{IsEdit, entry_of};

@@ -1,4 +1,4 @@
-// A field with what its client told and is told of it.
+//! A field with what its client told and is told of it.
 ghost use Rattle.std.specs.Prelude.{◌≡◌, ◌+◌, ◌≤◌, [], IfOk, OnOk};
 ghost use Rattle.client_side.specs.Fitting.{IsFitting};
 ghost use Rattle.trial_field.specs.Log.{IsEdit, IsBatch, entry_of, batch_of, no_edits};

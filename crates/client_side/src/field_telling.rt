@@ -1,4 +1,4 @@
-// What a field's client tells of its field.
+//! What a field's client tells of its field.
 ghost use Rattle.std.specs.Prelude.{◌≡◌, ◌+◌, ◌≤◌, ◌++◌, ◌∷◌, [], pos, length};
 ghost use Rattle.wl_proto.specs.Spelling.{message_bytes};
 ghost use Rattle.client_side.specs.Messages.{spelled, set_surrounding_text};

@@ -1,4 +1,4 @@
-// The bytes of a message that isn't whole yet.
+//! The bytes of a message that isn't whole yet.
 ghost use Rattle.std.specs.Prelude.{◌≡◌, ◌≤◌, drop, vec_len};
 
 // The first bytes go.

@@ -1,4 +1,4 @@
-// The clients of a trial: a field that edits itself, and an input method that composes.
+//! The clients of a trial: a field that edits itself, and an input method that composes.
 #![tactic(auto)]
 
 mod events;

@@ -1,4 +1,4 @@
-// A composing method with what its client told and is told.
+//! A composing method with what its client told and is told.
 ghost use Rattle.std.specs.Prelude.{◌≡◌, ◌+◌, ◌≤◌, ◌++◌, [], length, IfOk, OnOk, IsTrue};
 ghost use Rattle.wl_wire.specs.Texts.{has_no_zero};
 ghost use Rattle.client_side.specs.MethodSends.{batch_sent};

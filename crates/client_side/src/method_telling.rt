@@ -1,4 +1,4 @@
-// What the method's client tells.
+//! What the method's client tells.
 ghost use Rattle.std.specs.Prelude.{◌≡◌, ◌+◌, ◌≤◌, ◌++◌, length};
 ghost use Rattle.trial_field.specs.Log.{IsBatch, batch_of};
 ghost use Rattle.trial_field.specs.declared.batch_view.TheConstants.{MAX_STRING, MAX_PREEDIT};

@@ -1,4 +1,4 @@
-// The objects of a client, by their ids.
+//! The objects of a client, by their ids.
 ghost use Rattle.std.specs.Prelude.{◌≡◌};
 ghost use Rattle.client_side.specs.Events.{object_in, field_objects, method_objects};
 

@@ -1,4 +1,4 @@
-// Bytes that wait to be sent.
+//! Bytes that wait to be sent.
 ghost use Rattle.std.specs.Prelude.{◌≡◌, ◌+◌, ◌≤◌, ◌<◌, ◌++◌, [], length, take, IfOk, OnOk};
 ghost use Rattle.wl_proto.specs.Rows.{request_message};
 ghost use Rattle.wl_proto.specs.Spelling.{message_len, message_bytes};

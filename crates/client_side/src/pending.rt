@@ -1,4 +1,4 @@
-// The edits that wait for their done.
+//! The edits that wait for their done.
 ghost use Rattle.std.specs.Prelude.{◌≡◌, ◌≤◌, length, IfOk};
 ghost use Rattle.trial_field.specs.Log.{HasNoZero, IsBatch, batch_of, no_edits};
 ghost use Rattle.trial_field.specs.declared.batch_view.TheConstants.{MAX_STRING, MAX_PREEDIT};

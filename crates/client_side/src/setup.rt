@@ -1,4 +1,4 @@
-// The set-up messages of the clients.
+//! The set-up messages of the clients.
 ghost use Rattle.std.specs.Prelude.{◌≡◌, ◌≤◌, ◌++◌, []};
 ghost use Rattle.wl_proto.specs.Rows.{request_message};
 ghost use Rattle.client_side.specs.Messages.{spelled, field_setup, method_setup};

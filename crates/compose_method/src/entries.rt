@@ -1,5 +1,5 @@
-// Entries in the order of their keys, none of which begin another's: a search by halves finds what
-// keys begin with, and what begins with keys.
+//! Entries in the order of their keys, none of which begin another's: a search by halves finds what
+//! keys begin with, and what begins with keys.
 ghost use Rattle.std.specs.Prelude.{◌≡◌, ℕ, ◌<◌, ◌≤◌, length, true, false, nat_eq, insert};
 ghost use Rattle.std.specs.Prelude.{option_copied, slice_index_or, OnOk, OnErr};
 ghost use Rattle.std.specs.List.{prefix_len};

@@ -1,4 +1,4 @@
-// The keys of an entry, which contracts see as a list.
+//! The keys of an entry, which contracts see as a list.
 ghost use Rattle.std.specs.Prelude.{◌≡◌, IfOk, nat_eq};
 ghost use Rattle.std.specs.List.{starts_with};
 ghost use Rattle.compose_method.specs.Order.{up_to};

@@ -1,4 +1,4 @@
-// An input method that composes characters from keys, by a table of its own.
+//! An input method that composes characters from keys, by a table of its own.
 #![tactic(auto)]
 
 mod entries;

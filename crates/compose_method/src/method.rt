@@ -1,4 +1,4 @@
-// The method: what waits of the keys pressed, and one batch for each press.
+//! The method: what waits of the keys pressed, and one batch for each press.
 ghost use Rattle.std.specs.Prelude.{◌≡◌, ◌≤◌, ◌++◌, ◌∷◌, [], ℕ, List, ◌↔◌, true, false, length};
 ghost use Rattle.std.specs.Prelude.{IfOk, IfSome, IsNone, IsTrue};
 ghost use Rattle.std.specs.Borrow.{sem};

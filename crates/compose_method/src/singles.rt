@@ -1,4 +1,4 @@
-// Keys with texts of their own, in the order of the keys.
+//! Keys with texts of their own, in the order of the keys.
 ghost use Rattle.std.specs.Prelude.{◌≡◌, ℕ, ◌<◌, ◌≤◌, length, insert, nat_lt, option_copied};
 ghost use Rattle.std.specs.Prelude.{slice_index_or, OnOk, OnErr};
 ghost use Rattle.std.specs.List.{prefix_len};

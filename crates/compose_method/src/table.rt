@@ -1,4 +1,4 @@
-// The table that its user makes, single by single and entry by entry.
+//! The table that its user makes, single by single and entry by entry.
 ghost use Rattle.std.specs.Prelude.{◌≡◌, ◌<◌, ◌≤◌, ◌↔◌, true, false, length, IfOk, IfSome, OnOk};
 ghost use Rattle.std.specs.Prelude.{OnErr, Err, option_copied};
 ghost use Rattle.compose_method.specs.Table.{Table, IsTable, IsKeyText, AreKeys, has_single};

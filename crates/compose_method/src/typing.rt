@@ -1,4 +1,4 @@
-// Keys into text: entries first, from the left.
+//! Keys into text: entries first, from the left.
 ghost use Rattle.std.specs.Prelude.{◌≡◌, ◌+◌, ◌*◌, ◌<◌, ◌≤◌, ◌++◌, [], length, drop, flat_map};
 ghost use Rattle.std.specs.Prelude.{string_bytes, string_len, string_capacity, vec_len};
 ghost use Rattle.std.specs.Prelude.{vec_capacity};

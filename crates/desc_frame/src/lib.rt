@@ -1,4 +1,4 @@
-// Frames: bytes of a link with the tokens of the descriptors that travel with them.
+//! Frames: bytes of a link with the tokens of the descriptors that travel with them.
 #![tactic(auto)]
 
 mod parts;

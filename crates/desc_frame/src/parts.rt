@@ -1,4 +1,4 @@
-// The parts of a frame, each read whole.
+//! The parts of a frame, each read whole.
 ghost use Rattle.std.specs.Prelude.{◌≡◌, ℕ, ◌+◌, ◌*◌, ◌^◌, ◌<◌, ◌≤◌, ◌++◌, List, [], length, take};
 ghost use Rattle.std.specs.Prelude.{IfOk, IfErr, OnOk, OnErr, IsTrue, ◌↔◌};
 ghost use Rattle.wio_core.specs.Io.{Rose, StaysQuiet};

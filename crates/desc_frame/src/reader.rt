@@ -1,4 +1,4 @@
-// Frames from a source.
+//! Frames from a source.
 ghost use Rattle.std.specs.Prelude.{◌≡◌, ◌≢◌, ℕ, ◌≤◌, ◌⊎◌, List, Some, None, IfSome, OnSome};
 ghost use Rattle.wio_core.specs.Io.{Rose, StaysQuiet};
 ghost use Rattle.desc_frame.specs.Answers.{Gave, Tells, Begins, HasOneAnswer, HasOneFrame, settled};

@@ -1,4 +1,4 @@
-// The edits that an input method has pending, until its commit makes them one batch.
+//! The edits that an input method has pending, until its commit makes them one batch.
 #![tactic(auto)]
 
 mod pending;

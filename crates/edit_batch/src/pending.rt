@@ -1,4 +1,4 @@
-// A method's pending edits: a slot for each kind, whose texts have their room from the beginning.
+//! A method's pending edits: a slot for each kind, whose texts have their room from the beginning.
 ghost use Rattle.std.specs.Prelude.{◌≡◌, ◌≤◌, List, [], ◌∷◌, length, IfOk};
 ghost use Rattle.std.specs.String.{string_bytes, string_capacity};
 ghost use Rattle.edit_batch.specs.Calls.{Call, String, Preedit, Delete, Reset, last_edits};

@@ -1,5 +1,5 @@
-// One text field: its requests set what is pending, and a commit makes that current where the field holds the seat.
-// What is current is defined by looking back over the calls; here it is kept in two sets of slots.
+//! One text field: its requests set what is pending, and a commit makes that current where the field holds the seat.
+//! What is current is defined by looking back over the calls; here it is kept in two sets of slots.
 ghost use Rattle.std.specs.Prelude.{◌≡◌, ◌≤◌, List, [], ◌∷◌, length, true, false, Option, None};
 ghost use Rattle.std.specs.Prelude.{option_map, IfOk, if◌then◌else◌};
 ghost use Rattle.field_state.specs.Calls.{Call, Enter, Leave, Enable, Disable, Surround, Cause};

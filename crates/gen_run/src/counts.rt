@@ -1,4 +1,4 @@
-// What is counted of a generated session.
+//! What is counted of a generated session.
 
 /// The counts of a generated session, whose peers 1 to 4 are applications with a text input 7 each,
 /// and whose peer 5 has the input method 5.

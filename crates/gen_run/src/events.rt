@@ -1,4 +1,4 @@
-// The events in bytes that were put for a peer.
+//! The events in bytes that were put for a peer.
 ghost use Rattle.std.specs.Prelude.{◌≡◌, ◌≤◌, length, if◌then◌else◌};
 ghost use Rattle.wl_wire.specs.Messages.{id_of, opcode_of, size_of, is_whole};
 ghost use Rattle.gen_run.specs.Events.{is_event, events_in};

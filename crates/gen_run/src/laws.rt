@@ -1,4 +1,4 @@
-// Laws of generated sessions, over the definitions alone.
+//! Laws of generated sessions, over the definitions alone.
 ghost use Rattle.gen_run.specs.Laws.{LinesReplay};
 
 /// The lines of a generated session, played one after the other, lead to the journal that is

@@ -1,4 +1,4 @@
-// Generated sessions, run: their counts, and their text.
+//! Generated sessions, run: their counts, and their text.
 #![tactic(auto)]
 
 mod counts;

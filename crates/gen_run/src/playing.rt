@@ -1,4 +1,4 @@
-// Steps played through the shared state of all peers.
+//! Steps played through the shared state of all peers.
 ghost use Rattle.std.specs.Prelude.{◌≡◌, length, true, OnOk};
 ghost use Rattle.seat_steps.specs.Ranges.{IsStep, IsWithin, piece_limit};
 ghost use Rattle.broker_model.specs.Ids.{peer_at};

@@ -1,4 +1,4 @@
-// A generated session, run step by step.
+//! A generated session, run step by step.
 ghost use Rattle.std.specs.Prelude.{◌≡◌, IfOk};
 ghost use Rattle.gen_run.specs.Counts.{counts_of};
 ghost use Rattle.gen_run.specs.Runs.{Stands};

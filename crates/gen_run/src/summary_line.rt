@@ -1,4 +1,4 @@
-// The line that tells the counts of a generated session.
+//! The line that tells the counts of a generated session.
 ghost use Rattle.std.specs.Prelude.{◌≡◌, IfOk, string_bytes};
 ghost use Rattle.gen_run.specs.Summary.{counts_line, summary_of};
 

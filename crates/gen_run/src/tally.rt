@@ -1,4 +1,4 @@
-// Counts what is put for the peers of a generated session.
+//! Counts what is put for the peers of a generated session.
 ghost use Rattle.std.specs.Prelude.{◌≡◌};
 ghost use Rattle.gen_run.specs.Journals.{method_dones};
 ghost use Rattle.gen_run.specs.Counts.{field_dones, activates};

@@ -1,4 +1,4 @@
-// A generated session as text.
+//! A generated session as text.
 ghost use Rattle.std.specs.Prelude.{◌≡◌, ◌++◌, ◌+◌, ◌<◌, ◌≤◌, ◌∷◌, [], ℕ, List, Option, OnOk};
 ghost use Rattle.std.specs.Prelude.{OnErr, string_bytes};
 ghost use Rattle.std.specs.Io.KnownBytes.{Appends};
@@ -12,15 +12,18 @@ ghost use Rattle.gen_run.specs.Writing.{Writes};
 use crate::running::Run;
 use seat_steps::Step;
 use std::alloc::{AllocError, Global};
+use thiserror::Error;
 use transcript_text::print_step;
 use wio_core::{Failed, NoMemory, Sink, write_all};
 
 /// Why a session wasn't written whole. A front of it was.
-#[derive(Clone, Copy, Debug, PartialEq, Eq)]
+#[derive(Clone, Copy, Debug, PartialEq, Eq, Error)]
 pub enum WriteEnd {
     /// A write failed.
+    #[error("a write failed")]
     WriteFault,
     /// There was no memory.
+    #[error("there was no memory")]
     NoMemory,
 }
 

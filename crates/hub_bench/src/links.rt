@@ -25,6 +25,7 @@ const MANY: u64 = 1 << 32;
 /// Why a bench didn't come to its end.
 #[derive(Clone, Copy, Debug, PartialEq, Eq)]
 pub enum Stopped {
+    /// There was no memory.
     NoMemory,
     /// The hub took no further peer: 64 are alive.
     NoPeer,

@@ -113,8 +113,11 @@ impl Model for HubPass {
 /// A pass that is given back.
 #[derive(Drop)]
 pub enum Pass {
+    /// That of a peer's reader.
     Reader(ReaderPass),
+    /// That of a peer's writer.
     Writer(WriterPass),
+    /// That of a shell's link.
     Shell(ShellPass),
 }
 

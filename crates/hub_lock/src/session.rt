@@ -6,7 +6,10 @@ use seat_steps::Limits;
 /// author of a step's stamp is the number of the pass whose call made the step.
 #[derive(Drop)]
 pub struct Session {
+    /// The limits that the hub was made with.
     pub limits: Limits,
+    /// The journal: each outer step that was made, in order.
     pub journal: Journal,
+    /// A stamp for each of its entries.
     pub stamps: StampList,
 }

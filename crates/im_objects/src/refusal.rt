@@ -1,4 +1,4 @@
-// Why an object isn't made.
+//! Why an object isn't made.
 ghost use Rattle.std.specs.Prelude.{◌≡◌};
 
 use thiserror::Error;

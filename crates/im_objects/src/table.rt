@@ -1,4 +1,4 @@
-// The objects of one peer, in two maps: by their ids and by their labels.
+//! The objects of one peer, in two maps: by their ids and by their labels.
 ghost use Rattle.std.specs.Prelude.{◌≡◌, ◌↔◌, ◌≤◌, ◌∷◌, [], List, ℕ, None, Some, Err, false, true};
 ghost use Rattle.std.specs.Prelude.{is_some, not, set, ◌&&◌, ◌==◌, IfOk, OnOk, OnErr, IfSome};
 ghost use Rattle.std.specs.Prelude.{IfNone, IsOkUnless};

@@ -1,4 +1,4 @@
-// The keys that are down, in a list of at most 64.
+//! The keys that are down, in a list of at most 64.
 ghost use Rattle.std.specs.Prelude.{◌≡◌, None, true};
 ghost use Rattle.std.specs.Option.{option_map};
 ghost use Rattle.std.specs.Vec.{vec_len, vec_capacity};

@@ -1,3 +1,4 @@
+//! The grab that stands, and the keys that are down.
 ghost use Rattle.std.specs.Prelude.{◌≡◌, ◌∷◌, [], List, None, Some, IfOk, ◌↔◌, IsTrue, true};
 ghost use Rattle.std.specs.FinMap as map;
 ghost use Rattle.kbd_grab.specs.Keys.{Call, key_route, is_down, first_went, fell_since};

@@ -1,3 +1,5 @@
+//! What a keyboard tells, and where a key goes.
+
 /// The number that names a grab: that of the act that made it.
 pub type Label = u32;
 
@@ -24,8 +26,11 @@ pub struct Repeat {
 /// The modifiers, as `zwp_input_method_keyboard_grab_v2.modifiers` tells them: three masks and the layout.
 #[derive(Clone, Copy, Debug, PartialEq, Eq)]
 pub struct Mods {
+    /// The mask of the modifiers that are held down.
     pub depressed: u32,
+    /// The mask of those that count for the next key.
     pub latched: u32,
+    /// The mask of those that are locked on.
     pub locked: u32,
     /// The layout that is in force.
     pub group: u32,

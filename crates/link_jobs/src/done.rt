@@ -12,8 +12,11 @@ use wio_core::{Sink, Source};
 /// A reading that ended: the law of readers holds of it, and a fault has its cause.
 #[derive(Drop)]
 pub struct ReaderDone<S: Source + Drop> {
+    /// The reader's pass, given back.
     pub pass: ReaderPass,
+    /// What was read.
     pub source: S,
+    /// How the reading ended.
     pub end: ReadEnd,
     pub ghost law: { ∥ HasRead pass (S.given source) (S.left source) end ∥₁ },
     pub ghost cause: { end ≡ read_ends.ReadFault → 1 ≤ S.fault_count source },
@@ -22,8 +25,11 @@ pub struct ReaderDone<S: Source + Drop> {
 /// A writing that ended: the law of writers holds of it, and a fault has its cause.
 #[derive(Drop)]
 pub struct WriterDone<K: Sink + Drop> {
+    /// The writer's pass, given back.
     pub pass: WriterPass,
+    /// What was written to.
     pub sink: K,
+    /// How the writing ended.
     pub end: WriteEnd,
     pub ghost law: { ∥ HasWritten pass (K.held sink) end ∥₁ },
     pub ghost cause: { end ≡ write_ends.WriteFault → 1 ≤ K.fault_count sink },
@@ -32,9 +38,13 @@ pub struct WriterDone<K: Sink + Drop> {
 /// A shell's link that ended: the law of shells holds of it, and each fault has its cause.
 #[derive(Drop)]
 pub struct ShellDone<S: Source + Drop, K: Sink + Drop> {
+    /// The shell's pass, given back.
     pub pass: ShellPass,
+    /// What its lines were read from.
     pub source: S,
+    /// What the answers were written to.
     pub sink: K,
+    /// How the link ended.
     pub end: ShellEnd,
     pub ghost law: { ∥ HasOrdered pass (S.given source) (S.left source) (K.held sink) end ∥₁ },
     pub ghost read_fault: { end ≡ shell_ends.ReadFault → 1 ≤ S.fault_count source },

@@ -13,10 +13,15 @@ use wio_core::{Sink, Source};
 /// The reading of a peer's link. Its pass is this hub's and made no step, and its link is new.
 #[derive(Drop)]
 pub struct ReaderJob<S: Source + Drop, G: Gate + Drop> {
+    /// Where memory comes from.
     pub alloc: Global,
+    /// The hub for whose peer it reads.
     pub hub: Arc<Hub, Global>,
+    /// The peer's pass to make steps.
     pub pass: ReaderPass,
+    /// What is read.
     pub source: S,
+    /// Is told of each of its steps.
     pub gate: Arc<G, Global>,
     pub ghost own: { IsOf (arc_value hub) pass.seat },
     pub ghost fresh: { steps_of pass.seat ≡ 0 },
@@ -26,8 +31,11 @@ pub struct ReaderJob<S: Source + Drop, G: Gate + Drop> {
 /// The writing to a peer's link. Its pass is this hub's and took nothing, and its link is new.
 #[derive(Drop)]
 pub struct WriterJob<K: Sink + Drop> {
+    /// The hub for whose peer it writes.
     pub hub: Arc<Hub, Global>,
+    /// The peer's pass to take what is stored for it.
     pub pass: WriterPass,
+    /// What is written to.
     pub sink: K,
     pub ghost own: { IsOf (arc_value hub) pass.seat },
     pub ghost fresh: { steps_of pass.seat ≡ 0 },
@@ -37,10 +45,15 @@ pub struct WriterJob<K: Sink + Drop> {
 /// The serving of a shell's link. Its pass is this hub's and gave no order, and its link is new.
 #[derive(Drop)]
 pub struct ShellJob<S: Source + Drop, K: Sink + Drop> {
+    /// Where memory comes from.
     pub alloc: Global,
+    /// The hub that the shell gives orders to.
     pub hub: Arc<Hub, Global>,
+    /// The shell's pass to make steps.
     pub pass: ShellPass,
+    /// What its lines are read from.
     pub source: S,
+    /// What the answers are written to.
     pub sink: K,
     pub ghost own: { IsOf (arc_value hub) pass },
     pub ghost fresh: { steps_of pass ≡ 0 },

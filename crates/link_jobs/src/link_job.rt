@@ -11,16 +11,22 @@ use wio_core::Source;
 /// A job of a link.
 #[derive(Drop)]
 pub enum LinkJob<S: Source + Drop, K: LinkSink, G: Gate + Drop> {
+    /// To read a peer's link.
     Reader(ReaderJob<S, G>),
+    /// To write to a peer's link.
     Writer(WriterJob<K>),
+    /// To serve a shell's link.
     Shell(ShellJob<S, K>),
 }
 
 /// What a job of a link gives back: the pass, the link's ways, and how the loop ended.
 #[derive(Drop)]
 pub enum LinkDone<S: Source + Drop, K: LinkSink> {
+    /// A peer's link was read.
     Reader(ReaderDone<S>),
+    /// A peer's link was written to.
     Writer(WriterDone<K>),
+    /// A shell's link was served.
     Shell(ShellDone<S, K>),
 }
 

@@ -8,8 +8,11 @@ use wio_core::{MemSink, MemSource};
 /// neither failed.
 #[derive(Drop)]
 pub struct MemLink {
+    /// The door at which it waits.
     pub door: Door,
+    /// What is read of it.
     pub source: MemSource,
+    /// What is written to it.
     pub sink: MemSink,
     pub ghost gave: { source.given ≡ [] },
     pub ghost holds: { sink.held ≡ [] },

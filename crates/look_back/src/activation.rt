@@ -1,4 +1,4 @@
-// The dones that the serving method is told, and the present activation.
+//! The dones that the serving method is told, and the present activation.
 ghost use Rattle.std.specs.Prelude.{◌≡◌, ◌<◌, ◌^◌, length, false, option_map, None, IfOk};
 ghost use Rattle.serial_count.specs.Serial.{named as position_named};
 ghost use Rattle.relay_model.specs.Activation.{serving, activates, updates, notice, notice_to};
@@ -19,8 +19,11 @@ use wio_core::NoMemory;
 /// What an act tells the serving method, each ended by a done.
 #[derive(Clone, Copy)]
 pub enum HoldNotice {
+    /// A field begins to hold: `activate` and its state.
     Activates,
+    /// The holder committed its state.
     Updates,
+    /// The holder holds no more: `deactivate`.
     Deactivates,
 }
 

@@ -1,4 +1,4 @@
-// The current state of the field that holds the seat.
+//! The current state of the field that holds the seat.
 ghost use Rattle.std.specs.Prelude.{◌≡◌, option_map};
 ghost use Rattle.relay_model.specs.Current.{last_enable, last_commit, between, last_surrounding};
 ghost use Rattle.relay_model.specs.Current.{last_cause, last_content, last_rect, current};
@@ -11,24 +11,33 @@ use relay_model::{Act, Label, Rect, Text};
 /// A surrounding text with its cursor and anchor.
 #[derive(Clone, Copy)]
 pub struct Around<'a> {
+    /// The text around the cursor.
     pub text: &'a Text,
+    /// Where the cursor stands in it, in bytes.
     pub cursor: i32,
+    /// Where the selection's other end stands, in bytes.
     pub anchor: i32,
 }
 
 /// Hints and purpose of a content type.
 #[derive(Clone, Copy)]
 pub struct ContentType {
+    /// The bits of `content_hint`.
     pub hint: u32,
+    /// The number of `content_purpose`.
     pub purpose: u32,
 }
 
 /// The state of a field that a method is told.
 #[derive(Clone, Copy)]
 pub struct State<'a> {
+    /// The surrounding text, if one was set.
     pub surrounding: Option<Around<'a>>,
+    /// The number of `change_cause`.
     pub cause: u32,
+    /// The content type.
     pub content: ContentType,
+    /// The cursor's rectangle, if one was set.
     pub rect: Option<Rect>,
 }
 

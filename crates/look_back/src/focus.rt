@@ -1,4 +1,4 @@
-// The focus, and the fields that are entered.
+//! The focus, and the fields that are entered.
 ghost use Rattle.std.specs.Prelude.{◌≡◌};
 ghost use Rattle.relay_model.specs.Focus.{last_focus, where_alive, focus, focus_since};
 ghost use Rattle.relay_model.specs.Focus.{focused_peer, entered, entered_since};

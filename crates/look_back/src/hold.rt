@@ -1,4 +1,4 @@
-// The hold of the seat.
+//! The hold of the seat.
 ghost use Rattle.std.specs.Prelude.{◌≡◌, None};
 ghost use Rattle.relay_model.specs.Hold.{word_by, word_past, word, is_enabled, is_disabled};
 ghost use Rattle.relay_model.specs.Hold.{begins_hold, ends, committed, kept, holder, hold_begun};

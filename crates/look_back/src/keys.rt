@@ -1,4 +1,4 @@
-// The keys of the seat's keyboard, and the grab that has them.
+//! The keys of the seat's keyboard, and the grab that has them.
 ghost use Rattle.std.specs.Prelude.{◌≡◌, ◌==◌, ◌≤◌, ◌<◌, ◌^◌, length, IfOk};
 ghost use Rattle.std.specs.List.{count_by, list_any};
 ghost use Rattle.relay_model.specs.Keys.{stands_on, standing, grab_stands, is_press, with_key};
@@ -199,9 +199,13 @@ fn first_went(log: &[Act], key: u32) -> Option<Label>
 /// Where a press or a release of a key goes.
 #[derive(Clone, Copy)]
 pub enum Goes {
+    /// To the grab with this label.
     ToGrab(Label),
+    /// Past a grab, to the shell.
     ToShell,
+    /// Nowhere: the grab that it belonged to stands no more.
     Nowhere,
+    /// Nowhere: 64 keys are down, and this is another.
     Refused,
 }
 

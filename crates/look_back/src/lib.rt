@@ -1,5 +1,5 @@
-// What holds after a list of acts, by looking back over the list as the definitions do: slow, and
-// each function the code of one definition. Lists have their newest act first.
+//! What holds after a list of acts, by looking back over the list as the definitions do: slow, and
+//! each function the code of one definition. Lists have their newest act first.
 #![tactic(auto)]
 
 pub mod activation;

@@ -1,4 +1,4 @@
-// The objects of a history, the newest act first: which are alive, of which kind, and whose.
+//! The objects of a history, the newest act first: which are alive, of which kind, and whose.
 ghost use Rattle.std.specs.Prelude.{◌≡◌, ◌==◌, ◌<◌, ◌^◌, length, filter, IfOk};
 ghost use Rattle.relay_model.specs.Objects.{next, is_at, is_same, owner, method_in, surface_in};
 ghost use Rattle.relay_model.specs.Objects.{made, maker, remains, object, alive, peer_of, is_field};

@@ -1,5 +1,5 @@
-// Who has the seat: the field that holds it and the method that serves. Both are found together, so that one look back
-// is enough.
+//! Who has the seat: the field that holds it and the method that serves. Both are found together, so that one look back
+//! is enough.
 ghost use Rattle.std.specs.Prelude.{◌≡◌, ◌<◌, ◌^◌, length};
 ghost use Rattle.relay_model.specs.Activation.{serving};
 ghost use Rattle.look_back.specs.Newest.{at_newest};
@@ -13,7 +13,9 @@ use relay_model::{Act, Label};
 /// The field that holds, and the method that serves.
 #[derive(Clone, Copy)]
 pub struct Seat {
+    /// The field that holds the seat, if one does.
     pub holder: Option<Label>,
+    /// The method that serves, if one does.
     pub serving: Option<Label>,
 }
 

@@ -1,4 +1,4 @@
-// What all tests compare with: the texts of a failure are proved here once, and not at each comparison.
+//! What all tests compare with: the texts of a failure are proved here once, and not at each comparison.
 use std::fmt::Debug;
 use std::process::Abort;
 

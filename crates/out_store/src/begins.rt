@@ -1,4 +1,4 @@
-// The ring of tokens.
+//! The ring of tokens.
 ghost use Rattle.std.specs.Prelude.{◌≡◌, ◌+◌, ◌++◌, ◌≤◌, length, map, take, drop};
 ghost use Rattle.circular_buffer.specs.Buffer.{buffer};
 ghost use Rattle.out_store.specs.Ring.{offsets, placed, begun_count};

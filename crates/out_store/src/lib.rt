@@ -1,4 +1,4 @@
-// A bounded store of the bytes that wait for a peer, with the tokens that travel with them.
+//! A bounded store of the bytes that wait for a peer, with the tokens that travel with them.
 #![tactic(auto)]
 
 ghost use Rattle.std.specs.Prelude.{◌≡◌, ◌+◌, ◌++◌, ◌≤◌, ◌↔◌, [], length, min, take, drop, IsTrue};

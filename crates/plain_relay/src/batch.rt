@@ -1,4 +1,4 @@
-// Batches, counts, and what is relayed.
+//! Batches, counts, and what is relayed.
 ghost use Rattle.std.specs.Prelude.{◌≡◌, ◌≤◌, ◌<◌, ◌^◌, length, map, IfOk};
 ghost use Rattle.relay_model.specs.Batch.{deletion_by, last_deletion, string_by, last_string};
 ghost use Rattle.relay_model.specs.Batch.{preedit_by, last_preedit, batch, commits, commit_count};

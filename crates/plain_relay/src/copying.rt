@@ -1,4 +1,4 @@
-// Acts in memory of their own.
+//! Acts in memory of their own.
 ghost use Rattle.std.specs.Prelude.{◌≡◌, IfOk};
 
 use relay_model::Act;

@@ -1,4 +1,4 @@
-// Idle acts, which change nothing and tell nothing.
+//! Idle acts, which change nothing and tell nothing.
 ghost use Rattle.std.specs.Prelude.{◌≡◌, ◌<◌, ◌^◌, length, IfOk};
 ghost use Rattle.relay_model.specs.Idle.{is_boundary, is_place, is_sized, is_live, cleaned};
 

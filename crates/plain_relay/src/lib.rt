@@ -1,4 +1,4 @@
-// The slow evaluator of the relay's rules: it looks back over the list of all acts, as the definitions do.
+//! The slow evaluator of the relay's rules: it looks back over the list of all acts, as the definitions do.
 #![tactic(auto)]
 
 mod batch;

@@ -1,4 +1,4 @@
-// An act's own events.
+//! An act's own events.
 ghost use Rattle.std.specs.Prelude.{◌≡◌, ◌+◌, ◌<◌, ◌^◌, [], length, map, if◌then◌else◌};
 ghost use Rattle.relay_model.specs.Objects.{next};
 ghost use Rattle.relay_model.specs.Globals.{global_told, globals_told};

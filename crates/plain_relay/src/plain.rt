@@ -1,4 +1,4 @@
-// What a whole list of acts tells.
+//! What a whole list of acts tells.
 ghost use Rattle.std.specs.Prelude.{◌≡◌, ◌+◌, ◌<◌, ◌^◌, ◌∷◌, length, OnOk, IfOk};
 ghost use Rattle.relay_model.specs.Idle.{cleaned};
 ghost use Rattle.relay_model.specs.Told.{told_by};

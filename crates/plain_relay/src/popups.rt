@@ -1,4 +1,4 @@
-// The popups that are shown, and where.
+//! The popups that are shown, and where.
 ghost use Rattle.std.specs.Prelude.{◌≡◌, ◌<◌, ◌^◌, [], ◌∷◌, length};
 ghost use Rattle.std.specs.List.{flat_map};
 ghost use Rattle.relay_model.specs.declared.said.Said.TheVariants as said;

@@ -1,4 +1,4 @@
-// One event that is told.
+//! One event that is told.
 ghost use Rattle.std.specs.Prelude.{◌≡◌, [], ◌∷◌};
 ghost use Rattle.relay_model.specs.Told.{to};
 ghost use Rattle.plain_relay.specs.Telling.{Tells};

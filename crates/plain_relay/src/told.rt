@@ -1,4 +1,4 @@
-// What an act tells of focus, hold and batches, and all that it tells.
+//! What an act tells of focus, hold and batches, and all that it tells.
 ghost use Rattle.std.specs.Prelude.{◌≡◌, ◌<◌, ◌^◌, [], length, map, filter, option_map, IfOk};
 ghost use Rattle.relay_model.specs.Objects.{fields};
 ghost use Rattle.relay_model.specs.Focus.{focus, entered};

@@ -1,4 +1,4 @@
-// An act list, played line by line.
+//! An act list, played line by line.
 ghost use Rattle.std.specs.Prelude.{◌≡◌, ◌<◌, ◌∷◌, ◌++◌, ◌+◌, List, [], length, IfOk, OnOk};
 ghost use Rattle.std.specs.Prelude.{string_bytes, false};
 ghost use Rattle.relay_model.specs.declared.act.Act.{Act};

@@ -1,4 +1,4 @@
-// A script follows its input.
+//! A script follows its input.
 ghost use Rattle.std.specs.Prelude.{◌≡◌, ◌≢◌, ◌≤◌, ℕ, List, []};
 ghost use Rattle.wio_core.specs.Lines.{TookFrom};
 ghost use Rattle.plain_run.specs.Scripts.{Follows};

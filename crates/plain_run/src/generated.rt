@@ -1,4 +1,4 @@
-// A generated session: its counts, and its text. Nothing is read.
+//! A generated session: its counts, and its text. Nothing is read.
 ghost use Rattle.std.specs.Prelude.{◌≤◌, ℕ, List, Option};
 ghost use Rattle.plain_run.specs.Ran.{Ran};
 ghost use Rattle.plain_run.specs.Generated.{counts_answer, text_answer};

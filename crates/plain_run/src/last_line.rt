@@ -1,4 +1,4 @@
-// The last line of a transcript.
+//! The last line of a transcript.
 ghost use Rattle.std.specs.Prelude.{◌≡◌, IfOk, string_bytes};
 ghost use Rattle.plain_run.specs.Endings.{ending, with_front, IsDecided};
 

@@ -1,4 +1,4 @@
-// What a replay writes, over the definitions alone.
+//! What a replay writes, over the definitions alone.
 ghost use Rattle.plain_run.specs.Replayed.{SessionsAreReplayed};
 
 /// The answer of `replay` for a session whose first line is a header is the transcript of the

@@ -1,4 +1,4 @@
-// A session of form 1 that is written as one of form 2, line by line.
+//! A session of form 1 that is written as one of form 2, line by line.
 ghost use Rattle.std.specs.Prelude.{◌≡◌, ◌<◌, ◌^◌, ◌++◌, [], IfOk, OnOk};
 ghost use Rattle.plain_run.specs.Migrating.{line_text, migrated_end, migrated_header};
 ghost use Rattle.plain_run.specs.Migrating.{migrated_line};

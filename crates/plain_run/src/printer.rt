@@ -1,4 +1,4 @@
-// A post that prints what it is told, a line each.
+//! A post that prints what it is told, a line each.
 ghost use Rattle.std.specs.Prelude.{◌≡◌, ◌++◌, OnOk, string_bytes};
 ghost use Rattle.plain_run.specs.Transcript.{told_text};
 

@@ -1,4 +1,4 @@
-// The next line of an input is read and played.
+//! The next line of an input is read and played.
 ghost use Rattle.std.specs.Prelude.{◌≡◌, ◌≢◌, ◌≤◌, Some, Err};
 ghost use Rattle.wio_core.specs.Io.{Rose};
 ghost use Rattle.wio_core.specs.declared.line_reader.LineStop.TheVariants.{ReadFault};

@@ -1,4 +1,4 @@
-// The call behind all that is done with an input and an output.
+//! The call behind all that is done with an input and an output.
 ghost use Rattle.std.specs.Prelude.{◌≡◌, ◌≢◌, ◌≤◌, ◌↔◌, ℕ, List, map, Some, IfSome, string_bytes};
 ghost use Rattle.std.specs.Prelude.{true, false};
 ghost use Rattle.std.specs.Io.KnownBytes.{Appends};

@@ -1,4 +1,4 @@
-// What a command does with the lines of its input, one at a time.
+//! What a command does with the lines of its input, one at a time.
 ghost use Rattle.std.specs.Prelude.{◌≡◌, ◌<◌, ◌^◌, ℕ, Bool, List, [], length, IfOk, OnOk};
 ghost use Rattle.plain_run.specs.Endings.{Answer};
 ghost use Rattle.plain_run.specs.Scripts.{Played, NamesNext};

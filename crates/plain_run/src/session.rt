@@ -1,4 +1,4 @@
-// A session, played line by line.
+//! A session, played line by line.
 ghost use Rattle.std.specs.Prelude.{◌≡◌, ◌<◌, ◌+◌, ◌^◌, ℕ, [], false, List, length, IfOk};
 ghost use Rattle.session_text.specs.Steps.{IsSessionLine};
 ghost use Rattle.session_text.specs.declared.line.SessionLine.TheVariants as lines;

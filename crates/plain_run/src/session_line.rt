@@ -1,4 +1,4 @@
-// The lines of a session: what each is, by the form that its header names.
+//! The lines of a session: what each is, by the form that its header names.
 ghost use Rattle.std.specs.Prelude.{◌≡◌, ◌≤◌, IfOk, IfSome, if◌then◌else◌, nat_lt, length, take};
 ghost use Rattle.session_text.specs.declared.line.SessionLine.TheVariants as lines;
 ghost use Rattle.plain_run.specs.declared.session_line.Meaning.TheVariants as meaning;

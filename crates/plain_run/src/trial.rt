@@ -1,4 +1,4 @@
-// A script of a trial, which is read whole before it is run.
+//! A script of a trial, which is read whole before it is run.
 ghost use Rattle.std.specs.Prelude.{◌≡◌, ◌≤◌, IfOk, string_bytes};
 ghost use Rattle.trial_script.specs.Scripts.{script_of};
 ghost use Rattle.plain_run.specs.declared.reading.TheConstants.{INPUT_LIMIT};

@@ -1,4 +1,4 @@
-// An input that is read whole.
+//! An input that is read whole.
 ghost use Rattle.std.specs.Prelude.{◌≡◌, ◌<◌, ◌≤◌, ◌+◌, ℕ, List, Option, length, vec_len, true};
 ghost use Rattle.std.specs.Prelude.{IfOk, IfSome, OnOk, Err};
 ghost use Rattle.std.specs.Io.KnownBytes.{Consumes, IsAtEnd};

@@ -1,4 +1,4 @@
-// Act lists.
+//! Act lists.
 use crate::equal::equal;
 use crate::runs::{answers, answers_beside};
 use plain_run::Status;

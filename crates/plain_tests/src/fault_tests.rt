@@ -1,4 +1,4 @@
-// Refused messages, on the top call: which fault is told where several could be.
+//! Refused messages, on the top call: which fault is told where several could be.
 use crate::runs::answers;
 use crate::session_tests::{
     CAPABILITIES, FIELD, HEADER, METHOD, METHOD_CAPABILITIES, METHOD_OFFERED, OFFERED, REGISTRY,

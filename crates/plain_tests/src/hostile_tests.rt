@@ -1,4 +1,4 @@
-// Peers that send what no client would, inputs that are cut, and writes that fail, on the top call.
+//! Peers that send what no client would, inputs that are cut, and writes that fail, on the top call.
 use crate::equal::equal_at;
 use crate::runs::{answers, joined, run_parts, sink};
 use crate::session_tests::{

@@ -1,4 +1,4 @@
-// What is written before the input goes on, on the top call.
+//! What is written before the input goes on, on the top call.
 use crate::act_list_tests::{BEGINNING, BEGUN, STRING};
 use crate::equal::equal;
 use crate::runs::{answers, answers_beside, run, sink, source};

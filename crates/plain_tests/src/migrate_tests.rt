@@ -1,4 +1,4 @@
-// Sessions of form 2, and those of form 1 that become one, on the top call.
+//! Sessions of form 2, and those of form 1 that become one, on the top call.
 use crate::equal::equal;
 use crate::runs::{answers, run_parts, sink};
 use crate::session_tests::{

@@ -1,4 +1,4 @@
-// How the tests run a command. Inputs and outputs are given in parts.
+//! How the tests run a command. Inputs and outputs are given in parts.
 ghost use Rattle.std.specs.Prelude.{◌<◌};
 
 use crate::equal::{equal, equal_at};

@@ -1,4 +1,4 @@
-// Sessions and their transcripts, on the top call.
+//! Sessions and their transcripts, on the top call.
 use crate::runs::answers;
 use plain_run::Status;
 use std::test::Fail;

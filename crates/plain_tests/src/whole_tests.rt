@@ -1,4 +1,4 @@
-// Scripts of trials, and generated sessions, on the top call.
+//! Scripts of trials, and generated sessions, on the top call.
 use crate::equal::equal;
 use crate::runs::{answers, answers_beside, run, run_parts, sink, source};
 use plain_run::Status;

@@ -1,3 +1,4 @@
+//! The rule that places a popup.
 ghost use Rattle.std.specs.Prelude.{◌≡◌, ◌^◌, pos, ◌+ℤ◌, ◌≤ℤ◌, ◌⊎◌, IsTrue};
 ghost use Rattle.std.specs.Int.{w32, saturate_signed};
 ghost use Rattle.popup_place.specs.Popup.{place_of, x_of, y_of, fits, above, under};

@@ -1,4 +1,4 @@
-// The relay's part on the hold: the focus, a field's commits, and what the serving method is told of them.
+//! The relay's part on the hold: the focus, a field's commits, and what the serving method is told of them.
 ghost use Rattle.std.specs.Prelude.{◌≡◌, ◌-◌, ◌<◌, true, Option, Some, None};
 ghost use Rattle.relay_model.specs.declared.act.Act.TheVariants as acts;
 ghost use Rattle.field_state.specs.Hold.{holds_after};

@@ -1,4 +1,4 @@
-// The relay's part on keys: grabs, and what the shell says of the keyboard.
+//! The relay's part on keys: grabs, and what the shell says of the keyboard.
 ghost use Rattle.std.specs.Prelude.{◌≡◌, ◌<◌, ◌≤◌};
 ghost use Rattle.relay_model.specs.declared.act.Act.TheVariants as acts;
 ghost use Rattle.seat_objects.specs.Reached.{Reached};

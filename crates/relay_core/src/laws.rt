@@ -1,4 +1,4 @@
-// What it is for a relay to stand for a list of acts, in other words.
+//! What it is for a relay to stand for a list of acts, in other words.
 ghost use Rattle.std.specs.Prelude.{List};
 ghost use Rattle.relay_model.specs.declared.act.Act.{Act};
 ghost use Rattle.relay_model.specs.Idle.{history};

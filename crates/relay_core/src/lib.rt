@@ -1,4 +1,4 @@
-// The relay: it keeps what the acts so far come to, and tells what each act tells.
+//! The relay: it keeps what the acts so far come to, and tells what each act tells.
 #![tactic(auto)]
 
 mod holding;

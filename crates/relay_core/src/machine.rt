@@ -1,4 +1,4 @@
-// What the relay keeps.
+//! What the relay keeps.
 ghost use Rattle.std.specs.Prelude.{◌+◌, ◌≤◌};
 
 use edit_batch::Pending;

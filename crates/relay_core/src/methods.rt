@@ -1,4 +1,4 @@
-// The relay's part on methods: which one serves, its pending edits, and its commits.
+//! The relay's part on methods: which one serves, its pending edits, and its commits.
 ghost use Rattle.std.specs.Prelude.{◌≡◌, ◌&&◌, ◌-◌, ◌<◌, ◌≤◌, Some, None, length};
 ghost use Rattle.relay_model.specs.declared.act.Act.TheVariants as acts;
 ghost use Rattle.relay_model.specs.Objects.{is_at};

@@ -1,5 +1,5 @@
-// The relay's part on what a peer does beside its surfaces, fields and methods: registries, syncs,
-// bound globals and refused messages.
+//! The relay's part on what a peer does beside its surfaces, fields and methods: registries, syncs,
+//! bound globals and refused messages.
 ghost use Rattle.std.specs.Prelude.{◌≡◌, ◌<◌, ◌≤◌, [], ◌∷◌};
 ghost use Rattle.relay_model.specs.Globals.{globals_told};
 ghost use Rattle.relay_model.specs.Told.{to, synced};

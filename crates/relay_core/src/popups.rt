@@ -1,4 +1,4 @@
-// The relay's part on popups: where they stand beside the cursor rectangle.
+//! The relay's part on popups: where they stand beside the cursor rectangle.
 ghost use Rattle.std.specs.Prelude.{◌≡◌, ◌<◌, ◌≤◌, Option};
 ghost use Rattle.std.specs.List.{flat_map};
 ghost use Rattle.relay_model.specs.declared.act.Act.TheVariants as acts;

@@ -1,4 +1,4 @@
-// The relay as its callers see it.
+//! The relay as its callers see it.
 use crate::machine::Machine;
 use edit_batch::Pending;
 use kbd_grab::{Grab, Route};

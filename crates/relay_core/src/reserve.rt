@@ -1,4 +1,4 @@
-// What is made before an act.
+//! What is made before an act.
 ghost use Rattle.std.specs.Prelude.{◌≡◌, ◌-◌, ◌<◌, Some, None, OnOk};
 ghost use Rattle.relay_model.specs.declared.act.Act.{Act};
 ghost use Rattle.seat_objects.specs.Objects.{find, field_in};

@@ -1,4 +1,4 @@
-// What each act makes of what the relay keeps.
+//! What each act makes of what the relay keeps.
 ghost use Rattle.std.specs.Prelude.{◌≡◌, ◌&&◌, ◌+◌, ◌<◌, ◌≤◌, true, Option, Some, None};
 ghost use Rattle.relay_model.specs.declared.act.Act.{Act};
 ghost use Rattle.relay_model.specs.Idle.{is_place, is_sized};

@@ -1,4 +1,4 @@
-// What happens on a seat.
+//! What happens on a seat.
 use crate::fault::Fault;
 use crate::role::Role;
 use kbd_grab::{Keymap, Mods, Repeat};
@@ -22,7 +22,9 @@ pub enum EndCause {
 /// The last of enable and disable that a field said since its last commit (`zwp_text_input_v3`).
 #[derive(Clone, Copy, Debug, PartialEq, Eq)]
 pub enum Word {
+    /// `enable`.
     Enabled,
+    /// `disable`.
     Disabled,
 }
 

@@ -1,4 +1,4 @@
-// Why a message is refused.
+//! Why a message is refused.
 ghost use Rattle.std.specs.Prelude.{◌≡◌};
 ghost use Rattle.relay_model.specs.Faults.{code_of, text_of};
 

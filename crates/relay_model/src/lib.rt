@@ -1,4 +1,4 @@
-// The acts of a seat, what they tell, and the definitions of both by looking back over a list of acts.
+//! The acts of a seat, what they tell, and the definitions of both by looking back over a list of acts.
 #![tactic(auto)]
 
 mod act;

@@ -1,4 +1,4 @@
-// What a peer may do on the seat.
+//! What a peer may do on the seat.
 ghost use Rattle.std.specs.Prelude.{◌≡◌};
 ghost use Rattle.relay_model.specs.Globals.{offered};
 

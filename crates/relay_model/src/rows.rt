@@ -1,4 +1,4 @@
-// The worked rows, which the definitions compute.
+//! The worked rows, which the definitions compute.
 ghost use Rattle.relay_model.specs.Rows.{OrdinaryPath, SerialBeforeAnyDone, EarlierDone};
 ghost use Rattle.relay_model.specs.Rows.{NewActivation, ResetAtActivation, EmptyBatch};
 ghost use Rattle.relay_model.specs.Rows.{CommitsBeforeTheFocus, SecondField, LateMethod};

@@ -1,4 +1,4 @@
-// What a peer is told.
+//! What a peer is told.
 use crate::act::Label;
 use crate::fault::Fault;
 use kbd_grab::{Keymap, Mods, Repeat};
@@ -122,6 +122,8 @@ pub enum Said {
 /// An event and the label of the object that it is told to.
 #[derive(Debug, Drop)]
 pub struct Told {
+    /// Whom it is told to.
     pub to: Label,
+    /// What is told.
     pub event: Said,
 }

@@ -1,4 +1,4 @@
-// All to whom acts tell things.
+//! All to whom acts tell things.
 ghost use Rattle.std.specs.Prelude.{◌≡◌, ◌<◌, ◌++◌, length, map, None, option_map, IfSome, OnOk};
 ghost use Rattle.std.specs.Prelude.{OnErr};
 ghost use Rattle.std.specs.List.{slice_get};

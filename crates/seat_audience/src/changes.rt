@@ -1,4 +1,4 @@
-// What a message makes of its sender's objects.
+//! What a message makes of its sender's objects.
 ghost use Rattle.std.specs.Prelude.{◌≡◌, [], ◌++◌, List, None, option_map, IfSome, OnOk, OnErr};
 ghost use Rattle.std.specs.FinMap as map;
 ghost use Rattle.im_objects.specs.Calls.{Call};

@@ -1,4 +1,4 @@
-// Whose each label is.
+//! Whose each label is.
 use relay_model::Label;
 use std::alloc::Global;
 use std::marker::Model;

@@ -1,4 +1,4 @@
-// The group of one act for one peer, as it is gathered.
+//! The group of one act for one peer, as it is gathered.
 ghost use Rattle.std.specs.Prelude.{◌≡◌, ◌+◌, ◌<◌, ◌≤◌, ◌++◌, length, take, map, vec_len};
 ghost use Rattle.std.specs.Prelude.{vec_capacity, IfOk, IfSome};
 ghost use Rattle.wl_proto.specs.Rows.{event_message};

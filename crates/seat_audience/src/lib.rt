@@ -1,5 +1,5 @@
-// All to whom acts tell things: the live peers of a seat, what is gathered and stored for each, and
-// whose each object is.
+//! All to whom acts tell things: the live peers of a seat, what is gathered and stored for each, and
+//! whose each object is.
 #![tactic(auto)]
 
 mod audience;

@@ -1,4 +1,4 @@
-// The live peers, and which of them an act has to do with.
+//! The live peers, and which of them an act has to do with.
 ghost use Rattle.std.specs.Prelude.{◌≡◌, ℕ, true, ◌≤◌, ◌<◌, ◌++◌, ◌∷◌, [], false, length, filter};
 ghost use Rattle.std.specs.Prelude.{map, min, not, take, drop, get_or, None, option_map, IfSome};
 ghost use Rattle.std.specs.Prelude.{IfNone, OnOk, OnErr};

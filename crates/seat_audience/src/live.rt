@@ -1,4 +1,4 @@
-// The state of one live peer.
+//! The state of one live peer.
 ghost use Rattle.std.specs.Prelude.{◌≡◌, ◌≤◌, length, None, option_map, IfSome, IfOk, OnOk, OnErr};
 ghost use Rattle.std.specs.FinMap as finite;
 ghost use Rattle.im_objects.specs.Objects.{refusal_of};

@@ -1,4 +1,4 @@
-// Places of a list that are marked.
+//! Places of a list that are marked.
 ghost use Rattle.std.specs.Prelude.{◌≡◌, ℕ, suc, ◌≤◌, ◌<◌, ◌&&◌, ◌||◌, ◌==◌, nat_lt, map, []};
 ghost use Rattle.std.specs.Prelude.{if◌then◌else◌, OnOk};
 ghost use Rattle.seat_audience.specs.Marks.{is_marked, lowered, AreWithin};

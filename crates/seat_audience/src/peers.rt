@@ -1,4 +1,4 @@
-// The live peers, by rising number and label.
+//! The live peers, by rising number and label.
 ghost use Rattle.std.specs.Prelude.{◌≡◌, ◌≤◌, ◌<◌, ◌+◌, ◌++◌, ◌∷◌, [], length, min, take, drop};
 ghost use Rattle.std.specs.Prelude.{None, option_map, IfSome, IfNone, OnOk, OnErr};
 ghost use Rattle.std.specs.List.{slice_get, remove};

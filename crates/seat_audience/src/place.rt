@@ -1,4 +1,4 @@
-// Where a live peer stands.
+//! Where a live peer stands.
 use relay_model::Label;
 
 /// What a live peer is found by, and its key in the slab.

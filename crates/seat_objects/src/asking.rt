@@ -1,4 +1,4 @@
-// What a field's requests set.
+//! What a field's requests set.
 ghost use Rattle.std.specs.Prelude.{◌≡◌};
 ghost use Rattle.seat_objects.specs.Fits.{FitsMessage};
 ghost use Rattle.seat_objects.specs.Objects.{asked};

@@ -1,4 +1,4 @@
-// What is done to one live object.
+//! What is done to one live object.
 ghost use Rattle.std.specs.Prelude.{◌≡◌};
 ghost use Rattle.seat_objects.specs.Changes.{FitsChange, field_after, area_after, changed_by};
 

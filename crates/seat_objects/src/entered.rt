@@ -1,4 +1,4 @@
-// Whose fields may be entered, and the focus that comes to them and goes.
+//! Whose fields may be entered, and the focus that comes to them and goes.
 ghost use Rattle.std.specs.Prelude.{◌≡◌, map};
 ghost use Rattle.seat_objects.specs.declared.object.Object.{Object};
 ghost use Rattle.seat_objects.specs.Listed.{PeersRise, IsCalm, widened, entered_by, left_for};

@@ -1,4 +1,4 @@
-// The live objects of a seat, with what each field keeps, and what they are told.
+//! The live objects of a seat, with what each field keeps, and what they are told.
 #![tactic(auto)]
 
 mod asking;

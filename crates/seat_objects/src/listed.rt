@@ -1,4 +1,4 @@
-// What is listed beside the live objects: the fields of each peer, and the popups.
+//! What is listed beside the live objects: the fields of each peer, and the popups.
 ghost use Rattle.std.specs.Prelude.{◌≡◌, ◌<◌, ◌≤◌, ◌+◌, ◌++◌, ◌==◌, ℕ, filter, vec_len};
 ghost use Rattle.std.specs.Prelude.{vec_capacity};
 ghost use Rattle.std.specs.List.{list_any};

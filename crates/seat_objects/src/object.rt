@@ -1,4 +1,4 @@
-// What a live object is.
+//! What a live object is.
 ghost use Rattle.std.specs.Prelude.{◌≡◌, option_map, Some, None, false};
 ghost use Rattle.relay_model.specs.Objects.{is_at};
 ghost use Rattle.seat_objects.specs.Listed.{is_popup_kind};

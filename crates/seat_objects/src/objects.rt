@@ -1,4 +1,4 @@
-// The live objects of a seat: found by label, with the fields of each peer and the popups listed beside.
+//! The live objects of a seat: found by label, with the fields of each peer and the popups listed beside.
 ghost use Rattle.std.specs.Prelude.{◌≡◌, ◌≢◌, ◌≤◌, ◌<◌, ◌+◌, ◌∷◌, [], ◌++◌, map, filter};
 ghost use Rattle.std.specs.Prelude.{option_map, Some, OnOk};
 ghost use Rattle.seat_objects.specs.Fits.{FitsMessage};

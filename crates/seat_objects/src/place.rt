@@ -1,4 +1,4 @@
-// Where a live object stands in the slab: a list by rising label, searched by halves.
+//! Where a live object stands in the slab: a list by rising label, searched by halves.
 ghost use Rattle.std.specs.Prelude.{◌≡◌, IfSome, IfNone};
 ghost use Rattle.seat_objects.specs.Places.{LabelsRise, IsPlaceOf, HasNoPlace, key_in};
 

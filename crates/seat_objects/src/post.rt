@@ -1,4 +1,4 @@
-// Where the relay puts what is told.
+//! Where the relay puts what is told.
 ghost use Rattle.std.specs.Prelude.{◌≡◌, [], ◌∷◌, map, option_map};
 ghost use Rattle.relay_model.specs.declared.said.Told.{Told};
 ghost use Rattle.relay_model.specs.Batch.{deletion_said, string_said, preedit_said};

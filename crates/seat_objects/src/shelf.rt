@@ -1,4 +1,4 @@
-// The live objects in a slab, each found by its label.
+//! The live objects in a slab, each found by its label.
 ghost use Rattle.std.specs.Prelude.{◌≡◌, ◌≤◌, ◌<◌, ◌+◌, ◌∷◌, [], ◌++◌, ◌==◌, count_by, map, filter};
 ghost use Rattle.std.specs.Prelude.{option_map, None, OnOk};
 ghost use Rattle.slab.specs.Slab.{ContainsKey, Updates, slab_len};

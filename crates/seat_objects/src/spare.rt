@@ -1,4 +1,4 @@
-// What is made before an act, so that the act takes no memory.
+//! What is made before an act, so that the act takes no memory.
 ghost use Rattle.std.specs.Prelude.{◌≡◌, [], Some, None, OnOk, IfOk};
 ghost use Rattle.wl_wire.specs.Texts.{has_no_zero};
 ghost use Rattle.field_state.specs.Changes.{fresh};

@@ -1,4 +1,4 @@
-// What popups, grabs and the shell are told.
+//! What popups, grabs and the shell are told.
 ghost use Rattle.relay_model.specs.Popups.{place_told};
 ghost use Rattle.relay_model.specs.Told.{to_grab};
 ghost use Rattle.seat_objects.specs.Reached.{Reached};

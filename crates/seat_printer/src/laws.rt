@@ -1,4 +1,4 @@
-// What holds of what is watched and printed. The bodies are empty: the laws are the contracts.
+//! What holds of what is watched and printed. The bodies are empty: the laws are the contracts.
 ghost use Rattle.std.specs.Prelude.{◌≡◌, ◌≤◌, ◌++◌, ℕ, List, length};
 ghost use Rattle.broker_model.specs.declared.journal.Entry.{Entry};
 ghost use Rattle.broker_core.specs.Watched.{watched_since};

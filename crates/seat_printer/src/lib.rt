@@ -1,4 +1,4 @@
-// The transcript of a journal, printed by who watches it.
+//! The transcript of a journal, printed by who watches it.
 #![tactic(auto)]
 
 mod laws;

@@ -1,4 +1,4 @@
-// Prints what it watches, as long as there is memory for it.
+//! Prints what it watches, as long as there is memory for it.
 ghost use Rattle.std.specs.Prelude.{◌≡◌, ◌++◌, [], ℕ, List, false, IfSome, IfNone, IfOk, OnOk};
 ghost use Rattle.std.specs.Prelude.{OnErr, string_bytes};
 ghost use Rattle.broker_model.specs.declared.journal.Entry.{Entry};

@@ -1,4 +1,4 @@
-// The steps of a seat's session, and what a session allows.
+//! The steps of a seat's session, and what a session allows.
 #![tactic(auto)]
 
 mod limits;

@@ -1,4 +1,4 @@
-// What a session's header sets.
+//! What a session's header sets.
 
 /// The most entries that a session may allow its journal.
 pub const ENTRY_LIMIT: u32 = 4_000_000;

@@ -1,4 +1,4 @@
-// When a step came, and through which link.
+//! When a step came, and through which link.
 
 /// When a step came, and through which link. It stands beside a step and changes nothing of what the
 /// step does.

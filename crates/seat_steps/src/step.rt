@@ -1,4 +1,4 @@
-// The steps of a session.
+//! The steps of a session.
 use crate::tokens::TokenList;
 use relay_model::{Keymap, Mods, Rect, Repeat, Role, Size};
 use std::alloc::Global;

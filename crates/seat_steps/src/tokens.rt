@@ -1,4 +1,4 @@
-// The tokens of descriptors that a peer sent.
+//! The tokens of descriptors that a peer sent.
 use std::alloc::Global;
 use std::marker::Model;
 use wio_core::NoMemory;

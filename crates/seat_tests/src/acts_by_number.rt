@@ -1,4 +1,4 @@
-// Lists of acts, each made from a number.
+//! Lists of acts, each made from a number.
 ghost use Rattle.std.specs.Prelude.{◌<◌};
 
 use relay_model::{Act, EndCause, Fault, Keymap, Mods, Rect, Repeat, Role, Size, Text};

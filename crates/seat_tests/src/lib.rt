@@ -1,5 +1,5 @@
-// The tests of the relay and of the slow evaluator of its rules, of the steps of a session and of
-// their lines: each public call once on its happy path, and the worked lines.
+//! The tests of the relay and of the slow evaluator of its rules, of the steps of a session and of
+//! their lines: each public call once on its happy path, and the worked lines.
 #![tactic(auto)]
 
 #[cfg(test)]

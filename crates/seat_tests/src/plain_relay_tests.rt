@@ -1,4 +1,4 @@
-// The relay tells what the slow evaluator of its rules tells: of the worked rows, and of lists made from numbers.
+//! The relay tells what the slow evaluator of its rules tells: of the worked rows, and of lists made from numbers.
 ghost use Rattle.std.specs.Prelude.{◌≡◌, true};
 ghost use Rattle.seat_objects.specs.Fits.{FitsMessage};
 

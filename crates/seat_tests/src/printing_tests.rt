@@ -1,4 +1,4 @@
-// Lines that are printed: of what is told, of a session's steps, of its transcript.
+//! Lines that are printed: of what is told, of a session's steps, of its transcript.
 use crate::equal::equal;
 use crate::reading_tests::SHELL_LINES;
 use relay_model::{EndCause, Said, Told};

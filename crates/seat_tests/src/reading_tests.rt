@@ -1,4 +1,4 @@
-// Lines that are read, and what each says; and lines that are refused.
+//! Lines that are read, and what each says; and lines that are refused.
 use crate::equal::{equal, equal_at};
 use session_text::Form::{self, Acts, Session, Session2, Shell};
 use session_text::{BadLine, read_line};

@@ -1,4 +1,4 @@
-// What no clause tells: that memory is found. The events are those that were worked out by hand.
+//! What no clause tells: that memory is found. The events are those that were worked out by hand.
 ghost use Rattle.std.specs.Prelude.{◌≡◌, true};
 ghost use Rattle.seat_objects.specs.Fits.{FitsMessage};
 

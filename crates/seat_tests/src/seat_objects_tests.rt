@@ -1,4 +1,4 @@
-// What no clause tells: that memory is found, and that calls on a concrete post tell what they should.
+//! What no clause tells: that memory is found, and that calls on a concrete post tell what they should.
 use crate::equal::equal;
 use field_state::Field;
 use kbd_grab::Route;

@@ -1,3 +1,4 @@
+//! Steps and their copies.
 use crate::equal::equal;
 use seat_steps::{PeerStep, Step};
 use std::test::Fail;

@@ -1,4 +1,4 @@
-// The act that a request is, or a step of the shell.
+//! The act that a request is, or a step of the shell.
 ghost use Rattle.std.specs.Prelude.{◌≡◌, ℕ, ◌==◌, if◌then◌else◌, IfOk};
 ghost use Rattle.wl_proto.specs.Rows.{request_message};
 ghost use Rattle.relay_model.specs.declared.act.Act.TheVariants as acts;

@@ -1,4 +1,4 @@
-// A thing told as an event of the wire.
+//! A thing told as an event of the wire.
 ghost use Rattle.std.specs.Prelude.{◌≡◌};
 ghost use Rattle.seat_wire.specs.Events.{named, IsEventOf, IsTokenOf};
 

@@ -1,4 +1,4 @@
-// What a message of a peer comes to on the seat, and what is told as an event of the wire.
+//! What a message of a peer comes to on the seat, and what is told as an event of the wire.
 #![tactic(auto)]
 
 mod acts;

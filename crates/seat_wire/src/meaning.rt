@@ -1,4 +1,4 @@
-// What a message of a live peer comes to.
+//! What a message of a live peer comes to.
 ghost use Rattle.std.specs.Prelude.{◌≡◌, ℕ, option_map, IfOk};
 ghost use Rattle.wl_proto.specs.Reading.{Gives, request_reading};
 ghost use Rattle.wl_proto.specs.Rows.{request_message};
@@ -23,7 +23,9 @@ use wl_wire::Raw;
 /// What a message comes to: its act, and what it makes under an id.
 #[derive(Drop)]
 pub struct Meaning {
+    /// The act.
     pub act: Act,
+    /// The id under which an object is made, and its interface, if one is.
     pub made: Option<Argument>,
 }
 
@@ -31,9 +33,13 @@ pub struct Meaning {
 /// messages.
 #[derive(Drop)]
 pub struct Sender<'a> {
+    /// The peer's label.
     pub label: Label,
+    /// Its role.
     pub role: Role,
+    /// Its objects, by their ids.
     pub table: &'a Table,
+    /// The tokens that wait.
     pub tokens: &'a [u32],
 }
 

@@ -1,4 +1,4 @@
-// What a request asks: its object argument, its new id, and the fault of its own.
+//! What a request asks: its object argument, its new id, and the fault of its own.
 ghost use Rattle.std.specs.Prelude.{◌≡◌, ℕ, option_map, option_to_list};
 ghost use Rattle.wl_proto.specs.Rows.{request_message};
 ghost use Rattle.broker_model.specs.Ids.{Past};
@@ -13,7 +13,9 @@ use wl_proto::{Interface, Request};
 /// An argument that names an object or a new one, and the interface of that.
 #[derive(Clone, Copy)]
 pub struct Argument {
+    /// The object's id.
     pub id: u32,
+    /// The interface that it has, or gets.
     pub interface: Interface,
 }
 

@@ -1,3 +1,4 @@
+//! Counts of dones, of a method and of an activation.
 ghost use Rattle.std.specs.Prelude.{◌≡◌, ℕ, ◌+◌, ◌%◌, ◌^◌, ◌≤◌, min};
 
 use std::marker::Model;

@@ -1,3 +1,4 @@
+//! Whether a serial is fresh.
 ghost use Rattle.std.specs.Prelude.{◌≡◌, ℕ, ◌%◌, ◌^◌, ◌≤◌, ◌↔◌, min, IsTrue};
 ghost use Rattle.serial_count.specs.Serial.{IsFresh, is_recent};
 

@@ -11,22 +11,34 @@ use broker_core::JoinRefusal;
 use link_jobs::LinkDone;
 use link_nets::LinkSink;
 use peer_link::{ReadEnd, ShellEnd, WriteEnd};
+use thiserror::Error;
 use wio_core::Source;
 
 /// Why no further links are accepted.
-#[derive(Clone, Copy, Debug, PartialEq, Eq)]
+#[derive(Clone, Copy, Debug, PartialEq, Eq, Error)]
 pub enum Stop {
+    /// There was no memory for a link.
+    #[error("there was no memory")]
     NoMemory,
+    /// The journal was full for a link's join.
+    #[error("the journal is full")]
     JournalFull,
+    /// A door did not open, or gave no link.
+    #[error("the doors failed")]
     NetFault,
+    /// The system started no further thread.
+    #[error("no further thread starts")]
     NoThread,
 }
 
 /// What the results of jobs brought, the worst of it.
 #[derive(Clone, Copy, Debug, PartialEq, Eq)]
 pub enum Trouble {
+    /// None of them failed for want of memory or of room in the journal.
     None,
+    /// One met a full journal; none was without memory.
     JournalFull,
+    /// One was without memory.
     NoMemory,
 }
 

@@ -35,7 +35,8 @@ pub(crate) fn number_or(
     requires fits { IsWithin most default }
     ensures within { IfOk result (λ n. IsWithin most n) }
     ensures told { (words : List (List ℕ)) → HoldsValues matches.now words →
-        Tells (λ n. n) result (grammar.number_or default most (grammar.values_of (dashed name.now) words)) }
+        Tells (λ n. n) result
+        (grammar.number_or default most (grammar.values_of (dashed name.now) words)) }
 {
     match matches.get_str(name) {
         None => Ok(default),

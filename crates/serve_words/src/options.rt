@@ -38,7 +38,8 @@ fn command<'a>(alloc: Global) -> Result<Command<'a>, AllocError>
 /// fails only for want of memory.
 pub(crate) fn matches_of<'a>(alloc: Global, words: &'a [String]) -> Result<ArgMatches<'a>, Error>
     requires { has_shape (map string_bytes words.now) ≡ true }
-    ensures holds { IfOk result (λ matches. HoldsValues matches (map string_bytes words.entry.now)) }
+    ensures holds { IfOk result (λ matches.
+        HoldsValues matches (map string_bytes words.entry.now)) }
     ensures memory { IfErr result (λ e. kind_of e ≡ ErrorKind.OutOfMemory) }
 {
     command(alloc)?.try_get_matches_from(words)

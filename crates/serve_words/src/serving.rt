@@ -27,10 +27,15 @@ const MOST_LETTERS: usize = 64;
 /// 64 in order, and the hub's limits.
 #[derive(Clone, Copy)]
 pub struct Serving<'a> {
+    /// The path of the applications' door.
     pub app: &'a str,
+    /// The path of the methods' door.
     pub method: &'a str,
+    /// The path of the shells' door.
     pub shell: &'a str,
+    /// The letters.
     pub order: &'a [u8],
+    /// The hub's limits.
     pub limits: Limits,
 }
 

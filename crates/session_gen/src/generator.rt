@@ -1,4 +1,4 @@
-// The generator of a session.
+//! The generator of a session.
 ghost use Rattle.std.specs.Prelude.{◌≡◌, ◌+◌, ◌-◌, ◌<◌, ◌≤◌, IfOk, OnOk, OnErr};
 ghost use Rattle.seat_steps.specs.Ranges.{IsStep};
 ghost use Rattle.session_gen.specs.Generated.{step_of, step_count};

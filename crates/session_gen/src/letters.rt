@@ -1,4 +1,4 @@
-// The letters that a generated method types.
+//! The letters that a generated method types.
 ghost use Rattle.std.specs.Prelude.{◌≡◌, ◌<◌};
 ghost use Rattle.session_gen.specs.Rows.{letter};
 

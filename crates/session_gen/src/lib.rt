@@ -1,4 +1,4 @@
-// A long session made from a number, so that anybody can make the same one again.
+//! A long session made from a number, so that anybody can make the same one again.
 #![tactic(auto)]
 
 mod generator;

@@ -1,4 +1,4 @@
-// The steps that the generator's words draw.
+//! The steps that the generator's words draw.
 ghost use Rattle.std.specs.Prelude.{◌≡◌, IfOk, pos, codes};
 ghost use Rattle.wl_proto.specs.Rows.{request_message};
 ghost use Rattle.seat_steps.specs.Ranges.{IsStep};

@@ -1,4 +1,4 @@
-// Requests as the steps that send them.
+//! Requests as the steps that send them.
 ghost use Rattle.std.specs.Prelude.{◌≡◌, ◌<◌, ◌≤◌, ◌^◌, IfOk};
 ghost use Rattle.wl_proto.specs.Rows.{request_message};
 ghost use Rattle.wl_proto.specs.Spelling.{message_len};

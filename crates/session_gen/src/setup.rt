@@ -1,5 +1,5 @@
-// How a generated session begins: four app peers and a method join, and each sends its set-up
-// messages.
+//! How a generated session begins: four app peers and a method join, and each sends its set-up
+//! messages.
 ghost use Rattle.std.specs.Prelude.{◌≡◌, ◌<◌, Some, IfOk};
 ghost use Rattle.std.specs.List.{slice_get};
 ghost use Rattle.wl_proto.specs.Rows.{request_message};

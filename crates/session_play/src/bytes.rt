@@ -1,4 +1,4 @@
-// The lines of a session that are bytes of a peer: a step for each message that they complete.
+//! The lines of a session that are bytes of a peer: a step for each message that they complete.
 use crate::ending::forget_ended;
 use crate::session::{Session, Stop};
 use crate::unread::{Found, place_of, whole_message};

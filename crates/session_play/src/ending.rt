@@ -1,4 +1,4 @@
-// The unread bytes of peers that end.
+//! The unread bytes of peers that end.
 ghost use Rattle.std.specs.Prelude.{◌≡◌, false, filter, map};
 ghost use Rattle.broker_core.specs.Taking.{lives};
 ghost use Rattle.session_play.specs.Playing.{ends_in_end, AreLive};

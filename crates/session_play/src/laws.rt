@@ -1,4 +1,4 @@
-// Laws of what lines play, over the definitions alone.
+//! Laws of what lines play, over the definitions alone.
 ghost use Rattle.session_play.specs.Laws.{SessionLaw, PrintedSteps};
 ghost use Rattle.session_play.specs.Recorded.{SessionIsRecorded};
 

@@ -1,4 +1,4 @@
-// A session that is played line by line through the state that all its peers share.
+//! A session that is played line by line through the state that all its peers share.
 #![tactic(auto)]
 
 mod bytes;

@@ -1,4 +1,4 @@
-// A session that is played line by line.
+//! A session that is played line by line.
 ghost use Rattle.std.specs.Prelude.{◌≡◌};
 ghost use Rattle.session_play.specs.Playing.{end_with};
 

@@ -1,4 +1,4 @@
-// The lines of a session that are one step each, played through the shared state.
+//! The lines of a session that are one step each, played through the shared state.
 use crate::ending::{forget_ended, keep_live};
 use crate::unread::{Unread, lives};
 use broker_core::{JoinRefusal, Journal, Kept, Refused, Shared, StampList, Took, Watch};

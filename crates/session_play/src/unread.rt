@@ -1,4 +1,4 @@
-// The bytes of one live peer that don't make a whole message yet.
+//! The bytes of one live peer that don't make a whole message yet.
 ghost use Rattle.std.specs.Prelude.{◌≡◌, ◌==◌, ◌++◌, [], true, position, IfOk, IfSome};
 ghost use Rattle.wl_wire.specs.Streams.{begun};
 ghost use Rattle.broker_core.specs.declared.taking.Standing.TheVariants.{Alive};

@@ -1,4 +1,4 @@
-// The acts of an act list, by the number of a line's words.
+//! The acts of an act list, by the number of a line's words.
 ghost use Rattle.std.specs.Prelude.{map};
 ghost use Rattle.session_text.specs.Reading.{one_word, two_words, three_words, four_words};
 ghost use Rattle.session_text.specs.Reading.{five_words, six_words, act_of, Reads};

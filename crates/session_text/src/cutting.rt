@@ -1,4 +1,4 @@
-// A line is cut into its words at each space.
+//! A line is cut into its words at each space.
 ghost use Rattle.std.specs.Prelude.{◌≡◌, ◌<◌, ◌≤◌, ◌==◌, [], ◌∷◌, length, take, map, min, IfOk};
 ghost use Rattle.std.specs.Prelude.{IfSome, IfNone};
 ghost use Rattle.std.specs.List.{slice_split};

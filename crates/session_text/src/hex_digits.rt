@@ -1,4 +1,4 @@
-// Pairs of hex digits in lower case, each looked up in a table.
+//! Pairs of hex digits in lower case, each looked up in a table.
 ghost use Rattle.std.specs.Prelude.{◌≡◌, ◌<◌, ◌≤◌, ◌+◌, ◌*◌, length, take, true};
 ghost use Rattle.hex.specs.Hex.{encode_lower};
 ghost use Rattle.session_text.specs.Words.{value_of};

@@ -1,4 +1,4 @@
-// Texts and bytes in lower-case hex digits.
+//! Texts and bytes in lower-case hex digits.
 ghost use Rattle.std.specs.Prelude.{◌≡◌, ◌≢◌, ◌≤◌, ◌⊎◌, ◌&&◌, Some, length, nat_lt, nat_le, IfOk};
 ghost use Rattle.std.specs.Prelude.{IfErr, IfSome};
 ghost use Rattle.std.specs.List.{list_any};

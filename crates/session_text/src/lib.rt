@@ -1,4 +1,4 @@
-// Lines of text as they are read: those of act lists, sessions and shell links.
+//! Lines of text as they are read: those of act lists, sessions and shell links.
 #![tactic(auto)]
 
 mod act_line;

@@ -1,4 +1,4 @@
-// A line, and how it is read.
+//! A line, and how it is read.
 ghost use Rattle.std.specs.Prelude.{◌≡◌, ◌≢◌, ◌==◌, map, IfOk};
 ghost use Rattle.std.specs.List.{slice_split};
 ghost use Rattle.session_text.specs.declared.line.BadLine.TheVariants.{NoMemory};

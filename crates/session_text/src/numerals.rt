@@ -1,5 +1,5 @@
-// Decimal numbers in the one spelling that is printed: without a sign but `-`, and without a zero in
-// front of other digits.
+//! Decimal numbers in the one spelling that is printed: without a sign but `-`, and without a zero in
+//! front of other digits.
 ghost use Rattle.std.specs.Prelude.{◌≡◌, ◌+◌, ◌*◌, ◌≤◌, ◌<◌, ◌^◌, ◌↔◌, ℕ, length, get_or, IfSome};
 ghost use Rattle.std.specs.Prelude.{IfNone, IsTrue};
 ghost use Rattle.std.specs.Fmt.{decimal};

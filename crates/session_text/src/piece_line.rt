@@ -1,5 +1,5 @@
-// The line of a peer's few bytes, as most lines of a session are, read without a look at the
-// others: in form 1, and behind a stamp.
+//! The line of a peer's few bytes, as most lines of a session are, read without a look at the
+//! others: in form 1, and behind a stamp.
 ghost use Rattle.std.specs.Prelude.{◌≡◌, ◌≤◌, ◌==◌, ◌∷◌, ◌++◌, length, take, codes, Some, IfSome};
 ghost use Rattle.std.specs.List.{slice_split};
 ghost use Rattle.seat_steps.specs.Ranges.{piece_limit};

@@ -1,4 +1,4 @@
-// The lines of a session of form 1, by the number of a line's words.
+//! The lines of a session of form 1, by the number of a line's words.
 ghost use Rattle.std.specs.Prelude.{map};
 ghost use Rattle.session_text.specs.Reading.{Reads};
 ghost use Rattle.session_text.specs.SessionReading.{header_of, one_session_word, two_session_words};

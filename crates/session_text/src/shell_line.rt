@@ -1,4 +1,4 @@
-// The shell's lines, by the number of a line's words.
+//! The shell's lines, by the number of a line's words.
 ghost use Rattle.std.specs.Prelude.{map};
 ghost use Rattle.session_text.specs.Reading.{Reads};
 ghost use Rattle.session_text.specs.SessionReading.{one_shell_word, three_shell_words};

@@ -1,4 +1,4 @@
-// The lines of a session of form 2, and those of a shell link, which have moments too.
+//! The lines of a session of form 2, and those of a shell link, which have moments too.
 ghost use Rattle.std.specs.Prelude.{map};
 ghost use Rattle.session_text.specs.Reading.{Reads};
 ghost use Rattle.session_text.specs.Words.{numbers_of};

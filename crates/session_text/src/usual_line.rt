@@ -1,4 +1,4 @@
-// The lines that come most, each read behind its name, without a cut into words.
+//! The lines that come most, each read behind its name, without a cut into words.
 ghost use Rattle.std.specs.Prelude.{◌==◌, ◌≡◌, ◌∷◌, codes, Some, IfSome};
 ghost use Rattle.std.specs.List.{slice_split};
 ghost use Rattle.session_text.specs.declared.line.Form.TheVariants.{Acts, Session};

@@ -1,5 +1,5 @@
-// What printed lines share: the number that begins them, bytes as a word, one more word, and the
-// end of the printing.
+//! What printed lines share: the number that begins them, bytes as a word, one more word, and the
+//! end of the printing.
 ghost use Rattle.std.specs.Prelude.{◌≡◌, ◌∷◌, ◌++◌, IfOk, OnOk, IsTrue, string_bytes};
 ghost use Rattle.std.specs.Fmt.{decimal};
 ghost use Rattle.session_text.specs.Words.{hex_word};

@@ -1,4 +1,4 @@
-// Short lines: each is made from its end to its beginning in a small room, and written at once.
+//! Short lines: each is made from its end to its beginning in a small room, and written at once.
 ghost use Rattle.std.specs.Prelude.{◌≡◌, ◌∷◌, ◌++◌, ◌+◌, ◌*◌, ◌≤◌, [], map, length, drop, IsTrue};
 ghost use Rattle.std.specs.Prelude.{OnOk};
 ghost use Rattle.std.specs.Prelude.{codes, string_bytes};

@@ -1,4 +1,4 @@
-// The line of a session that gives a step alone.
+//! The line of a session that gives a step alone.
 ghost use Rattle.std.specs.Prelude.{◌≡◌, length, IfOk, string_bytes};
 ghost use Rattle.session_text.specs.declared.line.SessionLine.TheVariants as sessions;
 ghost use Rattle.session_text.specs.declared.line.Line.TheVariants as lines;

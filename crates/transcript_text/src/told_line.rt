@@ -1,4 +1,4 @@
-// The line that says what a peer is told.
+//! The line that says what a peer is told.
 ghost use Rattle.std.specs.Prelude.{◌≡◌, ◌≤◌, [], ◌∷◌, ◌++◌, map, codes, IfOk, IfSome, OnOk};
 ghost use Rattle.std.specs.Prelude.{IsTrue};
 ghost use Rattle.std.specs.Prelude.{length, string_bytes, take};

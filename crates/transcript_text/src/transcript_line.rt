@@ -1,4 +1,4 @@
-// The lines of a session's transcript.
+//! The lines of a session's transcript.
 ghost use Rattle.std.specs.Prelude.{◌≡◌, ◌∷◌, ◌++◌, IfOk, IsTrue, OnOk, string_bytes};
 ghost use Rattle.wl_wire.specs.Texts.{has_no_zero};
 ghost use Rattle.transcript_text.specs.Transcript.{cause_word, ended_line, out_line, pass_line};

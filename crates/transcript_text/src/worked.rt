@@ -1,4 +1,4 @@
-// Lines worked out by hand.
+//! Lines worked out by hand.
 ghost use Rattle.transcript_text.specs.Worked.{WorkedSteps, WorkedEvents};
 
 /// A law without work: what the definitions print of worked steps and of each event is what was

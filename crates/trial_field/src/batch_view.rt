@@ -1,4 +1,4 @@
-// The edits that an input method commits at once.
+//! The edits that an input method commits at once.
 
 /// The longest committed string, in bytes: with its header it fills one message of 4,096 bytes.
 pub const MAX_STRING: usize = 4_083;

@@ -1,4 +1,4 @@
-// What a field's own user does.
+//! What a field's own user does.
 
 /// One edit that the field's own user makes. `&str` is UTF-8, so whole characters go in.
 #[derive(Clone, Copy, Debug)]

@@ -1,4 +1,4 @@
-// A text, a cursor in it, and a preedit beside it.
+//! A text, a cursor in it, and a preedit beside it.
 ghost use Rattle.std.specs.Prelude.{◌≡◌, ℕ, ◌+◌, ◌≤◌, ◌<◌, ◌↔◌, false, List, [], ◌∷◌, ◌++◌, ◌-◌};
 ghost use Rattle.std.specs.Prelude.{take, drop, length, IfOk, IsCharBoundary, string_bytes};
 ghost use Rattle.std.specs.Prelude.{string_len, string_capacity};

@@ -1,4 +1,4 @@
-// What the definitions mean, in other words: the characters are those of UTF-8, and a `leave` is an empty batch.
+//! What the definitions mean, in other words: the characters are those of UTF-8, and a `leave` is an empty batch.
 ghost use Rattle.std.specs.Prelude.{◌≡◌, ℕ, List, [], ◌++◌, IsUtf8, encode_utf8};
 ghost use Rattle.trial_field.specs.Characters.{first_char, last_char};
 ghost use Rattle.trial_field.specs.FieldText.{FieldText, after};

@@ -1,4 +1,4 @@
-// A text field as a trial has it: its user edits it, and batches of an input method edit it.
+//! A text field as a trial has it: its user edits it, and batches of an input method edit it.
 #![tactic(auto)]
 
 mod batch_view;

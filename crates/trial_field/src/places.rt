@@ -1,4 +1,4 @@
-// Places in a text, as byte offsets at which a character begins or the text ends.
+//! Places in a text, as byte offsets at which a character begins or the text ends.
 ghost use Rattle.std.specs.Prelude.{◌≡◌, ℕ, ◌+◌, ◌-◌, ◌<◌, ◌≤◌, length, take, drop, IsCharBoundary};
 ghost use Rattle.trial_field.specs.Characters.{first_char, last_char};
 ghost use Rattle.trial_field.specs.Window.{IsWindow};

@@ -105,7 +105,7 @@ pub(crate) fn run_within(alloc: Global, limits: Limits, script: &[u8]) -> Result
     let mut trial = Trial::new(alloc, limits, table)?;
     let first = (first_line % (1 << 32)) as u32;
     let played = trial.script(fields, first, &actions);
-    ended(ending, played, trial.shown)
+    ended(ending, played, trial.into_shown())
 }
 
 /// Plays a script up to its end, or to the first line that is outside the grammar, and answers what

@@ -1,5 +1,5 @@
 //! A trial as far as it is played.
-ghost use Rattle.std.specs.Prelude.{◌≡◌, IfOk};
+ghost use Rattle.std.specs.Prelude.{◌≡◌, IfOk, string_bytes};
 ghost use Rattle.seat_steps.specs.Ranges.{IsLimits};
 ghost use Rattle.trial_run.specs.Play.{new_field};
 ghost use Rattle.trial_run.specs.Trial.{unplayed};
@@ -73,13 +73,21 @@ impl Trial {
         requires { IsLimits limits }
         ensures { IfOk result (λ t. t ≡ unplayed limits table) }
     {
+        let method = MethodClient::new(alloc, table)?;
         Ok(Trial {
             alloc,
             most: u64::from(limits.entries) + 1,
             shared: Shared::new(alloc, limits)?,
-            method: MethodClient::new(alloc, table)?,
+            method,
             fields: Vec::new(alloc),
             shown: String::new(alloc),
         })
+    }
+
+    /// What was shown.
+    pub(crate) fn into_shown(self) -> String
+        ensures { string_bytes result ≡ self.shown }
+    {
+        self.shown
     }
 }

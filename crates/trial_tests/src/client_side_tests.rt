@@ -1,4 +1,4 @@
-// A field's client and a method's client in a small session, against the bytes of its transcript.
+//! A field's client and a method's client in a small session, against the bytes of its transcript.
 use crate::equal::equal;
 use client_side::{ClientFault, FieldClient, MethodClient};
 use compose_method::ComposeTable;

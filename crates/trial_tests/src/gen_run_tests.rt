@@ -1,4 +1,4 @@
-// Generated sessions, against counts that a program worked out which shares nothing with the broker.
+//! Generated sessions, against counts that a program worked out which shares nothing with the broker.
 use crate::equal::equal;
 use gen_run::{WriteEnd, count, summary, write_session};
 use std::alloc::Global;

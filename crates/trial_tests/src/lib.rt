@@ -1,5 +1,5 @@
-// The tests of generated sessions and of the clients of a trial: each public call once on its happy path, and the
-// numbers that were worked out elsewhere.
+//! The tests of generated sessions and of the clients of a trial: each public call once on its happy path, and the
+//! numbers that were worked out elsewhere.
 #![tactic(auto)]
 
 #[cfg(test)]

@@ -1,5 +1,5 @@
-// The set-up and the first drawn steps of the number 7, whose first words are 2442223337, 414063806
-// and 2743600285.
+//! The set-up and the first drawn steps of the number 7, whose first words are 2442223337, 414063806
+//! and 2743600285.
 use crate::equal::equal;
 use session_gen::{Gen, STEPS};
 use std::alloc::Global;

@@ -1,4 +1,4 @@
-// Whole scripts, against what they show. Lists are written with `;` between lines.
+//! Whole scripts, against what they show. Lists are written with `;` between lines.
 use crate::equal::{equal, equal_at};
 use std::alloc::Global;
 use std::process::Abort;

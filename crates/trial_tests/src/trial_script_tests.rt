@@ -1,4 +1,4 @@
-// Scripts, how many fields and actions they have, and where they end.
+//! Scripts, how many fields and actions they have, and where they end.
 use crate::equal::equal_at;
 use std::test::Fail;
 use trial_script::{Ending, read_script};

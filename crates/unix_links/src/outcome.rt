@@ -6,7 +6,9 @@ use std::thread::Promise;
 /// The result of a job, or the job of a thread that was told not to begin it.
 #[derive(Drop)]
 pub enum Outcome<J: Job + Drop> {
+    /// The job was done: its result.
     Done(J::Done),
+    /// The job comes back as it was.
     Back(J),
 }
 

@@ -1,4 +1,4 @@
-// Sources and sinks of bytes, and the answer for want of memory that every crate above shares.
+//! Sources and sinks of bytes, and the answer for want of memory that every crate above shares.
 #![tactic(auto)]
 
 ghost use Rattle.std.specs.Prelude.{◌≡◌, ℕ, ◌<◌, ◌≤◌, List, Option, length, take, IfOk, OnOk};

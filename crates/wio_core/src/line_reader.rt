@@ -1,4 +1,4 @@
-// The lines of a source, lent one at a time.
+//! The lines of a source, lent one at a time.
 ghost use Rattle.std.specs.Prelude.{◌≡◌, ◌≢◌, ◌+◌, ◌<◌, ◌≤◌, ◌++◌, ◌∷◌, ℕ, List, [], drop, length};
 ghost use Rattle.std.specs.Prelude.{Option, Some, None, IfOk, IfErr, OnOk, OnErr, IfSome, OnSome, IsTrue};
 ghost use Rattle.std.specs.Prelude.{◌↔◌};
@@ -11,17 +11,22 @@ use crate::window::{SIZE, Window};
 use crate::{Failed, NoMemory, Source};
 use std::alloc::Global;
 use std::marker::Model;
+use thiserror::Error;
 
 /// Why no line comes.
-#[derive(Clone, Copy, Debug, PartialEq, Eq)]
+#[derive(Clone, Copy, Debug, PartialEq, Eq, Error)]
 pub enum LineStop {
     /// The source ended, and every line was given.
+    #[error("the source ended")]
     End,
     /// 8,401 bytes stand without a line feed.
+    #[error("a line is longer than 8,400 bytes")]
     Long,
     /// The limit's bytes were taken, and no whole line of them is left.
+    #[error("the limit of bytes was taken")]
     Limit,
     /// A read failed.
+    #[error("a read failed")]
     ReadFault,
 }
 

@@ -1,4 +1,4 @@
-// Where the first line of some bytes ends.
+//! Where the first line of some bytes ends.
 ghost use Rattle.std.specs.Prelude.{◌≤◌, length, take};
 ghost use Rattle.wio_core.specs.Lines.{LacksFeed, IsFront};
 

@@ -1,4 +1,4 @@
-// A sink in memory, which tells its content and fails where it is told to.
+//! A sink in memory, which tells its content and fails where it is told to.
 ghost use Rattle.std.specs.Prelude.{◌≡◌, ◌++◌, ◌+◌, ◌<◌, ◌≤◌, [], Some, length, IfOk, OnErr, IsErr};
 ghost use Rattle.std.specs.Prelude.{◌↔◌, ◌⊎◌};
 ghost use Rattle.std.specs.List.{Contains};

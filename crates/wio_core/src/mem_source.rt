@@ -1,4 +1,4 @@
-// A source in memory, which tells its content and fails where it is told to.
+//! A source in memory, which tells its content and fails where it is told to.
 ghost use Rattle.std.specs.Prelude.{◌≡◌, ◌++◌, [], Some, None, length, take, drop, min, IfOk};
 ghost use Rattle.std.specs.Prelude.{OnErr, IsErr, ◌↔◌, ◌<◌, ◌≤◌};
 ghost use Rattle.std.specs.List.{Contains};

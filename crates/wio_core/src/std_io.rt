@@ -1,4 +1,4 @@
-// std's readers and writers as a source and a sink. They tell no content.
+//! std's readers and writers as a source and a sink. They tell no content.
 ghost use Rattle.std.specs.Prelude.{◌≡◌, None};
 
 use crate::{Failed, Sink, Source};

@@ -1,4 +1,4 @@
-// The bytes that a reader of lines holds, in one buffer that never grows.
+//! The bytes that a reader of lines holds, in one buffer that never grows.
 ghost use Rattle.std.specs.Prelude.{◌≡◌, ◌<◌, ◌≤◌, ◌++◌, ℕ, List, [], drop, length, slice_range};
 ghost use Rattle.std.specs.Prelude.{vec_len, IfOk, OnErr};
 ghost use Rattle.std.specs.Io.KnownBytes.{IsAtEnd};

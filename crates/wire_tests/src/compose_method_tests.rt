@@ -1,4 +1,4 @@
-// The worked rows, and each public call once.
+//! The worked rows, and each public call once.
 ghost use Rattle.compose_method.specs.Table.{AreKeys};
 
 use crate::equal::equal_at;

@@ -1,4 +1,4 @@
-// What no clause tells: that memory is found, and that a table is used as its callers use it.
+//! What no clause tells: that memory is found, and that a table is used as its callers use it.
 use crate::equal::{equal, equal_at};
 use im_objects::{Label, MakeRefusal, Table};
 use std::alloc::Global;

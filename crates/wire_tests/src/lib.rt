@@ -1,5 +1,5 @@
-// The tests of the protocols' tables and of what stands on them: vectors from outside for each message, and each public
-// call once on its happy path.
+//! The tests of the protocols' tables and of what stands on them: vectors from outside for each message, and each
+//! public call once on its happy path.
 #![tactic(auto)]
 
 #[cfg(test)]

@@ -1,4 +1,4 @@
-// Every row, written and read back. The words are from the profile's table, and not from the program.
+//! Every row, written and read back. The words are from the profile's table, and not from the program.
 use crate::equal::{equal, equal_at};
 use std::process::Abort;
 use wl_proto::{

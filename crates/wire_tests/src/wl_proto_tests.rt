@@ -1,4 +1,4 @@
-// The worked examples of the wire.
+//! The worked examples of the wire.
 use crate::equal::{equal, equal_at};
 use wl_proto::{
     Event, Interface, Refuse, Request, SURFACE_REQUESTS, Sig, SigTable, read_event, read_request,

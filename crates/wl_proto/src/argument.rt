@@ -1,4 +1,4 @@
-// The arguments of a message as the writer takes them, one by one.
+//! The arguments of a message as the writer takes them, one by one.
 ghost use Rattle.std.specs.Prelude.{◌≡◌, ◌+◌, ◌<◌, ◌≤◌, ◌^◌, ◌++◌, List, [], ◌∷◌, length, drop};
 ghost use Rattle.std.specs.Option.{option_copied};
 ghost use Rattle.wl_wire.specs.Spelling.{text_len};

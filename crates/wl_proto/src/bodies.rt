@@ -1,4 +1,4 @@
-// Whole bodies, by the kinds of their arguments: the first argument is read, and then a body of the others.
+//! Whole bodies, by the kinds of their arguments: the first argument is read, and then a body of the others.
 ghost use Rattle.std.specs.Prelude.{List, [], ◌∷◌};
 ghost use Rattle.std.specs.Option.{option_copied};
 ghost use Rattle.wl_wire.specs.Reading.{Gives};

@@ -1,4 +1,4 @@
-// Events: what a peer is told.
+//! Events: what a peer is told.
 
 /// An event, one variant for each row. The fields are the row's arguments; an id is the number of
 /// an object of the peer.

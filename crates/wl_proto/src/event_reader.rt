@@ -1,4 +1,4 @@
-// Events are read by their rows: the opcode says which kinds of arguments the body has.
+//! Events are read by their rows: the opcode says which kinds of arguments the body has.
 ghost use Rattle.std.specs.Prelude.{List};
 ghost use Rattle.wl_proto.specs.Reading.{Gives, event_reading};
 ghost use Rattle.wl_proto.specs.Rows.{event_message, event_kinds};

@@ -1,4 +1,4 @@
-// Events are written by their rows.
+//! Events are written by their rows.
 ghost use Rattle.std.specs.Prelude.{◌≡◌, ◌<◌, ◌≤◌, ◌^◌, ◌++◌, List, length, drop};
 ghost use Rattle.wl_proto.specs.Rows.{event_message};
 ghost use Rattle.wl_proto.specs.Arguments.{most, message_put};
@@ -61,16 +61,34 @@ macro_rules! put_by_row {
             Event::TextInputDone { serial } => put_row!(put_one $out $id 5 uint serial),
             Event::CommitString { text } => put_row!(put_one $out $id 3 string text),
             Event::DeleteSurroundingText { before: first, after: second }
-            | Event::ContentType { hint: first, purpose: second } => put_row!(put_two $out $id 4 uint first, uint second),
+            | Event::ContentType { hint: first, purpose: second } => {
+                put_row!(put_two $out $id 4 uint first, uint second)
+            }
             Event::RepeatInfo { rate, delay } => put_row!(put_two $out $id 3 int rate, int delay),
-            Event::Error { object, code, message } => put_row!(put_three $out $id 0 uint object, uint code, text message),
-            Event::Global { name, interface, version } => put_row!(put_three $out $id 0 uint name, text interface, uint version),
-            Event::PreeditString { text, begin, end } => put_row!(put_three $out $id 2 string text, int begin, int end),
-            Event::SurroundingText { text, cursor, anchor } => put_row!(put_three $out $id 2 text text, uint cursor, uint anchor),
-            Event::Keymap { format, token, size } => put_row!(put_three $out $id 0 uint format, descriptor token, uint size),
-            Event::TextInputRectangle { x, y, width, height } => put_row!(put_four $out $id 0 int x, int y, int width, int height),
-            Event::Key { serial, time, key, state } => put_row!(put_four $out $id 1 uint serial, uint time, uint key, uint state),
-            Event::Modifiers { serial, depressed, latched, locked, group } => put_row!(put_five $out $id 2 uint serial, uint depressed, uint latched, uint locked, uint group),
+            Event::Error { object, code, message } => {
+                put_row!(put_three $out $id 0 uint object, uint code, text message)
+            }
+            Event::Global { name, interface, version } => {
+                put_row!(put_three $out $id 0 uint name, text interface, uint version)
+            }
+            Event::PreeditString { text, begin, end } => {
+                put_row!(put_three $out $id 2 string text, int begin, int end)
+            }
+            Event::SurroundingText { text, cursor, anchor } => {
+                put_row!(put_three $out $id 2 text text, uint cursor, uint anchor)
+            }
+            Event::Keymap { format, token, size } => {
+                put_row!(put_three $out $id 0 uint format, descriptor token, uint size)
+            }
+            Event::TextInputRectangle { x, y, width, height } => {
+                put_row!(put_four $out $id 0 int x, int y, int width, int height)
+            }
+            Event::Key { serial, time, key, state } => {
+                put_row!(put_four $out $id 1 uint serial, uint time, uint key, uint state)
+            }
+            Event::Modifiers { serial, depressed, latched, locked, group } => {
+                put_row!(put_five $out $id 2 uint serial, uint depressed, uint latched, uint locked, uint group)
+            }
         }
     };
 }

@@ -1,4 +1,4 @@
-// The interfaces of this profile.
+//! The interfaces of this profile.
 ghost use Rattle.std.specs.Prelude.{◌≡◌};
 ghost use Rattle.wl_proto.specs.Names.{name_of};
 

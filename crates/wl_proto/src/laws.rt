@@ -1,4 +1,4 @@
-// What holds of every row, each law proved where its function stands. The bodies are empty: the laws are the contracts.
+//! What holds of every row, each law proved where its function stands. The bodies are empty: the laws are contracts.
 ghost use Rattle.wl_proto.specs.Laws.{OneList, SpelledAgain, Rise, HasRow, WrittenWhole};
 ghost use Rattle.wl_proto.specs.Rows.{request_kinds, event_kinds, request_rows, event_rows};
 ghost use Rattle.wl_proto.specs.Rows.{request_message, event_message};

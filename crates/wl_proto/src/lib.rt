@@ -1,4 +1,4 @@
-// The protocols: the rows of twelve interfaces, and their requests and events read and written.
+//! The protocols: the rows of twelve interfaces, and their requests and events read and written.
 #![tactic(auto)]
 
 mod argument;

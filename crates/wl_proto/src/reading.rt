@@ -1,4 +1,4 @@
-// The first argument of a body, and what is behind it.
+//! The first argument of a body, and what is behind it.
 ghost use Rattle.std.specs.Option.{option_copied};
 ghost use Rattle.wl_wire.specs.Reading.{Gives, word_at, int_at, string_at};
 ghost use Rattle.wl_proto.specs.Reading.{TokenIs, text_at};

@@ -1,4 +1,4 @@
-// Why a message is no message of an interface.
+//! Why a message is no message of an interface.
 ghost use Rattle.std.specs.Prelude.{◌≡◌};
 ghost use Rattle.wl_proto.specs.declared.refuse.Refuse.TheVariants as refuse;
 

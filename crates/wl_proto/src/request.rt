@@ -1,4 +1,4 @@
-// Requests: what a peer asks.
+//! Requests: what a peer asks.
 
 /// A request, one variant for each row. The fields are the row's arguments; an id is the number of an object of the
 /// peer, and a new id is one that the peer chose.

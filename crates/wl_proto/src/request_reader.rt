@@ -1,4 +1,4 @@
-// Requests are read by their rows: the opcode says which kinds of arguments the body has.
+//! Requests are read by their rows: the opcode says which kinds of arguments the body has.
 ghost use Rattle.std.specs.Prelude.{List};
 ghost use Rattle.wl_proto.specs.Reading.{Gives, request_reading};
 ghost use Rattle.wl_proto.specs.Rows.{request_message, request_kinds};

@@ -1,4 +1,4 @@
-// Requests are written by their rows.
+//! Requests are written by their rows.
 ghost use Rattle.std.specs.Prelude.{◌≡◌, ◌<◌, ◌≤◌, ◌^◌, ◌++◌, List, length, drop};
 ghost use Rattle.wl_proto.specs.Rows.{request_message};
 ghost use Rattle.wl_proto.specs.Arguments.{most, message_put};
@@ -59,29 +59,52 @@ macro_rules! put_by_row {
             | Request::TextInputDestroy
             | Request::InputPopupSurfaceDestroy
             | Request::KeyboardGrabRelease => put_row!(put_nothing $out $id 0),
-            Request::Enable | Request::InputMethodManagerDestroy => put_row!(put_nothing $out $id 1),
+            Request::Enable
+            | Request::InputMethodManagerDestroy => put_row!(put_nothing $out $id 1),
             Request::Disable => put_row!(put_nothing $out $id 2),
-            Request::SurfaceCommit | Request::InputMethodDestroy => put_row!(put_nothing $out $id 6),
+            Request::SurfaceCommit
+            | Request::InputMethodDestroy => put_row!(put_nothing $out $id 6),
             Request::TextInputCommit => put_row!(put_nothing $out $id 7),
             Request::Sync { callback: word }
             | Request::CreateSurface { id: word }
             | Request::GetPointer { id: word } => put_row!(put_one $out $id 0 uint word),
-            Request::GetRegistry { registry: word } | Request::GetKeyboard { id: word } => put_row!(put_one $out $id 1 uint word),
+            Request::GetRegistry { registry: word }
+            | Request::GetKeyboard { id: word } => put_row!(put_one $out $id 1 uint word),
             Request::GetTouch { id: word } => put_row!(put_one $out $id 2 uint word),
             Request::InputMethodCommit { serial } => put_row!(put_one $out $id 3 uint serial),
             Request::SetTextChangeCause { cause } => put_row!(put_one $out $id 4 uint cause),
             Request::GrabKeyboard { keyboard } => put_row!(put_one $out $id 5 uint keyboard),
             Request::CommitString { text } => put_row!(put_one $out $id 0 text text),
-            Request::GetInputMethod { seat, input_method } => put_row!(put_two $out $id 0 uint seat, uint input_method),
-            Request::GetTextInput { id: field, seat } => put_row!(put_two $out $id 1 uint field, uint seat),
-            Request::DeleteSurroundingText { before, after } => put_row!(put_two $out $id 2 uint before, uint after),
-            Request::GetInputPopupSurface { id: popup, surface } => put_row!(put_two $out $id 4 uint popup, uint surface),
-            Request::SetContentType { hint, purpose } => put_row!(put_two $out $id 5 uint hint, uint purpose),
-            Request::SetPreeditString { text, begin, end } => put_row!(put_three $out $id 1 text text, int begin, int end),
-            Request::SetSurroundingText { text, cursor, anchor } => put_row!(put_three $out $id 3 text text, int cursor, int anchor),
-            Request::Damage { x, y, width, height } => put_row!(put_four $out $id 2 int x, int y, int width, int height),
-            Request::SetCursorRectangle { x, y, width, height } => put_row!(put_four $out $id 6 int x, int y, int width, int height),
-            Request::Bind { name, interface, version, id: made } => put_row!(put_four $out $id 0 uint name, text interface, uint version, uint made),
+            Request::GetInputMethod { seat, input_method } => {
+                put_row!(put_two $out $id 0 uint seat, uint input_method)
+            }
+            Request::GetTextInput { id: field, seat } => {
+                put_row!(put_two $out $id 1 uint field, uint seat)
+            }
+            Request::DeleteSurroundingText { before, after } => {
+                put_row!(put_two $out $id 2 uint before, uint after)
+            }
+            Request::GetInputPopupSurface { id: popup, surface } => {
+                put_row!(put_two $out $id 4 uint popup, uint surface)
+            }
+            Request::SetContentType { hint, purpose } => {
+                put_row!(put_two $out $id 5 uint hint, uint purpose)
+            }
+            Request::SetPreeditString { text, begin, end } => {
+                put_row!(put_three $out $id 1 text text, int begin, int end)
+            }
+            Request::SetSurroundingText { text, cursor, anchor } => {
+                put_row!(put_three $out $id 3 text text, int cursor, int anchor)
+            }
+            Request::Damage { x, y, width, height } => {
+                put_row!(put_four $out $id 2 int x, int y, int width, int height)
+            }
+            Request::SetCursorRectangle { x, y, width, height } => {
+                put_row!(put_four $out $id 6 int x, int y, int width, int height)
+            }
+            Request::Bind { name, interface, version, id: made } => {
+                put_row!(put_four $out $id 0 uint name, text interface, uint version, uint made)
+            }
         }
     };
 }

@@ -1,4 +1,4 @@
-// What a row becomes, when it is written.
+//! What a row becomes, when it is written.
 
 // An argument of a kind.
 macro_rules! argument {

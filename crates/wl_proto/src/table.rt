@@ -1,5 +1,5 @@
-// The rows of the protocols: for each interface and direction the opcodes and the kinds of their arguments. The
-// specification reads these very constants.
+//! The rows of the protocols: for each interface and direction the opcodes and the kinds of their arguments. The
+//! specification reads these very constants.
 ghost use Rattle.std.specs.Prelude.{◌≡◌, ◌∷◌, ◌↔◌, IsTrue};
 ghost use Rattle.std.specs.List.Sorted.{IsStrictlyIncreasing};
 ghost use Rattle.wl_proto.specs.Tables.{opcodes, rises};
@@ -68,38 +68,63 @@ fn rise_from(low: u16, rows: &[Sig]) -> bool
 }
 
 macro_rules! sig {
-    ($opcode:literal) => { Sig { opcode: $opcode, kinds: [None, None, None, None, None] } };
-    ($opcode:literal $a:ident) => { Sig { opcode: $opcode, kinds: [Some(Kind::$a), None, None, None, None] } };
-    ($opcode:literal $a:ident $b:ident) => { Sig { opcode: $opcode, kinds: [Some(Kind::$a), Some(Kind::$b), None, None, None] } };
-    ($opcode:literal $a:ident $b:ident $c:ident) => { Sig { opcode: $opcode, kinds: [Some(Kind::$a), Some(Kind::$b), Some(Kind::$c), None, None] } };
-    ($opcode:literal $a:ident $b:ident $c:ident $d:ident) => { Sig { opcode: $opcode, kinds: [Some(Kind::$a), Some(Kind::$b), Some(Kind::$c), Some(Kind::$d), None] } };
-    ($opcode:literal $a:ident $b:ident $c:ident $d:ident $e:ident) => { Sig { opcode: $opcode, kinds: [Some(Kind::$a), Some(Kind::$b), Some(Kind::$c), Some(Kind::$d), Some(Kind::$e)] } };
+    ($opcode:literal) => {
+        Sig { opcode: $opcode, kinds: [None, None, None, None, None] }
+    };
+    ($opcode:literal $a:ident) => {
+        Sig { opcode: $opcode, kinds: [Some(Kind::$a), None, None, None, None] }
+    };
+    ($opcode:literal $a:ident $b:ident) => {
+        Sig { opcode: $opcode, kinds: [Some(Kind::$a), Some(Kind::$b), None, None, None] }
+    };
+    ($opcode:literal $a:ident $b:ident $c:ident) => {
+        Sig { opcode: $opcode, kinds: [Some(Kind::$a), Some(Kind::$b), Some(Kind::$c), None, None] }
+    };
+    ($opcode:literal $a:ident $b:ident $c:ident $d:ident) => {
+        Sig {
+            opcode: $opcode,
+            kinds: [Some(Kind::$a), Some(Kind::$b), Some(Kind::$c), Some(Kind::$d), None],
+        }
+    };
+    ($opcode:literal $a:ident $b:ident $c:ident $d:ident $e:ident) => {
+        Sig {
+            opcode: $opcode,
+            kinds: [Some(Kind::$a), Some(Kind::$b), Some(Kind::$c), Some(Kind::$d), Some(Kind::$e)],
+        }
+    };
 }
 
+/// The requests of `wl_display`.
 pub const DISPLAY_REQUESTS: SigTable<2> = SigTable {
     rows: [sig!(0 NewId), sig!(1 NewId)],
 };
 
+/// The request of `wl_registry`.
 pub const REGISTRY_REQUESTS: SigTable<1> = SigTable {
     rows: [sig!(0 Uint Text Uint NewId)],
 };
 
+/// The request of `wl_compositor` that is known: `create_surface`.
 pub const COMPOSITOR_REQUESTS: SigTable<1> = SigTable {
     rows: [sig!(0 NewId)],
 };
 
+/// The requests of `wl_surface` that are known: `destroy`, `damage` and `commit`.
 pub const SURFACE_REQUESTS: SigTable<3> = SigTable {
     rows: [sig!(0), sig!(2 Int Int Int Int), sig!(6)],
 };
 
+/// The requests of `wl_seat`.
 pub const SEAT_REQUESTS: SigTable<3> = SigTable {
     rows: [sig!(0 NewId), sig!(1 NewId), sig!(2 NewId)],
 };
 
+/// The requests of `zwp_text_input_manager_v3`.
 pub const TEXT_INPUT_MANAGER_REQUESTS: SigTable<2> = SigTable {
     rows: [sig!(0), sig!(1 NewId Object)],
 };
 
+/// The requests of `zwp_text_input_v3`.
 pub const TEXT_INPUT_REQUESTS: SigTable<8> = SigTable {
     rows: [
         sig!(0),
@@ -113,10 +138,12 @@ pub const TEXT_INPUT_REQUESTS: SigTable<8> = SigTable {
     ],
 };
 
+/// The requests of `zwp_input_method_manager_v2`.
 pub const INPUT_METHOD_MANAGER_REQUESTS: SigTable<2> = SigTable {
     rows: [sig!(0 Object NewId), sig!(1)],
 };
 
+/// The requests of `zwp_input_method_v2`.
 pub const INPUT_METHOD_REQUESTS: SigTable<7> = SigTable {
     rows: [
         sig!(0 Text),
@@ -129,26 +156,33 @@ pub const INPUT_METHOD_REQUESTS: SigTable<7> = SigTable {
     ],
 };
 
+/// The request of `zwp_input_popup_surface_v2`.
 pub const INPUT_POPUP_SURFACE_REQUESTS: SigTable<1> = SigTable { rows: [sig!(0)] };
 
+/// The request of `zwp_input_method_keyboard_grab_v2`.
 pub const KEYBOARD_GRAB_REQUESTS: SigTable<1> = SigTable { rows: [sig!(0)] };
 
+/// The events of `wl_display`.
 pub const DISPLAY_EVENTS: SigTable<2> = SigTable {
     rows: [sig!(0 Object Uint Text), sig!(1 Uint)],
 };
 
+/// The events of `wl_registry`.
 pub const REGISTRY_EVENTS: SigTable<2> = SigTable {
     rows: [sig!(0 Uint Text Uint), sig!(1 Uint)],
 };
 
+/// The event of `wl_callback`.
 pub const CALLBACK_EVENTS: SigTable<1> = SigTable {
     rows: [sig!(0 Uint)],
 };
 
+/// The event of `wl_seat`.
 pub const SEAT_EVENTS: SigTable<1> = SigTable {
     rows: [sig!(0 Uint)],
 };
 
+/// The events of `zwp_text_input_v3`.
 pub const TEXT_INPUT_EVENTS: SigTable<6> = SigTable {
     rows: [
         sig!(0 Object),
@@ -160,6 +194,7 @@ pub const TEXT_INPUT_EVENTS: SigTable<6> = SigTable {
     ],
 };
 
+/// The events of `zwp_input_method_v2`.
 pub const INPUT_METHOD_EVENTS: SigTable<7> = SigTable {
     rows: [
         sig!(0),
@@ -172,10 +207,12 @@ pub const INPUT_METHOD_EVENTS: SigTable<7> = SigTable {
     ],
 };
 
+/// The event of `zwp_input_popup_surface_v2`.
 pub const INPUT_POPUP_SURFACE_EVENTS: SigTable<1> = SigTable {
     rows: [sig!(0 Int Int Int Int)],
 };
 
+/// The events of `zwp_input_method_keyboard_grab_v2`.
 pub const KEYBOARD_GRAB_EVENTS: SigTable<4> = SigTable {
     rows: [
         sig!(0 Uint Descriptor Uint),

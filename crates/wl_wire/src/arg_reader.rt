@@ -1,4 +1,4 @@
-// The arguments of a message are read from the left.
+//! The arguments of a message are read from the left.
 ghost use Rattle.std.specs.Prelude.{◌≡◌, ◌<◌, ◌^◌, ◌↔◌, List, [], IsOk};
 ghost use Rattle.std.specs.Option.{option_copied};
 ghost use Rattle.wl_wire.specs.Reading.{Reads, Gives, word_at, int_at, text_at, string_behind};
@@ -6,9 +6,11 @@ ghost use Rattle.wl_wire.specs.Reading.{string_at};
 ghost use Rattle.wl_wire.specs.Spelled.{TakesSpelled, GivesSpelled, IsUint, IsInt, IsString};
 
 use crate::valid::text_of;
+use thiserror::Error;
 
 /// No argument of the kind stands there.
-#[derive(Clone, Copy, Debug, PartialEq, Eq)]
+#[derive(Clone, Copy, Debug, PartialEq, Eq, Error)]
+#[error("no argument of the kind stands there")]
 pub struct Malformed;
 
 /// Reads the arguments of a body, one after the other. After an `Err` it stands where it stood before.

@@ -1,4 +1,4 @@
-// The arguments of a message are written from the left.
+//! The arguments of a message are written from the left.
 ghost use Rattle.std.specs.Prelude.{◌≡◌, ◌+◌, ◌-◌, ◌%◌, ◌<◌, ◌≤◌, ◌^◌, List, length, [], ◌++◌};
 ghost use Rattle.std.specs.Prelude.{drop};
 

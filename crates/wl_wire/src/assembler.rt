@@ -1,4 +1,4 @@
-// The bytes of a peer are put together to messages, however they were cut.
+//! The bytes of a peer are put together to messages, however they were cut.
 ghost use Rattle.std.specs.Prelude.{◌≡◌, ℕ, ◌+◌, ◌-◌, ◌*◌, ◌<◌, ◌≤◌, ◌^◌, ◌↔◌, ◌++◌, List, []};
 ghost use Rattle.std.specs.Prelude.{length, take, drop, min, vec_len, vec_capacity, IsTrue, IfOk};
 ghost use Rattle.wl_wire.specs.Messages.{size_of, id_of, opcode_of, body_of, IsGoodSize, IsPartial};

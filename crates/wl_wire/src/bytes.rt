@@ -1,4 +1,4 @@
-// Bytes that contracts see as a list of numbers.
+//! Bytes that contracts see as a list of numbers.
 use smallvec::SmallVec;
 use std::alloc::Global;
 use std::marker::Model;

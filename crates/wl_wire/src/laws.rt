@@ -1,4 +1,4 @@
-// A law of the definitions, proved where its function stands.
+//! A law of the definitions, proved where its function stands.
 ghost use Rattle.std.specs.Prelude.{ℕ, List};
 ghost use Rattle.wl_wire.specs.Messages.{messages, IsLongest};
 

@@ -1,4 +1,4 @@
-// The wire: messages from bytes, their arguments, and the texts and bytes that everything above speaks of.
+//! The wire: messages from bytes, their arguments, and the texts and bytes that everything above speaks of.
 #![tactic(auto)]
 
 mod arg_reader;

@@ -1,4 +1,4 @@
-// A message whose body is not read yet.
+//! A message whose body is not read yet.
 
 /// A whole message: the object that it is sent to, its opcode and its body. Which arguments the body has only the
 /// object's interface tells.

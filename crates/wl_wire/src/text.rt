@@ -1,4 +1,4 @@
-// A text, which contracts see as its bytes.
+//! A text, which contracts see as its bytes.
 use crate::valid::text_of;
 use std::alloc::Global;
 use std::marker::Model;

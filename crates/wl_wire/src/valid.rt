@@ -1,4 +1,4 @@
-// Whether bytes are a text.
+//! Whether bytes are a text.
 ghost use Rattle.std.specs.Prelude.{◌≡◌, IfSome, IfNone, IsTrue, false};
 ghost use Rattle.wl_wire.specs.Texts.{has_no_zero, is_plain, is_text};
 

@@ -1,4 +1,4 @@
-use Rattle.std.proofs.Common.{◌≡◌, true, sym, subst}
+use Rattle.std.proofs.Common.{◌≡◌, true, sym, subst, rules}
 use Rattle.plain_run.specs.Run.{reads_nothing}
 use Rattle.plain_run.proofs.MigrationReplays.{migrates}
 use Rattle.plain_run.proofs.Runs.{front_of, decided_of, decides, other_words, law_of, law_of_none}
@@ -33,3 +33,12 @@ returns-in-Some-clause-migrates g c = migrates
 
 pub returns-in-None-clause-migrates : goal.returns-in-None-clause-migrates
 returns-in-None-clause-migrates g c = migrates
+
+pub returns-in-Some-clause-write_fault : goal.returns-in-Some-clause-write_fault
+returns-in-Some-clause-write_fault g c = search rules
+
+pub returns-in-Some-clause-bad_words : goal.returns-in-Some-clause-bad_words
+returns-in-Some-clause-bad_words g c = search rules
+
+pub returns-in-Some-clause-read_fault : goal.returns-in-Some-clause-read_fault
+returns-in-Some-clause-read_fault g c = search rules

@@ -15,4 +15,4 @@ returns c =
     c.script-played.result c.script-played.new.self) c.in_ok-trial.ensures c.script-played.ensures in
     script_shown c.args.limits c.args.script.now s c.ended.result read.ensures.exact
     (c.ended.ensures (trial_played c.args.limits s) c.script-played.new.self run
-    (ap (λ (t : TrialPlay). t.shown) (sym c.trial.view_is)))
+    (sym c.into_shown.ensures))

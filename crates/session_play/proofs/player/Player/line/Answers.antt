@@ -1,4 +1,4 @@
-use Rattle.std.proofs.Common.{sym, ap, subst}
+use Rattle.std.proofs.Common.{sym, ap, subst, rules}
 use Rattle.session_play.specs.Played.{Play, line_played}
 use Rattle.session_play.specs.Playing.{Playing, IsMore, IsFront}
 use Rattle.session_play.proofs.TextsSince.{short_line}
@@ -13,3 +13,6 @@ returns-in_default-None-clause-full c = λ unspent.
     (short_line c.args.self.now.limits.store p c.printed.result.0 c.args.self.now.play c.printed.new.self.play
     c.new-in_default-None.result
     (c.printed.ensures.played unspent) c.printed.ensures.grew c.new-in_default-None.ensures.bytes)
+
+pub returns-in-Err-Some-clause-full : goal.returns-in-Err-Some-clause-full
+returns-in-Err-Some-clause-full c = search rules
