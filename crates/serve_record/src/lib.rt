@@ -1,4 +1,4 @@
-//! A hub's session as text: its recorded session, which replays to the same journal.
+//! A hub's session as text: its recorded session. That it replays to the same journal is tested.
 #![tactic(auto)]
 
 mod entry_lines;

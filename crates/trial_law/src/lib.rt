@@ -20,8 +20,8 @@ pub fn rounds_end_quiet()
     ensures { RoundsEndQuiet }
 {}
 
-/// What a trial shows is a line for each `show` in turn: the text that its field has in the trial
-/// that the actions before it play.
+/// What a trial shows is a line for each `show` that it comes to, in turn: the text that its field
+/// has in the trial that the actions before it play.
 #[tactic(auto, using(crate::proofs::ShownLines::shown_in_turn))]
 pub fn shown_in_turn()
     ensures { ShownInTurn }
@@ -44,8 +44,8 @@ pub fn texts_are_relayed()
     ensures { TextsAreRelayed }
 {}
 
-/// After an action, a field that isn't paused heard all that was put for its peer, so only a paused
-/// field is behind.
+/// After an action, unless the journal is full, a field that isn't paused heard all that was put
+/// for its peer, so only a paused field is behind.
 #[tactic(auto, using(crate::proofs::UnpausedHearAll::unpaused_hear_all))]
 pub fn unpaused_hear_all()
     ensures { UnpausedHearAll }
