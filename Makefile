@@ -1,11 +1,10 @@
-# `make demo` replays two examples, unproved; `make build` proves and builds the program, and replays one; `make examples`
+# `make demo` replays an example, unproved; `make build` proves and builds the program, and replays one; `make examples`
 # compares what it makes of all examples, and `make cost` counts the instructions of a step (by valgrind): both want the
 # program built. `make test` is the gate; `make gate-cost` runs it from nothing, on a machine that does nothing else, and
 # prints what each crate costs; `make claims` checks that each README names calls and clauses that are there.
 .PHONY: demo build examples test gate-cost cost claims
 demo:
 	cd crates/wlim && rt try -- replay-acts < ../../examples/one_string.acts
-	cd crates/wlim && rt try -- replay < ../../examples/one_batch.session
 
 build:
 	cd crates/wlim && rt run -- replay < ../../examples/one_batch.session
