@@ -51,7 +51,8 @@ fn tell_rest(
 /// What the acts of a list tell, one after the other, by looking back over all acts before each:
 /// what the rules say, computed as they stand. The acts are numbered from 1, and fewer than 2^32
 /// are taken. `NoMemory` is its one error. The time grows with about the third power of the number
-/// of acts, the fourth where methods commit; each act before is a frame of the stack.
+/// of acts, the fourth where methods commit or there are many popups; each act before is a frame of
+/// the stack.
 #[tactic(auto, using(crate::proofs::Runs::told_after_history))]
 pub fn plain_told(alloc: Global, acts: &[Act]) -> Result<Vec<Told>, NoMemory>
     requires { length acts.now < 2 ^ 32 }
