@@ -25,6 +25,8 @@ mod popup_place_tests;
 #[cfg(test)]
 mod trial_field_tests;
 #[cfg(test)]
+mod virt_keys_tests;
+#[cfg(test)]
 mod wio_core_tests;
 #[cfg(test)]
 mod wl_wire_tests;

@@ -8,7 +8,7 @@ use Rattle.kbd_grab.specs.Keys.{Call, as_first, to_standing, grab_standing, is_d
 use Rattle.kbd_grab.specs.declared.keyboard.Route.TheVariants.{Pass, TooMany}
 use Rattle.kbd_grab.specs.Keys.Call.{Key}
 use Rattle.std.proofs.lemmas.Option.{none-some}
-use Rattle.kbd_grab.specs.Keyboard.{Keyboard, StandsFor, turned, turned_at, answer_at}
+use Rattle.kbd_grab.specs.Keyboard.{Keyboard, StandsFor, turned, turned_at, answer_at, routed_at}
 use Rattle.kbd_grab.proofs.History.{down_kept, number_kept, number_taken, number_released, up_kept, number_up}
 
 -- what a map has at a key, by whether the key is down
@@ -122,3 +122,9 @@ answer_is calls keyboard key pressed s =
     at true pressed = refl
     at false true = refl
     at false false = refl
+
+-- a keyboard's own first presses go to the grab that stands
+pub same_answer : (here : Option (Option ℕ)) (standing : Option ℕ) (number : ℕ) (pressed : Bool) → routed_at here standing standing number pressed ≡ answer_at here standing number pressed
+same_answer (Some went) standing number pressed = refl
+same_answer None standing number true = refl
+same_answer None standing number false = refl

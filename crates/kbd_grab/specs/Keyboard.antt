@@ -82,3 +82,10 @@ abbrev pub answer_at : (here : Option (Option ℕ)) (standing : Option ℕ) (num
 answer_at (Some went) standing number pressed = as_first standing went
 answer_at None standing number true = (if nat_lt number 64 then to_standing standing else TooMany)
 answer_at None standing number false = Pass
+
+-- the same of any list of held keys: a first press goes to the grab `opens`, or to the shell, another key as its first
+-- press, where `standing` stands
+abbrev pub routed_at : (here : Option (Option ℕ)) (opens standing : Option ℕ) (number : ℕ) (pressed : Bool) → Route
+routed_at (Some went) opens standing number pressed = as_first standing went
+routed_at None opens standing number true = (if nat_lt number 64 then to_standing opens else TooMany)
+routed_at None opens standing number false = Pass

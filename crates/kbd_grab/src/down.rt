@@ -4,7 +4,7 @@ ghost use Rattle.std.specs.Option.{option_map};
 ghost use Rattle.std.specs.Vec.{vec_len, vec_capacity};
 ghost use Rattle.std.specs.FinMap as map;
 ghost use Rattle.kbd_grab.specs.Keys.{to_standing, as_first};
-ghost use Rattle.kbd_grab.specs.Keyboard.{turned_at, answer_at};
+ghost use Rattle.kbd_grab.specs.Keyboard.{turned_at, routed_at};
 ghost use Rattle.kbd_grab.specs.DownList.{keys_of, IsTidy};
 
 use crate::keyboard::{Label, Route};
@@ -19,13 +19,20 @@ pub struct Down {
     pub went: Option<Label>,
 }
 
-// A press (`pressed`) or a release of `key` while the grab `standing` stands, or none: where it goes.
-pub fn turn(down: &mut Vec<Down>, standing: Option<Label>, key: u32, pressed: bool) -> Route
+// A press (`pressed`) or a release of `key` while the grab `standing` stands, or none: where it goes. A first press
+// goes to `opens`.
+pub fn turn(
+    down: &mut Vec<Down>,
+    opens: Option<Label>,
+    standing: Option<Label>,
+    key: u32,
+    pressed: bool,
+) -> Route
     requires { IsTidy down.old.items (vec_capacity down.old) }
     ensures route { let keys = keys_of down.old.items in
-        result ≡ answer_at (map.get keys key) standing (map.len keys) pressed }
+        result ≡ routed_at (map.get keys key) opens standing (map.len keys) pressed }
     ensures keys { let keys = keys_of down.old.items in
-        keys_of down.new.items ≡ turned_at (map.get keys key) standing keys key pressed }
+        keys_of down.new.items ≡ turned_at (map.get keys key) opens keys key pressed }
     ensures tidy { IsTidy down.new.items (vec_capacity down.new) }
 {
     match (find_down(down, key), pressed) {
@@ -34,26 +41,23 @@ pub fn turn(down: &mut Vec<Down>, standing: Option<Label>, key: u32, pressed: bo
             release(down, key);
             as_first(standing, held.went)
         }
-        (None, true) => press(down, standing, key),
+        (None, true) => press(down, opens, key),
         (None, false) => Route::Pass,
     }
 }
 
 // A press of a key that is up.
-fn press(down: &mut Vec<Down>, standing: Option<Label>, key: u32) -> Route
+fn press(down: &mut Vec<Down>, opens: Option<Label>, key: u32) -> Route
     requires tidy { IsTidy down.old.items (vec_capacity down.old) }
     requires up { map.get (keys_of down.old.items) key ≡ None }
-    ensures route { result ≡ answer_at None standing (map.len (keys_of down.old.items)) true }
-    ensures keys { keys_of down.new.items ≡ turned_at None standing (keys_of down.old.items) key
+    ensures route { result ≡ routed_at None opens None (map.len (keys_of down.old.items)) true }
+    ensures keys { keys_of down.new.items ≡ turned_at None opens (keys_of down.old.items) key
         true }
     ensures tidy { IsTidy down.new.items (vec_capacity down.new) }
 {
     if down.len() < KEYS_DOWN {
-        let _ = down.push(Down {
-            key,
-            went: standing,
-        });
-        to_standing(standing)
+        let _ = down.push(Down { key, went: opens });
+        to_standing(opens)
     } else {
         Route::TooMany
     }

@@ -7,7 +7,7 @@ ghost use Rattle.kbd_grab.specs.Keys.{told_mods, grab_standing};
 ghost use Rattle.kbd_grab.specs.Keys.Call.{Stand, Fall, Key, TellKeymap, TellRepeat, TellMods};
 ghost use Rattle.kbd_grab.specs.Keyboard.{StandsFor, turned, answer_at};
 
-use crate::down::{Down, KEYS_DOWN, turn};
+use crate::held::HeldKeys;
 use crate::keyboard::{Keymap, Label, Mods, Repeat, Route};
 use std::alloc::Global;
 use std::marker::Model;
@@ -21,16 +21,14 @@ use wio_core::NoMemory;
 #[derive(Debug, Drop)]
 pub struct Grab {
     standing: Option<Label>,
-    down: Vec<Down>,
+    down: HeldKeys,
     keymap: Option<Keymap>,
     repeat: Option<Repeat>,
     mods: Option<Mods>,
 }
 
 impl Model for Grab {
-    ghost use Rattle.std.specs.Vec.{vec_capacity};
     ghost use Rattle.kbd_grab.specs.Keyboard.{Keyboard, keyboard_code};
-    ghost use Rattle.kbd_grab.specs.DownList.{keys_of, IsTidy};
 
     ghost Value = { Keyboard };
 
@@ -38,13 +36,11 @@ impl Model for Grab {
 
     ghost view = { λ a. record {
       standing = a.standing;
-      down = keys_of a.down.items;
+      down = a.down;
       keymap = a.keymap;
       repeat = a.repeat;
       mods = a.mods;
     } };
-
-    ghost invariant = { λ a. IsTidy a.down.items (vec_capacity a.down) };
 }
 
 impl Grab {
@@ -54,7 +50,7 @@ impl Grab {
     {
         Ok(Self {
             standing: None,
-            down: Vec::with_capacity(alloc, KEYS_DOWN)?,
+            down: HeldKeys::new(alloc)?,
             keymap: None,
             repeat: None,
             mods: None,
@@ -106,7 +102,7 @@ impl Grab {
         ensures refused { result ≡ Route.TooMany → self.new ≡ self.old }
         ensures keys { self.new ≡ record self.old { down = turned self.old key pressed } }
     {
-        turn(&mut self.down, self.standing, key, pressed)
+        self.down.turn(self.standing, self.standing, key, pressed)
     }
 
     /// The shell told this keymap.

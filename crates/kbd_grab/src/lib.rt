@@ -5,7 +5,9 @@
 
 mod down;
 mod grab;
+mod held;
 mod keyboard;
 
 pub use grab::Grab;
+pub use held::HeldKeys;
 pub use keyboard::{Keymap, Label, Mods, Repeat, Route};

@@ -11,6 +11,7 @@ kind_of kinds.Surface = model.SurfaceKind
 kind_of kinds.Field = model.FieldKind
 kind_of kinds.Method = model.MethodKind
 kind_of kinds.Thing = model.ThingKind
+kind_of kinds.Board = model.BoardKind
 kind_of (kinds.Popup method surface) = model.PopupKind method surface
 kind_of (kinds.Grab method) = model.GrabKind method
 

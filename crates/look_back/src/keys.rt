@@ -89,7 +89,7 @@ fn grab_stands(log: &[Act], grab: Label) -> bool
 }
 
 // A key's state is that of a press (`wl_keyboard.key_state`).
-fn is_press(state: u32) -> bool
+pub(crate) fn is_press(state: u32) -> bool
     ensures { result ≡ is_press state }
 {
     state == 1
@@ -101,7 +101,7 @@ fn has_key(key: u32, keys: &[u32]) -> bool
     keys.iter().any(|other| key == *other)
 }
 
-fn with_key(key: u32, keys: Vec<u32>) -> Result<Vec<u32>, NoMemory>
+pub(crate) fn with_key(key: u32, keys: Vec<u32>) -> Result<Vec<u32>, NoMemory>
     ensures { IfOk result (λ all. all.items ≡ with_key key keys.items) }
 {
     if has_key(key, &keys) {
@@ -210,7 +210,7 @@ pub enum Goes {
 }
 
 // To the grab that stands, else to the shell.
-fn to_standing(grab: Option<Label>) -> Goes
+pub(crate) fn to_standing(grab: Option<Label>) -> Goes
     ensures { goes_of result ≡ to_standing grab }
 {
     match grab {
@@ -220,7 +220,7 @@ fn to_standing(grab: Option<Label>) -> Goes
 }
 
 // Where the first press went, and nowhere where that is a grab that doesn't stand.
-fn as_first(log: &[Act], grab: Option<Label>) -> Goes
+pub(crate) fn as_first(log: &[Act], grab: Option<Label>) -> Goes
     requires { length log.now < 2 ^ 32 }
     ensures { goes_of result ≡ as_first log.now grab }
 {

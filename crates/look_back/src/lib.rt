@@ -3,6 +3,7 @@
 #![tactic(auto)]
 
 pub mod activation;
+pub mod boards;
 pub mod current;
 pub mod focus;
 pub mod hold;

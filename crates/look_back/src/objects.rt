@@ -2,8 +2,9 @@
 ghost use Rattle.std.specs.Prelude.{◌≡◌, ◌==◌, ◌<◌, ◌^◌, length, filter, IfOk};
 ghost use Rattle.relay_model.specs.Objects.{next, is_at, is_same, owner, method_in, surface_in};
 ghost use Rattle.relay_model.specs.Objects.{made, maker, remains, object, alive, peer_of, is_field};
-ghost use Rattle.relay_model.specs.Objects.{is_surface, is_method, is_peer, is_popup, method_of};
-ghost use Rattle.relay_model.specs.Objects.{surface_of, labels, fields, popups, has_popup};
+ghost use Rattle.relay_model.specs.Objects.{is_surface, is_method, is_peer, is_popup, is_board};
+ghost use Rattle.relay_model.specs.Objects.{method_of, surface_of, labels, fields, popups};
+ghost use Rattle.relay_model.specs.Objects.{has_popup};
 ghost use Rattle.look_back.specs.Objects.{option_of};
 
 use relay_model::{Act, Label};
@@ -18,6 +19,7 @@ enum Kind {
     Field,
     Method,
     Thing,
+    Board,
     Popup { method: Label, surface: Label },
     Grab { method: Label },
 }
@@ -78,6 +80,7 @@ fn made(act: &Act, label: Label, whose: Option<Label>) -> Option<LiveObject>
         Act::Registry { peer, .. } | Act::Seat { peer } | Act::Thing { peer } => {
             (Kind::Thing, *peer)
         }
+        Act::VBoard { peer } => (Kind::Board, *peer),
         Act::Popup { method, surface } => {
             let kind = Kind::Popup {
                 method: *method,
@@ -178,6 +181,16 @@ pub fn is_peer(log: &[Act], label: Label) -> bool
 {
     match object(log, label) {
         Some(object) => matches!(object.kind, Kind::Peer),
+        None => false,
+    }
+}
+
+/// The label is that of a live board.
+pub fn is_board(log: &[Act], label: Label) -> bool
+    ensures { result ≡ is_board log.now label }
+{
+    match object(log, label) {
+        Some(object) => matches!(object.kind, Kind::Board),
         None => false,
     }
 }

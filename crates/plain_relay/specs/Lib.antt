@@ -1,4 +1,5 @@
 pub mod Telling
+pub mod BoardKey
 pub mod Batch
 pub mod Told
 pub mod Plain

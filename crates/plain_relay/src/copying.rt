@@ -118,6 +118,26 @@ pub fn copy_of_act(alloc: Global, act: &Act) -> Result<Act, NoMemory>
             peer: *peer,
             bytes: *bytes,
         },
+        Act::VBoard { peer } => Act::VBoard { peer: *peer },
+        Act::VKeymap { board, keymap } => Act::VKeymap {
+            board: *board,
+            keymap: *keymap,
+        },
+        Act::VKey {
+            board,
+            time,
+            key,
+            state,
+        } => Act::VKey {
+            board: *board,
+            time: *time,
+            key: *key,
+            state: *state,
+        },
+        Act::VMods { board, mods } => Act::VMods {
+            board: *board,
+            mods: *mods,
+        },
         Act::Idle => Act::Idle,
     };
     Ok(copy)

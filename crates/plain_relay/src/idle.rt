@@ -1,13 +1,17 @@
 //! Idle acts, which change nothing and tell nothing.
-ghost use Rattle.std.specs.Prelude.{◌≡◌, ◌<◌, ◌^◌, length, IfOk};
+ghost use Rattle.std.specs.Prelude.{◌≡◌, ◌<◌, ◌^◌, ◌&&◌, not, length, IfOk};
+ghost use Rattle.relay_model.specs.Boards.{sends, board_refused};
 ghost use Rattle.relay_model.specs.Idle.{is_boundary, is_place, is_sized, is_live, cleaned};
 
 use crate::copying::copy_of_act;
+use look_back::boards::{board_refused, sends};
 use look_back::focus::{entered, focus};
 use look_back::keys::is_refused;
-use look_back::objects::{alive, has_popup, is_at, is_field, is_method, is_peer, is_surface};
+use look_back::objects::{
+    alive, has_popup, is_at, is_board, is_field, is_method, is_peer, is_surface,
+};
 use popup_place::Rect;
-use relay_model::{Act, Text};
+use relay_model::{Act, Label, Text};
 use std::alloc::Global;
 use wio_core::NoMemory;
 
@@ -32,6 +36,22 @@ fn is_sized(rect: Rect) -> bool
     rect.width >= 0 && rect.height >= 0
 }
 
+// The board may send the key, and no press of it is refused.
+fn sends_key(
+    alloc: Global,
+    older: &[Act],
+    board: Label,
+    key: u32,
+    state: u32,
+) -> Result<bool, NoMemory>
+    requires { length older.now < 2 ^ 32 }
+    ensures { IfOk result (λ live. live ≡ (sends older.now board
+        && not (board_refused older.now board key state))) }
+{
+    let refused = board_refused(alloc, older, board, key, state)?;
+    Ok(sends(older, board) && !refused)
+}
+
 // The act does something after these acts.
 fn is_live(alloc: Global, act: &Act, older: &[Act]) -> Result<bool, NoMemory>
     requires { length older.now < 2 ^ 32 }
@@ -48,6 +68,7 @@ fn is_live(alloc: Global, act: &Act, older: &[Act]) -> Result<bool, NoMemory>
         | Act::Sync { peer }
         | Act::Seat { peer }
         | Act::Thing { peer }
+        | Act::VBoard { peer }
         | Act::Bad { peer, .. } => is_peer(older, *peer),
         Act::Popup { method, surface } => {
             let taken = has_popup(alloc, older, *surface)?;
@@ -75,6 +96,14 @@ fn is_live(alloc: Global, act: &Act, older: &[Act]) -> Result<bool, NoMemory>
         Act::Cursor { field, rect } => entered(older, *field) && is_sized(*rect),
         Act::Commit { field } => is_field(older, *field),
         Act::Key { key, state, .. } => !is_refused(alloc, older, *key, *state)?,
+        Act::VKeymap { board, .. } => is_board(older, *board),
+        Act::VKey {
+            board,
+            key,
+            state,
+            ..
+        } => sends_key(alloc, older, *board, *key, *state)?,
+        Act::VMods { board, .. } => sends(older, *board),
     };
     Ok(live)
 }

@@ -6,21 +6,23 @@ ghost use Rattle.relay_model.specs.Hold.{holder};
 ghost use Rattle.relay_model.specs.Activation.{serving, fresh};
 ghost use Rattle.relay_model.specs.Told.{to, to_holder, deleted, key_told, keymap_said};
 ghost use Rattle.relay_model.specs.Told.{repeat_said, mods_said, keyboard_said, to_grab, synced};
-ghost use Rattle.relay_model.specs.Told.{own};
+ghost use Rattle.relay_model.specs.Told.{board_mods_told, own};
 ghost use Rattle.look_back.specs.Newest.{at_newest};
 ghost use Rattle.relay_model.specs.Keys.{key_route, last_keymap, last_repeat, last_mods};
 ghost use Rattle.look_back.specs.Keys.{goes_of};
 ghost use Rattle.plain_relay.specs.Telling.{Tells};
+ghost use Rattle.plain_relay.specs.BoardKey.{board_key_told};
 
 use crate::batch::tell_group;
 use crate::popups::{tell_each_popup, tell_popup};
 use crate::telling::{SHELL, tell};
 use look_back::activation::fresh;
+use look_back::boards::{board_route, grab_for};
 use look_back::hold::holder;
 use look_back::keys::{Goes, key_route, last_keymap, last_mods, last_repeat, standing};
 use look_back::objects::{is_at, next, peer_of};
 use look_back::seat::serving;
-use relay_model::{Act, Interface, Label, Role, Said, Told};
+use relay_model::{Act, Interface, Label, Mods, Role, Said, Told};
 use std::alloc::Global;
 use wio_core::NoMemory;
 
@@ -105,6 +107,45 @@ fn tell_routed(
 {
     let goes = key_route(alloc, older, key, state)?;
     tell_key(next(older) as u32, time, key, state, goes, told)
+}
+
+// Tells a key of the board where it goes after these acts.
+fn tell_board_key(
+    alloc: Global,
+    older: &[Act],
+    act: &Act,
+    told: &mut Vec<Told>,
+) -> Result<(), NoMemory>
+    requires { length older.now + 1 < 2 ^ 32 }
+    ensures { Tells result told.old told.new (board_key_told act.now older.now) }
+{
+    match act {
+        Act::VKey {
+            board,
+            time,
+            key,
+            state,
+        } => {
+            let goes = board_route(alloc, older, *board, *key, *state)?;
+            tell_key(next(older) as u32, *time, *key, *state, goes, told)
+        }
+        _ => Ok(()),
+    }
+}
+
+// Tells modifiers of a board, with the number of their act as their serial.
+fn tell_board_mods(
+    serial: u32,
+    mods: Mods,
+    grab: Option<Label>,
+    told: &mut Vec<Told>,
+) -> Result<(), NoMemory>
+    ensures { Tells result told.old told.new (board_mods_told serial mods grab) }
+{
+    match grab {
+        Some(grab) => tell(grab, Said::Mods { serial, mods }, told),
+        None => tell(SHELL, Said::VMods(mods), told),
+    }
 }
 
 fn tell_keymap(grab: Label, log: &[Act], told: &mut Vec<Told>) -> Result<(), NoMemory>
@@ -224,6 +265,10 @@ pub fn tell_own(alloc: Global, log: &[Act], told: &mut Vec<Told>) -> Result<(), 
                 }
                 Act::Keymap(keymap) => tell_grab(standing(older), Said::Keymap(*keymap), told),
                 Act::Repeat(repeat) => tell_grab(standing(older), Said::Repeat(*repeat), told),
+                Act::VKey { .. } => tell_board_key(alloc, older, act, told),
+                Act::VMods { board, mods } => {
+                    tell_board_mods(number, *mods, grab_for(older, *board), told)
+                }
                 Act::Registry { role, .. } => tell_globals(number, *role, told),
                 Act::Sync { peer } => tell_synced(number, *peer, told),
                 Act::Seat { .. } => tell(number, Said::Capabilities { value: 0 }, told),

@@ -6,25 +6,26 @@ use Rattle.relay_model.specs.declared.fault.Fault.{Fault}
 use Rattle.relay_model.specs.declared.role.Role.{Role}
 use Rattle.relay_model.specs.declared.said.Said.TheVariants as said
 use Rattle.relay_model.specs.Objects as model
-use Rattle.relay_model.specs.Objects.{ThingKind, owner, object}
+use Rattle.relay_model.specs.Objects.{ThingKind, BoardKind, owner, object}
 use Rattle.relay_model.specs.Focus.{where_alive}
 use Rattle.relay_model.specs.Hold.{kept, holder}
 use Rattle.relay_model.specs.Activation.{serving, makes_serving, updates, notice}
 use Rattle.relay_model.specs.Globals.{globals_told}
+use Rattle.relay_model.specs.Keys.{Keymap, Mods}
 use Rattle.relay_model.specs.Told.{to, leaves, enters, own, synced, told_by}
 use Rattle.relay_model.proofs.Histories.{IsHistory}
 use Rattle.relay_model.proofs.FocusLaws.{IsSteady, focus_same}
 use Rattle.relay_model.proofs.HoldLaws.{kept_same}
 use Rattle.relay_model.proofs.ActivationLaws.{serving_same}
-use Rattle.seat_objects.specs.declared.object.Kind.TheVariants.{Thing}
+use Rattle.seat_objects.specs.declared.object.Kind.TheVariants.{Thing, Board}
 use Rattle.relay_core.specs.Machine.{State, counted, made}
 use Rattle.relay_core.specs.Stands.{Stands, entries}
-use Rattle.relay_core.proofs.Calm.{IsCalm, keys_same, registry_calm, sync_calm, seat_calm, thing_calm, bad_calm}
+use Rattle.relay_core.proofs.Calm.{IsCalm, keys_same, registry_calm, sync_calm, seat_calm, thing_calm, bad_calm, vboard_calm, vkeymap_calm, vkey_calm, vmods_calm}
 use Rattle.relay_core.proofs.Keyed.{says_own}
 use Rattle.relay_core.proofs.KeptFields.{IsSilent}
 use Rattle.relay_core.proofs.Moving.{something_new, entries_stay, entries_same}
 use Rattle.relay_core.proofs.Served.{LeavesEdits, served_notified}
-use Rattle.relay_core.proofs.Steady.{registry_steady, sync_steady, seat_steady, thing_steady, bad_steady, registry_silent, sync_silent, seat_silent, thing_silent, bad_silent, all_stay, notice_quiet}
+use Rattle.relay_core.proofs.Steady.{registry_steady, sync_steady, seat_steady, thing_steady, bad_steady, vboard_steady, vkeymap_steady, vkey_steady, vmods_steady, vboard_silent, vkeymap_silent, vkey_silent, vmods_silent, registry_silent, sync_silent, seat_silent, thing_silent, bad_silent, all_stay, notice_quiet}
 use Rattle.relay_core.proofs.Steps.{one_more}
 
 -- An act that says nothing of the focus, of fields, of methods, of the screen and of the keyboard.
@@ -110,6 +111,62 @@ bad_aside p fault x = record {
   entering = λ log. refl;
 }
 
+pub vboard_aside : (p : ℕ) → IsAside (acts.VBoard p)
+vboard_aside p = record {
+  steady = vboard_steady p;
+  silent = vboard_silent p;
+  calm = vboard_calm p;
+  holds = λ log. refl;
+  serves = λ log. refl;
+  serving_new = λ log. refl;
+  updating = λ log. refl;
+  edits = λ m rest. refl;
+  leaving = λ log. refl;
+  entering = λ log. refl;
+}
+
+pub vkeymap_aside : (v : ℕ) (keymap : Keymap) → IsAside (acts.VKeymap v keymap)
+vkeymap_aside v keymap = record {
+  steady = vkeymap_steady v keymap;
+  silent = vkeymap_silent v keymap;
+  calm = vkeymap_calm v keymap;
+  holds = λ log. refl;
+  serves = λ log. refl;
+  serving_new = λ log. refl;
+  updating = λ log. refl;
+  edits = λ m rest. refl;
+  leaving = λ log. refl;
+  entering = λ log. refl;
+}
+
+pub vkey_aside : (v time key state : ℕ) → IsAside (acts.VKey v time key state)
+vkey_aside v time key state = record {
+  steady = vkey_steady v time key state;
+  silent = vkey_silent v time key state;
+  calm = vkey_calm v time key state;
+  holds = λ log. refl;
+  serves = λ log. refl;
+  serving_new = λ log. refl;
+  updating = λ log. refl;
+  edits = λ m rest. refl;
+  leaving = λ log. refl;
+  entering = λ log. refl;
+}
+
+pub vmods_aside : (v : ℕ) (mods : Mods) → IsAside (acts.VMods v mods)
+vmods_aside v mods = record {
+  steady = vmods_steady v mods;
+  silent = vmods_silent v mods;
+  calm = vmods_calm v mods;
+  holds = λ log. refl;
+  serves = λ log. refl;
+  serving_new = λ log. refl;
+  updating = λ log. refl;
+  edits = λ m rest. refl;
+  leaving = λ log. refl;
+  entering = λ log. refl;
+}
+
 held_aside : (act : Act) (log : List Act) → IsHistory log → IsAside act → holder (act ∷ log) ≡ holder log
 held_aside act log i k = k.holds log ∙ kept_same act log i k.steady
 
@@ -146,6 +203,25 @@ stands_thing s log act p i k n h = record {
   screen_now = h.screen_now ∙ sym (k.calm.screens log);
   keys_now = keys_same act log s.keys k.calm (k.serves log) k.steady.keeps h.keys_now;
 }
+
+-- one that makes a board
+pub stands_board_made : (s : State) (log : List Act) (p : ℕ) → IsHistory log → Stands s log → Stands (made p Board (counted s)) (acts.VBoard p ∷ log)
+stands_board_made s log p i h =
+    let act : Act = acts.VBoard p in
+    let k : IsAside act = vboard_aside p in
+    record {
+      acts_now = one_more s act log h;
+      objects_now =
+          ap (λ n. s.objects ++ record { label = n + 1; peer = p; kind = Board } ∷ []) h.acts_now ∙
+          ap (λ os. os ++ record { label = length log + 1; peer = p; kind = Board } ∷ []) h.objects_now ∙
+          sym (entries_stay act log (all_stay act log i k.steady k.silent (k.calm.areas log) (k.holds log)) ∙
+          ap (λ es. entries log ++ es) (something_new act log (record { kind = BoardKind; peer = p }) refl));
+      focus_now = h.focus_now ∙ sym (focus_same act log i k.steady);
+      holder_now = h.holder_now ∙ sym (held_aside act log i k);
+      served_now = served_notified s act log None h.served_now (serving_same act log (k.serves log) k.steady) (quiet_aside act log i k) k.edits;
+      screen_now = h.screen_now ∙ sym (k.calm.screens log);
+      keys_now = keys_same act log s.keys k.calm (k.serves log) k.steady.keeps h.keys_now;
+    }
 
 -- it tells its own events alone
 pub says_aside : (act : Act) (log : List Act) → IsHistory log → IsAside act → own act log ≡ told_by act log

@@ -8,7 +8,7 @@ use Rattle.relay_model.specs.declared.fault.Fault.{Fault}
 use Rattle.relay_model.specs.declared.role.Role.{Role}
 use Rattle.relay_model.specs.Focus.{where_alive}
 use Rattle.relay_model.specs.Activation.{serving}
-use Rattle.relay_model.specs.Keys.{stands_on, standing}
+use Rattle.relay_model.specs.Keys.{Keymap, Mods, stands_on, standing}
 use Rattle.relay_model.specs.Popups.{area, screen}
 use Rattle.kbd_grab.specs.Keyboard.{Keyboard, StandsFor}
 use Rattle.relay_core.specs.KeyCalls.{fall_calls, calls_of, key_calls}
@@ -112,6 +112,18 @@ thing_calm p = record { areas = λ log y. refl; screens = λ log. refl; calls = 
 
 pub bad_calm : (p : ℕ) (fault : Fault) (x : ℕ) → IsCalm (acts.Bad p fault x)
 bad_calm p fault x = record { areas = λ log y. refl; screens = λ log. refl; calls = λ log. refl; grabs = λ log. refl }
+
+pub vboard_calm : (p : ℕ) → IsCalm (acts.VBoard p)
+vboard_calm p = record { areas = λ log y. refl; screens = λ log. refl; calls = λ log. refl; grabs = λ log. refl }
+
+pub vkeymap_calm : (v : ℕ) (keymap : Keymap) → IsCalm (acts.VKeymap v keymap)
+vkeymap_calm v keymap = record { areas = λ log y. refl; screens = λ log. refl; calls = λ log. refl; grabs = λ log. refl }
+
+pub vkey_calm : (v time key state : ℕ) → IsCalm (acts.VKey v time key state)
+vkey_calm v time key state = record { areas = λ log y. refl; screens = λ log. refl; calls = λ log. refl; grabs = λ log. refl }
+
+pub vmods_calm : (v : ℕ) (mods : Mods) → IsCalm (acts.VMods v mods)
+vmods_calm v mods = record { areas = λ log y. refl; screens = λ log. refl; calls = λ log. refl; grabs = λ log. refl }
 
 pub idle_calm : IsCalm acts.Idle
 idle_calm = record { areas = λ log x. refl; screens = λ log. refl; calls = λ log. refl; grabs = λ log. refl }

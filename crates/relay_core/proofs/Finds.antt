@@ -6,7 +6,7 @@ use Rattle.std.specs.List.{list_any}
 use Rattle.relay_model.specs.declared.act.Act.{Act}
 use Rattle.relay_model.specs.declared.act.Act.TheVariants as acts
 use Rattle.relay_model.specs.Objects as model
-use Rattle.relay_model.specs.Objects.{Object, Kind, PeerKind, SurfaceKind, FieldKind, MethodKind, ThingKind, PopupKind, GrabKind, is_at, is_same, is_kind, owner, object, alive, is_peer, is_field, is_surface, is_method, peer_of, labels, surface_in, kind_surface, surface_of, has_popup}
+use Rattle.relay_model.specs.Objects.{Object, Kind, PeerKind, SurfaceKind, FieldKind, MethodKind, ThingKind, BoardKind, PopupKind, GrabKind, is_at, is_same, is_kind, owner, object, alive, is_peer, is_field, is_surface, is_method, peer_of, labels, surface_in, kind_surface, surface_of, has_popup}
 use Rattle.relay_model.specs.Focus.{focus, peer_at, focused_peer, entered}
 use Rattle.relay_model.specs.Hold.{holder}
 use Rattle.relay_model.specs.Current.{current}
@@ -18,6 +18,7 @@ use Rattle.relay_model.proofs.HoldLaws.{holder_entered}
 use Rattle.seat_objects.specs.Objects.{find, is_peer_in, is_surface_in, is_field_in, is_method_in, is_peer_kind, is_surface_kind, is_field_kind, is_method_kind, owner_in, field_of_kind, field_in, field_at, count_of_field, count_in, surface_of_kind, has_popup_in}
 use Rattle.relay_core.specs.Machine.{State, owner_at, focused_in, entered_in, is_thing_in, is_live_in, current_of, holder_state}
 use Rattle.seat_objects.specs.declared.object.Object.{Object as Kept}
+pub use Rattle.relay_core.specs.Bounds.{is_key}
 use Rattle.relay_core.specs.Stands.{Stands, state_kept, current_where, field_kept, kind_of, entry_of, entry}
 use Rattle.relay_core.proofs.Entries.{map_if, found, found_of}
 
@@ -31,6 +32,7 @@ peer_found log x (Some object) = at object.kind log x
     at FieldKind log x = refl
     at MethodKind log x = refl
     at ThingKind log x = refl
+    at BoardKind log x = refl
     at (PopupKind m t) log x = refl
     at (GrabKind m) log x = refl
 
@@ -44,6 +46,7 @@ surface_found log x (Some object) = at object.kind log x
     at FieldKind log x = refl
     at MethodKind log x = refl
     at ThingKind log x = refl
+    at BoardKind log x = refl
     at (PopupKind m t) log x = refl
     at (GrabKind m) log x = refl
 
@@ -57,6 +60,7 @@ field_found log x (Some object) = at object.kind log x
     at FieldKind log x = refl
     at MethodKind log x = refl
     at ThingKind log x = refl
+    at BoardKind log x = refl
     at (PopupKind m t) log x = refl
     at (GrabKind m) log x = refl
 
@@ -70,6 +74,7 @@ method_found log x (Some object) = at object.kind log x
     at FieldKind log x = refl
     at MethodKind log x = refl
     at ThingKind log x = refl
+    at BoardKind log x = refl
     at (PopupKind m t) log x = refl
     at (GrabKind m) log x = refl
 
@@ -132,6 +137,7 @@ field_of_found log f (Some object) e = at object.kind log f e
     at FieldKind log f e = refl
     at MethodKind log f e = cc
     at ThingKind log f e = cc
+    at BoardKind log f e = cc
     at (PopupKind m t) log f e = cc
     at (GrabKind m) log f e = cc
 
@@ -177,6 +183,7 @@ popup_entry log t x (Some thing) = at thing.kind log t x
     at FieldKind log t x = refl
     at MethodKind log t x = refl
     at ThingKind log t x = refl
+    at BoardKind log t x = refl
     at (PopupKind m s) log t x = refl
     at (GrabKind m) log t x = refl
 
@@ -186,12 +193,7 @@ finds_popup s log t h =
     any_list (λ o. is_at (surface_of_kind o.kind) t) (entry log) (alive log) (λ x. is_at (surface_of log x) t) (labels log)
     (λ x. popup_entry log t x (object log x))
 
--- a key's act
-abbrev pub is_key : Act → Bool
-is_key (acts.Key time key state) = true
-is_key _ = false
-
--- the relay knows which acts do something, but for a press that is refused
+-- the relay knows which acts do something, but for a press that is refused, and for what boards say
 pub live_is : (s : State) (log : List Act) (act : Act) → Stands s log → is_key act ≡ false → is_live_in act s ≡ is_live act log
 live_is s log acts.Peer h b = refl
 live_is s log (acts.Gone p cause) h b = finds_peer s log p h
@@ -221,6 +223,10 @@ live_is s log (acts.Sync p) h b = finds_peer s log p h
 live_is s log (acts.Seat p) h b = finds_peer s log p h
 live_is s log (acts.Thing p) h b = finds_peer s log p h
 live_is s log (acts.Bad p fault x) h b = finds_peer s log p h
+live_is s log (acts.VBoard p) h b = finds_peer s log p h
+live_is s log (acts.VKeymap v keymap) h b = absurd (true≢false b)
+live_is s log (acts.VKey v time key state) h b = absurd (true≢false b)
+live_is s log (acts.VMods v mods) h b = absurd (true≢false b)
 live_is s log (acts.Took p bytes) h b = refl
 live_is s log acts.Idle h b = refl
 live_is s log (acts.Popup m t) h b =

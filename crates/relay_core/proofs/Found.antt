@@ -9,7 +9,7 @@ use Rattle.field_state.specs.Hold.{holds_after}
 use Rattle.field_state.specs.declared.commit.Taken.{Taken}
 use Rattle.seat_objects.specs.declared.object.Object.{Object}
 use Rattle.seat_objects.specs.declared.object.Kind.{Kind}
-use Rattle.seat_objects.specs.declared.object.Kind.TheVariants.{Peer, Surface, Field, Method, Popup, Grab, Thing}
+use Rattle.seat_objects.specs.declared.object.Kind.TheVariants.{Peer, Surface, Field, Method, Popup, Grab, Thing, Board}
 use Rattle.seat_objects.specs.Objects.{find, changed, committed, field_of_kind, field_in}
 use Rattle.relay_core.specs.Machine.{current_of, taken_in, text_around}
 use Rattle.relay_core.specs.Kept.{text_pending}
@@ -26,6 +26,7 @@ kind_changed change Method = refl
 kind_changed change (Popup m t) = refl
 kind_changed change (Grab m) = refl
 kind_changed change Thing = refl
+kind_changed change Board = refl
 
 found_by : (f : ℕ) (d : Option ℕ) (o : Object) (os : List Object) (b c : Bool) → (o.label == f) ≡ b → is_at d o.label ≡ c →
     field_in (find (map (committed f d) os) f) ≡ under change.committed (field_in (find os f)) →

@@ -112,7 +112,7 @@ unseen : {A : Type 0} (ask : List Call → A) (b : Bool) (said : Call) (before :
 unseen ask true said before e = e
 unseen ask false said before e = refl
 
-press_same : (b : Bool) (key : ℕ) (before : List Call) (keys : List ℕ) → board.pressed_keys before ≡ keys →
+pub press_same : (b : Bool) (key : ℕ) (before : List Call) (keys : List ℕ) → board.pressed_keys before ≡ keys →
     board.pressed_keys (Key key b ∷ before) ≡ (if b then with_key key keys else keys)
 press_same true key before keys e = rw e refl
 press_same false key before keys e = e
@@ -197,7 +197,7 @@ first_shell : (stands : Option ℕ) → board.as_first stands None ≡ routes.Pa
 first_shell None = refl
 first_shell (Some h) = refl
 
-first_route : (log : List Act) (went : Option ℕ) → board.as_first (standing log) went ≡ route_of (as_first log went)
+pub first_route : (log : List Act) (went : Option ℕ) → board.as_first (standing log) went ≡ route_of (as_first log went)
 first_route log None = first_shell (standing log)
 first_route log (Some g) = first_stands (standing log) g
 

@@ -301,7 +301,7 @@ board_quiet : (act : Act) (log : List Act) → IsHistory log → IsBoard act →
 board_quiet act log i k =
     notice_quiet act log (k.silent.begins log) (k.serving_new log) (k.updating log) (k.holds log ∙ kept_same act log i k.steady)
 
-key_route_told : (n time key state : ℕ) (g : Goes) → key_told n time key state (route_of g) ≡ key_said n time key state g
+pub key_route_told : (n time key state : ℕ) (g : Goes) → key_told n time key state (route_of g) ≡ key_said n time key state g
 key_route_told n time key state (ToGrab g) = refl
 key_route_told n time key state ToShell = refl
 key_route_told n time key state Nowhere = refl

@@ -26,3 +26,9 @@ pub mod Steady
 pub mod Steps
 pub mod Telling
 pub mod Turns
+pub mod BoardCalls
+pub mod BoardsKept
+pub mod BoardsTold
+pub mod LiveBoards
+pub mod ToldBounds
+pub mod ToldRooms

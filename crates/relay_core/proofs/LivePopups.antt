@@ -4,7 +4,7 @@ use Rattle.std.specs.List.{flat_map}
 use Rattle.popup_place.specs.declared.geometry.Rect.{Rect}
 use Rattle.seat_objects.specs.declared.object.Object.{Object}
 use Rattle.seat_objects.specs.declared.object.Kind.{Kind}
-use Rattle.seat_objects.specs.declared.object.Kind.TheVariants.{Peer, Surface, Field, Method, Popup, Grab, Thing}
+use Rattle.seat_objects.specs.declared.object.Kind.TheVariants.{Peer, Surface, Field, Method, Popup, Grab, Thing, Board}
 use Rattle.seat_objects.specs.declared.listed.LivePopup.{LivePopup}
 use Rattle.seat_objects.specs.Listed.{popup_of_kind, popups_of}
 use Rattle.relay_core.specs.State.{State}
@@ -18,6 +18,7 @@ kind_listed s rect p x (Field kept) ws = refl
 kind_listed s rect p x Method ws = refl
 kind_listed s rect p x (Grab m) ws = refl
 kind_listed s rect p x Thing ws = refl
+kind_listed s rect p x Board ws = refl
 
 pub listed_told : (s : State) (rect : Rect) (os : List Object) → flat_map (live_told s rect) (popups_of os) ≡ flat_map (popup_told s rect) os
 listed_told s rect [] = refl

@@ -5,7 +5,7 @@ use Rattle.std.proofs.lemmas.List.{append-nil}
 use Rattle.popup_place.specs.declared.geometry.Rect.{Rect}
 use Rattle.relay_model.specs.declared.act.Act.{Act}
 use Rattle.relay_model.specs.declared.act.Act.TheVariants as acts
-use Rattle.relay_model.specs.Objects.{Object, Kind, PeerKind, SurfaceKind, FieldKind, MethodKind, ThingKind, PopupKind, GrabKind, is_at, owner, object, alive, made, maker}
+use Rattle.relay_model.specs.Objects.{Object, Kind, PeerKind, SurfaceKind, FieldKind, MethodKind, ThingKind, BoardKind, PopupKind, GrabKind, is_at, owner, object, alive, made, maker}
 use Rattle.relay_model.specs.Popups.{area}
 use Rattle.relay_model.proofs.ObjectLaws.{object_step, object_new}
 use Rattle.field_state.specs.Stands.{Kept as KeptField}
@@ -97,6 +97,7 @@ kinds_same log log' x SurfaceKind a e = ap (λ r. Surface r) (sym a)
 kinds_same log log' x FieldKind a e = ap (λ f. Field f) e
 kinds_same log log' x MethodKind a e = refl
 kinds_same log log' x ThingKind a e = refl
+kinds_same log log' x BoardKind a e = refl
 kinds_same log log' x (PopupKind m t) a e = refl
 kinds_same log log' x (GrabKind m) a e = refl
 
@@ -111,6 +112,7 @@ kinds_changed change log log' x SurfaceKind a e = ap (λ r. Surface r) (sym a)
 kinds_changed change log log' x FieldKind a e = ap (λ f. Field f) (e refl)
 kinds_changed change log log' x MethodKind a e = refl
 kinds_changed change log log' x ThingKind a e = refl
+kinds_changed change log log' x BoardKind a e = refl
 kinds_changed change log log' x (PopupKind m t) a e = refl
 kinds_changed change log log' x (GrabKind m) a e = refl
 
@@ -170,6 +172,7 @@ placed_by t rect act log x true e a f = λ p k o. rw e (ap (λ r. record { label
     kinds_placed FieldKind = ap (λ v. Field v) f
     kinds_placed MethodKind = refl
     kinds_placed ThingKind = refl
+    kinds_placed BoardKind = refl
     kinds_placed (PopupKind m s) = refl
     kinds_placed (GrabKind m) = refl
 placed_by t rect act log x false e a f = λ p k o. rw e (ap (λ r. record { label = x; peer = p; kind = r }) (kinds_same log (act ∷ log) x k a f))

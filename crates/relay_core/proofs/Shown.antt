@@ -9,7 +9,7 @@ use Rattle.popup_place.specs.Popup.{place_of}
 use Rattle.relay_model.specs.declared.act.Act.{Act}
 use Rattle.relay_model.specs.declared.act.Act.TheVariants as acts
 use Rattle.relay_model.specs.declared.said.Told.{Told}
-use Rattle.relay_model.specs.Objects.{Object, Kind, PeerKind, SurfaceKind, FieldKind, MethodKind, ThingKind, PopupKind, GrabKind, is_at, is_same, is_kind, is_popup_kind, is_popup, popups, object, alive, labels, method_in, surface_in}
+use Rattle.relay_model.specs.Objects.{Object, Kind, PeerKind, SurfaceKind, FieldKind, MethodKind, ThingKind, BoardKind, PopupKind, GrabKind, is_at, is_same, is_kind, is_popup_kind, is_popup, popups, object, alive, labels, method_in, surface_in}
 use Rattle.relay_model.specs.Focus.{where_alive, focus}
 use Rattle.relay_model.specs.Hold.{holder}
 use Rattle.relay_model.specs.Activation.{serving}
@@ -45,6 +45,7 @@ area_of_found log t (Some thing) i e k = at thing.kind thing.peer log t i e
     at FieldKind p log t i e = sym (area_other log t _ i e refl)
     at MethodKind p log t i e = sym (area_other log t _ i e refl)
     at ThingKind p log t i e = sym (area_other log t _ i e refl)
+    at BoardKind p log t i e = sym (area_other log t _ i e refl)
     at (PopupKind m s) p log t i e = sym (area_other log t _ i e refl)
     at (GrabKind m) p log t i e = sym (area_other log t _ i e refl)
 
@@ -117,6 +118,7 @@ popup_at s log rect x (Some thing) i h e = at thing.kind thing.peer s log rect x
     at FieldKind p s log rect x i h = refl
     at MethodKind p s log rect x i h = refl
     at ThingKind p s log rect x i h = refl
+    at BoardKind p s log rect x i h = refl
     at (PopupKind m t) p s log rect x i h = shown_is s log rect x m t (is_at (serving log) m) (alive log t) i h refl refl
     at (GrabKind m) p s log rect x i h = sym (nowhere log x (Some rect) (is_at (serving log) m))
 
@@ -139,6 +141,7 @@ no_popup log x (Some thing) rect e = at thing.kind thing.peer log x rect e
     at FieldKind p log x rect e = refl
     at MethodKind p log x rect e = refl
     at ThingKind p log x rect e = refl
+    at BoardKind p log x rect e = refl
     at (PopupKind m t) p log x rect e = absurd (true≢false e)
     at (GrabKind m) p log x rect e = nowhere log x rect (is_at (serving log) m)
 

@@ -83,6 +83,18 @@ thing_steady p = record { keeps = λ y o. refl; last = λ log. refl; since = λ 
 pub bad_steady : (p : ℕ) (fault : Fault) (x : ℕ) → IsSteady (acts.Bad p fault x)
 bad_steady p fault x = record { keeps = λ y o. refl; last = λ log. refl; since = λ log. refl }
 
+pub vboard_steady : (p : ℕ) → IsSteady (acts.VBoard p)
+vboard_steady p = record { keeps = λ y o. refl; last = λ log. refl; since = λ log. refl }
+
+pub vkeymap_steady : (v : ℕ) (keymap : Keymap) → IsSteady (acts.VKeymap v keymap)
+vkeymap_steady v keymap = record { keeps = λ y o. refl; last = λ log. refl; since = λ log. refl }
+
+pub vkey_steady : (v time key state : ℕ) → IsSteady (acts.VKey v time key state)
+vkey_steady v time key state = record { keeps = λ y o. refl; last = λ log. refl; since = λ log. refl }
+
+pub vmods_steady : (v : ℕ) (mods : Mods) → IsSteady (acts.VMods v mods)
+vmods_steady v mods = record { keeps = λ y o. refl; last = λ log. refl; since = λ log. refl }
+
 pub idle_steady : IsSteady acts.Idle
 idle_steady = record { keeps = λ x o. refl; last = λ log. refl; since = λ log. refl }
 
@@ -159,6 +171,18 @@ thing_silent p = record { words = λ f rest. refl; sets = λ f rest. refl; count
 
 pub bad_silent : (p : ℕ) (fault : Fault) (x : ℕ) → IsSilent (acts.Bad p fault x)
 bad_silent p fault x = record { words = λ f rest. refl; sets = λ f rest. refl; counts = λ log f. refl; begins = λ log. refl; commits = λ f. refl }
+
+pub vboard_silent : (p : ℕ) → IsSilent (acts.VBoard p)
+vboard_silent p = record { words = λ f rest. refl; sets = λ f rest. refl; counts = λ log f. refl; begins = λ log. refl; commits = λ f. refl }
+
+pub vkeymap_silent : (v : ℕ) (keymap : Keymap) → IsSilent (acts.VKeymap v keymap)
+vkeymap_silent v keymap = record { words = λ f rest. refl; sets = λ f rest. refl; counts = λ log f. refl; begins = λ log. refl; commits = λ f. refl }
+
+pub vkey_silent : (v time key state : ℕ) → IsSilent (acts.VKey v time key state)
+vkey_silent v time key state = record { words = λ f rest. refl; sets = λ f rest. refl; counts = λ log f. refl; begins = λ log. refl; commits = λ f. refl }
+
+pub vmods_silent : (v : ℕ) (mods : Mods) → IsSilent (acts.VMods v mods)
+vmods_silent v mods = record { words = λ f rest. refl; sets = λ f rest. refl; counts = λ log f. refl; begins = λ log. refl; commits = λ f. refl }
 
 pub idle_silent : IsSilent acts.Idle
 idle_silent = record { words = λ f rest. refl; sets = λ f rest. refl; counts = λ log f. refl; begins = λ log. refl; commits = λ f. refl }

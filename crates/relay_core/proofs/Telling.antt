@@ -9,7 +9,7 @@ use Rattle.relay_model.specs.declared.act.Act.TheVariants as acts
 use Rattle.relay_model.specs.declared.said.Told.{Told}
 use Rattle.relay_model.specs.declared.said.Said.{Said}
 use Rattle.relay_model.specs.declared.said.Said.TheVariants as said
-use Rattle.relay_model.specs.Objects.{Object, Kind, PeerKind, SurfaceKind, FieldKind, MethodKind, ThingKind, PopupKind, GrabKind, is_at, is_same, is_kind, is_field_kind, is_surface, is_field, owner, object, alive, peer_of, labels, fields, remains}
+use Rattle.relay_model.specs.Objects.{Object, Kind, PeerKind, SurfaceKind, FieldKind, MethodKind, ThingKind, BoardKind, PopupKind, GrabKind, is_at, is_same, is_kind, is_field_kind, is_surface, is_field, owner, object, alive, peer_of, labels, fields, remains}
 use Rattle.relay_model.specs.Focus.{focus, focused_peer, entered}
 use Rattle.relay_model.specs.Hold.{holder}
 use Rattle.relay_model.specs.Activation.{serving, notice, begun, begun_of, begun_for, dones, named, is_from}
@@ -78,6 +78,7 @@ agrees_of log x peer (Some thing) = at thing.kind log x (is_at peer thing.peer)
     at FieldKind log x b = refl
     at MethodKind log x b = refl
     at ThingKind log x b = refl
+    at BoardKind log x b = refl
     at (PopupKind m t) log x b = refl
     at (GrabKind m) log x b = refl
 

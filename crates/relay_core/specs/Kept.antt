@@ -4,9 +4,11 @@ use Rattle.relay_model.specs.declared.act.Act.{Act}
 use Rattle.relay_model.specs.declared.act.Act.TheVariants as acts
 use Rattle.field_state.specs.Stands.{Kept}
 use Rattle.field_state.specs.Changes.{fresh}
+use Rattle.relay_core.specs.declared.boards.Boards as declared
 use Rattle.relay_core.specs.declared.machine.Machine.{Machine}
 use Rattle.seat_objects.specs.declared.spare.Spare.{Spare}
 use Rattle.seat_objects.specs.Objects.{find, field_in}
+use Rattle.relay_core.specs.BoardKeys.{Boards, HasBoard}
 use Rattle.relay_core.specs.Machine.{State, holder_state, text_around}
 use Rattle.seat_objects.specs.Fits.{FitsMessage}
 
@@ -27,14 +29,19 @@ state m =
       keys = m.keys;
     }
 
+-- what is kept of the boards
+abbrev pub kept : declared.Boards → Boards
+kept b = record { keys = b.keys; ahead = b.ahead }
+
 -- a relay as contracts see it
 pub record Shown : Type 0 where
   pub state : State
+  pub boards : Boards
   pub room : ℕ
   pub spare : Spare
 
-abbrev pub shown : Machine → Shown
-shown m = record { state = state m; room = m.objects.room; spare = m.spare }
+abbrev pub shown : Machine → declared.Boards → Shown
+shown m b = record { state = state m; boards = kept b; room = m.objects.room; spare = m.spare }
 
 -- the surrounding text that a field has pending
 abbrev pub text_pending : Option Kept → List ℕ
@@ -58,4 +65,5 @@ HasRoom room _ = 0 < room
 pub record IsReserved (relay : Shown) (act : Act) : Type 0 where
   pub room : HasRoom relay.room act
   pub spare : HasSpare relay.state relay.spare act
+  pub board : HasBoard act relay.state relay.boards
   pub fits : FitsMessage act

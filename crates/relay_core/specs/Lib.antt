@@ -1,7 +1,10 @@
 pub mod State
+pub mod BoardKeys
+pub mod BoardsStand
 pub mod Popups
 pub mod Machine
 pub mod Kept
 pub mod KeyCalls
 pub mod Stands
 pub mod KeyboardKept
+pub mod Bounds

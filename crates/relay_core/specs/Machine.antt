@@ -20,14 +20,14 @@ use Rattle.field_state.specs.declared.commit.Taken.TheVariants.{Begun, Updated, 
 use Rattle.kbd_grab.specs.Keyboard.{Keyboard, turned, answer_at}
 use Rattle.kbd_grab.specs.declared.keyboard.Route.{Route}
 use Rattle.seat_objects.specs.declared.object.Kind.{Kind}
-use Rattle.seat_objects.specs.declared.object.Kind.TheVariants.{Peer, Surface, Field, Method, Popup, Grab, Thing}
+use Rattle.seat_objects.specs.declared.object.Kind.TheVariants.{Peer, Surface, Field, Method, Popup, Grab, Thing, Board}
 use Rattle.seat_objects.specs.Objects.{find, is_peer_in, is_surface_in, is_field_in, is_method_in, owner_in, field_in, count_in, no_area, has_popup_in, not_label, not_peer, requested, refocused, committed, placed_at}
 use Rattle.seat_objects.specs.Keyboard.{keyboard_told, key_told}
 use Rattle.relay_core.specs.Popups.{popups_told, popups_where_holds, new_popup_told}
 pub use Rattle.relay_core.specs.State.{State, owner_at, focused_in, entered_in, is_thing_in, current_of, state_of, holder_state}
 pub use Rattle.seat_objects.specs.Saying.{said_to, text_around, around_told, state_told, activate_told, update_told, deactivate_told, group_told}
 
--- the act may do something; a press of a key that is refused does nothing besides
+-- the act may do something here; a press of a key that is refused does nothing besides, and what boards send does nothing here
 abbrev pub is_live_in : Act → State → Bool
 is_live_in acts.Peer s = true
 is_live_in (acts.Gone p cause) s = is_peer_in (find s.objects p)
@@ -61,6 +61,10 @@ is_live_in (acts.Sync p) s = is_peer_in (find s.objects p)
 is_live_in (acts.Seat p) s = is_peer_in (find s.objects p)
 is_live_in (acts.Thing p) s = is_peer_in (find s.objects p)
 is_live_in (acts.Bad p fault x) s = is_peer_in (find s.objects p)
+is_live_in (acts.VBoard p) s = is_peer_in (find s.objects p)
+is_live_in (acts.VKeymap v keymap) s = false
+is_live_in (acts.VKey v time key state) s = false
+is_live_in (acts.VMods v mods) s = false
 is_live_in (acts.Took p bytes) s = false
 is_live_in acts.Idle s = false
 
@@ -246,6 +250,10 @@ moved (acts.Sync p) s = s
 moved (acts.Seat p) s = made p Thing s
 moved (acts.Thing p) s = made p Thing s
 moved (acts.Bad p fault x) s = s
+moved (acts.VBoard p) s = made p Board s
+moved (acts.VKeymap v keymap) s = s
+moved (acts.VKey v time key state) s = s
+moved (acts.VMods v mods) s = s
 moved (acts.Took p bytes) s = s
 moved acts.Idle s = s
 
@@ -354,6 +362,10 @@ says (acts.MString m text) s = []
 says (acts.MPreedit m text begin end) s = []
 says (acts.MDelete m before after) s = []
 says (acts.Thing p) s = []
+says (acts.VBoard p) s = []
+says (acts.VKeymap v keymap) s = []
+says (acts.VKey v time key state) s = []
+says (acts.VMods v mods) s = []
 says (acts.Took p bytes) s = []
 says acts.Idle s = []
 

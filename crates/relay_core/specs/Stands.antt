@@ -5,7 +5,7 @@ use Rattle.relay_model.specs.declared.act.Act.TheVariants as acts
 use Rattle.relay_model.specs.declared.act.Word.{Word}
 use Rattle.relay_model.specs.declared.act.Word.TheVariants.{Enabled, Disabled}
 use Rattle.relay_model.specs.Objects as model
-use Rattle.relay_model.specs.Objects.{Object, PeerKind, SurfaceKind, FieldKind, MethodKind, ThingKind, PopupKind, GrabKind, is_at, labels, alive}
+use Rattle.relay_model.specs.Objects.{Object, PeerKind, SurfaceKind, FieldKind, MethodKind, ThingKind, BoardKind, PopupKind, GrabKind, is_at, labels, alive}
 use Rattle.relay_model.specs.Focus.{focus, entered}
 use Rattle.relay_model.specs.Hold.{word, holder}
 use Rattle.relay_model.specs.Current.{State as FieldState, Around, current}
@@ -24,10 +24,11 @@ use Rattle.field_state.specs.declared.commit.Word.{Word as KeptWord}
 use Rattle.field_state.specs.declared.commit.Word.TheVariants as kept
 use Rattle.seat_objects.specs.declared.object.Object.{Object as Kept}
 use Rattle.seat_objects.specs.declared.object.Kind.{Kind}
-use Rattle.seat_objects.specs.declared.object.Kind.TheVariants.{Peer, Surface, Field, Method, Popup, Grab, Thing}
+use Rattle.seat_objects.specs.declared.object.Kind.TheVariants.{Peer, Surface, Field, Method, Popup, Grab, Thing, Board}
 use Rattle.relay_core.specs.Machine.{State, no_edits}
 use Rattle.relay_core.specs.Kept.{Shown}
 use Rattle.relay_core.specs.KeyCalls.{key_calls, route_of}
+use Rattle.relay_core.specs.BoardsStand.{BoardsStand}
 
 -- a word as a field keeps it
 abbrev pub word_kept : Option Word → Option KeptWord
@@ -69,6 +70,7 @@ kind_of log x MethodKind = Method
 kind_of log x (PopupKind m t) = Popup m t
 kind_of log x (GrabKind m) = Grab m
 kind_of log x ThingKind = Thing
+kind_of log x BoardKind = Board
 
 -- what the relay keeps of the object x
 abbrev pub entry_of : List Act → ℕ → Option Object → Kept
@@ -129,8 +131,9 @@ pub record Stands (relay : State) (log : List Act) : Type 0 where
   pub keys_now : keyboard.StandsFor (key_calls log) relay.keys
 
 -- a relay stands for a list of acts, the newest first: what it keeps is what the definitions say of their history
-abbrev pub StandsFor : Shown → List Act → Type 0
-StandsFor relay log = Stands relay.state (history log)
+pub record StandsFor (relay : Shown) (log : List Act) : Type 0 where
+  pub state : Stands relay.state (history log)
+  pub boards : BoardsStand relay.boards (history log)
 
 -- where a key act goes after the acts of a list
 abbrev pub route_told : Act → List Act → Option Route

@@ -3,6 +3,7 @@ ghost use Rattle.std.specs.Prelude.{◌≡◌, ◌<◌, ◌≤◌};
 ghost use Rattle.relay_model.specs.declared.act.Act.TheVariants as acts;
 ghost use Rattle.seat_objects.specs.Reached.{Reached};
 ghost use Rattle.relay_core.specs.Kept.{state};
+ghost use Rattle.relay_core.specs.BoardKeys.{grab_in};
 ghost use Rattle.relay_core.specs.Machine.{made_by, fallen, grabbed, keyed, route_in, moved, says};
 
 use crate::machine::Machine;
@@ -38,6 +39,15 @@ impl Machine {
             self.keys.stand(self.acts);
             tell_keyboard(self.acts, &self.keys, post);
         }
+    }
+
+    /// The grab that stands, with its peer.
+    pub fn grab(&self) -> Option<(Label, Label)>
+        ensures { result ≡ grab_in (state self.now) }
+    {
+        let grab = self.keys.standing()?;
+        let peer = self.objects.owner(grab)?;
+        Some((grab, peer))
     }
 
     /// The grab that stands may be gone, or its method.

@@ -1,6 +1,8 @@
 //! The relay: it keeps what the acts so far come to, and tells what each act tells.
 #![tactic(auto)]
 
+mod boards;
+mod bounds;
 mod holding;
 mod keyboard;
 mod laws;
@@ -8,11 +10,12 @@ mod machine;
 mod methods;
 mod peers;
 mod popups;
+mod readers;
 mod relay;
 mod reserve;
 mod turning;
 
 pub use kbd_grab::Route;
-pub use laws::keyboard_law;
+pub use laws::{board_law, keyboard_law};
 pub use relay::Relay;
 pub use seat_objects::Post;

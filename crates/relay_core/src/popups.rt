@@ -77,7 +77,8 @@ impl Machine {
             | Kind::Field(_)
             | Kind::Method
             | Kind::Grab { .. }
-            | Kind::Thing => {}
+            | Kind::Thing
+            | Kind::Board => {}
         }
     }
 

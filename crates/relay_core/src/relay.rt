@@ -1,4 +1,5 @@
 //! The relay as its callers see it.
+use crate::boards::{Boards, tell_sent};
 use crate::machine::Machine;
 use edit_batch::Pending;
 use kbd_grab::{Grab, Route};
@@ -7,6 +8,7 @@ use seat_objects::{Objects, Post, Spare};
 use serial_count::{Count32, Since};
 use std::alloc::Global;
 use std::marker::Model;
+use virt_keys::VKeys;
 use wio_core::NoMemory;
 
 /// The broker's state on one seat: which objects live, which surface has the focus, which field
@@ -15,25 +17,28 @@ use wio_core::NoMemory;
 /// tells, however many others live and whatever came before.
 #[derive(Drop)]
 pub struct Relay {
-    machine: Machine,
+    pub(crate) machine: Machine,
+    boards: Boards,
 }
 
 impl Model for Relay {
     ghost use Rattle.relay_core.specs.Kept.{Shown, shown};
     ghost use Rattle.std.specs.Coded.{codes};
     ghost use Rattle.kbd_grab.specs.Keyboard.{keyboard_code};
+    ghost use Rattle.relay_core.specs.BoardKeys.{boards_code};
 
     ghost Value = { Shown };
 
-    ghost coded = { Prim.hlevel (codes, keyboard_code) };
+    ghost coded = { Prim.hlevel (codes, keyboard_code, boards_code) };
 
-    ghost view = { λ r. shown r.machine };
+    ghost view = { λ r. shown r.machine r.boards };
 }
 
 impl Relay {
     ghost use Rattle.std.specs.Prelude.{◌≡◌, ◌<◌, List, [], ◌∷◌, length, true, IfOk, OnOk};
     ghost use Rattle.relay_model.specs.declared.act.Act.{Act};
     ghost use Rattle.relay_model.specs.Objects.{has_popup};
+    ghost use Rattle.relay_model.specs.Boards.{sends};
     ghost use Rattle.relay_model.specs.Idle.{history};
     ghost use Rattle.relay_model.specs.Told.{told};
     ghost use Rattle.seat_objects.specs.Reached.{Reached};
@@ -47,6 +52,7 @@ impl Relay {
     {
         let pending = Pending::new(alloc)?;
         let keys = Grab::new(alloc)?;
+        let boards = VKeys::new(alloc)?;
         Ok(Relay {
             machine: Machine {
                 alloc,
@@ -65,6 +71,10 @@ impl Relay {
                 },
                 keys,
                 spare: Spare::new(alloc),
+            },
+            boards: Boards {
+                keys: boards,
+                ahead: None,
             },
         })
     }
@@ -87,7 +97,13 @@ impl Relay {
         ensures stands { (log : List Act) → StandsFor self.old log → StandsFor self.new log }
         ensures reserved { OnOk result (IsReserved self.new act.now) }
     {
-        self.machine.reserve(act)
+        self.machine.reserve(act)?;
+        match act {
+            Act::VBoard { peer } if self.machine.acts < u32::MAX => {
+                self.boards.make_ahead(self.machine.acts + 1, *peer)
+            }
+            _ => Ok(()),
+        }
     }
 
     /// Takes one act, for which room was made, and tells the post what it tells: one `tell` for
@@ -104,7 +120,18 @@ impl Relay {
         ensures route { (log : List Act) → StandsFor self.old log → result ≡ route_told act.now
             log }
     {
-        self.machine.turn(act, post)
+        let sent = self.boards.turn(act, &self.machine);
+        let route = self.machine.turn(act, post);
+        tell_sent(act, self.machine.acts, sent, post);
+        route
+    }
+
+    /// Whether the live board has had a keymap (`zwp_virtual_keyboard_v1.key` would be refused of
+    /// another).
+    pub fn has_keymap(&self, board: Label) -> bool
+        ensures { (log : List Act) → StandsFor self.now log → result ≡ sends (history log) board }
+    {
+        self.boards.has_keymap(board)
     }
 
     /// Whether a live popup has the surface (`zwp_input_method_v2.get_input_popup_surface` would be refused).

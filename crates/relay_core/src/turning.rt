@@ -63,9 +63,10 @@ impl Machine {
         }
     }
 
-    // The act may do something; a press of a key that is refused does nothing besides.
+    // The act may do something here; a press of a key that is refused does nothing besides, and
+    // what boards send does nothing here.
     #[inline(always)]
-    fn is_live(&self, act: &Act) -> bool
+    pub fn is_live(&self, act: &Act) -> bool
         ensures { result ≡ is_live_in act.now (state self.now) }
     {
         match act {
@@ -78,6 +79,7 @@ impl Machine {
             | Act::Sync { peer }
             | Act::Seat { peer }
             | Act::Thing { peer }
+            | Act::VBoard { peer }
             | Act::Bad { peer, .. } => self.objects.is_peer(*peer),
             Act::Drop { label } => is_thing(&self.objects, *label),
             Act::Focus { surface } => {
@@ -116,7 +118,11 @@ impl Machine {
             | Act::Mods { .. }
             | Act::Keymap { .. }
             | Act::Repeat { .. } => true,
-            Act::Took { .. } | Act::Idle => false,
+            Act::VKeymap { .. }
+            | Act::VKey { .. }
+            | Act::VMods { .. }
+            | Act::Took { .. }
+            | Act::Idle => false,
         }
     }
 
@@ -132,7 +138,7 @@ impl Machine {
         });
     }
 
-    // The three below stand apart, so that acts that make nothing make no room for an object.
+    // The four below stand apart, so that acts that make nothing make no room for an object.
 
     #[inline(never)]
     fn make_peer(&mut self)
@@ -159,6 +165,15 @@ impl Machine {
         ensures { state self.new ≡ made peer kinds.Thing (state self.old) }
     {
         self.make(peer, Kind::Thing);
+    }
+
+    #[inline(never)]
+    fn make_board(&mut self, peer: Label)
+        requires room { 0 < self.old.objects.room }
+        requires above { self.old.objects.bound ≤ self.old.acts }
+        ensures { state self.new ≡ made peer kinds.Board (state self.old) }
+    {
+        self.make(peer, Kind::Board);
     }
 
     fn make_field<P: Post>(&mut self, peer: Label, post: &mut P)
@@ -274,7 +289,12 @@ impl Machine {
                 fault,
                 object,
             } => tell_error(*peer, *object, *fault, post),
-            Act::Took { .. } | Act::Idle => {}
+            Act::VBoard { peer } => self.make_board(*peer),
+            Act::VKeymap { .. }
+            | Act::VKey { .. }
+            | Act::VMods { .. }
+            | Act::Took { .. }
+            | Act::Idle => {}
         }
         None
     }

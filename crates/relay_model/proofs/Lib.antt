@@ -8,3 +8,6 @@ pub mod LookingBack
 pub mod PendingLaws
 pub mod StateLaws
 pub mod PopupLaws
+pub mod BoardsErased
+pub mod HoldErased
+pub mod RelayErased

@@ -3,9 +3,10 @@ use Rattle.std.specs.Prelude.{ℕ, ℤ, pos, negsuc, List, [], ◌∷◌, length
 use Rattle.popup_place.specs.declared.geometry.Rect.{Rect}
 use Rattle.relay_model.specs.declared.act.Act.{Act}
 use Rattle.relay_model.specs.declared.act.Act.TheVariants as acts
-use Rattle.relay_model.specs.Objects.{is_at, is_field, is_surface, is_method, is_peer, alive, has_popup}
+use Rattle.relay_model.specs.Objects.{is_at, is_field, is_surface, is_method, is_peer, is_board, alive, has_popup}
 use Rattle.relay_model.specs.Focus.{focus, entered}
 use Rattle.relay_model.specs.Keys.{is_refused}
+use Rattle.relay_model.specs.Boards.{sends, board_refused}
 
 -- the offset is that of a character's first byte, or the text's end
 abbrev pub is_boundary : List ℕ → ℕ → Bool
@@ -29,7 +30,7 @@ is_sized rect = is_not_negative rect.width && is_not_negative rect.height
 -- The act does something. The objects that it names are alive and of its kind. A focus moves the focus. A request of a
 -- field other than commit and drop comes while the field is entered. The cursor and the anchor of a surrounding text
 -- are at the beginning of a character of it or at its end. No side of a rectangle is negative. The surface of a new
--- popup has no popup. A press isn't refused.
+-- popup has no popup. A press isn't refused. A board that sends keys or modifiers has had a keymap.
 -- A step that takes bytes for a peer does nothing on the seat, so it stands in the log as Idle.
 abbrev pub is_live : Act → List Act → Bool
 is_live acts.Peer older = true
@@ -64,6 +65,10 @@ is_live (acts.Sync p) older = is_peer older p
 is_live (acts.Seat p) older = is_peer older p
 is_live (acts.Thing p) older = is_peer older p
 is_live (acts.Bad p fault x) older = is_peer older p
+is_live (acts.VBoard p) older = is_peer older p
+is_live (acts.VKeymap v keymap) older = is_board older v
+is_live (acts.VKey v time key state) older = sends older v && not (board_refused older v key state)
+is_live (acts.VMods v mods) older = sends older v
 is_live (acts.Took p bytes) older = false
 is_live acts.Idle older = false
 

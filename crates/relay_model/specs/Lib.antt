@@ -9,10 +9,13 @@ pub mod Pending
 pub mod Activation
 pub mod Batch
 pub mod Keys
+pub mod Boards
 pub mod Popups
 pub mod Idle
 pub mod Told
+pub mod WithoutBoards
 pub mod Rows
 pub mod HoldRows
 pub mod KeyRows
+pub mod BoardRows
 pub mod SessionRows

@@ -2,12 +2,12 @@
 use Rattle.std.specs.Prelude.{ℕ, ◌+◌, List, [], ◌∷◌, ◌++◌, length, filter, Bool, true, false, ◌==◌, if◌then◌else◌, Option, Some, None, is_some}
 use Rattle.std.specs.List.{list_any}
 use Rattle.relay_model.specs.declared.act.Act.{Act}
-use Rattle.relay_model.specs.declared.act.Act.TheVariants.{Peer, Gone, Surface, Field, Method, Popup, Grab, Drop, Registry, Seat, Thing}
+use Rattle.relay_model.specs.declared.act.Act.TheVariants.{Peer, Gone, Surface, Field, Method, Popup, Grab, Drop, Registry, Seat, Thing, VBoard}
 
--- what an object is; a popup is made by a method on a surface, a grab by a method; a registry, a seat or another bound global is a thing, of which
--- nothing is asked but whether it is alive
+-- what an object is; a popup is made by a method on a surface, a grab by a method; a board is a virtual keyboard; a registry, a seat or another bound
+-- global is a thing, of which nothing is asked but whether it is alive
 pub data Kind : Type 0 where
-  PeerKind SurfaceKind FieldKind MethodKind ThingKind : Kind
+  PeerKind SurfaceKind FieldKind MethodKind ThingKind BoardKind : Kind
   PopupKind : (method surface : ℕ) → Kind
   GrabKind : (method : ℕ) → Kind
 
@@ -49,6 +49,10 @@ is_peer_kind _ = false
 abbrev pub is_popup_kind : Kind → Bool
 is_popup_kind (PopupKind m s) = true
 is_popup_kind _ = false
+
+abbrev pub is_board_kind : Kind → Bool
+is_board_kind BoardKind = true
+is_board_kind _ = false
 
 -- the method that made the popup or the grab
 abbrev pub kind_method : Kind → Option ℕ
@@ -97,6 +101,7 @@ made (Grab m) n whose = made_for (GrabKind m) whose
 made (Registry p role) n whose = Some (record { kind = ThingKind; peer = p })
 made (Seat p) n whose = Some (record { kind = ThingKind; peer = p })
 made (Thing p) n whose = Some (record { kind = ThingKind; peer = p })
+made (VBoard p) n whose = Some (record { kind = BoardKind; peer = p })
 made _ n whose = None
 
 -- the method that makes the act's object
@@ -139,6 +144,9 @@ is_peer log x = is_kind is_peer_kind (object log x)
 
 abbrev pub is_popup : List Act → ℕ → Bool
 is_popup log x = is_kind is_popup_kind (object log x)
+
+abbrev pub is_board : List Act → ℕ → Bool
+is_board log x = is_kind is_board_kind (object log x)
 
 -- the method of the live popup or grab x
 abbrev pub method_of : List Act → ℕ → Option ℕ

@@ -1,7 +1,7 @@
 -- What an act tells.
 use Rattle.std.specs.Prelude.{ℕ, List, [], ◌∷◌, ◌++◌, map, filter, if◌then◌else◌, Option, Some, None, is_some, nat_abs}
 use Rattle.relay_model.specs.declared.act.Act.{Act}
-use Rattle.relay_model.specs.declared.act.Act.TheVariants.{Field, Method, Popup, Grab, Drop, Focus, Unfocus, Area, Screen, Commit, MCommit, Key, Mods, Keymap, Repeat, Registry, Sync, Seat, Bad}
+use Rattle.relay_model.specs.declared.act.Act.TheVariants.{Field, Method, Popup, Grab, Drop, Focus, Unfocus, Area, Screen, Commit, MCommit, Key, Mods, Keymap, Repeat, Registry, Sync, Seat, Bad, VKey, VMods}
 use Rattle.relay_model.specs.declared.said.Told.{Told}
 use Rattle.relay_model.specs.declared.said.Said.{Said}
 use Rattle.relay_model.specs.declared.said.Said.TheVariants as said
@@ -13,6 +13,7 @@ use Rattle.relay_model.specs.Activation.{Notice, Activates, Updates, Deactivates
 use Rattle.relay_model.specs.Batch.{group_of}
 use Rattle.relay_model.specs.Keys as keys
 use Rattle.relay_model.specs.Keys.{Goes, ToGrab, ToShell, Nowhere, Refused, key_route, standing, last_keymap, last_repeat, last_mods}
+use Rattle.relay_model.specs.Boards.{board_route, grab_for}
 use Rattle.relay_model.specs.Popups.{popup_told, each_popup}
 use Rattle.relay_model.specs.Globals.{globals_told}
 use Rattle.relay_model.specs.Idle.{cleaned, history}
@@ -108,13 +109,18 @@ abbrev pub to_grab : Option ℕ → Said → List Told
 to_grab None said = []
 to_grab (Some g) said = to g said ∷ []
 
+-- modifiers of a board are told with the number of the act as their serial, or to the shell
+abbrev pub board_mods_told : ℕ → keys.Mods → Option ℕ → List Told
+board_mods_told n mods None = to 0 (said.VMods mods) ∷ []
+board_mods_told n mods (Some g) = to g (said.Mods n mods) ∷ []
+
 -- the callback n of a sync is told its value, and its peer that the id is free again
 abbrev pub synced : ℕ → ℕ → List Told
 synced n p = to n (said.CallbackDone 0) ∷ to p (said.DeleteId n) ∷ []
 
 -- The act's own events: a method beside the one that serves, what a grab is told that stands, the id of a dropped object, a fresh batch, a key, what the
--- shell says of the keyboard, and of each popup where it is, after a commit of the holder and when the shell places surfaces; the globals of a new
--- registry, the answer to a sync, what a new seat has, and the error of a refused message.
+-- shell says of the keyboard, a key and the modifiers of a board, and of each popup where it is, after a commit of the holder and when the shell places
+-- surfaces; the globals of a new registry, the answer to a sync, what a new seat has, and the error of a refused message.
 abbrev pub own : Act → List Act → List Told
 own (Method p) older = (if is_some (serving older) then to (next older) said.Unavailable ∷ [] else [])
 own (Popup m s) older = popup_told (Popup m s ∷ older) (next older)
@@ -128,6 +134,8 @@ own (Key time key state) older = key_told (next older) time key state (key_route
 own (Mods mods) older = to_grab (standing older) (said.Mods (next older) mods)
 own (Keymap keymap) older = to_grab (standing older) (said.Keymap keymap)
 own (Repeat repeat) older = to_grab (standing older) (said.Repeat repeat)
+own (VKey v time key state) older = key_told (next older) time key state (board_route older v key state)
+own (VMods v mods) older = board_mods_told (next older) mods (grab_for older v)
 own (Registry p role) older = globals_told (next older) role
 own (Sync p) older = synced (next older) p
 own (Seat p) older = to (next older) (said.Capabilities 0) ∷ []

@@ -179,6 +179,28 @@ pub enum Act {
         peer: Label,
         bytes: u32,
     },
+    /// `zwp_virtual_keyboard_manager_v1.create_virtual_keyboard`: a board, on which the peer sends
+    /// keys of its own.
+    VBoard {
+        peer: Label,
+    },
+    /// `zwp_virtual_keyboard_v1.keymap`. It is told to nobody; a board sends no key before it.
+    VKeymap {
+        board: Label,
+        keymap: Keymap,
+    },
+    /// `zwp_virtual_keyboard_v1.key`: state 0 is released, 1 pressed. The time is in milliseconds.
+    VKey {
+        board: Label,
+        time: u32,
+        key: u32,
+        state: u32,
+    },
+    /// `zwp_virtual_keyboard_v1.modifiers`.
+    VMods {
+        board: Label,
+        mods: Mods,
+    },
     /// Nothing happens; the act has its number alone.
     Idle,
 }

@@ -3,6 +3,7 @@
 
 mod act;
 mod fault;
+mod laws;
 mod role;
 mod rows;
 mod said;
@@ -10,9 +11,10 @@ mod said;
 pub use act::{Act, EndCause, Label, Word};
 pub use fault::Fault;
 pub use kbd_grab::{Keymap, Mods, Repeat};
+pub use laws::boards_relay_nothing;
 pub use popup_place::{Rect, Size};
 pub use role::Role;
-pub use rows::{hold_rows, session_rows, worked_rows};
+pub use rows::{board_rows, hold_rows, session_rows, worked_rows};
 pub use said::{Said, Told};
 pub use wl_proto::Interface;
 pub use wl_wire::Text;

@@ -9,6 +9,7 @@ ghost use Rattle.relay_model.specs.HoldRows.{DisplacedFieldReturns, DisplacedFie
 ghost use Rattle.relay_model.specs.KeyRows.{Routing, ReleasedAfterTheGrab, GrabsInTurn, Placement};
 ghost use Rattle.relay_model.specs.KeyRows.{TwoPopups, PopupWithoutSurface, RectangleReset};
 ghost use Rattle.relay_model.specs.KeyRows.{PopupBesidePopup, TooManyKeys};
+ghost use Rattle.relay_model.specs.BoardRows.{OwnKeysPass, NoKeymap, ReleasesFollow};
 ghost use Rattle.relay_model.specs.SessionRows.{GlobalsOfAnApp, GlobalsOfAMethod, AnsweredSync};
 ghost use Rattle.relay_model.specs.SessionRows.{BoundSeat, RefusedMessages, DroppedThing};
 ghost use Rattle.relay_model.specs.SessionRows.{EndedPeer};
@@ -48,6 +49,13 @@ pub fn hold_rows()
     ensures displaced_field_disables { DisplacedFieldDisables }
     ensures displaced_field_returns { DisplacedFieldReturns }
     ensures displaced_field_dropped { DisplacedFieldDropped }
+{}
+
+/// The same of virtual keyboards.
+pub fn board_rows()
+    ensures own_keys_pass { OwnKeysPass }
+    ensures no_keymap { NoKeymap }
+    ensures releases_follow { ReleasesFollow }
 {}
 
 /// The same of the acts that only sessions have.

@@ -111,6 +111,8 @@ pub enum Said {
         key: u32,
         state: u32,
     },
+    /// Modifiers of a board that no grab has, told to the shell.
+    VMods(Mods),
     /// Where a popup stands on the screen, told to the shell. Pixels.
     Placed {
         popup: Label,

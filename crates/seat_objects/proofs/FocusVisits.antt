@@ -8,7 +8,7 @@ use Rattle.relay_model.specs.Objects.{is_at}
 use Rattle.seat_objects.specs.declared.change.Change.TheVariants.{Focus}
 use Rattle.seat_objects.specs.declared.object.Object.{Object}
 use Rattle.seat_objects.specs.declared.object.Kind.{Kind}
-use Rattle.seat_objects.specs.declared.object.Kind.TheVariants.{Peer, Surface, Field, Method, Popup, Grab, Thing}
+use Rattle.seat_objects.specs.declared.object.Kind.TheVariants.{Peer, Surface, Field, Method, Popup, Grab, Thing, Board}
 use Rattle.seat_objects.specs.declared.listed.LiveField.{LiveField}
 use Rattle.seat_objects.specs.declared.listed.LivePopup.{LivePopup}
 use Rattle.seat_objects.specs.declared.entered.Entered.{Entered}
@@ -30,6 +30,7 @@ changed_twice e Method = refl
 changed_twice e (Popup m s) = refl
 changed_twice e (Grab m) = refl
 changed_twice e Thing = refl
+changed_twice e Board = refl
 
 refocused_twice : (peer : Option ℕ) (o : Object) → refocused peer (refocused peer o) ≡ refocused peer o
 refocused_twice peer o = ap (λ k. record o { kind = k }) (changed_twice (is_at peer o.peer) o.kind)
@@ -90,6 +91,7 @@ not_field f Method off = refl
 not_field f (Popup m s) off = refl
 not_field f (Grab m) off = refl
 not_field f Thing off = refl
+not_field f Board off = refl
 
 may_be_by : (peer : Option ℕ) (p : ℕ) → may_be (entered_by peer) p ≡ is_at peer p
 may_be_by None p = refl

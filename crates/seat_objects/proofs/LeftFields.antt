@@ -10,7 +10,7 @@ use Rattle.seat_objects.specs.declared.change.Change.{Change}
 use Rattle.seat_objects.specs.declared.change.Change.TheVariants.{Ask, Focus, Commit, Displace, Area}
 use Rattle.seat_objects.specs.declared.object.Object.{Object}
 use Rattle.seat_objects.specs.declared.object.Kind.{Kind}
-use Rattle.seat_objects.specs.declared.object.Kind.TheVariants.{Peer, Surface, Field, Method, Popup, Grab, Thing}
+use Rattle.seat_objects.specs.declared.object.Kind.TheVariants.{Peer, Surface, Field, Method, Popup, Grab, Thing, Board}
 use Rattle.seat_objects.specs.declared.entered.Entered.{Entered}
 use Rattle.seat_objects.specs.Objects.{asked, changed, kind_placed, is_field_kind}
 use Rattle.seat_objects.specs.Changes.{kind_after, changed_by, changed_at}
@@ -27,6 +27,7 @@ field_changed f Method = refl
 field_changed f (Popup m s) = refl
 field_changed f (Grab m) = refl
 field_changed f Thing = refl
+field_changed f Board = refl
 
 popup_changed : (f : Kept → Kept) (p x : ℕ) (k : Kind) → popup_of_kind p x (changed f k) ≡ popup_of_kind p x k
 popup_changed f p x Peer = refl
@@ -36,6 +37,7 @@ popup_changed f p x Method = refl
 popup_changed f p x (Popup m s) = refl
 popup_changed f p x (Grab m) = refl
 popup_changed f p x Thing = refl
+popup_changed f p x Board = refl
 
 field_placed : (rect : Rect) (k : Kind) → is_field_kind (kind_placed rect k) ≡ is_field_kind k
 field_placed rect Peer = refl
@@ -45,6 +47,7 @@ field_placed rect Method = refl
 field_placed rect (Popup m s) = refl
 field_placed rect (Grab m) = refl
 field_placed rect Thing = refl
+field_placed rect Board = refl
 
 popup_placed : (rect : Rect) (p x : ℕ) (k : Kind) → popup_of_kind p x (kind_placed rect k) ≡ popup_of_kind p x k
 popup_placed rect p x Peer = refl
@@ -54,6 +57,7 @@ popup_placed rect p x Method = refl
 popup_placed rect p x (Popup m s) = refl
 popup_placed rect p x (Grab m) = refl
 popup_placed rect p x Thing = refl
+popup_placed rect p x Board = refl
 
 field_after : (c : Change) (p : ℕ) (k : Kind) → is_field_kind (kind_after c p k) ≡ is_field_kind k
 field_after (Ask act) p k = field_changed _ k
@@ -134,6 +138,7 @@ changed_left f keeps Method left = refl
 changed_left f keeps (Popup m s) left = refl
 changed_left f keeps (Grab m) left = refl
 changed_left f keeps Thing left = refl
+changed_left f keeps Board left = refl
 
 placed_left : (rect : Rect) (k : Kind) → IsLeftKind k → IsLeftKind (kind_placed rect k)
 placed_left rect Peer left = refl
@@ -143,6 +148,7 @@ placed_left rect Method left = refl
 placed_left rect (Popup m s) left = refl
 placed_left rect (Grab m) left = refl
 placed_left rect Thing left = refl
+placed_left rect Board left = refl
 
 -- the focus doesn't move
 abbrev pub IsFirm : Change → Type 0

@@ -7,7 +7,7 @@ use Rattle.std.proofs.lemmas.List.{map-append, append-nil}
 use Rattle.std.proofs.lemmas.List.Elements.{filter-append, All-push, All-filter, All-map, All-weaker, filter_agree}
 use Rattle.seat_objects.specs.declared.object.Object.{Object}
 use Rattle.seat_objects.specs.declared.object.Kind.{Kind}
-use Rattle.seat_objects.specs.declared.object.Kind.TheVariants.{Peer, Surface, Field, Method, Popup, Grab, Thing}
+use Rattle.seat_objects.specs.declared.object.Kind.TheVariants.{Peer, Surface, Field, Method, Popup, Grab, Thing, Board}
 use Rattle.seat_objects.specs.declared.listed.LiveField.{LiveField}
 use Rattle.seat_objects.specs.declared.listed.LivePopup.{LivePopup}
 use Rattle.seat_objects.specs.declared.entered.Entered.{Entered}
@@ -81,6 +81,7 @@ module _ (q : LivePopup → Bool) (r : Object → Bool) (agree : (o : Object) (m
       by_kind Method b e = none_if b
       by_kind (Grab m) b e = none_if b
       by_kind Thing b e = none_if b
+      by_kind Board b e = none_if b
 
   put_popups : (b : Bool) (o : Object) (os : List Object) → (if b then popup_of o else []) ++ popups_of os ≡ popups_of (if b then o ∷ os else os)
   put_popups true o os = refl
@@ -190,6 +191,7 @@ module _ (x : ℕ) (o : Object) where
   no_popup Method p y off = refl
   no_popup (Grab m) p y off = refl
   no_popup Thing p y off = refl
+  no_popup Board p y off = refl
 
   popups_first : is_popup_kind o.kind ≡ false → (v : Object) (vs : List Object) (b : Bool) → (b ≡ true → v ≡ o) → popups_of vs ≡ popups_of (filter (not_label x) vs) → popups_of (v ∷ vs) ≡ popups_of (if not b then v ∷ filter (not_label x) vs else filter (not_label x) vs)
   popups_first off v vs true same rest =

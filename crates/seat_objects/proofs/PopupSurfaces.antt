@@ -4,7 +4,7 @@ use Rattle.std.specs.List.{list_any}
 use Rattle.relay_model.specs.Objects.{is_at}
 use Rattle.seat_objects.specs.declared.object.Object.{Object}
 use Rattle.seat_objects.specs.declared.object.Kind.{Kind}
-use Rattle.seat_objects.specs.declared.object.Kind.TheVariants.{Peer, Surface, Field, Method, Popup, Grab, Thing}
+use Rattle.seat_objects.specs.declared.object.Kind.TheVariants.{Peer, Surface, Field, Method, Popup, Grab, Thing, Board}
 use Rattle.seat_objects.specs.declared.listed.LivePopup.{LivePopup}
 use Rattle.seat_objects.specs.Objects.{surface_of_kind, has_popup_in}
 use Rattle.seat_objects.specs.Listed.{popup_of_kind, popups_of}
@@ -20,6 +20,7 @@ has_one s p x (Field kept) ws = refl
 has_one s p x Method ws = refl
 has_one s p x (Grab m) ws = refl
 has_one s p x Thing ws = refl
+has_one s p x Board ws = refl
 
 pub surfaces_are : (s : ℕ) (os : List Object) → list_any (has s) (popups_of os) ≡ has_popup_in os s
 surfaces_are s [] = refl

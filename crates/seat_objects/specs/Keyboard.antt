@@ -32,3 +32,10 @@ key_told n time key state (ToGrab g) = to g (said.Key n time key state) ∷ []
 key_told n time key state Pass = to 0 (said.Pass time key state) ∷ []
 key_told n time key state Nowhere = []
 key_told n time key state TooMany = []
+
+-- modifiers of a board that take this route
+abbrev pub board_mods_told : ℕ → Mods → Route → List Told
+board_mods_told n mods (ToGrab g) = to g (said.Mods n mods) ∷ []
+board_mods_told n mods Pass = to 0 (said.VMods mods) ∷ []
+board_mods_told n mods Nowhere = []
+board_mods_told n mods TooMany = []

@@ -9,7 +9,7 @@ use Rattle.field_state.specs.Stands.{Kept}
 use Rattle.field_state.specs.Changes as change
 use Rattle.seat_objects.specs.declared.object.Object.{Object}
 use Rattle.seat_objects.specs.declared.object.Kind.{Kind}
-use Rattle.seat_objects.specs.declared.object.Kind.TheVariants.{Peer, Surface, Field, Method, Popup, Grab, Thing}
+use Rattle.seat_objects.specs.declared.object.Kind.TheVariants.{Peer, Surface, Field, Method, Popup, Grab, Thing, Board}
 
 -- the object with the label
 abbrev pub find : List Object → ℕ → Option Object
@@ -122,6 +122,7 @@ changed change Method = Method
 changed change (Popup method surface) = Popup method surface
 changed change (Grab method) = Grab method
 changed change Thing = Thing
+changed change Board = Board
 
 -- the act is a request of the field f
 abbrev pub requested : ℕ → Act → Object → Object
@@ -145,6 +146,7 @@ kind_placed rect Method = Method
 kind_placed rect (Popup method surface) = Popup method surface
 kind_placed rect (Grab method) = Grab method
 kind_placed rect Thing = Thing
+kind_placed rect Board = Board
 
 -- the surface t is there on the screen
 abbrev pub placed_at : ℕ → Rect → Object → Object

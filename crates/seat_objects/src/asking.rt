@@ -53,6 +53,10 @@ pub fn ask(field: &mut Field, act: &Act)
         | Act::Seat { .. }
         | Act::Thing { .. }
         | Act::Bad { .. }
+        | Act::VBoard { .. }
+        | Act::VKeymap { .. }
+        | Act::VKey { .. }
+        | Act::VMods { .. }
         | Act::Took { .. }
         | Act::Idle => {}
     }

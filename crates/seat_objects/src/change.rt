@@ -61,7 +61,12 @@ impl Object {
         match &mut self.kind {
             Kind::Field(field) => change_field(field, self.peer, change),
             Kind::Surface { area } => change_area(area, change),
-            Kind::Peer | Kind::Method | Kind::Popup { .. } | Kind::Grab { .. } | Kind::Thing => {}
+            Kind::Peer
+            | Kind::Method
+            | Kind::Popup { .. }
+            | Kind::Grab { .. }
+            | Kind::Thing
+            | Kind::Board => {}
         }
     }
 }

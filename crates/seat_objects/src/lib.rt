@@ -21,4 +21,4 @@ pub use post::{
     tell_group, tell_leaves, tell_unavailable, tell_update,
 };
 pub use spare::Spare;
-pub use told::{tell_grab, tell_key, tell_keyboard, tell_place};
+pub use told::{tell_board_mods, tell_grab, tell_key, tell_keyboard, tell_place};

@@ -24,6 +24,8 @@ pub enum Kind {
     Grab { method: Label },
     /// A registry, a seat or another bound global, of which nothing is asked but whether it lives.
     Thing,
+    /// A virtual keyboard (`zwp_virtual_keyboard_v1`). Its keys are kept by `virt_keys`.
+    Board,
 }
 
 /// A live object and the peer that it belongs to; a peer is its own.
@@ -74,7 +76,8 @@ impl Object {
             | Kind::Method
             | Kind::Popup { .. }
             | Kind::Grab { .. }
-            | Kind::Thing => None,
+            | Kind::Thing
+            | Kind::Board => None,
         }
     }
 
@@ -106,7 +109,8 @@ impl Object {
             | Kind::Method
             | Kind::Popup { .. }
             | Kind::Grab { .. }
-            | Kind::Thing => NO_AREA,
+            | Kind::Thing
+            | Kind::Board => NO_AREA,
         }
     }
 }

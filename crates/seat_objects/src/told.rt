@@ -3,7 +3,7 @@ ghost use Rattle.relay_model.specs.Popups.{place_told};
 ghost use Rattle.relay_model.specs.Told.{to_grab};
 ghost use Rattle.seat_objects.specs.Reached.{Reached};
 ghost use Rattle.seat_objects.specs.Keyboard.{keymap_told, repeat_told, mods_told, keyboard_told};
-ghost use Rattle.seat_objects.specs.Keyboard.{key_told};
+ghost use Rattle.seat_objects.specs.Keyboard.{key_told, board_mods_told};
 
 use crate::post::Post;
 use kbd_grab::{Grab, Keymap, Mods, Repeat, Route};
@@ -82,6 +82,23 @@ pub fn tell_key<P: Post>(route: Route, serial: u32, time: u32, key: u32, state: 
         Route::Pass => post.tell(&Told {
             to: SHELL,
             event: Said::Pass { time, key, state },
+        }),
+        Route::Nowhere | Route::TooMany => {}
+    }
+}
+
+/// Tells the grab or the shell a board's modifiers, as their route says.
+pub fn tell_board_mods<P: Post>(route: Route, serial: u32, mods: Mods, post: &mut P)
+    ensures { Reached P.may_follow post.old (board_mods_told serial mods route) post.new }
+{
+    match route {
+        Route::ToGrab(grab) => post.tell(&Told {
+            to: grab,
+            event: Said::Mods { serial, mods },
+        }),
+        Route::Pass => post.tell(&Told {
+            to: SHELL,
+            event: Said::VMods(mods),
         }),
         Route::Nowhere | Route::TooMany => {}
     }

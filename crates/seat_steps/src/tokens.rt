@@ -22,7 +22,7 @@ impl Model for TokenList {
 }
 
 impl TokenList {
-    ghost use Rattle.std.specs.Prelude.{◌≡◌, ◌++◌, [], ◌∷◌, length, IfOk, OnOk, OnErr};
+    ghost use Rattle.std.specs.Prelude.{◌≡◌, ◌++◌, [], ◌∷◌, length, drop, IfOk, OnOk, OnErr};
 
     /// No tokens yet. Takes no memory.
     pub fn new(alloc: Global) -> TokenList
@@ -49,6 +49,15 @@ impl TokenList {
     {
         self.tokens.push(token)?;
         Ok(())
+    }
+
+    /// The first token is gone, if there is one.
+    pub fn drop_first(&mut self)
+        ensures rest { self.new ≡ drop 1 self.old }
+    {
+        if !self.tokens.is_empty() {
+            self.tokens.remove(0);
+        }
     }
 
     /// The tokens.

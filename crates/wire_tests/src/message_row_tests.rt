@@ -280,6 +280,47 @@ static REQUESTS_OF_THE_INPUT_METHOD: [(Interface, Request<'static>, &[u32]); 11]
     ),
 ];
 
+static REQUESTS_OF_THE_VIRTUAL_KEYBOARD: [(Interface, Request<'static>, &[u32]); 5] = [
+    (
+        Interface::VirtualKeyboardManager,
+        Request::CreateVirtualKeyboard { seat: 2, id: 3 },
+        &[7, 0x0010_0000, 2, 3],
+    ),
+    (
+        Interface::VirtualKeyboard,
+        Request::Keymap {
+            format: 1,
+            token: 5,
+            size: 2,
+        },
+        &[7, 0x0010_0000, 1, 2],
+    ),
+    (
+        Interface::VirtualKeyboard,
+        Request::Key {
+            time: 1,
+            key: 2,
+            state: 3,
+        },
+        &[7, 0x0014_0001, 1, 2, 3],
+    ),
+    (
+        Interface::VirtualKeyboard,
+        Request::Modifiers {
+            depressed: 1,
+            latched: 2,
+            locked: 3,
+            group: 4,
+        },
+        &[7, 0x0018_0002, 1, 2, 3, 4],
+    ),
+    (
+        Interface::VirtualKeyboard,
+        Request::VirtualKeyboardDestroy,
+        &[7, 0x0008_0003],
+    ),
+];
+
 static EVENTS_OF_THE_CORE_AND_THE_TEXT_INPUT: [(Interface, Event<'static>, &[u32]); 12] = [
     (
         Interface::Display,
@@ -457,6 +498,7 @@ fn each_request_has_its_words(rt: HostRuntime) {
     requests_are(&rt, &REQUESTS_OF_THE_CORE);
     requests_are(&rt, &REQUESTS_OF_THE_TEXT_INPUT);
     requests_are(&rt, &REQUESTS_OF_THE_INPUT_METHOD);
+    requests_are(&rt, &REQUESTS_OF_THE_VIRTUAL_KEYBOARD);
 }
 
 #[test]

@@ -58,6 +58,19 @@ fn a_commit_string_is_read_or_malformed(rt: HostRuntime) {
     }
 }
 
+// The token of a board's keymap, a request, that comes while these tokens wait.
+fn board_keymap_token(tokens: &[u32]) -> Result<u32, Refuse> {
+    let raw = Raw {
+        id: 5,
+        opcode: 0,
+        body: &[1, 0, 0, 0, 2, 0, 0, 0],
+    };
+    match read_request(Interface::VirtualKeyboard, &raw, tokens)? {
+        Request::Keymap { token, .. } => Ok(token),
+        _ => Err(Refuse::Opcode),
+    }
+}
+
 // The token of a keymap event that comes with these tokens.
 fn keymap_token(tokens: &[u32]) -> Result<u32, Refuse> {
     let raw = Raw {
@@ -75,12 +88,16 @@ fn keymap_token(tokens: &[u32]) -> Result<u32, Refuse> {
 fn a_descriptor_is_the_first_token(rt: HostRuntime) {
     equal(&rt, keymap_token(&[8, 9]), Ok(8));
     equal(&rt, keymap_token(&[]), Err(Refuse::Malformed));
+    equal(&rt, board_keymap_token(&[8, 9]), Ok(8));
+    equal(&rt, board_keymap_token(&[]), Err(Refuse::Malformed));
 }
 
-static NO_ROWS: [(Interface, u16); 3] = [
+static NO_ROWS: [(Interface, u16); 5] = [
     (Interface::Surface, 1),
     (Interface::Callback, 0),
     (Interface::TextInput, 8),
+    (Interface::VirtualKeyboardManager, 1),
+    (Interface::VirtualKeyboard, 4),
 ];
 
 // No request has the opcode.

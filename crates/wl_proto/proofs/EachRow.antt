@@ -1,7 +1,7 @@
 -- Each request and each event has a row, and the opcodes of each interface rise.
 use Rattle.std.proofs.Common.{ℕ, List, Option, Some, None, refl}
 use Rattle.std.specs.Option.{option_copied}
-use Rattle.wl_proto.specs.declared.interface.Interface.TheVariants.{Display, Registry, Callback, Compositor, Surface, Seat, TextInputManager, TextInput, InputMethodManager, InputMethod, InputPopupSurface, KeyboardGrab}
+use Rattle.wl_proto.specs.declared.interface.Interface.TheVariants.{Display, Registry, Callback, Compositor, Surface, Seat, TextInputManager, TextInput, InputMethodManager, InputMethod, InputPopupSurface, KeyboardGrab, VirtualKeyboardManager, VirtualKeyboard}
 use Rattle.wl_proto.specs.declared.table.Kind.TheVariants.{TextOrNull}
 use Rattle.wl_proto.specs.declared.request.Request.{Request}
 use Rattle.wl_proto.specs.declared.request.Request.TheVariants as request
@@ -50,6 +50,11 @@ each_request (request.GrabKeyboard keyboard) = (_, refl, (tt, tt))
 each_request request.InputMethodDestroy = (_, refl, tt)
 each_request request.InputPopupSurfaceDestroy = (_, refl, tt)
 each_request request.KeyboardGrabRelease = (_, refl, tt)
+each_request (request.CreateVirtualKeyboard seat id) = (_, refl, (tt, (tt, tt)))
+each_request (request.Keymap format d size) = (_, refl, (tt, (tt, (tt, tt))))
+each_request (request.Key time key state) = (_, refl, (tt, (tt, (tt, tt))))
+each_request (request.Modifiers depressed latched locked group) = (_, refl, (tt, (tt, (tt, (tt, tt)))))
+each_request request.VirtualKeyboardDestroy = (_, refl, tt)
 
 pub each_event : (event : Event) → HasRow event_kinds (event_message event)
 each_event (event.Error object code m) = (_, refl, (tt, (tt, (tt, tt))))
@@ -90,6 +95,8 @@ requests_rise InputMethodManager = rises-increasing (opcodes (request_rows Input
 requests_rise InputMethod = rises-increasing (opcodes (request_rows InputMethod)) refl
 requests_rise InputPopupSurface = rises-increasing (opcodes (request_rows InputPopupSurface)) refl
 requests_rise KeyboardGrab = rises-increasing (opcodes (request_rows KeyboardGrab)) refl
+requests_rise VirtualKeyboardManager = rises-increasing (opcodes (request_rows VirtualKeyboardManager)) refl
+requests_rise VirtualKeyboard = rises-increasing (opcodes (request_rows VirtualKeyboard)) refl
 
 pub events_rise : Rise event_rows
 events_rise Display = rises-increasing (opcodes (event_rows Display)) refl
@@ -104,3 +111,5 @@ events_rise InputMethodManager = rises-increasing (opcodes (event_rows InputMeth
 events_rise InputMethod = rises-increasing (opcodes (event_rows InputMethod)) refl
 events_rise InputPopupSurface = rises-increasing (opcodes (event_rows InputPopupSurface)) refl
 events_rise KeyboardGrab = rises-increasing (opcodes (event_rows KeyboardGrab)) refl
+events_rise VirtualKeyboardManager = rises-increasing (opcodes (event_rows VirtualKeyboardManager)) refl
+events_rise VirtualKeyboard = rises-increasing (opcodes (event_rows VirtualKeyboard)) refl

@@ -1,7 +1,7 @@
 -- The protocol's names of the interfaces.
 use Rattle.std.specs.Prelude.{ℕ, List, codes}
 use Rattle.wl_proto.specs.declared.interface.Interface.{Interface}
-use Rattle.wl_proto.specs.declared.interface.Interface.TheVariants.{Display, Registry, Callback, Compositor, Surface, Seat, TextInputManager, TextInput, InputMethodManager, InputMethod, InputPopupSurface, KeyboardGrab}
+use Rattle.wl_proto.specs.declared.interface.Interface.TheVariants.{Display, Registry, Callback, Compositor, Surface, Seat, TextInputManager, TextInput, InputMethodManager, InputMethod, InputPopupSurface, KeyboardGrab, VirtualKeyboardManager, VirtualKeyboard}
 
 abbrev pub name_of : Interface → List ℕ
 name_of Display = codes "wl_display"
@@ -16,3 +16,5 @@ name_of InputMethodManager = codes "zwp_input_method_manager_v2"
 name_of InputMethod = codes "zwp_input_method_v2"
 name_of InputPopupSurface = codes "zwp_input_popup_surface_v2"
 name_of KeyboardGrab = codes "zwp_input_method_keyboard_grab_v2"
+name_of VirtualKeyboardManager = codes "zwp_virtual_keyboard_manager_v1"
+name_of VirtualKeyboard = codes "zwp_virtual_keyboard_v1"

@@ -3,11 +3,11 @@ use Rattle.std.specs.Prelude.{ℕ, List, [], ◌∷◌, Option}
 use Rattle.std.specs.Option.{option_copied}
 use Rattle.wl_proto.specs.Grammar.{Value, word, signed, text, token, string_value}
 use Rattle.wl_proto.specs.declared.interface.Interface.{Interface}
-use Rattle.wl_proto.specs.declared.interface.Interface.TheVariants.{Display, Registry, Callback, Compositor, Surface, Seat, TextInputManager, TextInput, InputMethodManager, InputMethod, InputPopupSurface, KeyboardGrab}
+use Rattle.wl_proto.specs.declared.interface.Interface.TheVariants.{Display, Registry, Callback, Compositor, Surface, Seat, TextInputManager, TextInput, InputMethodManager, InputMethod, InputPopupSurface, KeyboardGrab, VirtualKeyboardManager, VirtualKeyboard}
 use Rattle.wl_proto.specs.declared.table.Kind.{Kind}
 use Rattle.wl_proto.specs.declared.table.Sig.{Sig}
 use Rattle.wl_proto.specs.Tables.{row}
-use Rattle.wl_proto.specs.declared.table.TheConstants.{DISPLAY_REQUESTS, REGISTRY_REQUESTS, COMPOSITOR_REQUESTS, SURFACE_REQUESTS, SEAT_REQUESTS, TEXT_INPUT_MANAGER_REQUESTS, TEXT_INPUT_REQUESTS, INPUT_METHOD_MANAGER_REQUESTS, INPUT_METHOD_REQUESTS, INPUT_POPUP_SURFACE_REQUESTS, KEYBOARD_GRAB_REQUESTS, DISPLAY_EVENTS, REGISTRY_EVENTS, CALLBACK_EVENTS, SEAT_EVENTS, TEXT_INPUT_EVENTS, INPUT_METHOD_EVENTS, INPUT_POPUP_SURFACE_EVENTS, KEYBOARD_GRAB_EVENTS}
+use Rattle.wl_proto.specs.declared.table.TheConstants.{DISPLAY_REQUESTS, REGISTRY_REQUESTS, COMPOSITOR_REQUESTS, SURFACE_REQUESTS, SEAT_REQUESTS, TEXT_INPUT_MANAGER_REQUESTS, TEXT_INPUT_REQUESTS, INPUT_METHOD_MANAGER_REQUESTS, INPUT_METHOD_REQUESTS, INPUT_POPUP_SURFACE_REQUESTS, KEYBOARD_GRAB_REQUESTS, VIRTUAL_KEYBOARD_MANAGER_REQUESTS, VIRTUAL_KEYBOARD_REQUESTS, DISPLAY_EVENTS, REGISTRY_EVENTS, CALLBACK_EVENTS, SEAT_EVENTS, TEXT_INPUT_EVENTS, INPUT_METHOD_EVENTS, INPUT_POPUP_SURFACE_EVENTS, KEYBOARD_GRAB_EVENTS}
 use Rattle.wl_proto.specs.declared.request.Request.{Request}
 use Rattle.wl_proto.specs.declared.request.Request.TheVariants as request
 use Rattle.wl_proto.specs.declared.event.Event.{Event}
@@ -36,6 +36,8 @@ request_rows InputMethodManager = INPUT_METHOD_MANAGER_REQUESTS.rows
 request_rows InputMethod = INPUT_METHOD_REQUESTS.rows
 request_rows InputPopupSurface = INPUT_POPUP_SURFACE_REQUESTS.rows
 request_rows KeyboardGrab = KEYBOARD_GRAB_REQUESTS.rows
+request_rows VirtualKeyboardManager = VIRTUAL_KEYBOARD_MANAGER_REQUESTS.rows
+request_rows VirtualKeyboard = VIRTUAL_KEYBOARD_REQUESTS.rows
 
 -- the argument kinds of a request, by interface and opcode; none where no row has the opcode
 abbrev pub request_kinds : Interface → ℕ → Option (List Kind)
@@ -74,6 +76,11 @@ request_message (request.GrabKeyboard keyboard) = message InputMethod 5 (word ke
 request_message request.InputMethodDestroy = message InputMethod 6 []
 request_message request.InputPopupSurfaceDestroy = message InputPopupSurface 0 []
 request_message request.KeyboardGrabRelease = message KeyboardGrab 0 []
+request_message (request.CreateVirtualKeyboard seat id) = message VirtualKeyboardManager 0 (word seat ∷ word id ∷ [])
+request_message (request.Keymap format d size) = message VirtualKeyboard 0 (word format ∷ token d ∷ word size ∷ [])
+request_message (request.Key time key state) = message VirtualKeyboard 1 (word time ∷ word key ∷ word state ∷ [])
+request_message (request.Modifiers depressed latched locked group) = message VirtualKeyboard 2 (word depressed ∷ word latched ∷ word locked ∷ word group ∷ [])
+request_message request.VirtualKeyboardDestroy = message VirtualKeyboard 3 []
 
 -- the rows of an interface's events
 abbrev pub event_rows : Interface → List Sig
@@ -89,6 +96,8 @@ event_rows InputMethodManager = []
 event_rows InputMethod = INPUT_METHOD_EVENTS.rows
 event_rows InputPopupSurface = INPUT_POPUP_SURFACE_EVENTS.rows
 event_rows KeyboardGrab = KEYBOARD_GRAB_EVENTS.rows
+event_rows VirtualKeyboardManager = []
+event_rows VirtualKeyboard = []
 
 -- the argument kinds of an event
 abbrev pub event_kinds : Interface → ℕ → Option (List Kind)

@@ -65,6 +65,15 @@ pub fn two_words(body: &[u8]) -> Result<(u32, u32), Malformed>
     first_and_others!(body first_word one_word second)
 }
 
+// Three words.
+#[inline(always)]
+pub fn three_words(body: &[u8]) -> Result<(u32, u32, u32), Malformed>
+    ensures { Gives (λ x. word x.0 ∷ word x.1 ∷ word x.2 ∷ []) result
+        (values_at [] (kind.Uint ∷ kind.Uint ∷ kind.Uint ∷ []) body.now) }
+{
+    first_and_others!(body first_word two_words second third)
+}
+
 // Four words.
 #[inline(always)]
 pub fn four_words(body: &[u8]) -> Result<(u32, u32, u32, u32), Malformed>
@@ -203,6 +212,7 @@ macro_rules! arguments {
     ($body:ident $tokens:ident) => { nothing($body) };
     ($body:ident $tokens:ident uint) => { one_word($body) };
     ($body:ident $tokens:ident uint uint) => { two_words($body) };
+    ($body:ident $tokens:ident uint uint uint) => { three_words($body) };
     ($body:ident $tokens:ident uint uint uint uint) => { four_words($body) };
     ($body:ident $tokens:ident uint uint uint uint uint) => { five_words($body) };
     ($body:ident $tokens:ident int) => { one_int($body) };

@@ -144,7 +144,9 @@ fn event_of<'a>(
         Interface::Compositor
         | Interface::Surface
         | Interface::TextInputManager
-        | Interface::InputMethodManager => Err(Refuse::Opcode),
+        | Interface::InputMethodManager
+        | Interface::VirtualKeyboardManager
+        | Interface::VirtualKeyboard => Err(Refuse::Opcode),
     }
 }
 

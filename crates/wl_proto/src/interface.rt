@@ -29,6 +29,10 @@ pub enum Interface {
     InputPopupSurface,
     /// `zwp_input_method_keyboard_grab_v2`.
     KeyboardGrab,
+    /// `zwp_virtual_keyboard_manager_v1`, which makes virtual keyboards.
+    VirtualKeyboardManager,
+    /// `zwp_virtual_keyboard_v1`, a keyboard whose keys an input method presses.
+    VirtualKeyboard,
 }
 
 impl Interface {
@@ -49,6 +53,8 @@ impl Interface {
             Interface::InputMethod => "zwp_input_method_v2",
             Interface::InputPopupSurface => "zwp_input_popup_surface_v2",
             Interface::KeyboardGrab => "zwp_input_method_keyboard_grab_v2",
+            Interface::VirtualKeyboardManager => "zwp_virtual_keyboard_manager_v1",
+            Interface::VirtualKeyboard => "zwp_virtual_keyboard_v1",
         }
     }
 }

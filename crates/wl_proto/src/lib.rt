@@ -1,4 +1,4 @@
-//! The protocols: the rows of twelve interfaces, and their requests and events read and written.
+//! The protocols: the rows of fourteen interfaces, and their requests and events read and written.
 #![tactic(auto)]
 
 mod argument;
@@ -31,4 +31,5 @@ pub use table::{
     INPUT_POPUP_SURFACE_REQUESTS, KEYBOARD_GRAB_EVENTS, KEYBOARD_GRAB_REQUESTS, Kind,
     REGISTRY_EVENTS, REGISTRY_REQUESTS, SEAT_EVENTS, SEAT_REQUESTS, SURFACE_REQUESTS, Sig,
     SigTable, TEXT_INPUT_EVENTS, TEXT_INPUT_MANAGER_REQUESTS, TEXT_INPUT_REQUESTS,
+    VIRTUAL_KEYBOARD_MANAGER_REQUESTS, VIRTUAL_KEYBOARD_REQUESTS,
 };

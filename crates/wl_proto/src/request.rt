@@ -126,4 +126,31 @@ pub enum Request<'a> {
     InputPopupSurfaceDestroy,
     /// `zwp_input_method_keyboard_grab_v2.release`
     KeyboardGrabRelease,
+    /// `zwp_virtual_keyboard_manager_v1.create_virtual_keyboard`
+    CreateVirtualKeyboard {
+        seat: u32,
+        id: u32,
+    },
+    /// `zwp_virtual_keyboard_v1.keymap`; the token stands for the file descriptor, the size is in bytes.
+    Keymap {
+        format: u32,
+        token: u32,
+        size: u32,
+    },
+    /// `zwp_virtual_keyboard_v1.key`; the time is in milliseconds, the state any number (`wl_keyboard.key_state` has 0
+    /// and 1).
+    Key {
+        time: u32,
+        key: u32,
+        state: u32,
+    },
+    /// `zwp_virtual_keyboard_v1.modifiers`: three masks and the layout.
+    Modifiers {
+        depressed: u32,
+        latched: u32,
+        locked: u32,
+        group: u32,
+    },
+    /// `zwp_virtual_keyboard_v1.destroy`
+    VirtualKeyboardDestroy,
 }

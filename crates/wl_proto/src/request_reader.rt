@@ -6,8 +6,8 @@ ghost use Rattle.wl_proto.specs.declared.interface.Interface.TheVariants as inte
 ghost use Rattle.wl_proto.specs.Spelled.{Answers};
 
 use crate::bodies::{
-    arguments, four_ints, nothing, one_text, one_word, row, text_two_ints, two_words,
-    word_text_two_words,
+    arguments, four_ints, four_words, nothing, one_text, one_word, row, text_two_ints, three_words,
+    two_words, word_text_two_words, word_token_word,
 };
 use crate::interface::Interface;
 use crate::refuse::Refuse;
@@ -186,6 +186,40 @@ fn keyboard_grab_request<'a>(
 }
 
 #[tactic(auto, unfolding(crate::specs::Reading::request_reading))]
+fn virtual_keyboard_manager_request<'a>(
+    opcode: u16,
+    body: &'a [u8],
+    tokens: &[u32],
+) -> Result<Request<'a>, Refuse>
+    ensures { Gives request_message result
+        (request_reading interface.VirtualKeyboardManager opcode tokens.now body.now) }
+{
+    match opcode {
+        0 => row!(body tokens Request CreateVirtualKeyboard { seat: uint, id: uint }),
+        _ => Err(Refuse::Opcode),
+    }
+}
+
+#[tactic(auto, unfolding(crate::specs::Reading::request_reading))]
+fn virtual_keyboard_request<'a>(
+    opcode: u16,
+    body: &'a [u8],
+    tokens: &[u32],
+) -> Result<Request<'a>, Refuse>
+    ensures { Gives request_message result
+        (request_reading interface.VirtualKeyboard opcode tokens.now body.now) }
+{
+    match opcode {
+        0 => row!(body tokens Request Keymap { format: uint, token: descriptor, size: uint }),
+        1 => row!(body tokens Request Key { time: uint, key: uint, state: uint }),
+        2 =>
+            row!(body tokens Request Modifiers { depressed: uint, latched: uint, locked: uint, group: uint }),
+        3 => row!(body tokens Request VirtualKeyboardDestroy {}),
+        _ => Err(Refuse::Opcode),
+    }
+}
+
+#[tactic(auto, unfolding(crate::specs::Reading::request_reading))]
 fn request_of<'a>(
     interface: Interface,
     opcode: u16,
@@ -206,6 +240,8 @@ fn request_of<'a>(
         Interface::InputMethod => input_method_request(opcode, body, tokens),
         Interface::InputPopupSurface => input_popup_surface_request(opcode, body, tokens),
         Interface::KeyboardGrab => keyboard_grab_request(opcode, body, tokens),
+        Interface::VirtualKeyboardManager => virtual_keyboard_manager_request(opcode, body, tokens),
+        Interface::VirtualKeyboard => virtual_keyboard_request(opcode, body, tokens),
         Interface::Callback => Err(Refuse::Opcode),
     }
 }
@@ -222,7 +258,8 @@ fn answer_request<'a>(
     request_of(interface, opcode, body, tokens)
 }
 
-/// The request that the message is, by the rows of the interface.
+/// The request that the message is, by the rows of the interface. `tokens` are those that wait, the first of which is
+/// the request's descriptor where its row has one.
 pub fn read_request<'a>(
     interface: Interface,
     raw: &Raw<'a>,

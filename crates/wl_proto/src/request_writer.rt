@@ -27,7 +27,8 @@ pub fn request_len(request: &Request) -> usize
         | Request::InputMethodManagerDestroy
         | Request::InputMethodDestroy
         | Request::InputPopupSurfaceDestroy
-        | Request::KeyboardGrabRelease => 8,
+        | Request::KeyboardGrabRelease
+        | Request::VirtualKeyboardDestroy => 8,
         Request::Sync { .. }
         | Request::GetRegistry { .. }
         | Request::CreateSurface { .. }
@@ -41,8 +42,12 @@ pub fn request_len(request: &Request) -> usize
         | Request::SetContentType { .. }
         | Request::GetInputMethod { .. }
         | Request::DeleteSurroundingText { .. }
-        | Request::GetInputPopupSurface { .. } => 16,
-        Request::Damage { .. } | Request::SetCursorRectangle { .. } => 24,
+        | Request::GetInputPopupSurface { .. }
+        | Request::CreateVirtualKeyboard { .. }
+        | Request::Keymap { .. } => 16,
+        Request::Key { .. } => 20,
+        Request::Damage { .. } | Request::SetCursorRectangle { .. } | Request::Modifiers { .. } =>
+            24,
         Request::CommitString { text } => text_size(text) + 8,
         Request::SetSurroundingText { text, .. } | Request::SetPreeditString { text, .. } =>
             text_size(text) + 16,
@@ -62,6 +67,7 @@ macro_rules! put_by_row {
             Request::Enable
             | Request::InputMethodManagerDestroy => put_row!(put_nothing $out $id 1),
             Request::Disable => put_row!(put_nothing $out $id 2),
+            Request::VirtualKeyboardDestroy => put_row!(put_nothing $out $id 3),
             Request::SurfaceCommit
             | Request::InputMethodDestroy => put_row!(put_nothing $out $id 6),
             Request::TextInputCommit => put_row!(put_nothing $out $id 7),
@@ -75,8 +81,9 @@ macro_rules! put_by_row {
             Request::SetTextChangeCause { cause } => put_row!(put_one $out $id 4 uint cause),
             Request::GrabKeyboard { keyboard } => put_row!(put_one $out $id 5 uint keyboard),
             Request::CommitString { text } => put_row!(put_one $out $id 0 text text),
-            Request::GetInputMethod { seat, input_method } => {
-                put_row!(put_two $out $id 0 uint seat, uint input_method)
+            Request::GetInputMethod { seat, input_method: made }
+            | Request::CreateVirtualKeyboard { seat, id: made } => {
+                put_row!(put_two $out $id 0 uint seat, uint made)
             }
             Request::GetTextInput { id: field, seat } => {
                 put_row!(put_two $out $id 1 uint field, uint seat)
@@ -90,6 +97,12 @@ macro_rules! put_by_row {
             Request::SetContentType { hint, purpose } => {
                 put_row!(put_two $out $id 5 uint hint, uint purpose)
             }
+            Request::Keymap { format, token, size } => {
+                put_row!(put_three $out $id 0 uint format, descriptor token, uint size)
+            }
+            Request::Key { time, key, state } => {
+                put_row!(put_three $out $id 1 uint time, uint key, uint state)
+            }
             Request::SetPreeditString { text, begin, end } => {
                 put_row!(put_three $out $id 1 text text, int begin, int end)
             }
@@ -101,6 +114,9 @@ macro_rules! put_by_row {
             }
             Request::SetCursorRectangle { x, y, width, height } => {
                 put_row!(put_four $out $id 6 int x, int y, int width, int height)
+            }
+            Request::Modifiers { depressed, latched, locked, group } => {
+                put_row!(put_four $out $id 2 uint depressed, uint latched, uint locked, uint group)
             }
             Request::Bind { name, interface, version, id: made } => {
                 put_row!(put_four $out $id 0 uint name, text interface, uint version, uint made)

@@ -162,6 +162,21 @@ pub const INPUT_POPUP_SURFACE_REQUESTS: SigTable<1> = SigTable { rows: [sig!(0)]
 /// The request of `zwp_input_method_keyboard_grab_v2`.
 pub const KEYBOARD_GRAB_REQUESTS: SigTable<1> = SigTable { rows: [sig!(0)] };
 
+/// The request of `zwp_virtual_keyboard_manager_v1`.
+pub const VIRTUAL_KEYBOARD_MANAGER_REQUESTS: SigTable<1> = SigTable {
+    rows: [sig!(0 Object NewId)],
+};
+
+/// The requests of `zwp_virtual_keyboard_v1`.
+pub const VIRTUAL_KEYBOARD_REQUESTS: SigTable<4> = SigTable {
+    rows: [
+        sig!(0 Uint Descriptor Uint),
+        sig!(1 Uint Uint Uint),
+        sig!(2 Uint Uint Uint Uint),
+        sig!(3),
+    ],
+};
+
 /// The events of `wl_display`.
 pub const DISPLAY_EVENTS: SigTable<2> = SigTable {
     rows: [sig!(0 Object Uint Text), sig!(1 Uint)],

@@ -2,4 +2,5 @@ pub mod Texts
 pub mod Sizes
 pub mod Gathering
 pub mod Runs
+pub mod FirstMessages
 pub mod Fields

@@ -10,7 +10,7 @@ use Rattle.wl_wire.proofs.Sizes.{size_stays}
 
 -- ---- the messages of a split stream
 
-good_is : (n : ℕ) → IsGoodSize n → is_good n ≡ true
+pub good_is : (n : ℕ) → IsGoodSize n → is_good n ≡ true
 good_is n h = rw (le-leb 8 n h.0, le-leb n 4096 h.1, eq-eqb (n % 4) 0 h.2) refl
 
 is_good-good : (n : ℕ) → is_good n ≡ true → IsGoodSize n
@@ -19,7 +19,7 @@ is_good-good n e =
     let (low, high) = and_parts (leb 8 n) (leb n 4096) front in
     (leb-true 8 n low, leb-true n 4096 high, eqb-true _ _ four)
 
-not_good : (n : ℕ) → (IsGoodSize n → ⊥) → is_good n ≡ false
+pub not_good : (n : ℕ) → (IsGoodSize n → ⊥) → is_good n ≡ false
 not_good n bad = elim (is_good n) as (λ b. is_good n ≡ b → b ≡ false) [ true ↦ λ e. absurd (bad (is_good-good n e)) | false ↦ λ e. refl ] refl
 
 record WholeFront (bytes : List ℕ) : Type 0 where

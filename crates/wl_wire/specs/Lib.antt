@@ -4,5 +4,6 @@ pub mod Spelled
 pub mod Reading
 pub mod Writing
 pub mod Messages
+pub mod Fronts
 pub mod Streams
 pub mod Gathering

@@ -53,13 +53,17 @@ abbrev pub joined : List (List ℕ) → List ℕ
 joined [] = []
 joined (piece ∷ pieces) = piece ++ joined pieces
 
+-- what stands behind the whole messages
+abbrev pub behind : List ℕ → List ℕ
+behind bytes = drop (length (joined (messages bytes))) bytes
+
 -- the bad size that the bytes begin with, where they begin with one
 abbrev pub bad_size_at : List ℕ → Option ℕ
 bad_size_at bytes = if nat_le 8 (length bytes) && not (is_good (size_of bytes)) then Some (size_of bytes) else None
 
 -- the bad size that stands behind the whole messages, where one does
 unfoldable pub bad_size : List ℕ → Option ℕ
-bad_size bytes = bad_size_at (drop (length (joined (messages bytes))) bytes)
+bad_size bytes = bad_size_at (behind bytes)
 
 abbrev pub AreMessages : List (List ℕ) → Type 0
 AreMessages [] = Unit {0}

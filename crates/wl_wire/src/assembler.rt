@@ -6,8 +6,9 @@ ghost use Rattle.wl_wire.specs.Streams.{Assembly, Begun, bytes_of, HasMessage, H
 ghost use Rattle.wl_wire.specs.Streams.{HasTold, HasFed, FedOn};
 ghost use Rattle.wl_wire.specs.Gathering.{Gathers, phase_of, taken_of, told_behind};
 
-use crate::MESSAGE_LIMIT;
+use crate::front::{is_good, raw_of, size_at};
 use crate::raw::Raw;
+use crate::{HEADER_SIZE, MESSAGE_LIMIT};
 use std::alloc::Global;
 use std::marker::Model;
 use wio_core::NoMemory;
@@ -53,19 +54,6 @@ impl Model for Assembler {
     ghost invariant = { λ a. (4096 ≤ vec_capacity a.held)
         × (a.phase ≡ Open → IsPartial a.held.items)
         × (a.phase ≡ Bad → IsBad a.held.items × (length a.held.items ≡ 8)) };
-}
-
-fn is_good(size: usize) -> bool
-    ensures { IsTrue result ↔ IsGoodSize size }
-{
-    8 <= size && size <= MESSAGE_LIMIT && size % 4 == 0
-}
-
-fn size_at(held: &[u8]) -> usize
-    requires { 8 ≤ length held.now }
-    ensures { result ≡ size_of held.now }
-{
-    held[6] as usize + 256 * held[7] as usize
 }
 
 // Takes bytes of the piece until as many as the target are held, and says how many.
@@ -122,11 +110,11 @@ fn gather(held: &mut Vec<u8>, piece: &[u8]) -> Fed
     ensures gathered { Gathers held.old.items piece.now result held.new.items }
     ensures capacity { 4096 ≤ vec_capacity held.new }
 {
-    if held.len() >= 8 {
+    if held.len() >= HEADER_SIZE {
         return gather_body(held, piece);
     }
-    let used = fill(held, 8, piece);
-    if held.len() < 8 {
+    let used = fill(held, HEADER_SIZE, piece);
+    if held.len() < HEADER_SIZE {
         return Fed::Need;
     }
     let size = size_at(held);
@@ -192,13 +180,7 @@ impl Assembler {
         ensures opcode { result.opcode ≡ opcode_of (bytes_of self.now) }
         ensures body { result.body.now ≡ body_of (bytes_of self.now) }
     {
-        let held = self.held.as_slice();
-        let (header, body) = held.split_at(8);
-        Raw {
-            id: u32::from_le_bytes([header[0], header[1], header[2], header[3]]),
-            opcode: header[4] as u16 + 256 * header[5] as u16,
-            body,
-        }
+        raw_of(self.held.as_slice())
     }
 
     /// The header whose size is bad, after a feed that told so. Takes no memory.

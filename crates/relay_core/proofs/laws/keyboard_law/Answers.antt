@@ -23,4 +23,4 @@ keyboard_kept keyboard log i h = record {
 }
 
 pub returns : goal.returns
-returns c = λ relay log h. keyboard_kept relay.state.keys (history log) (history_is log) h.keys_now
+returns c = λ relay log h. keyboard_kept relay.state.keys (history log) (history_is log) h.state.keys_now

@@ -9,4 +9,4 @@ pub returns : goal.returns
 returns c = λ log h.
     c.has_popup.ensures ∙
     ap (λ (k : Shown). has_popup_in k.state.objects c.args.surface) c.self.view_is ∙
-    finds_popup c.args.self.now.state (history log) c.args.surface h
+    finds_popup c.args.self.now.state (history log) c.args.surface h.state

@@ -1,0 +1,4 @@
+pub mod BoardTree
+pub mod TurnedKeys
+pub mod BoardHistories
+pub mod PeerBoardsLeft
