@@ -27,7 +27,7 @@ short_told e s r = all_short (act_at e s.journal.entries) (resolve s.journal.ent
 -- the relay took as many acts as there are entries
 pub acts_few : (e : Entry) (s : State) → IsReadyFor e s → s.relay.state.acts < 4294967295
 acts_few e s r =
-    let taken : s.relay.state.acts ≡ length (history (resolve s.journal.entries)) = r.relayed.acts_now in
+    let taken : s.relay.state.acts ≡ length (history (resolve s.journal.entries)) = r.relayed.state.acts_now in
     let all : length (history (resolve s.journal.entries)) ≡ length (resolve s.journal.entries) = length_history (resolve s.journal.entries) in
     let each : length (resolve s.journal.entries) ≡ length s.journal.entries = length_resolve s.journal.entries in
     let few : length s.journal.entries < 4294967295 = r.few in

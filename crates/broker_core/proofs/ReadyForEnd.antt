@@ -79,7 +79,7 @@ end_makes : (q : ℕ) (why : EndCause) (older : List Entry) (peer : Joined) → 
 end_makes q why older peer e = ap (λ o. (of_peer o (λ p. only (acts.Gone p.label why))).made ++ (past_of older).made) e
 
 gone_reserved : (relay : Shown) (p : ℕ) (why : EndCause) → IsReserved relay (acts.Gone p why)
-gone_reserved relay p why = record { room = tt; spare = tt; fits = tt }
+gone_reserved relay p why = record { room = tt; spare = tt; board = tt; fits = tt }
 
 kept_store : (capacity : ℕ) (out : _) (store : Option Queue) (was : Queue) → Holds capacity out was → store_of was.capacity store ≡ was → IsKept capacity out store
 kept_store capacity out store was h e = record {

@@ -9,7 +9,7 @@ use Rattle.relay_core.specs.Kept.{IsReserved}
 use Rattle.relay_core.specs.Stands as relay
 use Rattle.broker_model.specs.declared.journal.Entry.{Entry}
 use Rattle.broker_model.specs.declared.journal.Entry.TheVariants as entries
-use Rattle.broker_model.specs.Ids.{Joined, Made, peer_at}
+use Rattle.broker_model.specs.Ids.{object_at, Joined, Made, peer_at}
 use Rattle.broker_model.specs.Resolve.{past_of, resolve, Meaning, of_peer, refused_for, means, made_new}
 use Rattle.broker_model.specs.Out.{act_at, is_label}
 use Rattle.broker_model.specs.Limits.{is_counted, number_counted}
@@ -33,7 +33,7 @@ use Rattle.seat_wire.specs.Asked.{asked}
 use Rattle.seat_wire.specs.Meant.{meant}
 use Rattle.broker_model.specs.Settle.{is_bad, refused}
 use Rattle.broker_model.specs.Tables.{calls_for}
-use Rattle.broker_model.specs.Waiting.{with_tokens}
+use Rattle.broker_model.specs.Waiting.{with_tokens, without_taken, takes_token}
 use Rattle.broker_model.proofs.Numbers.{label_within}
 use Rattle.seat_audience.specs.declared.live.Live.{Live}
 use Rattle.seat_audience.specs.Changes.{own_calls, IsChanged}
@@ -41,7 +41,7 @@ use Rattle.broker_core.proofs.MessageCalls.{calls_own}
 use Rattle.broker_core.proofs.TableAfterAct.{IsNotFrom, calls_other}
 use Rattle.broker_core.proofs.ActTextsFit.{act_fits}
 use Rattle.broker_core.proofs.ReadyForEnd.{of_number}
-use Rattle.broker_core.proofs.TokensThatWait.{message_waits, tokens_own, tokens_other}
+use Rattle.broker_core.proofs.TokensThatWait.{message_own, message_other, tokens_own, tokens_other}
 use Rattle.broker_core.proofs.LivePeersKept.{IsItself, ready_holds, ready_still, all_ready, both}
 
 -- what is prepared beside live peers and what is made
@@ -263,10 +263,11 @@ pub ready_message : (q id opcode : ℕ) (body : List ℕ) (place : ℕ) (l after
     meant l.label (length s.journal.entries + 1) m ≡ means (entries.Message q id opcode body) (length s.journal.entries + 1) (past_of s.journal.entries) →
     IsPrepared m.act s t →
     t.audience.directory.made ≡ made_new l.label (length s.journal.entries + 1) (option_map asked m.made) ++ s.audience.directory.made →
-    IsChanged id (length s.journal.entries + 1) m.act (option_map asked m.made) l after →
+    m.takes_token ≡ takes_token (object_at (past_of s.journal.entries) l.label id) opcode →
+    IsChanged id (length s.journal.entries + 1) m.takes_token m.act (option_map asked m.made) l after →
     t.audience.live.items ≡ set s.audience.live.items place after →
     IsReadyFor (entries.Message q id opcode body) t
-ready_message q id opcode body place l after m s t v can short f at meaning n made change live =
+ready_message q id opcode body place l after m s t v can short f at meaning n made takes change live =
     let J : List Entry = s.journal.entries in
     let e : Entry = entries.Message q id opcode body in
     let peer : Joined = record { label = l.label; role = l.role } in
@@ -276,14 +277,20 @@ ready_message q id opcode body place l after m s t v can short f at meaning n ma
     let act : act_at e J ≡ m.act = message_act q id opcode body J l.label m meaning in
     let calls : calls_for (e ∷ J) l.label ≡ own_calls id (length J + 1) m.act (option_map asked m.made) ++ calls_for J l.label =
     calls_own q id opcode body J peer m joined it.1 meaning in
-    let changed : Live = record l { table = after.table; is_refused = is_bad m.act } in
+    let changed : Live = record l {
+      table = after.table;
+      is_refused = is_bad m.act;
+      waiting = without_taken m.takes_token l.waiting;
+    } in
     let here : IsReady s.capacity e J changed = record {
       holds = (ready_holds s.capacity e J l is refl).holds;
       choked = is.choked;
       room = is.room;
       table = subst (λ (cs : List Call). table.Stands cs after.table) (sym calls) (change.table (calls_for J l.label) is.table);
       refused = sym (message_refused q id opcode body J l.label m l.number meaning it.2);
-      waiting = is.waiting ∙ sym (message_waits q id opcode body (past_of J) l.label);
+      waiting = ap (without_taken m.takes_token) is.waiting
+          ∙ ap (λ (b : Bool). without_taken b ((past_of J).waiting l.label)) takes
+          ∙ sym (message_own q id opcode body (past_of J) peer joined);
     } in
     ready_spoken e s t v tt can (subst (λ a. IsPrepared a s t) (sym act) n) (act_fits e J short)
     (made ∙ ap (λ (ms : List Made). made_new l.label (length J + 1) (option_map asked m.made) ++ ms) v.made ∙ sym (message_makes q id opcode body J l.label m meaning))
@@ -293,7 +300,8 @@ ready_message q id opcode body place l after m s t v can short f at meaning n ma
     (others_ready e q l s v f
     (λ x k i d. ready_still s.capacity e J x k (calls_other e J x.label (label_within J x.number _ i.0) (not_from q id opcode body J peer x joined i d))
     (message_others q id opcode body J x.number d) refl
-    (message_waits q id opcode body (past_of J) x.label)))
+    (message_other q id opcode body (past_of J) peer x.label joined
+    (label_number J q x.number peer (record { label = x.label; role = x.role }) joined i.0 ∙ d))))
     0 (rising J s.audience.live.items v.who)))
 
 -- tokens of a live peer: they wait for it

@@ -11,6 +11,7 @@ use Rattle.broker_model.specs.declared.journal.Entry.{Entry}
 use Rattle.broker_model.specs.Ids.{Made, Joined, Past, log_of, peer_at, object_at}
 use Rattle.broker_model.specs.Refusals.{is_interface}
 use Rattle.broker_model.specs.Resolve.{surface_in, surface_at, past_of, resolve, Meaning, of_peer, of_message, means}
+use Rattle.broker_model.specs.Waiting.{takes_token}
 use Rattle.broker_model.proofs.Named.{IsFound, found}
 use Rattle.broker_model.proofs.Sound.{sound}
 use Rattle.broker_model.proofs.FewTokensWait.{few_wait}
@@ -145,6 +146,11 @@ surface_at_place s v q id place l shown same within first read =
     let found : slice_get all place ≡ number_of q all = subst (λ (live : List Live). slice_get live place ≡ number_of q live) same first in
     surface_of_live s v q id l (sym found ∙ slice_get_read all (length all) place l refl inside read)
 
+-- what was found is the same by another name
+same_found : {A : Type 0} (told : declared.Meaning → A) (found : Result declared.Meaning NoMemory) (x y : A) → y ≡ x →
+    IfOk found (λ m. told m ≡ x) → IfOk found (λ m. told m ≡ y)
+same_found told found x y e h = IfOk-weaker found (λ m. told m ≡ x) (λ m. told m ≡ y) (λ m k. k ∙ sym e) h
+
 -- what a message of the peer at the place means, where its meaning was found by the peer's table
 pub meaning_at_place : (s : State) → Stands s → (place id opcode : ℕ) (body tokens : List ℕ) (l : Live) (found : Result declared.Meaning NoMemory) →
     slice_get s.audience.live.items place ≡ Some l → tokens ≡ l.waiting →
@@ -163,7 +169,19 @@ meaning_at_place s v place id opcode body tokens l found here waits by_table =
     let its : IsTableOf past l.label l.table = table_of journal l.label l.table alive.1 is.table in
     let of_it : Joined → Meaning = λ p. of_message past n p opcode body (object_at past p.label id) in
     let joined : of_peer (peer_at past l.number) of_it ≡ of_it peer = ap (λ o. of_peer o of_it) alive.0 in
-    IfOk-weaker found _ _ (λ m e. e ∙ sym joined) (by_table past n its v.relayed (waits ∙ is.waiting))
+    same_found (meant l.label n) found (of_it peer) (of_peer (peer_at past l.number) of_it) joined
+    (by_table past n its v.relayed (waits ∙ is.waiting))
+
+-- whether the message of the peer at the place takes a token
+pub takes_at_place : (s : State) → Stands s → (place id opcode : ℕ) (l : Live) (found : Result declared.Meaning NoMemory) →
+    slice_get s.audience.live.items place ≡ Some l →
+    ((past : Past) → IsTableOf past l.label l.table → IfOk found (λ m. m.takes_token ≡ takes_token (object_at past l.label id) opcode)) →
+    IfOk found (λ m. m.takes_token ≡ takes_token (object_at (past_of s.journal.entries) l.label id) opcode)
+takes_at_place s v place id opcode l found here by_table =
+    let journal : List Entry = s.journal.entries in
+    let alive = at_place _ place s.audience.live.items l (each_alive journal s.audience.live.items v.who) here in
+    let is : IsLive s.capacity journal l = at_place (IsLive s.capacity journal) place s.audience.live.items l v.live here in
+    by_table (past_of journal) (table_of journal l.label l.table alive.1 is.table)
 
 -- at most 256 tokens wait for the peer at the place
 pub few_at_place : (s : State) → Stands s → (place : ℕ) (l : Live) → slice_get s.audience.live.items place ≡ Some l → length l.waiting ≤ 256

@@ -15,9 +15,10 @@ use Rattle.relay_model.specs.Activation.{Notice, Activates, Updates, Deactivates
 use Rattle.relay_model.specs.Batch.{Batch, Deletion, Preedit, deletion_said, string_said, preedit_said, is_no_preedit, batch, commit_count, group, group_of}
 use Rattle.relay_model.specs.Keys as keys
 use Rattle.relay_model.specs.Keys.{standing, last_keymap, last_repeat, last_mods, Goes, ToGrab, ToShell, Nowhere, Refused, key_route, is_refused}
+use Rattle.relay_model.specs.Boards.{sends, board_route, board_refused, grab_for}
 use Rattle.relay_model.specs.Popups.{cursor, ready_surface, told_where, popup_told, each_popup}
 use Rattle.relay_model.specs.Globals.{offered, global_told}
-use Rattle.relay_model.specs.Told.{to, leave, enter, each_entered, leaves, around_said, state_said, holders_state, notice_said, to_method, enters_new, enters, to_holder, deleted, keymap_said, repeat_said, mods_said, keyboard_said, to_grab, own, told_by, key_told, told}
+use Rattle.relay_model.specs.Told.{to, leave, enter, each_entered, leaves, around_said, state_said, holders_state, notice_said, to_method, enters_new, enters, to_holder, deleted, keymap_said, repeat_said, mods_said, keyboard_said, to_grab, own, told_by, key_told, told, board_mods_told}
 use Rattle.broker_model.proofs.EachElement.{either_way, each_of, each_append, each_map, each_flat}
 use Rattle.relay_model.specs.Idle.{is_live, cleaned, history}
 use Rattle.broker_model.specs.Ids.{Made, made_as}
@@ -30,6 +31,7 @@ use Rattle.broker_core.proofs.PopupNumbers.{IsNumberKept}
 -- no key that passes, and where a popup is only while it is alive
 abbrev pub IsShown : List Act → Said → Type 0
 IsShown log (said.Pass time key state) = ⊥
+IsShown log (said.VMods mods) = ⊥
 IsShown log (said.Placed popup x y) = alive log popup ≡ true
 IsShown log _ = Unit {0}
 
@@ -45,6 +47,8 @@ AreShown log ts = AllByRecursion (IsTold log) ts
 -- the act is no key
 abbrev pub IsNoKey : Act → Type 0
 IsNoKey (acts.Key time key state) = ⊥
+IsNoKey (acts.VKey v time key state) = ⊥
+IsNoKey (acts.VMods v mods) = ⊥
 IsNoKey _ = Unit {0}
 
 -- the state of the holder
@@ -190,6 +194,8 @@ own_shown (acts.MCommit m serial) older k =
     shown_if (acts.MCommit m serial ∷ older) (fresh (acts.MCommit m serial) older) _
     (batch_shown (acts.MCommit m serial ∷ older) (acts.MCommit m serial) older (holder older))
 own_shown (acts.Key time key state) older k = absurd k
+own_shown (acts.VKey v time key state) older k = absurd k
+own_shown (acts.VMods v mods) older k = absurd k
 own_shown (acts.Mods mods) older k =
     grab_shown (acts.Mods mods ∷ older) (standing older) (said.Mods (next older) mods) tt
 own_shown (acts.Keymap keymap) older k =
@@ -224,6 +230,7 @@ AllPlaceLive log ts = AllByRecursion (λ (t : Told). PlacesLive log t.event) ts
 places_live : (log : List Act) (event : Said) → IsShown log event → PlacesLive log event
 places_live log (said.Placed popup x y) h = h
 places_live log (said.Pass time key state) h = absurd h
+places_live log (said.VMods mods) h = absurd h
 places_live log _ h = tt
 
 all_place_live : (log : List Act) (ts : List Told) → AreShown log ts → AllPlaceLive log ts
@@ -247,6 +254,31 @@ by_key older time key state true =
     (key_places (act ∷ older) (next older) time key state (key_route older key state))
 by_key older time key state false = all_place_live (acts.Idle ∷ older) _ (all_shown acts.Idle older tt)
 
+-- the same of a board
+by_board_key : (older : List Act) (v time key state : ℕ) (b : Bool) →
+    AllPlaceLive ((if b then acts.VKey v time key state else acts.Idle) ∷ older) (told_by (if b then acts.VKey v time key state else acts.Idle) older)
+by_board_key older v time key state true =
+    let act : Act = acts.VKey v time key state in
+    each_append (λ (t : Told). PlacesLive (act ∷ older) t.event) (to_method act older (serving (act ∷ older)))
+    (key_told (next older) time key state (board_route older v key state))
+    (all_place_live (act ∷ older) _ (method_shown (act ∷ older) act older (serving (act ∷ older))))
+    (key_places (act ∷ older) (next older) time key state (board_route older v key state))
+by_board_key older v time key state false = all_place_live (acts.Idle ∷ older) _ (all_shown acts.Idle older tt)
+
+mods_places : (log : List Act) (at : ℕ) (mods : keys.Mods) (o : Option ℕ) → AllPlaceLive log (board_mods_told at mods o)
+mods_places log at mods None = (tt, tt)
+mods_places log at mods (Some g) = (tt, tt)
+
+by_board_mods : (older : List Act) (v : ℕ) (mods : keys.Mods) (b : Bool) →
+    AllPlaceLive ((if b then acts.VMods v mods else acts.Idle) ∷ older) (told_by (if b then acts.VMods v mods else acts.Idle) older)
+by_board_mods older v mods true =
+    let act : Act = acts.VMods v mods in
+    each_append (λ (t : Told). PlacesLive (act ∷ older) t.event) (to_method act older (serving (act ∷ older)))
+    (board_mods_told (next older) mods (grab_for older v))
+    (all_place_live (act ∷ older) _ (method_shown (act ∷ older) act older (serving (act ∷ older))))
+    (mods_places (act ∷ older) (next older) mods (grab_for older v))
+by_board_mods older v mods false = all_place_live (acts.Idle ∷ older) _ (all_shown acts.Idle older tt)
+
 -- any other act
 by_other : (act : Act) (older : List Act) → IsNoKey act → AllPlaceLive (cleaned act older ∷ older) (told_by (cleaned act older) older)
 by_other act older h =
@@ -255,6 +287,9 @@ by_other act older h =
 
 told_places : (act : Act) (log : List Act) → AllPlaceLive (cleaned act (history log) ∷ history log) (told act log)
 told_places (acts.Key time key state) log = by_key (history log) time key state (not (is_refused (history log) key state))
+told_places (acts.VKey v time key state) log =
+    by_board_key (history log) v time key state (sends (history log) v && not (board_refused (history log) v key state))
+told_places (acts.VMods v mods) log = by_board_mods (history log) v mods (sends (history log) v)
 told_places act log = by_other act (history log) tt
 
 -- so the numbers are the same

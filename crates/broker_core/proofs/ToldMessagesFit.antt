@@ -24,10 +24,11 @@ use Rattle.relay_model.specs.Activation.{Notice, Activates, Updates, Deactivates
 use Rattle.relay_model.specs.Batch.{Deletion, Preedit, Batch, no_preedit, string_by, last_string, preedit_by, last_preedit, batch, commit_count, deletion_said, string_said, is_no_preedit, preedit_said, group}
 use Rattle.relay_model.specs.Keys as keys
 use Rattle.relay_model.specs.Keys.{Goes, ToGrab, ToShell, Nowhere, Refused, key_route, standing, last_keymap, last_repeat, last_mods}
+use Rattle.relay_model.specs.Boards.{board_route, grab_for}
 use Rattle.relay_model.specs.Popups.{cursor, ready_surface, told_where, popup_told, each_popup}
 use Rattle.relay_model.specs.Globals.{offered, global_told}
 use Rattle.relay_model.specs.Idle.{is_live, cleaned, history}
-use Rattle.relay_model.specs.Told.{to, leave, enter, each_entered, leaves, around_said, state_said, holders_state, notice_said, to_method, enters_new, enters, to_holder, deleted, key_told, keymap_said, repeat_said, mods_said, keyboard_said, to_grab, own, told_by, told}
+use Rattle.relay_model.specs.Told.{to, leave, enter, each_entered, leaves, around_said, state_said, holders_state, notice_said, to_method, enters_new, enters, to_holder, deleted, key_told, keymap_said, repeat_said, mods_said, keyboard_said, to_grab, own, told_by, told, board_mods_told}
 use Rattle.seat_objects.specs.Fits.{FitsMessage}
 use Rattle.seat_audience.specs.Tells.{IsShort}
 use Rattle.broker_model.proofs.EachElement.{either_way, each_of, each_weaker, each_append, each_map, each_flat}
@@ -52,6 +53,8 @@ name_short interface.InputMethodManager = omega arith
 name_short interface.InputMethod = omega arith
 name_short interface.InputPopupSurface = omega arith
 name_short interface.KeyboardGrab = omega arith
+name_short interface.VirtualKeyboardManager = omega arith
+name_short interface.VirtualKeyboard = omega arith
 
 fault_short : (fault : Fault) → length (text_of fault) ≤ 64
 fault_short faults.Size = omega arith
@@ -73,6 +76,7 @@ short_said (said.Surrounding text cursor anchor) h made = omega arith
 short_said (said.Global name i version) h made = let n : length (name_of i) ≤ 64 = name_short i in omega arith
 short_said (said.Error object fault) h made = let n : length (text_of fault) ≤ 64 = fault_short fault in omega arith
 short_said (said.Pass time key state) h made = tt
+short_said (said.VMods mods) h made = tt
 short_said (said.Placed popup x y) h made = tt
 short_said _ h made = omega arith
 
@@ -247,6 +251,10 @@ key_short n time key state ToShell = (tt, tt)
 key_short n time key state Nowhere = tt
 key_short n time key state Refused = tt
 
+board_mods_short : (n : ℕ) (mods : keys.Mods) (o : Option ℕ) → AreShort (board_mods_told n mods o)
+board_mods_short n mods None = (tt, tt)
+board_mods_short n mods (Some g) = (tt, tt)
+
 grab_short : (o : Option ℕ) (event : Said) → HasShort event → AreShort (to_grab o event)
 grab_short None event h = tt
 grab_short (Some g) event h = (h, tt)
@@ -271,6 +279,8 @@ own_short (acts.Key time key state) log h = key_short (next log) time key state 
 own_short (acts.Mods mods) log h = grab_short (standing log) (said.Mods (next log) mods) tt
 own_short (acts.Keymap keymap) log h = grab_short (standing log) (said.Keymap keymap) tt
 own_short (acts.Repeat repeat) log h = grab_short (standing log) (said.Repeat repeat) tt
+own_short (acts.VKey v time key state) log h = key_short (next log) time key state (board_route log v key state)
+own_short (acts.VMods v mods) log h = board_mods_short (next log) mods (grab_for log v)
 own_short (acts.Registry p role) log h =
     each_map HasShortEvent (global_told (next log)) (offered role) (each_of (λ offer. HasShortEvent (global_told (next log) offer)) (offered role) (λ offer. tt))
 own_short (acts.Sync p) log h = (tt, (tt, tt))

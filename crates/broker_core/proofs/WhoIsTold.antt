@@ -8,15 +8,16 @@ use Rattle.relay_model.specs.declared.act.Act.TheVariants as acts
 use Rattle.relay_model.specs.declared.said.Told.{Told}
 use Rattle.relay_model.specs.declared.said.Said.{Said}
 use Rattle.relay_model.specs.declared.said.Said.TheVariants as said
-use Rattle.relay_model.specs.Objects.{Object, next, is_at, is_peer_kind, is_field_kind, is_popup_kind, is_peer, is_popup, owner, object, alive, peer_of, fields, labels, popups}
-use Rattle.relay_model.specs.Focus.{focus, entered}
+use Rattle.relay_model.specs.Objects.{Object, next, is_at, is_peer_kind, is_field_kind, is_popup_kind, is_peer, is_popup, owner, object, alive, peer_of, fields, labels, popups, is_same}
+use Rattle.relay_model.specs.Focus.{focus, entered, peer_at}
 use Rattle.relay_model.specs.Hold.{holder}
 use Rattle.relay_model.specs.Activation.{serving, notice, fresh}
 use Rattle.relay_model.specs.Batch.{group_of}
-use Rattle.relay_model.specs.Keys.{Goes, ToGrab, ToShell, Nowhere, Refused, key_route, standing, as_first, to_standing, first_went, grab_stands, is_down, is_press, number_down}
+use Rattle.relay_model.specs.Keys.{Goes, ToGrab, ToShell, Nowhere, Refused, key_route, standing, as_first, to_standing, first_went, grab_stands, is_down, is_press, number_down, Mods}
+use Rattle.relay_model.specs.Boards.{board_route, board_down, board_number, board_went, grab_for}
 use Rattle.relay_model.specs.Popups.{cursor, ready_surface, told_where, popup_told, each_popup}
 use Rattle.relay_model.specs.Globals.{offered, global_told}
-use Rattle.relay_model.specs.Told.{to, leave, enter, each_entered, leaves, notice_said, to_method, enters_new, enters, to_holder, deleted, key_told, keyboard_said, to_grab, own, told_by}
+use Rattle.relay_model.specs.Told.{to, leave, enter, each_entered, leaves, notice_said, to_method, enters_new, enters, to_holder, deleted, key_told, keyboard_said, to_grab, own, told_by, board_mods_told}
 use Rattle.relay_model.proofs.Histories.{IsHistory, live}
 use Rattle.relay_model.proofs.ObjectLaws.{alive_within, kind_alive}
 use Rattle.relay_model.proofs.FocusLaws.{entered_field}
@@ -137,6 +138,21 @@ goes_heard log key state =
     (either_way (GoesHeard log) (not (is_press state)) ToShell _ tt
     (either_way (GoesHeard log) (nat_lt (number_down log) 64) (to_standing (standing log)) Refused (goes_standing log (standing log) refl) tt))
 
+goes_for : (log : List Act) (v : ℕ) (b : Bool) → GoesHeard log (to_standing (if b then None else standing log))
+goes_for log v true = tt
+goes_for log v false = goes_standing log (standing log) refl
+
+board_heard : (log : List Act) (v key state : ℕ) → GoesHeard log (board_route log v key state)
+board_heard log v key state =
+    either_way (GoesHeard log) (board_down log v key) (as_first log (board_went log v key)) _ (goes_first log (board_went log v key))
+    (either_way (GoesHeard log) (not (is_press state)) ToShell _ tt
+    (either_way (GoesHeard log) (nat_lt (board_number log v) 64) (to_standing (grab_for log v)) Refused
+    (goes_for log v (is_same (peer_at log (standing log)) (peer_of log v))) tt))
+
+heard_mods : (log : List Act) (n : ℕ) (mods : Mods) (o : Option ℕ) → GoesHeard log (to_standing o) → AreHeard log (board_mods_told n mods o)
+heard_mods log n mods None h = (inl refl, tt)
+heard_mods log n mods (Some g) h = (h, tt)
+
 heard_key : (log : List Act) (n time key state : ℕ) (goes : Goes) → GoesHeard log goes → AreHeard log (key_told n time key state goes)
 heard_key log n time key state (ToGrab g) h = (h, tt)
 heard_key log n time key state ToShell h = (inl refl, tt)
@@ -178,6 +194,9 @@ heard_own (acts.Key time key state) log i = heard_key log (next log) time key st
 heard_own (acts.Mods mods) log i = heard_grab log (standing log) (said.Mods (next log) mods) refl
 heard_own (acts.Keymap keymap) log i = heard_grab log (standing log) (said.Keymap keymap) refl
 heard_own (acts.Repeat repeat) log i = heard_grab log (standing log) (said.Repeat repeat) refl
+heard_own (acts.VKey v time key state) log i = heard_key log (next log) time key state (board_route log v key state) (board_heard log v key state)
+heard_own (acts.VMods v mods) log i =
+    heard_mods log (next log) mods (grab_for log v) (goes_for log v (is_same (peer_at log (standing log)) (peer_of log v)))
 heard_own (acts.Registry p role) log i =
     each_map (IsHeard log) (global_told (next log)) (offered role) (each_of (λ offer. IsHeard log (global_told (next log) offer)) (offered role) (λ offer. hears_next log))
 heard_own (acts.Sync p) log i = (hears_next log, (hears_peer log p (live (acts.Sync p) log i.0 (λ d. cc)), tt))

@@ -4,6 +4,7 @@ use Rattle.std.specs.List.{flat_map}
 use Rattle.relay_model.specs.declared.said.Told.{Told}
 use Rattle.relay_model.specs.declared.said.Said.{Said}
 use Rattle.relay_model.specs.declared.said.Said.TheVariants as said
+use Rattle.relay_model.specs.Keys.{Mods}
 use Rattle.relay_model.specs.Told.{told}
 use Rattle.broker_model.specs.declared.journal.Entry.{Entry}
 use Rattle.broker_model.specs.Ids.{Made, made_as}
@@ -22,6 +23,8 @@ pub data Watched : Type 0 where
   Placed : ℕ → (peer id : ℕ) → (x y : ℤ) → Watched
   -- a key that passes
   Passed : ℕ → (time key state : ℕ) → Watched
+  -- modifiers of a board that pass
+  Modified : ℕ → Mods → Watched
   -- the group that was put for a peer: its bytes, and its tokens, each with the offset of its message
   Put : ℕ → (peer : ℕ) → List ℕ → List (ℕ × ℕ) → Watched
 
@@ -39,6 +42,7 @@ maker (Some m) = m.peer
 abbrev pub shown : ℕ → List Made → List Numbered → Said → List Watched
 shown n made peers (said.Placed popup x y) = Placed n (number_at peers (maker (made_as made popup))) (id_of (made_as made popup)) x y ∷ []
 shown n made peers (said.Pass time key state) = Passed n time key state ∷ []
+shown n made peers (said.VMods mods) = Modified n mods ∷ []
 shown n made peers _ = []
 
 -- the same of each that is told

@@ -10,8 +10,8 @@ ghost use Rattle.seat_wire.specs.Asked.{IsNamed};
 ghost use Rattle.seat_wire.specs.Meant.{meant};
 ghost use Rattle.broker_model.specs.declared.journal.Entry.TheVariants as entries;
 ghost use Rattle.broker_model.specs.Resolve.{means, past_of, resolve, surface_at};
-ghost use Rattle.broker_model.specs.Ids.{peer_at};
-ghost use Rattle.broker_model.specs.Waiting.{with_tokens};
+ghost use Rattle.broker_model.specs.Ids.{peer_at, object_at};
+ghost use Rattle.broker_model.specs.Waiting.{with_tokens, takes_token};
 ghost use Rattle.broker_model.specs.Stamps.{stamp_of};
 ghost use Rattle.broker_model.specs.Out.{act_at};
 ghost use Rattle.seat_audience.specs.Lives.{number_of};
@@ -107,11 +107,14 @@ impl State {
     fn meaning(&self, place: usize, id: u32, opcode: u16, body: &[u8]) -> Result<Meaning, NoMemory>
         requires stands { Stands self.now }
         requires place { place < length self.now.audience.live.items }
-        ensures { IfSome (slice_get self.now.audience.live.items place)
+        ensures means { IfSome (slice_get self.now.audience.live.items place)
             (λ l. IfOk result (λ m.
             meant l.label (length self.now.journal.entries + 1) m ≡ means
             (entries.Message l.number id opcode body.now) (length self.now.journal.entries + 1)
             (past_of self.now.journal.entries))) }
+        ensures takes { IfSome (slice_get self.now.audience.live.items place)
+            (λ l. IfOk result (λ m. m.takes_token
+            ≡ takes_token (object_at (past_of self.now.journal.entries) l.label id) opcode)) }
     {
         let peer = self.audience.live.at(place);
         let tokens = peer.waiting.as_slice();

@@ -9,11 +9,11 @@ ghost use Rattle.relay_core.specs.Stands.{StandsFor, route_told};
 ghost use Rattle.seat_audience.specs.Tells.{IsShort, Tells};
 ghost use Rattle.seat_audience.specs.Lives.{who, has_room};
 ghost use Rattle.broker_core.specs.Watched.{Watched, number_at, shown, shown_by, gathered_put};
-ghost use Rattle.broker_core.specs.Watched.Watched.{Entered, Placed, Passed, Put};
+ghost use Rattle.broker_core.specs.Watched.Watched.{Entered, Placed, Passed, Modified, Put};
 
 use broker_model::Entry;
 use relay_core::{Post, Relay, Route};
-use relay_model::{Act, Label, Said, Told};
+use relay_model::{Act, Label, Mods, Said, Told};
 use seat_audience::{Audience, Listeners, Live};
 
 /// Watches a journal: is told of each entry, by its number from 1, what it makes.
@@ -37,6 +37,11 @@ pub trait Watch {
     fn passed(&mut self, number: u32, time: u32, key: u32, state: u32)
         ensures { may_follow self.old (Passed number time key state) self.new };
 
+    /// Modifiers of a method's own keyboard that go on to the shell
+    /// (`zwp_virtual_keyboard_v1.modifiers`).
+    fn modified(&mut self, number: u32, mods: Mods)
+        ensures { may_follow self.old (Modified number mods) self.new };
+
     /// What was put for the peer: the bytes, and each token with the offset of its message.
     fn put(&mut self, number: u32, peer: u32, bytes: &[u8], tokens: &[(usize, u32)])
         ensures { may_follow self.old (Put number peer bytes.now tokens.now) self.new };
@@ -50,6 +55,8 @@ impl Watch for () {
     fn placed(&mut self, _number: u32, _peer: u32, _id: u32, _x: i64, _y: i64) {}
 
     fn passed(&mut self, _number: u32, _time: u32, _key: u32, _state: u32) {}
+
+    fn modified(&mut self, _number: u32, _mods: Mods) {}
 
     fn put(&mut self, _number: u32, _peer: u32, _bytes: &[u8], _tokens: &[(usize, u32)]) {}
 }
@@ -79,6 +86,7 @@ fn show<W: Watch>(number: u32, audience: &Audience, said: &Said, watch: &mut W)
             watch.placed(number, peer, id, *x, *y);
         }
         Said::Pass { time, key, state } => watch.passed(number, *time, *key, *state),
+        Said::VMods(mods) => watch.modified(number, *mods),
         _ => {}
     }
 }

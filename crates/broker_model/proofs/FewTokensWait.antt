@@ -1,5 +1,5 @@
--- At most 256 tokens wait for a peer, and no message of today's rows takes one.
-use Rattle.std.proofs.Common.{◌≡◌, ℕ, ◌≤◌, List, [], ◌∷◌, ◌++◌, length, Bool, true, false, Option, Some, None, refl, arith}
+-- At most 256 tokens wait for a peer, and of all requests the keymap of a board alone takes one.
+use Rattle.std.proofs.Common.{◌≡◌, ℕ, ◌≤◌, List, [], ◌∷◌, ◌++◌, length, Bool, true, false, Option, Some, None, refl, sym, ◌∙◌, arith, drop}
 use Rattle.std.specs.Prelude.{◌==◌, if◌then◌else◌}
 use Rattle.std.specs.List.{find, list_any}
 use Rattle.std.proofs.lemmas.List.{length-take, length-drop}
@@ -7,13 +7,16 @@ use Rattle.std.specs.Option.{option_map}
 use Rattle.wl_proto.specs.declared.interface.Interface.{Interface}
 use Rattle.wl_proto.specs.declared.interface.Interface.TheVariants as interface
 use Rattle.wl_proto.specs.declared.table.Sig.{Sig}
+use Rattle.wl_proto.specs.declared.table.Kind.TheVariants as kind
+use Rattle.wl_proto.specs.declared.table.TheConstants.{VIRTUAL_KEYBOARD_REQUESTS}
+use Rattle.std.proofs.lemmas.Bool.{eqb-true, eqb-false, eq-eqb, ne_eqb}
 use Rattle.wl_proto.specs.Tables.{row, kinds_in}
 use Rattle.wl_proto.specs.Rows.{request_rows, request_kinds}
 use Rattle.broker_model.specs.declared.journal.Entry.{Entry}
 use Rattle.broker_model.specs.declared.journal.Entry.TheVariants as entries
 use Rattle.broker_model.specs.Ids.{Made, Joined, Past, peer_at, object_at}
 use Rattle.broker_model.specs.Resolve.{past_of}
-use Rattle.broker_model.specs.Waiting.{is_descriptor, has_descriptor, takes_token, without_taken, with_tokens, changed_for, waiting_with}
+use Rattle.broker_model.specs.Waiting.{is_descriptor, has_descriptor, is_board_keymap, takes_token, without_taken, with_tokens, changed_for, waiting_with}
 
 -- the rows have no descriptor
 abbrev AreFree : List Sig → Type 0
@@ -30,27 +33,35 @@ free_row : (opcode : ℕ) (rows : List Sig) → AreFree rows → has_descriptor 
 free_row opcode [] h = refl
 free_row opcode (s ∷ rows) h = free_by opcode s (find (λ (s : Sig). s.opcode == opcode) rows) (s.opcode == opcode) h.0 (free_row opcode rows h.1)
 
-free_rows : (i : Interface) → AreFree (request_rows i)
-free_rows interface.Display = (refl, (refl, tt))
-free_rows interface.Registry = (refl, tt)
-free_rows interface.Callback = tt
-free_rows interface.Compositor = (refl, tt)
-free_rows interface.Surface = (refl, (refl, (refl, tt)))
-free_rows interface.Seat = (refl, (refl, (refl, tt)))
-free_rows interface.TextInputManager = (refl, (refl, tt))
-free_rows interface.TextInput = (refl, (refl, (refl, (refl, (refl, (refl, (refl, (refl, tt))))))))
-free_rows interface.InputMethodManager = (refl, (refl, tt))
-free_rows interface.InputMethod = (refl, (refl, (refl, (refl, (refl, (refl, (refl, tt)))))))
-free_rows interface.InputPopupSurface = (refl, tt)
-free_rows interface.KeyboardGrab = (refl, tt)
+-- of the keymap's row the rest has none
+keymap_by : (opcode : ℕ) (first : Bool) (rest : Option Sig) → has_descriptor (option_map (λ (s : Sig). kinds_in s.kinds) rest) ≡ false →
+    (0 == opcode) ≡ first →
+    has_descriptor (option_map (λ (s : Sig). kinds_in s.kinds) (if first then Some (record { opcode = 0; kinds = Some kind.Uint ∷ Some kind.Descriptor ∷ Some kind.Uint ∷ None ∷ None ∷ [] }) else rest))
+    ≡ (opcode == 0)
+keymap_by opcode true rest h e = sym (eq-eqb opcode 0 (sym (eqb-true 0 opcode e)))
+keymap_by opcode false rest h e = h ∙ sym (ne_eqb opcode 0 (λ z. eqb-false 0 opcode e (sym z)))
 
--- no row of a request has a descriptor
-pub no_descriptor : (i : Interface) (opcode : ℕ) → has_descriptor (request_kinds i opcode) ≡ false
-no_descriptor i opcode = free_row opcode (request_rows i) (free_rows i)
+-- the rows without a descriptor
+abbrev board_rest : List Sig
+board_rest = drop 1 VIRTUAL_KEYBOARD_REQUESTS.rows
 
-pub none_taken : (o : Option Made) (opcode : ℕ) → takes_token o opcode ≡ false
-none_taken None opcode = refl
-none_taken (Some x) opcode = no_descriptor x.interface opcode
+-- of all requests a board's keymap alone has a descriptor
+pub keymaps_take : (i : Interface) (opcode : ℕ) → has_descriptor (request_kinds i opcode) ≡ is_board_keymap i opcode
+keymaps_take interface.VirtualKeyboard opcode =
+    keymap_by opcode (0 == opcode) (find (λ (s : Sig). s.opcode == opcode) board_rest) (free_row opcode board_rest (refl, (refl, (refl, tt)))) refl
+keymaps_take interface.Display opcode = free_row opcode (request_rows interface.Display) (refl, (refl, tt))
+keymaps_take interface.Registry opcode = free_row opcode (request_rows interface.Registry) (refl, tt)
+keymaps_take interface.Callback opcode = free_row opcode (request_rows interface.Callback) tt
+keymaps_take interface.Compositor opcode = free_row opcode (request_rows interface.Compositor) (refl, tt)
+keymaps_take interface.Surface opcode = free_row opcode (request_rows interface.Surface) (refl, (refl, (refl, tt)))
+keymaps_take interface.Seat opcode = free_row opcode (request_rows interface.Seat) (refl, (refl, (refl, tt)))
+keymaps_take interface.TextInputManager opcode = free_row opcode (request_rows interface.TextInputManager) (refl, (refl, tt))
+keymaps_take interface.TextInput opcode = free_row opcode (request_rows interface.TextInput) (refl, (refl, (refl, (refl, (refl, (refl, (refl, (refl, tt))))))))
+keymaps_take interface.InputMethodManager opcode = free_row opcode (request_rows interface.InputMethodManager) (refl, (refl, tt))
+keymaps_take interface.InputMethod opcode = free_row opcode (request_rows interface.InputMethod) (refl, (refl, (refl, (refl, (refl, (refl, (refl, tt)))))))
+keymaps_take interface.InputPopupSurface opcode = free_row opcode (request_rows interface.InputPopupSurface) (refl, tt)
+keymaps_take interface.KeyboardGrab opcode = free_row opcode (request_rows interface.KeyboardGrab) (refl, tt)
+keymaps_take interface.VirtualKeyboardManager opcode = free_row opcode (request_rows interface.VirtualKeyboardManager) (refl, tt)
 
 -- no more wait after a change than 256
 

@@ -5,7 +5,7 @@ use Rattle.std.proofs.lemmas.Bool.{ne_eqb, eqb-true, true≢false}
 use Rattle.std.proofs.lemmas.Option.{same_Some}
 use Rattle.relay_model.specs.declared.act.Act.{Act}
 use Rattle.relay_model.specs.declared.act.Act.TheVariants as acts
-use Rattle.relay_model.specs.Objects.{Kind, PeerKind, SurfaceKind, FieldKind, MethodKind, ThingKind, PopupKind, GrabKind, Object, is_at, is_peer_kind, is_field_kind, is_kind, owner, made_for, made, maker, remains, object, alive, peer_of, is_peer}
+use Rattle.relay_model.specs.Objects.{Kind, PeerKind, SurfaceKind, FieldKind, MethodKind, ThingKind, BoardKind, PopupKind, GrabKind, Object, is_at, is_peer_kind, is_field_kind, is_kind, owner, made_for, made, maker, remains, object, alive, peer_of, is_peer}
 use Rattle.relay_model.specs.Hold.{holder}
 use Rattle.relay_model.proofs.Histories.{IsHistory, live}
 use Rattle.relay_model.proofs.ObjectLaws.{remains_none, object_step, object_new, kind_within}
@@ -70,6 +70,8 @@ owned_new (acts.Seat p) older o h f e =
     owned_of (acts.Seat p ∷ older) _ p ThingKind o refl (stays (acts.Seat p) older p (live (acts.Seat p) older h.0 (λ d. cc)) refl) e
 owned_new (acts.Thing p) older o h f e =
     owned_of (acts.Thing p ∷ older) _ p ThingKind o refl (stays (acts.Thing p) older p (live (acts.Thing p) older h.0 (λ d. cc)) refl) e
+owned_new (acts.VBoard p) older o h f e =
+    owned_of (acts.VBoard p ∷ older) _ p BoardKind o refl (stays (acts.VBoard p) older p (live (acts.VBoard p) older h.0 (λ d. cc)) refl) e
 owned_new (acts.Popup m s) older o h f e =
     owned_for (acts.Popup m s) older m (PopupKind m s) (object older m) o refl refl (f m) (λ x. refl) e
 owned_new (acts.Grab m) older o h f e =
@@ -172,6 +174,7 @@ field_made (acts.Grab m) n whose o e t = absurd (not_field_for (GrabKind m) whos
 field_made (acts.Registry p role) n whose o e t = absurd (not_field ThingKind p o refl e t)
 field_made (acts.Seat p) n whose o e t = absurd (not_field ThingKind p o refl e t)
 field_made (acts.Thing p) n whose o e t = absurd (not_field ThingKind p o refl e t)
+field_made (acts.VBoard p) n whose o e t = absurd (not_field BoardKind p o refl e t)
 field_made _ n whose o e t = cc
 
 maker_by : (act : Act) (older : List Act) (f : ℕ) (o : Object) (b : Bool) → is_field_kind o.kind ≡ true →

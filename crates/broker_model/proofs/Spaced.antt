@@ -63,6 +63,7 @@ spaced_message made id (said.DeleteId label) = omega arith
 spaced_message made id (said.Capabilities value) = omega arith
 spaced_message made id (said.Error object fault) = omega arith
 spaced_message made id (said.Pass time key state) = omega arith
+spaced_message made id (said.VMods mods) = omega arith
 spaced_message made id (said.Placed popup x y) = omega arith
 
 pub spaced_nothing : AreSpaced nothing

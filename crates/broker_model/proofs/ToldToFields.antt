@@ -10,15 +10,16 @@ use Rattle.relay_model.specs.declared.said.Told.{Told}
 use Rattle.relay_model.specs.declared.said.Said.{Said}
 use Rattle.relay_model.specs.declared.said.Said.TheVariants as said
 use Rattle.relay_model.specs.Objects.{Kind, FieldKind, Object, next, is_at, is_same, is_kind, is_field_kind, is_peer_kind, is_popup_kind, is_peer, is_popup, owner, made, maker, remains, object, alive, peer_of, method_of, labels, fields, popups}
-use Rattle.relay_model.specs.Focus.{where_alive, focus, entered}
+use Rattle.relay_model.specs.Focus.{where_alive, focus, entered, peer_at}
 use Rattle.relay_model.specs.Hold.{holder}
 use Rattle.relay_model.specs.Activation.{serving, notice, fresh}
 use Rattle.relay_model.specs.Batch.{group_of}
-use Rattle.relay_model.specs.Keys.{Goes, ToGrab, ToShell, Nowhere, Refused, key_route, standing, stands_on, as_first, to_standing, first_went, grab_stands, is_down, is_press, number_down}
+use Rattle.relay_model.specs.Keys.{Goes, ToGrab, ToShell, Nowhere, Refused, key_route, standing, stands_on, as_first, to_standing, first_went, grab_stands, is_down, is_press, number_down, Mods}
+use Rattle.relay_model.specs.Boards.{board_route, board_down, board_number, board_went, grab_for}
 use Rattle.relay_model.specs.Popups.{cursor, ready_surface, told_where, popup_told, each_popup}
 use Rattle.relay_model.specs.Globals.{offered, global_told}
 use Rattle.relay_model.specs.Idle.{cleaned, history}
-use Rattle.relay_model.specs.Told.{to, leave, enter, each_entered, leaves, notice_said, to_method, enters_new, enters, to_holder, deleted, key_told, keyboard_said, to_grab, own, told_by, told}
+use Rattle.relay_model.specs.Told.{to, leave, enter, each_entered, leaves, notice_said, to_method, enters_new, enters, to_holder, deleted, key_told, keyboard_said, to_grab, own, told_by, told, board_mods_told}
 use Rattle.relay_model.proofs.Histories.{IsHistory, live, history_is, cleaned_again}
 use Rattle.relay_model.proofs.ActivationLaws.{serving_within}
 use Rattle.relay_model.proofs.ObjectLaws.{alive_within}
@@ -254,6 +255,22 @@ module _ (act : Act) (log : List Act) (f p : ℕ) (is : maker_of (act ∷ log) f
       (either_way GoesWell (nat_lt (number_down log) 64) (to_standing (standing log)) Refused
       (to_standing_well (standing log) refl) tt))
 
+  -- the grab that a board's keys may go to stands
+  for_well : (v : ℕ) (b : Bool) → GoesWell (to_standing (if b then None else standing log))
+  for_well v true = tt
+  for_well v false = to_standing_well (standing log) refl
+
+  board_well : (v key state : ℕ) → GoesWell (board_route log v key state)
+  board_well v key state =
+      either_way GoesWell (board_down log v key) (as_first log (board_went log v key)) _ (first_well (board_went log v key))
+      (either_way GoesWell (not (is_press state)) ToShell _ tt
+      (either_way GoesWell (nat_lt (board_number log v) 64) (to_standing (grab_for log v)) Refused
+      (for_well v (is_same (peer_at log (standing log)) (peer_of log v))) tt))
+
+  mods_well : (n : ℕ) (mods : Mods) (o : Option ℕ) → GoesWell (to_standing o) → AreWell f (board_mods_told n mods o)
+  mods_well n mods None d = (λ e. absurd (zero_other e), tt)
+  mods_well n mods (Some g) d = (λ e. absurd (d e), tt)
+
   key_well : (n time key state : ℕ) (goes : Goes) → GoesWell goes → AreWell f (key_told n time key state goes)
   key_well n time key state (ToGrab g) d = (λ e. absurd (d e), tt)
   key_well n time key state ToShell d = (λ e. absurd (zero_other e), tt)
@@ -324,6 +341,12 @@ own_well (acts.Keymap keymap) log f p is i c r =
     standing_well (acts.Keymap keymap) log f p is (standing log) (said.Keymap keymap) refl
 own_well (acts.Repeat repeat) log f p is i c r =
     standing_well (acts.Repeat repeat) log f p is (standing log) (said.Repeat repeat) refl
+own_well (acts.VKey v time key state) log f p is i c r =
+    key_well (acts.VKey v time key state) log f p is (next log) time key state (board_route log v key state)
+    (board_well (acts.VKey v time key state) log f p is v key state)
+own_well (acts.VMods v mods) log f p is i c r =
+    mods_well (acts.VMods v mods) log f p is (next log) mods (grab_for log v)
+    (for_well (acts.VMods v mods) log f p is v (is_same (peer_at log (standing log)) (peer_of log v)))
 own_well (acts.Registry q role) log f p is i c r =
     each_map (IsWell f) (global_told (next log)) (offered role)
     (each_of (λ offer. IsWell f (global_told (next log) offer)) (offered role)

@@ -77,6 +77,7 @@ message_of made (said.DeleteId label) = Some (message interface.Display 1 (id_wo
 message_of made (said.Capabilities value) = Some (message interface.Seat 0 (word value ∷ []))
 message_of made (said.Error object fault) = Some (message interface.Display 0 (id_word made object ∷ word (code_of fault) ∷ text (text_of fault) ∷ []))
 message_of made (said.Pass time key state) = None
+message_of made (said.VMods mods) = None
 message_of made (said.Placed popup x y) = None
 
 -- the tokens of a message's arguments

@@ -18,7 +18,9 @@ use Rattle.broker_model.specs.Resolve.{past_of, resolve}
 use Rattle.broker_model.specs.Groups.{said_piece}
 use Rattle.broker_model.specs.Out.{act_at, act_now, group_at, stored, out_for}
 use Rattle.broker_model.specs.Settle.{is_due, history}
-use Rattle.broker_model.specs.Waiting.{takes_token}
+use Rattle.wl_proto.specs.declared.interface.Interface.{Interface}
+use Rattle.wl_proto.specs.Rows.{request_kinds}
+use Rattle.broker_model.specs.Waiting.{has_descriptor, is_board_keymap}
 use Rattle.broker_model.specs.Stamps.{latest, given_before, stamps, step_stamps}
 use Rattle.broker_model.specs.Queued.{relays, queued}
 
@@ -90,9 +92,9 @@ StoresHold = (capacity : ℕ) (journal : List Entry) (p : ℕ) → length (store
 abbrev pub FewWait : Type 0
 FewWait = (journal : List Entry) (p : ℕ) → length ((past_of journal).waiting p) ≤ 256
 
--- no request of today's rows has a descriptor, so no message takes a token
-abbrev pub NoneTaken : Type 0
-NoneTaken = (o : Option Made) (opcode : ℕ) → takes_token o opcode ≡ false
+-- of all requests the keymap of a board alone has a descriptor, and takes a token
+abbrev pub KeymapsTake : Type 0
+KeymapsTake = (i : Interface) (opcode : ℕ) → has_descriptor (request_kinds i opcode) ≡ is_board_keymap i opcode
 
 -- a journal has as many stamps as entries, whatever was given
 abbrev pub StampEach : Type 0

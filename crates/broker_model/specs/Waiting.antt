@@ -1,6 +1,8 @@
 -- The tokens that wait for each peer: a message whose row has a descriptor takes the first.
 use Rattle.std.specs.Prelude.{ℕ, List, ◌++◌, take, drop, Bool, true, false, ◌==◌, if◌then◌else◌, Option, Some, None}
 use Rattle.std.specs.List.{list_any}
+use Rattle.wl_proto.specs.declared.interface.Interface.{Interface}
+use Rattle.wl_proto.specs.declared.interface.Interface.TheVariants as interface
 use Rattle.wl_proto.specs.declared.table.Kind.{Kind}
 use Rattle.wl_proto.specs.declared.table.Kind.TheVariants.{Descriptor}
 use Rattle.wl_proto.specs.Rows.{request_kinds}
@@ -18,6 +20,11 @@ is_descriptor _ = false
 abbrev pub has_descriptor : Option (List Kind) → Bool
 has_descriptor None = false
 has_descriptor (Some kinds) = list_any is_descriptor kinds
+
+-- a request of a board: its keymap
+abbrev pub is_board_keymap : Interface → (opcode : ℕ) → Bool
+is_board_keymap interface.VirtualKeyboard opcode = opcode == 0
+is_board_keymap _ opcode = false
 
 -- the message takes a token: it goes to an object, and its row has a descriptor
 abbrev pub takes_token : Option Made → (opcode : ℕ) → Bool

@@ -3,7 +3,7 @@ ghost use Rattle.broker_model.specs.Law.{RelayLaw, WholeGroups, NothingElse, Nob
 ghost use Rattle.broker_model.specs.Tables.{FoundById, FoundByLabel, CountedLive};
 ghost use Rattle.broker_model.specs.Stored.{GroupsAreSpaced, CellsArePut, CellsAreTaken};
 ghost use Rattle.broker_model.specs.Stored.{BytesAreOut, TokensAreOut};
-ghost use Rattle.broker_model.specs.Law.{FewWait, NoneTaken, StampEach, MomentsRise, StampsAgain};
+ghost use Rattle.broker_model.specs.Law.{FewWait, KeymapsTake, StampEach, MomentsRise, StampsAgain};
 
 /// After any outer steps, what is queued for each field is what is relayed to it, in order and once
 /// each; or all of that but the last group, which did not fit the store of the field's peer, and
@@ -43,10 +43,10 @@ pub fn store_law()
     ensures tokens { TokensAreOut }
 {}
 
-/// At most 256 tokens wait for a peer, and no request of today's rows takes one.
+/// At most 256 tokens wait for a peer, and of all requests the keymap of a board alone takes one.
 pub fn token_law()
     ensures few { FewWait }
-    ensures none_taken { NoneTaken }
+    ensures keymaps_take { KeymapsTake }
 {}
 
 /// After any entries, whatever their calls gave: each has one stamp, no moment falls, and the

@@ -1,5 +1,5 @@
 -- What a step makes of live peers before its act is told.
-use Rattle.std.specs.Prelude.{◌≡◌, ℕ, List, [], ◌∷◌, ◌++◌, false, Option, Some, None, if◌then◌else◌, IfSome, set}
+use Rattle.std.specs.Prelude.{◌≡◌, ℕ, List, [], ◌∷◌, ◌++◌, Bool, false, Option, Some, None, if◌then◌else◌, IfSome, set}
 use Rattle.std.specs.List.{slice_get}
 use Rattle.im_objects.specs.Calls.{Call}
 use Rattle.im_objects.specs.Calls.Call.{Make, Drop}
@@ -13,6 +13,7 @@ use Rattle.relay_model.specs.declared.act.EndCause.TheVariants.{Bad, Full}
 use Rattle.relay_model.specs.declared.role.Role.{Role}
 use Rattle.broker_model.specs.Requests.{Argument}
 use Rattle.broker_model.specs.Settle.{is_bad}
+use Rattle.broker_model.specs.Waiting.{without_taken}
 use Rattle.seat_audience.specs.declared.live.Live.{Live}
 use Rattle.seat_audience.specs.Gathered.{empty}
 use Rattle.seat_audience.specs.Lives.{who}
@@ -30,17 +31,18 @@ abbrev pub make_calls : (n : ℕ) → Option Argument → List Call
 make_calls n None = []
 make_calls n (Some new) = Make new.id new.interface n ∷ []
 
--- its objects are as after that message, and whether the message was refused is kept
-pub record IsChanged (id n : ℕ) (act : Act) (new : Option Argument) (before after : Live) : Type 0 where
-  pub same : after ≡ record before { table = after.table; is_refused = is_bad act }
+-- its objects are as after that message, whether the message was refused is kept, and the token that it took is gone
+pub record IsChanged (id n : ℕ) (takes : Bool) (act : Act) (new : Option Argument) (before after : Live) : Type 0 where
+  pub same : after
+      ≡ record before { table = after.table; is_refused = is_bad act; waiting = without_taken takes before.waiting }
   pub table : (calls : List Call) → table.Stands calls before.table → table.Stands (own_calls id n act new ++ calls) after.table
 
 -- so it is with the peer at the place, and all others are as before
-pub record IsChangedAt (place id n : ℕ) (act : Act) (new : Option Argument) (old now : List Live) : Type 0 where
+pub record IsChangedAt (place id n : ℕ) (takes : Bool) (act : Act) (new : Option Argument) (old now : List Live) : Type 0 where
   -- that peer
   pub after : Live
   pub others : now ≡ set old place after
-  pub changed : IfSome (slice_get old place) (λ before. IsChanged id n act new before after)
+  pub changed : IfSome (slice_get old place) (λ before. IsChanged id n takes act new before after)
 
 -- a peer that joins: its display alone, and nothing stored
 pub record IsNewcomer (capacity number label : ℕ) (role : Role) (l : Live) : Type 0 where

@@ -67,9 +67,9 @@ refusing l = record l { is_refused = true }
 abbrev pub waits : List ℕ → Live → Live
 waits tokens l = record l { waiting = tokens }
 
--- its objects are as that peer's, and whether its last message was refused
+-- its objects are as that peer's, whether its last message was refused, and the tokens that wait for it
 abbrev pub rewritten : (after : Live) → Live → Live
-rewritten after l = record l { table = after.table; is_refused = after.is_refused }
+rewritten after l = record l { table = after.table; is_refused = after.is_refused; waiting = after.waiting }
 
 -- so many bytes were taken from its store
 abbrev pub taken : ℕ → Live → Live

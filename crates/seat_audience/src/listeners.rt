@@ -281,8 +281,8 @@ impl Listeners {
             ≡ None) }
         requires accepted { IfSome (slice_get self.old.items place) (λ l. IfSome meaning.now.made
             (λ new. refusal_of l.table new.id ≡ None)) }
-        ensures changed { OnOk result (IsChangedAt place id label meaning.now.act
-            (option_map asked meaning.now.made) self.old.items self.new.items) }
+        ensures changed { OnOk result (IsChangedAt place id label meaning.now.takes_token
+            meaning.now.act (option_map asked meaning.now.made) self.old.items self.new.items) }
         ensures err { OnErr result (self.new.items ≡ self.old.items) }
     {
         self.peers.change(place, id, label, meaning)?;

@@ -5,7 +5,7 @@ ghost use Rattle.im_objects.specs.Objects.{refusal_of};
 ghost use Rattle.wl_proto.specs.Rows.{event_message};
 ghost use Rattle.wl_proto.specs.Spelling.{message_len};
 ghost use Rattle.broker_model.specs.Groups.{tokens_in};
-ghost use Rattle.broker_model.specs.Waiting.{with_tokens};
+ghost use Rattle.broker_model.specs.Waiting.{without_taken, with_tokens};
 ghost use Rattle.seat_wire.specs.Events.{first_token};
 ghost use Rattle.seat_wire.specs.Asked.{asked};
 ghost use Rattle.seat_audience.specs.Lives.{cleared, hears_message, delivered};
@@ -47,6 +47,15 @@ pub struct Live {
     pub waiting: TokenList,
 }
 
+// A message that takes a token takes the first.
+fn take_token(waiting: &mut TokenList, takes_token: bool)
+    ensures { waiting.new ≡ without_taken takes_token waiting.old }
+{
+    if takes_token {
+        waiting.drop_first();
+    }
+}
+
 impl Live {
     /// A peer that joins, with its display alone. `NoMemory` is its one error.
     pub fn new(
@@ -71,19 +80,20 @@ impl Live {
         })
     }
 
-    /// What a message to the object with the id makes, and whether it was refused. `label` is the
-    /// message's number. `NoMemory` is its one error, after which all is as before.
+    /// What a message to the object with the id makes, whether it was refused, and the token that it
+    /// takes. `label` is the message's number. `NoMemory` is its one error, after which all is as before.
     pub fn change(&mut self, id: u32, label: Label, meaning: &Meaning) -> Result<(), NoMemory>
         requires unused { finite.get self.old.table.ids label ≡ None }
         requires accepted { IfSome meaning.now.made (λ new. refusal_of self.old.table new.id
             ≡ None) }
-        ensures changed { OnOk result (IsChanged id label meaning.now.act
-            (option_map asked meaning.now.made) self.old self.new) }
+        ensures changed { OnOk result (IsChanged id label meaning.now.takes_token
+            meaning.now.act (option_map asked meaning.now.made) self.old self.new) }
         ensures kept { self.new ≡ rewritten self.new self.old }
         ensures err { OnErr result (self.new ≡ self.old) }
     {
         change(&mut self.table, id, label, meaning)?;
         self.is_refused = matches!(meaning.act, Act::Bad { .. });
+        take_token(&mut self.waiting, meaning.takes_token);
         Ok(())
     }
 

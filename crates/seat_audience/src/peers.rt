@@ -240,8 +240,8 @@ impl Peers {
             ≡ None) }
         requires accepted { IfSome (slice_get self.old.items place) (λ l. IfSome meaning.now.made
             (λ new. refusal_of l.table new.id ≡ None)) }
-        ensures changed { OnOk result (IsChangedAt place id label meaning.now.act
-            (option_map asked meaning.now.made) self.old.items self.new.items) }
+        ensures changed { OnOk result (IsChangedAt place id label meaning.now.takes_token
+            meaning.now.act (option_map asked meaning.now.made) self.old.items self.new.items) }
         ensures kept { (after : Live) × (self.new.items
             ≡ changed_at place (rewritten after) self.old.items) }
         ensures err { OnErr result (self.new.items ≡ self.old.items) }

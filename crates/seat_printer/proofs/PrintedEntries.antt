@@ -8,7 +8,7 @@ use Rattle.relay_model.specs.declared.said.Told.{Told}
 use Rattle.relay_model.specs.declared.said.Said.{Said}
 use Rattle.relay_model.specs.declared.said.Said.TheVariants as said
 use Rattle.relay_model.specs.Told.{told}
-use Rattle.transcript_text.specs.Transcript.{out_line, placed_line, pass_line}
+use Rattle.transcript_text.specs.Transcript.{out_line, placed_line, pass_line, vmods_line}
 use Rattle.broker_model.specs.declared.journal.Entry.{Entry}
 use Rattle.broker_model.specs.Ids.{Made}
 use Rattle.broker_model.specs.Resolve.{past_of, resolve}
@@ -17,7 +17,7 @@ use Rattle.broker_model.specs.Out.{act_at, fits, group_at, before_group, out_for
 use Rattle.seat_audience.specs.Lives.{Numbered}
 use Rattle.broker_core.specs.Stands.{numbered}
 use Rattle.broker_core.specs.Watched.{Watched, shown, shown_by, group_put, out_put, told_of, watched, watched_since}
-use Rattle.broker_core.specs.Watched.Watched.{Entered, Placed, Passed, Put}
+use Rattle.broker_core.specs.Watched.Watched.{Entered, Placed, Passed, Modified, Put}
 use Rattle.seat_printer.specs.Transcribed.{with_feed, head_text, group_text, out_text, shell_text, entry_text, text_since}
 use Rattle.seat_printer.specs.Printed.{Printing, printed}
 
@@ -44,6 +44,7 @@ group_lines _ = []
 abbrev shell_lines : Watched → List ℕ
 shell_lines (Placed n q id x y) = with_feed (placed_line n q id x y)
 shell_lines (Passed n time key state) = with_feed (pass_line n time key state)
+shell_lines (Modified n mods) = with_feed (vmods_line n mods)
 shell_lines _ = []
 
 abbrev IsInner : Watched → Type 0
@@ -57,6 +58,7 @@ one_inner : (event : Watched) (p : Printing) → IsInner event → printed event
 one_inner (Entered n e) p i = absurd i
 one_inner (Placed n q id x y) p i = ap (λ (t : List ℕ). record p { text = t; shell = p.shell ++ with_feed (placed_line n q id x y) }) (sym (append-nil p.text))
 one_inner (Passed n time key state) p i = ap (λ (t : List ℕ). record p { text = t; shell = p.shell ++ with_feed (pass_line n time key state) }) (sym (append-nil p.text))
+one_inner (Modified n mods) p i = ap (λ (t : List ℕ). record p { text = t; shell = p.shell ++ with_feed (vmods_line n mods) }) (sym (append-nil p.text))
 one_inner (Put n q bytes tokens) p i = ap (λ (s : List ℕ). record p { text = p.text ++ with_feed (out_line n q bytes tokens); shell = s }) (sym (append-nil p.shell))
 
 lines_twice : (a b c d : List ℕ) (p : Printing) → with_lines c d (with_lines a b p) ≡ with_lines (a ++ c) (b ++ d) p
@@ -95,6 +97,7 @@ shown_prints : (n : ℕ) (made : List Made) (peers : List Numbered) (event : Sai
     Prints [] (shell_text n made peers event) (shown n made peers event)
 shown_prints n made peers (said.Placed popup x y) = record { inner = (tt, tt); groups_are = refl; shell_is = append-nil _ }
 shown_prints n made peers (said.Pass time key state) = record { inner = (tt, tt); groups_are = refl; shell_is = append-nil _ }
+shown_prints n made peers (said.VMods mods) = record { inner = (tt, tt); groups_are = refl; shell_is = append-nil _ }
 shown_prints n made peers _ = prints_none
 
 all_shown_print : (n : ℕ) (made : List Made) (peers : List Numbered) (ts : List Told) →

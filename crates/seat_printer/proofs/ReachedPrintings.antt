@@ -7,7 +7,7 @@ use Rattle.seat_objects.specs.Reached.{Reached}
 use Rattle.transcript_text.specs.Transcript.{out_line}
 use Rattle.broker_model.specs.declared.journal.Entry.{Entry}
 use Rattle.broker_core.specs.Watched.{Watched, watched_since}
-use Rattle.broker_core.specs.Watched.Watched.{Entered, Placed, Passed, Put}
+use Rattle.broker_core.specs.Watched.Watched.{Entered, Placed, Passed, Modified, Put}
 use Rattle.seat_printer.specs.Transcribed.{with_feed, head_text, text_since}
 use Rattle.seat_printer.specs.Printed.{Printing, blank, printed, IsPrinted, MayPrint, IsFront}
 use Rattle.seat_printer.proofs.PrintedEntries.{all_printed, full, since_printed}
@@ -27,6 +27,7 @@ one_grows : (event : Watched) (p : Printing) → IsFront p.text (printed event p
 one_grows (Entered n e) p = (p.shell ++ head_text n e, refl)
 one_grows (Placed n q id x y) p = front_self p.text
 one_grows (Passed n time key state) p = front_self p.text
+one_grows (Modified n mods) p = front_self p.text
 one_grows (Put n q bytes tokens) p = (with_feed (out_line n q bytes tokens), refl)
 
 all_grow : (events : List Watched) (p : Printing) → IsFront p.text (all_printed events p).text
@@ -38,6 +39,7 @@ stays_unshort : (event : Watched) (p : Printing) → (printed event p).is_short 
 stays_unshort (Entered n e) p = refl
 stays_unshort (Placed n q id x y) p = refl
 stays_unshort (Passed n time key state) p = refl
+stays_unshort (Modified n mods) p = refl
 stays_unshort (Put n q bytes tokens) p = refl
 
 -- short once, short for ever

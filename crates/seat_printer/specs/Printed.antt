@@ -1,8 +1,8 @@
 -- What a printer holds, and what it makes of each thing that it watches.
 use Rattle.std.specs.Prelude.{◌≡◌, ℕ, List, [], ◌++◌, Bool, true, false}
-use Rattle.transcript_text.specs.Transcript.{out_line, placed_line, pass_line}
+use Rattle.transcript_text.specs.Transcript.{out_line, placed_line, pass_line, vmods_line}
 use Rattle.broker_core.specs.Watched.{Watched}
-use Rattle.broker_core.specs.Watched.Watched.{Entered, Placed, Passed, Put}
+use Rattle.broker_core.specs.Watched.Watched.{Entered, Placed, Passed, Modified, Put}
 use Rattle.seat_printer.specs.Transcribed.{with_feed, head_text}
 
 -- the text, what the shell was told of the newest entry, and whether there was no memory for a line
@@ -24,6 +24,7 @@ abbrev pub printed : Watched → Printing → Printing
 printed (Entered n e) p = record p { text = p.text ++ (p.shell ++ head_text n e); shell = [] }
 printed (Placed n q id x y) p = record p { shell = p.shell ++ with_feed (placed_line n q id x y) }
 printed (Passed n time key state) p = record p { shell = p.shell ++ with_feed (pass_line n time key state) }
+printed (Modified n mods) p = record p { shell = p.shell ++ with_feed (vmods_line n mods) }
 printed (Put n q bytes tokens) p = record p { text = p.text ++ with_feed (out_line n q bytes tokens) }
 
 -- by whether it was short and is short: short, it stays so with the text that it has

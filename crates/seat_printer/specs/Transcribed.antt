@@ -5,7 +5,7 @@ use Rattle.relay_model.specs.declared.said.Told.{Told}
 use Rattle.relay_model.specs.declared.said.Said.{Said}
 use Rattle.relay_model.specs.declared.said.Said.TheVariants as said
 use Rattle.relay_model.specs.Told.{told}
-use Rattle.transcript_text.specs.Transcript.{ended_line, took_line, out_line, placed_line, pass_line}
+use Rattle.transcript_text.specs.Transcript.{ended_line, took_line, out_line, placed_line, pass_line, vmods_line}
 use Rattle.broker_model.specs.declared.journal.Entry.{Entry}
 use Rattle.broker_model.specs.declared.journal.Entry.TheVariants.{End, Took}
 use Rattle.broker_model.specs.Ids.{Made, made_as}
@@ -38,11 +38,12 @@ out_text capacity e older p =
     then group_text (length older + 1) p.number (group_at e older label)
     else [])
 
--- where a popup is, and a key that passes
+-- where a popup is, and a key and modifiers that pass
 abbrev pub shell_text : ℕ → List Made → List Numbered → Said → List ℕ
 shell_text n made peers (said.Placed popup x y) =
     with_feed (placed_line n (number_at peers (maker (made_as made popup))) (id_of (made_as made popup)) x y)
 shell_text n made peers (said.Pass time key state) = with_feed (pass_line n time key state)
+shell_text n made peers (said.VMods mods) = with_feed (vmods_line n mods)
 shell_text n made peers _ = []
 
 -- the lines of the newest entry

@@ -8,9 +8,10 @@ ghost use Rattle.seat_printer.specs.Transcribed.{with_feed, head_text, text_sinc
 ghost use Rattle.seat_printer.specs.Printed.{MayPrint, blank, closed, IsFront};
 
 use broker_core::{Entry, Watch};
+use relay_model::Mods;
 use std::alloc::Global;
 use std::marker::Model;
-use transcript_text::{write_ended, write_out, write_pass, write_placed, write_took};
+use transcript_text::{write_ended, write_out, write_pass, write_placed, write_took, write_vmods};
 use wio_core::NoMemory;
 
 // The line, if it was written, goes behind the text with its line feed, or nothing does.
@@ -227,6 +228,14 @@ impl Watch for Printer {
             return;
         }
         let written = write_pass(number, time, key, state, &mut self.line);
+        self.is_short = add_line(&mut self.shell, self.line.as_str(), written).is_err();
+    }
+
+    fn modified(&mut self, number: u32, mods: Mods) {
+        if self.is_short {
+            return;
+        }
+        let written = write_vmods(number, mods, &mut self.line);
         self.is_short = add_line(&mut self.shell, self.line.as_str(), written).is_err();
     }
 

@@ -1,11 +1,12 @@
 -- Steps from a table's look-up to what a message means.
-use Rattle.std.proofs.Common.{◌≡◌, ℕ, List, Bool, Option, Some, None, Result, Ok, sym, ap, ◌∙◌}
+use Rattle.std.proofs.Common.{◌≡◌, ℕ, List, Bool, Option, Some, None, Result, Ok, refl, false, sym, ap, ◌∙◌}
 use Rattle.std.specs.Prelude.{option_map}
 use Rattle.wl_proto.specs.declared.interface.Interface.{Interface}
 use Rattle.wl_proto.specs.declared.refuse.Refuse.{Refuse}
 use Rattle.wl_proto.specs.declared.request.Request.{Request}
 use Rattle.wl_proto.specs.declared.request.Request.TheVariants as request
 use Rattle.wl_proto.specs.Rows.{Message}
+use Rattle.broker_model.specs.Waiting.{takes_token}
 use Rattle.wl_proto.specs.Reading.{request_reading}
 use Rattle.relay_model.specs.Objects.{has_popup}
 use Rattle.broker_model.specs.Ids.{Made, Joined, Past, log_of}
@@ -20,6 +21,11 @@ pub says_popup : (past : Past) (at : ℕ → ℕ) (r : Request) (label : ℕ) (t
     taken ≡ has_popup (log_of past) label → SaysPopup past at r taken
 says_popup past at (request.GetInputPopupSurface id surface) label taken s e = e ∙ ap (has_popup (log_of past)) (sym s)
 says_popup past at _ label taken s e = tt
+
+-- whether the message takes a token, by what the table has under the id
+pub takes_none : (o : Option Made) (opcode : ℕ) → None ≡ option_map entry o → false ≡ takes_token o opcode
+takes_none None opcode e = refl
+takes_none (Some made) opcode e = absurd cc
 
 pub message_read : (past : Past) (n : ℕ) (peer : Joined) (opcode : ℕ) (body : List ℕ) (o : Option Made) (i : Interface) (x : ℕ) (m : Message) →
     Some (i, x) ≡ option_map entry o → request_reading i opcode (past.waiting peer.label) body ≡ Ok m →

@@ -61,7 +61,12 @@ pub(crate) fn act_of(
         | Request::SurfaceCommit
         | Request::GetPointer { .. }
         | Request::GetKeyboard { .. }
-        | Request::GetTouch { .. } => Act::Idle,
+        | Request::GetTouch { .. }
+        | Request::CreateVirtualKeyboard { .. }
+        | Request::Keymap { .. }
+        | Request::Key { .. }
+        | Request::Modifiers { .. }
+        | Request::VirtualKeyboardDestroy => Act::Idle,
         Request::Enable => Act::Enable { field: object },
         Request::Disable => Act::Disable { field: object },
         Request::SetSurroundingText {

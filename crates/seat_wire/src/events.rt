@@ -34,6 +34,7 @@ pub fn named(said: &Said) -> Option<Label>
         | Said::CallbackDone { .. }
         | Said::Capabilities { .. }
         | Said::Pass { .. }
+        | Said::VMods { .. }
         | Said::Placed { .. } => None,
     }
 }
@@ -67,6 +68,7 @@ pub fn token_of(said: &Said) -> Option<u32>
         | Said::CallbackDone { .. }
         | Said::Capabilities { .. }
         | Said::Pass { .. }
+        | Said::VMods { .. }
         | Said::Placed { .. } => None,
     }
 }
@@ -165,7 +167,7 @@ pub fn event_of<'a>(said: &'a Said, id: u32) -> Option<Event<'a>>
             code: fault.code(),
             message: fault.text(),
         },
-        Said::Pass { .. } | Said::Placed { .. } => return None,
+        Said::Pass { .. } | Said::VMods { .. } | Said::Placed { .. } => return None,
     };
     Some(event)
 }

@@ -5,6 +5,7 @@ mod acts;
 mod events;
 mod meaning;
 mod requests;
+mod tokens;
 
 pub use acts::shell_act;
 pub use events::{event_of, named, token_of};

@@ -7,11 +7,13 @@ ghost use Rattle.broker_model.specs.Ids.{Joined, Past, object_at};
 ghost use Rattle.broker_model.specs.Requests.{arguments_of};
 ghost use Rattle.broker_model.specs.Refusals as refusals;
 ghost use Rattle.broker_model.specs.Resolve as resolve;
+ghost use Rattle.broker_model.specs.Waiting.{takes_token};
 ghost use Rattle.seat_wire.specs.Asked.{asked, HasText, IsSurface};
 ghost use Rattle.seat_wire.specs.Meant.{IsTableOf, meant};
 
 use crate::acts::act_of;
 use crate::requests::{Argument, new_object, object_argument, own_fault};
+use crate::tokens::takes_token;
 use im_objects::{LAST_ID, MOST_LIVE, Table};
 use relay_core::Relay;
 use relay_model::{Act, Fault, Label, Role};
@@ -20,13 +22,15 @@ use wio_core::NoMemory;
 use wl_proto::{Interface, Refuse, Request, read_request};
 use wl_wire::Raw;
 
-/// What a message comes to: its act, and what it makes under an id.
+/// What a message comes to: its act, what it makes under an id, and whether it takes a token.
 #[derive(Drop)]
 pub struct Meaning {
     /// The act.
     pub act: Act,
     /// The id under which an object is made, and its interface, if one is.
     pub made: Option<Argument>,
+    /// The message takes the first token that waits for its sender.
+    pub takes_token: bool,
 }
 
 /// The peer that sent a message: its label, its role, its objects, and the tokens that wait for its
@@ -155,6 +159,7 @@ fn refused_for(peer: Label, object: Label, fault: Fault) -> Meaning
             object,
         },
         made: None,
+        takes_token: false,
     }
 }
 
@@ -218,7 +223,19 @@ fn request_meaning(
         None => Ok(Meaning {
             act: act_of(alloc, request, sender.label, object, sender.role, surface)?,
             made: new_object(request),
+            takes_token: false,
         }),
+    }
+}
+
+// The same meaning of a message that takes a token, or takes none.
+fn taking(meaning: Meaning, takes_token: bool) -> Meaning
+    ensures { result ≡ record meaning { takes_token = takes_token } }
+{
+    Meaning {
+        act: meaning.act,
+        made: meaning.made,
+        takes_token,
     }
 }
 
@@ -232,19 +249,31 @@ pub fn meaning_of(
     opcode: u16,
     body: &[u8],
 ) -> Result<Meaning, NoMemory>
-    ensures { (past : Past) (n : ℕ) →
+    ensures means { (past : Past) (n : ℕ) →
         let p = sender.now.label in
         let peer : Joined = record { label = p; role = sender.now.role } in
         IsTableOf past p sender.now.table.now → StandsFor relay.now past.acts →
         sender.now.tokens.now ≡ past.waiting p →
         IfOk result (λ meaning. meant p n meaning
         ≡ resolve.of_message past n peer opcode body.now (object_at past p id)) }
+    ensures takes { (past : Past) →
+        let p = sender.now.label in
+        IsTableOf past p sender.now.table.now →
+        IfOk result (λ meaning. meaning.takes_token ≡ takes_token (object_at past p id) opcode) }
 {
     let Some((interface, object)) = sender.table.find(id) else {
-        return Ok(refused_for(sender.label, sender.label, Fault::Object));
+        let meaning = refused_for(sender.label, sender.label, Fault::Object);
+        return Ok(taking(meaning, false));
     };
+    let takes = takes_token(interface, opcode);
     match read(interface, opcode, sender.tokens, body) {
-        Ok(request) => request_meaning(alloc, relay, sender, object, &request),
-        Err(refuse) => Ok(refused_for(sender.label, object, refuse_fault(refuse))),
+        Ok(request) => {
+            let meaning = request_meaning(alloc, relay, sender, object, &request)?;
+            Ok(taking(meaning, takes))
+        }
+        Err(refuse) => {
+            let meaning = refused_for(sender.label, object, refuse_fault(refuse));
+            Ok(taking(meaning, takes))
+        }
     }
 }

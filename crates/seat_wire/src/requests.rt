@@ -88,7 +88,12 @@ pub(crate) fn new_object(request: &Request) -> Option<Argument>
         | Request::InputMethodCommit { .. }
         | Request::InputMethodDestroy
         | Request::InputPopupSurfaceDestroy
-        | Request::KeyboardGrabRelease => return None,
+        | Request::KeyboardGrabRelease
+        | Request::CreateVirtualKeyboard { .. }
+        | Request::Keymap { .. }
+        | Request::Key { .. }
+        | Request::Modifiers { .. }
+        | Request::VirtualKeyboardDestroy => return None,
     };
     Some(Argument { id, interface })
 }

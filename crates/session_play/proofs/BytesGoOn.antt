@@ -1,6 +1,7 @@
 -- Bytes of a peer, one step after the other.
 use Rattle.std.proofs.Common.{◌≡◌, ℕ, List, [], ◌∷◌, ◌++◌, drop, Bool, true, false, Result, Ok, Err, refl, sym, ap, ap₂, subst, ◌∙◌}
 use Rattle.std.specs.Prelude.{if◌then◌else◌}
+use Rattle.wl_wire.specs.Messages.{behind}
 use Rattle.seat_steps.specs.declared.limits.Limits.{Limits}
 use Rattle.seat_steps.specs.declared.step.PeerStep.{PeerStep}
 use Rattle.broker_model.specs.declared.journal.Entry.{Entry}
@@ -11,7 +12,7 @@ use Rattle.broker_core.specs.Broker.{kept_in, peer_entry}
 use Rattle.broker_core.specs.Taking.{lives}
 use Rattle.session_play.specs.declared.session.Stop.{Stop}
 use Rattle.session_play.specs.declared.session.Stop.TheVariants as stops
-use Rattle.session_play.specs.Steps.{steps_in, behind}
+use Rattle.step_cutter.specs.Steps.{steps_in}
 use Rattle.session_play.specs.Played.{Waiting, Play, Played, went, with_step, step_played, steps_played, unread_of, with_unread, bytes_played}
 use Rattle.session_play.specs.Playing.{IsMore, IsPlayed}
 use Rattle.session_play.specs.Unread.{IsFirst, IsLast}

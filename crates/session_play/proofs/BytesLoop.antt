@@ -1,7 +1,8 @@
 -- A piece of bytes that is played step by step, from where it began.
-use Rattle.std.proofs.Common.{◌≡◌, ℕ, ◌≤◌, List, [], ◌∷◌, ◌++◌, length, drop, Bool, true, false, Ok, Err, refl, sym, ap, ap₂, subst, ◌∙◌, arith}
+use Rattle.std.proofs.Common.{◌≡◌, ℕ, List, [], ◌∷◌, ◌++◌, length, drop, Bool, true, false, Ok, Err, refl, sym, ap, ap₂, subst, ◌∙◌, arith}
 use Rattle.std.specs.Prelude.{Result, ◌==◌, if◌then◌else◌}
 use Rattle.std.proofs.lemmas.Bool.{eqb-true}
+use Rattle.wl_wire.specs.Messages.{behind}
 use Rattle.seat_steps.specs.declared.limits.Limits.{Limits}
 use Rattle.seat_steps.specs.declared.step.PeerStep.{PeerStep}
 use Rattle.broker_model.specs.declared.journal.Entry.{Entry}
@@ -12,11 +13,12 @@ use Rattle.broker_core.specs.Taking.{lives}
 use Rattle.broker_core.specs.Watched.{Watched}
 use Rattle.session_play.specs.declared.session.Stop.{Stop}
 use Rattle.session_play.specs.declared.unread.Found.TheVariants.{Message, BadSize}
-use Rattle.session_play.specs.Steps.{steps_in, behind}
+use Rattle.step_cutter.specs.Steps.{steps_in}
 use Rattle.session_play.specs.Unread.{IsUnfinished}
 use Rattle.session_play.specs.Played.{Waiting, Play, Played, went, of_live, unread_by, unread_of, with_unread, with_step, step_played, steps_played, bytes_played}
 use Rattle.session_play.specs.Playing.{Ongoing, IsMore, IsPlayed, IsWatched, IsRead}
-use Rattle.session_play.proofs.FirstSteps.{found_nothing}
+use Rattle.step_cutter.proofs.FirstSteps.{found_nothing}
+use Rattle.session_play.proofs.FirstSteps.{nothing_yet}
 use Rattle.session_play.proofs.UnreadLists.{none_left}
 use Rattle.session_play.proofs.BytesGoOn.{left_as, message_err, message_ok, bad_size}
 use Rattle.session_play.proofs.JournalGrows.{bytes_grow, watched_both}
@@ -96,7 +98,8 @@ nothing_played limits q play h = by (lives play.journal q)
   where
     by : (b : Bool) → (if b then goes_on limits q (unread_of play q ++ []) play else went play) ≡ went play
     by true =
-        let none : IsUnfinished q [] [] = found_nothing q [] [] (λ long. absurd (omega arith)) refl in
+        let none : IsUnfinished q [] [] =
+        nothing_yet q [] [] (found_nothing [] [] (λ long. absurd (omega arith)) refl) in
         ap (λ (bytes : List ℕ). goes_on limits q (bytes ++ []) play) h
         ∙ ap (λ (es : List Entry). steps_played limits q es (record play { unread = with_unread q (behind []) play.unread }))
         none.steps

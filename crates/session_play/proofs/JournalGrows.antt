@@ -1,6 +1,7 @@
 -- A journal only grows, and who watches is told of what it has more.
 use Rattle.std.proofs.Common.{◌≡◌, ℕ, ◌+◌, List, [], ◌∷◌, ◌++◌, length, Bool, true, false, Option, Some, None, refl, sym, ap, subst, ◌∙◌, arith, append_assoc, length-append}
 use Rattle.std.specs.Prelude.{if◌then◌else◌, min, nat_le, ◌==◌}
+use Rattle.wl_wire.specs.Messages.{behind}
 use Rattle.seat_steps.specs.declared.limits.Limits.{Limits}
 use Rattle.broker_model.specs.declared.journal.Entry.{Entry}
 use Rattle.broker_model.specs.declared.journal.Entry.TheVariants as entries
@@ -13,7 +14,7 @@ use Rattle.seat_objects.specs.Reached.{Reached}
 use Rattle.broker_core.specs.Watched.{Watched, watched_since}
 use Rattle.seat_objects.proofs.Reaches.{reached_append}
 use Rattle.broker_core.proofs.WatchedSince.{since_none, since_append, settled_more}
-use Rattle.session_play.specs.Steps.{steps_in, behind}
+use Rattle.step_cutter.specs.Steps.{steps_in}
 use Rattle.session_play.specs.Played.{Play, went, with_step, step_played, steps_played, unread_of, with_unread, bytes_played, with_peer, join_played, tokens_played, take_played}
 use Rattle.session_play.specs.Playing.{IsMore, IsWatched}
 

@@ -6,7 +6,6 @@ use Rattle.seat_steps.specs.declared.stamp.Stamp.{Stamp}
 use Rattle.seat_steps.specs.declared.step.Step.{Step}
 use Rattle.seat_steps.specs.declared.step.Step.TheVariants as steps
 use Rattle.seat_steps.specs.declared.step.PeerStep.TheVariants as peers
-use Rattle.relay_model.specs.declared.act.EndCause.TheVariants.{Gone}
 use Rattle.broker_model.specs.declared.journal.Entry.{Entry}
 use Rattle.broker_model.specs.declared.journal.Entry.TheVariants as entries
 use Rattle.broker_model.specs.Ids.{Joined, peer_in}
@@ -18,7 +17,7 @@ use Rattle.broker_core.specs.Broker as broker
 use Rattle.broker_core.specs.Broker.{Broker, entry_of, IsSaid}
 use Rattle.broker_core.specs.Taking.{lives}
 use Rattle.session_play.specs.declared.unread.Unread.{Unread}
-use Rattle.session_play.specs.Played.{Waiting, of_live, with_unread}
+use Rattle.session_play.specs.Played.{Waiting, of_live}
 use Rattle.session_play.specs.Playing.{is_waiting, AreLive, ends_in_end}
 use Rattle.session_play.specs.Unread.{waiting}
 use Rattle.session_play.proofs.LivesBefore.{IsAlive, is_alive, lives_kept}

@@ -4,7 +4,7 @@ use Rattle.std.specs.Prelude.{if◌then◌else◌, min, ◌==◌}
 use Rattle.std.proofs.lemmas.Bool.{lt-leb, ne_eqb}
 use Rattle.std.proofs.lemmas.List.{append-nil, take_all}
 use Rattle.relay_model.specs.declared.act.EndCause.TheVariants.{Gone}
-use Rattle.wl_wire.specs.Messages.{IsBad, opcode_of, body_of, messages, bad_size}
+use Rattle.wl_wire.specs.Messages.{IsBad, opcode_of, body_of, messages, bad_size, behind}
 use Rattle.seat_steps.specs.declared.limits.Limits.{Limits}
 use Rattle.seat_steps.specs.declared.step.Step.TheVariants as steps
 use Rattle.seat_steps.specs.declared.step.PeerStep.TheVariants as peers
@@ -16,12 +16,12 @@ use Rattle.broker_model.specs.Limits.{is_full}
 use Rattle.broker_model.specs.Out.{stored, out_for}
 use Rattle.broker_model.specs.Settle.{number_alive, settle}
 use Rattle.broker_core.specs.Taking.{lives}
-use Rattle.session_play.specs.Steps.{message_entry, steps_in, behind}
+use Rattle.step_cutter.specs.Steps.{message_entry, steps_in}
 use Rattle.session_play.specs.Played.{Waiting, Play, Played, went, step_played, steps_played, unread_by, with_unread, bytes_played, with_peer, take_played}
 use Rattle.session_play.specs.Laws.{IsIdle, IsSent, AreStored, IsSame, PrintedSteps}
 use Rattle.session_play.proofs.BytesGoOn.{left_as, live_bytes, first_is}
 use Rattle.session_play.proofs.DeadAfterBadSize.{dead_after}
-use Rattle.session_play.proofs.FirstSteps.{first_message, bad_size_steps}
+use Rattle.step_cutter.proofs.FirstSteps.{first_message, bad_size_steps}
 use Rattle.session_play.proofs.StepAnswers.{by_full}
 use Rattle.session_play.proofs.UnreadLists.{dead_left}
 

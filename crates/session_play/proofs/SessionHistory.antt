@@ -6,7 +6,7 @@ use Rattle.relay_model.specs.declared.act.EndCause.TheVariants.{Gone}
 use Rattle.seat_steps.specs.declared.limits.Limits.{Limits}
 use Rattle.session_text.specs.declared.line.SessionLine.{SessionLine}
 use Rattle.session_text.specs.declared.line.SessionLine.TheVariants as lines
-use Rattle.wl_wire.specs.Messages.{messages, bad_size}
+use Rattle.wl_wire.specs.Messages.{messages, bad_size, behind}
 use Rattle.broker_model.specs.declared.journal.Entry.{Entry}
 use Rattle.broker_model.specs.declared.journal.Entry.TheVariants as entries
 use Rattle.broker_model.specs.Ids.{Joined, peer_at}
@@ -16,7 +16,7 @@ use Rattle.broker_model.specs.Resolve.{past_of}
 use Rattle.broker_model.specs.Settle.{number_alive, settle, history, step_of, outer}
 use Rattle.broker_model.proofs.Settling.{history_stays}
 use Rattle.broker_core.specs.Taking.{lives}
-use Rattle.session_play.specs.Steps.{message_entry, bad_entries, steps_in, behind}
+use Rattle.step_cutter.specs.Steps.{message_entry, bad_entries, steps_in}
 use Rattle.session_play.specs.Played.{Play, Played, went, with_step, step_played, steps_played, unread_of, with_unread, bytes_played, with_peer, take_played, line_played}
 use Rattle.session_play.specs.Laws.{lines_played, unplayed, SessionLaw}
 

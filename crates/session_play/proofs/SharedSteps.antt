@@ -245,7 +245,7 @@ no_place s b was seen q v l w same n =
 pub record IsHeld (was : List Unread) (q place : ℕ) (old : Unread) : Type 0 where
   pub at : IsAt q was place
   pub number : old.number ≡ q
-  pub bytes : unread_by (map waiting was) q ≡ begun old.assembler
+  pub bytes : unread_by (map waiting was) q ≡ begun old.cutter
 
 pub held : (was seen : List Unread) (q place : ℕ) (old : Unread) → seen ≡ was →
     Some place ≡ position (λ u. u.number == q) seen →
@@ -255,7 +255,7 @@ held was seen q place old same found is =
     record {
       at = at;
       number = ap (λ (u : Unread). u.number) is ∙ number_at q was place old at;
-      bytes = bytes_at q was place old at ∙ ap (λ (u : Unread). begun u.assembler) (sym is);
+      bytes = bytes_at q was place old at ∙ ap (λ (u : Unread). begun u.cutter) (sym is);
     }
 
 pub read_waits : (journal : List Entry) (was : List Unread) (q place : ℕ) (old new : Unread) → IsHeld was q place old →
@@ -263,34 +263,34 @@ pub read_waits : (journal : List Entry) (was : List Unread) (q place : ℕ) (old
     AreWaiting journal (map waiting was) → AreWaiting journal (map waiting (set was place new))
 read_waits journal was q place old new h n w k l =
     ap (is_waiting k) (set_at q was place new h.at (n ∙ h.number))
-    ∙ waiting_with q (begun new.assembler) k (map waiting was) ∙ w k l
+    ∙ waiting_with q (begun new.cutter) k (map waiting was) ∙ w k l
 
 pub read_live : (journal : List Entry) (was : List Unread) (q place : ℕ) (old new : Unread) → IsHeld was q place old →
     new.number ≡ old.number →
     AreLive journal (map waiting was) → AreLive journal (map waiting (set was place new))
 read_live journal was q place old new h n w k l =
     w k (sym (ap (is_waiting k) (set_at q was place new h.at (n ∙ h.number))
-    ∙ waiting_with q (begun new.assembler) k (map waiting was)) ∙ l)
+    ∙ waiting_with q (begun new.cutter) k (map waiting was)) ∙ l)
 
 read_by : (s after : Ongoing) (b : Broker) (was : List Unread) (q place : ℕ) (old new : Unread) (piece : List ℕ)
     (found : Found) → view_of b was ≡ s →
     IsHeld was q place old → new.number ≡ old.number → after.play.unread ≡ map waiting (set was place new) →
-    Finds old.number (begun old.assembler ++ piece) piece found (begun new.assembler) → IsRead s q piece found after
+    Finds old.number (begun old.cutter ++ piece) piece found (begun new.cutter) → IsRead s q piece found after
 read_by s after b was q place old new piece found v h n u f = record {
-  left = begun new.assembler;
+  left = begun new.cutter;
   finds =
       let here = ap (λ (y : Ongoing). unread_of y.play q) (sym v) ∙ h.bytes in
-      subst (λ (bytes : List ℕ). Finds q (bytes ++ piece) piece found (begun new.assembler)) (sym here)
-      (subst (λ k. Finds k (begun old.assembler ++ piece) piece found (begun new.assembler)) h.number f);
+      subst (λ (bytes : List ℕ). Finds q (bytes ++ piece) piece found (begun new.cutter)) (sym here)
+      (subst (λ k. Finds k (begun old.cutter ++ piece) piece found (begun new.cutter)) h.number f);
   unread = u ∙ set_at q was place new h.at (n ∙ h.number) ∙ ap
-      (λ (y : Ongoing). with_unread q (begun new.assembler) y.play.unread) v;
+      (λ (y : Ongoing). with_unread q (begun new.cutter) y.play.unread) v;
 }
 
 pub read_is : {E : Type 0} (s after : Ongoing) (b : Broker) (was : List Unread) (q place : ℕ) (old new : Unread)
     (piece : List ℕ) (r : Result Found E) →
     view_of b was ≡ s → IsHeld was q place old → new.number ≡ old.number →
     after.play.unread ≡ map waiting (set was place new) →
-    IfOk r (λ found. Finds old.number (begun old.assembler ++ piece) piece found (begun new.assembler)) →
+    IfOk r (λ found. Finds old.number (begun old.cutter ++ piece) piece found (begun new.cutter)) →
     IfOk r (λ found. IsRead s q piece found after)
 read_is s after b was q place old new piece (Ok found) v h n u f = read_by s after b was q place old new piece found v h
     n u f

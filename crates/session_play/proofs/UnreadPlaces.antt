@@ -78,26 +78,26 @@ number_at q (u ∷ rest) zero d h = eqb-true u.number q h
 number_at q (u ∷ rest) (suc place) d h = number_at q rest place d h.1
 
 pub bytes_at : (q : ℕ) (unread : List Unread) (place : ℕ) (d : Unread) → IsAt q unread place →
-    unread_by (map waiting unread) q ≡ begun (get_or unread place d).assembler
+    unread_by (map waiting unread) q ≡ begun (get_or unread place d).cutter
 bytes_at q [] place d h = absurd h
-bytes_at q (u ∷ rest) zero d h = ap (λ (b : Bool). (if b then begun u.assembler else unread_by (map waiting rest) q)) h
+bytes_at q (u ∷ rest) zero d h = ap (λ (b : Bool). (if b then begun u.cutter else unread_by (map waiting rest) q)) h
 bytes_at q (u ∷ rest) (suc place) d h =
-    ap (λ (b : Bool). (if b then begun u.assembler else unread_by (map waiting rest) q)) h.0
+    ap (λ (b : Bool). (if b then begun u.cutter else unread_by (map waiting rest) q)) h.0
     ∙ bytes_at q rest place d h.1
 
 -- and what stands there afterwards
 pub set_at : (q : ℕ) (unread : List Unread) (place : ℕ) (u : Unread) → IsAt q unread place → u.number ≡ q →
-    map waiting (set unread place u) ≡ with_unread q (begun u.assembler) (map waiting unread)
+    map waiting (set unread place u) ≡ with_unread q (begun u.cutter) (map waiting unread)
 set_at q [] place u h n = absurd h
 set_at q (v ∷ rest) zero u h n =
     let same : u.number ≡ v.number = n ∙ sym (eqb-true v.number q h) in
-    ap (λ k. record { number = k; bytes = begun u.assembler } ∷ map waiting rest) same
-    ∙ sym (ap (λ (b : Bool). (if b then record { number = v.number; bytes = begun u.assembler } ∷ map waiting rest
-    else waiting v ∷ with_unread q (begun u.assembler) (map waiting rest))) h)
+    ap (λ k. record { number = k; bytes = begun u.cutter } ∷ map waiting rest) same
+    ∙ sym (ap (λ (b : Bool). (if b then record { number = v.number; bytes = begun u.cutter } ∷ map waiting rest
+    else waiting v ∷ with_unread q (begun u.cutter) (map waiting rest))) h)
 set_at q (v ∷ rest) (suc place) u h n =
     ap (λ (ws : List Waiting). waiting v ∷ ws) (set_at q rest place u h.1 n)
-    ∙ sym (ap (λ (b : Bool). (if b then record { number = v.number; bytes = begun u.assembler } ∷ map waiting rest
-    else waiting v ∷ with_unread q (begun u.assembler) (map waiting rest))) h.0)
+    ∙ sym (ap (λ (b : Bool). (if b then record { number = v.number; bytes = begun u.cutter } ∷ map waiting rest
+    else waiting v ∷ with_unread q (begun u.cutter) (map waiting rest))) h.0)
 
 -- those of the dead are given back
 pub given_back : (journal : List Entry) (before after : List Unread) →

@@ -1,5 +1,5 @@
 -- A piece that is one whole message, of a peer without unread bytes.
-use Rattle.std.proofs.Common.{◌≡◌, ℕ, List, [], length, map, drop, true, Ok, Err, refl, sym, subst, ◌∙◌}
+use Rattle.std.proofs.Common.{◌≡◌, ℕ, List, [], ◌++◌, length, map, drop, true, Ok, Err, refl, sym, subst, ◌∙◌}
 use Rattle.std.specs.Prelude.{Result}
 use Rattle.std.proofs.Math.Seq.{drop-length}
 use Rattle.seat_steps.specs.declared.step.PeerStep.{PeerStep}
@@ -10,25 +10,27 @@ use Rattle.wl_wire.specs.Streams.{begun}
 use Rattle.session_play.specs.declared.session.Stop.{Stop}
 use Rattle.session_play.specs.declared.unread.Found.TheVariants.{Message}
 use Rattle.session_play.specs.declared.unread.Unread.{Unread}
-use Rattle.session_play.specs.Steps.{IsFront}
 use Rattle.session_play.specs.Unread.{waiting}
 use Rattle.session_play.specs.Played.{unread_by, step_played, bytes_played}
 use Rattle.session_play.specs.Playing.{Ongoing, IsPlayed, IsRead}
-use Rattle.session_play.proofs.FirstSteps.{front_message}
+use Rattle.step_cutter.specs.Cuts as cuts
+use Rattle.session_play.proofs.FirstSteps.{first_step}
 use Rattle.session_play.proofs.SharedSteps.{view_of, IsHeld}
 use Rattle.session_play.proofs.BytesLoop.{nothing_left, message_stops, message_goes, message_last}
 
 -- it is found, and nothing is left of it
 pub whole_is : (s : Ongoing) (b : Broker) (was : List Unread) (q place : ℕ) (old : Unread) (piece raw : List ℕ)
-    (id opcode used : ℕ) → view_of b was ≡ s → IsHeld was q place old → begun old.assembler ≡ [] →
-    IsFront id opcode raw piece used → used ≡ length piece →
+    (id opcode used : ℕ) → view_of b was ≡ s → IsHeld was q place old →
+    cuts.IsFirst id opcode raw (begun old.cutter ++ piece) piece used (begun old.cutter) → used ≡ length piece →
     IsRead s q piece (Message (peers.Message id opcode raw) (length piece)) s
-whole_is s b was q place old piece raw id opcode used v h clear f all =
-    let none : unread_by (map waiting was) q ≡ [] = h.bytes ∙ clear in
+whole_is s b was q place old piece raw id opcode used v h f all =
+    let none : unread_by (map waiting was) q ≡ [] = h.bytes ∙ f.none_left in
     subst (λ (n : ℕ). IsRead s q piece (Message (peers.Message id opcode raw) n) s) all
     (subst (λ (y : Ongoing). IsRead y q piece (Message (peers.Message id opcode raw) used) y) v (record {
       left = [];
-      finds = front_message q id opcode used (unread_by (map waiting was) q) piece raw raw [] none refl refl f;
+      finds = first_step q id opcode used raw (unread_by (map waiting was) q ++ piece) piece [] (peers.Message id opcode raw) refl
+          (subst (λ (x : List ℕ). cuts.IsFirst id opcode raw (x ++ piece) piece used []) (sym h.bytes)
+          (subst (λ (x : List ℕ). cuts.IsFirst id opcode raw (begun old.cutter ++ piece) piece used x) f.none_left f));
       unread = sym (nothing_left q (map waiting was) none);
     }))
 

@@ -1,6 +1,4 @@
-pub mod Steps
 pub mod Played
 pub mod Unread
 pub mod Playing
 pub mod Laws
-pub mod Recorded

@@ -1,5 +1,6 @@
 -- What the lines of a session make of a journal and of the unread bytes of its live peers.
 use Rattle.std.specs.Prelude.{ℕ, ◌+◌, List, [], ◌∷◌, ◌++◌, length, filter, min, Bool, true, false, ◌==◌, nat_le, if◌then◌else◌, Option, Some, None}
+use Rattle.wl_wire.specs.Messages.{behind}
 use Rattle.relay_model.specs.declared.act.EndCause.TheVariants.{Gone}
 use Rattle.seat_steps.specs.declared.limits.Limits.{Limits}
 use Rattle.session_text.specs.declared.line.SessionLine.{SessionLine}
@@ -12,7 +13,7 @@ use Rattle.broker_model.specs.Out.{stored, out_for}
 use Rattle.broker_model.specs.Settle.{number_alive, settle}
 use Rattle.broker_model.specs.Limits.{is_full}
 use Rattle.broker_core.specs.Taking.{lives}
-use Rattle.session_play.specs.Steps.{steps_in, behind}
+use Rattle.step_cutter.specs.Steps.{steps_in}
 
 -- the bytes of a peer that don't make a whole message yet
 pub record Waiting : Type 0 where

@@ -1,5 +1,6 @@
 -- What is found in bytes of a peer, behind those that it sent before.
 use Rattle.std.specs.Prelude.{◌≡◌, ℕ, ◌<◌, ◌≤◌, List, [], ◌∷◌, length, drop}
+use Rattle.wl_wire.specs.Messages.{behind}
 use Rattle.wl_wire.specs.Streams.{begun}
 use Rattle.seat_steps.specs.declared.step.PeerStep.{PeerStep}
 use Rattle.seat_steps.specs.Ranges.{IsPeerStep}
@@ -9,12 +10,12 @@ use Rattle.broker_core.specs.Broker.{peer_entry}
 use Rattle.session_play.specs.declared.unread.Found.{Found}
 use Rattle.session_play.specs.declared.unread.Found.TheVariants.{Message, Nothing, BadSize}
 use Rattle.session_play.specs.declared.unread.Unread.{Unread}
-use Rattle.session_play.specs.Steps.{steps_in, behind}
+use Rattle.step_cutter.specs.Steps.{steps_in}
 use Rattle.session_play.specs.Played.{Waiting}
 
 -- the bytes that a peer's next piece goes on from
 abbrev pub waiting : Unread → Waiting
-waiting u = record { number = u.number; bytes = begun u.assembler }
+waiting u = record { number = u.number; bytes = begun u.cutter }
 
 -- the message that bytes begin with: its step comes first, and its bytes are gone from what is left
 pub record IsFirst (q : ℕ) (bytes piece : List ℕ) (step : PeerStep) (used : ℕ) (left : List ℕ) : Type 0 where

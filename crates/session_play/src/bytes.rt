@@ -1,7 +1,7 @@
 //! The lines of a session that are bytes of a peer: a step for each message that they complete.
 use crate::ending::forget_ended;
 use crate::session::{Session, Stop};
-use crate::unread::{Found, place_of, whole_message};
+use crate::unread::{Found, place_of};
 use broker_core::{Refused, Watch};
 use seat_steps::{Stamp, Step};
 use wio_core::NoMemory;
@@ -44,13 +44,9 @@ impl Session {
         let Some(place) = place_of(&self.unread, number) else {
             unreachable!()
         };
-        if self.unread[place].is_clear {
-            match whole_message(piece) {
-                Some((raw, used)) if used == piece.len() => Some(raw),
-                _ => None,
-            }
-        } else {
-            None
+        match self.unread[place].cutter.front(piece) {
+            Some((raw, used)) if used == piece.len() => Some(raw),
+            _ => None,
         }
     }
 

@@ -1,6 +1,5 @@
 //! Laws of what lines play, over the definitions alone.
 ghost use Rattle.session_play.specs.Laws.{SessionLaw, PrintedSteps};
-ghost use Rattle.session_play.specs.Recorded.{SessionIsRecorded};
 
 /// The session law: for every list of lines, the journal that they lead to is the history of its
 /// outer steps. So the relay law speaks of it.
@@ -13,9 +12,4 @@ pub fn session_law()
 /// many bytes are stored. Each line of the shell does.
 pub fn printed_steps()
     ensures law { PrintedSteps }
-{}
-
-/// The text of a small recorded session is what was worked out by hand.
-pub fn recorded_session()
-    ensures row { SessionIsRecorded }
 {}

@@ -9,6 +9,6 @@ mod session;
 mod unread;
 
 pub use broker_core::{Journal, Kept, Watch};
-pub use laws::{printed_steps, recorded_session, session_law};
+pub use laws::{printed_steps, session_law};
 pub use player::{PlayEnd, Player};
 pub use session::Stop;

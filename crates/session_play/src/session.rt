@@ -7,9 +7,10 @@ use seat_steps::{Limits, PeerStep, Stamp, Step, TokenList};
 use session_text::SessionLine;
 use std::alloc::{AllocError, Global};
 use std::marker::Model;
+use step_cutter::Cutter;
 use thiserror::Error;
 use wio_core::NoMemory;
-use wl_wire::{Assembler, MESSAGE_LIMIT};
+use wl_wire::MESSAGE_LIMIT;
 
 /// How many taken bytes a small buffer has room for.
 const FEW: usize = 256;
@@ -181,15 +182,11 @@ impl Session {
         ensures watched { IsWatched W.may_follow self.old.limits.store self.old.play.journal
             watch.old self.new.play.journal watch.new }
     {
-        let assembler = Assembler::new(self.alloc)?;
+        let cutter = Cutter::new(self.alloc)?;
         self.unread.reserve(1)?;
         match self.shared.join_watched(role, stamp, watch) {
             Ok(number) => {
-                let _ = self.unread.push(Unread {
-                    number,
-                    assembler,
-                    is_clear: true,
-                });
+                let _ = self.unread.push(Unread { number, cutter });
                 keep_live(&self.shared, &mut self.unread);
                 Ok(())
             }

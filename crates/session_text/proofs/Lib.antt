@@ -23,3 +23,4 @@ pub mod ReadStamps
 pub mod Laws
 pub mod Asked
 pub mod NumberWords
+pub mod SeatLines

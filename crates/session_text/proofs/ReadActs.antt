@@ -34,7 +34,8 @@ two_sound k a act e =
     read_one numbers (codes "focus") acts.Focus k a _ act (λ s. refl) (λ s h. h) e (λ e.
     read_one numbers (codes "enable") acts.Enable k a _ act (λ f. refl) (λ f h. h) e (λ e.
     read_one numbers (codes "disable") acts.Disable k a _ act (λ f. refl) (λ f h. h) e (λ e.
-    read_one numbers (codes "commit") acts.Commit k a _ act (λ f. refl) (λ f h. h) e (λ e. absurd (cc e)))))))))))
+    read_one numbers (codes "commit") acts.Commit k a _ act (λ f. refl) (λ f h. h) e (λ e.
+    read_one numbers (codes "vboard") acts.VBoard k a _ act (λ p. refl) (λ p h. h) e (λ e. absurd (cc e))))))))))))
 
 three_sound : (k a b : List ℕ) (act : Act) → three_words k a b ≡ Some act → IsReadAct (k ∷ a ∷ b ∷ []) act
 unfolding three_words
@@ -66,7 +67,11 @@ five_sound k a b c d act e =
     arm k (codes "mpreedit") _ _ act e (λ is e. bound numbers a _ act e (λ m h is1 e. bound (texts cursor_text_limit) b _ act e (λ text i is2 e. bound signeds c _ act e (λ begin j is3 e. bound signeds d _ act e (λ end l is4 e.
     made _ (acts.MPreedit m text begin end) act e (rw (is, is1, is2, is3, is4) refl) (h, i, j, l)))))) (λ e.
     arm k (codes "mods") _ _ act e (λ is e. bound numbers a _ act e (λ depressed h is1 e. bound numbers b _ act e (λ latched i is2 e. bound numbers c _ act e (λ locked j is3 e. bound numbers d _ act e (λ group l is4 e.
-    made _ (acts.Mods (record { depressed = depressed; latched = latched; locked = locked; group = group })) act e (rw (is, is1, is2, is3, is4) refl) (h, i, j, l)))))) (λ e. absurd (cc e))))
+    made _ (acts.Mods (record { depressed = depressed; latched = latched; locked = locked; group = group })) act e (rw (is, is1, is2, is3, is4) refl) (h, i, j, l)))))) (λ e.
+    arm k (codes "vkeymap") _ _ act e (λ is e. bound numbers a _ act e (λ v h is1 e. bound numbers b _ act e (λ format i is2 e. bound numbers c _ act e (λ token j is3 e. bound numbers d _ act e (λ size l is4 e.
+    made _ (acts.VKeymap v (record { format = format; token = token; size = size })) act e (rw (is, is1, is2, is3, is4) refl) (h, i, j, l)))))) (λ e.
+    arm k (codes "vkey") _ _ act e (λ is e. bound numbers a _ act e (λ v h is1 e. bound numbers b _ act e (λ time i is2 e. bound numbers c _ act e (λ key j is3 e. bound states d _ act e (λ state l is4 e.
+    made _ (acts.VKey v time key state) act e (rw (is, is1, is2, is3, is4) refl) (h, i, j, l)))))) (λ e. absurd (cc e))))))
 
 six_sound : (k a b c d f : List ℕ) (act : Act) → six_words k a b c d f ≡ Some act → IsReadAct (k ∷ a ∷ b ∷ c ∷ d ∷ f ∷ []) act
 unfolding six_words
@@ -74,7 +79,9 @@ six_sound k a b c d f act e =
     arm k (codes "area") _ _ act e (λ is e. bound numbers a _ act e (λ s i is1 e. bound signeds b _ act e (λ x j is2 e. bound signeds c _ act e (λ y l is3 e. bound sizes d _ act e (λ w m is4 e. bound sizes f _ act e (λ h n is5 e.
     made _ (acts.Area s (rect x y w h)) act e (rw (is, is1, is2, is3, is4, is5) refl) (i, (j, l, m, n)))))))) (λ e.
     arm k (codes "rect") _ _ act e (λ is e. bound numbers a _ act e (λ g i is1 e. bound signeds b _ act e (λ x j is2 e. bound signeds c _ act e (λ y l is3 e. bound signeds d _ act e (λ w m is4 e. bound signeds f _ act e (λ h n is5 e.
-    made _ (acts.Cursor g (rect x y w h)) act e (rw (is, is1, is2, is3, is4, is5) refl) (i, (j, l, m, n)))))))) (λ e. absurd (cc e)))
+    made _ (acts.Cursor g (rect x y w h)) act e (rw (is, is1, is2, is3, is4, is5) refl) (i, (j, l, m, n)))))))) (λ e.
+    arm k (codes "vmods") _ _ act e (λ is e. bound numbers a _ act e (λ v h is1 e. bound numbers b _ act e (λ depressed i is2 e. bound numbers c _ act e (λ latched j is3 e. bound numbers d _ act e (λ locked l is4 e. bound numbers f _ act e (λ group m is5 e.
+    made _ (acts.VMods v (record { depressed = depressed; latched = latched; locked = locked; group = group })) act e (rw (is, is1, is2, is3, is4, is5) refl) (h, i, j, l, m))))))) (λ e. absurd (cc e))))
 
 pub act_sound : (ws : List (List ℕ)) (act : Act) → act_of ws ≡ Some act → IsReadAct ws act
 act_sound [] act e = absurd (cc e)

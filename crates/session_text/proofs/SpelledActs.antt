@@ -40,6 +40,10 @@ parts (acts.Key time key state) h = named (codes "key") _ _ (more numbers time h
 parts (acts.Mods mods) h = named (codes "mods") _ _ (more numbers mods.depressed h.0 _ _ (more numbers mods.latched h.1 _ _ (more numbers mods.locked h.2 _ _ (more numbers mods.group h.3 _ _ none)))) refl
 parts (acts.Keymap keymap) h = named (codes "keymap") _ _ (more numbers keymap.format h.0 _ _ (more numbers keymap.token h.1 _ _ (more numbers keymap.size h.2 _ _ none))) refl
 parts (acts.Repeat repeat) h = with_two signeds signeds (codes "repeat") repeat.rate repeat.delay h.0 h.1 refl
+parts (acts.VBoard p) h = with_one numbers (codes "vboard") p h refl
+parts (acts.VKeymap v keymap) h = named (codes "vkeymap") _ _ (more numbers v h.0 _ _ (more numbers keymap.format h.1 _ _ (more numbers keymap.token h.2 _ _ (more numbers keymap.size h.3 _ _ none)))) refl
+parts (acts.VKey v time key state) h = named (codes "vkey") _ _ (more numbers v h.0 _ _ (more numbers time h.1 _ _ (more numbers key h.2 _ _ (more states state h.3 _ _ none)))) refl
+parts (acts.VMods v mods) h = named (codes "vmods") _ _ (more numbers v h.0 _ _ (more numbers mods.depressed h.1 _ _ (more numbers mods.latched h.2 _ _ (more numbers mods.locked h.3 _ _ (more numbers mods.group h.4 _ _ none))))) refl
 parts _ h = absurd h
 
 -- ---- the words of an act are read as that act
@@ -73,4 +77,8 @@ act_complete (acts.Key time key state) h = (refl, rw (numbers.complete time h.0)
 act_complete (acts.Mods mods) h = (refl, rw (numbers.complete mods.depressed h.0) (rw (numbers.complete mods.latched h.1) (rw (numbers.complete mods.locked h.2) (rw (numbers.complete mods.group h.3) refl))))
 act_complete (acts.Keymap keymap) h = (refl, rw (numbers.complete keymap.format h.0) (rw (numbers.complete keymap.token h.1) (rw (numbers.complete keymap.size h.2) refl)))
 act_complete (acts.Repeat repeat) h = (refl, rw (signeds.complete repeat.rate h.0) (rw (signeds.complete repeat.delay h.1) refl))
+act_complete (acts.VBoard p) h = (refl, rw (numbers.complete p h) refl)
+act_complete (acts.VKeymap v keymap) h = (refl, rw (numbers.complete v h.0) (rw (numbers.complete keymap.format h.1) (rw (numbers.complete keymap.token h.2) (rw (numbers.complete keymap.size h.3) refl))))
+act_complete (acts.VKey v time key state) h = (refl, rw (numbers.complete v h.0) (rw (numbers.complete time h.1) (rw (numbers.complete key h.2) (rw (states.complete state h.3) refl))))
+act_complete (acts.VMods v mods) h = (refl, rw (numbers.complete v h.0) (rw (numbers.complete mods.depressed h.1) (rw (numbers.complete mods.latched h.2) (rw (numbers.complete mods.locked h.3) (rw (numbers.complete mods.group h.4) refl)))))
 act_complete _ h = absurd h

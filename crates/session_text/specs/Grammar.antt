@@ -47,6 +47,12 @@ act_words (acts.Mods mods) =
     codes "mods" ∷ decimal mods.depressed ∷ decimal mods.latched ∷ decimal mods.locked ∷ decimal mods.group ∷ []
 act_words (acts.Keymap keymap) = codes "keymap" ∷ decimal keymap.format ∷ decimal keymap.token ∷ decimal keymap.size ∷ []
 act_words (acts.Repeat repeat) = codes "repeat" ∷ signed_decimal repeat.rate ∷ signed_decimal repeat.delay ∷ []
+act_words (acts.VBoard p) = codes "vboard" ∷ decimal p ∷ []
+act_words (acts.VKeymap v keymap) =
+    codes "vkeymap" ∷ decimal v ∷ decimal keymap.format ∷ decimal keymap.token ∷ decimal keymap.size ∷ []
+act_words (acts.VKey v time key state) = codes "vkey" ∷ decimal v ∷ decimal time ∷ decimal key ∷ decimal state ∷ []
+act_words (acts.VMods v mods) =
+    codes "vmods" ∷ decimal v ∷ decimal mods.depressed ∷ decimal mods.latched ∷ decimal mods.locked ∷ decimal mods.group ∷ []
 act_words _ = []
 
 -- the header of each form
@@ -99,6 +105,12 @@ HasLine (acts.Mods mods) =
     (mods.depressed < 2 ^ 32) × (mods.latched < 2 ^ 32) × (mods.locked < 2 ^ 32) × (mods.group < 2 ^ 32)
 HasLine (acts.Keymap keymap) = (keymap.format < 2 ^ 32) × (keymap.token < 2 ^ 32) × (keymap.size < 2 ^ 32)
 HasLine (acts.Repeat repeat) = IsTrue (fits_i32 repeat.rate) × IsTrue (fits_i32 repeat.delay)
+HasLine (acts.VBoard p) = p < 2 ^ 32
+HasLine (acts.VKeymap v keymap) =
+    (v < 2 ^ 32) × (keymap.format < 2 ^ 32) × (keymap.token < 2 ^ 32) × (keymap.size < 2 ^ 32)
+HasLine (acts.VKey v time key state) = (v < 2 ^ 32) × (time < 2 ^ 32) × (key < 2 ^ 32) × (state ≤ 1)
+HasLine (acts.VMods v mods) =
+    (v < 2 ^ 32) × (mods.depressed < 2 ^ 32) × (mods.latched < 2 ^ 32) × (mods.locked < 2 ^ 32) × (mods.group < 2 ^ 32)
 HasLine _ = ⊥
 
 -- the line is one of the form

@@ -37,6 +37,7 @@ two_words k a =
     else if bytes_eq k (codes "enable") then number_of a >>= (λ f. Some (acts.Enable f))
     else if bytes_eq k (codes "disable") then number_of a >>= (λ f. Some (acts.Disable f))
     else if bytes_eq k (codes "commit") then number_of a >>= (λ f. Some (acts.Commit f))
+    else if bytes_eq k (codes "vboard") then number_of a >>= (λ p. Some (acts.VBoard p))
     else None
 
 unfoldable pub three_words : List ℕ → List ℕ → List ℕ → Option Act
@@ -78,6 +79,12 @@ five_words k a b c d =
     else if bytes_eq k (codes "mods") then
     number_of a >>= (λ depressed. number_of b >>= (λ latched. number_of c >>= (λ locked. number_of d >>= (λ group.
     Some (acts.Mods (record { depressed = depressed; latched = latched; locked = locked; group = group }))))))
+    else if bytes_eq k (codes "vkeymap") then
+    number_of a >>= (λ v. number_of b >>= (λ format. number_of c >>= (λ token. number_of d >>= (λ size.
+    Some (acts.VKeymap v (record { format = format; token = token; size = size }))))))
+    else if bytes_eq k (codes "vkey") then
+    number_of a >>= (λ v. number_of b >>= (λ time. number_of c >>= (λ key. state_of d >>= (λ state.
+    Some (acts.VKey v time key state)))))
     else None
 
 unfoldable pub six_words : List ℕ → List ℕ → List ℕ → List ℕ → List ℕ → List ℕ → Option Act
@@ -88,6 +95,9 @@ six_words k a b c d e =
     else if bytes_eq k (codes "rect") then
     number_of a >>= (λ f. signed_of b >>= (λ x. signed_of c >>= (λ y. signed_of d >>= (λ w. signed_of e >>= (λ h.
     Some (acts.Cursor f (rect x y w h)))))))
+    else if bytes_eq k (codes "vmods") then
+    number_of a >>= (λ v. number_of b >>= (λ depressed. number_of c >>= (λ latched. number_of d >>= (λ locked. number_of e >>= (λ group.
+    Some (acts.VMods v (record { depressed = depressed; latched = latched; locked = locked; group = group })))))))
     else None
 
 -- the act of the words, the first of which names it

@@ -50,6 +50,8 @@ fn read_two(key: &[u8], a: &[u8]) -> Result<Act, BadLine>
         Ok(Act::Disable { field: number(a)? })
     } else if is(key, b"commit".as_slice()) {
         Ok(Act::Commit { field: number(a)? })
+    } else if is(key, b"vboard".as_slice()) {
+        Ok(Act::VBoard { peer: number(a)? })
     } else {
         Err(BadLine::Grammar)
     }
@@ -175,6 +177,30 @@ fn read_five(
             locked,
             group,
         }))
+    } else if is(key, b"vkeymap".as_slice()) {
+        let board = number(a)?;
+        let format = number(b)?;
+        let token = number(c)?;
+        let size = number(d)?;
+        Ok(Act::VKeymap {
+            board,
+            keymap: Keymap {
+                format,
+                token,
+                size,
+            },
+        })
+    } else if is(key, b"vkey".as_slice()) {
+        let board = number(a)?;
+        let time = number(b)?;
+        let key = number(c)?;
+        let state = state(d)?;
+        Ok(Act::VKey {
+            board,
+            time,
+            key,
+            state,
+        })
     } else {
         Err(BadLine::Grammar)
     }
@@ -212,6 +238,21 @@ fn read_six(key: &[u8], a: &[u8], b: &[u8], c: &[u8], d: &[u8], e: &[u8]) -> Res
                 y,
                 width,
                 height,
+            },
+        })
+    } else if is(key, b"vmods".as_slice()) {
+        let board = number(a)?;
+        let depressed = number(b)?;
+        let latched = number(c)?;
+        let locked = number(d)?;
+        let group = number(e)?;
+        Ok(Act::VMods {
+            board,
+            mods: Mods {
+                depressed,
+                latched,
+                locked,
+                group,
             },
         })
     } else {

@@ -8,6 +8,7 @@ mod hex_words;
 mod line;
 mod numerals;
 mod piece_line;
+mod seat_line;
 mod session_line;
 mod shell_line;
 mod stamped_line;
@@ -18,3 +19,7 @@ pub use line::{
     BadLine, Form, LINE_LIMIT, Line, SessionLine, one_spelling, read_line, worked_lines,
 };
 pub use piece_line::{read_piece, read_stamped_piece};
+pub use seat_line::{
+    Address, SEAT_LIMIT, SeatLine, SeatsHeader, SeatsLine, read_address, read_seat_line,
+    read_seats_header,
+};

@@ -4,3 +4,4 @@ pub mod FaultTexts
 pub mod PrintedLines
 pub mod Transcripts
 mod ShortLines
+pub mod SeatTexts

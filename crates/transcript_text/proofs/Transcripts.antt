@@ -10,8 +10,9 @@ use mir.Val.{SFits}
 use Rattle.relay_model.specs.declared.act.EndCause.{EndCause}
 use Rattle.relay_model.specs.declared.act.EndCause.TheVariants.{Gone, Bad, Full}
 use Rattle.wl_wire.specs.Texts.{has_no_zero, IsBytes}
+use Rattle.relay_model.specs.Keys.{Mods}
 use Rattle.session_text.specs.Words.{hex_word}
-use Rattle.transcript_text.specs.Transcript.{cause_word, ended_line, took_line, token_word, placed_line, pass_line}
+use Rattle.transcript_text.specs.Transcript.{cause_word, ended_line, took_line, token_word, placed_line, pass_line, vmods_line}
 use Rattle.session_text.proofs.Separators.{lacks, zero, decimal_lacks, hex_lacks, join_lacks}
 use Rattle.transcript_text.proofs.PrintedLines.{number_clean, signed_clean}
 
@@ -48,3 +49,9 @@ pub pass_clean : (n time key state : ℕ) → n < 2 ^ 32 → time < 2 ^ 32 → k
 pass_clean n time key state n-lt time-lt key-lt state-lt =
     join_lacks 0 (decimal n ∷ codes "pass" ∷ decimal time ∷ decimal key ∷ decimal state ∷ []) refl
     (number_clean n n-lt, (refl, (number_clean time time-lt, (number_clean key key-lt, (number_clean state state-lt, tt)))))
+
+pub vmods_clean : (n : ℕ) (mods : Mods) → n < 2 ^ 32 → mods.depressed < 2 ^ 32 → mods.latched < 2 ^ 32 → mods.locked < 2 ^ 32 → mods.group < 2 ^ 32 →
+    has_no_zero (vmods_line n mods) ≡ true
+vmods_clean n mods n-lt d-lt l-lt k-lt g-lt =
+    join_lacks 0 (decimal n ∷ codes "vmods" ∷ decimal mods.depressed ∷ decimal mods.latched ∷ decimal mods.locked ∷ decimal mods.group ∷ []) refl
+    (number_clean n n-lt, (refl, (number_clean mods.depressed d-lt, (number_clean mods.latched l-lt, (number_clean mods.locked k-lt, (number_clean mods.group g-lt, tt))))))

@@ -38,6 +38,7 @@ said_words (said.DeleteId label) = codes "delete_id" ∷ decimal label ∷ []
 said_words (said.Capabilities value) = codes "capabilities" ∷ decimal value ∷ []
 said_words (said.Error object fault) = codes "error" ∷ decimal object ∷ decimal (code_of fault) ∷ hex_word (text_of fault) ∷ []
 said_words (said.Pass time key state) = codes "pass" ∷ decimal time ∷ decimal key ∷ decimal state ∷ []
+said_words (said.VMods mods) = codes "vmods" ∷ decimal mods.depressed ∷ decimal mods.latched ∷ decimal mods.locked ∷ decimal mods.group ∷ []
 said_words (said.Placed popup x y) = codes "placed" ∷ decimal popup ∷ signed_decimal x ∷ signed_decimal y ∷ []
 
 -- the line of an event, without its line feed: the number of the act that tells it, the label that it is told to, the event

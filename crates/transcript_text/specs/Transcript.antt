@@ -4,6 +4,7 @@ use Rattle.std.specs.List.{join_with_byte}
 use Rattle.std.specs.Fmt.{decimal, signed_decimal}
 use Rattle.relay_model.specs.declared.act.EndCause.{EndCause}
 use Rattle.relay_model.specs.declared.act.EndCause.TheVariants.{Gone, Bad, Full}
+use Rattle.relay_model.specs.Keys.{Mods}
 use Rattle.session_text.specs.Words.{hex_word}
 
 abbrev pub cause_word : EndCause → List ℕ
@@ -37,3 +38,9 @@ placed_line number peer i x y =
 abbrev pub pass_line : ℕ → ℕ → ℕ → ℕ → List ℕ
 pass_line number time key state =
     join_with_byte 32 (decimal number ∷ codes "pass" ∷ decimal time ∷ decimal key ∷ decimal state ∷ [])
+
+-- modifiers of a board that no grab has
+abbrev pub vmods_line : ℕ → Mods → List ℕ
+vmods_line number mods =
+    join_with_byte 32
+    (decimal number ∷ codes "vmods" ∷ decimal mods.depressed ∷ decimal mods.latched ∷ decimal mods.locked ∷ decimal mods.group ∷ [])

@@ -61,4 +61,5 @@ pub record WorkedEvents : Type 0 where
   pub capabilities : IsToldAs (said.Capabilities 2) (codes "capabilities 2")
   pub error : IsToldAs (said.Error 7 Size) (codes "error 7 1 6261642073697a65")
   pub pass : IsToldAs (said.Pass 5 30 1) (codes "pass 5 30 1")
+  pub vmods : IsToldAs (said.VMods (record { depressed = 1; latched = 2; locked = 3; group = 4 })) (codes "vmods 1 2 3 4")
   pub placed : IsToldAs (said.Placed 14 (negsuc 4294967295) (pos 0)) (codes "placed 14 -4294967296 0")

@@ -212,6 +212,11 @@ fn add_said(alloc: Global, line: &mut String, event: &Said) -> Result<(), NoMemo
         Said::Capabilities { value } => add_numbers(line, "capabilities", &[*value]),
         Said::Error { object, fault } => add_error(alloc, line, *object, *fault),
         Said::Pass { time, key, state } => add_numbers(line, "pass", &[*time, *key, *state]),
+        Said::VMods(mods) => add_numbers(
+            line,
+            "vmods",
+            &[mods.depressed, mods.latched, mods.locked, mods.group],
+        ),
         Said::Placed { popup, x, y } => add_place(line, *popup, *x, *y),
     }
 }

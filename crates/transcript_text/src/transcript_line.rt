@@ -2,13 +2,13 @@
 ghost use Rattle.std.specs.Prelude.{◌≡◌, ◌∷◌, ◌++◌, IfOk, IsTrue, OnOk, string_bytes};
 ghost use Rattle.wl_wire.specs.Texts.{has_no_zero};
 ghost use Rattle.transcript_text.specs.Transcript.{cause_word, ended_line, out_line, pass_line};
-ghost use Rattle.transcript_text.specs.Transcript.{placed_line, token_word, took_line};
+ghost use Rattle.transcript_text.specs.Transcript.{placed_line, token_word, took_line, vmods_line};
 
 use crate::printing::{add_word, begin, finished, hex_of};
 use crate::short_line::{FEW, write_group, write_numbers};
 use crate::told_line::add_numbers;
 use itoa::Buffer;
-use relay_model::EndCause;
+use relay_model::{EndCause, Mods};
 use std::alloc::Global;
 use wio_core::NoMemory;
 use wl_wire::Text;
@@ -203,5 +203,28 @@ pub fn print_pass(
 {
     let mut line = String::new(alloc);
     write_pass(number, time, key, state, &mut line)?;
+    Ok(finished(line))
+}
+
+/// Writes the line that `print_vmods` prints over what `line` was.
+pub fn write_vmods(number: u32, mods: Mods, line: &mut String) -> Result<(), NoMemory>
+    ensures value { OnOk result (string_bytes line.new ≡ vmods_line number mods) }
+    ensures clean { OnOk result (IsTrue (has_no_zero (string_bytes line.new))) }
+{
+    begin(line, number)?;
+    add_numbers(
+        line,
+        "vmods",
+        &[mods.depressed, mods.latched, mods.locked, mods.group],
+    )
+}
+
+/// Prints modifiers of a board, of the entry of that number, that no grab has: `N vmods DEPRESSED LATCHED LOCKED
+/// GROUP`, without a line feed.
+pub fn print_vmods(alloc: Global, number: u32, mods: Mods) -> Result<Text, NoMemory>
+    ensures value { IfOk result (λ line. line ≡ vmods_line number mods) }
+{
+    let mut line = String::new(alloc);
+    write_vmods(number, mods, &mut line)?;
     Ok(finished(line))
 }

@@ -34,5 +34,6 @@ returns-clause-events c = record {
   capabilities = refl;
   error = refl;
   pass = refl;
+  vmods = refl;
   placed = refl;
 }

@@ -59,10 +59,10 @@ returns-clause-changed c =
     let items : seated (with_value c.self.inside.slab c.index.result.now.key c.change.new.self) c.self.inside.places.items ≡ set old place c.change.new.self =
     (wrote c).1 ∙ ap (λ (v : Peers). changed_at place (rewritten c.change.new.self) v.items) c.self.view_is
     ∙ sym (changed_set (rewritten c.change.new.self) place old l c.requires.place read) ∙ ap (set old place) (sym c.change.ensures.kept) in
-    let Changed : List Live → Type 0 = λ ls. IsChangedAt place c.args.id c.args.label c.args.meaning.now.act (option_map asked c.args.meaning.now.made) old ls in
+    let Changed : List Live → Type 0 = λ ls. IsChangedAt place c.args.id c.args.label c.args.meaning.now.takes_token c.args.meaning.now.act (option_map asked c.args.meaning.now.made) old ls in
     on_ok_weaker c.change.result
     (λ changed. subst Changed (sym items)
-    (changing.changed_at place c.args.id c.args.label c.args.meaning.now.act (option_map asked c.args.meaning.now.made) old l c.change.new.self c.requires.place read changed))
+    (changing.changed_at place c.args.id c.args.label c.args.meaning.now.takes_token c.args.meaning.now.act (option_map asked c.args.meaning.now.made) old l c.change.new.self c.requires.place read changed))
     c.change.ensures.changed
 
 pub change-requires : goal.change-requires

@@ -1,4 +1,4 @@
-use Rattle.std.proofs.Common.{length, sym, ◌∙◌}
+use Rattle.std.proofs.Common.{sym, ◌∙◌}
 use Rattle.seat_steps.specs.declared.step.PeerStep.TheVariants as peers
 use Rattle.session_play.proofs.WholePieces.{whole_played}
 use Rattle.session_play.proofs.session.Session.bytes.Goals as goal

@@ -10,13 +10,13 @@ use Rattle.session_play.proofs.StaysWaiting.{is_put}
 use Rattle.session_play.proofs.StepsStamped.{entry_given}
 use Rattle.session_play.proofs.session.Session.join.Goals as goal
 
-pub returns-in_err-assembler-clause-played : goal.returns-in_err-assembler-clause-played
-returns-in_err-assembler-clause-played g c =
+pub returns-in_err-cutter-clause-played : goal.returns-in_err-cutter-clause-played
+returns-in_err-cutter-clause-played g c =
     let p = err_from_is_err_and c.from_residual.result c.from_residual.ensures.1 in
     rw (p.1, p.2) (join_grows c.args.self.now.limits (entries.Join c.args.role) c.args.self.now.play)
 
-pub returns-in_err-assembler-clause-watched : goal.returns-in_err-assembler-clause-watched
-returns-in_err-assembler-clause-watched g c =
+pub returns-in_err-cutter-clause-watched : goal.returns-in_err-cutter-clause-watched
+returns-in_err-cutter-clause-watched g c =
     watched_none g.W.Watch.may_follow c.args.self.now.limits.store c.args.self.now.play.journal c.args.watch.now
 
 pub returns-in_err-reserve-clause-played : goal.returns-in_err-reserve-clause-played
@@ -53,7 +53,7 @@ returns-in-Ok-clause-played g c =
     join_ok c.args.stamp c.args.self.now c.self.inside.shared c.join_watched.new.self c.self.inside.unread.items
     c.keep_live.new.unread.items _ c.args.role c.in-Ok.number
     c.self.view_is c.in-Ok.ensures.refused c.in-Ok.ensures.ok c.in-Ok.ensures.number
-    (ap (λ (a : Assembly). record { number = c.in-Ok.number; bytes = begun a }) c.in_ok-assembler.ensures.empty)
+    (ap (λ (a : Assembly). record { number = c.in-Ok.number; bytes = begun a }) c.in_ok-cutter.ensures.empty)
     (left_of c.join_watched.new.self _ c.push.new.self.items c.keep_live.new.unread.items c.keep_live.ensures
     made)
 

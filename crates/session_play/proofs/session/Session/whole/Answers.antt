@@ -8,11 +8,10 @@ unreachable-requires c =
     c.self.view_is c.requires.live
     c.self.invariant.0 c.deref.ensures.value c.in_default.ensures
 
-pub returns-in-Some-whole_message : goal.returns-in-Some-whole_message
-returns-in-Some-whole_message c =
+pub returns-in-Some-front : goal.returns-in-Some-front
+returns-in-Some-front c =
     whole_is c.args.self.now c.self.inside.shared c.self.inside.unread.items c.args.number c.in-Some.place
-    c.index.result.now c.args.piece.now c.in-Some-whole_message.raw.body.now c.in-Some-whole_message.raw.id
-    c.in-Some-whole_message.raw.opcode c.in-Some-whole_message.used c.self.view_is
+    c.index.result.now c.args.piece.now c.in-Some-front.raw.body.now c.in-Some-front.raw.id
+    c.in-Some-front.raw.opcode c.in-Some-front.used c.self.view_is
     (held c.self.inside.unread.items c.deref.result.now c.args.number c.in-Some.place c.index.result.now
-    c.deref.ensures.value c.in-Some.ensures c.index.ensures)
-    (c.index.result.now.clear c.if-index.true) c.in-Some-whole_message.ensures c.if-used-piece.true
+    c.deref.ensures.value c.in-Some.ensures c.index.ensures) c.in-Some-front.ensures c.if-used-piece.true

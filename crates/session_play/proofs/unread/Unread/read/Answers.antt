@@ -1,10 +1,8 @@
-use Rattle.wl_wire.specs.Streams.{begun}
-use Rattle.session_play.proofs.FirstSteps.{front_message}
+use Rattle.session_play.proofs.FirstSteps.{nothing_yet, last_step}
 use Rattle.session_play.proofs.unread.Unread.read.Goals as goal
 
-pub returns-in-Some-clause-found : goal.returns-in-Some-clause-found
-returns-in-Some-clause-found c =
-    let clear = c.args.self.now.clear c.if-self.true in
-    front_message c.args.self.now.number c.in-Some.message.id c.in-Some.message.opcode c.in-Some.used
-    (begun c.args.self.now.assembler) c.args.piece.now c.in-Some.message.body.now c.in_ok-body.body
-    (begun c.args.self.now.assembler) clear clear c.in_ok-body.ensures.value c.in-Some.ensures
+pub returns-in-Nothing-clause-found : goal.returns-in-Nothing-clause-found
+returns-in-Nothing-clause-found c = nothing_yet c.args.self.now.number _ _ c.in-Nothing.ensures
+
+pub returns-in-BadSize-clause-found : goal.returns-in-BadSize-clause-found
+returns-in-BadSize-clause-found c = last_step c.args.self.now.number c.in-BadSize.head _ c.in-BadSize.ensures

@@ -1,6 +1,6 @@
 -- The steps that bytes of a peer give, whole or cut anywhere.
-use Rattle.std.specs.Prelude.{◌≡◌, ℕ, ◌<◌, ◌≤◌, List, [], ◌∷◌, ◌++◌, length, take, drop, map, Option, Some, None}
-use Rattle.wl_wire.specs.Messages.{id_of, opcode_of, body_of, IsMessage, messages, joined, bad_size}
+use Rattle.std.specs.Prelude.{ℕ, List, [], ◌∷◌, ◌++◌, take, map, Option, Some, None}
+use Rattle.wl_wire.specs.Messages.{id_of, opcode_of, body_of, messages, behind, bad_size}
 use Rattle.broker_model.specs.declared.journal.Entry.{Entry}
 use Rattle.broker_model.specs.declared.journal.Entry.TheVariants as entries
 
@@ -13,19 +13,6 @@ abbrev pub bad_entries : ℕ → List ℕ → Option ℕ → List Entry
 bad_entries q rest None = []
 bad_entries q rest (Some size) = entries.BadSize q (take 8 rest) ∷ []
 
--- what stands behind the whole messages
-abbrev pub behind : List ℕ → List ℕ
-behind bytes = drop (length (joined (messages bytes))) bytes
-
 -- the steps that the peer's bytes give
 abbrev pub steps_in : ℕ → List ℕ → List Entry
 steps_in q bytes = map (message_entry q) (messages bytes) ++ bad_entries q (behind bytes) (bad_size bytes)
-
--- the whole message that a piece begins with, and how many of its bytes it has
-pub record IsFront (id opcode : ℕ) (body piece : List ℕ) (used : ℕ) : Type 0 where
-  pub some : 0 < used
-  pub within : used ≤ length piece
-  pub whole : IsMessage (take used piece)
-  pub same_id : id ≡ id_of (take used piece)
-  pub same_opcode : opcode ≡ opcode_of (take used piece)
-  pub same_body : body ≡ body_of (take used piece)

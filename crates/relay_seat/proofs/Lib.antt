@@ -1,0 +1,2 @@
+pub mod Heards
+pub mod Tells

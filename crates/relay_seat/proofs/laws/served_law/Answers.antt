@@ -1,0 +1,27 @@
+use Rattle.std.proofs.Common.{List, ◌++◌, Err, ap, sym, ◌∙◌}
+use Rattle.std.proofs.lemmas.List.{append_assoc}
+use Rattle.relay_model.specs.declared.act.Act.{Act}
+use Rattle.relay_seat.specs.declared.seat.Refusal.{Refusal}
+use Rattle.relay_seat.specs.declared.seat.Refusal.TheVariants.{NoMemory, Full, Long}
+use Rattle.relay_seat.specs.Events.{Heard, heard}
+use Rattle.relay_seat.specs.Seated.{Seat, Seated, Takes}
+use Rattle.relay_seat.proofs.laws.served_law.Goals as goal
+
+pub returns-clause-taken : goal.returns-clause-taken
+returns-clause-taken c = λ old new log handed act number takes s. record {
+  waits = s.waits ++ heard act log;
+  seated = (takes s.waits s.seated).2;
+  whole = sym (append_assoc handed s.waits (heard act log)) ∙ ap (λ w. w ++ heard act log) s.whole;
+}
+
+pub returns-clause-idle : goal.returns-clause-idle
+returns-clause-idle c = λ old new log handed act takes s. record { waits = s.waits; seated = (takes s.waits s.seated).1; whole = s.whole }
+
+seated_still : (new : Seat) (log : List Act) (waits : List Heard) (act : Act) (refusal : Refusal) → Takes new log waits act (Err refusal) → Seated new log waits
+seated_still new log waits act NoMemory h = h
+seated_still new log waits act Full h = h.1
+seated_still new log waits act Long h = h.1
+
+pub returns-clause-refused : goal.returns-clause-refused
+returns-clause-refused c = λ old new log handed act refusal takes s.
+    record { waits = s.waits; seated = seated_still new log s.waits act refusal (takes s.waits s.seated); whole = s.whole }

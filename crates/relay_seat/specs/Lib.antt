@@ -1,0 +1,4 @@
+pub mod Events
+pub mod Waiting
+pub mod Seated
+pub mod Served

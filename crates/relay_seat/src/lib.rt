@@ -1,0 +1,13 @@
+//! A relay with what it told and nobody has asked for yet, for a program that pulls events: a compositor, whose calls
+//! are acts and whose clients get the events.
+#![tactic(auto)]
+
+mod event;
+mod laws;
+mod queue;
+mod seat;
+
+pub use event::{Event, kind};
+pub use laws::served_law;
+pub use queue::TooShort;
+pub use seat::{Refusal, RelaySeat};

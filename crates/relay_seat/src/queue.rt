@@ -1,0 +1,154 @@
+//! What was told and not asked for yet: the events in one ring, their texts one behind the other in another.
+ghost use Rattle.std.specs.Prelude.{◌≡◌, ◌+◌, ◌++◌, ◌∷◌, ◌≤◌, ◌<◌, [], length};
+ghost use Rattle.std.specs.Prelude.{IfOk, OnOk};
+ghost use Rattle.circular_buffer.specs.Buffer.{buffer};
+ghost use Rattle.relay_seat.specs.Waiting.{IsFirst, Pulls};
+
+use crate::event::{Event, event_of, text_of};
+use circular_buffer::HeapCircularBuffer;
+use relay_core::Post;
+use relay_model::Told;
+use std::alloc::Global;
+use std::marker::Model;
+use wio_core::NoMemory;
+
+/// The text of the event that waits longest has more bytes than there is room for.
+#[derive(Clone, Copy, Debug, PartialEq, Eq)]
+pub struct TooShort {
+    /// How many bytes it has.
+    pub needed: usize,
+}
+
+/// The events, the next one first, and their texts.
+#[derive(Drop)]
+pub struct Queue {
+    events: HeapCircularBuffer<Event>,
+    texts: HeapCircularBuffer<u8>,
+}
+
+impl Model for Queue {
+    ghost use Rattle.std.specs.Prelude.{◌≡◌, ◌-◌, length};
+    ghost use Rattle.relay_seat.specs.Waiting.{Waiting, heard_from, lengths};
+
+    ghost Value = { Waiting };
+
+    ghost view = { λ q. record {
+      heard = heard_from q.events.items q.texts.items;
+      places = q.events.capacity - length q.events.items;
+      bytes = q.texts.capacity - length q.texts.items;
+    } };
+
+    ghost invariant = { λ q. lengths q.events.items ≡ length q.texts.items };
+}
+
+// Room for so many more; a ring that grows has at least twice the room that it had.
+fn make_room<T: Drop>(ring: &mut HeapCircularBuffer<T>, more: usize) -> Result<(), NoMemory>
+    ensures items { ring.new.items ≡ ring.old.items }
+    ensures room { OnOk result (length ring.new.items + more ≤ ring.new.capacity) }
+{
+    let length = ring.len();
+    let capacity = ring.capacity();
+    if more <= capacity - length {
+        return Ok(());
+    }
+    let Some(wanted) = length.checked_add(more) else {
+        return Err(NoMemory);
+    };
+    ring.resize(wanted.max(capacity.saturating_mul(2)))?;
+    Ok(())
+}
+
+fn push(ring: &mut HeapCircularBuffer<Event>, event: Event)
+    requires { length ring.old.items < ring.old.capacity }
+    ensures { ring.new ≡ buffer (ring.old.items ++ event ∷ []) ring.old.capacity }
+{
+    let _ = ring.try_push_back(event);
+}
+
+fn append(ring: &mut HeapCircularBuffer<u8>, text: &[u8])
+    requires { length ring.old.items + length text.now ≤ ring.old.capacity }
+    ensures { ring.new ≡ buffer (ring.old.items ++ text.now) ring.old.capacity }
+{
+    let _ = ring.fill_from_slice(text);
+}
+
+impl Queue {
+    /// Nothing waits.
+    pub fn new(alloc: Global) -> Result<Queue, NoMemory>
+        ensures { IfOk result (λ queue. queue.heard ≡ []) }
+    {
+        Ok(Queue {
+            events: HeapCircularBuffer::with_capacity(alloc, 0)?,
+            texts: HeapCircularBuffer::with_capacity(alloc, 0)?,
+        })
+    }
+
+    /// Makes room for so many events more, and so many bytes of their texts. What waits stays, also
+    /// after `NoMemory`.
+    pub fn reserve(&mut self, events: usize, bytes: usize) -> Result<(), NoMemory>
+        ensures heard { self.new.heard ≡ self.old.heard }
+        ensures places { OnOk result (events ≤ self.new.places) }
+        ensures bytes { OnOk result (bytes ≤ self.new.bytes) }
+    {
+        make_room(&mut self.events, events)?;
+        make_room(&mut self.texts, bytes)
+    }
+
+    // Puts an event behind what waits, where there is room.
+    fn put(&mut self, event: Event, text: &[u8])
+        requires { event.length ≡ length text.now }
+        ensures gained { 0 < self.old.places → length text.now ≤ self.old.bytes → self.new.heard ≡
+            self.old.heard ++ record { event = event; text = text.now } ∷ [] }
+        ensures places { self.old.places ≤ self.new.places + 1 }
+        ensures bytes { self.old.bytes ≤ self.new.bytes + length text.now }
+    {
+        if text.len() > self.texts.capacity() - self.texts.len() {
+            return;
+        }
+        if self.events.len() >= self.events.capacity() {
+            return;
+        }
+        append(&mut self.texts, text);
+        push(&mut self.events, event);
+    }
+
+    /// Hands out the event that waits longest, and writes its text to the front of `text`.
+    pub fn pull(&mut self, text: &mut [u8]) -> Result<Option<Event>, TooShort>
+        ensures { Pulls self.old.heard self.new.heard text.old text.new result }
+    {
+        let Some(event) = self.first() else {
+            return Ok(None);
+        };
+        if text.len() < event.length {
+            return Err(TooShort {
+                needed: event.length,
+            });
+        }
+        let (front, _) = text.split_at_mut(event.length);
+        let _ = self.texts.read_into(front);
+        let _ = self.events.pop_front();
+        Ok(Some(event))
+    }
+
+    /// The event that waits longest, if any does.
+    pub fn first(&self) -> Option<Event>
+        ensures { IsFirst self.now.heard result }
+    {
+        match self.events.front() {
+            Some(event) => Some(*event),
+            None => None,
+        }
+    }
+}
+
+impl Post for Queue {
+    ghost use Rattle.relay_seat.specs.Waiting.{Queues};
+
+    ghost may_follow = { Queues };
+
+    fn tell(&mut self, told: &Told) {
+        if let Some(event) = event_of(told) {
+            self.put(event, text_of(&told.event));
+        }
+    }
+}

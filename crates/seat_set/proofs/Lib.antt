@@ -1,0 +1,2 @@
+pub mod SeatPlayed
+pub mod SeatsInTurn
