@@ -1,10 +1,11 @@
 -- Events are taken one behind the other.
-use Rattle.std.proofs.Common.{◌≡◌, ℕ, ◌+◌, List, [], ◌∷◌, ◌++◌, take, drop, refl, sym, ◌∙◌, ap, subst, inr}
+use Rattle.std.proofs.Common.{◌≡◌, ℕ, ◌+◌, ◌≤◌, List, [], ◌∷◌, ◌++◌, length, take, drop, refl, sym, ◌∙◌, ap, subst, inr, arith, length-drop}
 use Rattle.std.proofs.lemmas.List.{append-nil, append_assoc, take-append-drop, drop-drop}
 use Rattle.wl_proto.specs.declared.interface.Interface.{Interface}
 use Rattle.wl_proto.specs.declared.event.Event.{Event}
 use Rattle.wl_wire.specs.Messages.{IsMessage, id_of, joined}
-use Rattle.client_side.specs.Events.{object_in, IsEventOf, AreEvents}
+use Rattle.wl_wire.specs.Fronts.{IsFrontMessage}
+use Rattle.client_side.specs.Events.{object_in, IsEventTo, IsEventOf, AreEvents}
 use Rattle.client_side.specs.Client.{Step, after_all, Takes, GoesWrong}
 
 are-append : (objects : List Interface) (ms : List (List ℕ)) (events : List Event) (m : List ℕ) (event : Event)
@@ -78,3 +79,42 @@ no_event {S} objects step old now new bytes rest m at n before rest-is m-is whol
           let parts = sym rest-is ∙ sym (take-append-drop n rest) ∙ ap (λ x. x ++ drop n rest) (sym m-is) in
           inr (m, drop n rest, parts, subst IsMessage (sym m-is) whole, none);
     }
+
+-- the message at the front of what is left, by its parts
+
+parts_spell : (objects : List Interface) (id opcode : ℕ) (body bytes : List ℕ) (n : ℕ) (event : Event)
+    → IsFrontMessage id opcode body bytes n → IsEventTo (object_in objects id) opcode body event
+    → IsEventOf (object_in objects (id_of (take n bytes))) (take n bytes) event
+parts_spell objects id opcode body bytes n event f is = rw (sym f.same_id, sym f.same_opcode, sym f.same_body) is
+
+message_spells : (objects : List Interface) (id opcode : ℕ) (body bytes : List ℕ) (n : ℕ) (event : Event)
+    → IsFrontMessage id opcode body bytes n
+    → IsEventOf (object_in objects (id_of (take n bytes))) (take n bytes) event
+    → IsEventTo (object_in objects id) opcode body event
+message_spells objects id opcode body bytes n event f is = rw (f.same_id, f.same_opcode, f.same_body) is
+
+pub front_short : (id opcode : ℕ) (body bytes : List ℕ) (n : ℕ) → IsFrontMessage id opcode body bytes n
+    → length body ≤ 4088
+front_short id opcode body bytes n f =
+    let len = length-drop 8 (take n bytes) in
+    let most = f.whole.0.1 in
+    let same = f.whole.1 in
+    rw f.same_body (omega arith)
+
+pub next_front : {S : Type 0} (objects : List Interface) (step : Step S) (old now new : S) (bytes rest : List ℕ)
+    (at n id opcode : ℕ) (body : List ℕ) (event : Event)
+    → Takes objects step old now bytes (drop at bytes) → rest ≡ drop at bytes → IsFrontMessage id opcode body rest n
+    → IsEventTo (object_in objects id) opcode body event → new ≡ step event now
+    → Takes objects step old new bytes (drop (at + n) bytes)
+next_front {S} objects step old now new bytes rest at n id opcode body event before rest-is f is then =
+    next_events objects step old now new bytes rest (take n rest) at n event before rest-is refl f.whole
+    (parts_spell objects id opcode body rest n event f is) then
+
+pub front_wrong : {S : Type 0} (objects : List Interface) (step : Step S) (old now new : S) (bytes rest : List ℕ)
+    (at n id opcode : ℕ) (body : List ℕ)
+    → Takes objects step old now bytes (drop at bytes) → rest ≡ drop at bytes → IsFrontMessage id opcode body rest n
+    → ((event : Event) → IsEventTo (object_in objects id) opcode body event → ⊥) → new ≡ now
+    → GoesWrong objects step old new bytes
+front_wrong {S} objects step old now new bytes rest at n id opcode body before rest-is f none then =
+    no_event objects step old now new bytes rest (take n rest) at n before rest-is refl f.whole
+    (λ event is. none event (message_spells objects id opcode body rest n event f is)) then

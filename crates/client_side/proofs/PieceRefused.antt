@@ -1,5 +1,5 @@
 -- A piece is refused by what its bytes, behind those that were held, go wrong at.
-use Rattle.std.proofs.Common.{◌≡◌, Bool, true, false, ℕ, List, ◌++◌, subst, ◌∙◌}
+use Rattle.std.proofs.Common.{◌≡◌, true, false, ℕ, List, ◌++◌, subst, ◌∙◌}
 use Rattle.wl_wire.specs.Texts.{IsBytes}
 use Rattle.wl_proto.specs.declared.interface.Interface.{Interface}
 use Rattle.client_side.specs.Client.{Client, Step, GoesWrong, Refuses}

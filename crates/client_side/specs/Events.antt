@@ -25,10 +25,14 @@ method_objects = Display ∷ Registry ∷ Seat ∷ InputMethodManager ∷ InputM
 abbrev pub IsEventIn : Interface → ℕ → List ℕ → Event → Type 0
 IsEventIn i opcode body event = IsRead (event_kinds i opcode) i opcode [] body (event_message event)
 
+-- an opcode and a body spell the event to this object
+abbrev pub IsEventTo : Option Interface → ℕ → List ℕ → Event → Type 0
+IsEventTo None opcode body event = ⊥
+IsEventTo (Some i) opcode body event = IsEventIn i opcode body event
+
 -- the message spells the event to this object
 abbrev pub IsEventOf : Option Interface → List ℕ → Event → Type 0
-IsEventOf None m event = ⊥
-IsEventOf (Some i) m event = IsEventIn i (opcode_of m) (body_of m) event
+IsEventOf object m event = IsEventTo object (opcode_of m) (body_of m) event
 
 -- each message spells its event
 abbrev pub AreEvents : List Interface → List (List ℕ) → List Event → Type 0

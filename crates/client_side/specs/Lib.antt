@@ -9,7 +9,6 @@ pub mod Client
 pub mod FieldState
 pub mod Kept
 pub mod Working
-pub mod Fronts
 pub mod Fitting
 pub mod MethodSends
 pub mod MethodLog

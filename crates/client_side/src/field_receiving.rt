@@ -2,40 +2,40 @@
 ghost use Rattle.std.specs.Prelude.{◌≡◌, ◌+◌, ◌*◌, ◌≤◌, List, ℕ, ◌++◌, length, drop, vec_len};
 ghost use Rattle.std.specs.Prelude.{IfSome, IfNone, OnOk, OnErr};
 ghost use Rattle.std.specs.Bool.{OnTrue, OnFalse};
-ghost use Rattle.wl_wire.specs.Messages.{IsMessage, IsPartial, id_of};
+ghost use Rattle.wl_wire.specs.Messages.{IsPartial};
 ghost use Rattle.wl_wire.specs.Texts.{IsBytes};
-ghost use Rattle.client_side.specs.Events.{object_in, field_objects, IsEventOf};
+ghost use Rattle.client_side.specs.Events.{object_in, field_objects, IsEventTo};
 ghost use Rattle.client_side.specs.FieldState.{after_event};
 ghost use Rattle.client_side.specs.Client.{Takes, GoesWrong};
 ghost use Rattle.wl_proto.specs.declared.event.Event as events;
 
-use crate::events::{Front, event_to, front_of, raw_of};
+use crate::events::event_to;
 use crate::field_state::FieldState;
 use crate::held::cut_front;
 use crate::objects::field_object;
 use wio_core::NoMemory;
+use wl_wire::{Front, Raw, front_of};
 
 /// The most bytes that a received byte makes a field's client send: a message of at least 8 bytes
 /// makes it send 4,080.
 const SENT_A_BYTE: usize = 510;
 
 // Takes the event that a whole message spells; false where it spells none of a live object.
-fn take_message(state: &mut FieldState, message: &[u8]) -> bool
-    requires whole { IsMessage message.now }
+fn take_message(state: &mut FieldState, raw: &Raw<'_>) -> bool
+    requires short { length raw.now.body.now ≤ 4088 }
     requires room { 4080 ≤ state.old.room }
     ensures taken { OnTrue result ((e : events.Event)
-        × IsEventOf (object_in field_objects (id_of message.now)) message.now e
+        × IsEventTo (object_in field_objects raw.now.id) raw.now.opcode raw.now.body.now e
         × (state.new.state ≡ after_event e state.old.state)) }
     ensures refused { OnFalse result ((e : events.Event)
-        → IsEventOf (object_in field_objects (id_of message.now)) message.now e → ⊥) }
+        → IsEventTo (object_in field_objects raw.now.id) raw.now.opcode raw.now.body.now e → ⊥) }
     ensures unchanged { OnFalse result (state.new.state ≡ state.old.state) }
     ensures room { state.old.room ≤ state.new.room + 4080 }
 {
-    let raw = raw_of(message);
     let Some(interface) = field_object(raw.id) else {
         return false;
     };
-    let Some(event) = event_to(interface, &raw) else {
+    let Some(event) = event_to(interface, raw) else {
         return false;
     };
     state.take(&event);
@@ -60,9 +60,8 @@ fn take_events(state: &mut FieldState, bytes: &[u8]) -> Option<usize>
         match front_of(rest) {
             Front::Part => return Some(at),
             Front::BadSize => return None,
-            Front::Whole(size) => {
-                let (message, _) = rest.split_at(size);
-                if !take_message(state, message) {
+            Front::Whole(raw, size) => {
+                if !take_message(state, &raw) {
                     return None;
                 }
                 at += size;

@@ -2,40 +2,41 @@
 ghost use Rattle.std.specs.Prelude.{◌≡◌, ◌+◌, ◌*◌, ◌≤◌, List, ℕ, ◌++◌, length, drop, vec_len};
 ghost use Rattle.std.specs.Prelude.{IfSome, IfNone, OnOk, OnErr};
 ghost use Rattle.std.specs.Bool.{OnTrue, OnFalse};
-ghost use Rattle.wl_wire.specs.Messages.{IsMessage, IsPartial, id_of};
+ghost use Rattle.wl_wire.specs.Messages.{IsPartial};
 ghost use Rattle.wl_wire.specs.Texts.{IsBytes};
-ghost use Rattle.client_side.specs.Events.{object_in, method_objects, IsEventOf};
+ghost use Rattle.client_side.specs.Events.{object_in, method_objects, IsEventTo};
 ghost use Rattle.client_side.specs.MethodState.{after_event};
 ghost use Rattle.client_side.specs.Client.{Takes, GoesWrong};
 ghost use Rattle.wl_proto.specs.declared.event.Event as events;
 
-use crate::events::{Front, event_to, front_of, raw_of};
+use crate::events::event_to;
 use crate::held::cut_front;
 use crate::method_state::MethodState;
 use crate::objects::method_object;
+use compose_method::Typist;
 use wio_core::NoMemory;
+use wl_wire::{Front, Raw, front_of};
 
 /// The most bytes that a received byte makes the method's client send: a message of at least 8
-/// bytes makes it send 1,096.
-const SENT_A_BYTE: usize = 137;
+/// bytes makes it send 8,226 at most.
+const SENT_A_BYTE: usize = 1_029;
 
 // Takes the event that a whole message spells; false where it spells none of a live object.
-fn take_message(state: &mut MethodState, message: &[u8]) -> bool
-    requires whole { IsMessage message.now }
-    requires room { 1096 ≤ state.old.room }
+fn take_message<T: Typist>(state: &mut MethodState<T>, raw: &Raw<'_>) -> bool
+    requires short { length raw.now.body.now ≤ 4088 }
+    requires room { 8226 ≤ state.old.room }
     ensures taken { OnTrue result ((e : events.Event)
-        × IsEventOf (object_in method_objects (id_of message.now)) message.now e
-        × (state.new.state ≡ after_event e state.old.state)) }
+        × IsEventTo (object_in method_objects raw.now.id) raw.now.opcode raw.now.body.now e
+        × (state.new.state ≡ after_event T.meanings e state.old.state)) }
     ensures refused { OnFalse result ((e : events.Event)
-        → IsEventOf (object_in method_objects (id_of message.now)) message.now e → ⊥) }
+        → IsEventTo (object_in method_objects raw.now.id) raw.now.opcode raw.now.body.now e → ⊥) }
     ensures unchanged { OnFalse result (state.new.state ≡ state.old.state) }
-    ensures room { state.old.room ≤ state.new.room + 1096 }
+    ensures room { state.old.room ≤ state.new.room + 8226 }
 {
-    let raw = raw_of(message);
     let Some(interface) = method_object(raw.id) else {
         return false;
     };
-    let Some(event) = event_to(interface, &raw) else {
+    let Some(event) = event_to(interface, raw) else {
         return false;
     };
     state.take(&event);
@@ -44,14 +45,14 @@ fn take_message(state: &mut MethodState, message: &[u8]) -> bool
 
 // Takes the events at the front of the bytes, and says how many bytes they have; `None` where the
 // bytes go wrong.
-fn take_events(state: &mut MethodState, bytes: &[u8]) -> Option<usize>
-    requires { 137 * length bytes.now ≤ state.old.room }
+fn take_events<T: Typist>(state: &mut MethodState<T>, bytes: &[u8]) -> Option<usize>
+    requires { 1029 * length bytes.now ≤ state.old.room }
     ensures taken { IfSome result (λ n. (n ≤ length bytes.now)
-        × Takes method_objects after_event state.old.state state.new.state bytes.now
+        × Takes method_objects (after_event T.meanings) state.old.state state.new.state bytes.now
         (drop n bytes.now)
         × IsPartial (drop n bytes.now)) }
     ensures wrong { IfNone result
-        (GoesWrong method_objects after_event state.old.state state.new.state bytes.now) }
+        (GoesWrong method_objects (after_event T.meanings) state.old.state state.new.state bytes.now) }
     ensures fits { IfNone result (IsBytes bytes.now) }
 {
     let mut at = 0;
@@ -60,9 +61,8 @@ fn take_events(state: &mut MethodState, bytes: &[u8]) -> Option<usize>
         match front_of(rest) {
             Front::Part => return Some(at),
             Front::BadSize => return None,
-            Front::Whole(size) => {
-                let (message, _) = rest.split_at(size);
-                if !take_message(state, message) {
+            Front::Whole(raw, size) => {
+                if !take_message(state, &raw) {
                     return None;
                 }
                 at += size;
@@ -72,8 +72,8 @@ fn take_events(state: &mut MethodState, bytes: &[u8]) -> Option<usize>
 }
 
 // Makes room for all that so many received bytes make the client send.
-fn reserve_for(state: &mut MethodState, received: usize) -> Result<(), NoMemory>
-    ensures ok { OnOk result (137 * received ≤ state.new.room) }
+fn reserve_for<T: Typist>(state: &mut MethodState<T>, received: usize) -> Result<(), NoMemory>
+    ensures ok { OnOk result (1029 * received ≤ state.new.room) }
     ensures state { state.new.state ≡ state.old.state }
 {
     let Some(room) = received.checked_mul(SENT_A_BYTE) else {
@@ -83,13 +83,13 @@ fn reserve_for(state: &mut MethodState, received: usize) -> Result<(), NoMemory>
 }
 
 // Holds the piece behind what is held, with room for all that it makes the client send.
-pub(crate) fn hold(
-    state: &mut MethodState,
+pub(crate) fn hold<T: Typist>(
+    state: &mut MethodState<T>,
     held: &mut Vec<u8>,
     piece: &[u8],
 ) -> Result<(), NoMemory>
     ensures held { OnOk result (held.new.items ≡ held.old.items ++ piece.now) }
-    ensures room { OnOk result (137 * vec_len held.new ≤ state.new.room) }
+    ensures room { OnOk result (1029 * vec_len held.new ≤ state.new.room) }
     ensures state { state.new.state ≡ state.old.state }
     ensures err { OnErr result (held.new.items ≡ held.old.items) }
 {
@@ -103,16 +103,16 @@ pub(crate) fn hold(
 }
 
 // Takes the events that are held whole, and keeps what is left; false where the bytes go wrong.
-pub(crate) fn take_held(state: &mut MethodState, held: &mut Vec<u8>) -> bool
-    requires { 137 * vec_len held.old ≤ state.old.room }
+pub(crate) fn take_held<T: Typist>(state: &mut MethodState<T>, held: &mut Vec<u8>) -> bool
+    requires { 1029 * vec_len held.old ≤ state.old.room }
     ensures taken { OnTrue result
-        (Takes method_objects after_event state.old.state state.new.state held.old.items
+        (Takes method_objects (after_event T.meanings) state.old.state state.new.state held.old.items
         held.new.items) }
     ensures part { OnTrue result (IsPartial held.new.items) }
     ensures kept { OnFalse result (held.new.items ≡ held.old.items) }
     ensures fits { OnFalse result (IsBytes held.new.items) }
     ensures wrong { OnFalse result
-        (GoesWrong method_objects after_event state.old.state state.new.state held.old.items) }
+        (GoesWrong method_objects (after_event T.meanings) state.old.state state.new.state held.old.items) }
 {
     let Some(taken) = take_events(state, held) else {
         return false;

@@ -1,9 +1,9 @@
-//! A composing method with what its client told and is told.
+//! What types, with what its client told and is told.
 ghost use Rattle.std.specs.Prelude.{◌≡◌, ◌+◌, ◌≤◌, ◌++◌, [], length, IfOk, OnOk, IsTrue};
 ghost use Rattle.wl_wire.specs.Texts.{has_no_zero};
 ghost use Rattle.client_side.specs.MethodSends.{batch_sent};
 ghost use Rattle.trial_field.specs.Log.{IsBatch, batch_of};
-ghost use Rattle.compose_method.specs.Typing.{pressed};
+ghost use Rattle.compose_method.specs.declared.typist.TheConstants.{MAX_STRING, MAX_PREEDIT};
 ghost use Rattle.client_side.specs.Messages.{spelled};
 ghost use Rattle.client_side.specs.MethodLog.{committed, press_sent, batch_with};
 ghost use Rattle.client_side.specs.MethodState.{new_state, happens, after_event};
@@ -11,7 +11,7 @@ ghost use Rattle.client_side.specs.MethodState.{new_state, happens, after_event}
 use crate::method_telling::put_batch;
 use crate::outbox::Outbox;
 use crate::setup::put_method_setup;
-use compose_method::{ComposeTable, Method};
+use compose_method::Typist;
 use std::alloc::Global;
 use std::marker::Model;
 use trial_field::BatchView;
@@ -25,27 +25,27 @@ const SETUP_ROOM: usize = 256;
 const PRESSED: u32 = 1;
 
 // One press, and what it makes the client send.
-fn press(method: &mut Method, out: &mut Outbox, dones: u32, key: u32)
-    requires { 1096 ≤ out.old.room }
-    ensures typing { method.new ≡ pressed key method.old }
-    ensures bytes { out.new.bytes ≡ out.old.bytes
-        ++ spelled (press_sent key (record { typing = method.old; dones = dones })) }
-    ensures room { out.old.room ≤ out.new.room + 1096 }
+fn press<T: Typist>(typist: &mut T, out: &mut Outbox, dones: u32, key: u32)
+    requires { 8226 ≤ out.old.room }
+    ensures typing { typist.new ≡ T.meanings.pressed key typist.old }
+    ensures bytes { out.new.bytes ≡ out.old.bytes ++ spelled
+        (press_sent T.meanings key (record { typing = typist.old; dones = dones })) }
+    ensures room { out.old.room ≤ out.new.room + 8226 }
 {
-    if let Some((string, preedit)) = method.press(key) {
+    if let Some((string, preedit)) = typist.press(key) {
         put_typed(out, string, preedit, dones);
     }
 }
 
 // The batch of one press.
 fn put_typed(out: &mut Outbox, string: &str, preedit: &str, dones: u32)
-    requires string { length string.now ≤ 512 }
-    requires preedit { length preedit.now ≤ 512 }
+    requires string { length string.now ≤ MAX_STRING }
+    requires preedit { length preedit.now ≤ MAX_PREEDIT }
     requires clean { IsTrue (has_no_zero string.now) × IsTrue (has_no_zero preedit.now) }
-    requires room { 1096 ≤ out.old.room }
+    requires room { 8226 ≤ out.old.room }
     ensures bytes { out.new.bytes ≡ out.old.bytes
         ++ spelled (batch_sent (batch_with string.now preedit.now) dones) }
-    ensures room { out.old.room ≤ out.new.room + 1096 }
+    ensures room { out.old.room ≤ out.new.room + 8226 }
 {
     let end = preedit.len() as i32;
     let batch = BatchView {
@@ -61,31 +61,30 @@ fn put_typed(out: &mut Outbox, string: &str, preedit: &str, dones: u32)
 
 // The method's client between two messages.
 #[derive(Debug, Drop)]
-pub(crate) struct MethodState {
-    method: Method,
+pub(crate) struct MethodState<T: Typist> {
+    typist: T,
     dones: u32,
     out: Outbox,
 }
 
-impl Model for MethodState {
+impl<T: Typist> Model for MethodState<T> {
     ghost use Rattle.client_side.specs.MethodWorking.{Working, working};
 
-    ghost Value = { Working };
+    ghost Value = { Working T };
 
-    ghost view = { working };
+    ghost view = { λ m. working m.typist m.dones m.out };
 }
 
-impl MethodState {
-    // A method that nothing was told, with its set-up to send.
-    pub(crate) fn new(alloc: Global, table: ComposeTable) -> Result<MethodState, NoMemory>
-        ensures { IfOk result (λ m. m.state ≡ new_state table) }
+impl<T: Typist> MethodState<T> {
+    // A typist to which nothing came, with its set-up to send.
+    pub(crate) fn new(alloc: Global, typist: T) -> Result<MethodState<T>, NoMemory>
+        ensures { IfOk result (λ m. m.state ≡ new_state typist) }
     {
-        let method = Method::new(alloc, table)?;
         let mut out = Outbox::new(alloc);
         out.reserve(SETUP_ROOM)?;
         put_method_setup(&mut out);
         Ok(MethodState {
-            method,
+            typist,
             dones: 0,
             out,
         })
@@ -104,7 +103,8 @@ impl MethodState {
         requires batch { IsBatch batch.now }
         requires room { 68 + length batch.now.string.now + length batch.now.preedit.now ≤
             self.old.room }
-        ensures state { self.new.state ≡ happens (committed (batch_of batch.now)) self.old.state }
+        ensures state { self.new.state ≡
+            happens T.meanings (committed (batch_of batch.now)) self.old.state }
     {
         put_batch(&mut self.out, batch, self.dones);
     }
@@ -112,18 +112,18 @@ impl MethodState {
     // One event of the input method, its keyboard grab, or of another object, of which the last
     // change nothing.
     pub(crate) fn take(&mut self, event: &Event<'_>)
-        requires room { 1096 ≤ self.old.room }
-        ensures state { self.new.state ≡ after_event event.now self.old.state }
-        ensures room { self.old.room ≤ self.new.room + 1096 }
+        requires room { 8226 ≤ self.old.room }
+        ensures state { self.new.state ≡ after_event T.meanings event.now self.old.state }
+        ensures room { self.old.room ≤ self.new.room + 8226 }
     {
         match event {
             Event::Key { key, state, .. } => {
                 if *state == PRESSED {
-                    press(&mut self.method, &mut self.out, self.dones, *key);
+                    press(&mut self.typist, &mut self.out, self.dones, *key);
                 }
             }
             Event::InputMethodDone => self.dones = self.dones.wrapping_add(1),
-            _ => self.method.event(event),
+            _ => self.typist.event(event),
         }
     }
 

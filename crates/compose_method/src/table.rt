@@ -1,6 +1,7 @@
 //! The table that its user makes, single by single and entry by entry.
 ghost use Rattle.std.specs.Prelude.{◌≡◌, ◌<◌, ◌≤◌, ◌↔◌, true, false, length, IfOk, IfSome, OnOk};
-ghost use Rattle.std.specs.Prelude.{OnErr, Err, option_copied};
+ghost use Rattle.std.specs.Prelude.{OnErr, Err, IsTrue, option_copied};
+ghost use Rattle.wl_wire.specs.Texts.{has_no_zero};
 ghost use Rattle.compose_method.specs.Table.{Table, IsTable, IsKeyText, AreKeys, has_single};
 ghost use Rattle.compose_method.specs.Table.{begun_by, going_on, own_text, clashes, single, entry};
 ghost use Rattle.compose_method.specs.Table.{with_single, with_entry, empty_table};
@@ -145,10 +146,11 @@ impl ComposeTable {
         goes_on(&self.entries, keys)
     }
 
-    // The key's own text, empty where it has none.
-    pub(crate) fn own_text(&self, key: u32) -> &str
+    /// The key's own text, empty where it has none.
+    pub fn own_text(&self, key: u32) -> &str
         ensures value { result.now ≡ own_text self.now key }
         ensures limit { length result.now ≤ MAX_KEY_TEXT }
+        ensures clean { IsTrue (has_no_zero result.now) }
     {
         match find_single(&self.singles, key) {
             Some(single) => single.text.as_str(),

@@ -1,65 +1,26 @@
 -- Events are counted message by message, and there are no more than bytes.
 use Rattle.std.proofs.Common.{◌≡◌, ℕ, zero, suc, ◌+◌, ◌≤◌, List, [], ◌∷◌, length, take, drop, Bool, true, false, cond, refl, sym, ap, ◌∙◌, arith}
-use Rattle.std.specs.Prelude.{if◌then◌else◌}
+use Rattle.std.specs.Prelude.{if◌then◌else◌, ◌==◌, ◌&&◌}
 use Rattle.std.specs.List.{count_by}
 use Rattle.std.proofs.lemmas.List.{length-drop}
 use Rattle.std.proofs.lemmas.List.Sums.{sum_by-cons, count_by-le-length}
 use Rattle.wl_wire.specs.Messages.{size_of, is_whole, messages_within, messages}
-use Rattle.session_play.proofs.FirstSteps.{headed, messages_next, messages_none}
+use Rattle.wl_wire.specs.declared.raw.Raw.{Raw}
+use Rattle.wl_wire.specs.declared.front.Front.{Front}
+use Rattle.wl_wire.specs.declared.front.Front.TheVariants as front
+use Rattle.wl_wire.specs.Fronts.{IsFrontMessage, HasMessages}
+use Rattle.wl_wire.proofs.FirstMessages.{headed}
 use Rattle.gen_run.specs.Events.{is_event, events_in}
 
--- how many bytes the first message has, or 0
-abbrev pub front_of : List ℕ → ℕ
-front_of bytes = (if is_whole bytes then size_of bytes else 0)
-
--- where a message stands at the front, it is counted before the rest
-pub record IsFirst (id opcode : ℕ) (bytes : List ℕ) (size : ℕ) : Type 0 where
-  pub some : 8 ≤ size
-  pub there : size ≤ length bytes
-  pub counted : events_in id opcode bytes
-      ≡ cond (is_event id opcode (take size bytes)) 1 0 + events_in id opcode (drop size bytes)
-
-next_events : (id opcode : ℕ) (bytes : List ℕ) → is_whole bytes ≡ true →
-    events_in id opcode bytes
-    ≡ cond (is_event id opcode (take (size_of bytes) bytes)) 1 0 + events_in id opcode (drop (size_of bytes) bytes)
+next_events : (id opcode : ℕ) (bytes m rest : List ℕ) → messages bytes ≡ m ∷ messages rest →
+    events_in id opcode bytes ≡ cond (is_event id opcode m) 1 0 + events_in id opcode rest
 unfolding events_in
-next_events id opcode bytes e =
-    ap (count_by (is_event id opcode)) (messages_next bytes e)
-    ∙ sum_by-cons (λ m. cond (is_event id opcode m) 1 0) (take (size_of bytes) bytes) (messages (drop (size_of bytes) bytes))
+next_events id opcode bytes m rest e =
+    ap (count_by (is_event id opcode)) e ∙ sum_by-cons (λ m. cond (is_event id opcode m) 1 0) m (messages rest)
 
-no_events : (id opcode : ℕ) (bytes : List ℕ) → is_whole bytes ≡ false → events_in id opcode bytes ≡ 0
+no_events : (id opcode : ℕ) (bytes : List ℕ) → messages bytes ≡ [] → events_in id opcode bytes ≡ 0
 unfolding events_in
-no_events id opcode bytes e = ap (count_by (is_event id opcode)) (messages_none bytes e)
-
-abbrev front_by : List ℕ → Bool → ℕ
-front_by bytes b = (if b then size_of bytes else 0)
-
-first_by : (id opcode : ℕ) (bytes : List ℕ) (size : ℕ) (b : Bool) → is_whole bytes ≡ b → size ≡ front_by bytes b →
-    (size ≡ 0 → ⊥) → IsFirst id opcode bytes size
-first_by id opcode bytes size false e s n = absurd (n s)
-first_by id opcode bytes size true e s n =
-    let h = headed bytes e in
-    let least : 8 ≤ size_of bytes = h.size in
-    let most : size_of bytes ≤ length bytes = h.there in
-    record {
-      some = omega arith;
-      there = omega arith;
-      counted = next_events id opcode bytes e
-          ∙ ap (λ n. cond (is_event id opcode (take n bytes)) 1 0 + events_in id opcode (drop n bytes)) (sym s);
-    }
-
-pub first_counted : (id opcode : ℕ) (bytes : List ℕ) (size : ℕ) → size ≡ front_of bytes → (size ≡ 0 → ⊥) →
-    IsFirst id opcode bytes size
-first_counted id opcode bytes size s n = first_by id opcode bytes size (is_whole bytes) refl s n
-
-none_by : (id opcode : ℕ) (bytes : List ℕ) (size : ℕ) (b : Bool) → is_whole bytes ≡ b → size ≡ front_by bytes b →
-    size ≡ 0 → events_in id opcode bytes ≡ 0
-none_by id opcode bytes size false e s z = no_events id opcode bytes e
-none_by id opcode bytes size true e s z = (let h = (headed bytes e).size in absurd (omega arith))
-
-pub none_counted : (id opcode : ℕ) (bytes : List ℕ) (size : ℕ) → size ≡ front_of bytes → size ≡ 0 →
-    events_in id opcode bytes ≡ 0
-none_counted id opcode bytes size s z = none_by id opcode bytes size (is_whole bytes) refl s z
+no_events id opcode bytes e = ap (count_by (is_event id opcode)) e
 
 -- there are no more than bytes
 
@@ -99,22 +60,30 @@ pub begins : (id opcode : ℕ) (bytes : List ℕ) → IsCounting id opcode bytes
 begins id opcode bytes = record { sum = omega arith; few = few_events id opcode bytes }
 
 -- one message more was looked at
-pub goes_on : (id opcode : ℕ) (bytes : List ℕ) (count next : ℕ) (rest : List ℕ) (size : ℕ) (front back : List ℕ)
-    (b : Bool) → IsCounting id opcode bytes count rest → size ≡ front_of rest → (size ≡ 0 → ⊥) →
-    front ≡ take size rest → back ≡ drop size rest → is_event id opcode front ≡ b → next ≡ count + cond b 1 0 →
+pub goes_on : (id opcode : ℕ) (bytes : List ℕ) (count next : ℕ) (rest back : List ℕ) (its_id its_opcode : ℕ)
+    (body : List ℕ) (used : ℕ) (b : Bool) → IsCounting id opcode bytes count rest →
+    IsFrontMessage its_id its_opcode body rest used → messages rest ≡ take used rest ∷ messages (drop used rest) →
+    back ≡ drop used rest → (its_id == id) && (its_opcode == opcode) ≡ b → next ≡ count + cond b 1 0 →
     IsCounting id opcode bytes next back
-goes_on id opcode bytes count next rest size front back b h s n f d e m =
-    let first = first_counted id opcode rest size s n in
-    let one : cond {A = ℕ} (is_event id opcode (take size rest)) 1 0 ≡ cond {A = ℕ} b 1 0 =
-    ap (λ (t : Bool). cond {A = ℕ} t 1 0) (ap (is_event id opcode) (sym f) ∙ e) in
-    let left : events_in id opcode (drop size rest) ≡ events_in id opcode back = ap (events_in id opcode) (sym d) in
+goes_on id opcode bytes count next rest back its_id its_opcode body used b h f first d e m =
+    let is : is_event id opcode (take used rest) ≡ b = rw (sym f.same_id, sym f.same_opcode) e in
+    let one : cond {A = ℕ} (is_event id opcode (take used rest)) 1 0 ≡ cond {A = ℕ} b 1 0 =
+    ap (λ (t : Bool). cond {A = ℕ} t 1 0) is in
+    let left : events_in id opcode (drop used rest) ≡ events_in id opcode back = ap (events_in id opcode) (sym d) in
     let sum = h.sum in
-    let counted = first.counted in
+    let counted = next_events id opcode rest (take used rest) (drop used rest) first in
     record { sum = omega arith; few = h.few }
 
-pub ended : (id opcode : ℕ) (bytes : List ℕ) (count : ℕ) (rest : List ℕ) (size : ℕ) →
-    IsCounting id opcode bytes count rest → size ≡ front_of rest → size ≡ 0 → count ≡ events_in id opcode bytes
-ended id opcode bytes count rest size h s z =
-    let none = none_counted id opcode rest size s z in
+-- where no whole message is at the front, there is none
+pub front_none : (bytes : List ℕ) (f : Front) → ((raw : Raw) (used : ℕ) → f ≡ front.Whole raw used → ⊥) →
+    HasMessages bytes f → messages bytes ≡ []
+front_none bytes (front.Whole raw used) other h = absurd (other raw used refl)
+front_none bytes front.Part other h = h.0
+front_none bytes front.BadSize other h = h.0
+
+pub ended : (id opcode : ℕ) (bytes : List ℕ) (count : ℕ) (rest : List ℕ) →
+    IsCounting id opcode bytes count rest → messages rest ≡ [] → count ≡ events_in id opcode bytes
+ended id opcode bytes count rest h none =
+    let no = no_events id opcode rest none in
     let sum = h.sum in
     omega arith

@@ -2,6 +2,7 @@
 use Rattle.std.proofs.Common.{◌≡◌, ℕ, zero, suc, ◌+◌, ◌<◌, ◌≤◌, List, [], ◌∷◌, ◌++◌, length, filter, Bool, true, false, Option, Some, None, refl, sym, ap, subst, ◌∙◌, arith}
 use Rattle.std.specs.Prelude.{if◌then◌else◌, min, nat_le, ◌==◌}
 use Rattle.std.specs.List.{AllByRecursion}
+use Rattle.wl_wire.specs.Messages.{behind}
 use Rattle.relay_model.specs.declared.role.Role.{Role}
 use Rattle.seat_steps.specs.declared.step.Step.{Step}
 use Rattle.seat_steps.specs.declared.step.Step.TheVariants as steps
@@ -17,7 +18,7 @@ use Rattle.broker_model.specs.Resolve.{past_of}
 use Rattle.broker_model.specs.Settle.{number_alive, settle}
 use Rattle.broker_core.specs.Taking.{lives}
 use Rattle.session_play.specs.Played.{Waiting, Play, Played, went, with_step, step_played, steps_played, with_unread, unread_by, unread_of, bytes_played, with_peer, join_played, take_played, line_played}
-use Rattle.session_play.specs.Steps.{steps_in, behind}
+use Rattle.step_cutter.specs.Steps.{steps_in}
 use Rattle.session_play.specs.Laws.{lines_played, unplayed}
 use Rattle.session_play.proofs.PrintedStepsAlone.{printed_steps}
 use Rattle.session_gen.specs.Generated.{step_count}

@@ -42,6 +42,7 @@ shown_none : (count : ℕ → List ℕ → ℕ) (n : ℕ) (made : List Made) (pe
     sum_by (of_put count) (shown n made peers event) ≡ 0
 shown_none count n made peers (said.Placed popup x y) = refl
 shown_none count n made peers (said.Pass time key state) = refl
+shown_none count n made peers (said.VMods mods) = refl
 shown_none count n made peers _ = refl
 
 shown_none_by : (count : ℕ → List ℕ → ℕ) (n : ℕ) (made : List Made) (peers : List Numbered) (ts : List Told) →

@@ -5,7 +5,7 @@ use Rattle.std.proofs.lemmas.List.Sums.{sum_by-cons}
 use Rattle.broker_model.specs.declared.journal.Entry.{Entry}
 use Rattle.seat_objects.specs.Reached.{Reached}
 use Rattle.broker_core.specs.Watched.{Watched, watched_since}
-use Rattle.broker_core.specs.Watched.Watched.{Entered, Placed, Passed, Put}
+use Rattle.broker_core.specs.Watched.Watched.{Entered, Placed, Passed, Modified, Put}
 use Rattle.gen_run.specs.declared.tally.Tally.{Tally}
 use Rattle.gen_run.specs.Journals.{limits, of_put, put_sum, method_dones}
 use Rattle.gen_run.specs.Counts.{field_dones, activates, all_bytes}
@@ -56,6 +56,7 @@ dones_raised = record { raises = by }
     by (Entered n e) t l = omega arith
     by (Placed n q id x y) t l = omega arith
     by (Passed n time key state) t l = omega arith
+    by (Modified n mods) t l = omega arith
 
 activates_raised : IsRaised (λ x. x.activates) activates
 activates_raised = record { raises = by }
@@ -66,6 +67,7 @@ activates_raised = record { raises = by }
     by (Entered n e) t l = omega arith
     by (Placed n q id x y) t l = omega arith
     by (Passed n time key state) t l = omega arith
+    by (Modified n mods) t l = omega arith
 
 method_dones_raised : IsRaised (λ x. x.method_dones) method_dones
 method_dones_raised = record { raises = by }
@@ -76,6 +78,7 @@ method_dones_raised = record { raises = by }
     by (Entered n e) t l = omega arith
     by (Placed n q id x y) t l = omega arith
     by (Passed n time key state) t l = omega arith
+    by (Modified n mods) t l = omega arith
 
 queued_raised : IsRaised (λ x. x.queued) all_bytes
 queued_raised = record { raises = by }
@@ -86,6 +89,7 @@ queued_raised = record { raises = by }
     by (Entered n e) t l = omega arith
     by (Placed n q id x y) t l = omega arith
     by (Passed n time key state) t l = omega arith
+    by (Modified n mods) t l = omega arith
 
 tallied_on : (journal more : List Entry) (t after : Tally) → t ≡ tally_of journal → AreWithin journal →
     Reached MayTally t (watched_since limits.store (length journal) (more ++ journal)) after →

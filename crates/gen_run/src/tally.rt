@@ -5,6 +5,7 @@ ghost use Rattle.gen_run.specs.Counts.{field_dones, activates};
 
 use crate::events::events_in;
 use broker_core::{Entry, Watch};
+use relay_model::Mods;
 
 /// The peer that has the input method, and the input method's id there.
 const METHOD_PEER: u32 = 5;
@@ -91,6 +92,8 @@ impl Watch for Tally {
     fn placed(&mut self, _number: u32, _peer: u32, _id: u32, _x: i64, _y: i64) {}
 
     fn passed(&mut self, _number: u32, _time: u32, _key: u32, _state: u32) {}
+
+    fn modified(&mut self, _number: u32, _mods: Mods) {}
 
     fn put(&mut self, _number: u32, peer: u32, bytes: &[u8], _tokens: &[(usize, u32)]) {
         self.dones = self.dones.saturating_add(field_dones(peer, bytes));

@@ -48,7 +48,9 @@ use Rattle.trial_field.specs.Log.{no_edits}
 use Rattle.trial_law.proofs.HeardInPieces.{waiting}
 use Rattle.trial_law.proofs.ClientIds.{AreOwn}
 use Rattle.trial_law.proofs.RequestsWait.{no_messages}
-use Rattle.trial_law.proofs.GroupsHeard.{piece_messages, IsSpelled, Tells, tells_nothing, GroupOf, tells_more, IsStillMessage, still_group, done_waits, told_messages, told_joined, joined_both, TellsSo, told_each, all_messages, IsHeaded, headed}
+use Rattle.trial_law.proofs.GroupsHeard.{IsSpelled, Tells, tells_nothing, GroupOf, tells_more, IsStillMessage, still_group, done_waits, IsHeaded, headed}
+use Rattle.told_law.proofs.MessagesTold.{piece_messages, told_messages, joined_both, TellsSo, told_each, all_messages, are_both}
+use Rattle.told_law.proofs.MessagesPut.{entry_messages, entry_bytes}
 use Rattle.broker_model.proofs.ToldToFields.{IsWell, told_entering}
 
 -- ---- what a fresh batch tells
@@ -151,7 +153,7 @@ group_parts _ log f h = cc
 abbrev pub AreShortBodies : List Entry → Type 0
 AreShortBodies journal = AllByRecursion IsBodyShort journal
 
-all_fit : (journal : List Entry) → AreShortBodies journal → AllByRecursion FitsMessage (resolve journal)
+pub all_fit : (journal : List Entry) → AreShortBodies journal → AllByRecursion FitsMessage (resolve journal)
 all_fit [] h = tt
 all_fit (e ∷ older) h = (act_fits e older h.0, all_fit older h.1)
 
@@ -183,13 +185,6 @@ input_before e older p f h =
           sym (maker_stays (act_now e older) (log_of (past_of older)) f
           (let n = length_log older in omega arith)) ∙ h.maker (omega arith);
     }
-
--- what the entry tells the peer
-abbrev entry_messages : Entry → List Entry → ℕ → List (List ℕ)
-entry_messages e older p = told_messages (past_of (e ∷ older)).made p (told (act_at e older) (resolve older))
-
-entry_bytes : (e : Entry) (older : List Entry) (p : ℕ) → (group_at e older p).bytes ≡ joined (entry_messages e older p)
-entry_bytes e older p = told_joined (past_of (e ∷ older)).made p (told (act_at e older) (resolve older))
 
 each_also : {A : Type 0} (P Q : A → Type 0) (xs : List A) → ((x : A) → P x → Q x) → AllByRecursion P xs →
     AllByRecursion Q xs
@@ -348,10 +343,6 @@ groups-append [] g = append-nil (group_told g)
 groups-append (x ∷ xs) g =
     ap (λ (l : List Happening). group_told x ++ l) (groups-append xs g)
     ∙ sym (append_assoc (group_told x) (groups_told xs) (group_told g))
-
-are_both : (xs ys : List (List ℕ)) → AreMessages xs → AreMessages ys → AreMessages (xs ++ ys)
-are_both [] ys h k = k
-are_both (x ∷ xs) ys h k = (h.0, are_both xs ys h.1 k)
 
 -- what the group leaves of what is queued
 abbrev queued_by : Bool → Bool → List (List Said) → List Said → List (List Said)

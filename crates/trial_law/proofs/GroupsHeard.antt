@@ -1,11 +1,10 @@
 -- What a field's client hears in the messages of groups.
-use Rattle.std.proofs.Common.{◌≡◌, ℕ, zero, suc, ◌≤◌, Bool, true, false, List, [], ◌∷◌, ◌++◌, Option, Some, None, Result, Ok, Err, refl, sym, ap, subst, ◌∙◌, arith, inl, inr, ◌⊎◌}
-use Rattle.std.specs.Prelude.{if◌then◌else◌, ◌==◌, IfSome}
+use Rattle.std.proofs.Common.{◌≡◌, ℕ, zero, suc, ◌≤◌, List, [], ◌∷◌, ◌++◌, Option, Some, None, Result, Ok, Err, refl, sym, ap, subst, ◌∙◌, arith, inl, inr, ◌⊎◌}
+use Rattle.std.specs.Prelude.{IfSome}
 use Rattle.std.specs.List.{AllByRecursion}
 use Rattle.std.proofs.lemmas.List.{append-nil, append_assoc}
-use Rattle.std.proofs.lemmas.Bool.{eqb-true}
 use Rattle.std.proofs.lemmas.Option.{same_Some}
-use Rattle.wl_wire.specs.Messages.{IsMessage, AreMessages, id_of, opcode_of, body_of, joined}
+use Rattle.wl_wire.specs.Messages.{IsMessage, id_of, opcode_of, body_of}
 use Rattle.wl_proto.specs.declared.interface.Interface.{Interface}
 use Rattle.wl_proto.specs.declared.interface.Interface.TheVariants as interface
 use Rattle.wl_proto.specs.declared.refuse.Refuse.{Refuse}
@@ -23,8 +22,8 @@ use Rattle.trial_field.specs.Log.{Batch, no_edits}
 use Rattle.client_side.specs.Events.{object_in, field_objects}
 use Rattle.client_side.specs.Happenings.{Happening, edited, batch, entered, left}
 use Rattle.client_side.specs.FieldState.{logged}
-use Rattle.broker_model.specs.Ids.{Made, made_as}
-use Rattle.broker_model.specs.Groups.{nothing, message_of, message_piece, event_piece, group_for}
+use Rattle.broker_model.specs.Ids.{Made}
+use Rattle.broker_model.specs.Groups.{message_of}
 use Rattle.seat_audience.specs.Tells.{IsShort}
 use Rattle.trial_run.specs.Hearing.{event_read, event_to, event_in}
 use Rattle.trial_run.proofs.EventsBack.{event_back}
@@ -35,7 +34,7 @@ use Rattle.trial_law.proofs.HeardInPieces.{waiting, happenings-append, waiting-a
 -- ---- lists of messages
 
 -- the message spells an event
-abbrev SpellsOne : Option Event → Type 0
+abbrev pub SpellsOne : Option Event → Type 0
 SpellsOne None = ⊥
 SpellsOne (Some event) = Unit {0}
 
@@ -62,7 +61,7 @@ spelled-append : (xs ys : List (List ℕ)) → IsSpelled xs → IsSpelled ys →
 spelled-append [] ys h k = k
 spelled-append (x ∷ xs) ys h k = (h.0, spelled-append xs ys h.1 k)
 
-spelled_left : (xs ys : List (List ℕ)) → IsSpelled (xs ++ ys) → IsSpelled xs
+pub spelled_left : (xs ys : List (List ℕ)) → IsSpelled (xs ++ ys) → IsSpelled xs
 spelled_left [] ys h = tt
 spelled_left (x ∷ xs) ys h = (h.0, spelled_left xs ys h.1)
 
@@ -316,86 +315,11 @@ done_waits ms d i n s = by (event_in field_objects d) refl (spelled_right ms (d 
         ∙ ap (λ (o : Option Event). waiting (then_events o []) (waiting (events_in ms) no_edits)) q
         ∙ done_event e input (at.opcode ∙ n) (waiting (events_in ms) no_edits)
 
--- ---- the messages of what an act tells a peer
-
-abbrev said_message : ℕ → Option Message → List (List ℕ)
-said_message id None = []
-said_message id (Some m) = message_bytes id m ∷ []
-
-abbrev pub piece_messages : List Made → ℕ → Said → Option Made → List (List ℕ)
-piece_messages made p event None = []
-piece_messages made p event (Some m) = if m.peer == p then said_message m.id (message_of made event) else []
-
-abbrev pub told_messages : List Made → ℕ → List Told → List (List ℕ)
-told_messages made p [] = []
-told_messages made p (t ∷ ts) = piece_messages made p t.event (made_as made t.to) ++ told_messages made p ts
-
-pub joined_both : (xs ys : List (List ℕ)) → joined (xs ++ ys) ≡ joined xs ++ joined ys
-joined_both [] ys = refl
-joined_both (x ∷ xs) ys =
-    ap (λ (r : List ℕ). x ++ r) (joined_both xs ys) ∙ sym (append_assoc x (joined xs) (joined ys))
-
-message_joined : (id : ℕ) (o : Option Message) → (message_piece id o).bytes ≡ joined (said_message id o)
-message_joined id None = refl
-message_joined id (Some m) = sym (append-nil (message_bytes id m))
-
-piece_joined : (made : List Made) (p : ℕ) (event : Said) (o : Option Made) →
-    (event_piece made p event o).bytes ≡ joined (piece_messages made p event o)
-piece_joined made p event None = refl
-piece_joined made p event (Some m) = by (m.peer == p)
-  where
-    by : (b : Bool) → (if b then message_piece m.id (message_of made event) else nothing).bytes
-        ≡ joined (if b then said_message m.id (message_of made event) else [])
-    by true = message_joined m.id (message_of made event)
-    by false = refl
-
-pub told_joined : (made : List Made) (p : ℕ) (ts : List Told) →
-    (group_for made p ts).bytes ≡ joined (told_messages made p ts)
-told_joined made p [] = refl
-told_joined made p (t ∷ ts) =
-    ap (λ (l : List ℕ). (event_piece made p t.event (made_as made t.to)).bytes ++ l) (told_joined made p ts)
-    ∙ ap (λ (l : List ℕ). l ++ joined (told_messages made p ts)) (piece_joined made p t.event (made_as made t.to))
-    ∙ sym (joined_both (piece_messages made p t.event (made_as made t.to)) (told_messages made p ts))
-
--- what holds of the message of each event that the peer is told
-abbrev pub TellsSo : List Made → ℕ → (List ℕ → Type 0) → Told → Type 0
-TellsSo made p P t =
-    (m : Made) → made_as made t.to ≡ Some m → m.peer ≡ p → (x : Message) → message_of made t.event ≡ Some x →
-    P (message_bytes m.id x)
-
-each_both : (P : List ℕ → Type 0) (xs ys : List (List ℕ)) → AllByRecursion P xs → AllByRecursion P ys →
-    AllByRecursion P (xs ++ ys)
-each_both P [] ys h k = k
-each_both P (x ∷ xs) ys h k = (h.0, each_both P xs ys h.1 k)
-
-piece_each : (made : List Made) (p : ℕ) (P : List ℕ → Type 0) (t : Told) (o : Option Made) → made_as made t.to ≡ o →
-    TellsSo made p P t → AllByRecursion P (piece_messages made p t.event o)
-piece_each made p P t None e h = tt
-piece_each made p P t (Some m) e h = by (m.peer == p) refl
-  where
-    each : (o : Option Message) → message_of made t.event ≡ o → m.peer ≡ p → AllByRecursion P (said_message m.id o)
-    each None q s = tt
-    each (Some x) q s = (h m e s x q, tt)
-
-    by : (b : Bool) → (m.peer == p) ≡ b →
-        AllByRecursion P (if b then said_message m.id (message_of made t.event) else [])
-    by true q = each (message_of made t.event) refl (eqb-true m.peer p q)
-    by false q = tt
-
-pub told_each : (made : List Made) (p : ℕ) (P : List ℕ → Type 0) (ts : List Told) →
-    AllByRecursion (TellsSo made p P) ts →
-    AllByRecursion P (told_messages made p ts)
-told_each made p P [] h = tt
-told_each made p P (t ∷ ts) h =
-    each_both P (piece_messages made p t.event (made_as made t.to)) (told_messages made p ts)
-    (piece_each made p P t (made_as made t.to) refl h.0) (told_each made p P ts h.1)
-
-pub all_messages : (ms : List (List ℕ)) → AllByRecursion IsMessage ms → AreMessages ms
-all_messages [] h = tt
-all_messages (m ∷ ms) h = (h.0, all_messages ms h.1)
+-- ---- the header of a message that is told
 
 opcode_small : (made : List Made) (event : Said) → IfSome (message_of made event) (λ m. m.opcode ≤ 6)
 opcode_small made (said.Pass time key state) = tt
+opcode_small made (said.VMods mods) = tt
 opcode_small made (said.Placed popup x y) = tt
 opcode_small made _ = omega arith
 

@@ -130,6 +130,15 @@ some_event = (
   (done_said 0 (omega arith)).heard [],
 )
 
+-- and bytes that do
+pub some_bytes : (bytes : List ℕ) × (e : Event) × (rest : List Event) × (events_in (messages bytes) ≡ e ∷ rest)
+some_bytes = (
+  (said_piece [] 7 (said.FieldDone 0 ∷ [])).bytes ++ [],
+  events.TextInputDone 0,
+  events_in (messages []),
+  (done_said 0 (omega arith)).heard [],
+)
+
 preedit_first : (p : Preedit) (ss : List Said) (es : List Event) → is_text p.text ≡ true → length p.text ≤ 4075 →
     FitsSigned w32 p.begin → FitsSigned w32 p.end → AreSaid ss es →
     AreSaid (preedit_said p ++ ss) (preedit_events p ++ es)

@@ -213,7 +213,7 @@ pub record HasHeard (bytes : List ℕ) (c : Client State) (own : List Entry) : T
   pub own-is : edits_in log ≡ own
   pub told : told_in log ≡ happenings (events_in (messages bytes)) no_edits
   pub going : c.is_bad ≡ false → IsGoing bytes c
-  stuck : c.is_bad ≡ true → (piece : List ℕ) → events_in (messages (bytes ++ piece)) ≡ events_in (messages bytes)
+  pub stuck : c.is_bad ≡ true → (piece : List ℕ) → events_in (messages (bytes ++ piece)) ≡ events_in (messages bytes)
 
 hears_bad : (bytes piece : List ℕ) (c : Client State) (own : List Entry) → c.is_bad ≡ true → HasHeard bytes c own →
     HasHeard (bytes ++ piece) (received after_event field_objects piece c) own

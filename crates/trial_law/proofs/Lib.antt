@@ -19,3 +19,13 @@ pub mod UnpausedHearAll
 pub mod GroupsRead
 pub mod TextInputsMade
 pub mod UnpausedHaveAll
+pub mod FieldsReadAll
+pub mod BatchesSaid
+pub mod EachByte
+pub mod FieldBytes
+pub mod TypistBytes
+pub mod MethodBytes
+pub mod TextsRead
+pub mod BytesKept
+pub mod TextsBatched
+pub mod ScriptsOfBytes

@@ -28,7 +28,7 @@ use Rattle.trial_run.specs.Steps.{stepped, joined, message_entry, messages_sent,
 use Rattle.trial_run.specs.Play.{TrialPlay, new_field, number_of, to_send, is_paused, hears, sent, edits, commits, pauses, text_at}
 use Rattle.trial_run.specs.Rounds.{with_broker, sends_waiting, sends, took, one_take, takes, turn, field_turns, round, is_quiet, rounds}
 use Rattle.trial_run.specs.Lines.{surface_id, shell_says, pressed, edit_of, batch_of, show_line, acted, line_played, actions_played}
-use Rattle.trial_run.specs.Trial.{unplayed, method_joined, field_joined, fields_joined, played_with, trial_played}
+use Rattle.trial_run.specs.Trial.{unplayed, typist_of, method_joined, field_joined, fields_joined, played_with, trial_played}
 
 -- no settling appends such an entry
 abbrev pub IsOuter : Entry → Type 0
@@ -65,6 +65,7 @@ pub record IsWaiting (t : TrialPlay) (q id opcode : ℕ) (body : List ℕ) : Typ
   pub message : List ℕ
   pub among : IsAmong (messages (to_send who t)) message
   pub id-is : id ≡ id_of message
+  pub body-is : body ≡ body_of message
   pub short : length body ≤ 4088
 
 -- what a client has to send, or what the shell says
@@ -153,7 +154,7 @@ module _ (P : TrialPlay → Type 0) (kept : IsKept P) where
       one : P (record t { broker = (stepped (message_entry (number_of who) m) t.broker).now })
       one =
           spoken_keeps (message_entry (number_of who) m) t
-          (record { who = who; number = refl; message = m; among = among; id-is = refl; short = body_short m is }) h
+          (record { who = who; number = refl; message = m; among = among; id-is = refl; body-is = refl; short = body_short m is }) h
 
       by : (full : Bool) → P (record t {
         broker =
@@ -340,8 +341,8 @@ module _ (P : TrialPlay → Type 0) (played : IsPlayed P) where
           (fields_keep P played.seats fields))
           (actions_keep time all)
 
-  pub trial_keeps : (limits : Limits) (s : Script) → P (unplayed limits s.table) → P (trial_played limits s).now
-  trial_keeps limits s h = played_keeps s.fields (s.first_line % 2 ^ 32) s.actions (unplayed limits s.table) h
+  pub trial_keeps : (limits : Limits) (s : Script) → P (unplayed limits (typist_of s)) → P (trial_played limits s).now
+  trial_keeps limits s h = played_keeps s.fields (s.first_line % 2 ^ 32) s.actions (unplayed limits (typist_of s)) h
 
 -- what is said of the shared state alone is kept where its steps keep it
 module _ (Q : Broker → Type 0)

@@ -10,7 +10,7 @@ use Rattle.trial_run.specs.Steps.{has_stored, next_bytes}
 use Rattle.trial_run.specs.Play.{TrialPlay, number_of, is_paused, hears, sent}
 use Rattle.trial_run.specs.Rounds.{takes, turn, field_turns, round, is_due, fields_quiet, is_quiet, rounds}
 use Rattle.trial_run.specs.Lines.{acted, line_played, actions_played}
-use Rattle.trial_run.specs.Trial.{unplayed, method_joined, fields_joined, played_with}
+use Rattle.trial_run.specs.Trial.{unplayed, typist_of, method_joined, fields_joined, played_with}
 use Rattle.trial_law.specs.TrialLaws.{RoundsEndQuiet}
 use Rattle.trial_law.proofs.PhasesKeep.{IsPlayed, take_entry, with_entry, field_turns_keep, round_keeps, line_keeps, acted_keeps, method_keeps, fields_keep}
 use Rattle.trial_law.proofs.TakesCount.{counted, IsWithin, IsBoth, both_went, same_went, at_least, within, takes_move}
@@ -196,7 +196,7 @@ actions_quiet limit time first (second ∷ more) t after g e =
 pub rounds_end_quiet : RoundsEndQuiet
 unfolding played_with
 rounds_end_quiet limits script first more t a some e =
-    let start : TrialPlay = unplayed limits script.table in
+    let start : TrialPlay = unplayed limits (typist_of script) in
     let time : ℕ = script.first_line % 2 ^ 32 in
     let parts : ((method_joined start >>= fields_joined script.fields) >>= actions_played time script.actions)
     ≡ went t =

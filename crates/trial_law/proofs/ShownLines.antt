@@ -16,7 +16,7 @@ use Rattle.trial_run.specs.Steps.{next_bytes}
 use Rattle.trial_run.specs.Play.{TrialPlay, number_of, hears, sent, edits, commits}
 use Rattle.trial_run.specs.Rounds.{rounds}
 use Rattle.trial_run.specs.Lines.{edit_of, batch_of, acted, line_played, actions_played}
-use Rattle.trial_run.specs.Trial.{unplayed, method_joined, fields_joined, played_with, trial_played}
+use Rattle.trial_run.specs.Trial.{unplayed, typist_of, method_joined, fields_joined, played_with, trial_played}
 use Rattle.trial_law.specs.FieldLogs.{trial_to, line_of, line_at, lines_to}
 use Rattle.trial_law.specs.TrialLaws.{ShownInTurn}
 use Rattle.trial_law.proofs.PhasesKeep.{IsKept, IsSeated, take_entry, with_entry, after, sends_keep, rounds_keep, shell_keeps, pressed_keeps, method_keeps, fields_keep}
@@ -127,14 +127,14 @@ take_next (suc n) (x ∷ xs) action e = ap (λ (l : List Action). x ∷ l) (take
 -- ---- a trial
 
 abbrev joined_all : Limits → Script → Ran TrialPlay
-joined_all limits script = method_joined (unplayed limits script.table) >>= fields_joined script.fields
+joined_all limits script = method_joined (unplayed limits (typist_of script)) >>= fields_joined script.fields
 
 trial_is : (n : ℕ) (limits : Limits) (script : Script) → 1 ≤ script.fields →
     trial_to n limits script
     ≡ (joined_all limits script >>= actions_played (script.first_line % 2 ^ 32) (take n script.actions))
 unfolding played_with
 trial_is n limits script some =
-    ap (λ (none : Bool). if none then went (unplayed limits script.table)
+    ap (λ (none : Bool). if none then went (unplayed limits (typist_of script))
     else joined_all limits script >>= actions_played (script.first_line % 2 ^ 32) (take n script.actions))
     (ne_eqb script.fields 0 (λ z. absurd (omega arith)))
 
@@ -178,8 +178,8 @@ shown_seated lines = record { phases = shown_kept lines; joining = λ role t f h
 
 nothing_first : (limits : Limits) (script : Script) → (joined_all limits script).now.shown ≡ []
 nothing_first limits script =
-    after (Shows []) (method_joined (unplayed limits script.table)) (fields_joined script.fields)
-    (method_keeps (Shows []) (shown_seated []) (unplayed limits script.table) refl)
+    after (Shows []) (method_joined (unplayed limits (typist_of script))) (fields_joined script.fields)
+    (method_keeps (Shows []) (shown_seated []) (unplayed limits (typist_of script)) refl)
     (fields_keep (Shows []) (shown_seated []) script.fields)
 
 there : (all : List Action) (n : ℕ) → n < length all → (action : Action) × (slice_get all n ≡ Some action)

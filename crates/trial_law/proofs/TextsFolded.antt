@@ -16,7 +16,7 @@ use Rattle.trial_run.specs.Ran.{Ran, went, ◌>>=◌}
 use Rattle.trial_run.specs.Play.{FieldPlay, TrialPlay, field_edits, edits, commits, pauses}
 use Rattle.trial_run.specs.Rounds.{rounds}
 use Rattle.trial_run.specs.Lines.{edit_of, batch_of, acted, line_played, actions_played}
-use Rattle.trial_run.specs.Trial.{unplayed, method_joined, fields_joined, played_with, trial_played}
+use Rattle.trial_run.specs.Trial.{unplayed, typist_of, method_joined, fields_joined, played_with, trial_played}
 use Rattle.trial_run.proofs.FieldsChanged.{changed_length}
 use Rattle.trial_law.specs.FieldLogs.{edits_by, own_edits, bytes_taken}
 use Rattle.trial_law.specs.TrialLaws.{IsFolded, TextsAreFolds}
@@ -161,7 +161,7 @@ pub trial_followed : (limits : Limits) (script : Script) (t : TrialPlay) → scr
     trial_played limits script ≡ went t → AreFollowed (own_edits script.actions) (0 + script.fields) t
 unfolding played_with
 trial_followed limits script t few some e =
-    let start : TrialPlay = unplayed limits script.table in
+    let start : TrialPlay = unplayed limits (typist_of script) in
     let time : ℕ = script.first_line % 2 ^ 32 in
     let parts : ((method_joined start >>= fields_joined script.fields) >>= actions_played time script.actions)
     ≡ went t =
@@ -194,7 +194,7 @@ pub none_played : (limits : Limits) (script : Script) (t : TrialPlay) (k : ℕ) 
     trial_played limits script ≡ went t → slice_get t.fields k ≡ Some field → ⊥
 unfolding played_with
 none_played limits script t k field none e is =
-    let start : TrialPlay = unplayed limits script.table in
+    let start : TrialPlay = unplayed limits (typist_of script) in
     let time : ℕ = script.first_line % 2 ^ 32 in
     let same : went start ≡ went t =
     ap (λ (b : Bool). if b then went start

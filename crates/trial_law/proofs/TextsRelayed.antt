@@ -34,7 +34,7 @@ use Rattle.broker_core.specs.Broker.{Broker}
 use Rattle.trial_run.specs.Ran.{Ran, went, ◌>>=◌}
 use Rattle.trial_run.specs.Play.{TrialPlay}
 use Rattle.trial_run.specs.Lines.{actions_played}
-use Rattle.trial_run.specs.Trial.{unplayed, method_joined, fields_joined, played_with, trial_played}
+use Rattle.trial_run.specs.Trial.{unplayed, typist_of, method_joined, fields_joined, played_with, trial_played}
 use Rattle.trial_law.specs.FieldLogs.{told_in, bytes_taken, events_in, happenings}
 use Rattle.trial_law.specs.RelayedBatches.{batches_in, group_told, groups_told, IsFrontOf, IsFieldOf}
 use Rattle.trial_law.specs.TrialLaws.{IsFolded, IsRelayed, TextsAreRelayed}
@@ -77,7 +77,7 @@ pub trial_known : (limits : Limits) (script : Script) (t : TrialPlay) → script
     trial_played limits script ≡ went t → AllKnown t
 unfolding played_with
 trial_known limits script t few some e k l =
-    let start : TrialPlay = unplayed limits script.table in
+    let start : TrialPlay = unplayed limits (typist_of script) in
     let time : ℕ = script.first_line % 2 ^ 32 in
     let parts : ((method_joined start >>= fields_joined script.fields) >>= actions_played time script.actions)
     ≡ went t =

@@ -44,7 +44,7 @@ all_of : (ms : List (List ℕ)) (told : List Happening) → Tells ms told →
 all_of ms told (inl g) h = g.is
 all_of ms told (inr s) h = absurd (not_stopped ms s.stopped h)
 
-heard_so : (limits : Limits) (t : TrialPlay) (k : ℕ) (field : FieldPlay) (peer : Joined) (own : List Entry) →
+pub heard_so : (limits : Limits) (t : TrialPlay) (k : ℕ) (field : FieldPlay) (peer : Joined) (own : List Entry) →
     t.broker.limits ≡ limits → (f : IsFollowed k own t) → f.field ≡ field → f.peer ≡ peer →
     HasHeard (bytes_taken limits.store t.broker.journal peer.label) field.client own
 heard_so limits t k field peer own l f same who =

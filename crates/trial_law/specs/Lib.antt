@@ -1,3 +1,4 @@
 pub mod FieldLogs
 pub mod RelayedBatches
 pub mod TrialLaws
+pub mod RelayedAsBatches

@@ -5,6 +5,9 @@
 ghost use Rattle.trial_law.specs.TrialLaws.{TrialHistory, RoundsEndQuiet};
 ghost use Rattle.trial_law.specs.TrialLaws.{ShownInTurn, TextsAreFolds, TextsAreRelayed};
 ghost use Rattle.trial_law.specs.TrialLaws.{UnpausedHearAll, UnpausedHaveAll, GroupsAreRead};
+ghost use Rattle.trial_law.specs.RelayedAsBatches.{ScriptsAreOfBytes, MessagesAreBytes};
+ghost use Rattle.trial_law.specs.RelayedAsBatches.{TextsAreBatches};
+ghost use Rattle.trial_law.specs.RelayedAsBatches.{FieldsReadAll, UnpausedHaveAllRelayed};
 
 /// The journal of every trial is the history of its outer steps: each is followed by the ends that
 /// follow from it, and by no others. So the relay law speaks of it.
@@ -64,4 +67,32 @@ pub fn unpaused_have_all()
 #[tactic(auto, using(crate::proofs::GroupsRead::groups_read))]
 pub fn groups_are_read()
     ensures { GroupsAreRead }
+{}
+
+/// Every script that is read has texts of bytes, those that its method types with them.
+pub fn scripts_are_of_bytes()
+    ensures { ScriptsAreOfBytes }
+{}
+
+/// In a trial of a script whose texts are of bytes each message in the journal has a body of bytes,
+/// wherever the trial stops.
+pub fn messages_are_bytes()
+    ensures { MessagesAreBytes }
+{}
+
+/// In such a trial the batches of each field's log are a front of the batches that the one journal
+/// relays to the field, each with the count of its done.
+pub fn texts_are_batches()
+    ensures { TextsAreBatches }
+{}
+
+/// To no field's client anything comes there that it can't read.
+pub fn fields_read_all()
+    ensures { FieldsReadAll }
+{}
+
+/// So after an action a field that isn't paused, and whose peer no group that didn't fit has ended,
+/// has all batches that are relayed to it.
+pub fn unpaused_have_all_relayed()
+    ensures { UnpausedHaveAllRelayed }
 {}

@@ -7,12 +7,14 @@ use Rattle.client_side.specs.Client.{Step}
 use Rattle.client_side.specs.FieldState as field
 use Rattle.client_side.specs.MethodState as method
 use Rattle.trial_run.specs.Events.{event_of}
+use Rattle.trial_run.specs.Typists.{meanings_of}
+use Rattle.trial_run.specs.declared.typist.TrialTypist.{TrialTypist}
 
 pub record Known (e : Event) : Type 0 where
   pub other : Event
   pub is : event_of (event_message e) ≡ Some other
   pub to_field : (s : field.State) → field.after_event other s ≡ field.after_event e s
-  pub to_method : (s : method.State) → method.after_event other s ≡ method.after_event e s
+  pub to_method : (s : method.State TrialTypist) → method.after_event meanings_of other s ≡ method.after_event meanings_of e s
 
 pub known : (e : Event) → Known e
 known (events.Error object code m) = record { other = _; is = refl; to_field = λ s. refl; to_method = λ s. refl }
@@ -50,5 +52,5 @@ KnowsEvents {S} step =
 pub field_knows : KnowsEvents field.after_event
 field_knows e = let k = known e in (k.other, k.is, k.to_field)
 
-pub method_knows : KnowsEvents method.after_event
+pub method_knows : KnowsEvents (method.after_event meanings_of)
 method_knows e = let k = known e in (k.other, k.is, k.to_method)

@@ -2,6 +2,7 @@ pub mod Events
 pub mod Hearing
 pub mod Ran
 pub mod Steps
+pub mod Typists
 pub mod Play
 pub mod Rounds
 pub mod Lines

@@ -4,7 +4,6 @@ use Rattle.std.specs.List.{slice_get}
 use Rattle.trial_field.specs.Log.{Entry, Batch}
 use Rattle.trial_field.specs.FieldText as texts
 use Rattle.trial_field.specs.FieldText.{FieldText}
-use Rattle.compose_method.specs.Table.{Table}
 use Rattle.client_side.specs.Client.{Client}
 use Rattle.client_side.specs.Events.{field_objects, method_objects}
 use Rattle.client_side.specs.Happenings.{edited}
@@ -15,6 +14,8 @@ use Rattle.broker_core.specs.Broker.{Broker}
 use Rattle.trial_run.specs.declared.whose.Whose.{Whose}
 use Rattle.trial_run.specs.declared.whose.Whose.TheVariants as whose
 use Rattle.trial_run.specs.Hearing.{received}
+use Rattle.trial_run.specs.Typists.{meanings_of}
+use Rattle.trial_run.specs.declared.typist.TrialTypist.{TrialTypist}
 
 -- a field's client, and whether it stopped reading
 pub record FieldPlay : Type 0 where
@@ -26,7 +27,7 @@ pub record FieldPlay : Type 0 where
 pub record TrialPlay : Type 0 where
   pub most : ℕ
   pub broker : Broker
-  pub method : Client method.State
+  pub method : Client (method.State TrialTypist)
   pub fields : List FieldPlay
   pub shown : List ℕ
 
@@ -35,8 +36,8 @@ pub record TrialPlay : Type 0 where
 abbrev pub new_field : FieldPlay
 new_field = record { client = record { state = field.new_state; held = []; is_bad = false }; is_paused = false }
 
-abbrev pub new_method : Table → Client method.State
-new_method table = record { state = method.new_state table; held = []; is_bad = false }
+abbrev pub new_method : TrialTypist → Client (method.State TrialTypist)
+new_method typist = record { state = method.new_state typist; held = []; is_bad = false }
 
 -- ---- one client
 
@@ -77,7 +78,8 @@ field_hears piece f = record f { client = received field.after_event field_objec
 
 -- it received a piece
 abbrev pub hears : Whose → List ℕ → TrialPlay → TrialPlay
-hears whose.Method piece t = record t { method = received method.after_event method_objects piece t.method }
+hears whose.Method piece t =
+    record t { method = received (method.after_event meanings_of) method_objects piece t.method }
 hears (whose.Field k) piece t = with_field k (field_hears piece) t
 
 abbrev pub field_sent : FieldPlay → FieldPlay
@@ -100,7 +102,7 @@ edits k edit t = with_field k (field_edits edit) t
 -- the method's user commits edits
 abbrev pub commits : Batch → TrialPlay → TrialPlay
 commits batch t =
-    record t { method = record t.method { state = method.happens (committed batch) t.method.state } }
+    record t { method = record t.method { state = method.happens meanings_of (committed batch) t.method.state } }
 
 -- the field stops reading, or goes on
 abbrev pub pauses : ℕ → Bool → TrialPlay → TrialPlay

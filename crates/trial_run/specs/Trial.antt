@@ -4,7 +4,7 @@ use Rattle.std.specs.Global.{Global}
 use Rattle.relay_model.specs.declared.role.Role.TheVariants.{App, Method}
 use Rattle.seat_steps.specs.declared.limits.Limits.{Limits}
 use Rattle.seat_steps.specs.Ranges.{form_1_weight}
-use Rattle.compose_method.specs.Table.{Table}
+use Rattle.compose_method.specs.Typing as typing
 use Rattle.trial_script.specs.declared.action.Action.{Action}
 use Rattle.trial_script.specs.declared.script.Script.{Script}
 use Rattle.trial_script.specs.declared.script.Ending.{Ending}
@@ -14,6 +14,8 @@ use Rattle.broker_model.specs.declared.journal.Kept.{Kept}
 use Rattle.broker_core.specs.Broker.{kept_in}
 use Rattle.trial_run.specs.declared.run.TrialEnd.{TrialEnd}
 use Rattle.trial_run.specs.declared.run.TrialEnd.TheVariants as ends
+use Rattle.trial_run.specs.declared.typist.TrialTypist.{TrialTypist}
+use Rattle.trial_run.specs.declared.typist.TrialTypist.TheVariants.{Compose}
 use Rattle.trial_run.specs.declared.whose.Whose.TheVariants as whose
 use Rattle.trial_run.specs.Ran.{Ran, went, ◌>>=◌}
 use Rattle.trial_run.specs.Steps.{joined}
@@ -23,12 +25,16 @@ use Rattle.trial_run.specs.Lines.{actions_played}
 
 -- ---- how it begins
 
+-- the method of the script, not active
+abbrev pub typist_of : Script → TrialTypist
+typist_of s = Compose (typing.idle s.table)
+
 -- nobody joined yet
-abbrev pub unplayed : Limits → Table → TrialPlay
-unplayed limits table = record {
+abbrev pub unplayed : Limits → TrialTypist → TrialPlay
+unplayed limits typist = record {
   most = limits.entries + 1;
   broker = record { limits = limits; journal = []; stamps = [] };
-  method = new_method table;
+  method = new_method typist;
   fields = [];
   shown = [];
 }
@@ -57,7 +63,7 @@ played_with fields time all t =
     else (method_joined t >>= fields_joined fields) >>= actions_played time all
 
 abbrev pub trial_played : Limits → Script → Ran TrialPlay
-trial_played limits s = played_with s.fields (s.first_line % 2 ^ 32) s.actions (unplayed limits s.table)
+trial_played limits s = played_with s.fields (s.first_line % 2 ^ 32) s.actions (unplayed limits (typist_of s))
 
 -- a trial ends behind its last line, at a line outside the grammar or one that is missing, or before a step for
 -- which the journal is full

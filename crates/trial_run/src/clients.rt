@@ -7,11 +7,13 @@ ghost use Rattle.trial_field.specs.Log.{IsEdit, entry_of, IsBatch, batch_of};
 ghost use Rattle.trial_run.specs.Hearing.{received};
 ghost use Rattle.trial_run.specs.Play.{hears, sent, edits, commits, pauses};
 ghost use Rattle.trial_run.specs.Rounds.{sends_waiting, sends};
+ghost use Rattle.trial_run.specs.Typists.{meanings_of};
 ghost use Rattle.trial_run.specs.Working.{HasClient, IsRun, Stays};
 
 use crate::steps::send_all;
 use crate::stop::Stop;
 use crate::trial::Trial;
+use crate::typist::TrialTypist;
 use crate::whose::{Whose, number_of};
 use client_side::{ClientFault, FieldClient, MethodClient};
 use trial_field::{BatchView, Edit};
@@ -30,9 +32,9 @@ fn field_hears(client: &mut FieldClient, piece: &[u8]) -> Result<(), NoMemory>
 }
 
 // So does the method's.
-fn method_hears(client: &mut MethodClient, piece: &[u8]) -> Result<(), NoMemory>
-    ensures { OnOk result
-        (client.new ≡ received methods.after_event method_objects piece.now client.old) }
+fn method_hears(client: &mut MethodClient<TrialTypist>, piece: &[u8]) -> Result<(), NoMemory>
+    ensures { OnOk result (client.new ≡
+        received (methods.after_event meanings_of) method_objects piece.now client.old) }
 {
     match client.receive(piece) {
         Ok(()) => Ok(()),

@@ -1,5 +1,5 @@
-//! Trials: what a script types, with fields that edit themselves and a method that composes, as
-//! peers of one shared state.
+//! Trials: what a script types, with fields that edit themselves and a method that composes or
+//! has a dictionary, as peers of one shared state.
 #![tactic(auto)]
 
 mod clients;
@@ -12,7 +12,9 @@ mod showing;
 mod steps;
 mod stop;
 mod trial;
+mod typist;
 mod whose;
 
 pub use run::{TrialEnd, run_trial};
+pub use typist::TrialTypist;
 pub use whose::Whose;

@@ -1,5 +1,7 @@
 //! A whole script.
-ghost use Rattle.std.specs.Prelude.{◌≡◌, ◌≤◌, [], All, string_bytes};
+ghost use Rattle.std.specs.Prelude.{◌≡◌, ◌≤◌, [], All, IfOk, string_bytes};
+ghost use Rattle.compose_method.specs.Typing.{idle};
+ghost use Rattle.trial_run.specs.declared.typist.TrialTypist.TheVariants.{Compose};
 ghost use Rattle.seat_steps.specs.Ranges.{IsLimits};
 ghost use Rattle.trial_script.specs.Grammar.{IsAction};
 ghost use Rattle.trial_script.specs.Scripts.{field_named};
@@ -11,7 +13,9 @@ ghost use Rattle.trial_run.specs.Working.{IsRun};
 
 use crate::stop::Stop;
 use crate::trial::Trial;
+use crate::typist::TrialTypist;
 use broker_core::Kept;
+use compose_method::{ComposeTable, Method};
 use seat_steps::{FORM_1_WEIGHT, Limits};
 use std::alloc::Global;
 use thiserror::Error;
@@ -90,6 +94,13 @@ fn ended(ending: Ending, played: Result<(), Stop>, text: String) -> Result<Strin
     }
 }
 
+// A method that composes, not active.
+fn composing(alloc: Global, table: ComposeTable) -> Result<TrialTypist, NoMemory>
+    ensures { IfOk result (λ typist. typist ≡ Compose (idle table)) }
+{
+    Ok(TrialTypist::Compose(Method::new(alloc, table)?))
+}
+
 // Plays a script within limits.
 pub(crate) fn run_within(alloc: Global, limits: Limits, script: &[u8]) -> Result<String, TrialEnd>
     requires { IsLimits limits }
@@ -102,7 +113,8 @@ pub(crate) fn run_within(alloc: Global, limits: Limits, script: &[u8]) -> Result
         actions,
         ending,
     } = read_script(alloc, script)?;
-    let mut trial = Trial::new(alloc, limits, table)?;
+    let typist = composing(alloc, table)?;
+    let mut trial = Trial::new(alloc, limits, typist)?;
     let first = (first_line % (1 << 32)) as u32;
     let played = trial.script(fields, first, &actions);
     ended(ending, played, trial.into_shown())
@@ -111,7 +123,7 @@ pub(crate) fn run_within(alloc: Global, limits: Limits, script: &[u8]) -> Result
 /// Plays a script up to its end, or to the first line that is outside the grammar, and answers what
 /// it shows: for each `show F` the line `show F TEXT CURSOR PREEDIT`.
 ///
-/// A method, which composes, and a field for each that the script has are peers of one shared state,
+/// A method and a field for each that the script has are peers of one shared state,
 /// each with a client of its own. After each action rounds are made: each client that isn't paused,
 /// the method first, takes what is stored for it and sends what that asks for, until nothing is
 /// stored for such a client. A paused field still sends its own edits. The client of a peer that

@@ -4,9 +4,9 @@ ghost use Rattle.seat_steps.specs.Ranges.{IsLimits};
 ghost use Rattle.trial_run.specs.Play.{new_field};
 ghost use Rattle.trial_run.specs.Trial.{unplayed};
 
+use crate::typist::TrialTypist;
 use broker_core::Shared;
 use client_side::{FieldClient, MethodClient};
-use compose_method::ComposeTable;
 use seat_steps::Limits;
 use std::alloc::Global;
 use std::marker::Model;
@@ -47,7 +47,7 @@ pub(crate) struct Trial {
     /// rounds follow an action.
     pub most: u64,
     pub shared: Shared,
-    pub method: MethodClient,
+    pub method: MethodClient<TrialTypist>,
     pub fields: Vec<FieldSeat>,
     pub shown: String,
 }
@@ -69,11 +69,11 @@ impl Model for Trial {
 
 impl Trial {
     /// Nobody joined yet.
-    pub(crate) fn new(alloc: Global, limits: Limits, table: ComposeTable) -> Result<Trial, NoMemory>
+    pub(crate) fn new(alloc: Global, limits: Limits, typist: TrialTypist) -> Result<Trial, NoMemory>
         requires { IsLimits limits }
-        ensures { IfOk result (λ t. t ≡ unplayed limits table) }
+        ensures { IfOk result (λ t. t ≡ unplayed limits typist) }
     {
-        let method = MethodClient::new(alloc, table)?;
+        let method = MethodClient::new(alloc, typist)?;
         Ok(Trial {
             alloc,
             most: u64::from(limits.entries) + 1,

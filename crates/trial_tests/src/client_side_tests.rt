@@ -1,7 +1,7 @@
 //! A field's client and a method's client in a small session, against the bytes of its transcript.
 use crate::equal::equal;
 use client_side::{ClientFault, FieldClient, MethodClient};
-use compose_method::ComposeTable;
+use compose_method::{ComposeTable, Method};
 use std::process::Abort;
 use std::test::Fail;
 use trial_field::Edit;
@@ -13,7 +13,7 @@ fn field_sends(rt: &impl Abort, client: &mut FieldClient, piece: &[u8], wanted: 
     client.sent();
 }
 
-fn method_sends(rt: &impl Abort, client: &mut MethodClient, piece: &[u8], wanted: &[u8]) {
+fn method_sends(rt: &impl Abort, client: &mut MethodClient<Method>, piece: &[u8], wanted: &[u8]) {
     equal(rt, client.receive(piece), Ok(()));
     equal(rt, client.to_send(), wanted);
     client.sent();
@@ -90,7 +90,7 @@ static TYPED: [u8; 28] = [
 ];
 
 // A press before the activation, and one after it; and a keymap, for which no descriptor is given.
-fn method_goes_on(rt: &impl Abort, client: &mut MethodClient) {
+fn method_goes_on(rt: &impl Abort, client: &mut MethodClient<Method>) {
     equal(rt, client.to_send().len(), 124);
     client.sent();
     method_sends(rt, client, &PRESS, &[]);
@@ -105,7 +105,8 @@ fn method_goes_on(rt: &impl Abort, client: &mut MethodClient) {
 fn a_method_types_what_is_pressed(rt: HostRuntime) -> Result<(), Fail> {
     let mut table = ComposeTable::new(rt.alloc())?;
     equal(&rt, table.single(30, "a"), Ok(()));
-    let mut client = MethodClient::new(rt.alloc(), table)?;
+    let method = Method::new(rt.alloc(), table)?;
+    let mut client = MethodClient::new(rt.alloc(), method)?;
     method_goes_on(&rt, &mut client);
     Ok(())
 }

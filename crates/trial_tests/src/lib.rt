@@ -5,6 +5,8 @@
 #[cfg(test)]
 mod client_side_tests;
 #[cfg(test)]
+mod dict_method_tests;
+#[cfg(test)]
 mod equal;
 #[cfg(test)]
 mod gen_run_tests;

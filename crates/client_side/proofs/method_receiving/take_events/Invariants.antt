@@ -5,10 +5,10 @@ use Rattle.client_side.specs.Client.{Takes}
 use Rattle.client_side.proofs.method_receiving.take_events.Given as goal
 
 abbrev pub invariant-events : goal.invariant-events
-invariant-events l =
+invariant-events g l =
     (l.at ≤ length l.bytes)
-    × (137 * (length l.bytes - l.at) ≤ l.state.room)
-    × Takes method_objects after_event l.initial.state.state l.state.state l.bytes (drop l.at l.bytes)
+    × (1029 * (length l.bytes - l.at) ≤ l.state.room)
+    × Takes method_objects (after_event g.T.Typist.meanings) l.initial.state.state l.state.state l.bytes (drop l.at l.bytes)
 
 abbrev pub decreases-events : goal.decreases-events
-decreases-events l = length l.initial.bytes - l.at
+decreases-events g l = length l.initial.bytes - l.at

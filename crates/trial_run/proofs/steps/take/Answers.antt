@@ -1,4 +1,3 @@
-use Rattle.std.proofs.Common.{◌≡◌}
 use Rattle.broker_core.specs.declared.answers.Took.TheVariants as took
 use Rattle.trial_run.proofs.StepsTaken.{take_went, take_full, take_there}
 use Rattle.trial_run.proofs.steps.take.Goals as goal

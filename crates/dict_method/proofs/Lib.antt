@@ -1,0 +1,3 @@
+pub mod ControlKeys
+pub mod FirstRows
+pub mod InputsInTurn

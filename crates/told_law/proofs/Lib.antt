@@ -1,0 +1,13 @@
+pub mod ValuesSound
+pub mod Says
+pub mod ActsSayable
+pub mod LabelKinds
+pub mod ToldKinds
+pub mod ToldSayable
+pub mod IdsSmall
+pub mod EventsWritable
+pub mod WritableRead
+pub mod ToldIsRead
+pub mod MessagesTold
+pub mod MessagesPut
+pub mod AllHeard

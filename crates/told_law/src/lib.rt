@@ -1,0 +1,43 @@
+//! What is told is read: the laws of a journal's messages, over the definitions alone. The bodies
+//! are empty: the laws are the contracts.
+#![tactic(auto)]
+
+ghost use Rattle.told_law.specs.ToldRead.{ActsAreSayable, ToldIsWritable, ToldToItsKind};
+ghost use Rattle.told_law.specs.ToldRead.{WritableIsRead, ToldIsRead, AllIsHeard};
+
+/// The act of each entry that a program can hold can be said: its numbers have 32 bits, and its
+/// texts are texts of the protocol.
+#[tactic(auto, using(crate::proofs::ActsSayable::acts_sayable))]
+pub fn acts_are_sayable()
+    ensures { ActsAreSayable }
+{}
+
+/// What an entry tells is told to objects of its own interface, whatever the journal holds.
+#[tactic(auto, using(crate::proofs::ToldKinds::told_to_its_kind))]
+pub fn told_to_its_kind()
+    ensures { ToldToItsKind }
+{}
+
+/// A message that can be written to an object of its interface is read as itself, by whoever has
+/// the tokens that go with it.
+pub fn writable_is_read()
+    ensures { WritableIsRead }
+{}
+
+/// Each thing that an entry tells is a message that can be written, if it is one: it has a row,
+/// values of the row's kinds, and at most 4096 bytes.
+pub fn told_is_writable()
+    ensures { ToldIsWritable }
+{}
+
+/// So what an entry tells to an object is read as an event of that object.
+pub fn told_is_read()
+    ensures { ToldIsRead }
+{}
+
+/// All that a journal of entries that a program can hold puts for a peer are messages one behind
+/// the other, and each is read by a client whose objects are that peer's; a keymap, where the token
+/// that came with it is at hand.
+pub fn all_is_heard()
+    ensures { AllIsHeard }
+{}
