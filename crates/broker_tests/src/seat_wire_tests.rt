@@ -28,6 +28,7 @@ fn syncs(rt: &impl Abort, alloc: Global, relay: &Relay, table: &Table) -> Result
                     id: 2,
                     interface: Interface::Callback,
                 }),
+                takes_token: false,
             }
         )
     );

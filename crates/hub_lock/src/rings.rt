@@ -5,6 +5,7 @@ ghost use Rattle.hub_lock.specs.Bells.{bell};
 
 use broker_core::Watch;
 use broker_model::Entry;
+use relay_model::Mods;
 
 /// How many bells there are. Peers share a bell whose numbers are the same modulo this.
 pub(crate) const BELLS: u32 = 64;
@@ -46,6 +47,8 @@ impl Watch for Rings {
     fn placed(&mut self, _number: u32, _peer: u32, _id: u32, _x: i64, _y: i64) {}
 
     fn passed(&mut self, _number: u32, _time: u32, _key: u32, _state: u32) {}
+
+    fn modified(&mut self, _number: u32, _mods: Mods) {}
 
     fn put(&mut self, _number: u32, peer: u32, _bytes: &[u8], _tokens: &[(usize, u32)]) {
         self.ring(peer);

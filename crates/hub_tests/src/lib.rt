@@ -1,4 +1,4 @@
-//! The tests of the hub: each call once on its happy path, writers that sleep until a bell rings, and
+//! The tests of the hub: each call once on its happy path, writers that sleep until a bell rings, alone and two at once, and
 //! readers that race.
 #![tactic(auto)]
 
@@ -12,6 +12,8 @@ mod link;
 mod memory_tests;
 #[cfg(test)]
 mod race_tests;
+#[cfg(test)]
+mod together_tests;
 #[cfg(test)]
 mod turn_lock_tests;
 #[cfg(test)]

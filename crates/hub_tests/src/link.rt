@@ -1,9 +1,9 @@
 //! A peer of a hub, as a job for a thread.
-ghost use Rattle.std.specs.Prelude.{◌≡◌, IfOk};
+ghost use Rattle.std.specs.Prelude.{◌≡◌, IfOk, IfSome};
 ghost use Rattle.seat_steps.specs.Ranges.{IsPeerStep};
 ghost use Rattle.hub_lock.specs.Passes.{IsOf};
 
-use hub_lock::{Hub, HubPass, ReaderPass, WriterPass};
+use hub_lock::{Hub, HubPass, ReaderPass, ShellPass, WriterPass};
 use relay_model::Role;
 use seat_steps::{FORM_1_WEIGHT, Limits, PeerStep};
 use std::alloc::Global;
@@ -35,6 +35,7 @@ pub struct Link<'a> {
 pub fn join<'a, R: Wait>(rt: &R, hub: &'a Hub, root: &mut HubPass) -> Option<Link<'a>>
     requires own { IsOf hub.now root.old }
     ensures own { IsOf hub.now root.new }
+    ensures same { IfSome result (λ link. link.hub.now ≡ hub.now) }
 {
     if root.made() > MANY {
         return None;
@@ -47,6 +48,17 @@ pub fn join<'a, R: Wait>(rt: &R, hub: &'a Hub, root: &mut HubPass) -> Option<Lin
         }),
         Err(_) => None,
     }
+}
+
+/// A pass of the shell.
+pub fn shell_of(hub: &Hub, root: &mut HubPass) -> Option<ShellPass>
+    requires own { IsOf hub.now root.old }
+    ensures own { IfSome result (IsOf hub.now) }
+{
+    if root.made() > MANY {
+        return None;
+    }
+    Some(hub.shell(root))
 }
 
 /// The peer asks for its registry, under the id 2 at first: 112 bytes are then stored for it.

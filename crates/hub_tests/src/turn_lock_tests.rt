@@ -7,6 +7,7 @@ use crate::equal::equal;
 use std::alloc::Global;
 use std::sync::Wait;
 use std::test::Fail;
+use std::thread;
 use std::thread::{Threads, join};
 use turn_lock::{Seat, Story, Turn};
 use wio_core::NoMemory;
@@ -17,10 +18,11 @@ struct Ask {
     value: u64,
 }
 
-/// A story that appends its calls.
+/// A story that appends its calls. Each takes so many pauses, in which other threads may run.
 #[derive(Drop)]
 struct Log {
     calls: Vec<(u64, u64)>,
+    pauses: u32,
 }
 
 impl Story for Log {
@@ -44,6 +46,9 @@ impl Story for Log {
         (after ≡ (if made then before ++ (ask.number, ask.value) ∷ [] else before)) };
 
     fn play(&mut self, ask: &mut Ask) -> bool {
+        for _ in 0..self.pauses {
+            thread::yield_now();
+        }
         match self.calls.push((ask.number, ask.value)) {
             Ok(()) => true,
             Err(_) => false,
@@ -195,30 +200,36 @@ fn in_order(log: &Log, seat: u64) -> u64 {
     next
 }
 
-fn new_log(alloc: Global) -> Result<(Turn<Log>, Seat<Log>), NoMemory>
+fn new_log(alloc: Global, pauses: u32) -> Result<(Turn<Log>, Seat<Log>), NoMemory>
     ensures { IfOk result (λ made. made.1 ≡ fresh_seat made.0 0 (Some tt) []) }
 {
     Turn::new(
         alloc,
         Log {
             calls: Vec::new(alloc),
+            pauses,
         },
     )
 }
 
 fn log_of_two<R: Threads + Wait + Sync>(rt: &R, alloc: Global) -> Result<Log, NoMemory> {
-    let (turn, mut root) = new_log(alloc)?;
+    let (turn, mut root) = new_log(alloc, 0)?;
     let seats = split_two(&turn, &mut root);
     let seats = two_threads(rt, &turn, seats, 1000);
     meet_two(&turn, &mut root, seats);
     Ok(turn.close(root))
 }
 
-fn log_of_eight<R: Threads + Wait + Sync>(rt: &R, alloc: Global) -> Result<Log, NoMemory> {
-    let (turn, mut root) = new_log(alloc)?;
+fn log_of_eight<R: Threads + Wait + Sync>(
+    rt: &R,
+    alloc: Global,
+    pauses: u32,
+    count: u64,
+) -> Result<Log, NoMemory> {
+    let (turn, mut root) = new_log(alloc, pauses)?;
     let one = split_four(&turn, &mut root);
     let other = split_four(&turn, &mut root);
-    let (one, other) = eight_threads(rt, &turn, (one, other), 1000);
+    let (one, other) = eight_threads(rt, &turn, (one, other), count);
     meet_four(&turn, &mut root, one);
     meet_four(&turn, &mut root, other);
     Ok(turn.close(root))
@@ -237,10 +248,22 @@ fn calls_of_two_threads_stand_in_order(rt: HostRuntime) -> Result<(), Fail> {
 
 #[test]
 fn calls_of_eight_threads_stand_in_order(rt: HostRuntime) -> Result<(), Fail> {
-    let log = log_of_eight(&rt, rt.alloc())?;
+    let log = log_of_eight(&rt, rt.alloc(), 0, 1000)?;
     equal(&rt, log.calls.len(), 8000);
     for seat in 1..9 {
         equal(&rt, in_order(&log, seat), 1000);
+    }
+    Ok(())
+}
+
+// A turn takes longer than a waiting thread looks at the lock, so threads sleep for it. Where one
+// that slept doesn't announce that others may sleep on, they sleep for good, and the test doesn't end.
+#[test]
+fn turns_that_take_long_wake_all_who_sleep(rt: HostRuntime) -> Result<(), Fail> {
+    let log = log_of_eight(&rt, rt.alloc(), 400, 40)?;
+    equal(&rt, log.calls.len(), 320);
+    for seat in 1..9 {
+        equal(&rt, in_order(&log, seat), 40);
     }
     Ok(())
 }

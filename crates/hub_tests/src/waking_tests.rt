@@ -16,8 +16,8 @@ use std::thread;
 use std::thread::{Threads, join};
 use std::time::{Clock, Duration};
 
-// Takes until the peer has ended, and says how often; what was taken is counted meanwhile.
-fn take_all<R: Wait>(rt: &R, hub: &Hub, mut writer: WriterPass, taken: &AtomicU64) -> u64
+/// Takes until the peer has ended, and says how often; what was taken is counted meanwhile.
+pub(crate) fn take_all<R: Wait>(rt: &R, hub: &Hub, mut writer: WriterPass, taken: &AtomicU64) -> u64
     requires own { IsOf hub.now writer.seat }
 {
     let mut bytes = [0; 4096];
@@ -31,8 +31,8 @@ fn take_all<R: Wait>(rt: &R, hub: &Hub, mut writer: WriterPass, taken: &AtomicU6
     writer.steps()
 }
 
-// Waits until so many bytes were taken, and then a little, so that the writer sleeps again.
-fn wait_for<R: Wait + Clock>(rt: &R, taken: &AtomicU64, bytes: u64) {
+/// Waits until so many bytes were taken, and then a little, so that the writer sleeps again.
+pub(crate) fn wait_for<R: Wait + Clock>(rt: &R, taken: &AtomicU64, bytes: u64) {
     for _ in rt.forever() {
         if taken.load(Ordering::SeqCst) >= bytes {
             break;

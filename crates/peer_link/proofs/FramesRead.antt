@@ -6,12 +6,11 @@ use Rattle.relay_model.specs.declared.act.EndCause.{EndCause}
 use Rattle.relay_model.specs.declared.act.EndCause.TheVariants.{Gone}
 use Rattle.seat_steps.specs.declared.limits.Limits.{Limits}
 use Rattle.wio_core.specs.Lines.{TookFrom}
-use Rattle.wl_wire.specs.Messages.{joined}
+use Rattle.wl_wire.specs.Messages.{joined, behind}
 use Rattle.broker_model.specs.declared.journal.Entry.{Entry}
 use Rattle.broker_model.specs.declared.journal.Entry.TheVariants as entries
 use Rattle.broker_model.specs.declared.journal.Kept.{Kept}
 use Rattle.broker_core.specs.Stands.{end_of}
-use Rattle.session_play.specs.Steps.{behind}
 use Rattle.desc_frame.specs.declared.Got.{Got}
 use Rattle.desc_frame.specs.declared.Got.TheVariants as got
 use Rattle.desc_frame.specs.Frames.{Frame, frame, IsFrame, spelling}

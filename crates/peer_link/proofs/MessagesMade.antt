@@ -1,19 +1,14 @@
 -- Steps that are submitted one after the other
-use Rattle.std.proofs.Common.{◌≡◌, ℕ, ◌%◌, Bool, true, false, List, [], ◌∷◌, ◌++◌, length, drop, Some, None, refl, sym, ap, ◌∙◌, subst, arith, append_assoc, append-nil, length-drop}
-use Rattle.std.specs.Prelude.{if◌then◌else◌, ◌&&◌, ◌==◌, not, nat_le, Result, Ok, Err}
-use Rattle.std.proofs.lemmas.Bool.{le-leb, leb-true, eq-eqb, eqb-true}
+use Rattle.std.proofs.Common.{◌≡◌, ℕ, true, false, List, [], ◌∷◌, ◌++◌, length, drop, None, refl, sym, ap, ◌∙◌, subst, arith, append_assoc, append-nil}
+use Rattle.std.specs.Prelude.{◌==◌, Result, Ok, Err}
+use Rattle.std.proofs.lemmas.Bool.{eqb-true}
 use Rattle.seat_steps.specs.declared.limits.Limits.{Limits}
-use Rattle.seat_steps.specs.declared.step.PeerStep.TheVariants as peers
-use Rattle.seat_steps.specs.Ranges.{IsBody}
-use Rattle.wl_wire.specs.Messages.{size_of, id_of, opcode_of, body_of, is_good, bad_size_at, IsGoodSize, IsMessage, IsPartial}
-use Rattle.wl_wire.specs.declared.assembler.Fed.TheVariants as fed
-use Rattle.wl_wire.specs.Streams.{Assembly, Begun, Whole, Bad, begun, bytes_of, HasMessage, Feeds}
+use Rattle.wl_wire.specs.Messages.{id_of, opcode_of, body_of, bad_size_at, behind}
+use Rattle.wl_wire.specs.Streams.{Assembly, begun, bytes_of}
 use Rattle.broker_model.specs.declared.journal.Entry.{Entry}
 use Rattle.broker_model.specs.declared.journal.Entry.TheVariants as entries
-use Rattle.broker_core.specs.Broker.{peer_entry}
-use Rattle.session_play.specs.Steps.{message_entry, steps_in, behind}
-use Rattle.session_play.specs.Unread.{IsFirst, IsUnfinished}
-use Rattle.session_play.proofs.FirstSteps.{read_message, read_nothing, read_bad_size}
+use Rattle.step_cutter.specs.Steps.{steps_in}
+use Rattle.step_cutter.specs.Cuts.{IsFirst, IsUnfinished, IsLast}
 use Rattle.desc_frame.specs.Frames.{frame}
 use Rattle.hub_lock.specs.Passes.{PeerPass}
 use Rattle.hub_lock.specs.Calls.{pass_having_seen}
@@ -61,36 +56,6 @@ made-none limits a b e same = record {
   why = tt;
 }
 
--- a whole message
-
-pub message-is : (q id opcode : ℕ) (body m : List ℕ) → id ≡ id_of m → opcode ≡ opcode_of m → body ≡ body_of m
-    → peer_entry q (peers.Message id opcode body) ≡ message_entry q m
-message-is q id opcode body m i o b =
-    ap (λ n. entries.Message q n opcode body) i ∙ ap (λ n. entries.Message q (id_of m) n body) o
-    ∙ ap (entries.Message q (id_of m) (opcode_of m)) b
-
-body-of : (m : List ℕ) → IsMessage m → IsBody (body_of m)
-body-of m is = let len = length-drop 8 m in let a = is.0.0 in let b = is.0.1 in let c = is.0.2 in let d = is.1 in
-    (omega arith, omega arith)
-
-pub body-fits : (a : Assembly) (body : List ℕ) → HasMessage a → body ≡ body_of (bytes_of a) → IsBody body
-body-fits (Begun bytes) body h is = absurd h
-body-fits (Whole m) body h is = subst IsBody (sym is) (body-of m h)
-body-fits (Bad head) body h is = absurd h
-
--- bytes of a message that isn't whole have no bad size
-
-good-is : (n : ℕ) → IsGoodSize n → is_good n ≡ true
-good-is n h = rw (le-leb 8 n h.0, le-leb n 4096 h.1, eq-eqb (n % 4) 0 h.2) refl
-
-pub partial-good : (bytes : List ℕ) → IsPartial bytes → bad_size_at bytes ≡ None
-partial-good bytes h = by (nat_le 8 (length bytes)) refl
-  where
-    by : (b : Bool) → nat_le 8 (length bytes) ≡ b → (if b && not (is_good (size_of bytes)) then Some (size_of bytes) else None) ≡ None
-    by true e =
-        ap (λ (g : Bool). (if not g then Some (size_of bytes) else None)) (good-is (size_of bytes) (h (leb-true 8 (length bytes) e)).0)
-    by false e = refl
-
 -- the way through a piece
 
 -- what was made so far, and that what is left gives the rest
@@ -103,75 +68,70 @@ pub record OnWay (q : ℕ) (first now : List ℕ) (a b : PeerPass) : Type 0 wher
 pub way-begins : (q : ℕ) (bytes : List ℕ) (a : PeerPass) → OnWay q bytes bytes a a
 way-begins q bytes a = record { made = []; entries = sym (append-nil (entries_by a.seat)); steps = refl; behind_same = refl }
 
-first-message : (q : ℕ) (old new : Assembly) (piece : List ℕ) (used : ℕ) → Feeds old piece (fed.Whole used) new
-    → IsFirst q (begun old ++ piece) piece (peers.Message (id_of (bytes_of new)) (opcode_of (bytes_of new)) (body_of (bytes_of new))) used (begun new)
-first-message q old new piece used f =
-    read_message q old new piece used (id_of (bytes_of new)) (opcode_of (bytes_of new)) (body_of (bytes_of new)) f refl refl refl
-
-pub way-goes : (q : ℕ) (first : List ℕ) (a b c : PeerPass) (old new : Assembly) (piece more : List ℕ) (used : ℕ)
-    → b.peer ≡ q → OnWay q first (begun old ++ piece) a b → Feeds old piece (fed.Whole used) new → more ≡ drop used piece
-    → entries_by c.seat ≡ entries_by b.seat ++ message_entry b.peer (bytes_of new) ∷ [] → OnWay q first (begun new ++ more) a c
-way-goes q first a b c old new piece more used peer w f is made =
-    let i = first-message q old new piece used f in
-    let e : Entry = message_entry q (bytes_of new) in
-    let now : begun new ++ more ≡ drop used piece = ap (λ (l : List ℕ). l ++ more) i.none_left ∙ is in record {
+pub way-goes : (q : ℕ) (first : List ℕ) (a b c : PeerPass) (waiting left piece more body : List ℕ) (id opcode used : ℕ)
+    → b.peer ≡ q → OnWay q first (waiting ++ piece) a b → IsFirst id opcode body (waiting ++ piece) piece used left
+    → more ≡ drop used piece → entries_by c.seat ≡ entries_by b.seat ++ entries.Message b.peer id opcode body ∷ []
+    → OnWay q first (left ++ more) a c
+way-goes q first a b c waiting left piece more body id opcode used peer w i is made =
+    let e : Entry = entries.Message q id opcode body in
+    let now : left ++ more ≡ drop used piece = ap (λ (l : List ℕ). l ++ more) i.none_left ∙ is in record {
       made = w.made ++ e ∷ [];
-      entries = made ∙ ap (λ n. entries_by b.seat ++ message_entry n (bytes_of new) ∷ []) peer
+      entries = made ∙ ap (λ n. entries_by b.seat ++ entries.Message n id opcode body ∷ []) peer
           ∙ ap (λ (es : List Entry). es ++ e ∷ []) w.entries ∙ append_assoc (entries_by a.seat) w.made (e ∷ []);
-      steps = w.steps ∙ ap (λ (es : List Entry). w.made ++ es) i.steps
+      steps = w.steps ∙ ap (λ (es : List Entry). w.made ++ es) (i.steps q)
           ∙ ap (λ (bytes : List ℕ). w.made ++ e ∷ steps_in q bytes) (sym now)
-          ∙ sym (append_assoc w.made (e ∷ []) (steps_in q (begun new ++ more)));
+          ∙ sym (append_assoc w.made (e ∷ []) (steps_in q (left ++ more)));
       behind_same = w.behind_same ∙ i.behind_same ∙ ap (λ (bytes : List ℕ). behind bytes) (sym now);
     }
 
-pub way-stops : (limits : Limits) (q : ℕ) (first : List ℕ) (a b c : PeerPass) (old new : Assembly) (piece : List ℕ) (used : ℕ) (end : ReadEnd)
-    → b.peer ≡ q → OnWay q first (begun old ++ piece) a b → Feeds old piece (fed.Whole used) new
-    → MadeFirst limits b c (message_entry b.peer (bytes_of new) ∷ []) end → MadeFirst limits a c (steps_in q first) end
-way-stops limits q first a b c old new piece used end peer w f m =
-    let i = first-message q old new piece used f in
-    first-of limits a b c w.made (message_entry q (bytes_of new) ∷ []) (steps_in q (drop used piece)) (steps_in q first) end w.entries
-    (w.steps ∙ ap (λ (es : List Entry). w.made ++ es) i.steps)
-    (subst (λ n. MadeFirst limits b c (message_entry n (bytes_of new) ∷ []) end) peer m)
+pub way-stops : (limits : Limits) (q : ℕ) (first : List ℕ) (a b c : PeerPass) (waiting left piece body : List ℕ)
+    (id opcode used : ℕ) (end : ReadEnd) → b.peer ≡ q → OnWay q first (waiting ++ piece) a b
+    → IsFirst id opcode body (waiting ++ piece) piece used left
+    → MadeFirst limits b c (entries.Message b.peer id opcode body ∷ []) end → MadeFirst limits a c (steps_in q first) end
+way-stops limits q first a b c waiting left piece body id opcode used end peer w i m =
+    first-of limits a b c w.made (entries.Message q id opcode body ∷ []) (steps_in q (drop used piece)) (steps_in q first) end
+    w.entries (w.steps ∙ ap (λ (es : List Entry). w.made ++ es) (i.steps q))
+    (subst (λ n. MadeFirst limits b c (entries.Message n id opcode body ∷ []) end) peer m)
 
 pub record IsThrough (q : ℕ) (first waiting : List ℕ) (a b : PeerPass) : Type 0 where
   pub made : entries_by b.seat ≡ entries_by a.seat ++ steps_in q first
   pub waiting_is : waiting ≡ behind first
   pub good : bad_size_at waiting ≡ None
 
-pub way-ends : (q : ℕ) (first : List ℕ) (a b : PeerPass) (old new : Assembly) (piece : List ℕ)
-    → OnWay q first (begun old ++ piece) a b → Feeds old piece fed.Need new → IsThrough q first (begun new) a b
-way-ends q first a b old new piece w f =
-    let i : IsUnfinished q (begun old ++ piece) (begun new) = read_nothing q old new piece f in record {
-      made = w.entries ∙ ap (λ (es : List Entry). entries_by a.seat ++ es)
-          (sym (w.steps ∙ ap (λ (es : List Entry). w.made ++ es) i.steps ∙ append-nil w.made));
-      waiting_is = i.all_left ∙ sym (w.behind_same ∙ i.all_behind);
-      good = ap bad_size_at i.all_left ∙ partial-good (begun old ++ piece) f.0;
-    }
+pub way-ends : (q : ℕ) (first : List ℕ) (a b : PeerPass) (bytes left : List ℕ)
+    → OnWay q first bytes a b → IsUnfinished bytes left → IsThrough q first left a b
+way-ends q first a b bytes left w i = record {
+  made = w.entries ∙ ap (λ (es : List Entry). entries_by a.seat ++ es)
+      (sym (w.steps ∙ ap (λ (es : List Entry). w.made ++ es) (i.steps q) ∙ append-nil w.made));
+  waiting_is = i.all_left ∙ sym (w.behind_same ∙ i.all_behind);
+  good = ap bad_size_at i.all_left ∙ i.good;
+}
 
-last-bad : (q n : ℕ) (old new : Assembly) (piece : List ℕ) → Feeds old piece (fed.BadSize n) new
-    → steps_in q (begun old ++ piece) ≡ entries.BadSize q (bytes_of new) ∷ []
-last-bad q n old new piece f =
-    let l = read_bad_size q n old new piece (bytes_of new) f refl in
-    l.steps ∙ ap (λ (h : List ℕ). entries.BadSize q h ∷ []) (let e : peers.BadSize (bytes_of new) ≡ peers.BadSize l.head = l.is in
-    let same : bytes_of new ≡ l.head = cc in sym same)
-
-pub way-bad : (q n : ℕ) (first : List ℕ) (a b c : PeerPass) (old new : Assembly) (piece : List ℕ)
-    → b.peer ≡ q → OnWay q first (begun old ++ piece) a b → Feeds old piece (fed.BadSize n) new
-    → entries_by c.seat ≡ entries_by b.seat ++ entries.BadSize b.peer (bytes_of new) ∷ []
+pub way-bad : (q : ℕ) (first : List ℕ) (a b c : PeerPass) (bytes head : List ℕ)
+    → b.peer ≡ q → OnWay q first bytes a b → IsLast head bytes
+    → entries_by c.seat ≡ entries_by b.seat ++ entries.BadSize b.peer head ∷ []
     → entries_by c.seat ≡ entries_by a.seat ++ steps_in q first
-way-bad q n first a b c old new piece peer w f made =
-    let e : Entry = entries.BadSize q (bytes_of new) in
-    made ∙ ap (λ n. entries_by b.seat ++ entries.BadSize n (bytes_of new) ∷ []) peer ∙ ap (λ (es : List Entry). es ++ e ∷ []) w.entries ∙ append_assoc (entries_by a.seat) w.made (e ∷ [])
+way-bad q first a b c bytes head peer w l made =
+    let e : Entry = entries.BadSize q head in
+    made ∙ ap (λ n. entries_by b.seat ++ entries.BadSize n head ∷ []) peer ∙ ap (λ (es : List Entry). es ++ e ∷ []) w.entries
+    ∙ append_assoc (entries_by a.seat) w.made (e ∷ [])
     ∙ ap (λ (es : List Entry). entries_by a.seat ++ es)
-    (sym (w.steps ∙ ap (λ (es : List Entry). w.made ++ es) (last-bad q n old new piece f)))
+    (sym (w.steps ∙ ap (λ (es : List Entry). w.made ++ es) (l.steps q)))
 
-pub way-bad-stops : (limits : Limits) (q n : ℕ) (first : List ℕ) (a b c : PeerPass) (old new : Assembly) (piece : List ℕ) (end : ReadEnd)
-    → b.peer ≡ q → OnWay q first (begun old ++ piece) a b → Feeds old piece (fed.BadSize n) new
-    → MadeFirst limits b c (entries.BadSize b.peer (bytes_of new) ∷ []) end → MadeFirst limits a c (steps_in q first) end
-way-bad-stops limits q n first a b c old new piece end peer w f m =
-    first-of limits a b c w.made (entries.BadSize q (bytes_of new) ∷ []) [] (steps_in q first) end w.entries
-    (w.steps ∙ ap (λ (es : List Entry). w.made ++ es) (last-bad q n old new piece f))
-    (subst (λ n. MadeFirst limits b c (entries.BadSize n (bytes_of new) ∷ []) end) peer m)
+pub way-bad-stops : (limits : Limits) (q : ℕ) (first : List ℕ) (a b c : PeerPass) (bytes head : List ℕ) (end : ReadEnd)
+    → b.peer ≡ q → OnWay q first bytes a b → IsLast head bytes
+    → MadeFirst limits b c (entries.BadSize b.peer head ∷ []) end → MadeFirst limits a c (steps_in q first) end
+way-bad-stops limits q first a b c bytes head end peer w l m =
+    first-of limits a b c w.made (entries.BadSize q head ∷ []) [] (steps_in q first) end w.entries
+    (w.steps ∙ ap (λ (es : List Entry). w.made ++ es) (l.steps q))
+    (subst (λ n. MadeFirst limits b c (entries.BadSize n head ∷ []) end) peer m)
+
+-- a message that was held is the first of the bytes by its parts
+pub held-first : {id opcode used : ℕ} {body bytes piece : List ℕ} (new : Assembly) → id ≡ id_of (bytes_of new)
+    → opcode ≡ opcode_of (bytes_of new) → body ≡ body_of (bytes_of new)
+    → IsFirst (id_of (bytes_of new)) (opcode_of (bytes_of new)) (body_of (bytes_of new)) bytes piece used (begun new)
+    → IsFirst id opcode body bytes piece used (begun new)
+held-first new i o b f = rw (i, o, b) f
 
 -- a frame's tokens
 

@@ -1,10 +1,10 @@
 -- The steps that the frames of a peer's link give
 use Rattle.std.specs.Prelude.{◌≡◌, ℕ, List, [], ◌∷◌, ◌++◌, map, Option, Some, None}
 use Rattle.desc_frame.specs.Frames.{Frame, IsFrame, spelling}
-use Rattle.wl_wire.specs.Messages.{joined, bad_size_at}
+use Rattle.wl_wire.specs.Messages.{joined, bad_size_at, behind}
 use Rattle.broker_model.specs.declared.journal.Entry.{Entry}
 use Rattle.broker_model.specs.declared.journal.Entry.TheVariants as entries
-use Rattle.session_play.specs.Steps.{steps_in, behind}
+use Rattle.step_cutter.specs.Steps.{steps_in}
 
 -- the tokens of a frame, where it has any
 abbrev pub token_steps : ℕ → List ℕ → List Entry

@@ -2,14 +2,13 @@
 use Rattle.std.specs.Prelude.{◌≡◌, ◌⊎◌, ℕ, List, ◌++◌, Option, Some, None, Result, Ok, Err}
 use Rattle.relay_model.specs.declared.act.EndCause.{EndCause}
 use Rattle.seat_steps.specs.declared.limits.Limits.{Limits}
-use Rattle.wl_wire.specs.Messages.{bad_size_at}
+use Rattle.wl_wire.specs.Messages.{bad_size_at, behind}
 use Rattle.broker_model.specs.declared.journal.Entry.{Entry}
 use Rattle.broker_core.specs.Stands.{end_of}
 use Rattle.desc_frame.specs.declared.Got.{Got}
 use Rattle.desc_frame.specs.declared.Got.TheVariants as got
 use Rattle.desc_frame.specs.Frames.{Frame, IsFrame, spelling}
 use Rattle.desc_frame.specs.Answers.{Stops}
-use Rattle.session_play.specs.Steps.{behind}
 use Rattle.hub_lock.specs.Passes.{PeerPass}
 use Rattle.peer_link.specs.declared.ends.ReadEnd.{ReadEnd}
 use Rattle.peer_link.specs.declared.ends.ReadEnd.TheVariants as ends

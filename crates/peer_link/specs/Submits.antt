@@ -4,11 +4,10 @@ use Rattle.relay_model.specs.declared.act.EndCause.TheVariants.{Bad}
 use Rattle.seat_steps.specs.declared.limits.Limits.{Limits}
 use Rattle.seat_steps.specs.declared.step.PeerStep.{PeerStep}
 use Rattle.seat_steps.specs.declared.step.PeerStep.TheVariants as peers
-use Rattle.wl_wire.specs.Messages.{bad_size_at}
+use Rattle.wl_wire.specs.Messages.{bad_size_at, behind}
 use Rattle.broker_model.specs.declared.journal.Entry.{Entry}
 use Rattle.broker_core.specs.Broker.{full_in}
 use Rattle.broker_core.specs.Stands.{end_of}
-use Rattle.session_play.specs.Steps.{behind}
 use Rattle.hub_lock.specs.Passes.{PeerPass}
 use Rattle.peer_link.specs.declared.ends.ReadEnd.{ReadEnd}
 use Rattle.peer_link.specs.declared.ends.ReadEnd.TheVariants as ends

@@ -18,7 +18,7 @@ use relay_model::EndCause;
 use seat_steps::{PeerStep, TokenList};
 use std::alloc::Global;
 use std::sync::Wait;
-use wl_wire::Assembler;
+use step_cutter::Cutter;
 
 // The tokens of a frame, where it has any.
 fn submit_tokens<R: Wait, G: Gate>(
@@ -53,22 +53,22 @@ fn submit_frame<R: Wait, G: Gate>(
     hub: &Hub,
     pass: &mut ReaderPass,
     gate: &G,
-    assembler: &mut Assembler,
+    cutter: &mut Cutter,
     bytes: &[u8],
     tokens: &[u32],
 ) -> Result<Ahead, ReadEnd>
     requires own { IsOf hub.now pass.old.seat }
     requires few { length tokens.now ≤ 256 }
-    requires good { bad_size_at (begun assembler.old) ≡ None }
+    requires good { bad_size_at (begun cutter.old) ≡ None }
     ensures pass { pass.new ≡ pass_having_seen pass.old pass.new.seat.seen }
     ensures saw { SawMore hub.now.limits pass.old.seat.seen pass.new.seat.seen }
     ensures made { Submits hub.now.limits pass.old pass.new
-        (frame_steps pass.old.peer (begun assembler.old) (frame bytes.now tokens.now)) result }
+        (frame_steps pass.old.peer (begun cutter.old) (frame bytes.now tokens.now)) result }
     ensures ahead { IfOk result (LeavesOff hub.now.limits pass.new
-        (begun assembler.old ++ bytes.now) (begun assembler.new)) }
+        (begun cutter.old ++ bytes.now) (begun cutter.new)) }
 {
     submit_tokens(rt, alloc, hub, pass, gate, tokens)?;
-    submit_messages(rt, alloc, hub, pass, gate, assembler, bytes)
+    submit_messages(rt, alloc, hub, pass, gate, cutter, bytes)
 }
 
 /// Submits the steps of a frame, and says how the link ends where it ends with it.
@@ -78,20 +78,20 @@ pub(crate) fn play_frame<R: Wait, G: Gate>(
     hub: &Hub,
     pass: &mut ReaderPass,
     gate: &G,
-    assembler: &mut Assembler,
+    cutter: &mut Cutter,
     bytes: &[u8],
     tokens: &[u32],
 ) -> Result<(), ReadEnd>
     requires own { IsOf hub.now pass.old.seat }
     requires few { length tokens.now ≤ 256 }
-    requires good { bad_size_at (begun assembler.old) ≡ None }
+    requires good { bad_size_at (begun cutter.old) ≡ None }
     ensures pass { pass.new ≡ pass_having_seen pass.old pass.new.seat.seen }
     ensures saw { SawMore hub.now.limits pass.old.seat.seen pass.new.seat.seen }
-    ensures makes { MakesFrame hub.now.limits pass.old pass.new (begun assembler.old)
-        (begun assembler.new) (frame bytes.now tokens.now) result }
+    ensures makes { MakesFrame hub.now.limits pass.old pass.new (begun cutter.old)
+        (begun cutter.new) (frame bytes.now tokens.now) result }
     ensures unread { ¬ (result ≡ Err ReadEnd.ReadFault) }
 {
-    match submit_frame(rt, alloc, hub, pass, gate, assembler, bytes, tokens) {
+    match submit_frame(rt, alloc, hub, pass, gate, cutter, bytes, tokens) {
         Ok(Ahead::More) => Ok(()),
         Ok(Ahead::Nothing) => Err(ReadEnd::Ended(EndCause::Bad)),
         Err(end) => Err(end),

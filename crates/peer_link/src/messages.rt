@@ -1,9 +1,10 @@
 //! The messages that the bytes of a link complete.
 ghost use Rattle.std.specs.Prelude.{◌≡◌, ◌++◌, ◌∷◌, [], None, IfOk, OnOk};
-ghost use Rattle.wl_wire.specs.Messages.{bad_size_at};
-ghost use Rattle.wl_wire.specs.Streams.{begun, bytes_of, HasMessage, HasBadSize};
+ghost use Rattle.wl_wire.specs.Messages.{bad_size_at, IsBad};
+ghost use Rattle.wl_wire.specs.Streams.{begun};
+ghost use Rattle.seat_steps.specs.Ranges.{IsBody};
 ghost use Rattle.broker_model.specs.declared.journal.Entry.TheVariants as entries;
-ghost use Rattle.session_play.specs.Steps.{message_entry, steps_in};
+ghost use Rattle.step_cutter.specs.Steps.{steps_in};
 ghost use Rattle.hub_lock.specs.Passes.{IsOf};
 ghost use Rattle.hub_lock.specs.Calls.{pass_having_seen};
 ghost use Rattle.peer_link.specs.Made.{SawMore};
@@ -15,7 +16,8 @@ use hub_lock::{Gate, Hub, ReaderPass};
 use seat_steps::PeerStep;
 use std::alloc::Global;
 use std::sync::Wait;
-use wl_wire::{Assembler, Bytes, Fed};
+use step_cutter::{Cut, Cutter};
+use wl_wire::{Bytes, Raw};
 
 /// Whether a peer's next bytes may give steps.
 #[derive(Clone, Copy, Debug, PartialEq, Eq)]
@@ -26,23 +28,23 @@ pub(crate) enum Ahead {
     Nothing,
 }
 
-// The message that is whole.
+// A whole message. Its body is copied once, into the step.
 fn submit_message<R: Wait, G: Gate>(
     rt: &R,
     alloc: Global,
     hub: &Hub,
     pass: &mut ReaderPass,
     gate: &G,
-    assembler: &Assembler,
+    message: &Raw<'_>,
 ) -> Result<(), ReadEnd>
     requires own { IsOf hub.now pass.old.seat }
-    requires whole { HasMessage assembler.now }
+    requires body { IsBody message.now.body.now }
     ensures pass { pass.new ≡ pass_having_seen pass.old pass.new.seat.seen }
     ensures saw { SawMore hub.now.limits pass.old.seat.seen pass.new.seat.seen }
     ensures made { Submits hub.now.limits pass.old pass.new
-        (message_entry pass.old.peer (bytes_of assembler.now) ∷ []) result }
+        (entries.Message pass.old.peer message.now.id message.now.opcode message.now.body.now
+        ∷ []) result }
 {
-    let message = assembler.message();
     let Ok(body) = Bytes::from_slice(alloc, message.body) else {
         return Err(ReadEnd::NoMemory);
     };
@@ -60,20 +62,17 @@ fn submit_bad_size<R: Wait, G: Gate>(
     hub: &Hub,
     pass: &mut ReaderPass,
     gate: &G,
-    assembler: &Assembler,
+    head: [u8; 8],
 ) -> Result<(), ReadEnd>
     requires own { IsOf hub.now pass.old.seat }
-    requires bad { HasBadSize assembler.now }
+    requires bad { IsBad head }
     ensures pass { pass.new ≡ pass_having_seen pass.old pass.new.seat.seen }
     ensures saw { SawMore hub.now.limits pass.old.seat.seen pass.new.seat.seen }
     ensures made { Submits hub.now.limits pass.old pass.new
-        (entries.BadSize pass.old.peer (bytes_of assembler.now) ∷ []) result }
+        (entries.BadSize pass.old.peer head ∷ []) result }
     ensures ended { OnOk result (HasEndedBad hub.now.limits pass.new) }
 {
-    let step = PeerStep::BadSize {
-        head: assembler.head(),
-    };
-    submit_step(rt, hub, pass, gate, &step)
+    submit_step(rt, hub, pass, gate, &PeerStep::BadSize { head })
 }
 
 /// Submits each message, and the bad size, that the piece completes behind the bytes that wait for
@@ -84,28 +83,33 @@ pub(crate) fn submit_messages<R: Wait, G: Gate>(
     hub: &Hub,
     pass: &mut ReaderPass,
     gate: &G,
-    assembler: &mut Assembler,
+    cutter: &mut Cutter,
     piece: &[u8],
 ) -> Result<Ahead, ReadEnd>
     requires own { IsOf hub.now pass.old.seat }
     ensures pass { pass.new ≡ pass_having_seen pass.old pass.new.seat.seen }
     ensures saw { SawMore hub.now.limits pass.old.seat.seen pass.new.seat.seen }
     ensures made { Submits hub.now.limits pass.old pass.new
-        (steps_in pass.old.peer (begun assembler.old ++ piece.now)) result }
+        (steps_in pass.old.peer (begun cutter.old ++ piece.now)) result }
     ensures ahead { IfOk result (LeavesOff hub.now.limits pass.new
-        (begun assembler.old ++ piece.now) (begun assembler.new)) }
+        (begun cutter.old ++ piece.now) (begun cutter.new)) }
 {
     let mut rest = piece;
     'messages: loop {
-        match assembler.feed(rest) {
-            Fed::Whole(used) => {
-                submit_message(rt, alloc, hub, pass, gate, assembler)?;
+        match cutter.next(rest) {
+            Cut::Message(message, used) => {
+                submit_message(rt, alloc, hub, pass, gate, &message)?;
                 let (_, more) = rest.split_at(used);
                 rest = more;
             }
-            Fed::Need => return Ok(Ahead::More),
-            Fed::BadSize(_) => {
-                submit_bad_size(rt, hub, pass, gate, assembler)?;
+            Cut::Held(used) => {
+                submit_message(rt, alloc, hub, pass, gate, &cutter.held())?;
+                let (_, more) = rest.split_at(used);
+                rest = more;
+            }
+            Cut::Nothing => return Ok(Ahead::More),
+            Cut::BadSize(head) => {
+                submit_bad_size(rt, hub, pass, gate, head)?;
                 return Ok(Ahead::Nothing);
             }
         }

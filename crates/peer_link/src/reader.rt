@@ -19,8 +19,8 @@ use hub_lock::{Gate, Hub, ReaderPass};
 use seat_steps::PeerStep;
 use std::alloc::Global;
 use std::sync::Wait;
+use step_cutter::Cutter;
 use wio_core::{NoMemory, Source};
-use wl_wire::Assembler;
 
 // Reads the next frame, and submits its steps.
 fn read_frame<R: Wait, S: Source, G: Gate>(
@@ -30,19 +30,19 @@ fn read_frame<R: Wait, S: Source, G: Gate>(
     pass: &mut ReaderPass,
     source: &mut S,
     gate: &G,
-    assembler: &mut Assembler,
+    cutter: &mut Cutter,
     bytes: &mut [u8; 4096],
     tokens: &mut [u32; 256],
 ) -> Result<(), ReadEnd>
     requires own { IsOf hub.now pass.old.seat }
-    requires good { bad_size_at (begun assembler.old) ≡ None }
+    requires good { bad_size_at (begun cutter.old) ≡ None }
     ensures pass { pass.new ≡ pass_having_seen pass.old pass.new.seat.seen }
     ensures saw { SawMore hub.now.limits pass.old.seat.seen pass.new.seat.seen }
     ensures reads { (taken : List ℕ)
         × TookFrom (S.given source.old) (S.given source.new)
         (S.left source.old) (S.left source.new) taken
-        × ReadsFrame hub.now.limits pass.old pass.new (begun assembler.old)
-        (begun assembler.new) taken (S.left source.new) result }
+        × ReadsFrame hub.now.limits pass.old pass.new (begun cutter.old)
+        (begun cutter.new) taken (S.left source.new) result }
     ensures given_quiet { StaysQuiet (S.given source.old) (S.given source.new) }
     ensures left_quiet { StaysQuiet (S.left source.old) (S.left source.new) }
     ensures never_falls { S.fault_count source.old ≤ S.fault_count source.new }
@@ -53,7 +53,7 @@ fn read_frame<R: Wait, S: Source, G: Gate>(
     match reader.next(source, bytes, tokens) {
         Got::Bytes(n, t) => {
             let (bytes, tokens) = (&bytes[..n], &tokens[..t]);
-            play_frame(rt, alloc, hub, pass, gate, assembler, bytes, tokens)
+            play_frame(rt, alloc, hub, pass, gate, cutter, bytes, tokens)
         }
         Got::End => Err(ReadEnd::Closed),
         Got::Torn(n) => Err(ReadEnd::Torn(n)),
@@ -85,8 +85,8 @@ fn read_frames<R: Wait, S: Source, G: Gate>(
     ensures cause { result ≡ ReadEnd.ReadFault
         → Rose (S.fault_count source.old) (S.fault_count source.new) }
 {
-    let mut assembler = match Assembler::new(alloc) {
-        Ok(assembler) => assembler,
+    let mut cutter = match Cutter::new(alloc) {
+        Ok(cutter) => cutter,
         Err(NoMemory) => return ReadEnd::NoMemory,
     };
     let mut bytes = [0; 4096];
@@ -99,7 +99,7 @@ fn read_frames<R: Wait, S: Source, G: Gate>(
             pass,
             source,
             gate,
-            &mut assembler,
+            &mut cutter,
             &mut bytes,
             &mut tokens,
         ) {

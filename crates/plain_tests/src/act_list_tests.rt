@@ -81,7 +81,7 @@ fn what_follows_the_beginning(rt: HostRuntime) -> Result<(), Fail> {
     Ok(())
 }
 
-const OTHER_INPUTS: [(&str, &str, Status); 16] = [
+const OTHER_INPUTS: [(&str, &str, Status); 18] = [
     // a field is entered; commits are counted while it isn't; a method comes late
     (
         "peer\nsurface 1\nfield 1\nfocus 2\nend\n",
@@ -129,6 +129,17 @@ const OTHER_INPUTS: [(&str, &str, Status); 16] = [
     (
         "peer\nmethod 1\nkey 5 30 1\ngrab 2\nkey 6 30 0\nkey 7 31 1\nkey 8 31 0\nend\n",
         "3 0 pass 5 30 1\n5 0 pass 6 30 0\n6 4 key 6 7 31 1\n7 4 key 7 8 31 0\nend 7\n",
+        Status::Ok,
+    ),
+    // a method's own keys pass by its grab, another peer's go to it; so do their modifiers
+    (
+        "peer\nmethod 1\ngrab 2\nvboard 1\nvkeymap 4 1 9 100\nvkey 4 5 30 1\nkey 6 31 1\npeer\nvboard 8\nvkeymap 9 1 9 100\nvkey 9 7 32 1\nend\n",
+        "6 0 pass 5 30 1\n7 3 key 7 6 31 1\n11 3 key 11 7 32 1\nend 11\n",
+        Status::Ok,
+    ),
+    (
+        "peer\nmethod 1\ngrab 2\nvboard 1\nvmods 4 1 2 3 4\nvkeymap 4 1 9 100\nvmods 4 1 2 3 4\ndrop 4\nend\n",
+        "7 0 vmods 1 2 3 4\n8 1 delete_id 4\nend 8\n",
         Status::Ok,
     ),
     (

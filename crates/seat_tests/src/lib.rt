@@ -15,6 +15,8 @@ mod reading_tests;
 #[cfg(test)]
 mod relay_core_tests;
 #[cfg(test)]
+mod relay_seat_tests;
+#[cfg(test)]
 mod seat_objects_tests;
 #[cfg(test)]
 mod seat_steps_tests;

@@ -8,7 +8,7 @@ use std::test::Fail;
 
 // Each kind of line, and what it says. The numbers are those of worked sessions, and the ends of
 // their ranges.
-static ACTS: [(&str, &str); 28] = [
+static ACTS: [(&str, &str); 32] = [
     ("peer", "Act(Peer)"),
     ("gone 1", "Act(Gone { peer: 1, cause: Gone })"),
     ("surface 4294967295", "Act(Surface { peer: 4294967295 })"),
@@ -64,6 +64,19 @@ static ACTS: [(&str, &str); 28] = [
     (
         "keymap 1 9 4096",
         "Act(Keymap(Keymap { format: 1, token: 9, size: 4096 }))",
+    ),
+    ("vboard 1", "Act(VBoard { peer: 1 })"),
+    (
+        "vkeymap 4 1 9 100",
+        "Act(VKeymap { board: 4, keymap: Keymap { format: 1, token: 9, size: 100 } })",
+    ),
+    (
+        "vkey 4 5 30 1",
+        "Act(VKey { board: 4, time: 5, key: 30, state: 1 })",
+    ),
+    (
+        "vmods 4 1 2 3 4",
+        "Act(VMods { board: 4, mods: Mods { depressed: 1, latched: 2, locked: 3, group: 4 } })",
     ),
     (
         "repeat 2147483647 -2147483648",

@@ -4,7 +4,7 @@ ghost use Rattle.seat_objects.specs.Fits.{FitsMessage};
 
 use crate::equal::equal;
 use relay_core::{Post, Relay};
-use relay_model::{Act, Said, Text, Told};
+use relay_model::{Act, Keymap, Said, Text, Told};
 use std::process::Abort;
 use std::test::Fail;
 use wio_core::NoMemory;
@@ -111,5 +111,34 @@ fn one_string_comes_to_its_field(rt: HostRuntime) -> Result<(), Fail> {
     assert!(rt; post.told == 4 && !relay.has_popup(2));
     relay_string(&rt, &mut relay, &mut post, Text::of(rt.alloc(), "a")?)?;
     equal(&rt, (post.told, relay.acts()), (6, 10));
+    Ok(())
+}
+
+#[test]
+fn a_board_has_a_keymap_once_it_was_given_one(rt: HostRuntime) -> Result<(), Fail> {
+    let mut relay = Relay::new(rt.alloc())?;
+    let mut post = Script {
+        told: 0,
+        failed: false,
+    };
+    take(&rt, &mut relay, &Act::Peer, &mut post)?;
+    take(&rt, &mut relay, &Act::VBoard { peer: 1 }, &mut post)?;
+    let before = relay.has_keymap(2);
+    let keymap = Keymap {
+        format: 1,
+        token: 9,
+        size: 100,
+    };
+    take(
+        &rt,
+        &mut relay,
+        &Act::VKeymap { board: 2, keymap },
+        &mut post,
+    )?;
+    equal(
+        &rt,
+        (before, relay.has_keymap(2), relay.has_keymap(1)),
+        (false, true, false),
+    );
     Ok(())
 }

@@ -8,7 +8,7 @@ use Rattle.seat_steps.specs.declared.stamp.Stamp.{Stamp}
 use Rattle.session_text.specs.declared.line.Line.TheVariants.{Header, End}
 use Rattle.broker_model.specs.declared.journal.Entry.{Entry}
 use Rattle.broker_model.specs.Recorded.{entry_at}
-use Rattle.session_play.specs.Recorded.{steps_text, text_line, recorded, entry_lines}
+use Rattle.serve_record.specs.Recorded.{steps_text, text_line, recorded, entry_lines}
 use Rattle.serve_record.specs.Lines.{lines_text, text_at, text_without, stamped_text}
 
 -- the newest has the number of how many there are, and any other is among the older

@@ -11,7 +11,7 @@ use Rattle.session_text.specs.declared.line.SessionLine.{SessionLine}
 use Rattle.session_text.specs.Steps.{step_line}
 use Rattle.broker_model.specs.declared.journal.Entry.{Entry}
 use Rattle.broker_model.specs.Recorded.{entry_at}
-use Rattle.session_play.specs.Recorded.{text_line, steps_text, entry_lines}
+use Rattle.serve_record.specs.Recorded.{text_line, steps_text, entry_lines}
 
 -- the line of a step, if there is one
 abbrev pub lines_of : Option Step → List SessionLine

@@ -4,7 +4,7 @@ ghost use Rattle.std.specs.List.{flat_map};
 ghost use Rattle.broker_model.specs.declared.journal.Entry.TheVariants as entries;
 ghost use Rattle.seat_steps.specs.Ranges.{IsStep};
 ghost use Rattle.session_text.specs.Steps.{step_line};
-ghost use Rattle.session_play.specs.Recorded.{entry_lines};
+ghost use Rattle.serve_record.specs.Recorded.{entry_lines};
 ghost use Rattle.serve_record.specs.Lines.{lines_of, FitsIfAny, stamped_text};
 
 use crate::fits::{is_bad_head, is_body, is_shell_step, is_within};

@@ -5,20 +5,20 @@ ghost use Rattle.wl_wire.specs.Messages.{IsBad};
 ghost use Rattle.seat_steps.specs.Ranges.{IsBody, IsShellStep, IsWithin};
 
 use seat_steps::ShellStep;
+use wl_wire::{Front, HEADER_SIZE, MESSAGE_LIMIT, front_of};
 
 /// The body of a message: at most 4,088 bytes, and a multiple of 4.
 pub(crate) fn is_body(body: &[u8]) -> bool
     ensures { result ≡ true → IsBody body.now }
 {
-    body.len() <= 4088 && body.len() % 4 == 0
+    body.len() <= MESSAGE_LIMIT - HEADER_SIZE && body.len() % 4 == 0
 }
 
 /// The header of a message of a bad size.
 pub(crate) fn is_bad_head(head: &[u8; 8]) -> bool
     ensures { result ≡ true → IsBad head.now }
 {
-    let size = head[6] as u32 + 256 * head[7] as u32;
-    size < 8 || size > 4096 || size % 4 != 0
+    matches!(front_of(head), Front::BadSize)
 }
 
 /// From 1 to so many.

@@ -3,6 +3,8 @@
 
 mod entry_lines;
 mod fits;
+mod laws;
 mod record;
 
+pub use laws::recorded_session;
 pub use record::{RecordStop, write_record};

@@ -3,7 +3,7 @@ ghost use Rattle.std.specs.Prelude.{◌≡◌, ◌≤◌, ◌++◌, length, Err,
 ghost use Rattle.std.specs.Io.KnownBytes.{Appends};
 ghost use Rattle.wio_core.specs.Io.{Rose};
 ghost use Rattle.session_text.specs.declared.line.Line.TheVariants.{Header};
-ghost use Rattle.session_play.specs.Recorded.{recorded, text_line};
+ghost use Rattle.serve_record.specs.Recorded.{recorded, text_line};
 ghost use Rattle.serve_record.specs.declared.record.RecordStop.TheVariants as stops;
 ghost use Rattle.serve_record.specs.Lines.{text_at, Holds, GainsFront};
 

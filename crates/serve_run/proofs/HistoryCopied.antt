@@ -13,7 +13,7 @@ use Rattle.hub_lock.specs.Histories.{History, broker_of}
 use Rattle.hub_lock.specs.Passes.{HubId, PassSeat, total_steps}
 use Rattle.hub_lock.proofs.JournalOfSteps.{outer-journal, length-entries}
 use Rattle.hub_lock.specs.Calls.{LegalCopy}
-use Rattle.session_play.specs.Recorded.{recorded}
+use Rattle.serve_record.specs.Recorded.{recorded}
 use Rattle.serve_words.specs.Words.{Serving}
 use Rattle.serve_record.specs.Lines.{GainsFront}
 use Rattle.link_jobs.specs.Tags.{Tag}

@@ -6,11 +6,11 @@ use mathlib.Core.Bool.{Bool-set}
 use native.Mathlib.Decide.{ℕ_discrete}
 use Rattle.relay_model.specs.declared.act.EndCause.TheVariants.{Gone}
 use Rattle.seat_steps.specs.declared.limits.Limits.{Limits}
-use Rattle.wl_wire.specs.Messages.{messages, bad_size, bad_size_at}
+use Rattle.wl_wire.specs.Messages.{messages, bad_size, bad_size_at, behind}
 use Rattle.broker_model.specs.declared.journal.Entry.{Entry}
 use Rattle.broker_model.specs.declared.journal.Entry.TheVariants as entries
 use Rattle.desc_frame.specs.Frames.{Frame}
-use Rattle.session_play.specs.Steps.{message_entry, bad_entries, steps_in, behind}
+use Rattle.step_cutter.specs.Steps.{message_entry, bad_entries, steps_in}
 use Rattle.turn_lock.specs.Pairs.{own, HasSeen, IsIn}
 use Rattle.turn_lock.proofs.PairsOfNumbers.{own-here, own-else, own-seen}
 use Rattle.hub_lock.specs.declared.step.OuterStep.{OuterStep}

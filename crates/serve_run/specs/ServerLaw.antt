@@ -7,7 +7,7 @@ use Rattle.broker_model.specs.declared.journal.Entry.{Entry}
 use Rattle.broker_model.specs.declared.journal.Entry.TheVariants as entries
 use Rattle.hub_lock.specs.Histories.{History, broker_of}
 use Rattle.hub_lock.specs.Lawful.{IsLawful}
-use Rattle.session_play.specs.Recorded.{recorded}
+use Rattle.serve_record.specs.Recorded.{recorded}
 use Rattle.link_nets.specs.declared.door.Door.{Door}
 use Rattle.link_jobs.specs.Tags.{Tag, Report}
 use Rattle.serve_words.specs.Words.{Serving}

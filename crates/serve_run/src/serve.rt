@@ -12,7 +12,7 @@ ghost use Rattle.serve_words.specs.Asked.{asked as asked'};
 ghost use Rattle.serve_run.specs.Started.{IsRootOf, LinksStarted};
 ghost use Rattle.serve_run.specs.ServerLaw.{ServerLaw, IsWritten, sides};
 ghost use Rattle.serve_run.specs.Statuses.{status_by};
-ghost use Rattle.session_play.specs.Recorded.{recorded};
+ghost use Rattle.serve_record.specs.Recorded.{recorded};
 ghost use Rattle.turn_lock.specs.Sights.{fresh_seat};
 
 use crate::accept::accept_all;

@@ -62,6 +62,23 @@ fn take_reader_back<R: Wait>(rt: &R, hub: &Hub, root: &mut HubPass, mut pass: Re
     take_back(hub, root, Pass::Reader(pass));
 }
 
+// Takes back the pass of a writer that doesn't run, and hangs its link up: its reader would go on
+// alone, and nobody would hear of it.
+fn take_writer_back<K: LinkSink>(hub: &Hub, root: &mut HubPass, job: WriterJob<K>)
+    requires root { IsRootOf hub.now root.old }
+    requires own { IsOf hub.now job.pass.seat }
+    ensures back { IsGivenBack hub.now root.old root.new job.pass.seat.number }
+    ensures theirs { HasSeen root.new.seen job.pass.seat.number job.pass.seat.seen }
+{
+    let WriterJob {
+        hub: _,
+        pass,
+        mut sink,
+    } = job;
+    sink.hang_up();
+    take_back(hub, root, Pass::Writer(pass));
+}
+
 // Takes back the pass of a job that wasn't started.
 fn take_job_back<R: Wait, S: Source + Drop, K: LinkSink, G: Gate + Drop>(
     rt: &R,
@@ -76,7 +93,7 @@ fn take_job_back<R: Wait, S: Source + Drop, K: LinkSink, G: Gate + Drop>(
 {
     match job {
         LinkJob::Reader(job) => take_reader_back(rt, hub, root, job.pass),
-        LinkJob::Writer(job) => take_back(hub, root, Pass::Writer(job.pass)),
+        LinkJob::Writer(job) => take_writer_back(hub, root, job),
         LinkJob::Shell(job) => take_back(hub, root, Pass::Shell(job.pass)),
     }
 }

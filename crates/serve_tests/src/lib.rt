@@ -2,6 +2,8 @@
 #![tactic(auto)]
 
 #[cfg(test)]
+mod door_tests;
+#[cfg(test)]
 mod equal;
 #[cfg(test)]
 mod gates;

@@ -1,5 +1,6 @@
-//! A net with one link, whose source ends only once its sink has gained bytes.
-ghost use Rattle.std.specs.Prelude.{◌≡◌, None, true, IfSome};
+//! A net with one link or two. The source of each ends only once its sink has gained bytes, or was
+//! hung up.
+ghost use Rattle.std.specs.Prelude.{◌≡◌, None, true, IfSome, IfOk};
 ghost use Rattle.std.proofs.Props.{props};
 
 use crate::gates::TURNS;
@@ -14,6 +15,7 @@ use wio_core::{Failed, MemSource, Sink, Source};
 #[derive(Drop)]
 pub(crate) struct Shared {
     gained: AtomicU64,
+    hung_up: AtomicU64,
     late: AtomicU64,
 }
 
@@ -21,8 +23,19 @@ impl Shared {
     pub(crate) fn new() -> Shared {
         Shared {
             gained: AtomicU64::new(0),
+            hung_up: AtomicU64::new(0),
             late: AtomicU64::new(0),
         }
+    }
+
+    /// How many bytes the sink gained.
+    pub(crate) fn gained(&self) -> u64 {
+        self.gained.load(Ordering::SeqCst)
+    }
+
+    /// Whether the link was hung up.
+    pub(crate) fn was_hung_up(&self) -> bool {
+        self.hung_up.load(Ordering::SeqCst) > 0
     }
 
     /// Whether the source waited in vain.
@@ -32,7 +45,7 @@ impl Shared {
 
     fn wait(&self) {
         for _ in 0..TURNS {
-            if self.gained.load(Ordering::SeqCst) > 0 {
+            if self.gained() > 0 || self.was_hung_up() {
                 return;
             }
             thread::yield_now();
@@ -41,7 +54,7 @@ impl Shared {
     }
 }
 
-/// Gives bytes, and its end once the sink has gained some.
+/// Gives bytes, and its end once the sink has gained some or was hung up.
 #[derive(Drop)]
 pub(crate) struct LiveSource {
     bytes: MemSource,
@@ -92,33 +105,64 @@ impl Sink for LiveSink {
 }
 
 impl LinkSink for LiveSink {
-    fn hang_up(&mut self) {}
+    fn hang_up(&mut self) {
+        self.shared.hung_up.store(1, Ordering::SeqCst);
+    }
 }
 
-/// A net with one link.
+// Both ways of a link that gives these bytes.
+fn link_of(
+    alloc: Global,
+    bytes: &[u8],
+    shared: &Arc<Shared, Global>,
+) -> Result<(LiveSource, LiveSink), AllocError>
+    ensures { IfOk result (λ l. l.0.bytes.faults ≡ 0) }
+{
+    let source = LiveSource {
+        bytes: MemSource::new(bytes.to_vec(alloc)?, 4096, Vec::new(alloc)),
+        shared: Arc::try_clone(shared)?,
+    };
+    let sink = LiveSink {
+        shared: Arc::try_clone(shared)?,
+    };
+    Ok((source, sink))
+}
+
+/// A net with the link that is accepted next, and the one behind it.
 #[derive(Drop)]
 pub(crate) struct LiveNet {
     link: Option<(LiveSource, LiveSink)>,
+    behind: Option<(LiveSource, LiveSink)>,
     links: Vec<Door>,
     faults: u64,
     ghost whole: { IfSome link (λ l. l.0.bytes.faults ≡ 0) } by { Prim.hlevel props },
+    ghost rest: { IfSome behind (λ l. l.0.bytes.faults ≡ 0) } by { Prim.hlevel props },
 }
 
 impl LiveNet {
+    /// One link.
     pub(crate) fn new(
         alloc: Global,
         bytes: &[u8],
         shared: &Arc<Shared, Global>,
     ) -> Result<LiveNet, AllocError> {
-        let source = LiveSource {
-            bytes: MemSource::new(bytes.to_vec(alloc)?, 4096, Vec::new(alloc)),
-            shared: Arc::try_clone(shared)?,
-        };
-        let sink = LiveSink {
-            shared: Arc::try_clone(shared)?,
-        };
         Ok(LiveNet {
-            link: Some((source, sink)),
+            link: Some(link_of(alloc, bytes, shared)?),
+            behind: None,
+            links: Vec::new(alloc),
+            faults: 0,
+        })
+    }
+
+    /// Two links.
+    pub(crate) fn two(
+        alloc: Global,
+        bytes: [&[u8]; 2],
+        shared: [&Arc<Shared, Global>; 2],
+    ) -> Result<LiveNet, AllocError> {
+        Ok(LiveNet {
+            link: Some(link_of(alloc, bytes[0], shared[0])?),
+            behind: Some(link_of(alloc, bytes[1], shared[1])?),
             links: Vec::new(alloc),
             faults: 0,
         })
@@ -141,7 +185,9 @@ impl Net for LiveNet {
     }
 
     fn accept(&mut self, door: Door) -> Result<(LiveSource, LiveSink), Failed> {
-        if let Some(link) = self.link.take() {
+        let next = self.link.take();
+        self.link = self.behind.take();
+        if let Some(link) = next {
             if self.links.push(door).is_ok() {
                 return Ok(link);
             }

@@ -91,7 +91,7 @@ struct FaultRow {
     lines: &'static [(&'static str, u64)],
 }
 
-const FAULTS: [FaultRow; 5] = [
+const FAULTS: [FaultRow; 6] = [
     // an accept that fails: the links before it are served, and the session is written
     FaultRow {
         order: "sss",
@@ -140,6 +140,16 @@ const FAULTS: [FaultRow; 5] = [
         status: ServeStatus::WriteFault,
         session: Some(""),
         lines: &[],
+    },
+    // the start of a second peer's writer is refused: its reader reads its link to the end
+    FaultRow {
+        order: "aa",
+        accepts: &[],
+        starts: &[4],
+        writes: &[],
+        status: ServeStatus::NoThread,
+        session: None,
+        lines: &[(" join app", 2), (" bytes 2 ", 1), (" gone 2", 1)],
     },
 ];
 

@@ -5,7 +5,7 @@ use crate::links::{replay, sink, told_line, words};
 use link_jobs::LinkJob;
 use serve_run::{ServeStatus, run_serve};
 use std::alloc::{AllocError, Global};
-use std::fs::Files;
+use std::fs::{File, Files};
 use std::io::{Read, Write};
 use std::net::{Net, Shutdown};
 use std::os::unix::fs::PermissionsExt;
@@ -36,8 +36,8 @@ fn connect<R: Net>(rt: &R, path: &str) -> io::Result<UnixStream> {
     UnixStream::connect(rt, path)
 }
 
-// Sends the bytes, and gives what comes back until the server hangs up.
-fn talk<R: Net>(rt: &R, alloc: Global, path: &str, bytes: &[u8]) -> io::Result<Vec<u8>> {
+/// Sends the bytes, and gives what comes back until the server hangs up.
+pub(crate) fn talk<R: Net>(rt: &R, alloc: Global, path: &str, bytes: &[u8]) -> io::Result<Vec<u8>> {
     let mut stream = connect(rt, path)?;
     stream.write_all(bytes)?;
     stream.shutdown(Shutdown::Write)?;
@@ -47,7 +47,7 @@ fn talk<R: Net>(rt: &R, alloc: Global, path: &str, bytes: &[u8]) -> io::Result<V
 }
 
 // Serves at Unix sockets by the words.
-fn serve_words<R: Threads + Wait + Files + Net + Copy + Send + Sync + 'static>(
+fn serve_words<R: Threads + Wait + Files<File = File> + Net + Copy + Send + Sync + 'static>(
     rt: R,
     alloc: Global,
     words: &[String],
@@ -59,7 +59,7 @@ fn serve_words<R: Threads + Wait + Files + Net + Copy + Send + Sync + 'static>(
     run_serve(&rt, alloc, words, net, &mut spawner, gate, output)
 }
 
-fn serve_line<R: Threads + Wait + Files + Net + Copy + Send + Sync + 'static>(
+fn serve_line<R: Threads + Wait + Files<File = File> + Net + Copy + Send + Sync + 'static>(
     rt: R,
     alloc: Global,
     line: &str,
@@ -71,8 +71,8 @@ fn serve_line<R: Threads + Wait + Files + Net + Copy + Send + Sync + 'static>(
     Ok(serve_words(rt, alloc, &words, net, gate, output))
 }
 
-// Serves at Unix sockets by the words of the line, and holds nobody.
-fn serve<R: Threads + Wait + Files + Net + Copy + Send + Sync + 'static>(
+/// Serves at Unix sockets by the words of the line, and holds nobody.
+pub(crate) fn serve<R: Threads + Wait + Files<File = File> + Net + Copy + Send + Sync + 'static>(
     rt: R,
     alloc: Global,
     line: &str,

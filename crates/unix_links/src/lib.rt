@@ -1,6 +1,7 @@
 //! Unix sockets as a net, and threads that do jobs: the edge to the system.
 #![tactic(auto)]
 
+mod door_lock;
 mod job_thread;
 mod open_door;
 mod outcome;

@@ -6,9 +6,9 @@ use crate::open_door::OpenDoor;
 use crate::unix_sink::UnixSink;
 use link_nets::{Door, Net};
 use std::alloc::Global;
-use std::fs::Files;
+use std::fs::{File, Files};
 use std::io::BufReader;
-use std::os::unix::net::{UnixListener, UnixStream};
+use std::os::unix::net::UnixStream;
 use std::time::Duration;
 use std::{io, net};
 use wio_core::{Failed, Sink, Source, StdSource};
@@ -22,7 +22,7 @@ const PATIENCE: u64 = 30;
 /// Three doors, each a Unix listener at its own path. A door's socket file can be used by its owner
 /// alone, and is removed where the net is dropped.
 #[derive(Drop)]
-pub struct UnixNet<R: Files + Copy> {
+pub struct UnixNet<R: Files<File = File> + Copy> {
     rt: R,
     alloc: Global,
     app: Option<OpenDoor<R>>,
@@ -32,7 +32,7 @@ pub struct UnixNet<R: Files + Copy> {
     faults: u64,
 }
 
-impl<R: Files + net::Net + Copy> UnixNet<R> {
+impl<R: Files<File = File> + net::Net + Copy> UnixNet<R> {
     /// No door is open yet, no link was accepted, and nothing failed.
     pub fn new(rt: R, alloc: Global) -> UnixNet<R>
         ensures app_is_shut { ⟦<UnixNet<R> as Net>⟧.opened result Door.App ≡ false }
@@ -53,7 +53,7 @@ impl<R: Files + net::Net + Copy> UnixNet<R> {
     }
 }
 
-impl<R: Files + Copy> UnixNet<R> {
+impl<R: Files<File = File> + Copy> UnixNet<R> {
     fn fault<T>(&mut self) -> Result<T, Failed>
         ensures err { IsErr result }
         ensures counted { self.new ≡ record self.old { faults = raised self.old.faults } }
@@ -65,13 +65,16 @@ impl<R: Files + Copy> UnixNet<R> {
 }
 
 // Waits for a link, and gives its two ways.
-fn accept_link(alloc: Global, listener: &UnixListener) -> io::Result<(UnixSource, UnixSink)>
+fn accept_link<R: Files<File = File> + Copy>(
+    alloc: Global,
+    door: &OpenDoor<R>,
+) -> io::Result<(UnixSource, UnixSink)>
     ensures gave { IfOk result (λ link. ⟦<UnixSource as Source>⟧.given link.0 ≡ None) }
     ensures source { IfOk result (λ link. ⟦<UnixSource as Source>⟧.fault_count link.0 ≡ 0) }
     ensures holds { IfOk result (λ link. ⟦<UnixSink as Sink>⟧.held link.1 ≡ None) }
     ensures sink { IfOk result (λ link. ⟦<UnixSink as Sink>⟧.fault_count link.1 ≡ 0) }
 {
-    let (stream, _from) = listener.accept()?;
+    let stream = door.accept()?;
     stream.set_write_timeout(Some(Duration::from_secs(PATIENCE)))?;
     let out = stream.try_clone()?;
     Ok((
@@ -80,7 +83,7 @@ fn accept_link(alloc: Global, listener: &UnixListener) -> io::Result<(UnixSource
     ))
 }
 
-impl<R: Files + net::Net + Copy> Net for UnixNet<R> {
+impl<R: Files<File = File> + net::Net + Copy> Net for UnixNet<R> {
     ghost use Rattle.unix_links.specs.Opened.{is_open};
 
     type In = UnixSource;
@@ -112,7 +115,7 @@ impl<R: Files + net::Net + Copy> Net for UnixNet<R> {
             Door::Shell => &self.shell,
         };
         let Some(opened) = opened else { unreachable!() };
-        let Ok(link) = accept_link(self.alloc, &opened.listener) else {
+        let Ok(link) = accept_link(self.alloc, opened) else {
             return self.fault();
         };
         if self.links.push(door).is_err() {

@@ -3,7 +3,7 @@ use hub_lock::Gate;
 use link_jobs::LinkJob;
 use serve_run::{ServeStatus, run_serve};
 use std::alloc::Global;
-use std::fs::Files;
+use std::fs::{File, Files};
 use std::net::Net;
 use std::sync::{Arc, Wait};
 use std::thread::Threads;
@@ -21,7 +21,7 @@ impl Gate for Open {
 }
 
 /// Serves what the words ask for over real sockets, and writes the recorded session.
-pub fn serve<R: Threads + Wait + Files + Net + Copy + Send + Sync + 'static, K: Sink>(
+pub fn serve<R: Threads + Wait + Files<File = File> + Net + Copy + Send + Sync + 'static, K: Sink>(
     rt: R,
     alloc: Global,
     words: &[String],

@@ -10,7 +10,7 @@ abbrev pub invariant-messages : goal.invariant-messages
 invariant-messages g l = record {
   pass : l.pass ≡ pass_having_seen l.initial.pass l.pass.seat.seen;
   saw : SawMore l.hub.limits l.initial.pass.seat.seen l.pass.seat.seen;
-  way : OnWay l.initial.pass.peer (begun l.initial.assembler ++ l.piece) (begun l.assembler ++ l.rest) l.initial.pass l.pass;
+  way : OnWay l.initial.pass.peer (begun l.initial.cutter ++ l.piece) (begun l.cutter ++ l.rest) l.initial.pass l.pass;
 }
 
 -- each message leaves fewer bytes

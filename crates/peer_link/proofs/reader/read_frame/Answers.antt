@@ -11,7 +11,7 @@ returns-in-End-clause-reads g c =
       k.0,
       took-gave (g.S.Source.given c.args.source.now) (g.S.Source.given c.next.new.source) (g.S.Source.left c.args.source.now)
           (g.S.Source.left c.next.new.source) k.0 k.1,
-      no-frame c.args.hub.now.limits c.args.pass.now (begun c.args.assembler.now) (begun c.args.assembler.now) k.0
+      no-frame c.args.hub.now.limits c.args.pass.now (begun c.args.cutter.now) (begun c.args.cutter.now) k.0
           (g.S.Source.left c.next.new.source) ends.Closed got.End refl k.2,
     )
 
@@ -21,7 +21,7 @@ returns-in-Torn-clause-reads g c =
       k.0,
       took-gave (g.S.Source.given c.args.source.now) (g.S.Source.given c.next.new.source) (g.S.Source.left c.args.source.now)
           (g.S.Source.left c.next.new.source) k.0 k.1,
-      no-frame c.args.hub.now.limits c.args.pass.now (begun c.args.assembler.now) (begun c.args.assembler.now) k.0
+      no-frame c.args.hub.now.limits c.args.pass.now (begun c.args.cutter.now) (begun c.args.cutter.now) k.0
           (g.S.Source.left c.next.new.source) (ends.Torn c.in-Torn.n) (got.Torn c.in-Torn.n) refl k.2,
     )
 
@@ -31,7 +31,7 @@ returns-in-BadFrame-clause-reads g c =
       k.0,
       took-gave (g.S.Source.given c.args.source.now) (g.S.Source.given c.next.new.source) (g.S.Source.left c.args.source.now)
           (g.S.Source.left c.next.new.source) k.0 k.1,
-      no-frame c.args.hub.now.limits c.args.pass.now (begun c.args.assembler.now) (begun c.args.assembler.now) k.0
+      no-frame c.args.hub.now.limits c.args.pass.now (begun c.args.cutter.now) (begun c.args.cutter.now) k.0
           (g.S.Source.left c.next.new.source) (ends.BadFrame c.in-BadFrame.n c.in-BadFrame.t) (got.BadFrame c.in-BadFrame.n c.in-BadFrame.t) refl k.2,
     )
 
@@ -41,7 +41,7 @@ returns-in-ReadFault-clause-reads g c =
       k.0,
       took-gave (g.S.Source.given c.args.source.now) (g.S.Source.given c.next.new.source) (g.S.Source.left c.args.source.now)
           (g.S.Source.left c.next.new.source) k.0 k.1,
-      no-frame c.args.hub.now.limits c.args.pass.now (begun c.args.assembler.now) (begun c.args.assembler.now) k.0
+      no-frame c.args.hub.now.limits c.args.pass.now (begun c.args.cutter.now) (begun c.args.cutter.now) k.0
           (g.S.Source.left c.next.new.source) ends.ReadFault got.ReadFault refl k.2,
     )
 
@@ -51,8 +51,8 @@ returns-in-Bytes-clause-reads g c =
       k.0,
       took-gave (g.S.Source.given c.args.source.now) (g.S.Source.given c.next.new.source) (g.S.Source.left c.args.source.now)
           (g.S.Source.left c.next.new.source) k.0 k.1,
-      frame-comes c.args.hub.now.limits c.args.pass.now c.play_frame.new.pass (begun c.args.assembler.now)
-          (begun c.play_frame.new.assembler) k.0 (g.S.Source.left c.next.new.source) _ c.play_frame.result
+      frame-comes c.args.hub.now.limits c.args.pass.now c.play_frame.new.pass (begun c.args.cutter.now)
+          (begun c.play_frame.new.cutter) k.0 (g.S.Source.left c.next.new.source) _ c.play_frame.result
           (frame-of c.in-Bytes.n c.in-Bytes.t c.next.new.bytes c.next.new.tokens k.0 _ _ k.2 (search rules) (search rules))
           c.play_frame.ensures.makes,
     )

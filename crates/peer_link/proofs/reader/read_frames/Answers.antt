@@ -43,8 +43,8 @@ loop-preserved g c =
         i.reads.0 ++ r.0,
         TookFrom-both (g.S.Source.given c.args.source.now) (g.S.Source.given c.loop.source) (g.S.Source.given c.read_frame.new.source)
             (g.S.Source.left c.args.source.now) (g.S.Source.left c.loop.source) (g.S.Source.left c.read_frame.new.source) i.reads.0 r.0 i.reads.1 r.1,
-        reading-goes c.args.pass.now.peer c.loop.pass c.read_frame.new.pass i.reads.0 (begun c.loop.assembler)
-            (begun c.read_frame.new.assembler) r.0 r.2.0 (same-peer c.args.pass.now c.loop.pass i.pass) i.reads.2 r.2.1 r.2.2 r.2.3,
+        reading-goes c.args.pass.now.peer c.loop.pass c.read_frame.new.pass i.reads.0 (begun c.loop.cutter)
+            (begun c.read_frame.new.cutter) r.0 r.2.0 (same-peer c.args.pass.now c.loop.pass i.pass) i.reads.2 r.2.1 r.2.2 r.2.3,
       );
       good = r.2.4;
       given_quiet = λ n. e.given_quiet (i.given_quiet n);
@@ -59,8 +59,8 @@ returns-in-Err-read_frame-clause-reads g c =
       i.reads.0 ++ r.0,
       TookFrom-both (g.S.Source.given c.args.source.now) (g.S.Source.given c.loop.source) (g.S.Source.given c.read_frame.new.source)
           (g.S.Source.left c.args.source.now) (g.S.Source.left c.loop.source) (g.S.Source.left c.read_frame.new.source) i.reads.0 r.0 i.reads.1 r.1,
-      reading-ends c.args.hub.now.limits c.args.pass.now.peer c.loop.pass c.read_frame.new.pass i.reads.0 (begun c.loop.assembler)
-          (begun c.read_frame.new.assembler) r.0 (g.S.Source.left c.read_frame.new.source) c.in-Err-read_frame.end
+      reading-ends c.args.hub.now.limits c.args.pass.now.peer c.loop.pass c.read_frame.new.pass i.reads.0 (begun c.loop.cutter)
+          (begun c.read_frame.new.cutter) r.0 (g.S.Source.left c.read_frame.new.source) c.in-Err-read_frame.end
           (same-peer c.args.pass.now c.loop.pass i.pass) c.in-Err-read_frame.ensures.pass i.reads.2 r.2,
     )
 

@@ -1,0 +1,256 @@
+//! Two writers that sleep, and a step that tells both their peers something: it wakes both. A writer
+//! that isn't woken would keep the test from ending.
+ghost use Rattle.std.specs.Prelude.{◌≡◌, IfOk};
+ghost use Rattle.seat_steps.specs.Ranges.{IsPeerStep};
+ghost use Rattle.hub_lock.specs.Passes.{IsOf};
+
+use crate::equal::equal;
+use crate::link::{LIMITS, Link, join as join_hub, shell_of};
+use crate::waking_tests::{take_all, wait_for};
+use hub_lock::{Hub, HubPass, ReaderPass, ShellPass, WriterPass};
+use seat_steps::{PeerStep, ShellStep};
+use std::alloc::Global;
+use std::sync::Wait;
+use std::sync::atomic::AtomicU64;
+use std::test::Fail;
+use std::thread::{Threads, join};
+use std::time::Clock;
+use wl_wire::Bytes;
+
+/// How often the focus moves.
+const MOVES: u64 = 200;
+
+/// What an application is told while it makes its objects: three globals, and what the seat has.
+const SET_UP: u64 = 124;
+
+/// An `enter`, or a `leave`.
+const TOLD: u64 = 12;
+
+/// An object's id, an opcode, and the arguments' bytes.
+struct Request {
+    id: u32,
+    opcode: u16,
+    body: &'static [u8],
+}
+
+/// An application's registry, compositor 3, seat 4, manager 5, surface 6 and text input 7.
+static REQUESTS: [Request; 6] = [
+    Request {
+        id: 1,
+        opcode: 1,
+        body: b"\x02\0\0\0",
+    },
+    Request {
+        id: 2,
+        opcode: 0,
+        body: b"\x01\0\0\0\x0e\0\0\0wl_compositor\0\0\0\x01\0\0\0\x03\0\0\0",
+    },
+    Request {
+        id: 2,
+        opcode: 0,
+        body: b"\x02\0\0\0\x08\0\0\0wl_seat\0\x01\0\0\0\x04\0\0\0",
+    },
+    Request {
+        id: 2,
+        opcode: 0,
+        body: b"\x03\0\0\0\x1a\0\0\0zwp_text_input_manager_v3\0\0\0\x01\0\0\0\x05\0\0\0",
+    },
+    Request {
+        id: 3,
+        opcode: 0,
+        body: b"\x06\0\0\0",
+    },
+    Request {
+        id: 5,
+        opcode: 1,
+        body: b"\x07\0\0\0\x04\0\0\0",
+    },
+];
+
+fn step_of(alloc: Global, request: &Request) -> Result<PeerStep, Fail>
+    ensures { IfOk result IsPeerStep }
+{
+    let size = request.body.len();
+    if size > 4088 || size % 4 != 0 {
+        return Err(Fail::new("no message has this body"));
+    }
+    Ok(PeerStep::Message {
+        id: request.id,
+        opcode: request.opcode,
+        body: Bytes::from_slice(alloc, request.body)?,
+    })
+}
+
+fn make_one<R: Wait>(
+    rt: &R,
+    alloc: Global,
+    hub: &Hub,
+    reader: &mut ReaderPass,
+    request: &Request,
+) -> Result<(), Fail>
+    requires own { IsOf hub.now reader.old.seat }
+    ensures own { IsOf hub.now reader.new.seat }
+{
+    let step = step_of(alloc, request)?;
+    let _answer = hub.submit(rt, reader, &step);
+    Ok(())
+}
+
+// The application makes its objects.
+fn make_objects<R: Wait>(
+    rt: &R,
+    alloc: Global,
+    hub: &Hub,
+    reader: &mut ReaderPass,
+) -> Result<(), Fail>
+    requires own { IsOf hub.now reader.old.seat }
+    ensures own { IsOf hub.now reader.new.seat }
+{
+    for request in &REQUESTS {
+        make_one(rt, alloc, hub, reader, request)?;
+    }
+    Ok(())
+}
+
+/// How many bytes each of the two writers took.
+#[derive(Drop)]
+struct Taken {
+    one: AtomicU64,
+    other: AtomicU64,
+}
+
+// Both take what they were told so far. Then the focus goes to one peer's surface and to the other's
+// in turn; each time both took all before it moves again. Then both links end.
+fn move_focus<R: Wait + Clock>(
+    rt: &R,
+    hub: &Hub,
+    mut shell: ShellPass,
+    readers: (ReaderPass, ReaderPass),
+    taken: &Taken,
+) -> u64
+    requires own { IsOf hub.now shell }
+    requires one { IsOf hub.now readers.0.seat }
+    requires other { IsOf hub.now readers.1.seat }
+{
+    let (mut one, mut other) = readers;
+    wait_for(rt, &taken.one, SET_UP);
+    wait_for(rt, &taken.other, SET_UP);
+    for moved in 0..MOVES {
+        let peer = if moved % 2 == 0 { 1 } else { 2 };
+        let _answer = hub.order(rt, &mut shell, &ShellStep::Focus { peer, id: 6 });
+        wait_for(rt, &taken.one, SET_UP + TOLD * (moved + 1));
+        wait_for(rt, &taken.other, SET_UP + TOLD * moved);
+    }
+    let _answer = hub.submit(rt, &mut one, &PeerStep::Gone);
+    let _answer = hub.submit(rt, &mut other, &PeerStep::Gone);
+    shell.steps()
+}
+
+// How often each writer took, in a thread of its own.
+fn both_take<R: Threads + Wait + Sync>(
+    rt: &R,
+    hub: &Hub,
+    writers: (WriterPass, WriterPass),
+    taken: &Taken,
+) -> (u64, u64)
+    requires one { IsOf hub.now writers.0.seat }
+    requires other { IsOf hub.now writers.1.seat }
+{
+    let (one, other) = writers;
+    join(
+        rt,
+        move || -> u64
+            requires { IsOf hub.now one.seat }
+        { take_all(rt, hub, one, &taken.one) },
+        move || -> u64
+            requires { IsOf hub.now other.seat }
+        { take_all(rt, hub, other, &taken.other) },
+    )
+}
+
+// How many orders there were, and how often each writer took.
+fn race<R: Threads + Wait + Clock + Sync>(
+    rt: &R,
+    hub: &Hub,
+    shell: ShellPass,
+    readers: (ReaderPass, ReaderPass),
+    writers: (WriterPass, WriterPass),
+) -> (u64, (u64, u64))
+    requires shell { IsOf hub.now shell }
+    requires one_reads { IsOf hub.now readers.0.seat }
+    requires other_reads { IsOf hub.now readers.1.seat }
+    requires one_writes { IsOf hub.now writers.0.seat }
+    requires other_writes { IsOf hub.now writers.1.seat }
+{
+    let taken = Taken {
+        one: AtomicU64::new(0),
+        other: AtomicU64::new(0),
+    };
+    let taken = &taken;
+    join(
+        rt,
+        move || -> u64
+            requires { IsOf hub.now shell × IsOf hub.now readers.0.seat × IsOf hub.now
+                readers.1.seat }
+        { move_focus(rt, hub, shell, readers, taken) },
+        move || -> (u64, u64)
+            requires { IsOf hub.now writers.0.seat × IsOf hub.now writers.1.seat }
+        { both_take(rt, hub, writers, taken) },
+    )
+}
+
+// Two applications make their objects, and the focus moves between them.
+fn play<R: Threads + Wait + Clock + Sync>(
+    rt: &R,
+    alloc: Global,
+    shell: ShellPass,
+    one: Link<'_>,
+    other: Link<'_>,
+) -> Result<(u64, (u64, u64)), Fail>
+    requires shell { IsOf one.hub.now shell }
+    requires same { other.hub.now ≡ one.hub.now }
+{
+    let Link {
+        hub,
+        reader: mut one_reads,
+        writer: one_writes,
+    } = one;
+    let Link {
+        hub: _,
+        reader: mut other_reads,
+        writer: other_writes,
+    } = other;
+    make_objects(rt, alloc, hub, &mut one_reads)?;
+    make_objects(rt, alloc, hub, &mut other_reads)?;
+    let readers = (one_reads, other_reads);
+    Ok(race(rt, hub, shell, readers, (one_writes, other_writes)))
+}
+
+fn play_two<R: Threads + Wait + Clock + Sync>(
+    rt: &R,
+    alloc: Global,
+    hub: &Hub,
+    root: &mut HubPass,
+) -> Result<(u64, (u64, u64)), Fail>
+    requires own { IsOf hub.now root.old }
+{
+    let Some(one) = join_hub(rt, hub, root) else {
+        return Err(Fail::new("no peer joined"));
+    };
+    let Some(other) = join_hub(rt, hub, root) else {
+        return Err(Fail::new("no second peer joined"));
+    };
+    let Some(shell) = shell_of(hub, root) else {
+        return Err(Fail::new("no shell"));
+    };
+    play(rt, alloc, shell, one, other)
+}
+
+#[test]
+fn a_step_wakes_two_writers(rt: HostRuntime) -> Result<(), Fail> {
+    let alloc = rt.alloc();
+    let (hub, mut root) = Hub::new(alloc, LIMITS)?;
+    let made = play_two(&rt, alloc, &hub, &mut root)?;
+    equal(&rt, made, (MOVES, (MOVES + 1, MOVES)));
+    Ok(())
+}
