@@ -83,8 +83,10 @@ fits_rows p x role at interface.TextInputManager vs h = (tt, (tt, tt))
 fits_rows p x role at interface.TextInput vs h =
     (tt, (tt, (tt, (fits_surround x vs h, (fits_cause x vs, (fits_content x vs, (fits_cursor x vs, (tt, tt))))))))
 fits_rows p x role at interface.InputMethodManager vs h = (tt, (tt, tt))
-fits_rows p x role at interface.InputMethod vs h =
-    (fits_string x vs h, (fits_preedit x vs h, (fits_delete x vs, (fits_commit x vs, (fits_popup at x vs, (tt, (tt, tt)))))))
+fits_rows p x role at interface.InputMethod vs h = (
+  fits_string x vs h,
+  (fits_preedit x vs h, (fits_delete x vs, (fits_commit x vs, (fits_popup at x vs, (tt, (tt, tt)))))),
+)
 fits_rows p x role at interface.InputPopupSurface vs h = (tt, tt)
 fits_rows p x role at interface.KeyboardGrab vs h = (tt, tt)
 fits_rows p x role at _ vs h = tt
@@ -96,26 +98,31 @@ fits_row (act ∷ xs) (suc n) h = fits_row xs n h.1
 
 -- the act of each entry
 
-fits_request : (past : Past) (n : ℕ) (peer : Joined) (x : ℕ) (m : Message) (o : Option Fault) → values_len m.values ≤ 4088 →
+fits_request : (past : Past) (n : ℕ) (peer : Joined) (x : ℕ) (m : Message) (o : Option Fault) →
+    values_len m.values ≤ 4088 →
     FitsMessage (of_request past n peer x m o).act
 fits_request past n peer x m (Some f) h = tt
 fits_request past n peer x m None h =
     fits_row (rows peer.label x peer.role (label_at past peer.label) m.interface m.values) m.opcode
     (fits_rows peer.label x peer.role (label_at past peer.label) m.interface m.values h)
 
-fits_reading : (past : Past) (n : ℕ) (peer : Joined) (x size : ℕ) (r : Result Message Refuse) → size ≤ 4088 → IsReadWithin size r →
+fits_reading : (past : Past) (n : ℕ) (peer : Joined) (x size : ℕ) (r : Result Message Refuse) → size ≤ 4088 →
+    IsReadWithin size r →
     FitsMessage (of_reading past n peer x r).act
 fits_reading past n peer x size (Err e) h k = tt
 fits_reading past n peer x size (Ok m) h k =
     fits_request past n peer x m (request_fault past peer.label peer.role (label_at past peer.label) m) (omega arith)
 
-fits_message : (past : Past) (n : ℕ) (peer : Joined) (opcode : ℕ) (body : List ℕ) (o : Option Made) → length body ≤ 4088 →
+fits_message : (past : Past) (n : ℕ) (peer : Joined) (opcode : ℕ) (body : List ℕ) (o : Option Made) →
+    length body ≤ 4088 →
     FitsMessage (of_message past n peer opcode body o).act
 fits_message past n peer opcode body None h = tt
 fits_message past n peer opcode body (Some x) h =
-    fits_reading past n peer x.label (length body) (request_reading x.interface opcode (past.waiting peer.label) body) h (request_within x.interface opcode (past.waiting peer.label) body)
+    fits_reading past n peer x.label (length body) (request_reading x.interface opcode (past.waiting peer.label) body) h
+    (request_within x.interface opcode (past.waiting peer.label) body)
 
-fits_peer : (o : Option Joined) (f : Joined → Meaning) → ((peer : Joined) → FitsMessage (f peer).act) → FitsMessage (of_peer o f).act
+fits_peer : (o : Option Joined) (f : Joined → Meaning) → ((peer : Joined) → FitsMessage (f peer).act) →
+    FitsMessage (of_peer o f).act
 fits_peer None f h = tt
 fits_peer (Some peer) f h = h peer
 
@@ -125,15 +132,18 @@ fits_surface (Some s) f h = h s
 
 fits_shell : (past : Past) (step : ShellStep) → FitsMessage (shell_act past step)
 fits_shell past (shell.Focus q id) = fits_surface (surface_at past (peer_at past q) id) (λ s. acts.Focus s) (λ s. tt)
-fits_shell past (shell.Area q id rect) = fits_surface (surface_at past (peer_at past q) id) (λ s. acts.Area s rect) (λ s. tt)
+fits_shell past (shell.Area q id rect) =
+    fits_surface (surface_at past (peer_at past q) id) (λ s. acts.Area s rect) (λ s. tt)
 fits_shell past _ = tt
 
 -- the texts of an entry's act fit
 pub act_fits : (e : Entry) (older : List Entry) → IsBodyShort e → FitsMessage (act_at e older)
 act_fits (entries.Join role) older h = tt
 act_fits (entries.Message q id opcode body) older h =
-    fits_peer (peer_at (past_of older) q) (λ peer. of_message (past_of older) (length older + 1) peer opcode body (object_at (past_of older) peer.label id))
-    (λ peer. fits_message (past_of older) (length older + 1) peer opcode body (object_at (past_of older) peer.label id) h)
+    fits_peer (peer_at (past_of older) q)
+    (λ peer. of_message (past_of older) (length older + 1) peer opcode body (object_at (past_of older) peer.label id))
+    (λ peer. fits_message (past_of older) (length older + 1) peer opcode body
+    (object_at (past_of older) peer.label id) h)
 act_fits (entries.Tokens q tokens) older h = tt
 act_fits (entries.BadSize q head) older h = fits_peer (peer_at (past_of older) q) _ (λ peer. tt)
 act_fits (entries.End q why) older h = fits_peer (peer_at (past_of older) q) _ (λ peer. tt)

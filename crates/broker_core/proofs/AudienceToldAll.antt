@@ -27,7 +27,8 @@ heard_more made t told [] = refl
 heard_more made t told (l ∷ rest) = ap (λ ls. has_heard made (t ∷ told) l ∷ ls) (heard_more made t told rest)
 
 -- what tells one by one lead to, if each message is short
-pub all_told : (told : List Told) (before after : Audience) → Reached (λ a t b. IsShort t → Tells a t b) before told after → AllByRecursion IsShort told →
+pub all_told : (told : List Told) (before after : Audience) →
+    Reached (λ a t b. IsShort t → Tells a t b) before told after → AllByRecursion IsShort told →
     AllTold before told after
 all_told [] before after h short = record {
   live = ap (λ (a : Audience). a.live.items) h ∙ heard_nothing before.directory.made before.live.items;
@@ -39,7 +40,8 @@ all_told (t ∷ rest) before after h short =
     record {
       live =
           more.live ∙ ap (λ (d : Directed). map (has_heard d.made rest) h.0.live.items) tells.directory
-          ∙ ap (map (has_heard before.directory.made rest)) tells.live ∙ heard_more before.directory.made t rest before.live.items;
+          ∙ ap (map (has_heard before.directory.made rest)) tells.live
+          ∙ heard_more before.directory.made t rest before.live.items;
       directory = more.directory ∙ tells.directory;
     }
 

@@ -1,4 +1,5 @@
--- Who watches a call is told of the entries that the journal has since: of the step's, and of the ends that follow from it.
+-- Who watches a call is told of the entries that the journal has since: of the step's, and of the ends that follow from
+-- it.
 use Rattle.std.proofs.Common.{◌≡◌, ℕ, ◌≤◌, List, ◌∷◌, length, ap, refl, sym, subst, ◌∙◌, arith}
 use Rattle.seat_steps.specs.declared.limits.Limits.{Limits}
 use Rattle.seat_steps.specs.declared.stamp.Stamp.{Stamp}
@@ -13,13 +14,17 @@ use Rattle.broker_core.proofs.WatchedSince.{since_none, reached_more}
 -- nothing is watched where the journal has no entry more
 
 pub nothing_watched : {W : Type 0} (R : W → Watched → W → Type 0) (b : Broker) (w : W) → IsWatched R b w b w
-nothing_watched R b w = subst (λ (events : List Watched). Reached R w events w) (sym (since_none b.limits.store b.journal)) refl
+nothing_watched R b w =
+    subst (λ (events : List Watched). Reached R w events w) (sym (since_none b.limits.store b.journal)) refl
 
-pub refused_watched : {W : Type 0} (R : W → Watched → W → Type 0) (limits : Limits) (b : Broker) (s t : State) (w after : W) →
-    shown limits s ≡ b → t.journal.entries ≡ s.journal.entries → t.stamps.stamps ≡ s.stamps.stamps → after ≡ w → IsWatched R b w (shown limits t) after
+pub refused_watched : {W : Type 0} (R : W → Watched → W → Type 0) (limits : Limits) (b : Broker) (s t : State)
+    (w after : W) →
+    shown limits s ≡ b → t.journal.entries ≡ s.journal.entries → t.stamps.stamps ≡ s.stamps.stamps → after ≡ w →
+    IsWatched R b w (shown limits t) after
 refused_watched R limits b s t w after v j k stays =
     subst (λ (x : _). IsWatched R b w (shown limits t) x) (sym stays)
-    (subst (λ (x : Broker). IsWatched R b w x w) (sym (ap (λ (journal : List Entry). record { limits = limits; journal = journal; stamps = t.stamps.stamps }) j
+    (subst (λ (x : Broker). IsWatched R b w x w)
+    (sym (ap (λ (journal : List Entry). record { limits = limits; journal = journal; stamps = t.stamps.stamps }) j
     ∙ ap (λ (ss : List Stamp). record { limits = limits; journal = s.journal.entries; stamps = ss }) k ∙ v))
     (nothing_watched R b w))
 
@@ -28,11 +33,14 @@ refused_watched R limits b s t w after v j k stays =
 -- who watched up to this state watches up to that one
 abbrev pub WatchesOn : {W : Type 0} → (W → Watched → W → Type 0) → (s t : State) → (before after : W) → Type 0
 WatchesOn {W} R s t before after =
-    (k : ℕ) (from : W) → k ≤ length s.journal.entries → Reached R from (watched_since s.capacity k s.journal.entries) before →
+    (k : ℕ) (from : W) → k ≤ length s.journal.entries →
+    Reached R from (watched_since s.capacity k s.journal.entries) before →
     Reached R from (watched_since s.capacity k t.journal.entries) after
 
-step_watched : {W : Type 0} (R : W → Watched → W → Type 0) (e : Entry) (s m t : State) (w mid after : W) → m.capacity ≡ s.capacity →
-    m.journal.entries ≡ e ∷ s.journal.entries → Reached R w (watched s.capacity e s.journal.entries) mid → WatchesOn R m t mid after →
+step_watched : {W : Type 0} (R : W → Watched → W → Type 0) (e : Entry) (s m t : State) (w mid after : W) →
+    m.capacity ≡ s.capacity →
+    m.journal.entries ≡ e ∷ s.journal.entries → Reached R w (watched s.capacity e s.journal.entries) mid →
+    WatchesOn R m t mid after →
     Reached R w (watched_since s.capacity (length s.journal.entries) t.journal.entries) after
 step_watched R e s m t w mid after c j entered on =
     let k = length s.journal.entries in
@@ -46,9 +54,11 @@ step_watched R e s m t w mid after c j entered on =
     (subst (λ (journal : List Entry). Reached R w (watched_since s.capacity k journal) mid) (sym j) one) in
     subst (λ (n : ℕ). Reached R w (watched_since n k t.journal.entries) after) c (on k w (omega arith) here)
 
-pub call_watched : {W : Type 0} (R : W → Watched → W → Type 0) (limits : Limits) (e : Entry) (b : Broker) (s m t : State) (w mid after : W) →
+pub call_watched : {W : Type 0} (R : W → Watched → W → Type 0) (limits : Limits) (e : Entry) (b : Broker)
+    (s m t : State) (w mid after : W) →
     shown limits s ≡ b → IsBroker limits s → m.capacity ≡ s.capacity → m.journal.entries ≡ e ∷ s.journal.entries →
-    Reached R w (watched s.capacity e s.journal.entries) mid → WatchesOn R m t mid after → IsWatched R b w (shown limits t) after
+    Reached R w (watched s.capacity e s.journal.entries) mid → WatchesOn R m t mid after →
+    IsWatched R b w (shown limits t) after
 call_watched R limits e b s m t w mid after v i c j entered on =
     subst (λ (x : Broker). IsWatched R x w (shown limits t) after) v
     (subst (λ (n : ℕ). Reached R w (watched_since n (length s.journal.entries) t.journal.entries) after) i.capacity

@@ -9,7 +9,7 @@ use Rattle.broker_model.specs.Ids.{Made, log_of}
 use Rattle.broker_model.specs.Resolve.{past_of, resolve}
 use Rattle.broker_model.specs.Groups.{Piece, nothing, group_for}
 use Rattle.broker_model.specs.Out.{Outgoing, fits, act_at, group_at, before_group, out_for}
-use Rattle.broker_model.proofs.Stored.{spaced_out}
+use Rattle.broker_model.proofs.StoresAreOut.{spaced_out}
 use Rattle.seat_audience.specs.declared.live.Live.{Live}
 use Rattle.seat_audience.specs.Gathered.{empty}
 use Rattle.seat_audience.specs.Heard.{heard}
@@ -28,7 +28,8 @@ use Rattle.broker_core.proofs.ShownAmongLive.{same_shown}
 -- for a live peer
 
 one_put : (capacity : ℕ) (e : Entry) (older : List Entry) (l : Live) → IsReady capacity e older l →
-    gathered_put (length older + 1) (has_heard (past_of (e ∷ older)).made (told (act_at e older) (resolve older)) (cleared l))
+    gathered_put (length older + 1)
+    (has_heard (past_of (e ∷ older)).made (told (act_at e older) (resolve older)) (cleared l))
     ≡ out_put capacity e older (who l)
 one_put capacity e older l r =
     by_room (has_room hears) refl
@@ -49,16 +50,19 @@ one_put capacity e older l r =
 
     gathered : IsGathered capacity (group_at e older l.label) hears.gathering
     gathered =
-        subst (λ (n : ℕ). IsGathered capacity (group_for made l.label all) (heard made l.label all (empty n))) (sym r.room)
+        subst (λ (n : ℕ). IsGathered capacity (group_for made l.label all) (heard made l.label all (empty n)))
+        (sym r.room)
         (gathered_all made l.label all capacity)
 
     by_room : (b : Bool) → has_room hears ≡ b →
         (if b then group_put (length older + 1) l.number hears.gathering.group else [])
         ≡ (if b then group_put (length older + 1) l.number (group_at e older l.label) else [])
-    by_room true h = ap (group_put (length older + 1) l.number) (whole capacity (group_at e older l.label) hears gathered h)
+    by_room true h =
+        ap (group_put (length older + 1) l.number) (whole capacity (group_at e older l.label) hears gathered h)
     by_room false h = refl
 
-all_put : (capacity : ℕ) (e : Entry) (older : List Entry) (live : List Live) → AllByRecursion (IsReady capacity e older) live →
+all_put : (capacity : ℕ) (e : Entry) (older : List Entry) (live : List Live) →
+    AllByRecursion (IsReady capacity e older) live →
     flat_map (gathered_put (length older + 1))
     (map (has_heard (past_of (e ∷ older)).made (told (act_at e older) (resolve older))) (map cleared live))
     ≡ flat_map (out_put capacity e older) (map who live)
@@ -71,7 +75,8 @@ all_put capacity e older (l ∷ live) r =
 none_put : (capacity : ℕ) (e : Entry) (older : List Entry) (p : Numbered) → group_at e older p.peer.label ≡ nothing →
     out_put capacity e older p ≡ []
 none_put capacity e older p q =
-    ap (λ (g : Piece). (if fits capacity g before then group_put (length older + 1) p.number g else [])) q ∙ empty_put (fits capacity nothing before)
+    ap (λ (g : Piece). (if fits capacity g before then group_put (length older + 1) p.number g else [])) q
+    ∙ empty_put (fits capacity nothing before)
   where
     before : Outgoing
     before = before_group e older p.peer.label (out_for capacity older p.peer.label)
@@ -97,7 +102,8 @@ filtered_put f test (p ∷ ps) h = by_test (test p) refl (filtered_put f test ps
 
 -- for all that joined
 
-joined_put : (capacity : ℕ) (e : Entry) (older : List Entry) (live : List Live) → AllByRecursion (IsReady capacity e older) live →
+joined_put : (capacity : ℕ) (e : Entry) (older : List Entry) (live : List Live) →
+    AllByRecursion (IsReady capacity e older) live →
     map who live ≡ roster (e ∷ older) →
     flat_map (gathered_put (length older + 1))
     (map (has_heard (past_of (e ∷ older)).made (told (act_at e older) (resolve older))) (map cleared live))
@@ -123,7 +129,8 @@ told_is_watched e s r =
     ap (λ (m : List Made). told_live n m live all) r.made
     ∙ ap₂ (λ (a b : List Watched). a ++ b)
     (ap (λ (peers : List Numbered). shown_by n made peers all) r.who
-    ∙ sym (same_shown n (act_at e J) (resolve J) made (numbered 1 (past_of (e ∷ J)).joined) (roster (e ∷ J)) (number_kept (e ∷ J))))
+    ∙ sym (same_shown n (act_at e J) (resolve J) made (numbered 1 (past_of (e ∷ J)).joined) (roster (e ∷ J))
+    (number_kept (e ∷ J))))
     (joined_put s.capacity e J live r.live r.who)
   where
     J : List Entry

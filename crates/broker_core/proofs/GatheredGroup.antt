@@ -28,13 +28,17 @@ still_over capacity all more h =
 
 -- one more message
 
-long_with : (id : ℕ) (m : Message) (all : Piece) → length (followed_by all (message_piece id (Some m))).bytes ≡ length all.bytes + message_len m
-long_with id m all = length-append all.bytes (message_bytes id m) ∙ ap (λ (n : ℕ). length all.bytes + n) (message_length id m)
+long_with : (id : ℕ) (m : Message) (all : Piece) →
+    length (followed_by all (message_piece id (Some m))).bytes ≡ length all.bytes + message_len m
+long_with id m all =
+    length-append all.bytes (message_bytes id m) ∙ ap (λ (n : ℕ). length all.bytes + n) (message_length id m)
 
-long_now : (capacity : ℕ) (all : Piece) (g : Gathered) → g.is_over ≡ false → IsGathered capacity all g → length g.group.bytes ≡ length all.bytes
+long_now : (capacity : ℕ) (all : Piece) (g : Gathered) → g.is_over ≡ false → IsGathered capacity all g →
+    length g.group.bytes ≡ length all.bytes
 long_now capacity all g e h = ap (λ (a : Piece). length a.bytes) (h.whole e)
 
-after_over : (capacity id : ℕ) (m : Message) (all : Piece) (g : Gathered) → g.is_over ≡ true → IsGathered capacity all g →
+after_over : (capacity id : ℕ) (m : Message) (all : Piece) (g : Gathered) → g.is_over ≡ true →
+    IsGathered capacity all g →
     IsGathered capacity (followed_by all (message_piece id (Some m))) (with_message id m g)
 after_over capacity id m all g e h =
     let over = still_over capacity all (message_piece id (Some m)) (sym h.over ∙ e) in
@@ -50,7 +54,11 @@ where_it_fits capacity id m all g e f h =
     let fits : length g.group.bytes + message_len m ≤ g.capacity = leb-true _ _ f in
     let within : length (followed_by all new).bytes ≤ capacity = omega (arith, long_with id m all) in
     let over = le-leb (length (followed_by all new).bytes) capacity within in
-    rw (e, f) (record { room = h.room; over = ap not (sym over); whole = λ _. ap (λ (a : Piece). followed_by a new) (h.whole e) })
+    rw (e, f) (record {
+      room = h.room;
+      over = ap not (sym over);
+      whole = λ _. ap (λ (a : Piece). followed_by a new) (h.whole e);
+    })
 
 where_it_does_not : (capacity id : ℕ) (m : Message) (all : Piece) (g : Gathered) → g.is_over ≡ false →
     nat_le (length g.group.bytes + message_len m) g.capacity ≡ false → IsGathered capacity all g →
@@ -76,7 +84,8 @@ message_step capacity id m all g h = by g.is_over (nat_le (length g.group.bytes 
 
 -- one more thing told
 
-nothing_more : (capacity : ℕ) (all : Piece) (g : Gathered) → IsGathered capacity all g → IsGathered capacity (followed_by all nothing) g
+nothing_more : (capacity : ℕ) (all : Piece) (g : Gathered) → IsGathered capacity all g →
+    IsGathered capacity (followed_by all nothing) g
 nothing_more capacity all g h = subst (λ (a : Piece). IsGathered capacity a g) (sym (before_nothing all)) h
 
 event_step : (capacity id : ℕ) (m : Option Message) (all : Piece) (g : Gathered) → IsGathered capacity all g →
@@ -84,7 +93,8 @@ event_step : (capacity id : ℕ) (m : Option Message) (all : Piece) (g : Gathere
 event_step capacity id None all g h = nothing_more capacity all g h
 event_step capacity id (Some m) all g h = message_step capacity id m all g h
 
-object_step : (capacity : ℕ) (made : List Made) (p : ℕ) (event : Said) (m : Option Made) (all : Piece) (g : Gathered) → IsGathered capacity all g →
+object_step : (capacity : ℕ) (made : List Made) (p : ℕ) (event : Said) (m : Option Made) (all : Piece) (g : Gathered) →
+    IsGathered capacity all g →
     IsGathered capacity (followed_by all (event_piece made p event m)) (hears_at made p event m g)
 object_step capacity made p event None all g h = nothing_more capacity all g h
 object_step capacity made p event (Some m) all g h = by (m.peer == p)
@@ -96,20 +106,25 @@ object_step capacity made p event (Some m) all g h = by (m.peer == p)
     by false = nothing_more capacity all g h
 
 -- all that is told, behind what was gathered before
-gathered_behind : (made : List Made) (p : ℕ) (told : List Told) (capacity : ℕ) (all : Piece) (g : Gathered) → IsGathered capacity all g →
+gathered_behind : (made : List Made) (p : ℕ) (told : List Told) (capacity : ℕ) (all : Piece) (g : Gathered) →
+    IsGathered capacity all g →
     IsGathered capacity (followed_by all (group_for made p told)) (heard made p told g)
 gathered_behind made p [] capacity all g h = nothing_more capacity all g h
 gathered_behind made p (t ∷ rest) capacity all g h =
     let new : Piece = event_piece made p t.event (made_as made t.to) in
-    subst (λ (a : Piece). IsGathered capacity a (heard made p rest (hears made p t g))) (followed_twice all new (group_for made p rest))
-    (gathered_behind made p rest capacity (followed_by all new) (hears made p t g) (object_step capacity made p t.event (made_as made t.to) all g h))
+    subst (λ (a : Piece). IsGathered capacity a (heard made p rest (hears made p t g)))
+    (followed_twice all new (group_for made p rest))
+    (gathered_behind made p rest capacity (followed_by all new) (hears made p t g)
+    (object_step capacity made p t.event (made_as made t.to) all g h))
 
 none_gathered : (capacity : ℕ) → IsGathered capacity nothing (empty capacity)
-none_gathered capacity = record { room = refl; over = ap not (sym (le-leb 0 capacity (omega arith))); whole = λ _. refl }
+none_gathered capacity =
+    record { room = refl; over = ap not (sym (le-leb 0 capacity (omega arith))); whole = λ _. refl }
 
 -- so a whole group is gathered, or it is known that it passes the capacity
 pub gathered_all : (made : List Made) (p : ℕ) (told : List Told) (capacity : ℕ) →
     IsGathered capacity (group_for made p told) (heard made p told (empty capacity))
 gathered_all made p told capacity =
-    subst (λ (a : Piece). IsGathered capacity a (heard made p told (empty capacity))) (behind_nothing (group_for made p told))
+    subst (λ (a : Piece). IsGathered capacity a (heard made p told (empty capacity)))
+    (behind_nothing (group_for made p told))
     (gathered_behind made p told capacity nothing (empty capacity) (none_gathered capacity))

@@ -1,4 +1,5 @@
--- There is room for what a live peer heard exactly if the definitions have room for its group, and then that group is what it heard.
+-- There is room for what a live peer heard exactly if the definitions have room for its group, and then that group is
+-- what it heard.
 use Rattle.std.proofs.Common.{◌≡◌, ℕ, List, Bool, true, false, refl, sym, ◌∙◌}
 use Rattle.std.proofs.lemmas.Bool.{true≢false}
 use Rattle.relay_model.specs.declared.said.Told.{Told}
@@ -13,18 +14,23 @@ use Rattle.broker_core.proofs.GatheredGroup.{IsGathered}
 use Rattle.broker_core.proofs.PutGroups.{IsPut, put_all}
 
 -- there is room for what it heard if its group fits
-pub room_fits : (capacity : ℕ) (made : List Made) (told : List Told) (out : Outgoing) (l : Live) → AreSpaced out.put → Holds capacity out l.store →
-    l.gathering.capacity ≡ capacity → has_room (has_heard made told (cleared l)) ≡ fits capacity (group_for made l.label told) out
+pub room_fits : (capacity : ℕ) (made : List Made) (told : List Told) (out : Outgoing) (l : Live) → AreSpaced out.put →
+    Holds capacity out l.store →
+    l.gathering.capacity ≡ capacity →
+    has_room (has_heard made told (cleared l)) ≡ fits capacity (group_for made l.label told) out
 room_fits capacity made told out l spaced holds room =
-    by (has_room (has_heard made told (cleared l))) (fits capacity (group_for made l.label told) out) refl refl put.choked
+    by (has_room (has_heard made told (cleared l)))
+    (fits capacity (group_for made l.label told) out) refl refl put.choked
   where
     -- as if no group had been left out before
-    put : IsPut capacity (with_group capacity (group_for made l.label told) (record out { choked = false })) (record l { is_choked = false })
+    put : IsPut capacity (with_group capacity (group_for made l.label told) (record out { choked = false }))
+        (record l { is_choked = false })
         (told_all made told (record l { is_choked = false }))
     put = put_all capacity made told (record out { choked = false }) (record l { is_choked = false }) spaced
         (record { cells = holds.cells; within = holds.within }) refl room
 
-    by : (b c : Bool) → has_room (has_heard made told (cleared l)) ≡ b → fits capacity (group_for made l.label told) out ≡ c →
+    by : (b c : Bool) → has_room (has_heard made told (cleared l)) ≡ b →
+        fits capacity (group_for made l.label told) out ≡ c →
         (told_all made told (record l { is_choked = false })).is_choked
         ≡ (with_group capacity (group_for made l.label told) (record out { choked = false })).choked → b ≡ c
     by true true e f k = refl
@@ -33,7 +39,8 @@ room_fits capacity made told out l spaced holds room =
     by false false e f k = refl
 
 -- and then that group is what it heard
-pub whole : (capacity : ℕ) (group : Piece) (l : Live) → IsGathered capacity group l.gathering → has_room l ≡ true → l.gathering.group ≡ group
+pub whole : (capacity : ℕ) (group : Piece) (l : Live) → IsGathered capacity group l.gathering → has_room l ≡ true →
+    l.gathering.group ≡ group
 whole capacity group l h r = by l.gathering.is_over refl
   where
     by : (b : Bool) → l.gathering.is_over ≡ b → l.gathering.group ≡ group

@@ -9,23 +9,24 @@ use Rattle.broker_model.specs.Ids.{Joined, log_of, peer_at, Made}
 use Rattle.broker_model.specs.Resolve.{past_of, means}
 use Rattle.broker_model.specs.Groups.{nothing}
 use Rattle.broker_model.specs.Out.{Outgoing, group_at, is_label, took_at, before_group, out_for}
-use Rattle.broker_model.proofs.Peers.{length_log}
-use Rattle.broker_model.proofs.Numbers.{label_within}
-use Rattle.broker_model.proofs.Quiet.{quiet_out}
+use Rattle.broker_model.proofs.LivePeersJoined.{length_log}
+use Rattle.broker_model.proofs.LabelsRiseByNumber.{label_within}
+use Rattle.broker_model.proofs.QuietStoresStay.{quiet_out}
 use Rattle.std.specs.FinMap as map
 use Rattle.im_objects.specs.Objects.{Objects, Stands}
 use Rattle.relay_model.specs.declared.act.Act.{Act}
 use Rattle.broker_model.specs.Tables.{calls_for, live_id}
-use Rattle.broker_model.proofs.Named.{IsIn}
-use Rattle.broker_model.proofs.News.{IsOne, one_entry}
-use Rattle.broker_model.proofs.Sound.{sound}
-use Rattle.broker_model.proofs.Labels.{unmade, found_by_label}
+use Rattle.broker_model.proofs.IdsAreNames.{IsIn}
+use Rattle.broker_model.proofs.MadeAtMostOne.{IsOne, one_entry}
+use Rattle.broker_model.proofs.MadeObjectsStand.{sound}
+use Rattle.broker_model.proofs.LabelsAreIds.{unmade, found_by_label}
 use Rattle.seat_audience.specs.Directed.{IsNewest, AreFalling}
 
 -- an entry tells nothing to who was no peer before it and does not join by it
 abbrev pub TellsPeersAlone : Type 0
 TellsPeersAlone =
-    (e : Entry) (older : List Entry) (p : ℕ) → is_peer (log_of (past_of older)) p ≡ false → (p ≡ length older + 1 → ⊥) → group_at e older p ≡ nothing
+    (e : Entry) (older : List Entry) (p : ℕ) → is_peer (log_of (past_of older)) p ≡ false → (p ≡ length older + 1 → ⊥) →
+    group_at e older p ≡ nothing
 
 beyond : (older : List Entry) (p : ℕ) → length older < p → is_peer (log_of (past_of older)) p ≡ false
 beyond older p h =
@@ -33,14 +34,16 @@ beyond older p h =
     ap (is_kind is_peer_kind) (object_beyond (log_of (past_of older)) p (omega arith))
 
 -- no peer that joined has the label
-no_label : (older : List Entry) (q p : ℕ) (o : Option Joined) → peer_at (past_of older) q ≡ o → length older < p → is_label o p ≡ false
+no_label : (older : List Entry) (q p : ℕ) (o : Option Joined) → peer_at (past_of older) q ≡ o → length older < p →
+    is_label o p ≡ false
 no_label older q p None e h = refl
 no_label older q p (Some peer) e h =
     let within : peer.label ≤ length older = label_within older q peer e in
     ne_eqb peer.label p (λ d. omega arith)
 
 none_taken : (e : Entry) (older : List Entry) (p : ℕ) → length older < p → took_at e (past_of older) p ≡ 0
-none_taken (entries.Took q bytes) older p h = ap (λ (b : Bool). if b then bytes else 0) (no_label older q p (peer_at (past_of older) q) refl h)
+none_taken (entries.Took q bytes) older p h =
+    ap (λ (b : Bool). if b then bytes else 0) (no_label older q p (peer_at (past_of older) q) refl h)
 none_taken _ older p h = refl
 
 -- nothing was put, and n bytes of it were taken
@@ -61,7 +64,8 @@ unborn quiet capacity (e ∷ older) p h =
 -- The label of an entry to come is new, and labels fall from the newest object on.
 
 -- no live peer's table has it
-pub label_unused : (older : List Entry) (p : ℕ) (table : Objects) → is_peer (log_of (past_of older)) p ≡ true → Stands (calls_for older p) table →
+pub label_unused : (older : List Entry) (p : ℕ) (table : Objects) → is_peer (log_of (past_of older)) p ≡ true →
+    Stands (calls_for older p) table →
     map.get table.ids (length older + 1) ≡ None
 label_unused older p table l s =
     s.ids (length older + 1) ∙ found_by_label older p (length older + 1) l
@@ -77,7 +81,8 @@ newest older =
     newest_of (length older + 1) (past_of older).made
     (λ m i. (let w : m.label ≤ length older = (sound older m i).within in omega arith))
 
-falls : (log : List Act) (n : ℕ) (act : Act) (new made : List Made) → (new ≡ []) ⊎ IsOne log made n act new → IsNewest n made → AreFalling made →
+falls : (log : List Act) (n : ℕ) (act : Act) (new made : List Made) → (new ≡ []) ⊎ IsOne log made n act new →
+    IsNewest n made → AreFalling made →
     AreFalling (new ++ made)
 falls log n act new made (inl none) w f = subst (λ ms. AreFalling (ms ++ made)) (sym none) f
 falls log n act new made (inr o) w f =
@@ -87,5 +92,6 @@ falls log n act new made (inr o) w f =
 pub falling : (journal : List Entry) → AreFalling (past_of journal).made
 falling [] = tt
 falling (e ∷ older) =
-    falls (log_of (past_of older)) (length older + 1) (means e (length older + 1) (past_of older)).act (means e (length older + 1) (past_of older)).made
+    falls (log_of (past_of older)) (length older + 1) (means e (length older + 1) (past_of older)).act
+    (means e (length older + 1) (past_of older)).made
     (past_of older).made (one_entry e older (sound older)) (newest older) (falling older)

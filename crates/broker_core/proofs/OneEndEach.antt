@@ -24,7 +24,8 @@ use Rattle.broker_core.specs.Taking.{by_end, standing_in, standing_of}
 use Rattle.broker_core.proofs.WhoIsAlive.{IsAlive, alive_is}
 
 pub few_of : (s : State) → Stands s →
-    length s.journal.entries + number_alive s.journal.entries ≤ number_counted s.journal.entries + length (past_of s.journal.entries).joined
+    length s.journal.entries + number_alive s.journal.entries ≤ number_counted s.journal.entries
+    + length (past_of s.journal.entries).joined
 few_of s v =
     let ends = v.ends in
     let alive = alive_count s v in
@@ -33,9 +34,11 @@ few_of s v =
 pub few_ends : (limits : Limits) (b : Broker) (s : State) → shown limits s ≡ b → Stands s →
     length b.journal + number_alive b.journal ≤ number_counted b.journal + length (past_of b.journal).joined
 few_ends limits b s e v =
-    subst (λ (x : Broker). length x.journal + number_alive x.journal ≤ number_counted x.journal + length (past_of x.journal).joined) e (few_of s v)
+    subst (λ (x : Broker). length x.journal + number_alive x.journal ≤ number_counted x.journal
+    + length (past_of x.journal).joined) e (few_of s v)
 
--- Each peer ends at most once: there are no more ends than peers that joined and aren't alive, and each of these has one.
+-- Each peer ends at most once: there are no more ends than peers that joined and aren't alive, and each of these has
+-- one.
 
 -- counts
 
@@ -54,7 +57,8 @@ one_of_both true b e = rw e refl
 one_of_both false b e = rw e refl
 
 -- each passes the one test or the other
-both : {X : Type 0} (p q : X → Bool) → ((x : X) → q x ≡ not (p x)) → (xs : List X) → count_by p xs + count_by q xs ≡ length xs
+both : {X : Type 0} (p q : X → Bool) → ((x : X) → q x ≡ not (p x)) → (xs : List X) →
+    count_by p xs + count_by q xs ≡ length xs
 both p q h [] = refl
 both p q h (x ∷ xs) =
     let one = count_more p x xs in
@@ -95,11 +99,13 @@ hits_end : (k n m : ℕ) (cause : _) → hits k n (entries.End m cause) ≤ 1
 hits_end k zero m cause = omega arith
 hits_end k (suc n) m cause = by (m == k) refl (hits_end (suc k) n m cause)
   where
-    by : (b : Bool) → (m == k) ≡ b → hits (suc k) n (entries.End m cause) ≤ 1 → one_if (m == k) + hits (suc k) n (entries.End m cause) ≤ 1
+    by : (b : Bool) → (m == k) ≡ b → hits (suc k) n (entries.End m cause) ≤ 1 →
+        one_if (m == k) + hits (suc k) n (entries.End m cause) ≤ 1
     by true e rest =
         let same : m ≡ k = eqb-true m k e in
         let one = at_most_one (m == k) in
-        let none : hits (suc k) n (entries.End m cause) ≡ 0 = hits_none (suc k) n (entries.End m cause) (λ q l. ne_eqb m q (λ d. omega arith)) in
+        let none : hits (suc k) n (entries.End m cause) ≡ 0 =
+        hits_none (suc k) n (entries.End m cause) (λ q l. ne_eqb m q (λ d. omega arith)) in
         omega arith
     by false e rest = let here : one_if (m == k) ≡ 0 = ap one_if e in omega arith
 
@@ -129,7 +135,8 @@ has_end (entries.End n cause ∷ older) q h = by (n == q) refl (λ f. has_end ol
     more : times q (entries.End n cause ∷ older) ≡ one_if (n == q) + times q older
     more = count_more (is_end_of q) (entries.End n cause) older
 
-    by : (b : Bool) → (n == q) ≡ b → ((end_of older q ≡ None → ⊥) → 1 ≤ times q older) → ((if b then Some cause else end_of older q) ≡ None → ⊥) →
+    by : (b : Bool) → (n == q) ≡ b → ((end_of older q ≡ None → ⊥) → 1 ≤ times q older) →
+        ((if b then Some cause else end_of older q) ≡ None → ⊥) →
         1 ≤ times q (entries.End n cause ∷ older)
     by true e k h = let here : one_if (n == q) ≡ 1 = ap one_if e in omega (arith, more)
     by false e k h = let rest = k h in omega (arith, more)
@@ -145,7 +152,8 @@ no_end (entries.End n cause ∷ older) q h = by (n == q) refl (λ f. no_end olde
     more : times q (entries.End n cause ∷ older) ≡ one_if (n == q) + times q older
     more = count_more (is_end_of q) (entries.End n cause) older
 
-    by : (b : Bool) → (n == q) ≡ b → (end_of older q ≡ None → times q older ≡ 0) → (if b then Some cause else end_of older q) ≡ None →
+    by : (b : Bool) → (n == q) ≡ b → (end_of older q ≡ None → times q older ≡ 0) →
+        (if b then Some cause else end_of older q) ≡ None →
         times q (entries.End n cause ∷ older) ≡ 0
     by true e k h = cc
     by false e k h =
@@ -160,21 +168,25 @@ no_end (e ∷ older) q h =
 -- each of some peers, from the number k on, has an end where it passes the test
 
 abbrev HaveEnds : (Joined → Bool) → List Entry → ℕ → List Joined → Type 0
-HaveEnds test journal k joined = (i : ℕ) (peer : Joined) → slice_get joined i ≡ Some peer → one_if (test peer) ≤ times (k + i) journal
+HaveEnds test journal k joined =
+    (i : ℕ) (peer : Joined) → slice_get joined i ≡ Some peer → one_if (test peer) ≤ times (k + i) journal
 
-have_first : (test : Joined → Bool) (journal : List Entry) (k : ℕ) (peer : Joined) (rest : List Joined) → HaveEnds test journal k (peer ∷ rest) →
+have_first : (test : Joined → Bool) (journal : List Entry) (k : ℕ) (peer : Joined) (rest : List Joined) →
+    HaveEnds test journal k (peer ∷ rest) →
     one_if (test peer) ≤ times k journal
 have_first test journal k peer rest h =
     let here : k + 0 ≡ k = omega arith in
     subst (λ (q : ℕ). one_if (test peer) ≤ times q journal) here (h 0 peer refl)
 
-have_rest : (test : Joined → Bool) (journal : List Entry) (k : ℕ) (peer : Joined) (rest : List Joined) → HaveEnds test journal k (peer ∷ rest) →
+have_rest : (test : Joined → Bool) (journal : List Entry) (k : ℕ) (peer : Joined) (rest : List Joined) →
+    HaveEnds test journal k (peer ∷ rest) →
     HaveEnds test journal (suc k) rest
 have_rest test journal k peer rest h i p e =
     let there : k + suc i ≡ suc k + i = omega arith in
     subst (λ (q : ℕ). one_if (test p) ≤ times q journal) there (h (suc i) p e)
 
-all_have : (test : Joined → Bool) (journal : List Entry) (k : ℕ) (joined : List Joined) → HaveEnds test journal k joined →
+all_have : (test : Joined → Bool) (journal : List Entry) (k : ℕ) (joined : List Joined) →
+    HaveEnds test journal k joined →
     count_by test joined ≤ total k (length joined) journal
 all_have test journal k [] h = omega arith
 all_have test journal k (peer ∷ rest) h =
@@ -184,7 +196,8 @@ all_have test journal k (peer ∷ rest) h =
     omega arith
 
 -- and one of them has two
-one_has_two : (test : Joined → Bool) (journal : List Entry) (k i : ℕ) (joined : List Joined) → HaveEnds test journal k joined → i < length joined →
+one_has_two : (test : Joined → Bool) (journal : List Entry) (k i : ℕ) (joined : List Joined) →
+    HaveEnds test journal k joined → i < length joined →
     1 < times (k + i) journal → count_by test joined < total k (length joined) journal
 one_has_two test journal k i [] h l w = absurd (omega arith)
 one_has_two test journal k zero (peer ∷ rest) h l w =
@@ -198,7 +211,8 @@ one_has_two test journal k (suc i) (peer ∷ rest) h l w =
     let there : k + suc i ≡ suc k + i = omega arith in
     let first = have_first test journal k peer rest h in
     let more = count_more test peer rest in
-    let later = one_has_two test journal (suc k) i rest (have_rest test journal k peer rest h) (omega arith) (subst (λ (q : ℕ). 1 < times q journal) there w) in
+    let later = one_has_two test journal (suc k) i rest (have_rest test journal k peer rest h) (omega arith)
+    (subst (λ (q : ℕ). 1 < times q journal) there w) in
     omega arith
 
 -- who isn't alive has an end
@@ -206,10 +220,12 @@ one_has_two test journal k (suc i) (peer ∷ rest) h l w =
 abbrev is_over : List Entry → Joined → Bool
 is_over journal peer = not (is_peer (log_of (past_of journal)) peer.label)
 
-standing_by : (journal : List Entry) (q : ℕ) (peer : Joined) → peer_at (past_of journal) q ≡ Some peer → end_of journal q ≡ None → standing_of journal q ≡ Alive
+standing_by : (journal : List Entry) (q : ℕ) (peer : Joined) → peer_at (past_of journal) q ≡ Some peer →
+    end_of journal q ≡ None → standing_of journal q ≡ Alive
 standing_by journal q peer e n = ap (standing_in journal q) e ∙ ap by_end n
 
-over_has : (s : State) → Stands s → (q : ℕ) (peer : Joined) → peer_at (past_of s.journal.entries) q ≡ Some peer → (b : Bool) →
+over_has : (s : State) → Stands s → (q : ℕ) (peer : Joined) → peer_at (past_of s.journal.entries) q ≡ Some peer →
+    (b : Bool) →
     is_peer (log_of (past_of s.journal.entries)) peer.label ≡ b → one_if (not b) ≤ times q s.journal.entries
 over_has s v q peer e true l = omega arith
 over_has s v q peer e false l =
@@ -221,24 +237,30 @@ over_has s v q peer e false l =
     subst (λ (x : Joined). is_peer (log_of (past_of s.journal.entries)) x.label ≡ true) (sym same) a.lives in
     cc))
 
-over_have : (s : State) → Stands s → HaveEnds (is_over s.journal.entries) s.journal.entries 1 (past_of s.journal.entries).joined
+over_have : (s : State) → Stands s →
+    HaveEnds (is_over s.journal.entries) s.journal.entries 1 (past_of s.journal.entries).joined
 over_have s v i peer e =
     let place : suc i ≡ 1 + i = omega arith in
     subst (λ (q : ℕ). one_if (is_over s.journal.entries peer) ≤ times q s.journal.entries) place
     (over_has s v (suc i) peer e (is_peer (log_of (past_of s.journal.entries)) peer.label) refl)
 
 -- who joined is alive or not
-number_joined : (journal : List Entry) → number_alive journal + count_by (is_over journal) (past_of journal).joined ≡ length (past_of journal).joined
-number_joined journal = both (λ (peer : Joined). is_peer (log_of (past_of journal)) peer.label) (is_over journal) (λ peer. refl) (past_of journal).joined
+number_joined : (journal : List Entry) →
+    number_alive journal + count_by (is_over journal) (past_of journal).joined ≡ length (past_of journal).joined
+number_joined journal =
+    both (λ (peer : Joined). is_peer (log_of (past_of journal)) peer.label) (is_over journal) (λ peer. refl)
+    (past_of journal).joined
 
 -- two ends of one peer are too many
-no_two : (s : State) → Stands s → (i : ℕ) → i < length (past_of s.journal.entries).joined → 1 < times (1 + i) s.journal.entries → ⊥
+no_two : (s : State) → Stands s → (i : ℕ) → i < length (past_of s.journal.entries).joined →
+    1 < times (1 + i) s.journal.entries → ⊥
 no_two s v i within two =
     let few = few_of s v in
     let ends = both is_end is_counted (λ e. refl) s.journal.entries in
     let peers = number_joined s.journal.entries in
     let all = total_few 1 (length (past_of s.journal.entries).joined) s.journal.entries in
-    let more = one_has_two (is_over s.journal.entries) s.journal.entries 1 i (past_of s.journal.entries).joined (over_have s v) within two in
+    let more = one_has_two (is_over s.journal.entries) s.journal.entries 1 i (past_of s.journal.entries).joined
+    (over_have s v) within two in
     absurd (omega arith)
 
 -- no peer has the number 0
@@ -247,12 +269,15 @@ none_at_first s v =
     let few = few_of s v in
     let ends = both is_end is_counted (λ e. refl) s.journal.entries in
     let peers = number_joined s.journal.entries in
-    let all : times 0 s.journal.entries + total 1 (length (past_of s.journal.entries).joined) s.journal.entries ≤ count_by is_end s.journal.entries =
+    let all : times 0 s.journal.entries + total 1 (length (past_of s.journal.entries).joined) s.journal.entries
+    ≤ count_by is_end s.journal.entries =
     total_few 0 (suc (length (past_of s.journal.entries).joined)) s.journal.entries in
-    let have = all_have (is_over s.journal.entries) s.journal.entries 1 (past_of s.journal.entries).joined (over_have s v) in
+    let have = all_have (is_over s.journal.entries) s.journal.entries 1 (past_of s.journal.entries).joined
+    (over_have s v) in
     omega arith
 
-one_within : (s : State) → Stands s → (i : ℕ) → i < length (past_of s.journal.entries).joined → times (suc i) s.journal.entries ≤ 1
+one_within : (s : State) → Stands s → (i : ℕ) → i < length (past_of s.journal.entries).joined →
+    times (suc i) s.journal.entries ≤ 1
 one_within s v i within =
     let place : suc i ≡ 1 + i = omega arith in
     elim (cases_lt 1 (times (suc i) s.journal.entries)) [
@@ -268,5 +293,6 @@ one_at s v (suc i) =
       | inr beyond ↦ (let none = no_end s.journal.entries (suc i) (v.left.later (suc i) (omega arith)) in omega arith)
     ]
 
-pub one_end : (limits : Limits) (b : Broker) (s : State) → shown limits s ≡ b → Stands s → (q : ℕ) → count_by (is_end_of q) b.journal ≤ 1
+pub one_end : (limits : Limits) (b : Broker) (s : State) → shown limits s ≡ b → Stands s → (q : ℕ) →
+    count_by (is_end_of q) b.journal ≤ 1
 one_end limits b s e v q = subst (λ (x : Broker). times q x.journal ≤ 1) e (one_at s v q)

@@ -75,7 +75,8 @@ other_bind : (p : ℕ) (vs : List Value) → IsOther (bind p vs)
 other_bind p (word n ∷ vs) = either_way IsOther (n == 2) (acts.Seat p) (acts.Thing p) tt tt
 other_bind p _ = tt
 
-other_rows : (p x : ℕ) (role : Role) (at : ℕ → ℕ) (i : Interface) (vs : List Value) → AllByRecursion IsOther (rows p x role at i vs)
+other_rows : (p x : ℕ) (role : Role) (at : ℕ → ℕ) (i : Interface) (vs : List Value) →
+    AllByRecursion IsOther (rows p x role at i vs)
 other_rows p x role at interface.Display vs = (tt, (tt, tt))
 other_rows p x role at interface.Registry vs = (other_bind p vs, tt)
 other_rows p x role at interface.Compositor vs = (tt, tt)
@@ -84,8 +85,10 @@ other_rows p x role at interface.TextInputManager vs = (tt, (tt, tt))
 other_rows p x role at interface.TextInput vs =
     (tt, (tt, (tt, (other_surround x vs, (other_cause x vs, (other_content x vs, (other_cursor x vs, (tt, tt))))))))
 other_rows p x role at interface.InputMethodManager vs = (tt, (tt, tt))
-other_rows p x role at interface.InputMethod vs =
-    (other_string x vs, (other_preedit x vs, (other_delete x vs, (other_commit x vs, (other_popup at x vs, (tt, (tt, tt)))))))
+other_rows p x role at interface.InputMethod vs = (
+  other_string x vs,
+  (other_preedit x vs, (other_delete x vs, (other_commit x vs, (other_popup at x vs, (tt, (tt, tt)))))),
+)
 other_rows p x role at interface.InputPopupSurface vs = (tt, tt)
 other_rows p x role at interface.KeyboardGrab vs = (tt, tt)
 other_rows p x role at _ vs = tt
@@ -97,31 +100,40 @@ other_row (act ∷ xs) (suc n) h = other_row xs n h.1
 
 -- the act of each entry of a peer
 
-other_request : (past : Past) (n : ℕ) (peer : Joined) (x : ℕ) (m : Message) (o : Option Fault) → IsOther (of_request past n peer x m o).act
+other_request : (past : Past) (n : ℕ) (peer : Joined) (x : ℕ) (m : Message) (o : Option Fault) →
+    IsOther (of_request past n peer x m o).act
 other_request past n peer x m (Some f) = tt
 other_request past n peer x m None =
     other_row (rows peer.label x peer.role (label_at past peer.label) m.interface m.values) m.opcode
     (other_rows peer.label x peer.role (label_at past peer.label) m.interface m.values)
 
-other_reading : (past : Past) (n : ℕ) (peer : Joined) (x : ℕ) (r : Result Message Refuse) → IsOther (of_reading past n peer x r).act
+other_reading : (past : Past) (n : ℕ) (peer : Joined) (x : ℕ) (r : Result Message Refuse) →
+    IsOther (of_reading past n peer x r).act
 other_reading past n peer x (Err e) = tt
-other_reading past n peer x (Ok m) = other_request past n peer x m (request_fault past peer.label peer.role (label_at past peer.label) m)
+other_reading past n peer x (Ok m) =
+    other_request past n peer x m (request_fault past peer.label peer.role (label_at past peer.label) m)
 
-other_message : (past : Past) (n : ℕ) (peer : Joined) (opcode : ℕ) (body : List ℕ) (o : Option Made) → IsOther (of_message past n peer opcode body o).act
+other_message : (past : Past) (n : ℕ) (peer : Joined) (opcode : ℕ) (body : List ℕ) (o : Option Made) →
+    IsOther (of_message past n peer opcode body o).act
 other_message past n peer opcode body None = tt
-other_message past n peer opcode body (Some x) = other_reading past n peer x.label (request_reading x.interface opcode (past.waiting peer.label) body)
+other_message past n peer opcode body (Some x) =
+    other_reading past n peer x.label (request_reading x.interface opcode (past.waiting peer.label) body)
 
-other_peer : (o : Option Joined) (f : Joined → Meaning) → ((peer : Joined) → IsOther (f peer).act) → IsOther (of_peer o f).act
+other_peer : (o : Option Joined) (f : Joined → Meaning) → ((peer : Joined) → IsOther (f peer).act) →
+    IsOther (of_peer o f).act
 other_peer None f h = tt
 other_peer (Some peer) f h = h peer
 
 other_act : (q : ℕ) (step : PeerStep) (older : List Entry) → IsOther (act_at (peer_entry q step) older)
 other_act q (peers.Message id opcode body) older =
-    other_peer (peer_at (past_of older) q) (λ peer. of_message (past_of older) (length older + 1) peer opcode body (object_at (past_of older) peer.label id))
-    (λ peer. other_message (past_of older) (length older + 1) peer opcode body (object_at (past_of older) peer.label id))
+    other_peer (peer_at (past_of older) q)
+    (λ peer. of_message (past_of older) (length older + 1) peer opcode body (object_at (past_of older) peer.label id))
+    (λ peer. other_message (past_of older) (length older + 1) peer opcode body
+    (object_at (past_of older) peer.label id))
 other_act q (peers.Tokens tokens) older = tt
 other_act q (peers.BadSize head) older = other_peer (peer_at (past_of older) q) _ (λ peer. tt)
 other_act q peers.Gone older = other_peer (peer_at (past_of older) q) _ (λ peer. tt)
 
-pub peer_no_route : (q : ℕ) (step : PeerStep) (older : List Entry) (log : List Act) → None ≡ route_told (act_at (peer_entry q step) older) log
+pub peer_no_route : (q : ℕ) (step : PeerStep) (older : List Entry) (log : List Act) →
+    None ≡ route_told (act_at (peer_entry q step) older) log
 peer_no_route q step older log = sym (no_route (act_at (peer_entry q step) older) log (other_act q step older))

@@ -5,13 +5,13 @@ use Rattle.std.proofs.lemmas.List.{length-map}
 use Rattle.relay_model.specs.declared.said.Told.{Told}
 use Rattle.relay_model.specs.Idle.{history}
 use Rattle.relay_model.specs.Told.{told}
-use Rattle.relay_model.proofs.Histories.{length_history}
+use Rattle.relay_model.proofs.ActsOrIdle.{length_history}
 use Rattle.relay_core.specs.Stands as relay
 use Rattle.broker_model.specs.declared.journal.Entry.{Entry}
 use Rattle.broker_model.specs.Ids.{Made}
 use Rattle.broker_model.specs.Resolve.{past_of, resolve}
 use Rattle.broker_model.specs.Out.{act_at}
-use Rattle.broker_model.proofs.Peers.{length_resolve}
+use Rattle.broker_model.proofs.LivePeersJoined.{length_resolve}
 use Rattle.seat_audience.specs.declared.live.Live.{Live}
 use Rattle.broker_core.specs.declared.state.State.{State}
 use Rattle.seat_audience.specs.Lives.{told_all, who}
@@ -21,14 +21,16 @@ use Rattle.broker_core.proofs.PutGroups.{all_played, same_who}
 use Rattle.broker_core.proofs.ToldMessagesFit.{all_short}
 
 -- what the act tells is short
-pub short_told : (e : Entry) (s : State) → IsReadyFor e s → AllByRecursion IsShort (told (act_at e s.journal.entries) (resolve s.journal.entries))
+pub short_told : (e : Entry) (s : State) → IsReadyFor e s →
+    AllByRecursion IsShort (told (act_at e s.journal.entries) (resolve s.journal.entries))
 short_told e s r = all_short (act_at e s.journal.entries) (resolve s.journal.entries) r.fit.0 r.fit.1
 
 -- the relay took as many acts as there are entries
 pub acts_few : (e : Entry) (s : State) → IsReadyFor e s → s.relay.state.acts < 4294967295
 acts_few e s r =
     let taken : s.relay.state.acts ≡ length (history (resolve s.journal.entries)) = r.relayed.state.acts_now in
-    let all : length (history (resolve s.journal.entries)) ≡ length (resolve s.journal.entries) = length_history (resolve s.journal.entries) in
+    let all : length (history (resolve s.journal.entries)) ≡ length (resolve s.journal.entries) =
+    length_history (resolve s.journal.entries) in
     let each : length (resolve s.journal.entries) ≡ length s.journal.entries = length_resolve s.journal.entries in
     let few : length s.journal.entries < 4294967295 = r.few in
     omega arith
@@ -39,7 +41,8 @@ pub record IsEntered (e : Entry) (s t : State) : Type 0 where
   pub relayed : relay.StandsFor t.relay (act_at e s.journal.entries ∷ resolve s.journal.entries)
   pub live :
       t.audience.live.items
-      ≡ map (told_all s.audience.directory.made (told (act_at e s.journal.entries) (resolve s.journal.entries))) s.audience.live.items
+      ≡ map (told_all s.audience.directory.made (told (act_at e s.journal.entries) (resolve s.journal.entries)))
+      s.audience.live.items
   pub directory : t.audience.directory ≡ s.audience.directory
   pub labels : t.labels ≡ s.labels
   pub ended : t.ended ≡ s.ended

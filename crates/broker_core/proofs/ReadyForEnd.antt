@@ -16,8 +16,8 @@ use Rattle.broker_model.specs.declared.journal.Entry.TheVariants as entries
 use Rattle.broker_model.specs.Ids.{Joined, log_of, peer_in, peer_at}
 use Rattle.broker_model.specs.Resolve.{of_peer, only, past_of, resolve}
 use Rattle.broker_model.specs.Out.{act_at, out_for}
-use Rattle.broker_model.proofs.Settling.{end_act}
-use Rattle.broker_model.proofs.Numbers.{label_within}
+use Rattle.broker_model.proofs.SettlingEnds.{end_act}
+use Rattle.broker_model.proofs.LabelsRiseByNumber.{label_within}
 use Rattle.seat_audience.specs.declared.live.Live.{Live}
 use Rattle.broker_core.specs.declared.state.State.{State}
 use Rattle.broker_core.specs.declared.state.Ended.{Ended}
@@ -44,7 +44,8 @@ pub record IsEnding (q : ℕ) (why : EndCause) (l : Live) (s t : State) : Type 0
 
 -- one fewer is alive
 
-fewer_by : (b : Bool) (x : Live) (ys zs : List Live) → length ys ≤ length zs → length (cond b (x ∷ ys) ys) ≤ length (x ∷ zs)
+fewer_by : (b : Bool) (x : Live) (ys zs : List Live) → length ys ≤ length zs →
+    length (cond b (x ∷ ys) ys) ≤ length (x ∷ zs)
 fewer_by true x ys zs h = omega (arith, h)
 fewer_by false x ys zs h = omega (arith, h)
 
@@ -54,22 +55,26 @@ few test (x ∷ xs) = fewer_by (test x) x (filter test xs) xs (few test xs)
 
 fewer_here : (q : ℕ) (l x : Live) (rest : List Live) (b : Bool) → (if b then Some x else number_of q rest) ≡ Some l →
     (number_of q rest ≡ Some l → length (filter (λ y. not (is_number q y)) rest) < length rest) →
-    length (cond (not b) (x ∷ filter (λ y. not (is_number q y)) rest) (filter (λ y. not (is_number q y)) rest)) < length (x ∷ rest)
+    length (cond (not b) (x ∷ filter (λ y. not (is_number q y)) rest) (filter (λ y. not (is_number q y)) rest))
+    < length (x ∷ rest)
 fewer_here q l x rest true e more = (let n = few (λ y. not (is_number q y)) rest in omega (arith, n))
 fewer_here q l x rest false e more = (let n = more e in omega (arith, n))
 
-pub fewer : (q : ℕ) (l : Live) (live : List Live) → number_of q live ≡ Some l → length (filter (λ y. not (is_number q y)) live) < length live
+pub fewer : (q : ℕ) (l : Live) (live : List Live) → number_of q live ≡ Some l →
+    length (filter (λ y. not (is_number q y)) live) < length live
 fewer q l [] e = cc
 fewer q l (x ∷ rest) e = fewer_here q l x rest (is_number q x) e (fewer q l rest)
 
 -- what holds of each live peer holds of the one with the number
 
-of_here : (P : Live → Type 0) (q : ℕ) (l x : Live) (rest : List Live) (b : Bool) → P x → (number_of q rest ≡ Some l → P l) →
+of_here : (P : Live → Type 0) (q : ℕ) (l x : Live) (rest : List Live) (b : Bool) → P x →
+    (number_of q rest ≡ Some l → P l) →
     (if b then Some x else number_of q rest) ≡ Some l → P l
 of_here P q l x rest true p more e = subst P (same_Some x l e) p
 of_here P q l x rest false p more e = more e
 
-pub of_number : (P : Live → Type 0) (q : ℕ) (l : Live) (live : List Live) → AllByRecursion P live → number_of q live ≡ Some l → P l
+pub of_number : (P : Live → Type 0) (q : ℕ) (l : Live) (live : List Live) → AllByRecursion P live →
+    number_of q live ≡ Some l → P l
 of_number P q l [] p e = cc
 of_number P q l (x ∷ rest) p e = of_here P q l x rest (is_number q x) p.0 (of_number P q l rest p.1) e
 
@@ -81,13 +86,15 @@ end_makes q why older peer e = ap (λ o. (of_peer o (λ p. only (acts.Gone p.lab
 gone_reserved : (relay : Shown) (p : ℕ) (why : EndCause) → IsReserved relay (acts.Gone p why)
 gone_reserved relay p why = record { room = tt; spare = tt; board = tt; fits = tt }
 
-kept_store : (capacity : ℕ) (out : _) (store : Option Queue) (was : Queue) → Holds capacity out was → store_of was.capacity store ≡ was → IsKept capacity out store
+kept_store : (capacity : ℕ) (out : _) (store : Option Queue) (was : Queue) → Holds capacity out was →
+    store_of was.capacity store ≡ was → IsKept capacity out store
 kept_store capacity out store was h e = record {
   cells = ap (λ (c : ℕ). store_of c store) (sym (ap (λ (w : Queue). w.capacity) h.cells)) ∙ e ∙ h.cells;
   within = h.within;
 }
 
-pub ready_end : (q : ℕ) (why : EndCause) (l : Live) (s t : State) → Stands s → number_of q s.audience.live.items ≡ Some l →
+pub ready_end : (q : ℕ) (why : EndCause) (l : Live) (s t : State) → Stands s →
+    number_of q s.audience.live.items ≡ Some l →
     length s.journal.entries < 4294967295 → IsEnding q why l s t → IsReadyFor (entries.End q why) t
 ready_end q why l s t v e small n =
     let J : List Entry = s.journal.entries in
@@ -99,8 +106,10 @@ ready_end q why l s t v e small n =
     let lives : is_peer (log_of (past_of J)) l.label ≡ true = it.1 in
     let is : IsLive c J l = of_number (IsLive c J) q l s.audience.live.items v.live e in
     let act : act_at now J ≡ acts.Gone l.label why = end_act J q why peer joined in
-    let fewer_now : length (filter (λ x. not (is_number q x)) s.audience.live.items) < length s.audience.live.items = fewer q l s.audience.live.items e in
-    let many : length t.audience.live.items ≡ length (filter (λ x. not (is_number q x)) s.audience.live.items) = ap length n.live in
+    let fewer_now : length (filter (λ x. not (is_number q x)) s.audience.live.items) < length s.audience.live.items =
+    fewer q l s.audience.live.items e in
+    let many : length t.audience.live.items ≡ length (filter (λ x. not (is_number q x)) s.audience.live.items) =
+    ap length n.live in
     let room : s.journal.room ≡ t.journal.room = ap (λ j. j.room) (sym n.journal) in
     let stamp_room : s.stamps.room ≡ t.stamps.room = ap (λ l. l.room) (sym n.stamps) in
     let it_is : Ready c now J t = record {
@@ -108,12 +117,14 @@ ready_end q why l s t v e small n =
       relayed = subst (λ r. relay.StandsFor r (resolve J)) (sym n.relay) v.relayed;
       reserved = subst (λ a. IsReserved t.relay a) (sym act) (gone_reserved t.relay l.label why);
       made = ap (λ d. d.made) n.directory ∙ v.made ∙ sym (end_makes q why J peer joined);
-      who = ap (map who) n.live ∙ without s.audience.live.items q ∙ ap (filter (λ (m : Numbered). not (m.number == q))) v.who
+      who = ap (map who) n.live ∙ without s.audience.live.items q
+          ∙ ap (filter (λ (m : Numbered). not (m.number == q))) v.who
           ∙ sym (roster_end q why J peer joined lives);
       live = subst (λ (ls : List Live). AllByRecursion (IsReady c now J) ls) (sym n.live)
           (all_kept (IsReady c now J) (λ x. not (is_number q x)) s.audience.live.items
           (all_ready c now J s.audience.live.items v.who
-          (λ x k i. ready_still c now J x k (calls_other now J x.label (label_within J x.number _ i.0) tt) refl refl refl) v.live));
+          (λ x k i. ready_still c now J x k
+          (calls_other now J x.label (label_within J x.number _ i.0) tt) refl refl refl) v.live));
       labels = ap (λ ls. ls.items) n.labels ∙ v.labels;
       left = subst (λ (ends : List (Option Ended)). AreLeft c (now ∷ J) ends) (sym n.ended)
           (left_end quiet last_told c q why J peer n.store s.ended.items joined lives
@@ -132,6 +143,8 @@ ready_end q why l s t v e small n =
     (subst (λ (journal : List Entry). Ready c now journal t) (sym it_is.recorded) it_is)
 
 -- who joined has a number from 1 on, up to how many joined
-pub place_in_joined : (joined : List Joined) (q : ℕ) (peer : Joined) → peer_in joined q ≡ Some peer → (1 ≤ q) × (q ≤ length joined)
+pub place_in_joined : (joined : List Joined) (q : ℕ) (peer : Joined) → peer_in joined q ≡ Some peer →
+    (1 ≤ q) × (q ≤ length joined)
 place_in_joined joined zero peer e = cc
-place_in_joined joined (suc q) peer e = (omega arith, (let w : q < length joined = slice_get_within joined q peer e in omega (arith, w)))
+place_in_joined joined (suc q) peer e =
+    (omega arith, (let w : q < length joined = slice_get_within joined q peer e in omega (arith, w)))

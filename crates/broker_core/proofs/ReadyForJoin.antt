@@ -22,7 +22,7 @@ use Rattle.broker_model.specs.Out.{Outgoing, before_group, out_for}
 use Rattle.broker_model.specs.Settle.{is_bad, refused}
 use Rattle.broker_model.specs.Tables.{calls_for}
 use Rattle.broker_model.specs.Limits.{is_counted, number_counted}
-use Rattle.broker_model.proofs.Numbers.{label_within}
+use Rattle.broker_model.proofs.LabelsRiseByNumber.{label_within}
 use Rattle.seat_audience.specs.declared.live.Live.{Live}
 use Rattle.broker_core.specs.declared.state.State.{State}
 use Rattle.broker_core.specs.declared.state.Ended.{Ended}
@@ -43,7 +43,12 @@ pub record IsJoining (role : Role) (l : Live) (s t : State) : Type 0 where
   pub live : t.audience.live.items ≡ s.audience.live.items ++ l ∷ []
   pub made :
       t.audience.directory.made
-      ≡ record { peer = length s.journal.entries + 1; id = 1; label = length s.journal.entries + 1; interface = interface.Display } ∷ s.audience.directory.made
+      ≡ record {
+        peer = length s.journal.entries + 1;
+        id = 1;
+        label = length s.journal.entries + 1;
+        interface = interface.Display;
+      } ∷ s.audience.directory.made
   pub relayed : relay.StandsFor t.relay (resolve s.journal.entries)
   pub reserved : IsReserved t.relay Peer
   pub recorded : t.journal.entries ≡ s.journal.entries
@@ -55,8 +60,10 @@ pub record IsJoining (role : Role) (l : Live) (s t : State) : Type 0 where
   pub capacity : t.capacity ≡ s.capacity
 
 -- a state stands while no more than room is made, and after a change that failed
-pub still_stands : (s t : State) → Stands s → t.journal ≡ s.journal → t.stamps ≡ s.stamps → t.relay ≡ s.relay → t.capacity ≡ s.capacity →
-    t.audience.directory.made ≡ s.audience.directory.made → t.audience.live.items ≡ s.audience.live.items → t.labels.items ≡ s.labels.items →
+pub still_stands : (s t : State) → Stands s → t.journal ≡ s.journal → t.stamps ≡ s.stamps → t.relay ≡ s.relay →
+    t.capacity ≡ s.capacity →
+    t.audience.directory.made ≡ s.audience.directory.made → t.audience.live.items ≡ s.audience.live.items →
+    t.labels.items ≡ s.labels.items →
     t.ended.items ≡ s.ended.items → Stands t
 still_stands s t v journal stamped relayed capacity made live labels ended =
     let J : List Entry = s.journal.entries in
@@ -86,12 +93,15 @@ still_stands s t v journal stamped relayed capacity made live labels ended =
 -- how long a journal is
 
 -- there are at most as many ends as other entries
-pub few_entries : (s : State) → Stands s → number_counted s.journal.entries < 4000000 → length s.journal.entries < 8000000
+pub few_entries : (s : State) → Stands s → number_counted s.journal.entries < 4000000 →
+    length s.journal.entries < 8000000
 few_entries s v h = let a = v.ends in let b = v.joins in omega arith
 
 -- one more entry that is no end
-pub counted_one : (e : Entry) (older : List Entry) → is_counted e ≡ true → number_counted (e ∷ older) ≡ 1 + number_counted older
-counted_one e older h = sum_by-cons (λ x. cond (is_counted x) 1 0) e older ∙ ap (λ (b : Bool). cond b 1 0 + number_counted older) h
+pub counted_one : (e : Entry) (older : List Entry) → is_counted e ≡ true →
+    number_counted (e ∷ older) ≡ 1 + number_counted older
+counted_one e older h =
+    sum_by-cons (λ x. cond (is_counted x) 1 0) e older ∙ ap (λ (b : Bool). cond b 1 0 + number_counted older) h
 
 -- no message of a peer that is yet to join was refused
 
@@ -107,7 +117,8 @@ refused_by true c r n q e h k = h (eqb-true n q e)
 refused_by false c r n q e h k = k
 
 fewer_joined : (e : Entry) (n : ℕ) (joined : List Joined) → length joined ≤ length (with_joined e n joined)
-fewer_joined (entries.Join role) n joined = (let a = length-append joined (record { label = n; role = role } ∷ []) in omega arith)
+fewer_joined (entries.Join role) n joined =
+    (let a = length-append joined (record { label = n; role = role } ∷ []) in omega arith)
 fewer_joined _ n joined = omega arith
 
 pub refused_none : (journal : List Entry) (q : ℕ) → length (past_of journal).joined < q → refused journal q ≡ false
@@ -118,36 +129,43 @@ refused_none (entries.Join role ∷ older) q l =
     refused_none older q (omega arith)
 refused_none (entries.Message n id opcode body ∷ older) q l =
     refused_by (n == q) _ (refused older q) n q refl
-    (λ d. none_bad (peer_at (past_of older) n) _ (ap (peer_at (past_of older)) d ∙ later_none (past_of older).joined q l)) (refused_none older q l)
+    (λ d. none_bad (peer_at (past_of older) n) _
+    (ap (peer_at (past_of older)) d ∙ later_none (past_of older).joined q l)) (refused_none older q l)
 refused_none (entries.Tokens n tokens ∷ older) q l = refused_none older q l
 refused_none (entries.BadSize n head ∷ older) q l =
     refused_by (n == q) _ (refused older q) n q refl
-    (λ d. none_bad (peer_at (past_of older) n) _ (ap (peer_at (past_of older)) d ∙ later_none (past_of older).joined q l)) (refused_none older q l)
+    (λ d. none_bad (peer_at (past_of older) n) _
+    (ap (peer_at (past_of older)) d ∙ later_none (past_of older).joined q l)) (refused_none older q l)
 refused_none (entries.End n why ∷ older) q l = refused_none older q l
 refused_none (entries.Shell step ∷ older) q l = refused_none older q l
 refused_none (entries.Took n bytes ∷ older) q l = refused_none older q l
 
 -- the peer that joins
 
-new_ready : (capacity number : ℕ) (role : Role) (older : List Entry) (l : Live) → length (past_of older).joined < number →
+new_ready : (capacity number : ℕ) (role : Role) (older : List Entry) (l : Live) →
+    length (past_of older).joined < number →
     IsNewcomer capacity number (length older + 1) role l → IsReady capacity (entries.Join role) older l
 new_ready capacity number role older l w n =
     let label : l.label ≡ length older + 1 = ap (λ (m : Numbered). m.peer.label) n.is in
     let none : out_for capacity older l.label ≡ record { put = nothing; taken = 0; choked = false } =
     unborn quiet capacity older l.label (omega arith) in
-    let empty : Holds capacity (before_group (entries.Join role) older l.label (record { put = nothing; taken = 0; choked = false })) l.store =
+    let empty : Holds capacity
+    (before_group (entries.Join role) older l.label (record { put = nothing; taken = 0; choked = false })) l.store =
     record { cells = n.store; within = omega arith } in
     record {
-      holds = subst (λ (o : Outgoing). Holds capacity (before_group (entries.Join role) older l.label o) l.store) (sym none) empty;
+      holds = subst (λ (o : Outgoing). Holds capacity (before_group (entries.Join role) older l.label o) l.store)
+          (sym none) empty;
       choked = n.choked ∙ sym (ap (λ (o : Outgoing). o.choked) none);
       room = ap (λ g. g.capacity) n.gathering;
       table = subst (λ (calls : List Call). table.Stands calls l.table)
           (sym (calls_joined role older) ∙ ap (calls_for (entries.Join role ∷ older)) (sym label)) n.table;
-      refused = n.refused ∙ sym (ap (refused older) (ap (λ (m : Numbered). m.number) n.is) ∙ refused_none older number w);
+      refused = n.refused
+          ∙ sym (ap (refused older) (ap (λ (m : Numbered). m.number) n.is) ∙ refused_none older number w);
       waiting = n.waiting ∙ sym (none_waits older l.label (omega arith));
     }
 
-pub ready_join : (role : Role) (l : Live) (s t : State) → Stands s → CanTake (entries.Join role) s.journal.entries → IsJoining role l s t →
+pub ready_join : (role : Role) (l : Live) (s t : State) → Stands s → CanTake (entries.Join role) s.journal.entries →
+    IsJoining role l s t →
     IsReadyFor (entries.Join role) t
 ready_join role l s t v k n =
     let J : List Entry = s.journal.entries in
@@ -159,21 +177,32 @@ ready_join role l s t v k n =
     let short : length J < 8000000 = few_entries s v k.few in
     let many : length t.audience.live.items ≡ length s.audience.live.items + 1 =
     ap length n.live ∙ length-append s.audience.live.items (l ∷ []) in
-    let longer : length (past_of (now ∷ J)).joined ≡ length (past_of J).joined + 1 = length-append (past_of J).joined (peer ∷ []) in
+    let longer : length (past_of (now ∷ J)).joined ≡ length (past_of J).joined + 1 =
+    length-append (past_of J).joined (peer ∷ []) in
     let counted : number_counted (now ∷ J) ≡ 1 + number_counted J = counted_one now J refl in
     let it_is : Ready c now J t = record {
       recorded = n.recorded;
       relayed = n.relayed;
       reserved = n.reserved;
-      made = n.made ∙ ap (λ (ms : List Made). record { peer = length J + 1; id = 1; label = length J + 1; interface = interface.Display } ∷ ms) v.made;
-      who = ap (map who) n.live ∙ map-append who s.audience.live.items (l ∷ []) ∙ ap (λ (ns : List Numbered). ns ++ who l ∷ []) v.who
+      made = n.made
+          ∙ ap (λ (ms : List Made). record {
+            peer = length J + 1;
+            id = 1;
+            label = length J + 1;
+            interface = interface.Display;
+          } ∷ ms) v.made;
+      who = ap (map who) n.live ∙ map-append who s.audience.live.items (l ∷ [])
+          ∙ ap (λ (ns : List Numbered). ns ++ who l ∷ []) v.who
           ∙ ap (λ (m : Numbered). roster J ++ m ∷ []) n.new.is ∙ sym (roster_join role J);
       live = subst (λ (ls : List Live). AllByRecursion (IsReady c now J) ls) (sym n.live)
           (all_more (IsReady c now J) s.audience.live.items l
           (all_ready c now J s.audience.live.items v.who
-          (λ x i it. ready_still c now J x i (calls_other now J x.label (label_within J x.number _ it.0) tt) refl refl refl) v.live) new);
-      labels = n.labels ∙ ap (λ (ls : List ℕ). ls ++ (length J + 1) ∷ []) v.labels ∙ sym (map-append label_of (past_of J).joined (peer ∷ []));
-      left = subst (λ (ends : List (Option Ended)). AreLeft c (now ∷ J) ends) (sym n.ended) (left_join quiet c role J s.ended.items v.left);
+          (λ x i it. ready_still c now J x i
+          (calls_other now J x.label (label_within J x.number _ it.0) tt) refl refl refl) v.live) new);
+      labels = n.labels ∙ ap (λ (ls : List ℕ). ls ++ (length J + 1) ∷ []) v.labels
+          ∙ sym (map-append label_of (past_of J).joined (peer ∷ []));
+      left = subst (λ (ends : List (Option Ended)). AreLeft c (now ∷ J) ends) (sym n.ended)
+          (left_join quiet c role J s.ended.items v.left);
       fit = (tt, v.fit);
       store = n.capacity;
       room = (let a = n.room in omega arith);

@@ -34,7 +34,7 @@ use Rattle.seat_wire.specs.Meant.{meant}
 use Rattle.broker_model.specs.Settle.{is_bad, refused}
 use Rattle.broker_model.specs.Tables.{calls_for}
 use Rattle.broker_model.specs.Waiting.{with_tokens, without_taken, takes_token}
-use Rattle.broker_model.proofs.Numbers.{label_within}
+use Rattle.broker_model.proofs.LabelsRiseByNumber.{label_within}
 use Rattle.seat_audience.specs.declared.live.Live.{Live}
 use Rattle.seat_audience.specs.Changes.{own_calls, IsChanged}
 use Rattle.broker_core.proofs.MessageCalls.{calls_own}
@@ -74,8 +74,11 @@ plain_spoken (entries.Join role) h = absurd h
 plain_spoken (entries.End q why) h = absurd h
 plain_spoken (entries.Took q n) h = absurd h
 
-one_more_by : (e : Entry) (older : List Entry) → is_counted e ≡ true → number_counted (e ∷ older) ≡ 1 + number_counted older
-one_more_by e older h = sum_by-cons (λ (x : Entry). cond (is_counted x) 1 0) e older ∙ ap (λ (b : Bool). cond b 1 0 + number_counted older) h
+one_more_by : (e : Entry) (older : List Entry) → is_counted e ≡ true →
+    number_counted (e ∷ older) ≡ 1 + number_counted older
+one_more_by e older h =
+    sum_by-cons (λ (x : Entry). cond (is_counted x) 1 0) e older
+    ∙ ap (λ (b : Bool). cond b 1 0 + number_counted older) h
 
 one_more : (e : Entry) (older : List Entry) → IsSpoken e → number_counted (e ∷ older) ≡ 1 + number_counted older
 one_more (entries.Message q id opcode body) older h = one_more_by (entries.Message q id opcode body) older refl
@@ -86,7 +89,8 @@ one_more (entries.Join role) older h = absurd h
 one_more (entries.End q why) older h = absurd h
 one_more (entries.Took q n) older h = absurd h
 
-pub ready_spoken : (e : Entry) (s t : State) → Stands s → IsSpoken e → CanTake e s.journal.entries → IsPrepared (act_at e s.journal.entries) s t →
+pub ready_spoken : (e : Entry) (s t : State) → Stands s → IsSpoken e → CanTake e s.journal.entries →
+    IsPrepared (act_at e s.journal.entries) s t →
     FitsMessage (act_at e s.journal.entries) →
     t.audience.directory.made ≡ (past_of (e ∷ s.journal.entries)).made →
     map who t.audience.live.items ≡ map who s.audience.live.items →
@@ -108,7 +112,8 @@ ready_spoken e s t v spoken can n fits made same live =
       who = same ∙ v.who ∙ sym (roster_plain e J (plain_spoken e spoken));
       live = live;
       labels = ap (λ l. l.items) n.labels ∙ v.labels ∙ ap (map (λ (peer : Joined). peer.label)) (sym joins);
-      left = subst (λ (ends : List (Option Ended)). AreLeft c (e ∷ J) ends) (ap (λ l. l.items) (sym n.ended)) (left_plain quiet c e J s.ended.items spoken v.left);
+      left = subst (λ (ends : List (Option Ended)). AreLeft c (e ∷ J) ends) (ap (λ l. l.items) (sym n.ended))
+          (left_plain quiet c e J s.ended.items spoken v.left);
       fit = (fits, v.fit);
       store = n.capacity;
       room = (let a = n.room in omega arith);
@@ -119,7 +124,8 @@ ready_spoken e s t v spoken can n fits made same live =
       few = (let a = v.ends in let b = v.joins in let d = can.few in omega arith);
       light = λ d. can.light;
     } in
-    subst (λ (k : ℕ). Ready k e t.journal.entries t) (sym n.capacity) (subst (λ (journal : List Entry). Ready c e journal t) (sym n.recorded) it)
+    subst (λ (k : ℕ). Ready k e t.journal.entries t) (sym n.capacity)
+    (subst (λ (journal : List Entry). Ready c e journal t) (sym n.recorded) it)
 
 -- A state that is ready for the header of a bad size, for a step of the shell, and for a message.
 
@@ -136,31 +142,37 @@ ready_shell step s t v can n made live =
     ready_spoken e s t v tt can n (act_fits e J tt) (made ∙ v.made) (ap (map who) same)
     (subst (λ (ls : List Live). AllByRecursion (IsReady s.capacity e J) ls) (sym same)
     (all_ready s.capacity e J s.audience.live.items v.who
-    (λ l k i. ready_still s.capacity e J l k (calls_other e J l.label (label_within J l.number _ i.0) tt) refl refl refl) v.live))
+    (λ l k i. ready_still s.capacity e J l k
+    (calls_other e J l.label (label_within J l.number _ i.0) tt) refl refl refl) v.live))
 
 -- one live peer is another, and keeps its number: what holds then of the one and of all others
 
-change_all : (P : Live → Type 0) (place : ℕ) (l after : Live) (live : List Live) → slice_get live place ≡ Some l → P after →
-    AllByRecursion (λ x. (x.number == l.number) ≡ false → P x) live → (q : ℕ) → AreAbove q live → AllByRecursion P (set live place after)
+change_all : (P : Live → Type 0) (place : ℕ) (l after : Live) (live : List Live) → slice_get live place ≡ Some l →
+    P after →
+    AllByRecursion (λ x. (x.number == l.number) ≡ false → P x) live → (q : ℕ) → AreAbove q live →
+    AllByRecursion P (set live place after)
 change_all P place l after [] e p h q above = cc
 change_all P zero l after (x ∷ rest) e p h q above =
     let it : x ≡ l = same_Some x l e in
     (p, later rest x.number above.1 h.1 (subst (λ (y : Live). y.number ≤ x.number) it (omega arith)))
   where
-    later : (ls : List Live) (k : ℕ) → AreAbove k ls → AllByRecursion (λ y. (y.number == l.number) ≡ false → P y) ls → l.number ≤ k → AllByRecursion P ls
+    later : (ls : List Live) (k : ℕ) → AreAbove k ls → AllByRecursion (λ y. (y.number == l.number) ≡ false → P y) ls →
+        l.number ≤ k → AllByRecursion P ls
     later [] k a g w = tt
     later (y ∷ ys) k a g w =
         let b : k < y.number = a.0 in
         (g.0 (ne_eqb y.number l.number (λ d. omega (arith, d, b, w))), later ys y.number a.1 g.1 (omega (arith, b, w)))
 change_all P (suc place) l after (x ∷ rest) e p h q above = (
-  h.0 (ne_eqb x.number l.number (λ d. (let b : x.number < l.number = beyond rest x.number place above.1 e in omega (arith, d, b)))),
+  h.0 (ne_eqb x.number l.number
+      (λ d. (let b : x.number < l.number = beyond rest x.number place above.1 e in omega (arith, d, b)))),
   change_all P place l after rest e p h.1 x.number above.1,
 )
   where
     beyond : (ls : List Live) (k at : ℕ) → AreAbove k ls → slice_get ls at ≡ Some l → k < l.number
     beyond [] k at a g = cc
     beyond (y ∷ ys) k zero a g = subst (λ (z : Live). k < z.number) (same_Some y l g) a.0
-    beyond (y ∷ ys) k (suc at) a g = (let b = a.0 in let d : y.number < l.number = beyond ys y.number at a.1 g in omega (arith, b, d))
+    beyond (y ∷ ys) k (suc at) a g =
+        (let b = a.0 in let d : y.number < l.number = beyond ys y.number at a.1 g in omega (arith, b, d))
 
 -- the others don't have the number
 other : (q : ℕ) (l x : Live) → l.number ≡ q → (x.number == l.number) ≡ false → (q == x.number) ≡ false
@@ -168,15 +180,18 @@ other q l x n d = ne_eqb q x.number (λ e. true≢false (sym (eq-eqb x.number l.
 
 -- each live peer is itself and stays as it was, where an entry of the peer q doesn't touch it
 others_ready : (e : Entry) (q : ℕ) (l : Live) (s : State) → Stands s → number_of q s.audience.live.items ≡ Some l →
-    ((x : Live) → IsLive s.capacity s.journal.entries x → IsItself s.journal.entries x → (q == x.number) ≡ false → IsReady s.capacity e s.journal.entries x) →
-    AllByRecursion (λ (x : Live). (x.number == l.number) ≡ false → IsReady s.capacity e s.journal.entries x) s.audience.live.items
+    ((x : Live) → IsLive s.capacity s.journal.entries x → IsItself s.journal.entries x → (q == x.number) ≡ false →
+    IsReady s.capacity e s.journal.entries x) →
+    AllByRecursion
+    (λ (x : Live). (x.number == l.number) ≡ false → IsReady s.capacity e s.journal.entries x) s.audience.live.items
 others_ready e q l s v f h =
     let it = at_number s.journal.entries s.audience.live.items v.who q l f in
     both (IsLive s.capacity s.journal.entries) (IsItself s.journal.entries)
     (λ (x : Live). (x.number == l.number) ≡ false → IsReady s.capacity e s.journal.entries x) s.audience.live.items
     (λ x k i d. h x k i (other q l x it.2 d)) v.live (each_alive s.journal.entries s.audience.live.items v.who)
 
-set_who : (place : ℕ) (l after : Live) (live : List Live) → slice_get live place ≡ Some l → who after ≡ who l → map who (set live place after) ≡ map who live
+set_who : (place : ℕ) (l after : Live) (live : List Live) → slice_get live place ≡ Some l → who after ≡ who l →
+    map who (set live place after) ≡ map who live
 set_who place l after [] e w = cc
 set_who zero l after (x ∷ rest) e w = ap (λ (n : _). n ∷ map who rest) (w ∙ ap who (sym (same_Some x l e)))
 set_who (suc place) l after (x ∷ rest) e w = ap (λ (ns : List _). who x ∷ ns) (set_who place l after rest e w)
@@ -189,16 +204,20 @@ bad_act q head older peer e = ap (λ o. (of_peer o (λ (p : Joined). refused_for
 
 bad_makes : (q : ℕ) (head : List ℕ) (older : List Entry) (peer : Joined) → peer_at (past_of older) q ≡ Some peer →
     (past_of (entries.BadSize q head ∷ older)).made ≡ (past_of older).made
-bad_makes q head older peer e = ap (λ o. (of_peer o (λ (p : Joined). refused_for p.label p.label faults.Size)).made ++ (past_of older).made) e
+bad_makes q head older peer e =
+    ap (λ o. (of_peer o (λ (p : Joined). refused_for p.label p.label faults.Size)).made ++ (past_of older).made) e
 
-bad_refused : (q : ℕ) (head : List ℕ) (older : List Entry) (peer : Joined) (k : ℕ) → peer_at (past_of older) q ≡ Some peer → k ≡ q →
+bad_refused : (q : ℕ) (head : List ℕ) (older : List Entry) (peer : Joined) (k : ℕ) →
+    peer_at (past_of older) q ≡ Some peer → k ≡ q →
     refused (entries.BadSize q head ∷ older) k ≡ true
 bad_refused q head older peer k e n = rw (eq-eqb q k (sym n)) (ap is_bad (bad_act q head older peer e))
 
-bad_others : (q : ℕ) (head : List ℕ) (older : List Entry) (k : ℕ) → (q == k) ≡ false → refused (entries.BadSize q head ∷ older) k ≡ refused older k
+bad_others : (q : ℕ) (head : List ℕ) (older : List Entry) (k : ℕ) → (q == k) ≡ false →
+    refused (entries.BadSize q head ∷ older) k ≡ refused older k
 bad_others q head older k d = rw d refl
 
-pub ready_bad : (q : ℕ) (head : List ℕ) (place : ℕ) (l : Live) (s t : State) → Stands s → CanTake (entries.BadSize q head) s.journal.entries →
+pub ready_bad : (q : ℕ) (head : List ℕ) (place : ℕ) (l : Live) (s t : State) → Stands s →
+    CanTake (entries.BadSize q head) s.journal.entries →
     number_of q s.audience.live.items ≡ Some l → slice_get s.audience.live.items place ≡ Some l →
     IsPrepared (act_at (entries.BadSize q head) s.journal.entries) s t →
     t.audience.directory.made ≡ s.audience.directory.made →
@@ -213,7 +232,8 @@ ready_bad q head place l s t v can f at n made live =
     let joined : peer_at (past_of J) q ≡ Some peer = it.0 in
     let is : IsLive s.capacity J l = of_number (IsLive s.capacity J) q l s.audience.live.items v.live f in
     let still : table.Stands (calls_for (e ∷ J) l.label) l.table =
-    subst (λ (calls : List Call). table.Stands calls l.table) (sym (calls_other e J l.label (label_within J q peer joined) tt)) is.table in
+    subst (λ (calls : List Call). table.Stands calls l.table)
+    (sym (calls_other e J l.label (label_within J q peer joined) tt)) is.table in
     let here : IsReady s.capacity e J after = record {
       holds = (ready_holds s.capacity e J l is refl).holds;
       choked = is.choked;
@@ -227,7 +247,8 @@ ready_bad q head place l s t v can f at n made live =
     (subst (λ (ls : List Live). AllByRecursion (IsReady s.capacity e J) ls) (sym live)
     (change_all (IsReady s.capacity e J) place l after s.audience.live.items at here
     (others_ready e q l s v f
-    (λ x k i d. ready_still s.capacity e J x k (calls_other e J x.label (label_within J x.number _ i.0) tt) (bad_others q head J x.number d) refl refl))
+    (λ x k i d. ready_still s.capacity e J x k (calls_other e J x.label (label_within J x.number _ i.0) tt)
+    (bad_others q head J x.number d) refl refl))
     0 (rising J s.audience.live.items v.who)))
 
 -- the act of a message
@@ -240,7 +261,8 @@ message_act q id opcode body older p m e = ap (λ (k : Meaning). k.act) (sym e)
 message_refused : (q id opcode : ℕ) (body : List ℕ) (older : List Entry) (p : ℕ) (m : declared.Meaning) (k : ℕ) →
     meant p (length older + 1) m ≡ means (entries.Message q id opcode body) (length older + 1) (past_of older) → k ≡ q →
     refused (entries.Message q id opcode body ∷ older) k ≡ is_bad m.act
-message_refused q id opcode body older p m k e n = rw (eq-eqb q k (sym n)) (ap is_bad (message_act q id opcode body older p m e))
+message_refused q id opcode body older p m k e n =
+    rw (eq-eqb q k (sym n)) (ap is_bad (message_act q id opcode body older p m e))
 
 message_others : (q id opcode : ℕ) (body : List ℕ) (older : List Entry) (k : ℕ) → (q == k) ≡ false →
     refused (entries.Message q id opcode body ∷ older) k ≡ refused older k
@@ -248,21 +270,27 @@ message_others q id opcode body older k d = rw d refl
 
 message_makes : (q id opcode : ℕ) (body : List ℕ) (older : List Entry) (p : ℕ) (m : declared.Meaning) →
     meant p (length older + 1) m ≡ means (entries.Message q id opcode body) (length older + 1) (past_of older) →
-    (past_of (entries.Message q id opcode body ∷ older)).made ≡ made_new p (length older + 1) (option_map asked m.made) ++ (past_of older).made
+    (past_of (entries.Message q id opcode body ∷ older)).made
+    ≡ made_new p (length older + 1) (option_map asked m.made) ++ (past_of older).made
 message_makes q id opcode body older p m e = ap (λ (k : Meaning). k.made ++ (past_of older).made) (sym e)
 
 -- it isn't from any other live peer
-not_from : (q id opcode : ℕ) (body : List ℕ) (older : List Entry) (peer : Joined) (x : Live) → peer_at (past_of older) q ≡ Some peer → IsItself older x →
+not_from : (q id opcode : ℕ) (body : List ℕ) (older : List Entry) (peer : Joined) (x : Live) →
+    peer_at (past_of older) q ≡ Some peer → IsItself older x →
     (q == x.number) ≡ false → IsNotFrom (entries.Message q id opcode body) older x.label
 not_from q id opcode body older peer x e i d =
-    ap (λ o. is_label o x.label) e ∙ label_number older q x.number peer (record { label = x.label; role = x.role }) e i.0 ∙ d
+    ap (λ o. is_label o x.label) e
+    ∙ label_number older q x.number peer (record { label = x.label; role = x.role }) e i.0 ∙ d
 
-pub ready_message : (q id opcode : ℕ) (body : List ℕ) (place : ℕ) (l after : Live) (m : declared.Meaning) (s t : State) → Stands s →
+pub ready_message : (q id opcode : ℕ) (body : List ℕ) (place : ℕ) (l after : Live) (m : declared.Meaning)
+    (s t : State) → Stands s →
     CanTake (entries.Message q id opcode body) s.journal.entries → length body ≤ 4088 →
     number_of q s.audience.live.items ≡ Some l → slice_get s.audience.live.items place ≡ Some l →
-    meant l.label (length s.journal.entries + 1) m ≡ means (entries.Message q id opcode body) (length s.journal.entries + 1) (past_of s.journal.entries) →
+    meant l.label (length s.journal.entries + 1) m
+    ≡ means (entries.Message q id opcode body) (length s.journal.entries + 1) (past_of s.journal.entries) →
     IsPrepared m.act s t →
-    t.audience.directory.made ≡ made_new l.label (length s.journal.entries + 1) (option_map asked m.made) ++ s.audience.directory.made →
+    t.audience.directory.made
+    ≡ made_new l.label (length s.journal.entries + 1) (option_map asked m.made) ++ s.audience.directory.made →
     m.takes_token ≡ takes_token (object_at (past_of s.journal.entries) l.label id) opcode →
     IsChanged id (length s.journal.entries + 1) m.takes_token m.act (option_map asked m.made) l after →
     t.audience.live.items ≡ set s.audience.live.items place after →
@@ -275,7 +303,8 @@ ready_message q id opcode body place l after m s t v can short f at meaning n ma
     let joined : peer_at (past_of J) q ≡ Some peer = it.0 in
     let is : IsLive s.capacity J l = of_number (IsLive s.capacity J) q l s.audience.live.items v.live f in
     let act : act_at e J ≡ m.act = message_act q id opcode body J l.label m meaning in
-    let calls : calls_for (e ∷ J) l.label ≡ own_calls id (length J + 1) m.act (option_map asked m.made) ++ calls_for J l.label =
+    let calls : calls_for (e ∷ J) l.label
+    ≡ own_calls id (length J + 1) m.act (option_map asked m.made) ++ calls_for J l.label =
     calls_own q id opcode body J peer m joined it.1 meaning in
     let changed : Live = record l {
       table = after.table;
@@ -286,19 +315,23 @@ ready_message q id opcode body place l after m s t v can short f at meaning n ma
       holds = (ready_holds s.capacity e J l is refl).holds;
       choked = is.choked;
       room = is.room;
-      table = subst (λ (cs : List Call). table.Stands cs after.table) (sym calls) (change.table (calls_for J l.label) is.table);
+      table = subst (λ (cs : List Call). table.Stands cs after.table) (sym calls)
+          (change.table (calls_for J l.label) is.table);
       refused = sym (message_refused q id opcode body J l.label m l.number meaning it.2);
       waiting = ap (without_taken m.takes_token) is.waiting
           ∙ ap (λ (b : Bool). without_taken b ((past_of J).waiting l.label)) takes
           ∙ sym (message_own q id opcode body (past_of J) peer joined);
     } in
     ready_spoken e s t v tt can (subst (λ a. IsPrepared a s t) (sym act) n) (act_fits e J short)
-    (made ∙ ap (λ (ms : List Made). made_new l.label (length J + 1) (option_map asked m.made) ++ ms) v.made ∙ sym (message_makes q id opcode body J l.label m meaning))
+    (made ∙ ap (λ (ms : List Made). made_new l.label (length J + 1) (option_map asked m.made) ++ ms) v.made
+    ∙ sym (message_makes q id opcode body J l.label m meaning))
     (ap (map who) live ∙ set_who place l after s.audience.live.items at (ap who change.same))
     (subst (λ (ls : List Live). AllByRecursion (IsReady s.capacity e J) ls) (sym live)
-    (change_all (IsReady s.capacity e J) place l after s.audience.live.items at (subst (IsReady s.capacity e J) (sym change.same) here)
+    (change_all (IsReady s.capacity e J) place l after s.audience.live.items at
+    (subst (IsReady s.capacity e J) (sym change.same) here)
     (others_ready e q l s v f
-    (λ x k i d. ready_still s.capacity e J x k (calls_other e J x.label (label_within J x.number _ i.0) (not_from q id opcode body J peer x joined i d))
+    (λ x k i d. ready_still s.capacity e J x k
+    (calls_other e J x.label (label_within J x.number _ i.0) (not_from q id opcode body J peer x joined i d))
     (message_others q id opcode body J x.number d) refl
     (message_other q id opcode body (past_of J) peer x.label joined
     (label_number J q x.number peer (record { label = x.label; role = x.role }) joined i.0 ∙ d))))
@@ -306,8 +339,10 @@ ready_message q id opcode body place l after m s t v can short f at meaning n ma
 
 -- tokens of a live peer: they wait for it
 
-pub ready_tokens : (q : ℕ) (tokens : List ℕ) (place : ℕ) (l : Live) (s t : State) → Stands s → CanTake (entries.Tokens q tokens) s.journal.entries →
-    number_of q s.audience.live.items ≡ Some l → slice_get s.audience.live.items place ≡ Some l → IsPrepared acts.Idle s t →
+pub ready_tokens : (q : ℕ) (tokens : List ℕ) (place : ℕ) (l : Live) (s t : State) → Stands s →
+    CanTake (entries.Tokens q tokens) s.journal.entries →
+    number_of q s.audience.live.items ≡ Some l → slice_get s.audience.live.items place ≡ Some l →
+    IsPrepared acts.Idle s t →
     t.audience.directory.made ≡ s.audience.directory.made →
     t.audience.live.items ≡ set s.audience.live.items place (record l { waiting = with_tokens l.waiting tokens }) →
     IsReadyFor (entries.Tokens q tokens) t
@@ -320,14 +355,16 @@ ready_tokens q tokens place l s t v can f at n made live =
     let joined : peer_at (past_of J) q ≡ Some peer = it.0 in
     let is : IsLive s.capacity J l = of_number (IsLive s.capacity J) q l s.audience.live.items v.live f in
     let still : table.Stands (calls_for (e ∷ J) l.label) l.table =
-    subst (λ (calls : List Call). table.Stands calls l.table) (sym (calls_other e J l.label (label_within J q peer joined) tt)) is.table in
+    subst (λ (calls : List Call). table.Stands calls l.table)
+    (sym (calls_other e J l.label (label_within J q peer joined) tt)) is.table in
     let here : IsReady s.capacity e J after = record {
       holds = (ready_holds s.capacity e J l is refl).holds;
       choked = is.choked;
       room = is.room;
       table = still;
       refused = is.refused;
-      waiting = ap (λ (w : List ℕ). with_tokens w tokens) is.waiting ∙ sym (tokens_own q tokens (past_of J) peer joined);
+      waiting = ap (λ (w : List ℕ). with_tokens w tokens) is.waiting
+          ∙ sym (tokens_own q tokens (past_of J) peer joined);
     } in
     ready_spoken e s t v tt can n (act_fits e J tt) (made ∙ v.made)
     (ap (map who) live ∙ set_who place l after s.audience.live.items at refl)

@@ -35,7 +35,9 @@ alive_count s v = sym (length-map s.audience.live.items who) ∙ ap length v.who
 -- a join
 
 abbrev if_many : Broker → Role → Bool → Option JoinRefusal
-if_many b role t = (if t then Some (join.TooManyPeers 64) else option_map (λ kept. join.JournalFull kept) (full_for b (entries.Join role)))
+if_many b role t =
+    (if t then Some (join.TooManyPeers 64)
+    else option_map (λ kept. join.JournalFull kept) (full_for b (entries.Join role)))
 
 too_many : (b : Broker) (role : Role) → 64 ≤ number_alive b.journal → join_refusal b role ≡ Some (join.TooManyPeers 64)
 too_many b role h = ap (if_many b role) (le-leb 64 (number_alive b.journal) h)
@@ -45,15 +47,18 @@ not_many : (b : Broker) (role : Role) → number_alive b.journal < 64 →
 not_many b role h = ap (if_many b role) (lt-leb 64 (number_alive b.journal) h)
 
 -- what was found of the journal, where fewer are alive
-pub join_found : (limits : Limits) (s : State) (b : Broker) (role : Role) (o : Option Kept) → shown limits s ≡ b → Stands s → length s.audience.live.items < 64 →
-    ((e : Entry) → is_end e ≡ false → weight_of e ≡ 16 → o ≡ full_for b e) → join_refusal b role ≡ option_map (λ kept. join.JournalFull kept) o
+pub join_found : (limits : Limits) (s : State) (b : Broker) (role : Role) (o : Option Kept) → shown limits s ≡ b →
+    Stands s → length s.audience.live.items < 64 →
+    ((e : Entry) → is_end e ≡ false → weight_of e ≡ 16 → o ≡ full_for b e) →
+    join_refusal b role ≡ option_map (λ kept. join.JournalFull kept) o
 join_found limits s b role o v t few f =
     let alive = alive_count s t in
     ap (λ (x : Broker). join_refusal x role) (sym v) ∙ not_many (shown limits s) role (omega arith)
     ∙ ap (λ (x : Broker). option_map (λ (kept : Kept). join.JournalFull kept) (full_for x (entries.Join role))) v
     ∙ ap (option_map (λ (kept : Kept). join.JournalFull kept)) (sym (f (entries.Join role) refl refl))
 
-pub join_many : (limits : Limits) (s : State) (b : Broker) (role : Role) → shown limits s ≡ b → Stands s → 64 ≤ length s.audience.live.items →
+pub join_many : (limits : Limits) (s : State) (b : Broker) (role : Role) → shown limits s ≡ b → Stands s →
+    64 ≤ length s.audience.live.items →
     Some (join.TooManyPeers 64) ≡ join_refusal b role
 join_many limits s b role v t many =
     let alive = alive_count s t in
@@ -61,8 +66,10 @@ join_many limits s b role v t many =
 
 -- a step that is no peer's
 
-pub other_refusal : (b : Broker) (step : Step) (o : Option Refused) → ((e : Entry) → is_end e ≡ false → weight_of e ≡ 16 → o ≡ refusal_if_full b e) →
-    ((role : Role) × (step ≡ steps.Join role)) ⊎ (((said : ShellStep) × (step ≡ steps.Shell said)) ⊎ ((q : ℕ) × (n : ℕ) × (step ≡ steps.Take q n))) →
+pub other_refusal : (b : Broker) (step : Step) (o : Option Refused) →
+    ((e : Entry) → is_end e ≡ false → weight_of e ≡ 16 → o ≡ refusal_if_full b e) →
+    ((role : Role) × (step ≡ steps.Join role))
+    ⊎ (((said : ShellStep) × (step ≡ steps.Shell said)) ⊎ ((q : ℕ) × (n : ℕ) × (step ≡ steps.Take q n))) →
     o ≡ refusal b step
 other_refusal b step o f (inl j) = f (entries.Join j.0) refl refl ∙ ap (refusal b) (sym j.1)
 other_refusal b step o f (inr (inl s)) = f (entries.Shell s.0) refl refl ∙ ap (refusal b) (sym s.1)
@@ -72,24 +79,31 @@ other_refusal b step o f (inr (inr t)) = f (entries.Took t.0 t.1) refl refl ∙ 
 
 abbrev if_nothing : Broker → ℕ → Bool → Option Took
 if_nothing b q t =
-    (if t then Some (nothing_left (end_of b.journal q)) else option_map (λ kept. took.JournalFull kept) (full_for b (entries.Took q 0)))
+    (if t then Some (nothing_left (end_of b.journal q))
+    else option_map (λ kept. took.JournalFull kept) (full_for b (entries.Took q 0)))
 
-some_out : (o : Option Outgoing) (n : ℕ) → Some n ≡ option_map (λ out. length (stored out)) o → (out : Outgoing) × (o ≡ Some out) × (length (stored out) ≡ n)
+some_out : (o : Option Outgoing) (n : ℕ) → Some n ≡ option_map (λ out. length (stored out)) o →
+    (out : Outgoing) × (o ≡ Some out) × (length (stored out) ≡ n)
 some_out None n h = cc
 some_out (Some out) n h = (out, refl, sym (same_Some n (length (stored out)) h))
 
-something : (b : Broker) (q n : ℕ) → Some n ≡ option_map (λ (out : Outgoing). length (stored out)) (out_at b.limits.store b.journal q) → (n ≡ 0 → ⊥) →
+something : (b : Broker) (q n : ℕ) →
+    Some n ≡ option_map (λ (out : Outgoing). length (stored out)) (out_at b.limits.store b.journal q) → (n ≡ 0 → ⊥) →
     take_refusal b q ≡ option_map (λ kept. took.JournalFull kept) (full_for b (entries.Took q 0))
 something b q n h d =
     let o = some_out (out_at b.limits.store b.journal q) n h in
     ap (take_refusal_from b q) o.1 ∙ ap (if_nothing b q) (ne_eqb (length (stored o.0)) 0 (λ z. d (sym o.2 ∙ z)))
 
 -- what was found of the journal, where something is stored
-pub take_found : (limits : Limits) (s : State) (b : Broker) (q n : ℕ) (r : Option ℕ) (o : Option Kept) → shown limits s ≡ b → s.capacity ≡ limits.store →
-    r ≡ option_map (λ (out : Outgoing). length (stored out)) (out_at s.capacity s.journal.entries q) → r ≡ Some n → (n ≡ 0 → ⊥) →
-    ((e : Entry) → is_end e ≡ false → weight_of e ≡ 16 → o ≡ full_for b e) → take_refusal b q ≡ option_map (λ kept. took.JournalFull kept) o
+pub take_found : (limits : Limits) (s : State) (b : Broker) (q n : ℕ) (r : Option ℕ) (o : Option Kept) →
+    shown limits s ≡ b → s.capacity ≡ limits.store →
+    r ≡ option_map (λ (out : Outgoing). length (stored out)) (out_at s.capacity s.journal.entries q) → r ≡ Some n →
+    (n ≡ 0 → ⊥) →
+    ((e : Entry) → is_end e ≡ false → weight_of e ≡ 16 → o ≡ full_for b e) →
+    take_refusal b q ≡ option_map (λ kept. took.JournalFull kept) o
 take_found limits s b q n r o v c h e d f =
-    let of : List Entry → ℕ → Option ℕ = λ journal store. option_map (λ (out : Outgoing). length (stored out)) (out_at store journal q) in
+    let of : List Entry → ℕ → Option ℕ =
+    λ journal store. option_map (λ (out : Outgoing). length (stored out)) (out_at store journal q) in
     something b q n (sym e ∙ h ∙ ap (of s.journal.entries) c ∙ ap (λ (x : Broker). of x.journal x.limits.store) v) d
     ∙ ap (option_map (λ (kept : Kept). took.JournalFull kept)) (sym (f (entries.Took q 0) refl refl))
 
@@ -103,7 +117,8 @@ place_by : (b : Broker) (q : ℕ) (t : Bool) → if_nothing b q t ≡ None → f
 place_by b q true h = cc
 place_by b q false h = none_mapped (full_for b (entries.Took q 0)) h
 
-place_from : (b : Broker) (q : ℕ) (o : Option Outgoing) → take_refusal_from b q o ≡ None → full_for b (entries.Took q 0) ≡ None
+place_from : (b : Broker) (q : ℕ) (o : Option Outgoing) → take_refusal_from b q o ≡ None →
+    full_for b (entries.Took q 0) ≡ None
 place_from b q None h = cc
 place_from b q (Some out) h = place_by b q (length (stored out) == 0) h
 
@@ -121,5 +136,6 @@ join_by : (b : Broker) (role : Role) (t : Bool) → nat_le 64 (number_alive b.jo
 join_by b role true e h = cc
 join_by b role false e h = (leb-false 64 (number_alive b.journal) e, none_joined (full_for b (entries.Join role)) h)
 
-pub join_place : (b : Broker) (role : Role) → join_refusal b role ≡ None → (number_alive b.journal < 64) × (full_for b (entries.Join role) ≡ None)
+pub join_place : (b : Broker) (role : Role) → join_refusal b role ≡ None →
+    (number_alive b.journal < 64) × (full_for b (entries.Join role) ≡ None)
 join_place b role h = join_by b role (nat_le 64 (number_alive b.journal)) refl h

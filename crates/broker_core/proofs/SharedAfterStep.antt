@@ -15,7 +15,7 @@ use Rattle.broker_model.specs.Limits.{is_end, is_counted, number_counted, weight
 use Rattle.broker_model.specs.Settle.{is_due, number_alive, settle, history, step_of, outer}
 use Rattle.broker_model.specs.Stamps.{follows, stamp_of, stamps, step_stamps}
 use Rattle.broker_model.proofs.StampsAgain.{step_stamped, again}
-use Rattle.broker_model.proofs.Settling.{IsSettled, history_settled, history_stays}
+use Rattle.broker_model.proofs.SettlingEnds.{IsSettled, history_settled, history_stays}
 use Rattle.broker_core.specs.declared.state.State.{State}
 use Rattle.broker_core.specs.declared.taking.Standing.TheVariants.{Alive}
 use Rattle.broker_core.specs.Stands.{Stands}
@@ -38,16 +38,20 @@ pub record IsWithin (limits : Limits) (e : Entry) (older : List Entry) : Type 0 
 
 -- the stamps that stand for what was given with the steps of the one do so of the other
 abbrev pub StampsOn : State → State → Type 0
-StampsOn s t = (given : List Stamp) → stamps s.journal.entries given ≡ s.stamps.stamps → stamps t.journal.entries given ≡ t.stamps.stamps
+StampsOn s t =
+    (given : List Stamp) → stamps s.journal.entries given ≡ s.stamps.stamps →
+    stamps t.journal.entries given ≡ t.stamps.stamps
 
 -- what the entry and the ends that follow make of the state
 pub record IsStepped (e : Entry) (given : Stamp) (s t : State) : Type 0 where
   pub stands : Stands t
   pub capacity : t.capacity ≡ s.capacity
   pub entered : t.journal.entries ≡ settle s.capacity (e ∷ s.journal.entries)
-  pub stamped : (gave : List Stamp) → stamps s.journal.entries gave ≡ s.stamps.stamps → stamps t.journal.entries (given ∷ gave) ≡ t.stamps.stamps
+  pub stamped : (gave : List Stamp) → stamps s.journal.entries gave ≡ s.stamps.stamps →
+      stamps t.journal.entries (given ∷ gave) ≡ t.stamps.stamps
 
-pub stepped : (e : Entry) (given : Stamp) (s m t : State) → follows e ≡ false → m.capacity ≡ s.capacity → m.journal.entries ≡ e ∷ s.journal.entries →
+pub stepped : (e : Entry) (given : Stamp) (s m t : State) → follows e ≡ false → m.capacity ≡ s.capacity →
+    m.journal.entries ≡ e ∷ s.journal.entries →
     m.stamps.stamps ≡ stamp_of e given s.stamps.stamps ∷ s.stamps.stamps → Stands t → t.capacity ≡ m.capacity →
     t.journal.entries ≡ settle m.capacity m.journal.entries → StampsOn m t → IsStepped e given s t
 stepped e given s m t f c j p v d k on = record {
@@ -63,11 +67,13 @@ stepped e given s m t f c j p v d k on = record {
 }
 
 -- the stamps that the steps have give the same again
-same_again : (journal : List Entry) (gave now : List Stamp) → stamps journal gave ≡ now → stamps journal (step_stamps journal now) ≡ now
+same_again : (journal : List Entry) (gave now : List Stamp) → stamps journal gave ≡ now →
+    stamps journal (step_stamps journal now) ≡ now
 same_again journal gave now h =
     ap (λ (ss : List Stamp). stamps journal (step_stamps journal ss)) (sym h) ∙ again journal gave ∙ h
 
-pub stays : (limits : Limits) (e : Entry) (given : Stamp) (s t : State) → IsBroker limits s → IsWithin limits e s.journal.entries → IsStepped e given s t →
+pub stays : (limits : Limits) (e : Entry) (given : Stamp) (s t : State) → IsBroker limits s →
+    IsWithin limits e s.journal.entries → IsStepped e given s t →
     IsBroker limits t
 stays limits e given s t b w h =
     let J : List Entry = e ∷ s.journal.entries in
@@ -84,7 +90,8 @@ stays limits e given s t b w h =
       stands = h.stands;
       capacity = h.capacity ∙ b.capacity;
       limited = b.limited;
-      steps = ap (λ journal. history limits.store (outer journal)) now ∙ history_stays limits.store e s.journal.entries w.step b.steps ∙ sym now;
+      steps = ap (λ journal. history limits.store (outer journal)) now
+          ∙ history_stays limits.store e s.journal.entries w.step b.steps ∙ sym now;
       counted = subst (λ n. n ≤ limits.entries) (sym counted) wc;
       light = subst (λ n. n ≤ limits.weight) (sym weighs) wl;
       few = subst (λ n. n ≤ 64) (sym lives) (omega arith);
@@ -92,17 +99,25 @@ stays limits e given s t b w h =
           (h.stamped (step_stamps s.journal.entries s.stamps.stamps) b.stamped);
     }
 
-pub becomes : (limits : Limits) (e : Entry) (given : Stamp) (b : Broker) (s t : State) → shown limits s ≡ b → IsBroker limits s → IsStepped e given s t →
+pub becomes : (limits : Limits) (e : Entry) (given : Stamp) (b : Broker) (s t : State) → shown limits s ≡ b →
+    IsBroker limits s → IsStepped e given s t →
     shown limits t ≡ with_step e given b
 becomes limits e given b s t v i h =
     let gave : List Stamp = step_stamps s.journal.entries s.stamps.stamps in
-    let now : t.journal.entries ≡ settle limits.store (e ∷ s.journal.entries) = h.entered ∙ ap (λ n. settle n (e ∷ s.journal.entries)) i.capacity in
-    ap (λ (ss : List Stamp). record { limits = limits; journal = t.journal.entries; stamps = ss }) (sym (h.stamped gave i.stamped))
-    ∙ ap (λ (journal : List Entry). record { limits = limits; journal = journal; stamps = stamps journal (given ∷ gave) }) now
+    let now : t.journal.entries ≡ settle limits.store (e ∷ s.journal.entries) =
+    h.entered ∙ ap (λ n. settle n (e ∷ s.journal.entries)) i.capacity in
+    ap (λ (ss : List Stamp). record { limits = limits; journal = t.journal.entries; stamps = ss })
+    (sym (h.stamped gave i.stamped))
+    ∙ ap (λ (journal : List Entry). record {
+      limits = limits;
+      journal = journal;
+      stamps = stamps journal (given ∷ gave);
+    }) now
     ∙ ap (with_step e given) v
 
 -- it stays one, and shows the same, where a call that took nothing left its journal and its stamps
-pub stays_as : (limits : Limits) (s t : State) → IsBroker limits s → Stands t → t.capacity ≡ s.capacity → t.journal.entries ≡ s.journal.entries →
+pub stays_as : (limits : Limits) (s t : State) → IsBroker limits s → Stands t → t.capacity ≡ s.capacity →
+    t.journal.entries ≡ s.journal.entries →
     t.stamps.stamps ≡ s.stamps.stamps → IsBroker limits t
 stays_as limits s t b v c j p = record {
   stands = v;
@@ -116,7 +131,8 @@ stays_as limits s t b v c j p = record {
       (subst (λ (ss : List Stamp). stamps s.journal.entries (step_stamps s.journal.entries ss) ≡ ss) (sym p) b.stamped);
 }
 
-pub shows_as : (limits : Limits) (b : Broker) (s t : State) → shown limits s ≡ b → t.journal.entries ≡ s.journal.entries →
+pub shows_as : (limits : Limits) (b : Broker) (s t : State) → shown limits s ≡ b →
+    t.journal.entries ≡ s.journal.entries →
     t.stamps.stamps ≡ s.stamps.stamps → shown limits t ≡ b
 shows_as limits b s t v j p =
     ap (λ (J : List Entry). record { limits = limits; journal = J; stamps = t.stamps.stamps }) j
@@ -124,19 +140,24 @@ shows_as limits b s t v j p =
     ∙ v
 
 -- how many peers joined, the ends that follow don't change
-pub joined_stays : (e : Entry) (s m t : State) → m.journal.entries ≡ e ∷ s.journal.entries → t.journal.entries ≡ settle m.capacity m.journal.entries →
+pub joined_stays : (e : Entry) (s m t : State) → m.journal.entries ≡ e ∷ s.journal.entries →
+    t.journal.entries ≡ settle m.capacity m.journal.entries →
     length (past_of t.journal.entries).joined ≡ length (past_of m.journal.entries).joined
-joined_stays e s m t j k = ap (λ journal. length (past_of journal).joined) k ∙ ap length (same_settled m.capacity m.journal.entries).joined
+joined_stays e s m t j k =
+    ap (λ journal. length (past_of journal).joined) k ∙ ap length (same_settled m.capacity m.journal.entries).joined
 
 -- nobody is due
 
 settled_journal : (limits : Limits) (s : State) → IsBroker limits s → IsSettled limits.store s.journal.entries
-settled_journal limits s i = subst (IsSettled limits.store) i.steps (history_settled limits.store (outer s.journal.entries))
+settled_journal limits s i =
+    subst (IsSettled limits.store) i.steps (history_settled limits.store (outer s.journal.entries))
 
-pub nobody_due : (limits : Limits) (b : Broker) (s : State) → shown limits s ≡ b → IsBroker limits s → (q : ℕ) (peer : Joined) →
+pub nobody_due : (limits : Limits) (b : Broker) (s : State) → shown limits s ≡ b → IsBroker limits s →
+    (q : ℕ) (peer : Joined) →
     peer_at (past_of b.journal) q ≡ Some peer → is_due b.limits.store b.journal q peer ≡ false
 nobody_due limits b s v i q peer e =
-    let quiet : IsSettled b.limits.store b.journal = subst (λ (x : Broker). IsSettled x.limits.store x.journal) v (settled_journal limits s i) in
+    let quiet : IsSettled b.limits.store b.journal =
+    subst (λ (x : Broker). IsSettled x.limits.store x.journal) v (settled_journal limits s i) in
     quiet.nobody q peer e
 
 -- an entry for which the journal isn't full
@@ -156,19 +177,22 @@ pub record HasPlace (limits : Limits) (e : Entry) (journal : List Entry) : Type 
   pub few : number_counted journal < limits.entries
   pub light : weight journal + weight_of e ≤ limits.weight
 
-pub has_place : (limits : Limits) (e : Entry) (b : Broker) (s : State) → shown limits s ≡ b → is_end e ≡ false → full_for b e ≡ None →
+pub has_place : (limits : Limits) (e : Entry) (b : Broker) (s : State) → shown limits s ≡ b → is_end e ≡ false →
+    full_for b e ≡ None →
     HasPlace limits e s.journal.entries
 has_place limits e b s v n f =
     let J : List Entry = s.journal.entries in
     let full : is_full limits J e ≡ false = none_full (is_full limits J e) _ (ap (λ x. full_for x e) v ∙ f) in
-    let two = neither (is_end e) (nat_le limits.entries (number_counted J)) (nat_lt limits.weight (weight J + weight_of e)) n full in
+    let two = neither (is_end e) (nat_le limits.entries (number_counted J))
+    (nat_lt limits.weight (weight J + weight_of e)) n full in
     record { few = leb-false _ _ two.0; light = ltb-false _ _ two.1 }
 
 at_most_one : (b : Bool) → cond b 1 0 ≤ 1
 at_most_one true = omega arith
 at_most_one false = omega arith
 
-within : (limits : Limits) (e : Entry) (older : List Entry) → step_of e ≡ e ∷ [] → HasPlace limits e older → number_alive (e ∷ older) ≤ 64 →
+within : (limits : Limits) (e : Entry) (older : List Entry) → step_of e ≡ e ∷ [] → HasPlace limits e older →
+    number_alive (e ∷ older) ≤ 64 →
     IsWithin limits e older
 within limits e older t p f =
     let c = counted_cons e older in
@@ -180,15 +204,19 @@ within limits e older t p f =
 
 -- by the kind of the entry
 
-pub within_plain : (limits : Limits) (e : Entry) (s : State) → IsPlain e → step_of e ≡ e ∷ [] → IsBroker limits s → HasPlace limits e s.journal.entries →
+pub within_plain : (limits : Limits) (e : Entry) (s : State) → IsPlain e → step_of e ≡ e ∷ [] → IsBroker limits s →
+    HasPlace limits e s.journal.entries →
     IsWithin limits e s.journal.entries
 within_plain limits e s k t b p =
-    within limits e s.journal.entries t p (let few = b.few in let same = alive_plain e s.journal.entries k in omega arith)
+    within limits e s.journal.entries t p
+    (let few = b.few in let same = alive_plain e s.journal.entries k in omega arith)
 
-pub within_join : (limits : Limits) (role : Role) (s : State) → number_alive s.journal.entries < 64 → HasPlace limits (entries.Join role) s.journal.entries →
+pub within_join : (limits : Limits) (role : Role) (s : State) → number_alive s.journal.entries < 64 →
+    HasPlace limits (entries.Join role) s.journal.entries →
     IsWithin limits (entries.Join role) s.journal.entries
 within_join limits role s f p =
-    within limits (entries.Join role) s.journal.entries refl p (let one = alive_join role s.journal.entries in omega arith)
+    within limits (entries.Join role) s.journal.entries refl p
+    (let one = alive_join role s.journal.entries in omega arith)
 
 pub within_gone : (limits : Limits) (q : ℕ) (s : State) → IsBroker limits s → standing_of s.journal.entries q ≡ Alive →
     IsWithin limits (entries.End q Gone) s.journal.entries

@@ -58,7 +58,9 @@ around_shown log None cause = tt
 around_shown log (Some around) cause = (tt, (tt, tt))
 
 state_shown : (log : List Act) (s : State) → AreSaid log (state_said s)
-state_shown log s = each_append (IsShown log) (around_said s.surrounding s.cause) _ (around_shown log s.surrounding s.cause) (tt, (tt, tt))
+state_shown log s =
+    each_append (IsShown log) (around_said s.surrounding s.cause) _ (around_shown log s.surrounding s.cause)
+    (tt, (tt, tt))
 
 holder_shown : (log now : List Act) (o : Option ℕ) → AreSaid log (holders_state now o)
 holder_shown log now None = tt
@@ -73,7 +75,8 @@ notice_shown log now (Some Deactivates) = (tt, (tt, tt))
 pub method_shown : (log : List Act) (act : Act) (older : List Act) (o : Option ℕ) → AreShown log (to_method act older o)
 method_shown log act older None = tt
 method_shown log act older (Some m) =
-    each_map (IsTold log) (to m) (notice_said (act ∷ older) (notice act older)) (notice_shown log (act ∷ older) (notice act older))
+    each_map (IsTold log) (to m) (notice_said (act ∷ older) (notice act older))
+    (notice_shown log (act ∷ older) (notice act older))
 
 -- a batch
 
@@ -84,13 +87,15 @@ preedit_shown : (log : List Act) (p : Preedit) → AreSaid log (preedit_said p)
 preedit_shown log p = either_way (AreSaid log) (is_no_preedit p) [] (said.Preedit p.text p.begin p.end ∷ []) tt (tt, tt)
 
 deletion_shown : (log : List Act) (d : Deletion) → AreSaid log (deletion_said d)
-deletion_shown log d = either_way (AreSaid log) ((d.before == 0) && (d.after == 0)) [] (said.Delete d.before d.after ∷ []) tt (tt, tt)
+deletion_shown log d =
+    either_way (AreSaid log) ((d.before == 0) && (d.after == 0)) [] (said.Delete d.before d.after ∷ []) tt (tt, tt)
 
 group_shown : (log : List Act) (b : Batch) (count : ℕ) → AreSaid log (group b count)
 group_shown log b count =
     each_append (IsShown log) (deletion_said b.deletion) _ (deletion_shown log b.deletion)
     (each_append (IsShown log) (string_said b.string) _ (string_shown log b.string)
-    (each_append (IsShown log) (preedit_said b.preedit) (said.FieldDone count ∷ []) (preedit_shown log b.preedit) (tt, tt)))
+    (each_append (IsShown log) (preedit_said b.preedit) (said.FieldDone count ∷ []) (preedit_shown log b.preedit)
+    (tt, tt)))
 
 batch_said : (log : List Act) (act : Act) (older : List Act) (f : ℕ) → AreSaid log (group_of act older f)
 batch_said log (acts.MCommit m serial) older f = group_shown log (batch older m) (commit_count older f)
@@ -102,10 +107,12 @@ batch_shown log act older (Some f) = each_map (IsTold log) (to f) (group_of act 
 
 -- fields that are left or entered
 
-entered_shown : (log : List Act) (say : ℕ → ℕ → Told) (now : List Act) (o : Option ℕ) → ((s f : ℕ) → IsTold log (say s f)) → AreShown log (each_entered say now o)
+entered_shown : (log : List Act) (say : ℕ → ℕ → Told) (now : List Act) (o : Option ℕ) →
+    ((s f : ℕ) → IsTold log (say s f)) → AreShown log (each_entered say now o)
 entered_shown log say now None h = tt
 entered_shown log say now (Some s) h =
-    each_map (IsTold log) (say s) (filter (entered now) (fields now)) (each_of (λ f. IsTold log (say s f)) (filter (entered now) (fields now)) (h s))
+    each_map (IsTold log) (say s) (filter (entered now) (fields now))
+    (each_of (λ f. IsTold log (say s f)) (filter (entered now) (fields now)) (h s))
 
 leaves_shown : (log : List Act) (act : Act) (older : List Act) → AreShown log (leaves act older)
 leaves_shown log (acts.Focus s) older = entered_shown log leave older (focus older) (λ t f. tt)
@@ -117,20 +124,24 @@ new_shown log now f None = tt
 new_shown log now f (Some s) = either_way (AreShown log) (entered now f) (enter s f ∷ []) [] (tt, tt) tt
 
 enters_shown : (log : List Act) (act : Act) (older : List Act) → AreShown log (enters act older)
-enters_shown log (acts.Focus s) older = entered_shown log enter (acts.Focus s ∷ older) (focus (acts.Focus s ∷ older)) (λ t f. tt)
+enters_shown log (acts.Focus s) older =
+    entered_shown log enter (acts.Focus s ∷ older) (focus (acts.Focus s ∷ older)) (λ t f. tt)
 enters_shown log (acts.Field p) older = new_shown log (acts.Field p ∷ older) (next older) (focus (acts.Field p ∷ older))
 enters_shown log _ older = tt
 
 -- popups
 
-ready_alive : (log : List Act) (x s : ℕ) (o : Option Object) → object log x ≡ o → ready_surface log x ≡ Some s → is_some o ≡ true
+ready_alive : (log : List Act) (x s : ℕ) (o : Option Object) → object log x ≡ o → ready_surface log x ≡ Some s →
+    is_some o ≡ true
 ready_alive log x s None e r =
     let none : ready_surface log x ≡ None =
-    ap (λ (o : Option Object). (if is_same (method_in o) (serving log) then where_alive log (surface_in o) else None)) e in
+    ap (λ (o : Option Object). (if is_same (method_in o) (serving log) then where_alive log (surface_in o) else None)) e
+    in
     cc
 ready_alive log x s (Some o) e r = refl
 
-where_shown : (log : List Act) (x : ℕ) (s : Option ℕ) → ready_surface log x ≡ s → AreShown log (told_where log x s (cursor log))
+where_shown : (log : List Act) (x : ℕ) (s : Option ℕ) → ready_surface log x ≡ s →
+    AreShown log (told_where log x s (cursor log))
 where_shown log x None r = tt
 where_shown log x (Some s) r =
     elim (cursor log) as (λ rect. AreShown log (told_where log x (Some s) rect)) [
@@ -143,7 +154,8 @@ popup_shown log x = where_shown log x (ready_surface log x) refl
 
 popups_shown : (log : List Act) → AreShown log (each_popup log)
 popups_shown log =
-    each_flat (IsTold log) (popup_told log) (popups log) (each_of (λ x. AreShown log (popup_told log x)) (popups log) (λ x. popup_shown log x))
+    each_flat (IsTold log) (popup_told log) (popups log)
+    (each_of (λ x. AreShown log (popup_told log x)) (popups log) (λ x. popup_shown log x))
 
 -- the keyboard
 
@@ -162,7 +174,8 @@ mods_shown log n (Some m) = (tt, tt)
 keyboard_shown : (log : List Act) (n : ℕ) (older : List Act) → AreSaid log (keyboard_said n older)
 keyboard_shown log n older =
     each_append (IsShown log) (keymap_said (last_keymap older)) _ (keymap_shown log (last_keymap older))
-    (each_append (IsShown log) (repeat_said (last_repeat older)) (mods_said n (last_mods older)) (repeat_shown log (last_repeat older))
+    (each_append (IsShown log) (repeat_said (last_repeat older)) (mods_said n (last_mods older))
+    (repeat_shown log (last_repeat older))
     (mods_shown log n (last_mods older)))
 
 grab_shown : (log : List Act) (o : Option ℕ) (event : Said) → IsShown log event → AreShown log (to_grab o event)
@@ -200,10 +213,12 @@ own_shown (acts.Mods mods) older k =
     grab_shown (acts.Mods mods ∷ older) (standing older) (said.Mods (next older) mods) tt
 own_shown (acts.Keymap keymap) older k =
     grab_shown (acts.Keymap keymap ∷ older) (standing older) (said.Keymap keymap) tt
-own_shown (acts.Repeat repeat) older k = grab_shown (acts.Repeat repeat ∷ older) (standing older) (said.Repeat repeat) tt
+own_shown (acts.Repeat repeat) older k =
+    grab_shown (acts.Repeat repeat ∷ older) (standing older) (said.Repeat repeat) tt
 own_shown (acts.Registry p role) older k =
     each_map (IsTold (acts.Registry p role ∷ older)) (global_told (next older)) (offered role)
-    (each_of (λ offer. IsTold (acts.Registry p role ∷ older) (global_told (next older) offer)) (offered role) (λ offer. tt))
+    (each_of (λ offer. IsTold (acts.Registry p role ∷ older) (global_told (next older) offer)) (offered role)
+    (λ offer. tt))
 own_shown (acts.Sync p) older k = (tt, (tt, tt))
 own_shown (acts.Seat p) older k = (tt, tt)
 own_shown (acts.Bad p fault x) older k = (tt, tt)
@@ -212,10 +227,13 @@ own_shown _ older k = tt
 pub all_shown : (act : Act) (older : List Act) → IsNoKey act → AreShown (act ∷ older) (told_by act older)
 all_shown act older k =
     each_append (IsTold (act ∷ older)) (leaves act older) _ (leaves_shown (act ∷ older) act older)
-    (each_append (IsTold (act ∷ older)) (to_method act older (serving (act ∷ older))) _ (method_shown (act ∷ older) act older (serving (act ∷ older)))
-    (each_append (IsTold (act ∷ older)) (enters act older) (own act older) (enters_shown (act ∷ older) act older) (own_shown act older k)))
+    (each_append (IsTold (act ∷ older)) (to_method act older (serving (act ∷ older))) _
+    (method_shown (act ∷ older) act older (serving (act ∷ older)))
+    (each_append (IsTold (act ∷ older)) (enters act older) (own act older) (enters_shown (act ∷ older) act older)
+    (own_shown act older k)))
 
--- What the shell is told names the peers of live popups alone: it is the same among those who are alive as among all that joined.
+-- What the shell is told names the peers of live popups alone: it is the same among those who are alive as among all
+-- that joined.
 
 -- a popup that it places is alive
 abbrev pub PlacesLive : List Act → Said → Type 0
@@ -245,7 +263,8 @@ key_places log at time key state Nowhere = tt
 key_places log at time key state Refused = tt
 
 by_key : (older : List Act) (time key state : ℕ) (b : Bool) →
-    AllPlaceLive ((if b then acts.Key time key state else acts.Idle) ∷ older) (told_by (if b then acts.Key time key state else acts.Idle) older)
+    AllPlaceLive ((if b then acts.Key time key state else acts.Idle) ∷ older)
+    (told_by (if b then acts.Key time key state else acts.Idle) older)
 by_key older time key state true =
     let act : Act = acts.Key time key state in
     each_append (λ (t : Told). PlacesLive (act ∷ older) t.event) (to_method act older (serving (act ∷ older)))
@@ -256,7 +275,8 @@ by_key older time key state false = all_place_live (acts.Idle ∷ older) _ (all_
 
 -- the same of a board
 by_board_key : (older : List Act) (v time key state : ℕ) (b : Bool) →
-    AllPlaceLive ((if b then acts.VKey v time key state else acts.Idle) ∷ older) (told_by (if b then acts.VKey v time key state else acts.Idle) older)
+    AllPlaceLive ((if b then acts.VKey v time key state else acts.Idle) ∷ older)
+    (told_by (if b then acts.VKey v time key state else acts.Idle) older)
 by_board_key older v time key state true =
     let act : Act = acts.VKey v time key state in
     each_append (λ (t : Told). PlacesLive (act ∷ older) t.event) (to_method act older (serving (act ∷ older)))
@@ -270,7 +290,8 @@ mods_places log at mods None = (tt, tt)
 mods_places log at mods (Some g) = (tt, tt)
 
 by_board_mods : (older : List Act) (v : ℕ) (mods : keys.Mods) (b : Bool) →
-    AllPlaceLive ((if b then acts.VMods v mods else acts.Idle) ∷ older) (told_by (if b then acts.VMods v mods else acts.Idle) older)
+    AllPlaceLive ((if b then acts.VMods v mods else acts.Idle) ∷ older)
+    (told_by (if b then acts.VMods v mods else acts.Idle) older)
 by_board_mods older v mods true =
     let act : Act = acts.VMods v mods in
     each_append (λ (t : Told). PlacesLive (act ∷ older) t.event) (to_method act older (serving (act ∷ older)))
@@ -280,13 +301,15 @@ by_board_mods older v mods true =
 by_board_mods older v mods false = all_place_live (acts.Idle ∷ older) _ (all_shown acts.Idle older tt)
 
 -- any other act
-by_other : (act : Act) (older : List Act) → IsNoKey act → AllPlaceLive (cleaned act older ∷ older) (told_by (cleaned act older) older)
+by_other : (act : Act) (older : List Act) → IsNoKey act →
+    AllPlaceLive (cleaned act older ∷ older) (told_by (cleaned act older) older)
 by_other act older h =
     all_place_live (cleaned act older ∷ older) _
     (all_shown (cleaned act older) older (either_way IsNoKey (is_live act older) act acts.Idle h tt))
 
 told_places : (act : Act) (log : List Act) → AllPlaceLive (cleaned act (history log) ∷ history log) (told act log)
-told_places (acts.Key time key state) log = by_key (history log) time key state (not (is_refused (history log) key state))
+told_places (acts.Key time key state) log =
+    by_key (history log) time key state (not (is_refused (history log) key state))
 told_places (acts.VKey v time key state) log =
     by_board_key (history log) v time key state (sends (history log) v && not (board_refused (history log) v key state))
 told_places (acts.VMods v mods) log = by_board_mods (history log) v mods (sends (history log) v)
@@ -296,16 +319,19 @@ told_places act log = by_other act (history log) tt
 
 event_same : (n : ℕ) (log : List Act) (made : List Made) (peers live : List Numbered) (event : Said) →
     IsNumberKept log made peers live → PlacesLive log event → shown n made peers event ≡ shown n made live event
-event_same n log made peers live (said.Placed popup x y) k h = ap (λ (q : ℕ). Placed n q (id_of (made_as made popup)) x y ∷ []) (k popup h)
+event_same n log made peers live (said.Placed popup x y) k h =
+    ap (λ (q : ℕ). Placed n q (id_of (made_as made popup)) x y ∷ []) (k popup h)
 event_same n log made peers live _ k h = refl
 
 each_same : (n : ℕ) (log : List Act) (made : List Made) (peers live : List Numbered) (ts : List Told) →
     IsNumberKept log made peers live → AllPlaceLive log ts → shown_by n made peers ts ≡ shown_by n made live ts
 each_same n log made peers live [] k h = refl
 each_same n log made peers live (t ∷ rest) k h =
-    ap₂ (λ (a b : List Watched). a ++ b) (event_same n log made peers live t.event k h.0) (each_same n log made peers live rest k h.1)
+    ap₂ (λ (a b : List Watched). a ++ b) (event_same n log made peers live t.event k h.0)
+    (each_same n log made peers live rest k h.1)
 
 pub same_shown : (n : ℕ) (act : Act) (log : List Act) (made : List Made) (peers live : List Numbered) →
-    IsNumberKept (cleaned act (history log) ∷ history log) made peers live → shown_by n made peers (told act log) ≡ shown_by n made live (told act log)
+    IsNumberKept (cleaned act (history log) ∷ history log) made peers live →
+    shown_by n made peers (told act log) ≡ shown_by n made live (told act log)
 same_shown n act log made peers live k =
     each_same n (cleaned act (history log) ∷ history log) made peers live (told act log) k (told_places act log)

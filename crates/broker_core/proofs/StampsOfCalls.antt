@@ -27,10 +27,12 @@ settled_same : (capacity n : ℕ) (journal : List Entry) (a b : List Stamp) → 
     stamps (settled capacity n journal) a ≡ stamps (settled capacity n journal) b
 settled_same capacity zero journal a b h = h
 settled_same capacity (suc n) journal a b h =
-    settled_same capacity n (with_end journal (due capacity journal)) a b (end_same journal (due capacity journal) a b h)
+    settled_same capacity n (with_end journal (due capacity journal)) a b
+    (end_same journal (due capacity journal) a b h)
 
 -- so do those after a step
-pub step_same : (capacity : ℕ) (e : Entry) (journal : List Entry) (given : Stamp) (a b : List Stamp) → follows e ≡ false →
+pub step_same : (capacity : ℕ) (e : Entry) (journal : List Entry) (given : Stamp) (a b : List Stamp) →
+    follows e ≡ false →
     stamps journal a ≡ stamps journal b →
     stamps (settle capacity (e ∷ journal)) (given ∷ a) ≡ stamps (settle capacity (e ∷ journal)) (given ∷ b)
 step_same capacity e journal given a b f h =
@@ -39,14 +41,17 @@ step_same capacity e journal given a b f h =
     ∙ sym (step_stamped e journal given b f))
 
 -- what the steps before have stands for what was given with them
-pub step_given : (capacity : ℕ) (e : Entry) (journal : List Entry) (given : Stamp) (gave now : List Stamp) → follows e ≡ false →
+pub step_given : (capacity : ℕ) (e : Entry) (journal : List Entry) (given : Stamp) (gave now : List Stamp) →
+    follows e ≡ false →
     stamps journal gave ≡ now →
-    stamps (settle capacity (e ∷ journal)) (given ∷ gave) ≡ stamps (settle capacity (e ∷ journal)) (given ∷ step_stamps journal now)
+    stamps (settle capacity (e ∷ journal)) (given ∷ gave)
+    ≡ stamps (settle capacity (e ∷ journal)) (given ∷ step_stamps journal now)
 step_given capacity e journal given gave now f h =
     step_same capacity e journal given gave (step_stamps journal now) f
     (sym (again journal gave) ∙ ap (λ (ss : List Stamp). stamps journal (step_stamps journal ss)) h)
 
-one_more : (limits : Limits) (call : Call) (older : List Call) (b : Broker) → follows call.step ≡ false → IsOfCalls limits older b →
+one_more : (limits : Limits) (call : Call) (older : List Call) (b : Broker) → follows call.step ≡ false →
+    IsOfCalls limits older b →
     IsOfCalls limits (call ∷ older) (with_step call.step call.given b)
 one_more limits call older b f is =
     let after : List Entry = settle b.limits.store (call.step ∷ b.journal) in

@@ -69,7 +69,8 @@ fault_short faults.Capability = omega arith
 fault_short faults.Role = omega arith
 
 -- such an event's message has at most 4096 bytes
-pub short_said : (event : Said) → HasShort event → (made : List Made) → IfSome (message_of made event) (λ m. message_len m ≤ 4096)
+pub short_said : (event : Said) → HasShort event → (made : List Made) →
+    IfSome (message_of made event) (λ m. message_len m ≤ 4096)
 short_said (said.Preedit text begin end) h made = omega arith
 short_said (said.CommitString text) h made = omega arith
 short_said (said.Surrounding text cursor anchor) h made = omega arith
@@ -103,10 +104,12 @@ abbrev AroundFits : Option Around → Type 0
 AroundFits None = Unit {0}
 AroundFits (Some around) = length around.text ≤ 4075
 
-fits_surrounding : (from until : ℕ) (log : List Act) (f : ℕ) → AllByRecursion FitsMessage log → AroundFits (last_surrounding from until log f)
+fits_surrounding : (from until : ℕ) (log : List Act) (f : ℕ) → AllByRecursion FitsMessage log →
+    AroundFits (last_surrounding from until log f)
 fits_surrounding from until [] f h = tt
 fits_surrounding from until (acts.Surround g text cursor anchor ∷ older) f h =
-    either_way AroundFits (between from until older g f) (Some (record { text = text; cursor = cursor; anchor = anchor })) (last_surrounding from until older f)
+    either_way AroundFits (between from until older g f)
+    (Some (record { text = text; cursor = cursor; anchor = anchor })) (last_surrounding from until older f)
     h.0 (fits_surrounding from until older f h.1)
 fits_surrounding from until (_ ∷ older) f h = fits_surrounding from until older f h.1
 
@@ -115,7 +118,8 @@ fits_surrounding from until (_ ∷ older) f h = fits_surrounding from until olde
 abbrev StringFits : List ℕ → Type 0
 StringFits text = length text ≤ 4083
 
-string_after : (act : Act) (m : ℕ) (rest : List ℕ) → FitsMessage act → StringFits rest → StringFits (string_by act m rest)
+string_after : (act : Act) (m : ℕ) (rest : List ℕ) → FitsMessage act → StringFits rest →
+    StringFits (string_by act m rest)
 string_after (acts.MString n text) m rest h k = either_way StringFits (n == m) text rest h k
 string_after (acts.MCommit n serial) m rest h k = either_way StringFits (n == m) [] rest (omega arith) k
 string_after _ m rest h k = k
@@ -129,16 +133,19 @@ fits_string from (act ∷ older) m h =
 abbrev PreeditFits : Preedit → Type 0
 PreeditFits p = length p.text ≤ 4075
 
-preedit_after : (act : Act) (m : ℕ) (rest : Preedit) → FitsMessage act → PreeditFits rest → PreeditFits (preedit_by act m rest)
+preedit_after : (act : Act) (m : ℕ) (rest : Preedit) → FitsMessage act → PreeditFits rest →
+    PreeditFits (preedit_by act m rest)
 preedit_after (acts.MPreedit n text begin end) m rest h k =
     either_way PreeditFits (n == m) (record { text = text; begin = begin; end = end }) rest h k
 preedit_after (acts.MCommit n serial) m rest h k = either_way PreeditFits (n == m) no_preedit rest (omega arith) k
 preedit_after _ m rest h k = k
 
-fits_preedit : (from : ℕ) (log : List Act) (m : ℕ) → AllByRecursion FitsMessage log → PreeditFits (last_preedit from log m)
+fits_preedit : (from : ℕ) (log : List Act) (m : ℕ) → AllByRecursion FitsMessage log →
+    PreeditFits (last_preedit from log m)
 fits_preedit from [] m h = omega arith
 fits_preedit from (act ∷ older) m h =
-    either_way PreeditFits (nat_le (next older) from) no_preedit (preedit_by act m (last_preedit from older m)) (omega arith)
+    either_way PreeditFits (nat_le (next older) from) no_preedit (preedit_by act m (last_preedit from older m))
+    (omega arith)
     (preedit_after act m (last_preedit from older m) h.0 (fits_preedit from older m h.1))
 
 -- the state of the holder
@@ -148,52 +155,66 @@ around_short None cause h = tt
 around_short (Some around) cause h = (h, (tt, tt))
 
 state_short : (s : State) → AroundFits s.surrounding → AllByRecursion HasShort (state_said s)
-state_short s h = each_append HasShort (around_said s.surrounding s.cause) _ (around_short s.surrounding s.cause h) (tt, (tt, tt))
+state_short s h =
+    each_append HasShort (around_said s.surrounding s.cause) _ (around_short s.surrounding s.cause h) (tt, (tt, tt))
 
-holder_short : (log : List Act) (o : Option ℕ) → AllByRecursion FitsMessage log → AllByRecursion HasShort (holders_state log o)
+holder_short : (log : List Act) (o : Option ℕ) → AllByRecursion FitsMessage log →
+    AllByRecursion HasShort (holders_state log o)
 holder_short log None h = tt
 holder_short log (Some f) h = state_short (current log f) (fits_surrounding _ _ log f h)
 
-notice_short : (log : List Act) (o : Option Notice) → AllByRecursion FitsMessage log → AllByRecursion HasShort (notice_said log o)
+notice_short : (log : List Act) (o : Option Notice) → AllByRecursion FitsMessage log →
+    AllByRecursion HasShort (notice_said log o)
 notice_short log None h = tt
 notice_short log (Some Activates) h = (tt, holder_short log (holder log) h)
 notice_short log (Some Updates) h = holder_short log (holder log) h
 notice_short log (Some Deactivates) h = (tt, (tt, tt))
 
-method_short : (act : Act) (log : List Act) (o : Option ℕ) → FitsMessage act → AllByRecursion FitsMessage log → AreShort (to_method act log o)
+method_short : (act : Act) (log : List Act) (o : Option ℕ) → FitsMessage act → AllByRecursion FitsMessage log →
+    AreShort (to_method act log o)
 method_short act log None h k = tt
 method_short act log (Some m) h k =
-    each_map HasShortEvent (to m) (notice_said (act ∷ log) (notice act log)) (notice_short (act ∷ log) (notice act log) (h, k))
+    each_map HasShortEvent (to m) (notice_said (act ∷ log) (notice act log))
+    (notice_short (act ∷ log) (notice act log) (h, k))
 
 -- a batch
 
 string_short : (text : List ℕ) → StringFits text → AllByRecursion HasShort (string_said text)
-string_short text h = either_way (AllByRecursion HasShort) (length text == 0) [] (said.CommitString text ∷ []) tt (h, tt)
+string_short text h =
+    either_way (AllByRecursion HasShort) (length text == 0) [] (said.CommitString text ∷ []) tt (h, tt)
 
 preedit_short : (p : Preedit) → PreeditFits p → AllByRecursion HasShort (preedit_said p)
-preedit_short p h = either_way (AllByRecursion HasShort) (is_no_preedit p) [] (said.Preedit p.text p.begin p.end ∷ []) tt (h, tt)
+preedit_short p h =
+    either_way (AllByRecursion HasShort) (is_no_preedit p) [] (said.Preedit p.text p.begin p.end ∷ []) tt (h, tt)
 
 deletion_short : (d : Deletion) → AllByRecursion HasShort (deletion_said d)
-deletion_short d = either_way (AllByRecursion HasShort) ((d.before == 0) && (d.after == 0)) [] (said.Delete d.before d.after ∷ []) tt (tt, tt)
+deletion_short d =
+    either_way (AllByRecursion HasShort) ((d.before == 0) && (d.after == 0)) [] (said.Delete d.before d.after ∷ []) tt
+    (tt, tt)
 
-group_short : (b : Batch) (count : ℕ) → StringFits b.string → PreeditFits b.preedit → AllByRecursion HasShort (group b count)
+group_short : (b : Batch) (count : ℕ) → StringFits b.string → PreeditFits b.preedit →
+    AllByRecursion HasShort (group b count)
 group_short b count h k =
     each_append HasShort (deletion_said b.deletion) _ (deletion_short b.deletion)
     (each_append HasShort (string_said b.string) _ (string_short b.string h)
     (each_append HasShort (preedit_said b.preedit) (said.FieldDone count ∷ []) (preedit_short b.preedit k) (tt, tt)))
 
-batch_short : (m serial : ℕ) (log : List Act) (o : Option ℕ) → AllByRecursion FitsMessage log → AreShort (to_holder (acts.MCommit m serial) log o)
+batch_short : (m serial : ℕ) (log : List Act) (o : Option ℕ) → AllByRecursion FitsMessage log →
+    AreShort (to_holder (acts.MCommit m serial) log o)
 batch_short m serial log None h = tt
 batch_short m serial log (Some f) h =
     each_map HasShortEvent (to f) (group (batch log m) (commit_count log f))
-    (group_short (batch log m) (commit_count log f) (fits_string (unwrap_or (begun log) 0) log m h) (fits_preedit (unwrap_or (begun log) 0) log m h))
+    (group_short (batch log m) (commit_count log f) (fits_string (unwrap_or (begun log) 0) log m h)
+    (fits_preedit (unwrap_or (begun log) 0) log m h))
 
 -- what has no text
 
-entered_short : (say : ℕ → ℕ → Told) (log : List Act) (o : Option ℕ) → ((s f : ℕ) → HasShortEvent (say s f)) → AreShort (each_entered say log o)
+entered_short : (say : ℕ → ℕ → Told) (log : List Act) (o : Option ℕ) → ((s f : ℕ) → HasShortEvent (say s f)) →
+    AreShort (each_entered say log o)
 entered_short say log None h = tt
 entered_short say log (Some s) h =
-    each_map HasShortEvent (say s) (filter (entered log) (fields log)) (each_of (λ f. HasShortEvent (say s f)) (filter (entered log) (fields log)) (h s))
+    each_map HasShortEvent (say s) (filter (entered log) (fields log))
+    (each_of (λ f. HasShortEvent (say s f)) (filter (entered log) (fields log)) (h s))
 
 leaves_short : (act : Act) (log : List Act) → AreShort (leaves act log)
 leaves_short (acts.Focus s) log = entered_short leave log (focus log) (λ t f. tt)
@@ -222,7 +243,8 @@ popup_short log x = where_short log x (ready_surface log x)
 
 popups_short : (log : List Act) → AreShort (each_popup log)
 popups_short log =
-    each_flat HasShortEvent (popup_told log) (popups log) (each_of (λ x. AreShort (popup_told log x)) (popups log) (λ x. popup_short log x))
+    each_flat HasShortEvent (popup_told log) (popups log)
+    (each_of (λ x. AreShort (popup_told log x)) (popups log) (λ x. popup_short log x))
 
 keymap_short : (o : Option keys.Keymap) → AllByRecursion HasShort (keymap_said o)
 keymap_short None = tt
@@ -239,7 +261,8 @@ mods_short n (Some m) = (tt, tt)
 keyboard_short : (n : ℕ) (log : List Act) → AllByRecursion HasShort (keyboard_said n log)
 keyboard_short n log =
     each_append HasShort (keymap_said (last_keymap log)) _ (keymap_short (last_keymap log))
-    (each_append HasShort (repeat_said (last_repeat log)) (mods_said n (last_mods log)) (repeat_short (last_repeat log)) (mods_short n (last_mods log)))
+    (each_append HasShort (repeat_said (last_repeat log)) (mods_said n (last_mods log)) (repeat_short (last_repeat log))
+    (mods_short n (last_mods log)))
 
 deleted_short : (x : ℕ) (o : Option ℕ) → AreShort (deleted x o)
 deleted_short x None = tt
@@ -273,8 +296,10 @@ own_short (acts.Grab m) log h =
 own_short (acts.Drop x) log h = deleted_short x (peer_of log x)
 own_short (acts.Area s rect) log h = popups_short (acts.Area s rect ∷ log)
 own_short (acts.Screen size) log h = popups_short (acts.Screen size ∷ log)
-own_short (acts.Commit f) log h = short_if (is_at (holder (acts.Commit f ∷ log)) f) _ (popups_short (acts.Commit f ∷ log))
-own_short (acts.MCommit m serial) log h = short_if (fresh (acts.MCommit m serial) log) _ (batch_short m serial log (holder log) h)
+own_short (acts.Commit f) log h =
+    short_if (is_at (holder (acts.Commit f ∷ log)) f) _ (popups_short (acts.Commit f ∷ log))
+own_short (acts.MCommit m serial) log h =
+    short_if (fresh (acts.MCommit m serial) log) _ (batch_short m serial log (holder log) h)
 own_short (acts.Key time key state) log h = key_short (next log) time key state (key_route log key state)
 own_short (acts.Mods mods) log h = grab_short (standing log) (said.Mods (next log) mods) tt
 own_short (acts.Keymap keymap) log h = grab_short (standing log) (said.Keymap keymap) tt
@@ -282,20 +307,25 @@ own_short (acts.Repeat repeat) log h = grab_short (standing log) (said.Repeat re
 own_short (acts.VKey v time key state) log h = key_short (next log) time key state (board_route log v key state)
 own_short (acts.VMods v mods) log h = board_mods_short (next log) mods (grab_for log v)
 own_short (acts.Registry p role) log h =
-    each_map HasShortEvent (global_told (next log)) (offered role) (each_of (λ offer. HasShortEvent (global_told (next log) offer)) (offered role) (λ offer. tt))
+    each_map HasShortEvent (global_told (next log)) (offered role)
+    (each_of (λ offer. HasShortEvent (global_told (next log) offer)) (offered role) (λ offer. tt))
 own_short (acts.Sync p) log h = (tt, (tt, tt))
 own_short (acts.Seat p) log h = (tt, tt)
 own_short (acts.Bad p fault x) log h = (tt, tt)
 own_short _ log h = tt
 
-short_told : (act : Act) (log : List Act) → FitsMessage act → AllByRecursion FitsMessage log → AreShort (told_by act log)
+short_told : (act : Act) (log : List Act) → FitsMessage act → AllByRecursion FitsMessage log →
+    AreShort (told_by act log)
 short_told act log h k =
     each_append HasShortEvent (leaves act log) _ (leaves_short act log)
-    (each_append HasShortEvent (to_method act log (serving (act ∷ log))) _ (method_short act log (serving (act ∷ log)) h k)
+    (each_append HasShortEvent (to_method act log (serving (act ∷ log))) _
+    (method_short act log (serving (act ∷ log)) h k)
     (each_append HasShortEvent (enters act log) (own act log) (enters_short act log) (own_short act log k)))
 
 -- each message of what an act tells has at most 4096 bytes, where the texts of the act and of those before it fit
-pub all_short : (act : Act) (acts : List Act) → FitsMessage act → AllByRecursion FitsMessage acts → AllByRecursion IsShort (told act acts)
+pub all_short : (act : Act) (acts : List Act) → FitsMessage act → AllByRecursion FitsMessage acts →
+    AllByRecursion IsShort (told act acts)
 all_short act acts h k =
     each_weaker HasShortEvent IsShort (told act acts) (λ t s. short_said t.event s)
-    (short_told (cleaned act (history acts)) (history acts) (fits_if (is_live act (history acts)) act h) (fits_history acts k))
+    (short_told (cleaned act (history acts)) (history acts) (fits_if (is_live act (history acts)) act h)
+    (fits_history acts k))

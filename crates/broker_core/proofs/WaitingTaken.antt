@@ -22,8 +22,8 @@ use Rattle.broker_core.proofs.RosterAfterEntry.{at_number, is_there}
 use Rattle.relay_model.specs.declared.act.Act.TheVariants as acts
 use Rattle.broker_model.specs.declared.journal.Entry.TheVariants as entries
 use Rattle.broker_model.specs.Groups.{Token}
-use Rattle.broker_model.proofs.Stored.{length_out}
-use Rattle.broker_model.proofs.Taken.{bytes_out, tokens_are_out}
+use Rattle.broker_model.proofs.StoresAreOut.{length_out}
+use Rattle.broker_model.proofs.TakenCells.{bytes_out, tokens_are_out}
 
 -- what is out for the peer, as its store holds it
 abbrev pub waiting : ℕ → List Entry → ℕ → Queue
@@ -35,17 +35,20 @@ pub is_out : (capacity : ℕ) (journal : List Entry) (q : ℕ) (peer : Joined) �
     out_at capacity journal q ≡ Some (out_for capacity journal peer.label)
 is_out capacity journal q peer e = ap (option_map (λ (p : Joined). out_for capacity journal p.label)) e
 
-pub waiting_for : (capacity : ℕ) (journal : List Entry) (q : ℕ) (peer : Joined) → peer_at (past_of journal) q ≡ Some peer →
+pub waiting_for : (capacity : ℕ) (journal : List Entry) (q : ℕ) (peer : Joined) →
+    peer_at (past_of journal) q ≡ Some peer →
     waiting capacity journal q ≡ queue (cells_out (out_for capacity journal peer.label)) capacity
 waiting_for capacity journal q peer e =
-    ap (λ (o : Option Outgoing). queue (unwrap_or (option_map cells_out o) []) capacity) (is_out capacity journal q peer e)
+    ap (λ (o : Option Outgoing). queue (unwrap_or (option_map cells_out o) []) capacity)
+    (is_out capacity journal q peer e)
 
 -- whoever something is out for has joined
 pub joined_of : (capacity : ℕ) (journal : List Entry) (q : ℕ) → IsSome (out_at capacity journal q) →
     (peer : Joined) × (peer_at (past_of journal) q ≡ Some peer)
 joined_of capacity journal q h = by (peer_at (past_of journal) q) refl h
   where
-    by : (o : Option Joined) → peer_at (past_of journal) q ≡ o → IsSome (option_map (λ (p : Joined). out_for capacity journal p.label) o) →
+    by : (o : Option Joined) → peer_at (past_of journal) q ≡ o →
+        IsSome (option_map (λ (p : Joined). out_for capacity journal p.label) o) →
         (peer : Joined) × (peer_at (past_of journal) q ≡ Some peer)
     by None e i = absurd (cc)
     by (Some peer) e i = (peer, e)
@@ -88,7 +91,8 @@ left_at s v (suc k) peer e = by s.ended.items (suc k - 1) within
   where
     within : suc k - 1 < length s.ended.items
     within =
-        let there : k < length (past_of s.journal.entries).joined = slice_get_within (past_of s.journal.entries).joined k peer e in
+        let there : k < length (past_of s.journal.entries).joined =
+        slice_get_within (past_of s.journal.entries).joined k peer e in
         let many : length s.ended.items ≡ length (past_of s.journal.entries).joined = v.left.number in
         omega arith
 
@@ -98,7 +102,8 @@ left_at s v (suc k) peer e = by s.ended.items (suc k - 1) within
     by (x ∷ rest) (suc i) l = by rest i (omega arith)
 
 -- what is read there
-entry_at : (s : State) → Stands s → (q : ℕ) (peer : Joined) → peer_at (past_of s.journal.entries) q ≡ Some peer → (o : Option Ended) →
+entry_at : (s : State) → Stands s → (q : ℕ) (peer : Joined) → peer_at (past_of s.journal.entries) q ≡ Some peer →
+    (o : Option Ended) →
     o ≡ get_or s.ended.items (q - 1) o → slice_get s.ended.items (q - 1) ≡ Some o
 entry_at s v q peer e o read =
     let place = place_in_joined (past_of s.journal.entries).joined q peer e in
@@ -125,7 +130,8 @@ pub ended_at : (s : State) → Stands s → (q : ℕ) (peer : Joined) → peer_a
     number_of q s.audience.live.items ≡ None → (was : Ended) × (slice_get s.ended.items (q - 1) ≡ Some (Some was))
 ended_at s v q peer e none = let at = left_at s v q peer e in by at.0 at.1
   where
-    by : (o : Option Ended) → slice_get s.ended.items (q - 1) ≡ Some o → (was : Ended) × (slice_get s.ended.items (q - 1) ≡ Some (Some was))
+    by : (o : Option Ended) → slice_get s.ended.items (q - 1) ≡ Some o →
+        (was : Ended) × (slice_get s.ended.items (q - 1) ≡ Some (Some was))
     by None f =
         let there = alive_at s v q peer e f in
         let both : Some there.0 ≡ None = sym there.1 ∙ none in
@@ -139,13 +145,15 @@ pub live_waiting : (s : State) → Stands s → (q : ℕ) (l : Live) → number_
     l.store ≡ waiting s.capacity s.journal.entries q
 live_waiting s v q l e =
     let own = at_number s.journal.entries s.audience.live.items v.who q l e in
-    live_cells s v q l e ∙ sym (waiting_for s.capacity s.journal.entries q (record { label = l.label; role = l.role }) own.0)
+    live_cells s v q l e
+    ∙ sym (waiting_for s.capacity s.journal.entries q (record { label = l.label; role = l.role }) own.0)
 
 pub waits_live : (s : State) → Stands s → (q : ℕ) →
     IfSome (number_of q s.audience.live.items) (λ l. l.store ≡ waiting s.capacity s.journal.entries q)
 waits_live s v q = by (number_of q s.audience.live.items) refl
   where
-    by : (o : Option Live) → number_of q s.audience.live.items ≡ o → IfSome o (λ l. l.store ≡ waiting s.capacity s.journal.entries q)
+    by : (o : Option Live) → number_of q s.audience.live.items ≡ o →
+        IfSome o (λ l. l.store ≡ waiting s.capacity s.journal.entries q)
     by None e = tt
     by (Some l) e = live_waiting s v q l e
 
@@ -157,15 +165,19 @@ IsRest store entry = IsSomeAnd entry (λ e. IsSomeAnd e (λ was. store_of store.
 abbrev pub Left : ℕ → Queue → List (Option Ended) → Type 0
 Left q store ended = IsRest store (slice_get ended (q - 1))
 
-pub ended_waiting : (s : State) → Stands s → (q : ℕ) (peer : Joined) (was : Ended) → peer_at (past_of s.journal.entries) q ≡ Some peer →
-    slice_get s.ended.items (q - 1) ≡ Some (Some was) → store_of s.capacity was.store ≡ waiting s.capacity s.journal.entries q
-ended_waiting s v q peer was e at = ended_cells s v q peer was e at ∙ sym (waiting_for s.capacity s.journal.entries q peer e)
+pub ended_waiting : (s : State) → Stands s → (q : ℕ) (peer : Joined) (was : Ended) →
+    peer_at (past_of s.journal.entries) q ≡ Some peer →
+    slice_get s.ended.items (q - 1) ≡ Some (Some was) →
+    store_of s.capacity was.store ≡ waiting s.capacity s.journal.entries q
+ended_waiting s v q peer was e at =
+    ended_cells s v q peer was e at ∙ sym (waiting_for s.capacity s.journal.entries q peer e)
 
 pub waits_ended : (s : State) → Stands s → (q : ℕ) (peer : Joined) → peer_at (past_of s.journal.entries) q ≡ Some peer →
     IfNone (number_of q s.audience.live.items) (Left q (waiting s.capacity s.journal.entries q) s.ended.items)
 waits_ended s v q peer e = by (number_of q s.audience.live.items) refl
   where
-    by : (o : Option Live) → number_of q s.audience.live.items ≡ o → IfNone o (Left q (waiting s.capacity s.journal.entries q) s.ended.items)
+    by : (o : Option Live) → number_of q s.audience.live.items ≡ o →
+        IfNone o (Left q (waiting s.capacity s.journal.entries q) s.ended.items)
     by None none =
         let at = ended_at s v q peer e none in
         subst (IsRest (waiting s.capacity s.journal.entries q)) (sym at.1) (ended_waiting s v q peer at.0 e at.1)
@@ -178,7 +190,8 @@ abbrev pub TakesLive : ℕ → Queue → List Live → List Live → Option Live
 TakesLive n store live after found =
     IfSome found
     (λ l.
-    (place : ℕ) × (slice_get live place ≡ Some l) × (after ≡ set live place (record l { store = queue (drop n store.cells) store.capacity })))
+    (place : ℕ) × (slice_get live place ≡ Some l)
+    × (after ≡ set live place (record l { store = queue (drop n store.cells) store.capacity })))
 
 -- from what stays of an ended one's
 abbrev pub TakesRest : ℕ → ℕ → Queue → List (Option Ended) → List (Option Ended) → Option (Option Ended) → Type 0
@@ -199,9 +212,11 @@ TakesEnded q n store ended after found = IfNone found (TakesRest q n store ended
 -- the state that it leaves is ready for an entry that says so
 pub ready_taken : (q n : ℕ) (peer : Joined) (s t : State) → Stands s → CanTake (entries.Took q 0) s.journal.entries →
     peer_at (past_of s.journal.entries) q ≡ Some peer → n ≤ length (waiting s.capacity s.journal.entries q).cells →
-    TakesLive n (waiting s.capacity s.journal.entries q) s.audience.live.items t.audience.live.items (number_of q s.audience.live.items) →
+    TakesLive n (waiting s.capacity s.journal.entries q) s.audience.live.items t.audience.live.items
+    (number_of q s.audience.live.items) →
     IfSome (number_of q s.audience.live.items) (λ l. t.ended.items ≡ s.ended.items) →
-    TakesEnded q n (waiting s.capacity s.journal.entries q) s.ended.items t.ended.items (number_of q s.audience.live.items) →
+    TakesEnded q n (waiting s.capacity s.journal.entries q) s.ended.items t.ended.items
+    (number_of q s.audience.live.items) →
     IfNone (number_of q s.audience.live.items) (t.audience.live.items ≡ s.audience.live.items) →
     IsTaking (acts.Took peer.label n) s t → IsReadyFor (entries.Took q n) t
 ready_taken q n peer s t v k joined few live ended left others it =
@@ -218,18 +233,23 @@ ready_taken q n peer s t v k joined few live ended left others it =
     by (Some l) e one same a b =
         let own = at_number s.journal.entries s.audience.live.items v.who q l e in
         let label : peer.label ≡ l.label =
-        ap (λ (p : Joined). p.label) (same_Some peer (record { label = l.label; role = l.role }) (sym joined ∙ own.0)) in
+        ap (λ (p : Joined). p.label)
+        (same_Some peer (record { label = l.label; role = l.role }) (sym joined ∙ own.0)) in
         let holds : l.store ≡ waiting s.capacity s.journal.entries q = live_waiting s v q l e in
         ready_took_live q n l one.0 s t v can e one.1 (subst (λ (w : Queue). n ≤ length w.cells) (sym holds) few)
         (one.2
-        ∙ ap (λ (w : Queue). set s.audience.live.items one.0 (record l { store = queue (drop n w.cells) w.capacity })) (sym holds)) same
+        ∙ ap (λ (w : Queue). set s.audience.live.items one.0 (record l { store = queue (drop n w.cells) w.capacity }))
+        (sym holds)) same
         (subst (λ (p : ℕ). IsTaking (acts.Took p n) s t) label it)
     by None none a b rest same =
         let at = ended_at s v q peer joined none in
-        let holds : store_of s.capacity at.0.store ≡ waiting s.capacity s.journal.entries q = ended_waiting s v q peer at.0 joined at.1 in
-        let one : TakesRest q n (waiting s.capacity s.journal.entries q) s.ended.items t.ended.items (Some (Some at.0)) =
+        let holds : store_of s.capacity at.0.store ≡ waiting s.capacity s.journal.entries q =
+        ended_waiting s v q peer at.0 joined at.1 in
+        let one : TakesRest q n (waiting s.capacity s.journal.entries q) s.ended.items t.ended.items
+        (Some (Some at.0)) =
         subst (TakesRest q n (waiting s.capacity s.journal.entries q) s.ended.items t.ended.items) at.1 rest in
-        ready_took_ended q n peer at.0 one.0 s t v can joined at.1 (subst (λ (w : Queue). n ≤ length w.cells) (sym holds) few)
+        ready_took_ended q n peer at.0 one.0 s t v can joined at.1
+        (subst (λ (w : Queue). n ≤ length w.cells) (sym holds) few)
         (one.1 ∙ ap (λ (w : Queue). queue (drop n w.cells) s.capacity) (sym holds)) one.3 same it
 
 -- the act of the entry
@@ -238,12 +258,16 @@ pub took_act : (q n : ℕ) (journal : List Entry) (peer : Joined) → peer_at (p
 took_act q n journal peer e = sym (ap (λ o. (of_peer o (λ p. only (acts.Took p.label n))).act) e)
 
 -- what is taken of a store is what is taken of what is out
-pub taken_out : (capacity : ℕ) (journal : List Entry) (q : ℕ) (store : Queue) (buf places : List ℕ) (counts : ℕ × ℕ) (buf_after places_after : List ℕ) (newer : List Entry) →
+pub taken_out : (capacity : ℕ) (journal : List Entry) (q : ℕ) (store : Queue) (buf places : List ℕ) (counts : ℕ × ℕ)
+    (buf_after places_after : List ℕ) (newer : List Entry) →
     store ≡ waiting capacity journal q → counts.0 ≡ min (length buf) (length store.cells) →
-    buf_after ≡ bytes_of (take counts.0 store.cells) ++ drop counts.0 buf → counts.1 ≡ length (tokens_of (take counts.0 store.cells)) →
-    places_after ≡ tokens_of (take counts.0 store.cells) ++ drop counts.1 places → newer ≡ entries.Took q counts.0 ∷ journal →
+    buf_after ≡ bytes_of (take counts.0 store.cells) ++ drop counts.0 buf →
+    counts.1 ≡ length (tokens_of (take counts.0 store.cells)) →
+    places_after ≡ tokens_of (take counts.0 store.cells) ++ drop counts.1 places →
+    newer ≡ entries.Took q counts.0 ∷ journal →
     IfSome (out_at capacity journal q) (λ out. IsTaken out journal q buf places counts buf_after places_after newer)
-taken_out capacity journal q store buf places counts buf_after places_after newer same count bytes token_count tokens entry =
+taken_out capacity journal q store buf places counts buf_after places_after newer same count bytes token_count tokens
+    entry =
     by (peer_at (past_of journal) q) refl
   where
     by : (o : Option Joined) → peer_at (past_of journal) q ≡ o →
@@ -252,14 +276,17 @@ taken_out capacity journal q store buf places counts buf_after places_after newe
     by None e = tt
     by (Some peer) e =
         let out : Outgoing = out_for capacity journal peer.label in
-        let cells : store.cells ≡ cells_out out = ap (λ (w : Queue). w.cells) (same ∙ waiting_for capacity journal q peer e) in
-        let many : length store.cells ≡ length (stored out) = ap length cells ∙ length_out out ∙ sym (length-drop out.taken out.put.bytes) in
+        let cells : store.cells ≡ cells_out out =
+        ap (λ (w : Queue). w.cells) (same ∙ waiting_for capacity journal q peer e) in
+        let many : length store.cells ≡ length (stored out) =
+        ap length cells ∙ length_out out ∙ sym (length-drop out.taken out.put.bytes) in
         let first : bytes_of (take counts.0 store.cells) ≡ take counts.0 (stored out) =
         ap (λ (cs : List Cell). bytes_of (take counts.0 cs)) cells
         ∙ sym (take-map (λ (cell : Cell). cell.0) counts.0 (cells_out out))
         ∙ ap (take counts.0) (bytes_out out) in
         let begun : tokens_of (take counts.0 store.cells) ≡ map (λ (t : Token). t.token) (tokens_taken counts.0 out) =
-        ap (λ (cs : List Cell). tokens_of (take counts.0 cs)) cells ∙ tokens_are_out capacity journal peer.label counts.0 in
+        ap (λ (cs : List Cell). tokens_of (take counts.0 cs)) cells
+        ∙ tokens_are_out capacity journal peer.label counts.0 in
         record {
           count = count ∙ ap (λ (n : ℕ). min (length buf) n) many;
           bytes = bytes ∙ ap (λ (bs : List ℕ). bs ++ drop counts.0 buf) first;
@@ -287,13 +314,19 @@ left_within q store ended h = by (slice_get ended (q - 1)) refl h
     by (Some x) e i = slice_get_within ended (q - 1) x e
 
 -- and it stands there
-pub left_there : (q : ℕ) (store : Queue) (ended : List (Option Ended)) (o : Option Ended) → Left q store ended → slice_get ended (q - 1) ≡ Some o →
+pub left_there : (q : ℕ) (store : Queue) (ended : List (Option Ended)) (o : Option Ended) → Left q store ended →
+    slice_get ended (q - 1) ≡ Some o →
     IsRest store (Some o)
 left_there q store ended o h e = subst (IsRest store) e h
 
 -- what becomes of it
-pub takes_ended : (q n : ℕ) (store : Queue) (ended after : List (Option Ended)) (found : Option Live) (was : Ended) (rest : Option Queue) →
-    slice_get ended (q - 1) ≡ Some (Some was) → store_of store.capacity rest ≡ queue (drop n store.cells) store.capacity →
-    IfSome rest (λ stays. ¬ (stays.cells ≡ [])) → after ≡ set ended (q - 1) (Some (record { cause = was.cause; store = rest })) → TakesEnded q n store ended after found
-takes_ended q n store ended after None was rest at stays some new = subst (TakesRest q n store ended after) (sym at) (rest, stays, some, new)
+pub takes_ended : (q n : ℕ) (store : Queue) (ended after : List (Option Ended)) (found : Option Live) (was : Ended)
+    (rest : Option Queue) →
+    slice_get ended (q - 1) ≡ Some (Some was) →
+    store_of store.capacity rest ≡ queue (drop n store.cells) store.capacity →
+    IfSome rest (λ stays. ¬ (stays.cells ≡ [])) →
+    after ≡ set ended (q - 1) (Some (record { cause = was.cause; store = rest })) →
+    TakesEnded q n store ended after found
+takes_ended q n store ended after None was rest at stays some new =
+    subst (TakesRest q n store ended after) (sym at) (rest, stays, some, new)
 takes_ended q n store ended after (Some l) was rest at stays some new = tt

@@ -4,7 +4,7 @@ use Rattle.std.specs.Prelude.{if◌then◌else◌, nat_le}
 use Rattle.std.proofs.lemmas.Bool.{le-leb, lt-leb}
 use Rattle.std.proofs.lemmas.List.{append-nil}
 use Rattle.seat_objects.specs.Reached.{Reached}
-use Rattle.seat_objects.proofs.Reaches.{reached_append}
+use Rattle.seat_objects.proofs.TellsAppend.{reached_append}
 use Rattle.broker_model.specs.declared.journal.Entry.{Entry}
 use Rattle.broker_model.specs.declared.journal.Entry.TheVariants as entries
 use Rattle.broker_model.specs.Settle.{due, cause_of, with_end, settled}
@@ -14,17 +14,22 @@ use Rattle.broker_core.specs.Watched.{Watched, watched, watched_since}
 pub since_none : (capacity : ℕ) (journal : List Entry) → watched_since capacity (length journal) journal ≡ []
 since_none capacity [] = refl
 since_none capacity (e ∷ older) =
-    let past : nat_le (suc (length older)) (length older) ≡ false = lt-leb (suc (length older)) (length older) (omega arith) in
-    ap (λ (b : Bool). (if b then watched_since capacity (suc (length older)) older ++ watched capacity e older else [])) past
+    let past : nat_le (suc (length older)) (length older) ≡ false =
+    lt-leb (suc (length older)) (length older) (omega arith) in
+    ap (λ (b : Bool). (if b then watched_since capacity (suc (length older)) older ++ watched capacity e older else []))
+    past
 
 -- one entry more
 pub since_more : (capacity k : ℕ) (e : Entry) (older : List Entry) → k ≤ length older →
     watched_since capacity k (e ∷ older) ≡ watched_since capacity k older ++ watched capacity e older
 since_more capacity k e older h =
-    ap (λ (b : Bool). (if b then watched_since capacity k older ++ watched capacity e older else [])) (le-leb k (length older) h)
+    ap (λ (b : Bool). (if b then watched_since capacity k older ++ watched capacity e older else []))
+    (le-leb k (length older) h)
 
-pub reached_more : {W : Type 0} (R : W → Watched → W → Type 0) (capacity k : ℕ) (e : Entry) (older : List Entry) (from mid after : W) →
-    k ≤ length older → Reached R from (watched_since capacity k older) mid → Reached R mid (watched capacity e older) after →
+pub reached_more : {W : Type 0} (R : W → Watched → W → Type 0) (capacity k : ℕ) (e : Entry) (older : List Entry)
+    (from mid after : W) →
+    k ≤ length older → Reached R from (watched_since capacity k older) mid →
+    Reached R mid (watched capacity e older) after →
     Reached R from (watched_since capacity k (e ∷ older)) after
 reached_more R capacity k e older from mid after h a b =
     subst (λ (events : List Watched). Reached R from events after) (sym (since_more capacity k e older h))
@@ -44,7 +49,8 @@ since_append capacity k (e ∷ more) journal h =
     since_more capacity k e (more ++ journal) (omega arith)
     ∙ ap (λ (events : List Watched). events ++ here) (since_append capacity k more journal h)
     ∙ append_assoc before (watched_since capacity (length journal) (more ++ journal)) here
-    ∙ ap (λ (events : List Watched). before ++ events) (sym (since_more capacity (length journal) e (more ++ journal) (omega arith)))
+    ∙ ap (λ (events : List Watched). before ++ events)
+    (sym (since_more capacity (length journal) e (more ++ journal) (omega arith)))
 
 -- what is settled is the journal with more entries
 pub record IsMore (journal after : List Entry) : Type 0 where
@@ -52,7 +58,8 @@ pub record IsMore (journal after : List Entry) : Type 0 where
   pub is : after ≡ more ++ journal
 
 more_with_end : (capacity fuel : ℕ) (journal : List Entry) (first : Option ℕ) →
-    ((later : List Entry) → IsMore later (settled capacity fuel later)) → IsMore journal (settled capacity fuel (with_end journal first))
+    ((later : List Entry) → IsMore later (settled capacity fuel later)) →
+    IsMore journal (settled capacity fuel (with_end journal first))
 more_with_end capacity fuel journal None settles = settles journal
 more_with_end capacity fuel journal (Some q) settles =
     let end : Entry = entries.End q (cause_of journal q) in
@@ -61,4 +68,5 @@ more_with_end capacity fuel journal (Some q) settles =
 
 pub settled_more : (capacity fuel : ℕ) (journal : List Entry) → IsMore journal (settled capacity fuel journal)
 settled_more capacity zero journal = record { more = []; is = refl }
-settled_more capacity (suc fuel) journal = more_with_end capacity fuel journal (due capacity journal) (settled_more capacity fuel)
+settled_more capacity (suc fuel) journal =
+    more_with_end capacity fuel journal (due capacity journal) (settled_more capacity fuel)

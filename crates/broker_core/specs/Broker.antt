@@ -1,4 +1,5 @@
--- The shared state as its callers see it: limits and a journal. When a step is refused, and what becomes of one that isn't.
+-- The shared state as its callers see it: limits and a journal. When a step is refused, and what
+-- becomes of one that isn't.
 use Rattle.std.specs.Prelude.{◌≡◌, ℕ, ◌≤◌, ◌==◌, List, ◌∷◌, length, nat_le, if◌then◌else◌, Option, Some, None, option_map, Result, IsOk, IsOkUnless}
 use Rattle.relay_model.specs.declared.act.EndCause.{EndCause}
 use Rattle.relay_model.specs.declared.act.EndCause.TheVariants.{Gone}
@@ -37,8 +38,8 @@ pub record Broker : Type 0 where
   pub journal : List Entry
   pub stamps : List Stamp
 
--- What its state keeps: it stands for a journal that is the history of its outer steps, within the limits, at most 64 peers are alive, and the stamps are those
--- for which the steps' were given.
+-- What its state keeps: it stands for a journal that is the history of its outer steps, within the
+-- limits, at most 64 peers are alive, and the stamps are those for which the steps' were given.
 pub record IsBroker (limits : Limits) (s : State) : Type 0 where
   pub stands : Stands s
   pub capacity : s.capacity ≡ limits.store
@@ -47,7 +48,8 @@ pub record IsBroker (limits : Limits) (s : State) : Type 0 where
   pub counted : number_counted s.journal.entries ≤ limits.entries
   pub light : weight s.journal.entries ≤ limits.weight
   pub few : number_alive s.journal.entries ≤ 64
-  pub stamped : stamps s.journal.entries (step_stamps s.journal.entries s.stamps.stamps) ≡ s.stamps.stamps
+  pub stamped : stamps s.journal.entries (step_stamps s.journal.entries s.stamps.stamps)
+      ≡ s.stamps.stamps
 
 -- after one more step, and the ends that follow from it: its call gave the stamp
 abbrev pub with_step : Entry → Stamp → Broker → Broker
@@ -70,7 +72,8 @@ full_for b e = full_in b.limits b.journal e
 -- why no peer can join, if so: 64 are alive, or else the journal is full
 abbrev pub join_refusal : Broker → Role → Option JoinRefusal
 join_refusal b role =
-    (if nat_le 64 (number_alive b.journal) then Some (join.TooManyPeers 64) else option_map (λ kept. join.JournalFull kept) (full_for b (entries.Join role)))
+    (if nat_le 64 (number_alive b.journal) then Some (join.TooManyPeers 64)
+    else option_map (λ kept. join.JournalFull kept) (full_for b (entries.Join role)))
 
 -- the entry of a step of the peer q
 abbrev pub peer_entry : ℕ → PeerStep → Entry
@@ -96,7 +99,8 @@ peer_refusal b e Nobody = Some refused.NoPeer
 peer_refusal b e (Over cause) = Some (refused.Ended cause)
 peer_refusal b e Alive = refusal_if_full b e
 
--- why the step can't be taken, if so: no peer has the number, or it ended, or else the journal is full
+-- why the step can't be taken, if so: no peer has the number, or it ended, or else the journal is
+-- full
 abbrev pub refusal : Broker → Step → Option Refused
 refusal b (steps.Peer q step) = peer_refusal b (peer_entry q step) (standing_of b.journal q)
 refusal b step = refusal_if_full b (entry_of step)
@@ -120,9 +124,11 @@ nothing_left (Some cause) = took.Closed
 abbrev pub take_refusal_from : Broker → ℕ → Option Outgoing → Option Took
 take_refusal_from b q None = Some took.NoPeer
 take_refusal_from b q (Some out) =
-    (if length (stored out) == 0 then Some (nothing_left (end_of b.journal q)) else option_map (λ kept. took.JournalFull kept) (full_for b (entries.Took q 0)))
+    (if length (stored out) == 0 then Some (nothing_left (end_of b.journal q))
+    else option_map (λ kept. took.JournalFull kept) (full_for b (entries.Took q 0)))
 
--- why nothing can be taken for the peer q, if so: it isn't there, or nothing is stored, or else the journal is full
+-- why nothing can be taken for the peer q, if so: it isn't there, or nothing is stored, or else the
+-- journal is full
 abbrev pub take_refusal : Broker → ℕ → Option Took
 take_refusal b q = take_refusal_from b q (out_at b.limits.store b.journal q)
 
@@ -142,7 +148,9 @@ IsBytesUnlessMemory (took.Bytes bytes tokens) = Unit {0}
 IsBytesUnlessMemory took.NoMemory = Unit {0}
 IsBytesUnlessMemory _ = ⊥
 
--- who watched meanwhile was told of each entry that the journal has since, in order, and of nothing else
+-- who watched meanwhile was told of each entry that the journal has since, in order, and of nothing
+-- else
 abbrev pub IsWatched : {W : Type 0} → (W → Watched → W → Type 0) → Broker → W → Broker → W → Type 0
 IsWatched may_follow before watch after watch_after =
-    Reached may_follow watch (watched_since before.limits.store (length before.journal) after.journal) watch_after
+    Reached may_follow watch
+    (watched_since before.limits.store (length before.journal) after.journal) watch_after

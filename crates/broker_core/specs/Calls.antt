@@ -30,4 +30,5 @@ pub record IsOfCalls (limits : Limits) (calls : List Call) (b : Broker) : Type 0
 
 -- so it is after any calls
 abbrev pub CallLaw : Type 0
-CallLaw = (limits : Limits) (calls : List Call) → AreSteps calls → IsOfCalls limits calls (after_calls limits calls)
+CallLaw = (limits : Limits) (calls : List Call) → AreSteps calls →
+    IsOfCalls limits calls (after_calls limits calls)

@@ -14,20 +14,24 @@ each_of P [] h = tt
 each_of P (x ∷ xs) h = (h x, each_of P xs h)
 
 -- what follows from it
-pub each_weaker : {A : Type 0} (P Q : A → Type 0) (xs : List A) → ((x : A) → P x → Q x) → AllByRecursion P xs → AllByRecursion Q xs
+pub each_weaker : {A : Type 0} (P Q : A → Type 0) (xs : List A) → ((x : A) → P x → Q x) → AllByRecursion P xs →
+    AllByRecursion Q xs
 each_weaker P Q [] f h = tt
 each_weaker P Q (x ∷ xs) f h = (f x h.0, each_weaker P Q xs f h.1)
 
 -- of lists that are put together
-pub each_append : {A : Type 0} (P : A → Type 0) (xs ys : List A) → AllByRecursion P xs → AllByRecursion P ys → AllByRecursion P (xs ++ ys)
+pub each_append : {A : Type 0} (P : A → Type 0) (xs ys : List A) → AllByRecursion P xs → AllByRecursion P ys →
+    AllByRecursion P (xs ++ ys)
 each_append P [] ys h k = k
 each_append P (x ∷ xs) ys h k = (h.0, each_append P xs ys h.1 k)
 
-pub each_map : {A B : Type 0} (P : B → Type 0) (f : A → B) (xs : List A) → AllByRecursion (λ x. P (f x)) xs → AllByRecursion P (map f xs)
+pub each_map : {A B : Type 0} (P : B → Type 0) (f : A → B) (xs : List A) → AllByRecursion (λ x. P (f x)) xs →
+    AllByRecursion P (map f xs)
 each_map P f [] h = tt
 each_map P f (x ∷ xs) h = (h.0, each_map P f xs h.1)
 
-pub each_flat : {A B : Type 0} (P : B → Type 0) (f : A → List B) (xs : List A) → AllByRecursion (λ x. AllByRecursion P (f x)) xs →
+pub each_flat : {A B : Type 0} (P : B → Type 0) (f : A → List B) (xs : List A) →
+    AllByRecursion (λ x. AllByRecursion P (f x)) xs →
     AllByRecursion P (flat_map f xs)
 each_flat P f [] h = tt
 each_flat P f (x ∷ xs) h = each_append P (f x) (flat_map f xs) h.0 (each_flat P f xs h.1)
@@ -45,12 +49,14 @@ each_kept test (x ∷ xs) = by (test x) refl (each_kept test xs)
 -- What holds of each element of a list, and what a filter keeps.
 
 -- what follows for each
-pub all_then : {X : Type 0} (P Q : X → Type 0) (xs : List X) → ((x : X) → P x → Q x) → AllByRecursion P xs → AllByRecursion Q xs
+pub all_then : {X : Type 0} (P Q : X → Type 0) (xs : List X) → ((x : X) → P x → Q x) → AllByRecursion P xs →
+    AllByRecursion Q xs
 all_then P Q [] f h = tt
 all_then P Q (x ∷ xs) f h = (f x h.0, all_then P Q xs f h.1)
 
 -- what holds of each image
-pub all_of_map : {X Y : Type 0} (f : X → Y) (P : Y → Type 0) (xs : List X) → AllByRecursion P (map f xs) → AllByRecursion (λ x. P (f x)) xs
+pub all_of_map : {X Y : Type 0} (f : X → Y) (P : Y → Type 0) (xs : List X) → AllByRecursion P (map f xs) →
+    AllByRecursion (λ x. P (f x)) xs
 all_of_map f P [] h = tt
 all_of_map f P (x ∷ xs) h = (h.0, all_of_map f P xs h.1)
 
@@ -66,9 +72,11 @@ all_filtered P test (x ∷ xs) h = by (test x) refl (all_filtered P test xs h.1)
     by false e k = k
 
 -- two tests that agree on the list
-pub filter_same : {X : Type 0} (p q : X → Bool) (xs : List X) → AllByRecursion (λ x. p x ≡ q x) xs → filter p xs ≡ filter q xs
+pub filter_same : {X : Type 0} (p q : X → Bool) (xs : List X) → AllByRecursion (λ x. p x ≡ q x) xs →
+    filter p xs ≡ filter q xs
 filter_same p q [] h = refl
-filter_same p q (x ∷ xs) h = ap (λ b. cond b (x ∷ filter p xs) (filter p xs)) h.0 ∙ ap (λ ys. cond (q x) (x ∷ ys) ys) (filter_same p q xs h.1)
+filter_same p q (x ∷ xs) h =
+    ap (λ b. cond b (x ∷ filter p xs) (filter p xs)) h.0 ∙ ap (λ ys. cond (q x) (x ∷ ys) ys) (filter_same p q xs h.1)
 
 -- a test that is two tests
 pub filter_twice : {X : Type 0} (both p q : X → Bool) (xs : List X) → AllByRecursion (λ x. both x ≡ (p x && q x)) xs →
@@ -84,7 +92,8 @@ filter_twice both p q (x ∷ xs) h =
     by false c e k = k
 
 -- a test of the images
-pub map_filter : {X Y : Type 0} (f : X → Y) (test : Y → Bool) (xs : List X) → map f (filter (λ x. test (f x)) xs) ≡ filter test (map f xs)
+pub map_filter : {X Y : Type 0} (f : X → Y) (test : Y → Bool) (xs : List X) →
+    map f (filter (λ x. test (f x)) xs) ≡ filter test (map f xs)
 map_filter f test [] = refl
 map_filter f test (x ∷ xs) = by (test (f x)) ∙ ap (λ ys. cond (test (f x)) (f x ∷ ys) ys) (map_filter f test xs)
   where

@@ -31,12 +31,18 @@ free_by opcode s o false h k = k
 
 free_row : (opcode : ℕ) (rows : List Sig) → AreFree rows → has_descriptor (row opcode rows) ≡ false
 free_row opcode [] h = refl
-free_row opcode (s ∷ rows) h = free_by opcode s (find (λ (s : Sig). s.opcode == opcode) rows) (s.opcode == opcode) h.0 (free_row opcode rows h.1)
+free_row opcode (s ∷ rows) h =
+    free_by opcode s (find (λ (s : Sig). s.opcode == opcode) rows) (s.opcode == opcode) h.0 (free_row opcode rows h.1)
 
 -- of the keymap's row the rest has none
-keymap_by : (opcode : ℕ) (first : Bool) (rest : Option Sig) → has_descriptor (option_map (λ (s : Sig). kinds_in s.kinds) rest) ≡ false →
+keymap_by : (opcode : ℕ) (first : Bool) (rest : Option Sig) →
+    has_descriptor (option_map (λ (s : Sig). kinds_in s.kinds) rest) ≡ false →
     (0 == opcode) ≡ first →
-    has_descriptor (option_map (λ (s : Sig). kinds_in s.kinds) (if first then Some (record { opcode = 0; kinds = Some kind.Uint ∷ Some kind.Descriptor ∷ Some kind.Uint ∷ None ∷ None ∷ [] }) else rest))
+    has_descriptor
+    (option_map (λ (s : Sig). kinds_in s.kinds)
+    (if first then Some
+    (record { opcode = 0; kinds = Some kind.Uint ∷ Some kind.Descriptor ∷ Some kind.Uint ∷ None ∷ None ∷ [] })
+    else rest))
     ≡ (opcode == 0)
 keymap_by opcode true rest h e = sym (eq-eqb opcode 0 (sym (eqb-true 0 opcode e)))
 keymap_by opcode false rest h e = h ∙ sym (ne_eqb opcode 0 (λ z. eqb-false 0 opcode e (sym z)))
@@ -48,20 +54,27 @@ board_rest = drop 1 VIRTUAL_KEYBOARD_REQUESTS.rows
 -- of all requests a board's keymap alone has a descriptor
 pub keymaps_take : (i : Interface) (opcode : ℕ) → has_descriptor (request_kinds i opcode) ≡ is_board_keymap i opcode
 keymaps_take interface.VirtualKeyboard opcode =
-    keymap_by opcode (0 == opcode) (find (λ (s : Sig). s.opcode == opcode) board_rest) (free_row opcode board_rest (refl, (refl, (refl, tt)))) refl
+    keymap_by opcode (0 == opcode) (find (λ (s : Sig). s.opcode == opcode) board_rest)
+    (free_row opcode board_rest (refl, (refl, (refl, tt)))) refl
 keymaps_take interface.Display opcode = free_row opcode (request_rows interface.Display) (refl, (refl, tt))
 keymaps_take interface.Registry opcode = free_row opcode (request_rows interface.Registry) (refl, tt)
 keymaps_take interface.Callback opcode = free_row opcode (request_rows interface.Callback) tt
 keymaps_take interface.Compositor opcode = free_row opcode (request_rows interface.Compositor) (refl, tt)
 keymaps_take interface.Surface opcode = free_row opcode (request_rows interface.Surface) (refl, (refl, (refl, tt)))
 keymaps_take interface.Seat opcode = free_row opcode (request_rows interface.Seat) (refl, (refl, (refl, tt)))
-keymaps_take interface.TextInputManager opcode = free_row opcode (request_rows interface.TextInputManager) (refl, (refl, tt))
-keymaps_take interface.TextInput opcode = free_row opcode (request_rows interface.TextInput) (refl, (refl, (refl, (refl, (refl, (refl, (refl, (refl, tt))))))))
-keymaps_take interface.InputMethodManager opcode = free_row opcode (request_rows interface.InputMethodManager) (refl, (refl, tt))
-keymaps_take interface.InputMethod opcode = free_row opcode (request_rows interface.InputMethod) (refl, (refl, (refl, (refl, (refl, (refl, (refl, tt)))))))
+keymaps_take interface.TextInputManager opcode =
+    free_row opcode (request_rows interface.TextInputManager) (refl, (refl, tt))
+keymaps_take interface.TextInput opcode =
+    free_row opcode (request_rows interface.TextInput)
+    (refl, (refl, (refl, (refl, (refl, (refl, (refl, (refl, tt))))))))
+keymaps_take interface.InputMethodManager opcode =
+    free_row opcode (request_rows interface.InputMethodManager) (refl, (refl, tt))
+keymaps_take interface.InputMethod opcode =
+    free_row opcode (request_rows interface.InputMethod) (refl, (refl, (refl, (refl, (refl, (refl, (refl, tt)))))))
 keymaps_take interface.InputPopupSurface opcode = free_row opcode (request_rows interface.InputPopupSurface) (refl, tt)
 keymaps_take interface.KeyboardGrab opcode = free_row opcode (request_rows interface.KeyboardGrab) (refl, tt)
-keymaps_take interface.VirtualKeyboardManager opcode = free_row opcode (request_rows interface.VirtualKeyboardManager) (refl, tt)
+keymaps_take interface.VirtualKeyboardManager opcode =
+    free_row opcode (request_rows interface.VirtualKeyboardManager) (refl, tt)
 
 -- no more wait after a change than 256
 
@@ -73,7 +86,8 @@ few_tokens : (waiting tokens : List ℕ) → length (with_tokens waiting tokens)
 few_tokens waiting tokens = let t = length-take 256 (waiting ++ tokens) in grind (arith, t)
 
 few_changed : (o : Option Joined) (change : Joined → List ℕ → List ℕ) (waiting : ℕ → List ℕ) (p : ℕ) →
-    ((peer : Joined) → length (change peer (waiting p)) ≤ 256) → length (waiting p) ≤ 256 → length (changed_for o change waiting p) ≤ 256
+    ((peer : Joined) → length (change peer (waiting p)) ≤ 256) → length (waiting p) ≤ 256 →
+    length (changed_for o change waiting p) ≤ 256
 few_changed None change waiting p f h = h
 few_changed (Some peer) change waiting p f h = by (peer.label == p)
   where
@@ -83,10 +97,12 @@ few_changed (Some peer) change waiting p f h = by (peer.label == p)
 
 few_with : (e : Entry) (past : Past) (p : ℕ) → length (past.waiting p) ≤ 256 → length (waiting_with e past p) ≤ 256
 few_with (entries.Message q id opcode body) past p h =
-    few_changed (peer_at past q) (λ peer. without_taken (takes_token (object_at past peer.label id) opcode)) past.waiting p
+    few_changed (peer_at past q)
+    (λ peer. without_taken (takes_token (object_at past peer.label id) opcode)) past.waiting p
     (λ peer. few_taken (takes_token (object_at past peer.label id) opcode) (past.waiting p) h) h
 few_with (entries.Tokens q tokens) past p h =
-    few_changed (peer_at past q) (λ peer waiting. with_tokens waiting tokens) past.waiting p (λ peer. few_tokens (past.waiting p) tokens) h
+    few_changed (peer_at past q) (λ peer waiting. with_tokens waiting tokens) past.waiting p
+    (λ peer. few_tokens (past.waiting p) tokens) h
 few_with (entries.Join role) past p h = h
 few_with (entries.BadSize q head) past p h = h
 few_with (entries.End q why) past p h = h

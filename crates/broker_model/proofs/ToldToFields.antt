@@ -20,11 +20,11 @@ use Rattle.relay_model.specs.Popups.{cursor, ready_surface, told_where, popup_to
 use Rattle.relay_model.specs.Globals.{offered, global_told}
 use Rattle.relay_model.specs.Idle.{cleaned, history}
 use Rattle.relay_model.specs.Told.{to, leave, enter, each_entered, leaves, notice_said, to_method, enters_new, enters, to_holder, deleted, key_told, keyboard_said, to_grab, own, told_by, told, board_mods_told}
-use Rattle.relay_model.proofs.Histories.{IsHistory, live, history_is, cleaned_again}
+use Rattle.relay_model.proofs.ActsOrIdle.{IsHistory, live, history_is, cleaned_again}
 use Rattle.relay_model.proofs.ActivationLaws.{serving_within}
 use Rattle.relay_model.proofs.ObjectLaws.{alive_within}
 use Rattle.broker_model.specs.Law.{field_peer, maker_of, is_entering}
-use Rattle.broker_model.proofs.Owners.{remains_some, maker_stays, owner_lives}
+use Rattle.broker_model.proofs.OwnersLive.{remains_some, maker_stays, owner_lives}
 use Rattle.broker_model.proofs.EachElement.{either_way, each_of, each_weaker, each_append, each_map, each_flat, each_kept}
 
 -- ---- what a field is
@@ -126,7 +126,8 @@ record IsStanding (log : List Act) (g : ℕ) : Type 0 where
   none : IsNone log g
 
 stood_on : (act : Act) (older : List Act) (g : ℕ) → IsStanding older g → IsStanding (act ∷ older) g
-stood_on act older g s = (let w = s.within in record { within = omega arith; none = none_on act older g s.within s.none })
+stood_on act older g s =
+    (let w = s.within in record { within = omega arith; none = none_on act older g s.within s.none })
 
 stood : (act : Act) (older : List Act) (o : Option ℕ) (g : ℕ) → ((n : ℕ) → o ≡ Some n → IsStanding older n) →
     stands_on (act ∷ older) o ≡ Some g → IsStanding (act ∷ older) g
@@ -162,7 +163,8 @@ AreWell f ts = AllByRecursion (IsWell f) ts
 spare : (f x : ℕ) (saids : List Said) → (x ≡ f → ⊥) → AreWell f (map (to x) saids)
 spare f x saids d = each_map (IsWell f) (to x) saids (each_of (λ s. IsWell f (to x s)) saids (λ s e. absurd (d e)))
 
-entered_well : (f : ℕ) (say : ℕ → ℕ → Told) (now : List Act) (o : Option ℕ) → ((s x : ℕ) → is_entering (say s x).event ≡ true) →
+entered_well : (f : ℕ) (say : ℕ → ℕ → Told) (now : List Act) (o : Option ℕ) →
+    ((s x : ℕ) → is_entering (say s x).event ≡ true) →
     AreWell f (each_entered say now o)
 entered_well f say now None h = tt
 entered_well f say now (Some s) h =
@@ -176,7 +178,8 @@ leaves_well f _ log = tt
 
 new_well : (f x : ℕ) (now : List Act) (o : Option ℕ) → AreWell f (enters_new now x o)
 new_well f x now None = tt
-new_well f x now (Some s) = either_way (AllByRecursion (IsWell f)) (entered now x) (enter s x ∷ []) [] (λ e. refl, tt) tt
+new_well f x now (Some s) =
+    either_way (AllByRecursion (IsWell f)) (entered now x) (enter s x ∷ []) [] (λ e. refl, tt) tt
 
 enters_well : (f : ℕ) (act : Act) (log : List Act) → AreWell f (enters act log)
 enters_well f (acts.Focus s) log = entered_well f enter (acts.Focus s ∷ log) (focus (acts.Focus s ∷ log)) (λ t x. refl)
@@ -262,7 +265,8 @@ module _ (act : Act) (log : List Act) (f p : ℕ) (is : maker_of (act ∷ log) f
 
   board_well : (v key state : ℕ) → GoesWell (board_route log v key state)
   board_well v key state =
-      either_way GoesWell (board_down log v key) (as_first log (board_went log v key)) _ (first_well (board_went log v key))
+      either_way GoesWell (board_down log v key) (as_first log (board_went log v key)) _
+      (first_well (board_went log v key))
       (either_way GoesWell (not (is_press state)) ToShell _ tt
       (either_way GoesWell (nat_lt (board_number log v) 64) (to_standing (grab_for log v)) Refused
       (for_well v (is_same (peer_at log (standing log)) (peer_of log v))) tt))

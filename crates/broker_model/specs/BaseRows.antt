@@ -1,4 +1,5 @@
--- Worked rows of the base session: an application and an input method join, a text is committed, and one whole batch comes back.
+-- Worked rows of the base session: an application and an input method join, a text is committed,
+-- and one whole batch comes back.
 use Rattle.std.specs.Prelude.{◌≡◌, List, [], ◌∷◌, ◌++◌, length, take, drop, codes}
 use Rattle.relay_model.specs.declared.act.Act.TheVariants as acts
 use Rattle.relay_model.specs.declared.act.EndCause.TheVariants as causes
@@ -70,14 +71,16 @@ BatchIsQueued = queued 65536 base_journal 7 ≡ ((said.CommitString (codes "a") 
 -- and its bytes
 abbrev pub BatchIsTold : Type 0
 BatchIsTold =
-    (group_for (past_of base_journal).made 1 (told (acts.MCommit 12 1) (resolve (drop 1 base_journal)))).bytes
+    (group_for (past_of base_journal).made 1
+    (told (acts.MCommit 12 1) (resolve (drop 1 base_journal)))).bytes
     ≡ hex (codes "070000000300100002000000610000000700000005000c0001000000")
 
 -- no end follows in it
 abbrev pub NobodyEnds : Type 0
 NobodyEnds = history 65536 base_journal ≡ base_journal
 
--- all that is out for the application after it: its globals, what its seat has, the enter of its field, and the batch
+-- all that is out for the application after it: its globals, what its seat has, the enter of its
+-- field, and the batch
 abbrev pub AllIsOut : Type 0
 AllIsOut =
     (out_for 65536 base_journal 1).put.bytes
@@ -108,7 +111,8 @@ TakenMakesRoom =
     history 160 (sent 2 (codes "0500000003000c0001000000") ∷ Took 1 100 ∷ drop 1 base_journal)
     ≡ sent 2 (codes "0500000003000c0001000000") ∷ Took 1 100 ∷ drop 1 base_journal
 
--- with stores of 160 bytes the batch doesn't fit, the application is ended for it, and that end tells the method more than fits, which is ended too
+-- with stores of 160 bytes the batch doesn't fit, the application is ended for it, and that end
+-- tells the method more than fits, which is ended too
 abbrev pub EndsFollow : Type 0
 EndsFollow = history 160 base_journal ≡ End 2 causes.Full ∷ End 1 causes.Full ∷ base_journal
 

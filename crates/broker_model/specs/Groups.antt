@@ -39,7 +39,11 @@ later n t = record t { offset = n + t.offset }
 
 -- one piece behind the other
 abbrev pub followed_by : Piece → Piece → Piece
-followed_by a b = record { bytes = a.bytes ++ b.bytes; tokens = a.tokens ++ map (later (length a.bytes)) b.tokens }
+followed_by a b =
+    record {
+      bytes = a.bytes ++ b.bytes;
+      tokens = a.tokens ++ map (later (length a.bytes)) b.tokens;
+    }
 
 -- the id of what was made, or 0
 abbrev pub id_of : Option Made → ℕ
@@ -52,30 +56,47 @@ id_word made label = word (id_of (made_as made label))
 
 -- the message of an event; none of what the shell is told
 abbrev pub message_of : List Made → Said → Option Message
-message_of made (said.Enter surface) = Some (message interface.TextInput 0 (id_word made surface ∷ []))
-message_of made (said.Leave surface) = Some (message interface.TextInput 1 (id_word made surface ∷ []))
-message_of made (said.Preedit t begin end) = Some (message interface.TextInput 2 (text t ∷ signed begin ∷ signed end ∷ []))
+message_of made (said.Enter surface) =
+    Some (message interface.TextInput 0 (id_word made surface ∷ []))
+message_of made (said.Leave surface) =
+    Some (message interface.TextInput 1 (id_word made surface ∷ []))
+message_of made (said.Preedit t begin end) =
+    Some (message interface.TextInput 2 (text t ∷ signed begin ∷ signed end ∷ []))
 message_of made (said.CommitString t) = Some (message interface.TextInput 3 (text t ∷ []))
-message_of made (said.Delete before after) = Some (message interface.TextInput 4 (word before ∷ word after ∷ []))
+message_of made (said.Delete before after) =
+    Some (message interface.TextInput 4 (word before ∷ word after ∷ []))
 message_of made (said.FieldDone serial) = Some (message interface.TextInput 5 (word serial ∷ []))
 message_of made said.Activate = Some (message interface.InputMethod 0 [])
 message_of made said.Deactivate = Some (message interface.InputMethod 1 [])
-message_of made (said.Surrounding t cursor anchor) = Some (message interface.InputMethod 2 (text t ∷ word cursor ∷ word anchor ∷ []))
+message_of made (said.Surrounding t cursor anchor) =
+    Some (message interface.InputMethod 2 (text t ∷ word cursor ∷ word anchor ∷ []))
 message_of made (said.ChangeCause cause) = Some (message interface.InputMethod 3 (word cause ∷ []))
-message_of made (said.ContentType hint purpose) = Some (message interface.InputMethod 4 (word hint ∷ word purpose ∷ []))
+message_of made (said.ContentType hint purpose) =
+    Some (message interface.InputMethod 4 (word hint ∷ word purpose ∷ []))
 message_of made said.MethodDone = Some (message interface.InputMethod 5 [])
 message_of made said.Unavailable = Some (message interface.InputMethod 6 [])
-message_of made (said.PopupRect x y width height) = Some (message interface.InputPopupSurface 0 (signed x ∷ signed y ∷ signed width ∷ signed height ∷ []))
-message_of made (said.Keymap keymap) = Some (message interface.KeyboardGrab 0 (word keymap.format ∷ token keymap.token ∷ word keymap.size ∷ []))
-message_of made (said.Key serial time key state) = Some (message interface.KeyboardGrab 1 (word serial ∷ word time ∷ word key ∷ word state ∷ []))
+message_of made (said.PopupRect x y width height) =
+    Some (message interface.InputPopupSurface 0
+    (signed x ∷ signed y ∷ signed width ∷ signed height ∷ []))
+message_of made (said.Keymap keymap) =
+    Some (message interface.KeyboardGrab 0
+    (word keymap.format ∷ token keymap.token ∷ word keymap.size ∷ []))
+message_of made (said.Key serial time key state) =
+    Some (message interface.KeyboardGrab 1 (word serial ∷ word time ∷ word key ∷ word state ∷ []))
 message_of made (said.Mods serial mods) =
-    Some (message interface.KeyboardGrab 2 (word serial ∷ word mods.depressed ∷ word mods.latched ∷ word mods.locked ∷ word mods.group ∷ []))
-message_of made (said.Repeat repeat) = Some (message interface.KeyboardGrab 3 (signed repeat.rate ∷ signed repeat.delay ∷ []))
-message_of made (said.Global name i version) = Some (message interface.Registry 0 (word name ∷ text (name_of i) ∷ word version ∷ []))
+    Some (message interface.KeyboardGrab 2
+    (word serial ∷ word mods.depressed ∷ word mods.latched ∷ word mods.locked ∷ word mods.group
+    ∷ []))
+message_of made (said.Repeat repeat) =
+    Some (message interface.KeyboardGrab 3 (signed repeat.rate ∷ signed repeat.delay ∷ []))
+message_of made (said.Global name i version) =
+    Some (message interface.Registry 0 (word name ∷ text (name_of i) ∷ word version ∷ []))
 message_of made (said.CallbackDone value) = Some (message interface.Callback 0 (word value ∷ []))
 message_of made (said.DeleteId label) = Some (message interface.Display 1 (id_word made label ∷ []))
 message_of made (said.Capabilities value) = Some (message interface.Seat 0 (word value ∷ []))
-message_of made (said.Error object fault) = Some (message interface.Display 0 (id_word made object ∷ word (code_of fault) ∷ text (text_of fault) ∷ []))
+message_of made (said.Error object fault) =
+    Some (message interface.Display 0
+    (id_word made object ∷ word (code_of fault) ∷ text (text_of fault) ∷ []))
 message_of made (said.Pass time key state) = None
 message_of made (said.VMods mods) = None
 message_of made (said.Placed popup x y) = None
@@ -94,14 +115,17 @@ message_piece id (Some m) = record { bytes = message_bytes id m; tokens = tokens
 -- an event that goes to this object, where it is one of the peer p
 abbrev pub event_piece : List Made → ℕ → Said → Option Made → Piece
 event_piece made p event None = nothing
-event_piece made p event (Some m) = (if m.peer == p then message_piece m.id (message_of made event) else nothing)
+event_piece made p event (Some m) =
+    (if m.peer == p then message_piece m.id (message_of made event) else nothing)
 
 -- the group of the peer p: what is told to its labels, under their ids
 abbrev pub group_for : List Made → ℕ → List Told → Piece
 group_for made p [] = nothing
-group_for made p (t ∷ rest) = followed_by (event_piece made p t.event (made_as made t.to)) (group_for made p rest)
+group_for made p (t ∷ rest) =
+    followed_by (event_piece made p t.event (made_as made t.to)) (group_for made p rest)
 
 -- events for the object with an id
 abbrev pub said_piece : List Made → ℕ → List Said → Piece
 said_piece made id [] = nothing
-said_piece made id (event ∷ rest) = followed_by (message_piece id (message_of made event)) (said_piece made id rest)
+said_piece made id (event ∷ rest) =
+    followed_by (message_piece id (message_of made event)) (said_piece made id rest)

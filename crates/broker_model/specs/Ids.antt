@@ -19,8 +19,8 @@ pub record Joined : Type 0 where
   pub label : ℕ
   pub role : Role
 
--- what entries come to: their acts, the newest first; what was made under ids, the newest first; who joined, in order; and for each label the tokens that wait
--- for the peer, in order
+-- what entries come to: their acts, the newest first; what was made under ids, the newest first;
+-- who joined, in order; and for each label the tokens that wait for the peer, in order
 pub record Past : Type 0 where
   pub acts : List Act
   pub made : List Made
@@ -43,7 +43,9 @@ peer_at past q = peer_in past.joined q
 -- the object that a peer's id names: the last that it made under the id and that is alive
 abbrev pub named : List Act → List Made → (peer id : ℕ) → Option Made
 named log [] peer id = None
-named log (m ∷ older) peer id = (if (m.peer == peer) && (m.id == id) && alive log m.label then Some m else named log older peer id)
+named log (m ∷ older) peer id =
+    (if (m.peer == peer) && (m.id == id) && alive log m.label then Some m
+    else named log older peer id)
 
 -- the same, of what entries come to
 abbrev pub object_at : Past → (peer id : ℕ) → Option Made

@@ -41,7 +41,8 @@ IsQueued capacity journal f = queued capacity journal f ≡ relayed (idle.histor
 -- all but the last were, which didn't fit its peer's store, and that ended the peer
 pub record IsLeftOut (capacity : ℕ) (journal : List Entry) (f : ℕ) : Type 0 where
   pub last : List Said
-  pub all_but_last : queued capacity journal f ++ last ∷ [] ≡ relayed (idle.history (resolve journal)) f
+  pub all_but_last : queued capacity journal f ++ last ∷ []
+      ≡ relayed (idle.history (resolve journal)) f
   pub number : ℕ
   pub peer : Joined
   pub joined : peer_at (past_of journal) number ≡ Some peer
@@ -50,23 +51,27 @@ pub record IsLeftOut (capacity : ℕ) (journal : List Entry) (f : ℕ) : Type 0 
 
 -- after any steps, legal or not
 abbrev pub RelayLaw : Type 0
-RelayLaw = (capacity : ℕ) (steps : List Entry) (f : ℕ) → IsQueued capacity (history capacity steps) f ⊎ IsLeftOut capacity (history capacity steps) f
+RelayLaw = (capacity : ℕ) (steps : List Entry) (f : ℕ) →
+    IsQueued capacity (history capacity steps) f ⊎ IsLeftOut capacity (history capacity steps) f
 
 -- no live peer has a refused last message or is choked, for each such was ended
 abbrev pub NobodyIsDue : Type 0
 NobodyIsDue =
-    (capacity : ℕ) (steps : List Entry) (q : ℕ) (peer : Joined) → peer_at (past_of (history capacity steps)) q ≡ Some peer →
+    (capacity : ℕ) (steps : List Entry) (q : ℕ) (peer : Joined) →
+    peer_at (past_of (history capacity steps)) q ≡ Some peer →
     is_due capacity (history capacity steps) q peer ≡ false
 
--- What the entry of a batch tells the peer of the field f: the batch's group alone, under the id under which the peer made the field. So the group is put
--- whole, or none of it is.
+-- What the entry of a batch tells the peer of the field f: the batch's group alone, under the id
+-- under which the peer made the field. So the group is put whole, or none of it is.
 pub record IsAlone (e : Entry) (older : List Entry) (f : ℕ) : Type 0 where
   pub peer : ℕ
   pub owner : peer_of (log_of (past_of older)) f ≡ Some peer
   pub field : Made
   pub made : made_as (past_of (e ∷ older)).made f ≡ Some field
   pub own : field.peer ≡ peer
-  pub alone : group_at e older peer ≡ said_piece (past_of (e ∷ older)).made field.id (group_of (act_now e older) (log_of (past_of older)) f)
+  pub alone : group_at e older peer
+      ≡ said_piece (past_of (e ∷ older)).made field.id
+      (group_of (act_now e older) (log_of (past_of older)) f)
 
 -- so it is with each entry that relays a batch
 abbrev pub WholeGroups : Type 0
@@ -78,15 +83,20 @@ is_entering (said.Enter surface) = true
 is_entering (said.Leave surface) = true
 is_entering _ = false
 
--- An entry that relays no batch to a field tells it that it is entered or left, and nothing else: no done, and nothing that a done would apply.
+-- An entry that relays no batch to a field tells it that it is entered or left, and nothing else:
+-- no done, and nothing that a done would apply.
 abbrev pub NothingElse : Type 0
 NothingElse =
-    (e : Entry) (older : List Entry) (f p : ℕ) → maker_of (log_of (past_of (e ∷ older))) f ≡ Some p → relays e older f ≡ false →
-    AllByRecursion (λ t. t.to ≡ f → is_entering t.event ≡ true) (told (act_at e older) (resolve older))
+    (e : Entry) (older : List Entry) (f p : ℕ) →
+    maker_of (log_of (past_of (e ∷ older))) f ≡ Some p → relays e older f ≡ false →
+    AllByRecursion (λ t. t.to ≡ f → is_entering t.event ≡ true)
+    (told (act_at e older) (resolve older))
 
 -- no more bytes are stored than the capacity
 abbrev pub StoresHold : Type 0
-StoresHold = (capacity : ℕ) (journal : List Entry) (p : ℕ) → length (stored (out_for capacity journal p)) ≤ capacity
+StoresHold =
+    (capacity : ℕ) (journal : List Entry) (p : ℕ) →
+    length (stored (out_for capacity journal p)) ≤ capacity
 
 -- at most 256 tokens wait for a peer
 abbrev pub FewWait : Type 0
@@ -94,17 +104,24 @@ FewWait = (journal : List Entry) (p : ℕ) → length ((past_of journal).waiting
 
 -- of all requests the keymap of a board alone has a descriptor, and takes a token
 abbrev pub KeymapsTake : Type 0
-KeymapsTake = (i : Interface) (opcode : ℕ) → has_descriptor (request_kinds i opcode) ≡ is_board_keymap i opcode
+KeymapsTake =
+    (i : Interface) (opcode : ℕ) →
+    has_descriptor (request_kinds i opcode) ≡ is_board_keymap i opcode
 
 -- a journal has as many stamps as entries, whatever was given
 abbrev pub StampEach : Type 0
-StampEach = (journal : List Entry) (given : List Stamp) → length (stamps journal given) ≡ length journal
+StampEach = (journal : List Entry) (given : List Stamp) →
+    length (stamps journal given) ≡ length journal
 
 -- no moment is below that of the entry before
 abbrev pub MomentsRise : Type 0
 MomentsRise =
-    (e : Entry) (older : List Entry) (given : List Stamp) → latest (stamps older (given_before e given)) ≤ latest (stamps (e ∷ older) given)
+    (e : Entry) (older : List Entry) (given : List Stamp) →
+    latest (stamps older (given_before e given)) ≤ latest (stamps (e ∷ older) given)
 
--- the stamps that the steps have give all the stamps again, as they do where a recorded session is read
+-- the stamps that the steps have give all the stamps again, as they do where a recorded session is
+-- read
 abbrev pub StampsAgain : Type 0
-StampsAgain = (journal : List Entry) (given : List Stamp) → stamps journal (step_stamps journal (stamps journal given)) ≡ stamps journal given
+StampsAgain =
+    (journal : List Entry) (given : List Stamp) →
+    stamps journal (step_stamps journal (stamps journal given)) ≡ stamps journal given

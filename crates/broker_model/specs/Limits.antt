@@ -17,7 +17,8 @@ is_counted e = not (is_end e)
 abbrev pub number_counted : List Entry → ℕ
 number_counted journal = count_by is_counted journal
 
--- an end weighs nothing, a message 16 and its body's length, tokens 16 and 4 each, and any other entry 16
+-- an end weighs nothing, a message 16 and its body's length, tokens 16 and 4 each, and any other
+-- entry 16
 abbrev pub weight_of : Entry → ℕ
 weight_of (End peer cause) = 0
 weight_of (Message peer id opcode body) = 16 + length body
@@ -28,7 +29,10 @@ weight_of _ = 16
 abbrev pub weight : List Entry → ℕ
 weight journal = sum_by weight_of journal
 
--- the entry isn't an end, and the limit of counted entries is reached or the journal would weigh more than the limit of weight with it
+-- the entry isn't an end, and the limit of counted entries is reached or the journal would weigh
+-- more than the limit of weight with it
 abbrev pub is_full : Limits → List Entry → Entry → Bool
 is_full limits journal e =
-    not (is_end e) && (nat_le limits.entries (number_counted journal) || nat_lt limits.weight (weight journal + weight_of e))
+    not (is_end e)
+    && (nat_le limits.entries (number_counted journal)
+    || nat_lt limits.weight (weight journal + weight_of e))

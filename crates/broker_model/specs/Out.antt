@@ -21,7 +21,8 @@ act_now e older = cleaned (act_at e older) (log_of (past_of older))
 abbrev pub group_at : Entry → List Entry → ℕ → Piece
 group_at e older p = group_for (past_of (e ∷ older)).made p (told (act_at e older) (resolve older))
 
--- of a peer: all that was put for it, how many bytes of that were taken, and whether a group was left out
+-- of a peer: all that was put for it, how many bytes of that were taken, and whether a group was
+-- left out
 pub record Outgoing : Type 0 where
   pub put : Piece
   pub taken : ℕ
@@ -33,7 +34,8 @@ stored out = drop out.taken out.put.bytes
 
 -- the tokens that go with the next n bytes: those whose message begins in them
 abbrev pub tokens_taken : ℕ → Outgoing → List Token
-tokens_taken n out = filter (λ t. nat_le out.taken t.offset && nat_lt t.offset (out.taken + n)) out.put.tokens
+tokens_taken n out =
+    filter (λ t. nat_le out.taken t.offset && nat_lt t.offset (out.taken + n)) out.put.tokens
 
 -- the bytes that are stored and the group are together at most the capacity
 abbrev pub fits : ℕ → Piece → Outgoing → Bool
@@ -42,7 +44,8 @@ fits capacity group out = nat_le ((length out.put.bytes - out.taken) + length gr
 -- the group is put whole, or left out
 abbrev pub with_group : ℕ → Piece → Outgoing → Outgoing
 with_group capacity group out =
-    (if fits capacity group out then record out { put = followed_by out.put group } else record out { choked = true })
+    (if fits capacity group out then record out { put = followed_by out.put group }
+    else record out { choked = true })
 
 -- the peer is there, and has the label
 abbrev pub is_label : Option Joined → ℕ → Bool
@@ -61,4 +64,5 @@ before_group e older p out = record out { taken = out.taken + took_at e (past_of
 -- what is out for the peer with the label p
 abbrev pub out_for : ℕ → List Entry → ℕ → Outgoing
 out_for capacity [] p = record { put = nothing; taken = 0; choked = false }
-out_for capacity (e ∷ older) p = with_group capacity (group_at e older p) (before_group e older p (out_for capacity older p))
+out_for capacity (e ∷ older) p =
+    with_group capacity (group_at e older p) (before_group e older p (out_for capacity older p))

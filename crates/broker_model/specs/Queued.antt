@@ -12,18 +12,21 @@ use Rattle.broker_model.specs.Out.{act_now, group_at, fits, before_group, out_fo
 
 -- the newest entry commits a batch that is relayed to the field f
 abbrev pub relays : Entry → List Entry → ℕ → Bool
-relays e older f = fresh (act_now e older) (log_of (past_of older)) && is_at (holder (log_of (past_of older))) f
+relays e older f =
+    fresh (act_now e older) (log_of (past_of older)) && is_at (holder (log_of (past_of older))) f
 
 -- what the newest entry tells the peer p is put
 abbrev pub is_put_for : ℕ → Entry → List Entry → Option ℕ → Bool
 is_put_for capacity e older None = false
-is_put_for capacity e older (Some p) = fits capacity (group_at e older p) (before_group e older p (out_for capacity older p))
+is_put_for capacity e older (Some p) =
+    fits capacity (group_at e older p) (before_group e older p (out_for capacity older p))
 
 -- what the newest entry tells the peer of the field f is put
 abbrev pub is_put : ℕ → Entry → List Entry → ℕ → Bool
 is_put capacity e older f = is_put_for capacity e older (peer_of (log_of (past_of older)) f)
 
--- the groups of whole batches that were put for the field f, in order: those of `relayed` that were put
+-- the groups of whole batches that were put for the field f, in order: those of `relayed` that were
+-- put
 abbrev pub queued : ℕ → List Entry → ℕ → List (List Said)
 queued capacity [] f = []
 queued capacity (e ∷ older) f =

@@ -48,15 +48,18 @@ argument_fault past p arguments = fault_if (list_any (is_wrong past p) arguments
 abbrev pub new_fault : Past → ℕ → Option Argument → Option Fault
 new_fault past p None = None
 new_fault past p (Some new) =
-    option_or (fault_if (is_bad_id past p new.id) fault.NewId) (fault_if (nat_lt 255 (number_live past p)) fault.TooMany)
+    option_or (fault_if (is_bad_id past p new.id) fault.NewId)
+    (fault_if (nat_lt 255 (number_live past p)) fault.TooMany)
 
 -- the role is offered a global under the name, and the text is the name of its interface
 abbrev pub is_offered : Role → ℕ → List ℕ → Bool
 is_offered role name t = list_any (λ g. (g.0 == name) && bytes_eq (name_of g.1) t) (offered role)
 
--- the fault of one request: a bind of what isn't offered, what the seat lacks, a surface that has a popup
+-- the fault of one request: a bind of what isn't offered, what the seat lacks, a surface that has a
+-- popup
 abbrev pub own_fault : Past → Role → (ℕ → ℕ) → Interface → ℕ → List Value → Option Fault
-own_fault past role at interface.Registry opcode (word name ∷ text t ∷ word version ∷ word id ∷ []) =
+own_fault past role at interface.Registry opcode
+    (word name ∷ text t ∷ word version ∷ word id ∷ []) =
     fault_if (not (is_offered role name t && (version == 1))) fault.Bind
 own_fault past role at interface.Seat opcode vs = Some fault.Capability
 own_fault past role at interface.InputMethod opcode (word id ∷ word surface ∷ []) =
@@ -67,7 +70,8 @@ own_fault _ _ _ _ _ _ = None
 abbrev pub request_fault : Past → ℕ → Role → (ℕ → ℕ) → Message → Option Fault
 request_fault past p role at m =
     option_or (argument_fault past p (arguments_of m.interface m.opcode m.values))
-    (option_or (new_fault past p (new_of m.interface m.opcode m.values)) (own_fault past role at m.interface m.opcode m.values))
+    (option_or (new_fault past p (new_of m.interface m.opcode m.values))
+    (own_fault past role at m.interface m.opcode m.values))
 
 -- no row has the opcode, or the body spells no arguments of the row
 abbrev pub refuse_fault : Refuse → Fault

@@ -19,9 +19,12 @@ argument i id = record { id = id; interface = i }
 
 -- the arguments of a request that name objects, with the interfaces that the row names
 abbrev pub arguments_of : Interface → ℕ → List Value → List Argument
-arguments_of interface.TextInputManager opcode (word id ∷ word seat ∷ []) = argument interface.Seat seat ∷ []
-arguments_of interface.InputMethodManager opcode (word seat ∷ word id ∷ []) = argument interface.Seat seat ∷ []
-arguments_of interface.InputMethod opcode (word id ∷ word surface ∷ []) = (if opcode == 4 then argument interface.Surface surface ∷ [] else [])
+arguments_of interface.TextInputManager opcode (word id ∷ word seat ∷ []) =
+    argument interface.Seat seat ∷ []
+arguments_of interface.InputMethodManager opcode (word seat ∷ word id ∷ []) =
+    argument interface.Seat seat ∷ []
+arguments_of interface.InputMethod opcode (word id ∷ word surface ∷ []) =
+    (if opcode == 4 then argument interface.Surface surface ∷ [] else [])
 arguments_of _ _ _ = []
 
 -- the interface of the global with a name
@@ -31,16 +34,23 @@ global_at name =
     else (if name == 2 then interface.Seat
     else (if name == 3 then interface.TextInputManager else interface.InputMethodManager)))
 
--- the new id of a request, with the interface of what is made; a pointer, a keyboard or a touch is never made
+-- the new id of a request, with the interface of what is made; a pointer, a keyboard or a touch is
+-- never made
 abbrev pub new_of : Interface → ℕ → List Value → Option Argument
-new_of interface.Display opcode (word id ∷ []) = Some (argument (if opcode == 0 then interface.Callback else interface.Registry) id)
-new_of interface.Registry opcode (word name ∷ text t ∷ word version ∷ word id ∷ []) = Some (argument (global_at name) id)
+new_of interface.Display opcode (word id ∷ []) =
+    Some (argument (if opcode == 0 then interface.Callback else interface.Registry) id)
+new_of interface.Registry opcode (word name ∷ text t ∷ word version ∷ word id ∷ []) =
+    Some (argument (global_at name) id)
 new_of interface.Compositor opcode (word id ∷ []) = Some (argument interface.Surface id)
 new_of interface.Seat opcode (word id ∷ []) = Some (argument interface.Seat id)
-new_of interface.TextInputManager opcode (word id ∷ word seat ∷ []) = Some (argument interface.TextInput id)
-new_of interface.InputMethodManager opcode (word seat ∷ word id ∷ []) = Some (argument interface.InputMethod id)
-new_of interface.InputMethod opcode (word id ∷ word surface ∷ []) = (if opcode == 4 then Some (argument interface.InputPopupSurface id) else None)
-new_of interface.InputMethod opcode (word id ∷ []) = (if opcode == 5 then Some (argument interface.KeyboardGrab id) else None)
+new_of interface.TextInputManager opcode (word id ∷ word seat ∷ []) =
+    Some (argument interface.TextInput id)
+new_of interface.InputMethodManager opcode (word seat ∷ word id ∷ []) =
+    Some (argument interface.InputMethod id)
+new_of interface.InputMethod opcode (word id ∷ word surface ∷ []) =
+    (if opcode == 4 then Some (argument interface.InputPopupSurface id) else None)
+new_of interface.InputMethod opcode (word id ∷ []) =
+    (if opcode == 5 then Some (argument interface.KeyboardGrab id) else None)
 new_of _ _ _ = None
 
 -- the acts of requests with arguments, of the field or the method x
@@ -88,7 +98,8 @@ abbrev pub bind : ℕ → List Value → Act
 bind p (word name ∷ vs) = (if name == 2 then acts.Seat p else acts.Thing p)
 bind p _ = acts.Idle
 
--- the acts of an interface's requests by their opcodes, as far as they do something; sent by the peer p with this role to its object x
+-- the acts of an interface's requests by their opcodes, as far as they do something; sent by the
+-- peer p with this role to its object x
 abbrev pub rows : (p x : ℕ) → Role → (ℕ → ℕ) → Interface → List Value → List Act
 rows p x role at interface.Display vs = acts.Sync p ∷ acts.Registry p role ∷ []
 rows p x role at interface.Registry vs = bind p vs ∷ []
@@ -96,10 +107,12 @@ rows p x role at interface.Compositor vs = acts.Surface p ∷ []
 rows p x role at interface.Surface vs = acts.Drop x ∷ []
 rows p x role at interface.TextInputManager vs = acts.Drop x ∷ acts.Field p ∷ []
 rows p x role at interface.TextInput vs =
-    acts.Drop x ∷ acts.Enable x ∷ acts.Disable x ∷ surround x vs ∷ cause x vs ∷ content x vs ∷ cursor x vs ∷ acts.Commit x ∷ []
+    acts.Drop x ∷ acts.Enable x ∷ acts.Disable x ∷ surround x vs ∷ cause x vs ∷ content x vs
+    ∷ cursor x vs ∷ acts.Commit x ∷ []
 rows p x role at interface.InputMethodManager vs = acts.Method p ∷ acts.Drop x ∷ []
 rows p x role at interface.InputMethod vs =
-    string x vs ∷ preedit x vs ∷ delete x vs ∷ commit x vs ∷ popup at x vs ∷ acts.Grab x ∷ acts.Drop x ∷ []
+    string x vs ∷ preedit x vs ∷ delete x vs ∷ commit x vs ∷ popup at x vs ∷ acts.Grab x
+    ∷ acts.Drop x ∷ []
 rows p x role at interface.InputPopupSurface vs = acts.Drop x ∷ []
 rows p x role at interface.KeyboardGrab vs = acts.Drop x ∷ []
 rows p x role at _ vs = []

@@ -42,7 +42,8 @@ refused_for p x f = only (acts.Bad p f (if is_of_addressed f then x else p))
 -- what the entry n makes
 abbrev pub made_new : ℕ → ℕ → Option Argument → List Made
 made_new p n None = []
-made_new p n (Some new) = record { peer = p; id = new.id; label = n; interface = new.interface } ∷ []
+made_new p n (Some new) =
+    record { peer = p; id = new.id; label = n; interface = new.interface } ∷ []
 
 -- a request that was read, where its fault is known
 abbrev pub of_request : Past → ℕ → Joined → ℕ → Message → Option Fault → Meaning
@@ -55,12 +56,17 @@ of_request past n peer x m None = record {
 -- what a body reads as
 abbrev pub of_reading : Past → ℕ → Joined → ℕ → Result Message Refuse → Meaning
 of_reading past n peer x (Err r) = refused_for peer.label x (refuse_fault r)
-of_reading past n peer x (Ok m) = of_request past n peer x m (request_fault past peer.label peer.role (label_at past peer.label) m)
+of_reading past n peer x (Ok m) =
+    of_request past n peer x m
+    (request_fault past peer.label peer.role (label_at past peer.label) m)
 
--- a message to an object, if the id names one; where its row has a descriptor, that is the first token that waits for the peer
+-- a message to an object, if the id names one; where its row has a descriptor, that is the first
+-- token that waits for the peer
 abbrev pub of_message : Past → ℕ → Joined → ℕ → List ℕ → Option Made → Meaning
 of_message past n peer opcode body None = refused_for peer.label peer.label fault.Object
-of_message past n peer opcode body (Some x) = of_reading past n peer x.label (request_reading x.interface opcode (past.waiting peer.label) body)
+of_message past n peer opcode body (Some x) =
+    of_reading past n peer x.label
+    (request_reading x.interface opcode (past.waiting peer.label) body)
 
 -- an entry of a peer that joined
 abbrev pub of_peer : Option Joined → (Joined → Meaning) → Meaning
@@ -84,9 +90,11 @@ on_surface (Some s) f = f s
 
 -- what the shell says; a surface that isn't live makes it Idle
 abbrev pub shell_act : Past → ShellStep → Act
-shell_act past (shell.Focus q id) = on_surface (surface_at past (peer_at past q) id) (λ s. acts.Focus s)
+shell_act past (shell.Focus q id) =
+    on_surface (surface_at past (peer_at past q) id) (λ s. acts.Focus s)
 shell_act past shell.Unfocus = acts.Unfocus
-shell_act past (shell.Area q id rect) = on_surface (surface_at past (peer_at past q) id) (λ s. acts.Area s rect)
+shell_act past (shell.Area q id rect) =
+    on_surface (surface_at past (peer_at past q) id) (λ s. acts.Area s rect)
 shell_act past (shell.Screen size) = acts.Screen size
 shell_act past (shell.Key time key state) = acts.Key time key state
 shell_act past (shell.Mods mods) = acts.Mods mods
@@ -97,14 +105,21 @@ shell_act past (shell.At moment) = acts.Idle
 -- what the entry with the number n comes to, after all before it
 abbrev pub means : Entry → ℕ → Past → Meaning
 means (entries.Join role) n past =
-    record { act = acts.Peer; made = record { peer = n; id = 1; label = n; interface = interface.Display } ∷ [] }
+    record {
+      act = acts.Peer;
+      made = record { peer = n; id = 1; label = n; interface = interface.Display } ∷ [];
+    }
 means (entries.Message q id opcode body) n past =
-    of_peer (peer_at past q) (λ peer. of_message past n peer opcode body (object_at past peer.label id))
+    of_peer (peer_at past q)
+    (λ peer. of_message past n peer opcode body (object_at past peer.label id))
 means (entries.Tokens q tokens) n past = only acts.Idle
-means (entries.BadSize q head) n past = of_peer (peer_at past q) (λ peer. refused_for peer.label peer.label fault.Size)
-means (entries.End q cause) n past = of_peer (peer_at past q) (λ peer. only (acts.Gone peer.label cause))
+means (entries.BadSize q head) n past =
+    of_peer (peer_at past q) (λ peer. refused_for peer.label peer.label fault.Size)
+means (entries.End q cause) n past =
+    of_peer (peer_at past q) (λ peer. only (acts.Gone peer.label cause))
 means (entries.Shell step) n past = only (shell_act past step)
-means (entries.Took q bytes) n past = of_peer (peer_at past q) (λ peer. only (acts.Took peer.label bytes))
+means (entries.Took q bytes) n past =
+    of_peer (peer_at past q) (λ peer. only (acts.Took peer.label bytes))
 
 -- who joined, after the entry n
 abbrev pub with_joined : Entry → ℕ → List Joined → List Joined

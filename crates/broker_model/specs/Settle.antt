@@ -22,18 +22,21 @@ abbrev pub refused : List Entry → ℕ → Bool
 refused [] q = false
 refused (entries.Message n id opcode body ∷ older) q =
     (if n == q then is_bad (act_at (entries.Message n id opcode body) older) else refused older q)
-refused (entries.BadSize n head ∷ older) q = (if n == q then is_bad (act_at (entries.BadSize n head) older) else refused older q)
+refused (entries.BadSize n head ∷ older) q =
+    (if n == q then is_bad (act_at (entries.BadSize n head) older) else refused older q)
 refused (_ ∷ older) q = refused older q
 
 -- the peer with the number q is alive, and its last message was refused or it is choked
 abbrev pub is_due : ℕ → List Entry → ℕ → Joined → Bool
 is_due capacity journal q peer =
-    is_peer (log_of (past_of journal)) peer.label && (refused journal q || (out_for capacity journal peer.label).choked)
+    is_peer (log_of (past_of journal)) peer.label
+    && (refused journal q || (out_for capacity journal peer.label).choked)
 
 -- the lowest number of a peer that is due, from q on
 abbrev pub due_from : ℕ → List Entry → ℕ → List Joined → Option ℕ
 due_from capacity journal q [] = None
-due_from capacity journal q (peer ∷ peers) = (if is_due capacity journal q peer then Some q else due_from capacity journal (suc q) peers)
+due_from capacity journal q (peer ∷ peers) =
+    (if is_due capacity journal q peer then Some q else due_from capacity journal (suc q) peers)
 
 -- the lowest number of a peer that is due
 abbrev pub due : ℕ → List Entry → Option ℕ
@@ -55,7 +58,8 @@ settled capacity (suc n) journal = settled capacity n (with_end journal (due cap
 
 -- how many peers are alive, so how many ends can follow
 abbrev pub number_alive : List Entry → ℕ
-number_alive journal = count_by (λ peer. is_peer (log_of (past_of journal)) peer.label) (past_of journal).joined
+number_alive journal =
+    count_by (λ peer. is_peer (log_of (past_of journal)) peer.label) (past_of journal).joined
 
 -- while there is a live peer that is due, the one with the lowest number is ended
 abbrev pub settle : ℕ → List Entry → List Entry

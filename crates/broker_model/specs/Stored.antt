@@ -21,11 +21,14 @@ AreSpaced piece = IsSpaced 0 (map pair_of piece.tokens) (length piece.bytes)
 abbrev pub GroupsAreSpaced : Type 0
 GroupsAreSpaced = (made : List Made) (p : ℕ) (told : List Told) → AreSpaced (group_for made p told)
 
--- what is stored after a group: where there is room for it, it goes whole behind what was stored, but for what of it was taken ahead
+-- what is stored after a group: where there is room for it, it goes whole behind what was stored,
+-- but for what of it was taken ahead
 abbrev pub cells_with : ℕ → Piece → Outgoing → List Cell
 cells_with capacity group before =
     (if nat_le (length (cells_out before) + length group.bytes) capacity
-    then cells_out before ++ drop (before.taken - length before.put.bytes) (cells_of group.bytes (map pair_of group.tokens))
+    then cells_out before
+    ++ drop (before.taken - length before.put.bytes)
+    (cells_of group.bytes (map pair_of group.tokens))
     else cells_out before)
 
 -- so each entry's group is put or left out
@@ -39,14 +42,18 @@ CellsArePut =
 abbrev pub CellsAreTaken : Type 0
 CellsAreTaken =
     (capacity : ℕ) (e : Entry) (older : List Entry) (p : ℕ) →
-    cells_out (before_group e older p (out_for capacity older p)) ≡ drop (took_at e (past_of older) p) (cells_out (out_for capacity older p))
+    cells_out (before_group e older p (out_for capacity older p))
+    ≡ drop (took_at e (past_of older) p) (cells_out (out_for capacity older p))
 
 -- the bytes of the cells are what is stored
 abbrev pub BytesAreOut : Type 0
-BytesAreOut = (capacity : ℕ) (journal : List Entry) (p : ℕ) → bytes_of (cells_out (out_for capacity journal p)) ≡ stored (out_for capacity journal p)
+BytesAreOut =
+    (capacity : ℕ) (journal : List Entry) (p : ℕ) →
+    bytes_of (cells_out (out_for capacity journal p)) ≡ stored (out_for capacity journal p)
 
 -- the tokens of the first n cells are those that go with the next n bytes
 abbrev pub TokensAreOut : Type 0
 TokensAreOut =
     (capacity : ℕ) (journal : List Entry) (p n : ℕ) →
-    tokens_of (take n (cells_out (out_for capacity journal p))) ≡ map (λ t. t.token) (tokens_taken n (out_for capacity journal p))
+    tokens_of (take n (cells_out (out_for capacity journal p)))
+    ≡ map (λ t. t.token) (tokens_taken n (out_for capacity journal p))

@@ -1,4 +1,5 @@
--- The calls on the table of a peer's objects that a journal comes to, and that the table names what the journal names.
+-- The calls on the table of a peer's objects that a journal comes to, and that the table names what
+-- the journal names.
 use Rattle.std.specs.Prelude.{◌≡◌, ℕ, ◌+◌, List, [], ◌∷◌, ◌++◌, ◌==◌, ◌&&◌, true, if◌then◌else◌, length, Option, Some, None}
 use Rattle.std.specs.Option.{option_map}
 use Rattle.wl_proto.specs.declared.interface.Interface.{Interface}
@@ -17,7 +18,8 @@ use Rattle.broker_model.specs.Out.{act_now}
 abbrev pub make_calls : List Act → (p : ℕ) → List Made → List Call
 make_calls log p [] = []
 make_calls log p (m ∷ older) =
-    (if (m.peer == p) && alive log m.label then Make m.id m.interface m.label ∷ make_calls log p older else make_calls log p older)
+    (if (m.peer == p) && alive log m.label
+    then Make m.id m.interface m.label ∷ make_calls log p older else make_calls log p older)
 
 -- the drop of an object, if the peer with the label p made it
 abbrev pub drop_call : (p : ℕ) → Option Made → List Call
@@ -29,7 +31,8 @@ abbrev pub drop_calls : List Made → (p : ℕ) → Act → List Call
 drop_calls made p (acts.Drop x) = drop_call p (made_as made x)
 drop_calls made p _ = []
 
--- the calls on the table of the peer with the label p that a journal comes to, both with the newest first
+-- the calls on the table of the peer with the label p that a journal comes to, both with the newest
+-- first
 abbrev pub calls_for : List Entry → (p : ℕ) → List Call
 calls_for [] p = []
 calls_for (e ∷ older) p =

@@ -23,25 +23,32 @@ with_two = after [] (Join roles.App ∷ Tokens 1 (7 ∷ 8 ∷ []) ∷ [])
 
 -- which tell nothing, and wait
 abbrev pub TokensWait : Type 0
-TokensWait = (resolve with_two ≡ (acts.Idle ∷ acts.Peer ∷ [])) × ((past_of with_two).waiting 1 ≡ (7 ∷ 8 ∷ []))
+TokensWait =
+    (resolve with_two ≡ (acts.Idle ∷ acts.Peer ∷ []))
+    × ((past_of with_two).waiting 1 ≡ (7 ∷ 8 ∷ []))
 
 -- and weigh 24, so that with the join's 16 a limit of 40 is reached, and not one of 56
 abbrev pub of_weight : ℕ → Limits
 of_weight weight = record { entries = 8; store = 100; weight = weight }
 
 abbrev pub TokensWeigh : Type 0
-TokensWeigh = (is_full (of_weight 40) with_two (Shell shell.Unfocus) ≡ true) × (is_full (of_weight 56) with_two (Shell shell.Unfocus) ≡ false)
+TokensWeigh =
+    (is_full (of_weight 40) with_two (Shell shell.Unfocus) ≡ true)
+    × (is_full (of_weight 56) with_two (Shell shell.Unfocus) ≡ false)
 
 -- one more while 256 wait is dropped
 abbrev pub LastTokenIsDropped : Type 0
-LastTokenIsDropped = with_tokens (replicate 255 7) (8 ∷ 9 ∷ []) ≡ with_tokens (replicate 255 7) (8 ∷ [])
+LastTokenIsDropped =
+    with_tokens (replicate 255 7) (8 ∷ 9 ∷ []) ≡ with_tokens (replicate 255 7) (8 ∷ [])
 
--- a message whose row has a descriptor is read with the first that waits, which waits no more; it is malformed where none waits
+-- a message whose row has a descriptor is read with the first that waits, which waits no more; it
+-- is malformed where none waits
 abbrev pub FirstIsTaken : Type 0
 FirstIsTaken =
     (values_at (7 ∷ 8 ∷ []) (Descriptor ∷ []) [] ≡ Some (token 7 ∷ []))
     × (values_at [] (Descriptor ∷ []) [] ≡ None)
-    × (without_taken (has_descriptor (Some (Uint ∷ Descriptor ∷ Uint ∷ []))) (7 ∷ 8 ∷ []) ≡ (8 ∷ []))
+    × (without_taken (has_descriptor (Some (Uint ∷ Descriptor ∷ Uint ∷ []))) (7 ∷ 8 ∷ [])
+    ≡ (8 ∷ []))
 
 abbrev pub stamp : ℕ → ℕ → Stamp
 stamp moment author = record { moment = moment; author = author }
@@ -49,7 +56,8 @@ stamp moment author = record { moment = moment; author = author }
 -- a moment that the shell says is that of its entry, and none falls
 abbrev pub MomentsAreSaid : Type 0
 MomentsAreSaid =
-    stamps (after [] (Join roles.App ∷ Shell (shell.At 9) ∷ Shell shell.Unfocus ∷ [])) (stamp 3 2 ∷ stamp 6 0 ∷ stamp 5 1 ∷ [])
+    stamps (after [] (Join roles.App ∷ Shell (shell.At 9) ∷ Shell shell.Unfocus ∷ []))
+    (stamp 3 2 ∷ stamp 6 0 ∷ stamp 5 1 ∷ [])
     ≡ stamp 9 2 ∷ stamp 9 0 ∷ stamp 5 1 ∷ []
 
 -- an end that follows has no author, and the moment of what it follows from

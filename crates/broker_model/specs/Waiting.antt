@@ -42,11 +42,14 @@ with_tokens waiting tokens = take token_limit (waiting ++ tokens)
 -- what waits for each peer, where that of one peer that joined is changed
 abbrev pub changed_for : Option Joined → (Joined → List ℕ → List ℕ) → (ℕ → List ℕ) → ℕ → List ℕ
 changed_for None change waiting p = waiting p
-changed_for (Some peer) change waiting p = (if peer.label == p then change peer (waiting p) else waiting p)
+changed_for (Some peer) change waiting p =
+    (if peer.label == p then change peer (waiting p) else waiting p)
 
 -- what waits for each peer after one more entry
 abbrev pub waiting_with : Entry → Past → ℕ → List ℕ
 waiting_with (entries.Message q id opcode body) past p =
-    changed_for (peer_at past q) (λ peer. without_taken (takes_token (object_at past peer.label id) opcode)) past.waiting p
-waiting_with (entries.Tokens q tokens) past p = changed_for (peer_at past q) (λ peer waiting. with_tokens waiting tokens) past.waiting p
+    changed_for (peer_at past q)
+    (λ peer. without_taken (takes_token (object_at past peer.label id) opcode)) past.waiting p
+waiting_with (entries.Tokens q tokens) past p =
+    changed_for (peer_at past q) (λ peer waiting. with_tokens waiting tokens) past.waiting p
 waiting_with _ past p = past.waiting p

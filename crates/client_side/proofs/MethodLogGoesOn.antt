@@ -24,7 +24,8 @@ module _ {S : Type 0} (means : Meanings S) where
             ∙ ap (λ b. b ++ spelled (sent_for means h s.typist)) has.bytes
             ∙ ap (λ m. (spelled method_setup ++ spelled (sends_of means first log)) ++ spelled m) more
             ∙ append_assoc (spelled method_setup) (spelled (sends_of means first log)) (spelled (sent_for means h now))
-            ∙ ap (λ b. spelled method_setup ++ b) (sym (spelled-append (sends_of means first log) (sent_for means h now)));
+            ∙ ap (λ b. spelled method_setup ++ b)
+            (sym (spelled-append (sends_of means first log) (sent_for means h now)));
       }
 
   all_came : (events : List Event) (first : S) (log : List Happening) (sent : List ℕ) (s : State S)
@@ -37,7 +38,8 @@ module _ {S : Type 0} (means : Meanings S) where
 
   -- whatever events came
   pub method_goes_on : (old new : State S) (events : List Event) (first : S) (log : List Happening) (sent : List ℕ)
-      → new ≡ after_all (after_event means) events old → HasLog means first log sent old → GoesOn means first old new log sent
+      → new ≡ after_all (after_event means) events old → HasLog means first log sent old →
+      GoesOn means first old new log sent
   method_goes_on old new events first log sent is has =
       let then = all_came events first log sent old has in
       let at-new = subst (λ s. HasLog means first (log_after events log) sent s) (sym is) then in

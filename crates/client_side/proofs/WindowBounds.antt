@@ -9,7 +9,7 @@ use Rattle.wl_proto.specs.Spelling.{message_bytes}
 use Rattle.client_side.specs.Messages.{set_surrounding_text}
 use Rattle.client_side.specs.FieldSends.{surrounding}
 use Rattle.std.specs.List.{slice_range}
-use Rattle.trial_field.proofs.Chars.{goes_on-boundary, goes_on-inside}
+use Rattle.trial_field.proofs.BoundariesAreChars.{goes_on-boundary, goes_on-inside}
 use Rattle.client_side.specs.Window.{first_boundary, last_boundary, window_begin, window_end}
 
 at_boundary : (text : List ℕ) (n : ℕ) → IsCharBoundary text n → is_boundary text n ≡ true

@@ -1,5 +1,5 @@
--- A client by what it received: the state after its events, the bytes of a message that isn't whole, and whether an
--- event was bad.
+-- A client by what it received: the state after its events, the bytes of a message that isn't
+-- whole, and whether an event was bad.
 use Rattle.std.specs.Prelude.{◌≡◌, ℕ, Bool, true, false, List, [], ◌∷◌, ◌++◌, ◌⊎◌}
 use Rattle.wl_proto.specs.declared.interface.Interface.{Interface}
 use Rattle.wl_proto.specs.declared.event.Event.{Event}
@@ -30,7 +30,8 @@ IsWrong objects bytes =
     × ((event : Event) → IsEventOf (object_in objects (id_of m)) m event → ⊥))
 
 -- the bytes begin with these events, which take the state from the old to the new
-pub record Takes {S : Type 0} (objects : List Interface) (step : Step S) (old new : S) (bytes rest : List ℕ)
+pub record Takes {S : Type 0} (objects : List Interface) (step : Step S) (old new : S)
+    (bytes rest : List ℕ)
     : Type 0 where
   pub messages : List (List ℕ)
   pub events : List Event
@@ -39,21 +40,24 @@ pub record Takes {S : Type 0} (objects : List Interface) (step : Step S) (old ne
   pub state-is : new ≡ after_all step events old
 
 -- the bytes are events and a part of one
-pub record Accepts {S : Type 0} (objects : List Interface) (step : Step S) (old new : Client S) (piece : List ℕ)
+pub record Accepts {S : Type 0} (objects : List Interface) (step : Step S) (old new : Client S)
+    (piece : List ℕ)
     : Type 0 where
   pub takes : Takes objects step old.state new.state (old.held ++ piece) new.held
   pub partial : IsPartial new.held
   pub good : new.is_bad ≡ false
 
 -- the bytes begin with events and then go wrong
-pub record GoesWrong {S : Type 0} (objects : List Interface) (step : Step S) (old new : S) (bytes : List ℕ)
+pub record GoesWrong {S : Type 0} (objects : List Interface) (step : Step S) (old new : S)
+    (bytes : List ℕ)
     : Type 0 where
   pub rest : List ℕ
   pub takes : Takes objects step old new bytes rest
   pub wrong : IsWrong objects rest
 
 -- all bytes so far stay
-pub record Refuses {S : Type 0} (objects : List Interface) (step : Step S) (old new : Client S) (piece : List ℕ)
+pub record Refuses {S : Type 0} (objects : List Interface) (step : Step S) (old new : Client S)
+    (piece : List ℕ)
     : Type 0 where
   pub was_good : old.is_bad ≡ false
   pub goes_wrong : GoesWrong objects step old.state new.state (old.held ++ piece)

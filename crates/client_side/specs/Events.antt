@@ -21,7 +21,8 @@ field_objects = Display ∷ Registry ∷ Compositor ∷ Seat ∷ TextInputManage
 abbrev pub method_objects : List Interface
 method_objects = Display ∷ Registry ∷ Seat ∷ InputMethodManager ∷ InputMethod ∷ KeyboardGrab ∷ []
 
--- a body with this opcode spells the event to an object of this interface; no client is given tokens
+-- a body with this opcode spells the event to an object of this interface; no client is given
+-- tokens
 abbrev pub IsEventIn : Interface → ℕ → List ℕ → Event → Type 0
 IsEventIn i opcode body event = IsRead (event_kinds i opcode) i opcode [] body (event_message event)
 

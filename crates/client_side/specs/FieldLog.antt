@@ -1,5 +1,5 @@
--- A field by its log: its text, whether it is entered, how many commits it sent, and what it sent. The newest comes
--- first.
+-- A field by its log: its text, whether it is entered, how many commits it sent, and what it sent.
+-- The newest comes first.
 use Rattle.std.specs.Prelude.{ℕ, ◌+◌, ◌%◌, ◌^◌, ◌==◌, ◌&&◌, not, Bool, true, false, List, [], ◌∷◌, ◌++◌, length, nat_eq, if◌then◌else◌}
 use Rattle.std.specs.Cmp.Lexicographic.{pointwise}
 use Rattle.trial_field.specs.Log.{Entry, done}
@@ -29,17 +29,20 @@ entered_after left now = false
 
 -- text and cursor are as before
 abbrev pub is_same_place : FieldText → FieldText → Bool
-is_same_place old new = pointwise nat_eq (whole new) (whole old) && (length new.before == length old.before)
+is_same_place old new =
+    pointwise nat_eq (whole new) (whole old) && (length new.before == length old.before)
 
 -- the edit changes text or cursor
 unfoldable pub changes : Entry → FieldText → Bool
 changes edit t = not (is_same_place t (after edit t))
 
--- an own edit that changed something is sent while the field is entered; a batch is where its serial is the count of
--- commits
+-- an own edit that changed something is sent while the field is entered; a batch is where its
+-- serial is the count of commits
 abbrev pub sent_for : Happening → Field → List Sent
-sent_for (edited edit) f = if f.is_entered && changes edit f.text then change_sent 1 (after edit f.text) else []
-sent_for (batch edits serial) f = if serial == f.commits then change_sent 0 (after (done edits) f.text) else []
+sent_for (edited edit) f =
+    if f.is_entered && changes edit f.text then change_sent 1 (after edit f.text) else []
+sent_for (batch edits serial) f =
+    if serial == f.commits then change_sent 0 (after (done edits) f.text) else []
 sent_for entered f = enable_sent f.text
 sent_for left f = []
 

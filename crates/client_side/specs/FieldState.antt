@@ -20,7 +20,8 @@ abbrev pub new_state : State
 new_state = record { field = new_field; pending = no_edits; to_send = spelled field_setup }
 
 abbrev pub happens : Happening → State → State
-happens h s = record s { field = field_after h s.field; to_send = s.to_send ++ spelled (sent_for h s.field) }
+happens h s =
+    record s { field = field_after h s.field; to_send = s.to_send ++ spelled (sent_for h s.field) }
 
 -- the null string stands for no text
 abbrev pub text_or_empty : Option (List ℕ) → List ℕ
@@ -32,12 +33,16 @@ abbrev pub after_event : Event → State → State
 after_event (events.Enter surface) s = happens entered s
 after_event (events.Leave surface) s = happens left s
 after_event (events.PreeditString t begin end) s =
-    record s { pending = record s.pending { preedit = text_or_empty (option_copied t); begin = begin; end = end } }
+    record s {
+      pending =
+          record s.pending { preedit = text_or_empty (option_copied t); begin = begin; end = end };
+    }
 after_event (events.CommitString t) s =
     record s { pending = record s.pending { string = text_or_empty (option_copied t) } }
 after_event (events.DeleteSurroundingText before behind) s =
     record s { pending = record s.pending { before = before; after = behind } }
-after_event (events.TextInputDone serial) s = record (happens (batch s.pending serial) s) { pending = no_edits }
+after_event (events.TextInputDone serial) s =
+    record (happens (batch s.pending serial) s) { pending = no_edits }
 after_event _ s = s
 
 -- what an event makes happen to the field, before what happened before

@@ -13,6 +13,7 @@ IsFittingText most text = (length text ≤ most) × HasNoZero text
 
 -- the texts of edits fit a batch
 abbrev pub IsFitting : Event → Type 0
-IsFitting (events.PreeditString t begin end) = IsFittingText MAX_PREEDIT (text_or_empty (option_copied t))
+IsFitting (events.PreeditString t begin end) =
+    IsFittingText MAX_PREEDIT (text_or_empty (option_copied t))
 IsFitting (events.CommitString t) = IsFittingText MAX_STRING (text_or_empty (option_copied t))
 IsFitting _ = Unit {0}

@@ -23,7 +23,8 @@ spelled (s ∷ more) = message_bytes s.object s.message ++ spelled more
 
 -- wl_registry.bind of the global with this name, in version 1
 abbrev pub bind : ℕ → Interface → ℕ → Message
-bind name interface id = message Registry 0 (word name ∷ text (name_of interface) ∷ word 1 ∷ word id ∷ [])
+bind name interface id =
+    message Registry 0 (word name ∷ text (name_of interface) ∷ word 1 ∷ word id ∷ [])
 
 -- zwp_text_input_v3.set_surrounding_text with cursor and anchor at one place
 abbrev pub set_surrounding_text : List ℕ → ℤ → Message

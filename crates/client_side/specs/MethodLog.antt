@@ -1,4 +1,5 @@
--- The method's client by its log: what it typed, the dones that came, and what it sent. The newest comes first.
+-- The method's client by its log: what it typed, the dones that came, and what it sent. The newest
+-- comes first.
 use Rattle.std.specs.Prelude.{ℕ, pos, ◌+◌, ◌%◌, ◌^◌, ◌==◌, List, [], ◌∷◌, ◌++◌, length, Option, Some, None, if◌then◌else◌}
 use Rattle.wl_proto.specs.declared.event.Event.{Event}
 use Rattle.wl_proto.specs.declared.event.Event.TheVariants as events
@@ -47,7 +48,8 @@ typist_after means (committed edits) t = t
 
 -- a press and a batch are sent, with the number of dones as the serial
 abbrev pub sent_for : {S : Type 0} → Meanings S → Happening → Typist S → List Sent
-sent_for means (came (events.Key serial time key state)) t = if state == 1 then press_sent means key t else []
+sent_for means (came (events.Key serial time key state)) t =
+    if state == 1 then press_sent means key t else []
 sent_for means (came event) t = []
 sent_for means (committed edits) t = batch_sent edits t.dones
 
@@ -63,4 +65,5 @@ typist_of means first (h ∷ older) = typist_after means h (typist_of means firs
 -- all that the client sent behind its set-up
 abbrev pub sends_of : {S : Type 0} → Meanings S → S → List Happening → List Sent
 sends_of means first [] = []
-sends_of means first (h ∷ older) = sends_of means first older ++ sent_for means h (typist_of means first older)
+sends_of means first (h ∷ older) =
+    sends_of means first older ++ sent_for means h (typist_of means first older)

@@ -29,14 +29,17 @@ abbrev pub log_after : List Event → List Happening → List Happening
 log_after [] log = log
 log_after (event ∷ more) log = log_after more (came event ∷ log)
 
--- the client is as this log made it from its typist's first state, and sent these bytes before those that it has to send
-pub record HasLog {S : Type 0} (means : Meanings S) (first : S) (log : List Happening) (sent : List ℕ) (s : State S)
+-- the client is as this log made it from its typist's first state, and sent these bytes before
+-- those that it has to send
+pub record HasLog {S : Type 0} (means : Meanings S) (first : S) (log : List Happening)
+    (sent : List ℕ) (s : State S)
     : Type 0 where
   pub typist : s.typist ≡ typist_of means first log
   pub bytes : sent ++ s.to_send ≡ spelled method_setup ++ spelled (sends_of means first log)
 
 -- events came, and the log goes on by them
-pub record GoesOn {S : Type 0} (means : Meanings S) (first : S) (old new : State S) (log : List Happening)
+pub record GoesOn {S : Type 0} (means : Meanings S) (first : S) (old new : State S)
+    (log : List Happening)
     (sent : List ℕ) : Type 0 where
   pub events : List Event
   pub state-is : new ≡ after_all (after_event means) events old

@@ -6,7 +6,8 @@ use Rattle.trial_field.specs.FieldText.{FieldText, whole}
 -- the first boundary from n on, if one comes within so many bytes
 abbrev pub first_boundary : List ℕ → ℕ → ℕ → ℕ
 first_boundary text zero n = n
-first_boundary text (suc more) n = if is_boundary text n then n else first_boundary text more (n + 1)
+first_boundary text (suc more) n =
+    if is_boundary text n then n else first_boundary text more (n + 1)
 
 -- the last boundary up to n
 abbrev pub last_boundary : List ℕ → ℕ → ℕ

@@ -1,7 +1,7 @@
-pub mod Dictionary
-pub mod Finds
-pub mod Places
+pub mod DictionaryOrder
+pub mod FoundByPlace
+pub mod PlacesOfKeys
 pub mod PressesType
-pub mod Made
-pub mod Leftmost
-pub mod Readings
+pub mod TableGrows
+pub mod TypedKeysStay
+pub mod ReadingFronts

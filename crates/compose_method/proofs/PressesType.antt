@@ -6,7 +6,7 @@ use Rattle.compose_method.specs.Table.{IsTable, own_texts}
 use Rattle.compose_method.specs.Segments.{typed, rest_of}
 use Rattle.compose_method.specs.Typing.{Typing, pressed, IsAfter}
 use Rattle.compose_method.specs.Presses.{after_presses, strings_of, GoOn, PressesGoOn}
-use Rattle.compose_method.proofs.Readings.{pressed_once}
+use Rattle.compose_method.proofs.ReadingFronts.{pressed_once}
 
 -- a press of an active method
 abbrev press_of : ℕ → Typing → Typing

@@ -14,8 +14,8 @@ abbrev pub strings_of : List ℕ → Typing → List ℕ
 strings_of [] m = []
 strings_of (key ∷ keys) m = (pressed key m).string ++ strings_of keys (pressed key m)
 
--- Behind other presses since the last activation these go on to what all of them type, and leave what waits of all; the
--- last preedit is the own texts of the keys that wait.
+-- Behind other presses since the last activation these go on to what all of them type, and leave
+-- what waits of all; the last preedit is the own texts of the keys that wait.
 pub record GoOn (m : Typing) (presses keys : List ℕ) : Type 0 where
   pub after : IsAfter (after_presses keys m) (presses ++ keys)
   pub table : (after_presses keys m).table ≡ m.table
@@ -24,4 +24,5 @@ pub record GoOn (m : Typing) (presses keys : List ℕ) : Type 0 where
       (after_presses keys m).preedit ≡ own_texts m.table (rest_of m.table (presses ++ keys))
 
 abbrev pub PressesGoOn : Type 0
-PressesGoOn = (m : Typing) (presses keys : List ℕ) → IsTable m.table → IsAfter m presses → GoOn m presses keys
+PressesGoOn =
+    (m : Typing) (presses keys : List ℕ) → IsTable m.table → IsAfter m presses → GoOn m presses keys

@@ -7,7 +7,14 @@ use Rattle.compose_method.specs.declared.table.TheConstants.{MAX_KEYS}
 use Rattle.compose_method.specs.declared.method.Method.TheInside.{Inside}
 
 abbrev pub typing_of : Inside → Typing
-typing_of m = record { table = m.table; active = m.active; rest = m.waiting.items; string = string_bytes m.string; preedit = string_bytes m.preedit }
+typing_of m =
+    record {
+      table = m.table;
+      active = m.active;
+      rest = m.waiting.items;
+      string = string_bytes m.string;
+      preedit = string_bytes m.preedit;
+    }
 
 pub record IsReady (m : Inside) : Type 0 where
   pub few : vec_len m.waiting < MAX_KEYS

@@ -11,8 +11,9 @@ pub record Segments : Type 0 where
 abbrev pub typing : List ℕ → Segments → Segments
 typing text s = record s { typed = text ++ s.typed }
 
--- at a place: the entry with which the keys begin is typed and its keys are passed; else keys that are a proper prefix of an entry's wait;
--- else the first key's own text is typed, and that key is passed. `later n` reads on behind n keys after the first
+-- at a place: the entry with which the keys begin is typed and its keys are passed; else keys that
+-- are a proper prefix of an entry's wait; else the first key's own text is typed, and that key is
+-- passed. `later n` reads on behind n keys after the first
 abbrev pub read_at : Option Entry → Bool → List ℕ → List ℕ → (ℕ → Segments) → Segments
 read_at (Some e) waits keys own later = typing e.text (later (length e.keys - 1))
 read_at None true keys own later = record { typed = []; rest = keys }
@@ -23,7 +24,8 @@ abbrev pub segments_from : Table → List ℕ → ℕ → Segments
 segments_from t [] passed = record { typed = []; rest = [] }
 segments_from t (k ∷ ks) (suc passed) = segments_from t ks passed
 segments_from t (k ∷ ks) zero =
-    read_at (begun_by t.entries (k ∷ ks)) (going_on t.entries (k ∷ ks)) (k ∷ ks) (own_text t k) (λ n. segments_from t ks n)
+    read_at (begun_by t.entries (k ∷ ks)) (going_on t.entries (k ∷ ks)) (k ∷ ks) (own_text t k)
+    (λ n. segments_from t ks n)
 
 -- the leftmost segmentation of all keys pressed
 abbrev pub segments : Table → List ℕ → Segments

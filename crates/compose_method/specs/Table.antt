@@ -21,7 +21,8 @@ begun_by entries keys = find (λ e. starts_with nat_eq keys e.keys) entries
 
 -- whether the keys are a proper prefix of an entry's
 abbrev pub going_on : List Entry → List ℕ → Bool
-going_on entries keys = list_any (λ e. starts_with nat_eq e.keys keys && nat_lt (length keys) (length e.keys)) entries
+going_on entries keys =
+    list_any (λ e. starts_with nat_eq e.keys keys && nat_lt (length keys) (length e.keys)) entries
 
 -- whether the keys are an entry's, begin with an entry's, or are a prefix of an entry's
 abbrev pub clashes : Table → List ℕ → Bool
@@ -38,10 +39,12 @@ entry text keys = record { keys = keys; text = text }
 
 -- the singles stand in the order of their keys, and so do the entries
 abbrev pub with_single : Single → Table → Table
-with_single s t = record t { singles = insert t.singles (prefix_len (λ x. nat_lt x.key s.key) t.singles) s }
+with_single s t =
+    record t { singles = insert t.singles (prefix_len (λ x. nat_lt x.key s.key) t.singles) s }
 
 abbrev pub with_entry : Entry → Table → Table
-with_entry e t = record t { entries = insert t.entries (prefix_len (λ x. up_to x.keys e.keys) t.entries) e }
+with_entry e t =
+    record t { entries = insert t.entries (prefix_len (λ x. up_to x.keys e.keys) t.entries) e }
 
 abbrev pub empty_table : Table
 empty_table = record { singles = []; entries = [] }
@@ -76,7 +79,8 @@ AreInOrder = AllPairs (λ a b. up_to a.keys b.keys ≡ true)
 
 -- neither begins the other
 abbrev pub StandApart : Entry → Entry → Type 0
-StandApart a b = (starts_with nat_eq a.keys b.keys ≡ false) × (starts_with nat_eq b.keys a.keys ≡ false)
+StandApart a b =
+    (starts_with nat_eq a.keys b.keys ≡ false) × (starts_with nat_eq b.keys a.keys ≡ false)
 
 abbrev pub AreApart : List Entry → Type 0
 AreApart = AllPairs StandApart

@@ -1,4 +1,5 @@
--- A method as its user sees it: its table, whether it is active, the keys that wait, and the last batch.
+-- A method as its user sees it: its table, whether it is active, the keys that wait, and the last
+-- batch.
 use Rattle.std.specs.Prelude.{◌≡◌, ℕ, Bool, true, false, List, [], ◌∷◌, ◌++◌, if◌then◌else◌}
 use Rattle.compose_method.specs.Table.{Table, own_texts}
 use Rattle.compose_method.specs.Segments.{typed, rest_of}
@@ -37,7 +38,9 @@ pub record IsAfter (m : Typing) (presses : List ℕ) : Type 0 where
   pub active : m.active ≡ true
   pub rest : m.rest ≡ rest_of m.table presses
 
--- the string goes on from what the presses typed to what they type with one more, and the preedit is the own texts of the keys that wait then
-pub record Continues (t : Table) (presses : List ℕ) (key : ℕ) (string preedit : List ℕ) : Type 0 where
+-- the string goes on from what the presses typed to what they type with one more, and the preedit
+-- is the own texts of the keys that wait then
+pub record Continues (t : Table) (presses : List ℕ) (key : ℕ)
+    (string preedit : List ℕ) : Type 0 where
   pub goes_on : typed t presses ++ string ≡ typed t (presses ++ key ∷ [])
   pub waits : preedit ≡ own_texts t (rest_of t (presses ++ key ∷ []))

@@ -3,8 +3,8 @@ use Rattle.std.specs.Prelude.{ℕ, List, Option, Some, None, if◌then◌else◌
 use Rattle.wl_proto.specs.declared.event.Event.{Event}
 use Rattle.compose_method.specs.Typing.{Typing, pressed, after_event}
 
--- the string and the preedit of the batch that a press of a key gives, or none; the state after the press; and the
--- state after an event
+-- the string and the preedit of the batch that a press of a key gives, or none; the state after the
+-- press; and the state after an event
 pub record Meanings (S : Type 0) : Type 0 where
   pub gives : ℕ → S → Option (List ℕ × List ℕ)
   pub pressed : ℕ → S → S

@@ -1,3 +1,3 @@
-pub mod Pieces
-pub mod Composed
+pub mod FrameParts
+pub mod PartsAsOne
 pub mod OneAnswer

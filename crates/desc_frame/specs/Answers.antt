@@ -6,7 +6,8 @@ use Rattle.desc_frame.specs.declared.Got.TheVariants.{Bytes, End, Torn, BadFrame
 use Rattle.desc_frame.specs.Frames.{Frame, frame, IsFrame, WithinLimits, IsShort, header, spelling}
 
 -- a source gave these bytes
-pub record Gave (given_before given_after left_before left_after : Option (List ℕ)) (bytes : List ℕ) : Type 0 where
+pub record Gave (given_before given_after left_before left_after : Option (List ℕ))
+    (bytes : List ℕ) : Type 0 where
   pub given : Appends given_before given_after bytes
   pub left : Consumes left_before left_after bytes
 
@@ -31,7 +32,8 @@ Stops (Torn n) taken left = (0 < n) × (length taken ≡ n) × IsShort taken × 
 Stops (BadFrame n t) taken left = IsBadHeader n t taken
 Stops ReadFault taken left = IsShort taken
 
--- what the answer says of the bytes that were taken for it, of those that are left, and of the buffers
+-- what the answer says of the bytes that were taken for it, of those that are left, and of the
+-- buffers
 abbrev pub Tells : Got → List ℕ → Option (List ℕ) → List ℕ → List ℕ → Type 0
 Tells (Bytes n t) taken left bytes tokens = IsFrameOf n t bytes tokens taken
 Tells End taken left bytes tokens = Stops End taken left
@@ -41,10 +43,13 @@ Tells ReadFault taken left bytes tokens = Stops ReadFault taken left
 
 -- what stands at the front of bytes that are all there are
 abbrev pub Begins : Got → List ℕ → Type 0
-Begins (Bytes n t) all = (f : Frame) × (rest : List ℕ) × IsFrame f × (length f.bytes ≡ n) × (length f.tokens ≡ t) × (all ≡ spelling f ++ rest)
+Begins (Bytes n t) all =
+    (f : Frame) × (rest : List ℕ) × IsFrame f × (length f.bytes ≡ n) × (length f.tokens ≡ t)
+    × (all ≡ spelling f ++ rest)
 Begins End all = all ≡ []
 Begins (Torn n) all = (0 < n) × (length all ≡ n) × IsShort all
-Begins (BadFrame n t) all = (bad : List ℕ) × (rest : List ℕ) × IsBadHeader n t bad × (all ≡ bad ++ rest)
+Begins (BadFrame n t) all =
+    (bad : List ℕ) × (rest : List ℕ) × IsBadHeader n t bad × (all ≡ bad ++ rest)
 Begins ReadFault all = ⊥
 
 -- what is answered from then on, if anything is settled
@@ -60,4 +65,6 @@ abbrev pub HasOneAnswer : Type 0
 HasOneAnswer = (all : List ℕ) (got other : Got) → Begins got all → Begins other all → got ≡ other
 
 abbrev pub HasOneFrame : Type 0
-HasOneFrame = (f g : Frame) (after behind : List ℕ) → IsFrame f → IsFrame g → spelling f ++ after ≡ spelling g ++ behind → (f ≡ g) × (after ≡ behind)
+HasOneFrame =
+    (f g : Frame) (after behind : List ℕ) → IsFrame f → IsFrame g →
+    spelling f ++ after ≡ spelling g ++ behind → (f ≡ g) × (after ≡ behind)

@@ -16,4 +16,5 @@ has_candidate words code = list_any (is_candidate code) words
 
 -- the candidate with this number, from 1
 abbrev pub candidate : List Word → List ℕ → ℕ → Option Word
-candidate words code number = if number == 0 then None else slice_get (candidates words code) (number - 1)
+candidate words code number =
+    if number == 0 then None else slice_get (candidates words code) (number - 1)

@@ -52,7 +52,8 @@ clashes_word d keys = list_any (is_control d.controls) keys
 
 -- the key is a control key already, or stands in a word, or the number is another key's
 abbrev pub clashes_control : Dictionary → ℕ → Control → Bool
-clashes_control d key what = is_control d.controls key || (is_spelling d.words key || is_taken d.controls what)
+clashes_control d key what =
+    is_control d.controls key || (is_spelling d.words key || is_taken d.controls what)
 
 abbrev pub with_word : Word → Dictionary → Dictionary
 with_word w d = record d { words = d.words ++ w ∷ [] }

@@ -27,13 +27,15 @@ code_after (Some b) code = b.code
 abbrev pub made_at : Bool → Table → Dictionary → ℕ → List ℕ → Option Made
 made_at active t d key code = if active then press_made t d code key else None
 
--- the code: empty at first and after an activation or a deactivation, and what the presses since then make of it
+-- the code: empty at first and after an activation or a deactivation, and what the presses since
+-- then make of it
 abbrev pub code_of : Table → Dictionary → List Input → List ℕ
 code_of t d [] = []
 code_of t d (came Activate ∷ older) = []
 code_of t d (came Deactivate ∷ older) = []
 code_of t d (came event ∷ older) = code_of t d older
-code_of t d (press key ∷ older) = code_after (made_at (is_active older) t d key (code_of t d older)) (code_of t d older)
+code_of t d (press key ∷ older) =
+    code_after (made_at (is_active older) t d key (code_of t d older)) (code_of t d older)
 
 -- string and preedit of the batch that a press gives, or none
 abbrev pub given : Table → Dictionary → List Input → ℕ → Option (List ℕ × List ℕ)

@@ -36,13 +36,16 @@ abbrev pub made_of_word : Option Word → Option Made
 made_of_word None = None
 made_of_word (Some w) = Some (made w.text [])
 
--- a key that chooses a number, where the code isn't empty and has a candidate with that number: the candidate, and the code becomes empty
+-- a key that chooses a number, where the code isn't empty and has a candidate with that number: the
+-- candidate, and the code becomes empty
 abbrev pub chosen : List Word → List ℕ → ℕ → Option Made
-chosen words code number = if is_empty code then None else made_of_word (candidate words code number)
+chosen words code number =
+    if is_empty code then None else made_of_word (candidate words code number)
 
 -- a key that erases, where the code isn't empty: no text, and the code without its last key
 abbrev pub erased : List ℕ → Bool → Option Made
-erased code erases = if erases && not (is_empty code) then Some (made [] (take (length code - 1) code)) else None
+erased code erases =
+    if erases && not (is_empty code) then Some (made [] (take (length code - 1) code)) else None
 
 -- a key with which the longer code has a candidate: no text, and the longer code
 abbrev pub longer : List Word → List ℕ → Option Made

@@ -1,4 +1,5 @@
--- A dictionary method as its user sees it: its table and its dictionary, whether it is active, the code, and the last batch.
+-- A dictionary method as its user sees it: its table and its dictionary, whether it is active, the
+-- code, and the last batch.
 use Rattle.std.specs.Prelude.{ℕ, Bool, false, true, List, [], Option, Some, None, if◌then◌else◌}
 use Rattle.compose_method.specs.Table.{Table, own_texts}
 use Rattle.compose_method.specs.Typists.{Meanings}
@@ -25,7 +26,8 @@ makes key m = if m.active then press_made m.table m.dict m.code key else None
 -- the preedit has the own texts of the code's keys
 abbrev pub after_made : Option Made → Spelling → Spelling
 after_made None m = m
-after_made (Some b) m = record m { code = b.code; string = b.string; preedit = own_texts m.table b.code }
+after_made (Some b) m =
+    record m { code = b.code; string = b.string; preedit = own_texts m.table b.code }
 
 abbrev pub pressed : ℕ → Spelling → Spelling
 pressed key m = after_made (makes key m) m

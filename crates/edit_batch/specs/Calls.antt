@@ -1,7 +1,8 @@
 -- The calls on a method's pending edits, the newest first, and what they say is pending.
 use Rattle.std.specs.Prelude.{ℕ, ℤ, pos, List, [], ◌∷◌}
 
--- a request of zwp_input_method_v2 that sets a pending edit, or a reset of all of them; texts are their bytes
+-- a request of zwp_input_method_v2 that sets a pending edit, or a reset of all of them; texts are
+-- their bytes
 pub data Call : Type 0 where
   String : (text : List ℕ) → Call
   Preedit : (text : List ℕ) (begin end : ℤ) → Call
@@ -24,7 +25,8 @@ pub record LastEdits : Type 0 where
 abbrev pub no_preedit : Composed
 no_preedit = record { text = []; begin = pos 0; end = pos 0 }
 
--- the bytes to delete before and after the cursor: those of the last deletion since the last reset, else none
+-- the bytes to delete before and after the cursor: those of the last deletion since the last reset,
+-- else none
 abbrev pub last_deletion : List Call → ℕ × ℕ
 last_deletion [] = (0, 0)
 last_deletion (Reset ∷ older) = (0, 0)
@@ -48,4 +50,8 @@ last_preedit (_ ∷ older) = last_preedit older
 -- the last edit of each kind since the last reset
 abbrev pub last_edits : List Call → LastEdits
 last_edits calls =
-    record { deletion = last_deletion calls; string = last_string calls; preedit = last_preedit calls }
+    record {
+      deletion = last_deletion calls;
+      string = last_string calls;
+      preedit = last_preedit calls;
+    }

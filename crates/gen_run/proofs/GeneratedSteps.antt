@@ -1,4 +1,5 @@
--- Each generated step is one that a line of form 1 can give: a join, a message, something that the shell says, or a take.
+-- Each generated step is one that a line of form 1 can give: a join, a message, something that the shell says, or a
+-- take.
 use Rattle.std.proofs.Common.{◌≡◌, ℕ, zero, suc, ◌-◌, ◌%◌, ◌^◌, ◌<◌, ◌≤◌, List, [], ◌∷◌, ◌++◌, map, refl, sym, subst, arith}
 use Rattle.std.specs.Prelude.{codes, pos, unwrap_or}
 use Rattle.std.specs.List.{slice_get, AllByRecursion}
@@ -10,7 +11,7 @@ use Rattle.wl_proto.specs.declared.request.Request.TheVariants as requests
 use Rattle.wl_proto.specs.Grammar.{Value, word, signed, text, null, token}
 use Rattle.wl_proto.specs.Rows.{Message, request_message}
 use Rattle.wl_proto.specs.Spelling.{value_len, values_len, message_len}
-use Rattle.wl_proto.proofs.Whole.{spelling_length}
+use Rattle.wl_proto.proofs.WrittenIsWhole.{spelling_length}
 use Rattle.session_gen.specs.Sending.{sends, set_surrounding_text, commit_string, set_preedit_string}
 use Rattle.session_gen.specs.Setup.{Sent, sent_by, app_messages, method_messages, app_steps, method_steps, setup}
 use Rattle.session_gen.specs.Rows.{letter, row_of, row_step, peer_of, value_of, drawn}
@@ -158,4 +159,5 @@ at_place (s ∷ list) (suc place) other h k = at_place list place other h.1 k
 pub step_sent : (n made d : ℕ) → IsGenerated (step_of n made d)
 unfolding step_of
 step_sent n made d =
-    at_place setup made (drawn (word_after n (made - setup_count)) d) set_up (of_word (word_after n (made - setup_count)) d)
+    at_place setup made (drawn (word_after n (made - setup_count)) d) set_up
+    (of_word (word_after n (made - setup_count)) d)

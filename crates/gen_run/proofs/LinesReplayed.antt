@@ -199,7 +199,8 @@ next_at n made few p e at =
     ap (after_step limits.store (step_at n made)) at.is ∙ sym (journal_next n made) in
     subst (IsAt (line_played limits (step_line (step_at n made)) p.play)) journal line
 
-lines_at : (n made : ℕ) → made ≤ step_count → IsAt (lines_played limits (lines_up_to n made) unplayed) (journal_of n made)
+lines_at : (n made : ℕ) → made ≤ step_count →
+    IsAt (lines_played limits (lines_up_to n made) unplayed) (journal_of n made)
 lines_at n zero few =
     let none = none_first n in
     subst (λ (xs : List SessionLine). IsAt (lines_played limits xs unplayed) (journal_of n 0)) (sym none.0)
@@ -207,7 +208,8 @@ lines_at n zero few =
 lines_at n (suc made) few =
     let before = lines_at n made (omega arith) in
     let next = next_at n made (omega arith) (lines_played limits (lines_up_to n made) unplayed) refl before in
-    subst (λ (xs : List SessionLine). IsAt (lines_played limits xs unplayed) (journal_of n (suc made))) (sym (lines_next n made))
+    subst (λ (xs : List SessionLine). IsAt (lines_played limits xs unplayed) (journal_of n (suc made)))
+    (sym (lines_next n made))
     (subst (λ (p : Played). IsAt p (journal_of n (suc made)))
     (sym (one_more (lines_up_to n made) (step_line (step_at n made)) unplayed before.goes)) next)
 

@@ -14,7 +14,7 @@ use Rattle.broker_model.specs.Limits.{is_end, is_counted, number_counted, weight
 use Rattle.broker_model.specs.Out.{stored, out_for}
 use Rattle.broker_model.specs.Resolve.{with_joined, past_of}
 use Rattle.broker_model.specs.Settle.{due, cause_of, with_end, settled, number_alive}
-use Rattle.broker_model.proofs.Settling.{ends_fewer}
+use Rattle.broker_model.proofs.SettlingEnds.{ends_fewer}
 use Rattle.broker_core.specs.Taking.{lives}
 use Rattle.broker_core.proofs.AliveAfterEntry.{counted_cons, weight_cons, same_settled, alive_plain, alive_join}
 use Rattle.broker_core.proofs.WatchedSince.{settled_more}

@@ -87,7 +87,8 @@ all_of_bytes : IsOfBytes all_bytes
 all_of_bytes = record { few = λ q bytes. omega arith }
 
 method_of_peer : IsOfPeer method_dones 5
-method_of_peer = record { none = λ k bytes other. ap (λ (b : Bool). (if b then events_in 5 5 bytes else 0)) (ne_eqb k 5 other) }
+method_of_peer =
+    record { none = λ k bytes other. ap (λ (b : Bool). (if b then events_in 5 5 bytes else 0)) (ne_eqb k 5 other) }
 
 sum_within : (count : ℕ → List ℕ → ℕ) → IsOfBytes count → (n made : ℕ) → made ≤ step_count →
     put_sum count (journal_of n made) < 2 ^ 64

@@ -53,12 +53,14 @@ first_stands run n e s t =
 
 pub dones_fit : (run : Run) → Stands run → run.tally.method_dones < 2 ^ 32
 dones_fit run s =
-    let is : run.tally.method_dones ≡ put_sum method_dones (journal_in run) = ap (λ (t : Tally). t.method_dones) s.counted in
+    let is : run.tally.method_dones ≡ put_sum method_dones (journal_in run) =
+    ap (λ (t : Tally). t.method_dones) s.counted in
     let few = (within run.session.number run.session.made s.few).method_dones in
     omega arith
 
 pub room_for : (run : Run) → Stands run → run.session.made < step_count → HasRoom run.shared.limits run.shared.journal
-room_for run s few = subst (λ (b : Broker). HasRoom b.limits b.journal) (sym s.played) (has_room run.session.number run.session.made few)
+room_for run s few =
+    subst (λ (b : Broker). HasRoom b.limits b.journal) (sym s.played) (has_room run.session.number run.session.made few)
 
 -- the step is that of the session
 
@@ -103,7 +105,8 @@ next_stands before after step s few e made p w =
     let more = grows limits.store (step_at n k) journal (generated n k) in
     let longer : later ≡ more.more ++ journal = journal_next n k ∙ more.is in
     let told : Reached MayTally before.tally (watched_since limits.store (length journal) later) after.tally =
-    subst (λ (j : List Entry). Reached MayTally before.tally (watched_since limits.store (length journal) j) after.tally)
+    subst (λ (j : List Entry). Reached MayTally before.tally
+    (watched_since limits.store (length journal) j) after.tally)
     played
     (subst (λ (b : Broker). Reached MayTally before.tally
     (watched_since b.limits.store (length b.journal) after.shared.journal) after.tally) s.played w) in
@@ -122,10 +125,28 @@ same_counts : (a b : Counts) → a.entries ≡ b.entries → a.dones ≡ b.dones
     a.ends ≡ b.ends → a.queued ≡ b.queued → a ≡ b
 same_counts a b e d v n q =
     ap (λ (x : ℕ). record { entries = x; dones = a.dones; activates = a.activates; ends = a.ends; queued = a.queued }) e
-    ∙ ap (λ (x : ℕ). record { entries = b.entries; dones = x; activates = a.activates; ends = a.ends; queued = a.queued }) d
+    ∙ ap (λ (x : ℕ). record {
+      entries = b.entries;
+      dones = x;
+      activates = a.activates;
+      ends = a.ends;
+      queued = a.queued;
+    }) d
     ∙ ap (λ (x : ℕ). record { entries = b.entries; dones = b.dones; activates = x; ends = a.ends; queued = a.queued }) v
-    ∙ ap (λ (x : ℕ). record { entries = b.entries; dones = b.dones; activates = b.activates; ends = x; queued = a.queued }) n
-    ∙ ap (λ (x : ℕ). record { entries = b.entries; dones = b.dones; activates = b.activates; ends = b.ends; queued = x }) q
+    ∙ ap (λ (x : ℕ). record {
+      entries = b.entries;
+      dones = b.dones;
+      activates = b.activates;
+      ends = x;
+      queued = a.queued;
+    }) n
+    ∙ ap (λ (x : ℕ). record {
+      entries = b.entries;
+      dones = b.dones;
+      activates = b.activates;
+      ends = b.ends;
+      queued = x;
+    }) q
 
 pub counted_is : (run : Run) (counts : Counts) (entries : List Entry) → Stands run → entries ≡ run.shared.journal →
     counts.entries ≡ length entries → counts.dones ≡ run.tally.dones → counts.activates ≡ run.tally.activates →
@@ -156,7 +177,8 @@ pub goes_on : (n : ℕ) (before after : Run) → IsRunOf n before → Stands aft
 goes_on n before after h s e = record { stands = s; number = ap (λ (x : Progress). x.number) e ∙ h.number }
 
 -- at the end all steps are made
-pub all_made : (n : ℕ) (run : Run) → IsRunOf n run → step_count - run.session.made ≤ 0 → journal_in run ≡ journal_of n step_count
+pub all_made : (n : ℕ) (run : Run) → IsRunOf n run → step_count - run.session.made ≤ 0 →
+    journal_in run ≡ journal_of n step_count
 all_made n run h l =
     let few = h.stands.few in
     let all : run.session.made ≡ step_count = omega arith in

@@ -35,7 +35,8 @@ pub not_full : (limits : Limits) (journal : List Entry) (e : Entry) → HasRoom 
 not_full limits journal e room w =
     let counted = room.counted in
     let light = room.light in
-    full_by (is_end e) (nat_le limits.entries (number_counted journal)) (nat_lt limits.weight (weight journal + weight_of e))
+    full_by (is_end e) (nat_le limits.entries (number_counted journal))
+    (nat_lt limits.weight (weight journal + weight_of e))
     (lt-leb limits.entries (number_counted journal) (omega arith))
     (le-ltb limits.weight (weight journal + weight_of e) (omega arith))
 
@@ -86,9 +87,11 @@ case_of : (b : Broker) (q n : ℕ) (o : Option Joined) (r : Took) → HasRoom b.
 case_of b q n None r room s a = nothing (subst IsNothing (sym s) tt) refl
 case_of b q n (Some peer) r room s a =
     case_by b q n peer r (length (stored (out_for b.limits.store b.journal peer.label)) == 0)
-    (is_full b.limits b.journal (entries.Took q 0)) refl (not_full b.limits b.journal (entries.Took q 0) room (omega arith)) s a
+    (is_full b.limits b.journal (entries.Took q 0)) refl
+    (not_full b.limits b.journal (entries.Took q 0) room (omega arith)) s a
 
-pub take_case : (b : Broker) (q n : ℕ) (r : Took) → HasRoom b.limits b.journal → IfSome (take_refusal b q) (λ why. r ≡ why) →
+pub take_case : (b : Broker) (q n : ℕ) (r : Took) → HasRoom b.limits b.journal →
+    IfSome (take_refusal b q) (λ why. r ≡ why) →
     IfNone (take_refusal b q) (IsBytesUnlessMemory r) → TakeCase b q n (peer_at (past_of b.journal) q) r
 take_case b q n r room s a = case_of b q n (peer_at (past_of b.journal) q) r room s a
 
@@ -101,7 +104,8 @@ same_broker after b journal l j =
 
 -- bytes were taken
 
-bytes_by : (stamp : Stamp) (b after : Broker) (q n k t : ℕ) (buf places buf_after places_after : List ℕ) (o : Option Joined) (r : Took) →
+bytes_by : (stamp : Stamp) (b after : Broker) (q n k t : ℕ) (buf places buf_after places_after : List ℕ)
+    (o : Option Joined) (r : Took) →
     1 ≤ n → length buf ≡ n → r ≡ took.Bytes k t → TakeCase b q n o r →
     IfSome (out_of b o) (λ out. IsTaken out b.journal q buf places (k, t) buf_after places_after
     (entries.Took q k ∷ b.journal)) → after ≡ broker.with_step (entries.Took q k) stamp b →
@@ -112,7 +116,8 @@ bytes_by stamp b after q n k t buf places buf_after places_after None r l len e 
 bytes_by stamp b after q n k t buf places buf_after places_after (Some other) r l len e (something i peer p none) h a =
     let all : ℕ = length (stored (out_for b.limits.store b.journal other.label)) in
     let some : (all == 0) ≡ false =
-    subst (λ (x : Option Joined). IfSome x (λ (y : Joined). (length (stored (out_for b.limits.store b.journal y.label)) == 0) ≡ false)) (sym p) none in
+    subst (λ (x : Option Joined). IfSome x
+    (λ (y : Joined). (length (stored (out_for b.limits.store b.journal y.label)) == 0) ≡ false)) (sym p) none in
     let there : all ≡ 0 → ⊥ = eqb-false all 0 some in
     let count : k ≡ min n all = h.count ∙ ap (λ m. min m all) len in
     let few : (min n all == 0) ≡ false = ne_eqb (min n all) 0 (λ z. there (omega arith)) in
@@ -120,8 +125,10 @@ bytes_by stamp b after q n k t buf places buf_after places_after (Some other) r 
     (ap (λ (x : Broker). x.journal) a ∙ ap (λ m. entered b.limits.store (entries.Took q m) b.journal) count
     ∙ sym (ap (left_by b q (min n all)) few))
 
-pub bytes_taken : (stamp : Stamp) (b after : Broker) (q n k t : ℕ) (buf places buf_after places_after : List ℕ) (r : Took) →
-    1 ≤ n → length buf ≡ n → r ≡ took.Bytes k t → HasRoom b.limits b.journal → IfSome (take_refusal b q) (λ why. r ≡ why) →
+pub bytes_taken : (stamp : Stamp) (b after : Broker) (q n k t : ℕ) (buf places buf_after places_after : List ℕ)
+    (r : Took) →
+    1 ≤ n → length buf ≡ n → r ≡ took.Bytes k t → HasRoom b.limits b.journal →
+    IfSome (take_refusal b q) (λ why. r ≡ why) →
     IfNone (take_refusal b q) (IsBytesUnlessMemory r) →
     IfSome (out_at b.limits.store b.journal q) (λ out. IsTaken out b.journal q buf places (k, t) buf_after places_after
     (entries.Took q k ∷ b.journal)) → after ≡ broker.with_step (entries.Took q k) stamp b →

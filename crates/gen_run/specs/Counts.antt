@@ -8,7 +8,8 @@ use Rattle.gen_run.specs.declared.counts.Counts.{Counts}
 use Rattle.gen_run.specs.Events.{events_in}
 use Rattle.gen_run.specs.Journals.{put_sum, journal_of}
 
--- each other peer than 5 is an application with the text input 7: its done events (zwp_text_input_v3.done)
+-- each other peer than 5 is an application with the text input 7: its done events
+-- (zwp_text_input_v3.done)
 abbrev pub field_dones : ℕ → List ℕ → ℕ
 field_dones q bytes = (if q == 5 then 0 else events_in 7 5 bytes)
 

@@ -1,4 +1,5 @@
--- The session of a number: the journal that its steps lead to, and what was put for its peers meanwhile.
+-- The session of a number: the journal that its steps lead to, and what was put for its peers
+-- meanwhile.
 use Rattle.std.specs.Prelude.{ℕ, zero, suc, List, [], if◌then◌else◌, ◌==◌}
 use Rattle.std.specs.List.{sum_by}
 use Rattle.seat_steps.specs.declared.limits.Limits.{Limits}
@@ -28,7 +29,8 @@ put_sum count journal = sum_by (of_put count) (watched_since limits.store 0 jour
 abbrev pub method_dones : ℕ → List ℕ → ℕ
 method_dones q bytes = (if q == 5 then events_in 5 5 bytes else 0)
 
--- the journal of the first `made` steps of the session of n; a step may name a done event that was told before it
+-- the journal of the first `made` steps of the session of n; a step may name a done event that was
+-- told before it
 unfoldable pub journal_of : ℕ → ℕ → List Entry
 journal_of n zero = []
 journal_of n (suc made) =

@@ -1,4 +1,5 @@
--- What a step makes of a journal: its entry and the ends that follow from it, or nothing where nobody takes it.
+-- What a step makes of a journal: its entry and the ends that follow from it, or nothing where
+-- nobody takes it.
 use Rattle.std.specs.Prelude.{ℕ, List, ◌∷◌, length, min, nat_le, ◌==◌, if◌then◌else◌, Option, Some, None}
 use Rattle.relay_model.specs.declared.role.Role.{Role}
 use Rattle.seat_steps.specs.declared.step.Step.{Step}
@@ -19,7 +20,8 @@ entered capacity e journal = settle capacity (e ∷ journal)
 -- nobody joins where 64 peers are alive
 abbrev pub after_join : ℕ → Role → List Entry → List Entry
 after_join capacity role journal =
-    (if nat_le 64 (number_alive journal) then journal else entered capacity (entries.Join role) journal)
+    (if nat_le 64 (number_alive journal) then journal
+    else entered capacity (entries.Join role) journal)
 
 -- a step of the peer q, if it is alive
 abbrev pub after_peer : ℕ → ℕ → Entry → List Entry → List Entry
@@ -27,7 +29,8 @@ after_peer capacity q e journal = (if lives journal q then entered capacity e jo
 
 -- the first m bytes that are stored for the peer q are taken, if there are any
 abbrev pub after_taken : ℕ → ℕ → ℕ → List Entry → List Entry
-after_taken capacity q m journal = (if m == 0 then journal else entered capacity (entries.Took q m) journal)
+after_taken capacity q m journal =
+    (if m == 0 then journal else entered capacity (entries.Took q m) journal)
 
 -- as many as are asked for, or as are stored
 abbrev pub after_take : ℕ → ℕ → ℕ → List Entry → Option Joined → List Entry
@@ -40,4 +43,5 @@ abbrev pub after_step : ℕ → Step → List Entry → List Entry
 after_step capacity (steps.Join role) journal = after_join capacity role journal
 after_step capacity (steps.Peer q step) journal = after_peer capacity q (peer_entry q step) journal
 after_step capacity (steps.Shell step) journal = entered capacity (entries.Shell step) journal
-after_step capacity (steps.Take q n) journal = after_take capacity q n journal (peer_at (past_of journal) q)
+after_step capacity (steps.Take q n) journal =
+    after_take capacity q n journal (peer_at (past_of journal) q)

@@ -38,12 +38,14 @@ take-whole xs ys k e = ap (λ m. take m (xs ++ ys)) (sym e) ∙ take-append_seam
 -- a join: the state and the readers after it
 
 abbrev pub IsAfterJoin : Broker → List ℕ → ℕ → Role → ℕ → Broker → List ℕ → Type 0
-IsAfterJoin b readers n role r b' readers' = (b' ≡ with_step (entries.Join role) (stamp_by n) b) × (readers' ≡ readers ++ r ∷ [])
+IsAfterJoin b readers n role r b' readers' =
+    (b' ≡ with_step (entries.Join role) (stamp_by n) b) × (readers' ≡ readers ++ r ∷ [])
 
 abbrev pub IsSame : Broker → List ℕ → Broker → List ℕ → Type 0
 IsSame b readers b' readers' = (b' ≡ b) × (readers' ≡ readers)
 
-same-history : (b : Broker) (readers : List ℕ) (b' : Broker) (readers' : List ℕ) → IsSame b readers b' readers' → history_of b' readers' ≡ history_of b readers
+same-history : (b : Broker) (readers : List ℕ) (b' : Broker) (readers' : List ℕ) → IsSame b readers b' readers' →
+    history_of b' readers' ≡ history_of b readers
 same-history b readers b' readers' e = ap (λ (x : Broker). history_of x readers') e.0 ∙ ap (history_of b) e.1
 
 module _ (b : Broker) (readers : List ℕ) (n : ℕ) (kept : IsKept b readers) (stamped : IsStamped b) where
@@ -59,45 +61,55 @@ module _ (b : Broker) (readers : List ℕ) (n : ℕ) (kept : IsKept b readers) (
   joined-ok role r q b' readers' a number =
       let all : List ℕ = readers ++ r ∷ [] in
       let after : Broker = with_step (entries.Join role) (stamp_by n) b in
-      let now : history_of b' readers' ≡ history_of after all = ap (λ (x : Broker). history_of x readers') a.0 ∙ ap (history_of after) a.1 in
+      let now : history_of b' readers' ≡ history_of after all =
+      ap (λ (x : Broker). history_of x readers') a.0 ∙ ap (history_of after) a.1 in
       let is : broker_of b.limits (history_of b' readers') ≡ after =
       ap (broker_of b.limits) now ∙ (kept-join b readers n kept stamped role r).is in
-      let count : q ≡ length (past_of after.journal).joined = number ∙ ap (λ (x : Broker). length (past_of x.journal).joined) a.0 in (
+      let count : q ≡ length (past_of after.journal).joined =
+      number ∙ ap (λ (x : Broker). length (past_of x.journal).joined) a.0 in (
         now ∙ history-join b readers n kept stamped role r,
         count ∙ ap (λ (x : Broker). length (past_of x.journal).joined) (sym is),
         ap (λ (h : History). reader_of h q) now ∙ reader-join b readers n kept stamped role r q count,
       )
 
   pub joins-by : (role : Role) (r : ℕ) (res : Result ℕ JoinRefusal) (b' : Broker) (readers' : List ℕ)
-      → IfSome (join_refusal b role) (λ why. res ≡ Err why) → IfNone (join_refusal b role) (IsOkUnless res join_refusals.NoMemory)
+      → IfSome (join_refusal b role) (λ why. res ≡ Err why) →
+      IfNone (join_refusal b role) (IsOkUnless res join_refusals.NoMemory)
       → OnOk res (IsAfterJoin b readers n role r b' readers') → IfOk res (λ q. q ≡ length (past_of b'.journal).joined)
-      → OnErr res (IsSame b readers b' readers') → Joins b.limits (history_of b readers) n role r (history_of b' readers') res
+      → OnErr res (IsSame b readers b' readers') →
+      Joins b.limits (history_of b readers) n role r (history_of b' readers') res
   joins-by role r (Ok q) b' readers' refused accepted after number same =
       let done = joined-ok role r q b' readers' after number in record {
         refused = is-here (λ (x : Broker). IfSome (join_refusal x role) (λ why. Ok q ≡ Err why)) refused;
-        accepted = is-here (λ (x : Broker). IfNone (join_refusal x role) (IsOkUnless (Ok q) join_refusals.NoMemory)) accepted;
+        accepted = is-here
+            (λ (x : Broker). IfNone (join_refusal x role) (IsOkUnless (Ok q) join_refusals.NoMemory)) accepted;
         joined = done.0;
         number = done.1;
         has = done.2;
         same = tt;
       }
-  joins-by role r (Err why) b' readers' refused accepted after number same = let res : Result ℕ JoinRefusal = Err why in record {
-    refused = is-here (λ (x : Broker). IfSome (join_refusal x role) (λ other. res ≡ Err other)) refused;
-    accepted = is-here (λ (x : Broker). IfNone (join_refusal x role) (IsOkUnless res join_refusals.NoMemory)) accepted;
-    joined = tt;
-    number = tt;
-    has = tt;
-    same = same-history b readers b' readers' same;
-  }
+  joins-by role r (Err why) b' readers' refused accepted after number same = let res : Result ℕ JoinRefusal =
+      Err why in record {
+        refused = is-here (λ (x : Broker). IfSome (join_refusal x role) (λ other. res ≡ Err other)) refused;
+        accepted = is-here
+            (λ (x : Broker). IfNone (join_refusal x role) (IsOkUnless res join_refusals.NoMemory)) accepted;
+        joined = tt;
+        number = tt;
+        has = tt;
+        same = same-history b readers b' readers' same;
+      }
 
-  pub join-kept : (role : Role) (r : ℕ) (b' : Broker) (readers' : List ℕ) → IsAfterJoin b readers n role r b' readers' → IsKept b' readers'
+  pub join-kept : (role : Role) (r : ℕ) (b' : Broker) (readers' : List ℕ) → IsAfterJoin b readers n role r b' readers' →
+      IsKept b' readers'
   join-kept role r b' readers' a =
-      subst (λ rs. IsKept b' rs) (sym a.1) (subst (λ (x : Broker). IsKept x (readers ++ r ∷ [])) (sym a.0) (kept-join b readers n kept stamped role r))
+      subst (λ rs. IsKept b' rs) (sym a.1)
+      (subst (λ (x : Broker). IsKept x (readers ++ r ∷ [])) (sym a.0) (kept-join b readers n kept stamped role r))
 
   pub join-longer : (role : Role) (r : ℕ) (b' : Broker) (readers' : List ℕ) → IsAfterJoin b readers n role r b' readers'
       → IsLonger n (joining (entries.Join role) r) (history_of b readers) (history_of b' readers')
   join-longer role r b' readers' a =
-      ap (λ (x : Broker). history_of x readers') a.0 ∙ ap (history_of (with_step (entries.Join role) (stamp_by n) b)) a.1
+      ap (λ (x : Broker). history_of x readers') a.0
+      ∙ ap (history_of (with_step (entries.Join role) (stamp_by n) b)) a.1
       ∙ history-join b readers n kept stamped role r
 
   -- a step of the pass itself
@@ -106,7 +118,8 @@ module _ (b : Broker) (readers : List ℕ) (n : ℕ) (kept : IsKept b readers) (
     pub plain : IsNoJoin e
     pub mine : IsMadeBy (history_of b readers) n e
 
-  peer-step : (q : ℕ) (step : PeerStep) → reader_of (history_of b readers) q ≡ Some n → IsOuter (entry_of (steps.Peer q step))
+  peer-step : (q : ℕ) (step : PeerStep) → reader_of (history_of b readers) q ≡ Some n →
+      IsOuter (entry_of (steps.Peer q step))
   peer-step q (peers.Message id opcode body) own = record { follows = refl; plain = tt; mine = own }
   peer-step q (peers.Tokens tokens) own = record { follows = refl; plain = tt; mine = own }
   peer-step q (peers.BadSize head) own = record { follows = refl; plain = tt; mine = own }
@@ -121,18 +134,22 @@ module _ (b : Broker) (readers : List ℕ) (n : ℕ) (kept : IsKept b readers) (
   pub longer-by : (e : Entry) (b' : Broker) → IsOuter e → b' ≡ with_step e (stamp_by n) b
       → IsLonger n (only e) (history_of b readers) (history_of b' readers)
   longer-by e b' outer same =
-      ap (λ (x : Broker). history_of x readers) same ∙ history-plain b readers n kept stamped e outer.follows outer.plain
+      ap (λ (x : Broker). history_of x readers) same
+      ∙ history-plain b readers n kept stamped e outer.follows outer.plain
 
   pub kept-by : (e : Entry) (b' : Broker) → IsOuter e → b' ≡ with_step e (stamp_by n) b → IsKept b' readers
   kept-by e b' outer same =
-      subst (λ (x : Broker). IsKept x readers) (sym same) (kept-plain b readers n kept stamped e outer.follows outer.plain outer.mine)
+      subst (λ (x : Broker). IsKept x readers) (sym same)
+      (kept-plain b readers n kept stamped e outer.follows outer.plain outer.mine)
 
-  applied-by : (e : Entry) (res : Result Applied Refused) (b' : Broker) → IsOuter e → OnOk res (b' ≡ with_step e (stamp_by n) b)
+  applied-by : (e : Entry) (res : Result Applied Refused) (b' : Broker) → IsOuter e →
+      OnOk res (b' ≡ with_step e (stamp_by n) b)
       → OnOk res (IsLonger n (only e) (history_of b readers) (history_of b' readers))
   applied-by e (Ok a) b' outer after = longer-by e b' outer after
   applied-by e (Err why) b' outer after = tt
 
-  same-by : {T E : Type 0} (res : Result T E) (b' : Broker) → OnErr res (b' ≡ b) → OnErr res (history_of b' readers ≡ history_of b readers)
+  same-by : {T E : Type 0} (res : Result T E) (b' : Broker) → OnErr res (b' ≡ b) →
+      OnErr res (history_of b' readers ≡ history_of b readers)
   same-by (Ok a) b' same = tt
   same-by (Err why) b' same = ap (λ (x : Broker). history_of x readers) same
 
@@ -147,25 +164,32 @@ module _ (b : Broker) (readers : List ℕ) (n : ℕ) (kept : IsKept b readers) (
     accepted = is-here (λ (x : Broker). IfNone (refusal x step) (IsAccepted refusals.NoMemory step res)) accepted;
     applied = applied-by (entry_of step) res b' (own-step step own) after;
     entry = is-here (λ (x : Broker). IfOk res (λ applied. applied.entry ≡ length x.journal + 1)) entry;
-    route = is-here (λ (x : Broker). IfOk res (λ applied. applied.route ≡ route_told (act_at (entry_of step) x.journal) (resolve x.journal))) route;
+    route = is-here
+        (λ (x : Broker). IfOk res
+        (λ applied. applied.route ≡ route_told (act_at (entry_of step) x.journal) (resolve x.journal))) route;
     same = same-by res b' same;
   }
 
   -- a take
-  pub own-take : (q count : ℕ) → writer_of (history_of b readers) q ≡ Some n → count ≤ 4096 → IsOuter (entries.Took q count)
+  pub own-take : (q count : ℕ) → writer_of (history_of b readers) q ≡ Some n → count ≤ 4096 →
+      IsOuter (entries.Took q count)
   own-take q count own few = record { follows = refl; plain = tt; mine = (own, few) }
 
-  longer-taken : (q : ℕ) (res : Took) (b' : Broker) → writer_of (history_of b readers) q ≡ Some n → IfBytes res (λ counts. counts.0 ≤ 4096)
+  longer-taken : (q : ℕ) (res : Took) (b' : Broker) → writer_of (history_of b readers) q ≡ Some n →
+      IfBytes res (λ counts. counts.0 ≤ 4096)
       → IfBytes res (λ counts. b' ≡ with_step (entries.Took q counts.0) (stamp_by n) b)
-      → IfBytes res (λ counts. IsLonger n (only (entries.Took q counts.0)) (history_of b readers) (history_of b' readers))
-  longer-taken q (took.Bytes count tokens) b' own few after = longer-by (entries.Took q count) b' (own-take q count own few) after
+      → IfBytes res
+      (λ counts. IsLonger n (only (entries.Took q counts.0)) (history_of b readers) (history_of b' readers))
+  longer-taken q (took.Bytes count tokens) b' own few after =
+      longer-by (entries.Took q count) b' (own-take q count own few) after
   longer-taken q took.NoPeer b' own few after = tt
   longer-taken q took.Closed b' own few after = tt
   longer-taken q took.Empty b' own few after = tt
   longer-taken q (took.JournalFull kept) b' own few after = tt
   longer-taken q took.NoMemory b' own few after = tt
 
-  same-taken : (res : Took) (b' : Broker) → IfNoBytes res (b' ≡ b) → IfNoBytes res (history_of b' readers ≡ history_of b readers)
+  same-taken : (res : Took) (b' : Broker) → IfNoBytes res (b' ≡ b) →
+      IfNoBytes res (history_of b' readers ≡ history_of b readers)
   same-taken (took.Bytes count tokens) b' same = tt
   same-taken took.NoPeer b' same = ap (λ (x : Broker). history_of x readers) same
   same-taken took.Closed b' same = ap (λ (x : Broker). history_of x readers) same
@@ -174,8 +198,10 @@ module _ (b : Broker) (readers : List ℕ) (n : ℕ) (kept : IsKept b readers) (
   same-taken took.NoMemory b' same = ap (λ (x : Broker). history_of x readers) same
 
   -- what was taken stands at the front of the room
-  pub taken-into : (out : Outgoing) (q most : ℕ) (room part part' places places' : List ℕ) (counts : ℕ × ℕ) (after : List Entry)
-      → part ≡ take most room → most ≤ length room → length part' ≡ length part → length places ≡ 256 → length places' ≡ length places
+  pub taken-into : (out : Outgoing) (q most : ℕ) (room part part' places places' : List ℕ) (counts : ℕ × ℕ)
+      (after : List Entry)
+      → part ≡ take most room → most ≤ length room → length part' ≡ length part → length places ≡ 256 →
+      length places' ≡ length places
       → IsTaken out b.journal q part places counts part' places' after
       → IsTakenInto out most (put_mid 0 most room part') places' counts
   taken-into out q most room part part' places places' counts after is fits same few same' t =
@@ -194,16 +220,21 @@ module _ (b : Broker) (readers : List ℕ) (n : ℕ) (kept : IsKept b readers) (
         count = n;
         front = take-append-le counts.0 part' (post_of 0 most room) (omega arith) ∙ front;
         token_count = t.token_count;
-        tokens_front = ap (take counts.1) t.tokens ∙ take-whole (map (λ t. t.token) (tokens_taken counts.0 out)) (drop counts.1 places) counts.1 came;
+        tokens_front =
+            ap (take counts.1) t.tokens
+            ∙ take-whole (map (λ t. t.token) (tokens_taken counts.0 out)) (drop counts.1 places) counts.1 came;
         few = omega arith;
       }
 
   into-some : (out : Outgoing) (q most : ℕ) (room part part' places places' : List ℕ) (res : Took)
-      → part ≡ take most room → most ≤ length room → length part' ≡ length part → length places ≡ 256 → length places' ≡ length places
-      → IfBytes res (λ counts. IsTaken out b.journal q part places counts part' places' (entries.Took q counts.0 ∷ b.journal))
+      → part ≡ take most room → most ≤ length room → length part' ≡ length part → length places ≡ 256 →
+      length places' ≡ length places
+      → IfBytes res
+      (λ counts. IsTaken out b.journal q part places counts part' places' (entries.Took q counts.0 ∷ b.journal))
       → IfBytes res (λ counts. IsTakenInto out most (put_mid 0 most room part') places' counts)
   into-some out q most room part part' places places' (took.Bytes count tokens) is fits same few same' t =
-      taken-into out q most room part part' places places' (count, tokens) (entries.Took q count ∷ b.journal) is fits same few same' t
+      taken-into out q most room part part' places places' (count, tokens)
+      (entries.Took q count ∷ b.journal) is fits same few same' t
   into-some out q most room part part' places places' took.NoPeer is fits same few same' t = tt
   into-some out q most room part part' places places' took.Closed is fits same few same' t = tt
   into-some out q most room part part' places places' took.Empty is fits same few same' t = tt
@@ -211,8 +242,10 @@ module _ (b : Broker) (readers : List ℕ) (n : ℕ) (kept : IsKept b readers) (
   into-some out q most room part part' places places' took.NoMemory is fits same few same' t = tt
 
   pub into-by : (o : Option Outgoing) (q most : ℕ) (room part part' places places' : List ℕ) (res : Took)
-      → part ≡ take most room → most ≤ length room → length part' ≡ length part → length places ≡ 256 → length places' ≡ length places
-      → IfSome o (λ out. IfBytes res (λ counts. IsTaken out b.journal q part places counts part' places' (entries.Took q counts.0 ∷ b.journal)))
+      → part ≡ take most room → most ≤ length room → length part' ≡ length part → length places ≡ 256 →
+      length places' ≡ length places
+      → IfSome o (λ out. IfBytes res
+      (λ counts. IsTaken out b.journal q part places counts part' places' (entries.Took q counts.0 ∷ b.journal)))
       → IfSome o (λ out. IfBytes res (λ counts. IsTakenInto out most (put_mid 0 most room part') places' counts))
   into-by None q most room part part' places places' res is fits same few same' t = tt
   into-by (Some out) q most room part part' places places' res is fits same few same' t =
@@ -231,25 +264,32 @@ module _ (b : Broker) (readers : List ℕ) (n : ℕ) (kept : IsKept b readers) (
   few-none res e = subst (λ (r : Took). IfBytes r (λ counts. counts.0 ≤ 4096)) (sym e) tt
 
   pub few-by : (o : Option Outgoing) (q most : ℕ) (bytes tokens : List ℕ) (res : Took) → most ≤ 4096
-      → IfSome (take_refusal_from b q o) (λ why. res ≡ why) → IfSome o (λ out. IfBytes res (λ counts. IsTakenInto out most bytes tokens counts))
+      → IfSome (take_refusal_from b q o) (λ why. res ≡ why) →
+      IfSome o (λ out. IfBytes res (λ counts. IsTakenInto out most bytes tokens counts))
       → IfBytes res (λ counts. counts.0 ≤ 4096)
   few-by None q most bytes tokens res small refused t = few-none res refused
   few-by (Some out) q most bytes tokens res small refused t = few-some out most bytes tokens res small t
 
-  pub takes-by : (q most : ℕ) (bytes tokens : List ℕ) (res : Took) (b' : Broker) → writer_of (history_of b readers) q ≡ Some n
+  pub takes-by : (q most : ℕ) (bytes tokens : List ℕ) (res : Took) (b' : Broker) →
+      writer_of (history_of b readers) q ≡ Some n
       → IfSome (take_refusal b q) (λ why. res ≡ why) → IfNone (take_refusal b q) (IsBytesUnlessMemory res)
-      → IfSome (out_at b.limits.store b.journal q) (λ out. IfBytes res (λ counts. IsTakenInto out most bytes tokens counts))
-      → IfBytes res (λ counts. counts.0 ≤ 4096) → IfBytes res (λ counts. b' ≡ with_step (entries.Took q counts.0) (stamp_by n) b)
+      → IfSome (out_at b.limits.store b.journal q)
+      (λ out. IfBytes res (λ counts. IsTakenInto out most bytes tokens counts))
+      → IfBytes res (λ counts. counts.0 ≤ 4096) →
+      IfBytes res (λ counts. b' ≡ with_step (entries.Took q counts.0) (stamp_by n) b)
       → IfNoBytes res (b' ≡ b) → Takes b.limits (history_of b readers) n q most bytes tokens (history_of b' readers) res
   takes-by q most bytes tokens res b' own refused accepted into few after same = record {
     refused = is-here (λ (x : Broker). IfSome (take_refusal x q) (λ why. res ≡ why)) refused;
     accepted = is-here (λ (x : Broker). IfNone (take_refusal x q) (IsBytesUnlessMemory res)) accepted;
-    into = is-here (λ (x : Broker). IfSome (out_at b.limits.store x.journal q) (λ out. IfBytes res (λ counts. IsTakenInto out most bytes tokens counts))) into;
+    into = is-here
+        (λ (x : Broker). IfSome (out_at b.limits.store x.journal q)
+        (λ out. IfBytes res (λ counts. IsTakenInto out most bytes tokens counts))) into;
     taken = longer-taken q res b' own few after;
     same = same-taken res b' same;
   }
 
 -- how many steps there are then
 
-pub longer-length : (n : ℕ) (s : OuterStep) (before after : History) → IsLonger n s before after → length after ≡ length before + 1
+pub longer-length : (n : ℕ) (s : OuterStep) (before after : History) → IsLonger n s before after →
+    length after ≡ length before + 1
 longer-length n s before after e = let l = ap length e in let a = length-append before ((n, s) ∷ []) in omega arith

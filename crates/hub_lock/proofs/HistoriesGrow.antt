@@ -39,7 +39,8 @@ end_follows journal q = end_by q (refused journal q)
 -- the stamps of a settled journal are those of the journal before, and of the ends
 
 stamps_settled_by : (capacity fuel : ℕ) (journal : List Entry) (o : Option ℕ) (g1 g2 : List Stamp)
-    → ((later : List Entry) → stamps later g1 ≡ stamps later g2 → stamps (settled capacity fuel later) g1 ≡ stamps (settled capacity fuel later) g2)
+    → ((later : List Entry) → stamps later g1 ≡ stamps later g2 →
+    stamps (settled capacity fuel later) g1 ≡ stamps (settled capacity fuel later) g2)
     → stamps journal g1 ≡ stamps journal g2
     → stamps (settled capacity fuel (with_end journal o)) g1 ≡ stamps (settled capacity fuel (with_end journal o)) g2
 stamps_settled_by capacity fuel journal None g1 g2 k e = k journal e
@@ -53,7 +54,8 @@ stamps_settled : (capacity fuel : ℕ) (journal : List Entry) (g1 g2 : List Stam
     → stamps (settled capacity fuel journal) g1 ≡ stamps (settled capacity fuel journal) g2
 stamps_settled capacity zero journal g1 g2 e = e
 stamps_settled capacity (suc fuel) journal g1 g2 e =
-    stamps_settled_by capacity fuel journal (due capacity journal) g1 g2 (λ later. stamps_settled capacity fuel later g1 g2) e
+    stamps_settled_by capacity fuel journal (due capacity journal) g1 g2
+    (λ later. stamps_settled capacity fuel later g1 g2) e
 
 -- the broker of a longer history is what the step makes of the broker before
 pub broker-more : (limits : Limits) (h : History) (n : ℕ) (s : OuterStep) → follows s.entry ≡ false
@@ -76,7 +78,8 @@ broker-more limits h n s f =
 -- the steps of a settled journal are those of the journal before
 
 end_left_out : (readers : List ℕ) (journal : List Entry) (q : ℕ) (g : List Stamp)
-    → steps_in readers (entries.End q (cause_of journal q) ∷ journal) (stamps (entries.End q (cause_of journal q) ∷ journal) g)
+    → steps_in readers (entries.End q (cause_of journal q) ∷ journal)
+    (stamps (entries.End q (cause_of journal q) ∷ journal) g)
     ≡ steps_in readers journal (stamps journal g)
 end_left_out readers journal q g =
     let ended : Entry = entries.End q (cause_of journal q) in
@@ -87,25 +90,32 @@ end_left_out readers journal q g =
     ∙ ap (λ (b : Bool). if b then others else others ++ (last.author, step_after readers journal ended) ∷ []) f
 
 steps_settled_by : (readers : List ℕ) (capacity fuel : ℕ) (journal : List Entry) (o : Option ℕ) (g : List Stamp)
-    → ((later : List Entry) → steps_in readers (settled capacity fuel later) (stamps (settled capacity fuel later) g) ≡ steps_in readers later (stamps later g))
-    → steps_in readers (settled capacity fuel (with_end journal o)) (stamps (settled capacity fuel (with_end journal o)) g) ≡ steps_in readers journal (stamps journal g)
+    → ((later : List Entry) →
+    steps_in readers (settled capacity fuel later) (stamps (settled capacity fuel later) g)
+    ≡ steps_in readers later (stamps later g))
+    → steps_in readers (settled capacity fuel (with_end journal o))
+    (stamps (settled capacity fuel (with_end journal o)) g) ≡ steps_in readers journal (stamps journal g)
 steps_settled_by readers capacity fuel journal None g k = k journal
 steps_settled_by readers capacity fuel journal (Some q) g k =
     k (entries.End q (cause_of journal q) ∷ journal) ∙ end_left_out readers journal q g
 
 steps_settled : (readers : List ℕ) (capacity fuel : ℕ) (journal : List Entry) (g : List Stamp)
-    → steps_in readers (settled capacity fuel journal) (stamps (settled capacity fuel journal) g) ≡ steps_in readers journal (stamps journal g)
+    → steps_in readers (settled capacity fuel journal) (stamps (settled capacity fuel journal) g)
+    ≡ steps_in readers journal (stamps journal g)
 steps_settled readers capacity zero journal g = refl
 steps_settled readers capacity (suc fuel) journal g =
-    steps_settled_by readers capacity fuel journal (due capacity journal) g (λ later. steps_settled readers capacity fuel later g)
+    steps_settled_by readers capacity fuel journal (due capacity journal) g
+    (λ later. steps_settled readers capacity fuel later g)
 
-stamp-author : (e : Entry) (given : Stamp) (older : List Stamp) → follows e ≡ false → (stamp_of e given older).author ≡ given.author
+stamp-author : (e : Entry) (given : Stamp) (older : List Stamp) → follows e ≡ false →
+    (stamp_of e given older).author ≡ given.author
 stamp-author e given older f = rw f refl
 
 -- after a step the history is longer by it
 pub history-more : (readers : List ℕ) (e : Entry) (given : Stamp) (b : Broker) → follows e ≡ false
     → stamps b.journal (step_stamps b.journal b.stamps) ≡ b.stamps
-    → history_of (with_step e given b) readers ≡ history_of b readers ++ (given.author, step_after readers b.journal e) ∷ []
+    → history_of (with_step e given b) readers
+    ≡ history_of b readers ++ (given.author, step_after readers b.journal e) ∷ []
 history-more readers e given b f stamped =
     let K : List Entry = e ∷ b.journal in
     let G : List Stamp = given ∷ step_stamps b.journal b.stamps in
@@ -119,11 +129,14 @@ history-more readers e given b f stamped =
     ∙ ap (λ (a : ℕ). others ++ (a, last) ∷ []) (stamp-author e given before f)
 
 -- there are no more steps than entries
-pub steps_few : (readers : List ℕ) (journal : List Entry) (ss : List Stamp) → length (steps_in readers journal ss) ≤ length journal
+pub steps_few : (readers : List ℕ) (journal : List Entry) (ss : List Stamp) →
+    length (steps_in readers journal ss) ≤ length journal
 steps_few readers [] ss = omega arith
 steps_few readers (e ∷ older) [] = omega arith
 steps_few readers (e ∷ older) (s ∷ before) =
-    few (follows e) (steps_in readers older before) (s.author, step_after readers older e) (length older) (steps_few readers older before) where
-      few : (b : Bool) (h : History) (x : ℕ × OuterStep) (n : ℕ) → length h ≤ n → length (if b then h else h ++ x ∷ []) ≤ suc n
+    few (follows e) (steps_in readers older before) (s.author, step_after readers older e) (length older)
+    (steps_few readers older before) where
+      few : (b : Bool) (h : History) (x : ℕ × OuterStep) (n : ℕ) → length h ≤ n →
+          length (if b then h else h ++ x ∷ []) ≤ suc n
       few true h x n l = omega arith
       few false h x n l = omega (arith, length-append h (x ∷ []))

@@ -10,7 +10,7 @@ use Rattle.broker_model.specs.declared.journal.Entry.{Entry}
 use Rattle.broker_model.specs.declared.journal.Entry.TheVariants as entries
 use Rattle.broker_model.specs.Limits.{is_counted, number_counted}
 use Rattle.broker_model.specs.Settle.{due, cause_of, with_end, settled, settle, number_alive, history, step_of, outer}
-use Rattle.broker_model.proofs.Settling.{outer_settled}
+use Rattle.broker_model.proofs.SettlingEnds.{outer_settled}
 use Rattle.broker_core.proofs.AliveAfterEntry.{counted_cons, same_settled}
 use Rattle.turn_lock.specs.Pairs.{own, total, IsDistinct}
 use Rattle.turn_lock.specs.Rule.{bit}
@@ -34,7 +34,8 @@ entries-append a b =
     ap reverse (map-append (λ (s : ℕ × OuterStep). s.1.entry) a b)
     ∙ reverse-append (map (λ (s : ℕ × OuterStep). s.1.entry) a) (map (λ (s : ℕ × OuterStep). s.1.entry) b)
 
-sum-entries : (f : Entry → ℕ) (x : ℕ × OuterStep) (xs : History) → sum_by f (entries_of (x ∷ xs)) ≡ f x.1.entry + sum_by f (entries_of xs)
+sum-entries : (f : Entry → ℕ) (x : ℕ × OuterStep) (xs : History) →
+    sum_by f (entries_of (x ∷ xs)) ≡ f x.1.entry + sum_by f (entries_of xs)
 sum-entries f x xs =
     let a = ap (sum_by f) (entries-cons x xs) in
     let b = sum_by-append f (entries_of xs) (x.1.entry ∷ []) in
@@ -45,7 +46,8 @@ taken-entries : (h : History) → taken_in (entries_of h) ≡ all_taken h
 taken-entries [] = refl
 taken-entries (x ∷ xs) = let a = sum-entries bytes_by x xs in let r = taken-entries xs in omega arith
 
-count-entries : (x : ℕ × OuterStep) (xs : History) → number_counted (entries_of (x ∷ xs)) ≡ cond (is_counted x.1.entry) 1 0 + number_counted (entries_of xs)
+count-entries : (x : ℕ × OuterStep) (xs : History) →
+    number_counted (entries_of (x ∷ xs)) ≡ cond (is_counted x.1.entry) 1 0 + number_counted (entries_of xs)
 count-entries x xs = sum-entries (λ e. cond (is_counted e) 1 0) x xs
 
 pub length-entries : (h : History) → length (entries_of h) ≡ length h
@@ -84,16 +86,19 @@ counted-history capacity (e ∷ es) =
     let r = counted-history capacity es in omega arith
 
 taken_settled_by : (capacity fuel : ℕ) (journal : List Entry) (o : Option ℕ)
-    → ((later : List Entry) → taken_in (settled capacity fuel later) ≡ taken_in later) → taken_in (settled capacity fuel (with_end journal o)) ≡ taken_in journal
+    → ((later : List Entry) → taken_in (settled capacity fuel later) ≡ taken_in later) →
+    taken_in (settled capacity fuel (with_end journal o)) ≡ taken_in journal
 taken_settled_by capacity fuel journal None k = k journal
 taken_settled_by capacity fuel journal (Some q) k =
     let later : List Entry = entries.End q (cause_of journal q) ∷ journal in
-    let one : taken_in later ≡ taken_in journal = (let c = sum_by-cons bytes_by (entries.End q (cause_of journal q)) journal in omega arith) in
+    let one : taken_in later ≡ taken_in journal =
+    (let c = sum_by-cons bytes_by (entries.End q (cause_of journal q)) journal in omega arith) in
     k later ∙ one
 
 taken_settled : (capacity fuel : ℕ) (journal : List Entry) → taken_in (settled capacity fuel journal) ≡ taken_in journal
 taken_settled capacity zero journal = refl
-taken_settled capacity (suc fuel) journal = taken_settled_by capacity fuel journal (due capacity journal) (taken_settled capacity fuel)
+taken_settled capacity (suc fuel) journal =
+    taken_settled_by capacity fuel journal (due capacity journal) (taken_settled capacity fuel)
 
 taken-history : (capacity : ℕ) (es : List Entry) → taken_in (history capacity es) ≡ taken_in es
 taken-history capacity [] = refl
@@ -149,29 +154,34 @@ outer-history capacity (e ∷ es) a =
     outer_settled capacity (number_alive J) J
     ∙ ap (λ s. s ++ outer (history capacity es)) a.0 ∙ ap (λ s. e ∷ s) (outer-history capacity es a.1)
 
-pub outer-journal : (limits : Limits) (h : History) → IsLawful limits h → outer (broker_of limits h).journal ≡ entries_of h
+pub outer-journal : (limits : Limits) (h : History) → IsLawful limits h →
+    outer (broker_of limits h).journal ≡ entries_of h
 outer-journal limits h l = outer-history limits.store (entries_of h) (all-outer h h l.made_by)
 
 -- a longer history has no shorter journal
 
 settled-longer_by : (capacity fuel : ℕ) (journal : List Entry) (o : Option ℕ)
-    → ((later : List Entry) → length later ≤ length (settled capacity fuel later)) → length journal ≤ length (settled capacity fuel (with_end journal o))
+    → ((later : List Entry) → length later ≤ length (settled capacity fuel later)) →
+    length journal ≤ length (settled capacity fuel (with_end journal o))
 settled-longer_by capacity fuel journal None k = k journal
 settled-longer_by capacity fuel journal (Some q) k =
     let more = k (entries.End q (cause_of journal q) ∷ journal) in omega arith
 
 settled-longer : (capacity fuel : ℕ) (journal : List Entry) → length journal ≤ length (settled capacity fuel journal)
 settled-longer capacity zero journal = omega arith
-settled-longer capacity (suc fuel) journal = settled-longer_by capacity fuel journal (due capacity journal) (settled-longer capacity fuel)
+settled-longer capacity (suc fuel) journal =
+    settled-longer_by capacity fuel journal (due capacity journal) (settled-longer capacity fuel)
 
-history-longer : (capacity : ℕ) (more es : List Entry) → length (history capacity es) ≤ length (history capacity (more ++ es))
+history-longer : (capacity : ℕ) (more es : List Entry) →
+    length (history capacity es) ≤ length (history capacity (more ++ es))
 history-longer capacity [] es = omega arith
 history-longer capacity (e ∷ more) es =
     let J : List Entry = e ∷ history capacity (more ++ es) in
     let s = settled-longer capacity (number_alive J) J in
     let r = history-longer capacity more es in omega arith
 
-pub journal-longer : (limits : Limits) (h more : History) → length (broker_of limits h).journal ≤ length (broker_of limits (h ++ more)).journal
+pub journal-longer : (limits : Limits) (h more : History) →
+    length (broker_of limits h).journal ≤ length (broker_of limits (h ++ more)).journal
 journal-longer limits h more =
     subst (λ es. length (broker_of limits h).journal ≤ length (history limits.store es)) (sym (entries-append h more))
     (history-longer limits.store (entries_of more) (entries_of h))
@@ -195,15 +205,18 @@ taken-cond true s ss k r all e =
     let c = sum_by-cons (λ (s : OuterStep). bytes_by s.entry) s ss in
     let d : suc k * bytes_by s.entry ≡ bytes_by s.entry + k * bytes_by s.entry = suc-times k (bytes_by s.entry) in
     let n : 1 + k ≡ suc k = omega arith in
-    let f : (1 + k) * bytes_by s.entry ≡ suc k * bytes_by s.entry = ap (λ (m : ℕ). m * bytes_by s.entry) n in omega arith
+    let f : (1 + k) * bytes_by s.entry ≡ suc k * bytes_by s.entry =
+    ap (λ (m : ℕ). m * bytes_by s.entry) n in omega arith
 taken-cond false s ss k r all e =
     let z : 0 + k ≡ k = omega arith in
     let d : (0 + k) * bytes_by s.entry ≡ k * bytes_by s.entry = ap (λ (n : ℕ). n * bytes_by s.entry) z in omega arith
 
-taken-cons : (ns : List ℕ) (x : ℕ × OuterStep) (xs : History) → total_taken ns (x ∷ xs) ≡ hits ns x.0 * bytes_by x.1.entry + total_taken ns xs
+taken-cons : (ns : List ℕ) (x : ℕ × OuterStep) (xs : History) →
+    total_taken ns (x ∷ xs) ≡ hits ns x.0 * bytes_by x.1.entry + total_taken ns xs
 taken-cons [] x xs = omega arith
 taken-cons (n ∷ ns) x xs =
-    taken-cond (eqb x.0 n) x.1 (own n xs) (hits ns x.0) (total_taken ns xs) (total_taken ns (x ∷ xs)) (taken-cons ns x xs)
+    taken-cond (eqb x.0 n) x.1 (own n xs) (hits ns x.0) (total_taken ns xs) (total_taken ns (x ∷ xs))
+    (taken-cons ns x xs)
 
 taken-nil : (ns : List ℕ) → total_taken ns [] ≡ 0
 taken-nil [] = refl

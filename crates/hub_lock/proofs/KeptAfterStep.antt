@@ -59,15 +59,18 @@ module _ (b : Broker) (readers : List ℕ) (n : ℕ) (kept : IsKept b readers) (
       let now = history-plain e f plain in
       record {
         limited = kept.limited;
-        is = ap (broker_of b.limits) now ∙ sym (broker-more b.limits h n (only e) f) ∙ ap (with_step e (stamp_by n)) kept.is;
-        joined = kept.joined ∙ sym (ap length ((same_settled b.limits.store (e ∷ b.journal)).joined ∙ joined-plain e b.journal plain));
+        is = ap (broker_of b.limits) now ∙ sym (broker-more b.limits h n (only e) f)
+            ∙ ap (with_step e (stamp_by n)) kept.is;
+        joined = kept.joined
+            ∙ sym (ap length ((same_settled b.limits.store (e ∷ b.journal)).joined ∙ joined-plain e b.journal plain));
         stand = ap readers_of now ∙ readers-append h ((n, only e) ∷ []) ∙ append-nil (readers_of h) ∙ kept.stand;
         made_by = subst (λ x. AreMadeBy x x) (sym now) (made-more h n (only e) kept.made_by mine);
       }
 
   -- a join, of a peer whose reader's pass has the number r
   pub history-join : (role : Role) (r : ℕ)
-      → history_of (with_step (entries.Join role) (stamp_by n) b) (readers ++ r ∷ []) ≡ history_of b readers ++ (n, joining (entries.Join role) r) ∷ []
+      → history_of (with_step (entries.Join role) (stamp_by n) b) (readers ++ r ∷ [])
+      ≡ history_of b readers ++ (n, joining (entries.Join role) r) ∷ []
   history-join role r =
       let all = readers ++ r ∷ [] in
       let found : slice_get all (length (past_of b.journal).joined) ≡ Some r =
@@ -77,11 +80,14 @@ module _ (b : Broker) (readers : List ℕ) (n : ℕ) (kept : IsKept b readers) (
       (steps-same readers r b.journal b.stamps (let j = kept.joined in omega arith))
       ∙ ap (λ (x : Option ℕ). history_of b readers ++ (n, record { entry = entries.Join role; reader = x }) ∷ []) found
 
-  pub readers-join : (role : Role) (r : ℕ) → readers_of (history_of b readers ++ (n, joining (entries.Join role) r) ∷ []) ≡ readers ++ r ∷ []
+  pub readers-join : (role : Role) (r : ℕ) →
+      readers_of (history_of b readers ++ (n, joining (entries.Join role) r) ∷ []) ≡ readers ++ r ∷ []
   readers-join role r =
-      readers-append (history_of b readers) ((n, joining (entries.Join role) r) ∷ []) ∙ ap (λ rs. rs ++ r ∷ []) kept.stand
+      readers-append (history_of b readers) ((n, joining (entries.Join role) r) ∷ [])
+      ∙ ap (λ rs. rs ++ r ∷ []) kept.stand
 
-  pub joined-join : (role : Role) → length (past_of (with_step (entries.Join role) (stamp_by n) b).journal).joined ≡ suc (length readers)
+  pub joined-join : (role : Role) →
+      length (past_of (with_step (entries.Join role) (stamp_by n) b).journal).joined ≡ suc (length readers)
   joined-join role =
       let one : length (past_of (entries.Join role ∷ b.journal)).joined ≡ length (past_of b.journal).joined + 1 =
       length-append (past_of b.journal).joined (record { label = length b.journal + 1; role = role } ∷ []) in
@@ -97,14 +103,16 @@ module _ (b : Broker) (readers : List ℕ) (n : ℕ) (kept : IsKept b readers) (
       let one = length-append readers (r ∷ []) in
       record {
         limited = kept.limited;
-        is = ap (broker_of b.limits) now ∙ sym (broker-more b.limits h n s refl) ∙ ap (with_step (entries.Join role) (stamp_by n)) kept.is;
+        is = ap (broker_of b.limits) now ∙ sym (broker-more b.limits h n s refl)
+            ∙ ap (with_step (entries.Join role) (stamp_by n)) kept.is;
         joined = omega arith;
         stand = ap readers_of now ∙ readers-join role r;
         made_by = subst (λ x. AreMadeBy x x) (sym now) (made-more h n s kept.made_by tt);
       }
 
   -- the peer that joined has its reader
-  pub reader-join : (role : Role) (r q : ℕ) → q ≡ length (past_of (with_step (entries.Join role) (stamp_by n) b).journal).joined
+  pub reader-join : (role : Role) (r q : ℕ) →
+      q ≡ length (past_of (with_step (entries.Join role) (stamp_by n) b).journal).joined
       → reader_of (history_of (with_step (entries.Join role) (stamp_by n) b) (readers ++ r ∷ [])) q ≡ Some r
   reader-join role r q e =
       ap (λ (h : History). reader_of h q) (history-join role r)
@@ -121,5 +129,7 @@ lawful b readers kept shared = record {
 }
 
 -- so is the empty history
-pub lawful-empty : (limits : Limits) (b : Broker) → IsLimits limits → b ≡ record { limits = limits; journal = []; stamps = [] } → IsShared b → IsLawful limits []
-lawful-empty limits b limited is shared = record { limited = limited; shared = subst IsShared is shared; readers = refl; made_by = tt }
+pub lawful-empty : (limits : Limits) (b : Broker) → IsLimits limits →
+    b ≡ record { limits = limits; journal = []; stamps = [] } → IsShared b → IsLawful limits []
+lawful-empty limits b limited is shared =
+    record { limited = limited; shared = subst IsShared is shared; readers = refl; made_by = tt }

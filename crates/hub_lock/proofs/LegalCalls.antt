@@ -30,7 +30,8 @@ use Rattle.hub_lock.specs.Plays.{Applies}
 use Rattle.hub_lock.specs.Calls.{Legal, TakesInto, IsTake, pass_having_seen}
 use Rattle.hub_lock.proofs.ReadersStay.{reader-stays, writer-stays}
 
-module _ (limits : Limits) (seat : PassSeat) (after : History) (Told : History → Type 0) (k : Legal limits seat after Told) where
+module _ (limits : Limits) (seat : PassSeat) (after : History) (Told : History → Type 0)
+    (k : Legal limits seat after Told) where
   pub seen-more : (more : History) × (after ≡ seat.seen ++ more)
   seen-more = ⊎_elim
       (λ (e : after ≡ seat.seen ++ k.rest). (k.rest, e))
@@ -44,7 +45,8 @@ module _ (limits : Limits) (seat : PassSeat) (after : History) (Told : History �
   writer-after q n e = ap (λ (h : History). writer_of h q) seen-more.1 ∙ writer-stays seat.seen seen-more.0 q n e
 
   -- after waiting, in which the pass saw more and made nothing, a call is legal as one of the pass before
-  pub waited-legal : (first : PassSeat) (more : History) → NoneOf first.number more → seat ≡ having_seen first (first.seen ++ more)
+  pub waited-legal : (first : PassSeat) (more : History) → NoneOf first.number more →
+      seat ≡ having_seen first (first.seen ++ more)
       → Legal limits first after Told
   waited-legal first more free e =
       let number : seat.number ≡ first.number = ap (λ (s : PassSeat). s.number) e in
@@ -53,24 +55,29 @@ module _ (limits : Limits) (seat : PassSeat) (after : History) (Told : History �
       record {
         rest = more ++ k.rest;
         apart = none-append first.number more k.rest free (subst (λ n. NoneOf n k.rest) number k.apart);
-        grows = subst (λ h. IsGrown first.number h after) same (subst (λ n. IsGrown n (seat.seen ++ k.rest) after) number k.grows);
+        grows = subst (λ h. IsGrown first.number h after) same
+            (subst (λ n. IsGrown n (seat.seen ++ k.rest) after) number k.grows);
         lawful = subst (IsLawful limits) same k.lawful;
         lawful_after = k.lawful_after;
         answer = subst Told same k.answer;
       }
 
   -- where a call made nothing, the pass has seen more and made nothing
-  pub waited-more : (first : PassSeat) (more : History) → NoneOf first.number more → seat ≡ having_seen first (first.seen ++ more)
+  pub waited-more : (first : PassSeat) (more : History) → NoneOf first.number more →
+      seat ≡ having_seen first (first.seen ++ more)
       → after ≡ seat.seen ++ k.rest → (all : History) × NoneOf first.number all × (after ≡ first.seen ++ all)
   waited-more first more free e none = (
     more ++ k.rest,
-    none-append first.number more k.rest free (subst (λ n. NoneOf n k.rest) (ap (λ (s : PassSeat). s.number) e) k.apart),
+    none-append first.number more k.rest free
+        (subst (λ n. NoneOf n k.rest) (ap (λ (s : PassSeat). s.number) e) k.apart),
     none ∙ ap (λ (s : PassSeat). s.seen ++ k.rest) e ∙ append_assoc first.seen more k.rest,
   )
 
 -- a take after waiting is one of the pass before
-pub wait-legal : (limits : Limits) (first pass pass' : PeerPass) (more : History) (buf places was were buf' places' : List ℕ) (r : Took)
-    → pass ≡ pass_having_seen first (first.seat.seen ++ more) → NoneOf first.seat.number more → buf ≡ was → places ≡ were
+pub wait-legal : (limits : Limits) (first pass pass' : PeerPass) (more : History)
+    (buf places was were buf' places' : List ℕ) (r : Took)
+    → pass ≡ pass_having_seen first (first.seat.seen ++ more) → NoneOf first.seat.number more → buf ≡ was →
+    places ≡ were
     → IsTake limits pass pass' buf places buf' places' r → IsTake limits first pass' was were buf' places' r
 wait-legal limits first pass pass' more buf places was were buf' places' r e free same same' k =
     let now : PeerPass = pass_having_seen first (first.seat.seen ++ more) in
@@ -78,12 +85,14 @@ wait-legal limits first pass pass' more buf places was were buf' places' r e fre
     subst (λ b. IsTake limits now pass' b were buf' places' r) same
     (subst (λ t. IsTake limits now pass' buf t buf' places' r) same'
     (subst (λ (p : PeerPass). IsTake limits p pass' buf places buf' places' r) e k)) in
-    waited-legal limits now.seat pass'.seat.seen (λ before. TakesInto limits before first.seat.number first.peer was were pass'.seat.seen buf' places' r)
+    waited-legal limits now.seat pass'.seat.seen
+    (λ before. TakesInto limits before first.seat.number first.peer was were pass'.seat.seen buf' places' r)
     l first.seat more free refl
 
 -- the peer joined
 
-peer-there : (joined : List Joined) (readers : List ℕ) (q n : ℕ) → length readers ≡ length joined → numbered_in readers q ≡ Some n
+peer-there : (joined : List Joined) (readers : List ℕ) (q n : ℕ) → length readers ≡ length joined →
+    numbered_in readers q ≡ Some n
     → (peer : Joined) × (peer_in joined q ≡ Some peer)
 peer-there joined readers zero n l e = absurd (cc)
 peer-there joined [] (suc k) n l e = absurd (cc)
@@ -103,7 +112,8 @@ pub writer-joined : (limits : Limits) (h : History) (q n : ℕ) → IsLawful lim
     → (peer : Joined) × (peer_at (past_of (broker_of limits h).journal) q ≡ Some peer)
 writer-joined limits h q n l e = let r = writer-reader (reader_of h q) n e in has-joined limits h q r.0 l r.1
 
-accepted-not : (q : ℕ) (step : PeerStep) (r : Result Applied Refused) → IsAccepted refusals.NoMemory (steps.Peer q step) r → r ≡ Err refusals.NoPeer → ⊥
+accepted-not : (q : ℕ) (step : PeerStep) (r : Result Applied Refused) →
+    IsAccepted refusals.NoMemory (steps.Peer q step) r → r ≡ Err refusals.NoPeer → ⊥
 accepted-not q (peers.Message id opcode body) (Ok a) k e = absurd (cc)
 accepted-not q (peers.Message id opcode body) (Err why) k e = absurd (cc)
 accepted-not q (peers.Tokens tokens) (Ok a) k e = absurd (cc)
@@ -115,30 +125,36 @@ accepted-not q peers.Gone (Err why) k e = absurd (cc)
 
 full-not : (q : ℕ) (step : PeerStep) (o : Option Kept) (r : Result Applied Refused)
     → IfSome (option_map (λ kept. refusals.JournalFull kept) o) (λ why. r ≡ Err why)
-    → IfNone (option_map (λ kept. refusals.JournalFull kept) o) (IsAccepted refusals.NoMemory (steps.Peer q step) r) → r ≡ Err refusals.NoPeer → ⊥
+    → IfNone (option_map (λ kept. refusals.JournalFull kept) o) (IsAccepted refusals.NoMemory (steps.Peer q step) r) →
+    r ≡ Err refusals.NoPeer → ⊥
 full-not q step None r a b e = accepted-not q step r b e
 full-not q step (Some kept) r a b e = absurd (cc)
 
 ended-not : (b : Broker) (q : ℕ) (step : PeerStep) (o : Option EndCause) (r : Result Applied Refused)
     → IfSome (peer_refusal b (peer_entry q step) (by_end o)) (λ why. r ≡ Err why)
-    → IfNone (peer_refusal b (peer_entry q step) (by_end o)) (IsAccepted refusals.NoMemory (steps.Peer q step) r) → r ≡ Err refusals.NoPeer → ⊥
+    → IfNone (peer_refusal b (peer_entry q step) (by_end o)) (IsAccepted refusals.NoMemory (steps.Peer q step) r) →
+    r ≡ Err refusals.NoPeer → ⊥
 ended-not b q step None r x y e = full-not q step (full_for b (peer_entry q step)) r x y e
 ended-not b q step (Some cause) r x y e = absurd (cc)
 
 -- a step of a peer that joined finds its peer
-pub step-finds : (limits : Limits) (before : History) (n q : ℕ) (step : PeerStep) (after : History) (r : Result Applied Refused)
-    → IsLawful limits before → reader_of before q ≡ Some n → Applies limits before n (steps.Peer q step) after r → r ≡ Err refusals.NoPeer → ⊥
+pub step-finds : (limits : Limits) (before : History) (n q : ℕ) (step : PeerStep) (after : History)
+    (r : Result Applied Refused)
+    → IsLawful limits before → reader_of before q ≡ Some n → Applies limits before n (steps.Peer q step) after r →
+    r ≡ Err refusals.NoPeer → ⊥
 step-finds limits before n q step after r l own k e =
     let b : Broker = broker_of limits before in
     let there = has-joined limits before q n l own in
     let is : standing_of b.journal q ≡ by_end (end_of b.journal q) = ap (standing_in b.journal q) there.1 in
     ended-not b q step (end_of b.journal q) r
     (subst (λ s. IfSome (peer_refusal b (peer_entry q step) s) (λ why. r ≡ Err why)) is k.refused)
-    (subst (λ s. IfNone (peer_refusal b (peer_entry q step) s) (IsAccepted refusals.NoMemory (steps.Peer q step) r)) is k.accepted) e
+    (subst (λ s. IfNone (peer_refusal b (peer_entry q step) s) (IsAccepted refusals.NoMemory (steps.Peer q step) r)) is
+    k.accepted) e
 
 -- the shell's orders find no peer, and no end
 
-shell-full : (o : Option Kept) (r : Result Applied Refused) (why : Refused) → ((kept : Kept) → why ≢ refusals.JournalFull kept) → why ≢ refusals.NoMemory
+shell-full : (o : Option Kept) (r : Result Applied Refused) (why : Refused) →
+    ((kept : Kept) → why ≢ refusals.JournalFull kept) → why ≢ refusals.NoMemory
     → IfSome (option_map (λ kept. refusals.JournalFull kept) o) (λ other. r ≡ Err other)
     → IfNone (option_map (λ kept. refusals.JournalFull kept) o) (IsOkUnless r refusals.NoMemory) → r ≡ Err why → ⊥
 shell-full None (Ok a) why f m x y e = absurd (cc)
@@ -147,27 +163,33 @@ shell-full (Some kept) r why f m x y e = let same : refusals.JournalFull kept �
 
 -- a take for a peer that joined finds it
 
-take-by : (b : Broker) (q : ℕ) (o : Option Outgoing) (r : Took) → IfSome o (λ out. Unit {0}) → (IfSome o (λ out. Unit {0}) → o ≢ None)
-    → IfSome (take_refusal_from b q o) (λ why. r ≡ why) → IfNone (take_refusal_from b q o) (IsBytesUnlessMemory r) → r ≡ took.NoPeer → ⊥
+take-by : (b : Broker) (q : ℕ) (o : Option Outgoing) (r : Took) → IfSome o (λ out. Unit {0}) →
+    (IfSome o (λ out. Unit {0}) → o ≢ None)
+    → IfSome (take_refusal_from b q o) (λ why. r ≡ why) → IfNone (take_refusal_from b q o) (IsBytesUnlessMemory r) →
+    r ≡ took.NoPeer → ⊥
 take-by b q None r i f x y e = f i refl
-take-by b q (Some out) r i f x y e = by (length (stored out) == 0) (end_of b.journal q) (full_for b (entries.Took q 0)) x y where
-  memory : (r : Took) → IsBytesUnlessMemory r → r ≡ took.NoPeer → ⊥
-  memory (took.Bytes count tokens) y e = absurd (cc)
-  memory took.NoPeer y e = y
-  memory took.Closed y e = y
-  memory took.Empty y e = y
-  memory (took.JournalFull kept) y e = y
-  memory took.NoMemory y e = absurd (cc)
+take-by b q (Some out) r i f x y e =
+    by (length (stored out) == 0) (end_of b.journal q) (full_for b (entries.Took q 0)) x y where
+      memory : (r : Took) → IsBytesUnlessMemory r → r ≡ took.NoPeer → ⊥
+      memory (took.Bytes count tokens) y e = absurd (cc)
+      memory took.NoPeer y e = y
+      memory took.Closed y e = y
+      memory took.Empty y e = y
+      memory (took.JournalFull kept) y e = y
+      memory took.NoMemory y e = absurd (cc)
 
-  by : (t : Bool) (end : Option EndCause) (full : Option Kept)
-      → IfSome (if t then Some (nothing_left end) else option_map (λ kept. took.JournalFull kept) full) (λ why. r ≡ why)
-      → IfNone (if t then Some (nothing_left end) else option_map (λ kept. took.JournalFull kept) full) (IsBytesUnlessMemory r) → ⊥
-  by true None full x y = absurd (cc)
-  by true (Some cause) full x y = absurd (cc)
-  by false end None x y = memory r y e
-  by false end (Some kept) x y = absurd (cc)
+      by : (t : Bool) (end : Option EndCause) (full : Option Kept)
+          → IfSome (if t then Some (nothing_left end) else option_map (λ kept. took.JournalFull kept) full)
+          (λ why. r ≡ why)
+          → IfNone (if t then Some (nothing_left end) else option_map (λ kept. took.JournalFull kept) full)
+          (IsBytesUnlessMemory r) → ⊥
+      by true None full x y = absurd (cc)
+      by true (Some cause) full x y = absurd (cc)
+      by false end None x y = memory r y e
+      by false end (Some kept) x y = absurd (cc)
 
-pub take-finds : (limits : Limits) (before : History) (q n : ℕ) (r : Took) → IsLawful limits before → writer_of before q ≡ Some n
+pub take-finds : (limits : Limits) (before : History) (q n : ℕ) (r : Took) → IsLawful limits before →
+    writer_of before q ≡ Some n
     → IfSome (take_refusal (broker_of limits before) q) (λ why. r ≡ why)
     → IfNone (take_refusal (broker_of limits before) q) (IsBytesUnlessMemory r) → r ≡ took.NoPeer → ⊥
 take-finds limits before q n r l own x y e =

@@ -13,9 +13,12 @@ past k n l = grind (arith, nat_tests)
 none-since : (capacity k : ℕ) (journal : List Entry) → length journal ≤ k → watched_since capacity k journal ≡ []
 none-since capacity k [] l = refl
 none-since capacity k (e ∷ older) l =
-    ap (λ (t : Bool). if t then watched_since capacity k older ++ watched capacity e older else []) (past k (length older) (omega arith))
+    ap (λ (t : Bool). if t then watched_since capacity k older ++ watched capacity e older else [])
+    (past k (length older) (omega arith))
 
-pub nothing-watched : {W : Type 0} (may_follow : W → Watched → W → Type 0) (before after : Broker) (w : W) → after ≡ before → IsWatched may_follow before w after w
+pub nothing-watched : {W : Type 0} (may_follow : W → Watched → W → Type 0) (before after : Broker) (w : W) →
+    after ≡ before → IsWatched may_follow before w after w
 nothing-watched may_follow before after w same =
     subst (λ (x : Broker). IsWatched may_follow before w x w) (sym same)
-    (subst (λ ws. Reached may_follow w ws w) (sym (none-since before.limits.store (length before.journal) before.journal (omega arith))) refl)
+    (subst (λ ws. Reached may_follow w ws w)
+    (sym (none-since before.limits.store (length before.journal) before.journal (omega arith))) refl)

@@ -19,9 +19,11 @@ pub record IsSound (h : Held) : Type 0 where
   pub kept : IsKept h.broker h.readers
   pub shared : IsShared h.broker
 
-pub plays-by : (h h' : Held) (call call' : Call) (answer : Answer) (rings rings' : Rings) (entries : ℕ) → IsSound h → IsSound h'
+pub plays-by : (h h' : Held) (call call' : Call) (answer : Answer) (rings rings' : Rings) (entries : ℕ) → IsSound h →
+    IsSound h'
     → h'.broker.limits ≡ h.broker.limits
-    → (MayAsk (history_of h.broker h.readers) call.number call.ask → Answers h.broker.limits (history_of h.broker h.readers) call.number call.ask
+    → (MayAsk (history_of h.broker h.readers) call.number call.ask →
+    Answers h.broker.limits (history_of h.broker h.readers) call.number call.ask
     (history_of h'.broker h'.readers) call'.ask answer)
     → entries ≡ length h'.broker.journal → rings.bits ≡ 0 → IsWatched IsRungBy h.broker rings h'.broker rings'
     → Plays h.broker.limits (history_of h.broker h.readers) call (history_of h'.broker h'.readers) call'
@@ -35,9 +37,15 @@ plays-by h h' call call' answer rings rings' entries s s' l answers number none 
     all-rung rings (watched_since limits.store (length h.broker.journal) h'.broker.journal) rings' none watched in
     record {
       lawful = lawful h.broker h.readers s.kept s.shared;
-      lawful_after = subst (λ (x : Limits). IsLawful x (history_of h'.broker h'.readers)) l (lawful h'.broker h'.readers s'.kept s'.shared);
+      lawful_after =
+          subst (λ (x : Limits). IsLawful x (history_of h'.broker h'.readers)) l
+          (lawful h'.broker h'.readers s'.kept s'.shared);
       answers = answers;
       entries = number ∙ ap (λ (x : Broker). length x.journal) (sym after);
-      rings = subst (λ (x : Broker). AreRung rings'.bits (watched_since limits.store (length x.journal) (broker_of limits (history_of h'.broker h'.readers)).journal)) (sym before)
-          (subst (λ (x : Broker). AreRung rings'.bits (watched_since limits.store (length h.broker.journal) x.journal)) (sym after) rung);
+      rings = subst
+          (λ (x : Broker). AreRung rings'.bits
+          (watched_since limits.store (length x.journal) (broker_of limits (history_of h'.broker h'.readers)).journal))
+          (sym before)
+          (subst (λ (x : Broker). AreRung rings'.bits (watched_since limits.store (length h.broker.journal) x.journal))
+          (sym after) rung);
     }

@@ -11,14 +11,17 @@ use Rattle.hub_lock.specs.Passes.{PassSeat, total_steps, total_bytes}
 use Rattle.hub_lock.specs.Calls.{LegalCopy}
 use Rattle.hub_lock.proofs.JournalOfSteps.{all_taken, length-entries, outer-journal, taken-journal, taken-all}
 
-pub session-steps : (limits : Limits) (seat seat' : PassSeat) (r : Result Session NoMemory) → LegalCopy limits seat seat'.seen r → IsTallied seat' → seat'.out ≡ 0
+pub session-steps : (limits : Limits) (seat seat' : PassSeat) (r : Result Session NoMemory) →
+    LegalCopy limits seat seat'.seen r → IsTallied seat' → seat'.out ≡ 0
     → IfOk r (λ s. length (outer s.journal.entries) ≡ total_steps seat')
 session-steps limits seat seat' (Err e) k t none = tt
 session-steps limits seat seat' (Ok s) k t none =
-    ap (λ (j : List Entry). length (outer j)) (k.answer.copied.journal ∙ ap (λ (h : History). (broker_of limits h).journal) (sym k.answer.same))
+    ap (λ (j : List Entry). length (outer j))
+    (k.answer.copied.journal ∙ ap (λ (h : History). (broker_of limits h).journal) (sym k.answer.same))
     ∙ ap length (outer-journal limits seat'.seen k.lawful_after) ∙ length-entries seat'.seen ∙ sym (t.all none)
 
-pub session-bytes : (limits : Limits) (seat seat' : PassSeat) (r : Result Session NoMemory) → LegalCopy limits seat seat'.seen r → IsTallied seat' → seat'.out ≡ 0
+pub session-bytes : (limits : Limits) (seat seat' : PassSeat) (r : Result Session NoMemory) →
+    LegalCopy limits seat seat'.seen r → IsTallied seat' → seat'.out ≡ 0
     → IfOk r (λ s. taken_in s.journal.entries ≡ total_bytes seat')
 session-bytes limits seat seat' (Err e) k t none = tt
 session-bytes limits seat seat' (Ok s) k t none =

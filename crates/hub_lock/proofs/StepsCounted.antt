@@ -43,7 +43,8 @@ takes-none h n (steps.Take q count) own = absurd own
 
 made-take : (limits : Limits) (before : History) (n : ℕ) (t : Taking) (after : History) (ask : Ask) (a : Answer)
     → Answers limits before n (asks.Take t) after ask a → MadeIf (is_made a) n (bytes_made a) before after
-made-take limits before n t after (asks.Take u) (answers.Took (took.Bytes count places)) p = (only (entries.Took t.peer count), p.taken, refl)
+made-take limits before n t after (asks.Take u) (answers.Took (took.Bytes count places)) p =
+    (only (entries.Took t.peer count), p.taken, refl)
 made-take limits before n t after (asks.Take u) (answers.Took took.NoPeer) p = (p.same, refl)
 made-take limits before n t after (asks.Take u) (answers.Took took.Closed) p = (p.same, refl)
 made-take limits before n t after (asks.Take u) (answers.Took took.Empty) p = (p.same, refl)
@@ -56,15 +57,18 @@ made-take limits before n t after (asks.Join role reader) a p = absurd p
 made-take limits before n t after (asks.Apply step) a p = absurd p
 made-take limits before n t after asks.Copy a p = absurd p
 
-pub made : (limits : Limits) (before : History) (n : ℕ) (ask : Ask) (after : History) (ask' : Ask) (a : Answer) → MayAsk before n ask
+pub made : (limits : Limits) (before : History) (n : ℕ) (ask : Ask) (after : History) (ask' : Ask) (a : Answer) →
+    MayAsk before n ask
     → Answers limits before n ask after ask' a → MadeIf (is_made a) n (bytes_made a) before after
-made limits before n (asks.Join role reader) after ask' (answers.Joined (Ok q)) may p = (joining (entries.Join role) reader, p.joined, refl)
+made limits before n (asks.Join role reader) after ask' (answers.Joined (Ok q)) may p =
+    (joining (entries.Join role) reader, p.joined, refl)
 made limits before n (asks.Join role reader) after ask' (answers.Joined (Err why)) may p = (p.same, refl)
 made limits before n (asks.Join role reader) after ask' (answers.Applied r) may p = absurd p
 made limits before n (asks.Join role reader) after ask' (answers.Took r) may p = absurd p
 made limits before n (asks.Join role reader) after ask' (answers.Copied r) may p = absurd p
 made limits before n (asks.Apply step) after ask' (answers.Joined r) may p = absurd p
-made limits before n (asks.Apply step) after ask' (answers.Applied (Ok x)) may p = (only (entry_of step), p.applied, takes-none before n step may)
+made limits before n (asks.Apply step) after ask' (answers.Applied (Ok x)) may p =
+    (only (entry_of step), p.applied, takes-none before n step may)
 made limits before n (asks.Apply step) after ask' (answers.Applied (Err why)) may p = (p.same, refl)
 made limits before n (asks.Apply step) after ask' (answers.Took r) may p = absurd p
 made limits before n (asks.Apply step) after ask' (answers.Copied r) may p = absurd p
@@ -79,7 +83,8 @@ made limits before n asks.Copy after ask' (answers.Copied r) may p = (p.same, re
 own-before : (n : ℕ) (seen rest : History) → NoneOf n rest → own n (seen ++ rest) ≡ own n seen
 own-before n seen rest free = own-append n seen rest ∙ (ap (λ z. own n seen ++ z) free ∙ append-nil (own n seen))
 
-own-longer : (n : ℕ) (s : OuterStep) (before after : History) → IsLonger n s before after → own n after ≡ own n before ++ s ∷ []
+own-longer : (n : ℕ) (s : OuterStep) (before after : History) → IsLonger n s before after →
+    own n after ≡ own n before ++ s ∷ []
 own-longer n s before after e =
     ap (own n) e ∙ own-append n before ((n, s) ∷ []) ∙ ap (λ z. own n before ++ z) (own-here n (n, s) [] refl)
 
@@ -87,10 +92,12 @@ pub record IsCounted (n bytes : ℕ) (made : Bool) (seen after : History) : Type
   pub steps : length (own n after) ≡ length (own n seen) + bit made
   pub taken : bytes_taken (own n after) ≡ bytes_taken (own n seen) + bytes
 
-pub counted : (n bytes : ℕ) (made : Bool) (seen rest after : History) → NoneOf n rest → MadeIf made n bytes (seen ++ rest) after
+pub counted : (n bytes : ℕ) (made : Bool) (seen rest after : History) → NoneOf n rest →
+    MadeIf made n bytes (seen ++ rest) after
     → IsCounted n bytes made seen after
 counted n bytes true seen rest after free m =
-    let all : own n after ≡ own n seen ++ m.0 ∷ [] = own-longer n m.0 (seen ++ rest) after m.1 ∙ ap (λ z. z ++ m.0 ∷ []) (own-before n seen rest free) in
+    let all : own n after ≡ own n seen ++ m.0 ∷ [] =
+    own-longer n m.0 (seen ++ rest) after m.1 ∙ ap (λ z. z ++ m.0 ∷ []) (own-before n seen rest free) in
     let l = ap length all in
     let a = length-append (own n seen) (m.0 ∷ []) in
     let t = ap bytes_taken all in
@@ -133,7 +140,8 @@ root-takes-none h (asks.Apply step) may = tt
 root-takes-none h (asks.Take t) may = no-writer (reader_of h t.peer) may
 root-takes-none h asks.Copy may = tt
 
-pub no-bytes : (limits : Limits) (before : History) (n : ℕ) (ask : Ask) (after : History) (ask' : Ask) (a : Answer) → NoTake ask
+pub no-bytes : (limits : Limits) (before : History) (n : ℕ) (ask : Ask) (after : History) (ask' : Ask) (a : Answer) →
+    NoTake ask
     → Answers limits before n ask after ask' a → bytes_made a ≡ 0
 no-bytes limits before n (asks.Join role reader) after ask' (answers.Joined r) plain p = refl
 no-bytes limits before n (asks.Join role reader) after ask' (answers.Applied r) plain p = absurd p
@@ -151,7 +159,8 @@ no-bytes limits before n asks.Copy after ask' (answers.Copied r) plain p = refl
 
 -- the totals of numbers whose own steps stay
 
-pub taken-same : (ns : List ℕ) (a b : History) → ((n : ℕ) → IsIn n ns → own n b ≡ own n a) → total_taken ns b ≡ total_taken ns a
+pub taken-same : (ns : List ℕ) (a b : History) → ((n : ℕ) → IsIn n ns → own n b ≡ own n a) →
+    total_taken ns b ≡ total_taken ns a
 taken-same [] a b f = refl
 taken-same (n ∷ ns) a b f =
     let t = taken-same ns a b (λ m i. f m (inr i)) in

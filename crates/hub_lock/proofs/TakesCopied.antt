@@ -25,7 +25,8 @@ pub record IsCopiedOut (bytes tokens buf places buf' places' : List ℕ) (counts
   pub places_are : places' ≡ take counts.1 tokens ++ drop counts.1 places
 
 taken-out : (out : Outgoing) (journal : List Entry) (q : ℕ) (bytes tokens buf places buf' places' : List ℕ) (r : Took)
-    → IfBytes r (λ counts. IsTakenInto out (length buf) bytes tokens counts) → IfBytes r (λ counts. IsCopiedOut bytes tokens buf places buf' places' counts)
+    → IfBytes r (λ counts. IsTakenInto out (length buf) bytes tokens counts) →
+    IfBytes r (λ counts. IsCopiedOut bytes tokens buf places buf' places' counts)
     → IfBytes r (λ counts. IsTaken out journal q buf places counts buf' places' (entries.Took q counts.0 ∷ journal))
 taken-out out journal q bytes tokens buf places buf' places' (took.Bytes count came) t copied = record {
   count = t.count;
@@ -40,20 +41,27 @@ taken-out out journal q bytes tokens buf places buf' places' took.Empty t copied
 taken-out out journal q bytes tokens buf places buf' places' (took.JournalFull kept) t copied = tt
 taken-out out journal q bytes tokens buf places buf' places' took.NoMemory t copied = tt
 
-taken-by : (o : Option Outgoing) (journal : List Entry) (q : ℕ) (bytes tokens buf places buf' places' : List ℕ) (r : Took)
+taken-by : (o : Option Outgoing) (journal : List Entry) (q : ℕ) (bytes tokens buf places buf' places' : List ℕ)
+    (r : Took)
     → IfSome o (λ out. IfBytes r (λ counts. IsTakenInto out (length buf) bytes tokens counts))
     → IfBytes r (λ counts. IsCopiedOut bytes tokens buf places buf' places' counts)
-    → IfSome o (λ out. IfBytes r (λ counts. IsTaken out journal q buf places counts buf' places' (entries.Took q counts.0 ∷ journal)))
+    → IfSome o (λ out. IfBytes r
+    (λ counts. IsTaken out journal q buf places counts buf' places' (entries.Took q counts.0 ∷ journal)))
 taken-by None journal q bytes tokens buf places buf' places' r t copied = tt
-taken-by (Some out) journal q bytes tokens buf places buf' places' r t copied = taken-out out journal q bytes tokens buf places buf' places' r t copied
+taken-by (Some out) journal q bytes tokens buf places buf' places' r t copied =
+    taken-out out journal q bytes tokens buf places buf' places' r t copied
 
-pub takes-copied : (limits : Limits) (before : History) (n q : ℕ) (buf places : List ℕ) (after : History) (bytes tokens : List ℕ) (buf' places' : List ℕ) (r : Took)
-    → Takes limits before n q (length buf) bytes tokens after r → IfBytes r (λ counts. IsCopiedOut bytes tokens buf places buf' places' counts)
-    → IfNoBytes r (buf' ≡ buf) → IfNoBytes r (places' ≡ places) → TakesInto limits before n q buf places after buf' places' r
+pub takes-copied : (limits : Limits) (before : History) (n q : ℕ) (buf places : List ℕ) (after : History)
+    (bytes tokens : List ℕ) (buf' places' : List ℕ) (r : Took)
+    → Takes limits before n q (length buf) bytes tokens after r →
+    IfBytes r (λ counts. IsCopiedOut bytes tokens buf places buf' places' counts)
+    → IfNoBytes r (buf' ≡ buf) → IfNoBytes r (places' ≡ places) →
+    TakesInto limits before n q buf places after buf' places' r
 takes-copied limits before n q buf places after bytes tokens buf' places' r t copied same same' = record {
   refused = t.refused;
   accepted = t.accepted;
-  bytes = taken-by (out_at limits.store (broker_of limits before).journal q) (broker_of limits before).journal q bytes tokens buf places buf' places' r t.into copied;
+  bytes = taken-by (out_at limits.store (broker_of limits before).journal q)
+      (broker_of limits before).journal q bytes tokens buf places buf' places' r t.into copied;
   taken = t.taken;
   same = t.same;
   same_bytes = same;
@@ -88,32 +96,41 @@ also-without P (took.JournalFull kept) p = p
 also-without P took.NoMemory p = p
 
 -- a take that was asked of the value behind the lock is one into the caller's buffers
-pub take-legal : (limits : Limits) (seat : PassSeat) (q : ℕ) (pass' : PeerPass) (t : Taking) (ask : Ask) (r : Took) (buf places buf' places' : List ℕ)
-    → LegalAsk limits seat pass'.seat.seen seat.number (asks.Take t) ask (answers.Took r) → t.peer ≡ q → t.most ≡ length buf
-    → ((u : Taking) → ask ≡ asks.Take u → IfBytes r (λ counts. IsCopiedOut u.bytes u.tokens buf places buf' places' counts))
+pub take-legal : (limits : Limits) (seat : PassSeat) (q : ℕ) (pass' : PeerPass) (t : Taking) (ask : Ask) (r : Took)
+    (buf places buf' places' : List ℕ)
+    → LegalAsk limits seat pass'.seat.seen seat.number (asks.Take t) ask (answers.Took r) → t.peer ≡ q →
+    t.most ≡ length buf
+    → ((u : Taking) → ask ≡ asks.Take u →
+    IfBytes r (λ counts. IsCopiedOut u.bytes u.tokens buf places buf' places' counts))
     → IfNoBytes r (buf' ≡ buf) → IfNoBytes r (places' ≡ places)
     → IsTake limits (record { seat = seat; peer = q }) pass' buf places buf' places' r
 take-legal limits seat q pass' t ask r buf places buf' places' k peer most copied same same' =
     let room = room-of limits (seat.seen ++ k.rest) seat.number t pass'.seat.seen ask r k.answer in
-    let took' : Takes limits (seat.seen ++ k.rest) seat.number q (length buf) room.0.bytes room.0.tokens pass'.seat.seen r =
-    subst (λ p. Takes limits (seat.seen ++ k.rest) seat.number p (length buf) room.0.bytes room.0.tokens pass'.seat.seen r) peer
-    (subst (λ m. Takes limits (seat.seen ++ k.rest) seat.number t.peer m room.0.bytes room.0.tokens pass'.seat.seen r) most room.2) in
+    let took' : Takes limits (seat.seen ++ k.rest) seat.number q
+    (length buf) room.0.bytes room.0.tokens pass'.seat.seen r =
+    subst (λ p. Takes limits (seat.seen ++ k.rest) seat.number p
+    (length buf) room.0.bytes room.0.tokens pass'.seat.seen r) peer
+    (subst (λ m. Takes limits (seat.seen ++ k.rest) seat.number t.peer m room.0.bytes room.0.tokens pass'.seat.seen r)
+    most room.2) in
     record {
       rest = k.rest;
       apart = k.apart;
       grows = k.grows;
       lawful = k.lawful;
       lawful_after = k.lawful_after;
-      answer = takes-copied limits (seat.seen ++ k.rest) seat.number q buf places pass'.seat.seen room.0.bytes room.0.tokens buf' places' r took'
+      answer = takes-copied limits
+          (seat.seen ++ k.rest) seat.number q buf places pass'.seat.seen room.0.bytes room.0.tokens buf' places' r took'
           (copied room.0 room.1) same same';
     }
 
 -- a take of a peer's writer finds the peer
 pub take-asked-finds : (limits : Limits) (seat : PassSeat) (after : History) (t : Taking) (ask : Ask) (r : Took)
-    → LegalAsk limits seat after seat.number (asks.Take t) ask (answers.Took r) → writer_of seat.seen t.peer ≡ Some seat.number → r ≡ took.NoPeer → ⊥
+    → LegalAsk limits seat after seat.number (asks.Take t) ask (answers.Took r) →
+    writer_of seat.seen t.peer ≡ Some seat.number → r ≡ took.NoPeer → ⊥
 take-asked-finds limits seat after t ask r k own e =
     let room = room-of limits (seat.seen ++ k.rest) seat.number t after ask r k.answer in
-    take-finds limits (seat.seen ++ k.rest) t.peer seat.number r k.lawful (writer-stays seat.seen k.rest t.peer seat.number own)
+    take-finds limits (seat.seen ++ k.rest) t.peer seat.number r k.lawful
+    (writer-stays seat.seen k.rest t.peer seat.number own)
     room.2.refused room.2.accepted e
 
 pub no-bytes-made : (r : Took) → ((count came : ℕ) → r ≡ took.Bytes count came → ⊥) → bytes_made (answers.Took r) ≡ 0

@@ -37,22 +37,28 @@ may-stays h more n asks.Copy may = may
 pub lawful-seen : (limits : Limits) (s : PassSeat) → s.constant ≡ Some limits → IsLawful limits s.seen → HasSeenLawful s
 lawful-seen limits s e l other e' = let same : limits ≡ other = cc in subst (λ x. IsLawful x s.seen) same l
 
-pub entries-seen : (limits : Limits) (s : PassSeat) → s.constant ≡ Some limits → length (broker_of limits s.seen).journal ≡ length (journal_seen s)
+pub entries-seen : (limits : Limits) (s : PassSeat) → s.constant ≡ Some limits →
+    length (broker_of limits s.seen).journal ≡ length (journal_seen s)
 entries-seen limits s e = ap (λ (o : Option Limits). length (journal_with o s.seen)) (sym e)
 
 module _ (limits : Limits) (seat : PassSeat) (call : Call) (after : History) (call' : Call) (reply : Reply)
-    (k : IsLegal Plays seat call after call' reply) (of : seat.constant ≡ Some limits) (number : call.number ≡ seat.number)
+    (k : IsLegal Plays seat call after call' reply) (of : seat.constant ≡ Some limits)
+    (number : call.number ≡ seat.number)
     (may : MayAsk seat.seen seat.number call.ask) where
   played : Plays limits (seat.seen ++ k.rest) call after call' reply
   played =
       let t = k.told in
-      let same : k.constant ≡ limits = cc in subst (λ x. Plays x (seat.seen ++ k.rest) call after call' reply) same k.plays
+      let same : k.constant ≡ limits =
+      cc in subst (λ x. Plays x (seat.seen ++ k.rest) call after call' reply) same k.plays
 
   answered : Answers limits (seat.seen ++ k.rest) seat.number call.ask after call'.ask reply.answer
   answered = subst (λ n. Answers limits (seat.seen ++ k.rest) n call.ask after call'.ask reply.answer) number
-      (played.answers (subst (λ n. MayAsk (seat.seen ++ k.rest) n call.ask) (sym number) (may-stays seat.seen k.rest seat.number call.ask may)))
+      (played.answers
+      (subst (λ n. MayAsk (seat.seen ++ k.rest) n call.ask) (sym number)
+      (may-stays seat.seen k.rest seat.number call.ask may)))
 
-  pub legal : Legal limits seat after (λ before. Answers limits before seat.number call.ask after call'.ask reply.answer)
+  pub legal : Legal limits seat after
+      (λ before. Answers limits before seat.number call.ask after call'.ask reply.answer)
   legal = record {
     rest = k.rest;
     apart = k.apart;
@@ -74,18 +80,21 @@ module _ (limits : Limits) (seat : PassSeat) (call : Call) (after : History) (ca
   lawful-now = lawful-seen limits (having_seen seat after) of played.lawful_after
 
   -- of the root
-  pub root-steps : seat.number ≡ 0 → (IsIn 0 seat.taken → ⊥) → total_steps (having_seen seat after) ≡ total_steps seat + bit (is_made reply.answer)
+  pub root-steps : seat.number ≡ 0 → (IsIn 0 seat.taken → ⊥) →
+      total_steps (having_seen seat after) ≡ total_steps seat + bit (is_made reply.answer)
   root-steps zero apart =
       let c : length (own 0 after) ≡ length (own 0 seat.seen) + bit (is_made reply.answer) =
       subst (λ n. length (own n after) ≡ length (own n seat.seen) + bit (is_made reply.answer)) zero counts.steps in
-      let t = total-taken seat call after call' reply k (subst (λ n. IsIn n seat.taken → ⊥) (sym zero) apart) in omega arith
+      let t = total-taken seat call after call' reply k (subst (λ n. IsIn n seat.taken → ⊥) (sym zero) apart) in
+      omega arith
 
   pub root-bytes : seat.number ≡ 0 → (IsIn 0 seat.taken → ⊥) → total_bytes (having_seen seat after) ≡ total_bytes seat
   root-bytes zero apart =
       let none = no-bytes limits (seat.seen ++ k.rest) seat.number call.ask after call'.ask reply.answer
       (root-takes-none seat.seen call.ask (subst (λ n. MayAsk seat.seen n call.ask) zero may)) answered in
       let c : bytes_taken (own 0 after) ≡ bytes_taken (own 0 seat.seen) + bytes_made reply.answer =
-      subst (λ n. bytes_taken (own n after) ≡ bytes_taken (own n seat.seen) + bytes_made reply.answer) zero counts.taken in
+      subst (λ n. bytes_taken (own n after) ≡ bytes_taken (own n seat.seen) + bytes_made reply.answer) zero counts.taken
+      in
       let t = taken-same seat.taken seat.seen after (λ n i. own-taken seat call after call' reply k n i
       (λ e. apart (subst (λ m. IsIn m seat.taken) (sym (sym zero ∙ e)) i))) in omega arith
 
@@ -103,8 +112,10 @@ module _ (limits : Limits) (seat : PassSeat) (call : Call) (after : History) (ca
     pub lawful-after : HasSeenLawful seat'
     lawful-after = subst HasSeenLawful (sym is) lawful-now
 
-    pub total-after : seat.number ≡ 0 → IsTallied seat' → total_steps seat' ≡ total_steps seat + bit (is_made reply.answer)
+    pub total-after : seat.number ≡ 0 → IsTallied seat' →
+        total_steps seat' ≡ total_steps seat + bit (is_made reply.answer)
     total-after zero t = ap total_steps is ∙ root-steps zero (subst (λ (s : PassSeat). IsIn 0 s.taken → ⊥) is t.apart)
 
     pub total-bytes-after : seat.number ≡ 0 → IsTallied seat' → total_bytes seat' ≡ total_bytes seat
-    total-bytes-after zero t = ap total_bytes is ∙ root-bytes zero (subst (λ (s : PassSeat). IsIn 0 s.taken → ⊥) is t.apart)
+    total-bytes-after zero t =
+        ap total_bytes is ∙ root-bytes zero (subst (λ (s : PassSeat). IsIn 0 s.taken → ⊥) is t.apart)

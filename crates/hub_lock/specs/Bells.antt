@@ -27,7 +27,8 @@ AreRung bits ws = (k : ℕ) → k < 64 → (bit_at bits k ≡ 1) ↔ IsFor k ws
 
 -- the same of one thing more
 abbrev pub IsRungFor : ℕ → Watched → ℕ → Type 0
-IsRungFor before w after = (k : ℕ) → k < 64 → (bit_at after k ≡ 1) ↔ ((bell_of w ≡ Some k) ⊎ (bit_at before k ≡ 1))
+IsRungFor before w after =
+    (k : ℕ) → k < 64 → (bit_at after k ≡ 1) ↔ ((bell_of w ≡ Some k) ⊎ (bit_at before k ≡ 1))
 
 abbrev pub IsRungBy : Rings → Watched → Rings → Type 0
 IsRungBy before w after = IsRungFor before.bits w after.bits

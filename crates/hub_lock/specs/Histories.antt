@@ -1,4 +1,5 @@
--- Histories of a hub: outer steps, each with the number of the pass whose call made it, the oldest first
+-- Histories of a hub: outer steps, each with the number of the pass whose call made it, the oldest
+-- first
 use Rattle.std.specs.Prelude.{ℕ, zero, suc, ◌+◌, List, [], ◌∷◌, ◌++◌, length, map, reverse, if◌then◌else◌, Option, Some, None, option_map}
 use Rattle.std.specs.List.{slice_get, sum_by}
 use Rattle.seat_steps.specs.declared.limits.Limits.{Limits}
@@ -15,7 +16,8 @@ use Rattle.hub_lock.specs.declared.step.OuterStep.{OuterStep}
 abbrev pub History : Type 0
 History = List (ℕ × OuterStep)
 
--- what a call of the pass with the number n gives with its step: it is the author, and says no moment
+-- what a call of the pass with the number n gives with its step: it is the author, and says no
+-- moment
 abbrev pub stamp_by : ℕ → Stamp
 stamp_by n = record { moment = 0; author = n }
 

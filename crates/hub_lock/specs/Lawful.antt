@@ -19,8 +19,9 @@ use Rattle.broker_core.specs.Ends.{is_end_of}
 use Rattle.hub_lock.specs.declared.step.OuterStep.{OuterStep}
 use Rattle.hub_lock.specs.Histories.{History, broker_of, readers_of, reader_of, writer_of, steps_in}
 
--- What a shared state promises between calls: its journal is the history of its outer steps, with their stamps; no live
--- peer has a refused last message or was left out of what it is told; and all is within its limits.
+-- What a shared state promises between calls: its journal is the history of its outer steps, with
+-- their stamps; no live peer has a refused last message or was left out of what it is told; and all
+-- is within its limits.
 pub record IsShared (b : Broker) : Type 0 where
   pub history : history b.limits.store (outer b.journal) ≡ b.journal
   pub stamped : stamps b.journal (step_stamps b.journal b.stamps) ≡ b.stamps
@@ -30,15 +31,19 @@ pub record IsShared (b : Broker) : Type 0 where
   pub few_peers : number_alive b.journal ≤ 64
   pub counted : number_counted b.journal ≤ b.limits.entries
   pub light : weight b.journal ≤ b.limits.weight
-  pub stores : (label : ℕ) → length (stored (out_for b.limits.store b.journal label)) ≤ b.limits.store
+  pub stores : (label : ℕ) →
+      length (stored (out_for b.limits.store b.journal label)) ≤ b.limits.store
   pub few_objects : (q : ℕ) (peer : Joined) → peer_at (past_of b.journal) q ≡ Some peer
-      → is_peer (log_of (past_of b.journal)) peer.label ≡ true → number_live (past_of b.journal) peer.label ≤ 256
+      → is_peer (log_of (past_of b.journal)) peer.label ≡ true →
+      number_live (past_of b.journal) peer.label ≤ 256
   pub few_keys : number_down (log_of (past_of b.journal)) ≤ 64
-  pub ends : length b.journal + number_alive b.journal ≤ number_counted b.journal + length (past_of b.journal).joined
+  pub ends : length b.journal + number_alive b.journal ≤ number_counted b.journal
+      + length (past_of b.journal).joined
   pub one_end : (q : ℕ) → count_by (is_end_of q) b.journal ≤ 1
 
--- A pair with a take has the number of its peer's writer's pass, and that with any other step of a peer, but its join,
--- the number of its reader's pass. A take takes at most 4,096 bytes, and an end is that of the peer's link.
+-- A pair with a take has the number of its peer's writer's pass, and that with any other step of a
+-- peer, but its join, the number of its reader's pass. A take takes at most 4,096 bytes, and an end
+-- is that of the peer's link.
 abbrev pub IsMadeBy : History → ℕ → Entry → Type 0
 IsMadeBy h n (entries.Message q id opcode body) = reader_of h q ≡ Some n
 IsMadeBy h n (entries.Tokens q tokens) = reader_of h q ≡ Some n
@@ -53,8 +58,8 @@ abbrev pub AreMadeBy : History → History → Type 0
 AreMadeBy h [] = Unit {0}
 AreMadeBy h (s ∷ rest) = IsMadeBy h s.0 s.1.entry × AreMadeBy h rest
 
--- what a hub's history keeps: the journal that it makes is a shared state's, each peer has its reader, and each step is
--- made by whose it is
+-- what a hub's history keeps: the journal that it makes is a shared state's, each peer has its
+-- reader, and each step is made by whose it is
 pub record IsLawful (limits : Limits) (h : History) : Type 0 where
   pub limited : IsLimits limits
   pub shared : IsShared (broker_of limits h)

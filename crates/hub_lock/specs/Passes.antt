@@ -9,8 +9,9 @@ use Rattle.hub_lock.specs.declared.step.OuterStep.{OuterStep}
 use Rattle.hub_lock.specs.Histories.{History, broker_of, bytes_taken, total_taken}
 use Rattle.hub_lock.specs.Lawful.{IsLawful}
 
--- a pass as a seat of the lock: the hub that it is of, its number, the hub's limits and the history that it has seen; of
--- the root besides how many passes are out, and the numbers of those that came back
+-- a pass as a seat of the lock: the hub that it is of, its number, the hub's limits and the history
+-- that it has seen; of the root besides how many passes are out, and the numbers of those that came
+-- back
 abbrev pub PassSeat : Type 0
 PassSeat = Sight OuterStep Limits
 

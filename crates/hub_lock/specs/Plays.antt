@@ -37,10 +37,12 @@ abbrev pub IsLonger : ℕ → OuterStep → History → History → Type 0
 IsLonger n step before after = after ≡ before ++ (n, step) ∷ []
 
 -- a peer joins, whose reader's pass has that number
-pub record Joins (limits : Limits) (before : History) (n : ℕ) (role : Role) (reader : ℕ) (after : History)
+pub record Joins (limits : Limits) (before : History) (n : ℕ) (role : Role) (reader : ℕ)
+    (after : History)
     (r : Result ℕ JoinRefusal) : Type 0 where
   pub refused : IfSome (join_refusal (broker_of limits before) role) (λ why. r ≡ Err why)
-  pub accepted : IfNone (join_refusal (broker_of limits before) role) (IsOkUnless r join_refusals.NoMemory)
+  pub accepted : IfNone (join_refusal (broker_of limits before) role)
+      (IsOkUnless r join_refusals.NoMemory)
   pub joined : OnOk r (IsLonger n (joining (entries.Join role) reader) before after)
   pub number : IfOk r (λ q. q ≡ length (past_of (broker_of limits after).journal).joined)
   pub has : IfOk r (λ q. reader_of after q ≡ Some reader)
@@ -56,15 +58,19 @@ IsOwn h n _ = ⊥
 pub record Applies (limits : Limits) (before : History) (n : ℕ) (step : Step) (after : History)
     (r : Result Applied Refused) : Type 0 where
   pub refused : IfSome (refusal (broker_of limits before) step) (λ why. r ≡ Err why)
-  pub accepted : IfNone (refusal (broker_of limits before) step) (IsAccepted refusals.NoMemory step r)
+  pub accepted : IfNone (refusal (broker_of limits before) step)
+      (IsAccepted refusals.NoMemory step r)
   pub applied : OnOk r (IsLonger n (only (entry_of step)) before after)
   pub entry : IfOk r (λ applied. applied.entry ≡ length (broker_of limits before).journal + 1)
   pub route : IfOk r (λ applied. applied.route ≡ route_told
-      (act_at (entry_of step) (broker_of limits before).journal) (resolve (broker_of limits before).journal))
+      (act_at (entry_of step) (broker_of limits before).journal)
+      (resolve (broker_of limits before).journal))
   pub same : OnErr r (after ≡ before)
 
--- the first that were out stand at the front of the buffers: as many bytes as fit, and the tokens that come with them
-pub record IsTakenInto (out : Outgoing) (most : ℕ) (bytes tokens : List ℕ) (counts : ℕ × ℕ) : Type 0 where
+-- the first that were out stand at the front of the buffers: as many bytes as fit, and the tokens
+-- that come with them
+pub record IsTakenInto (out : Outgoing) (most : ℕ) (bytes tokens : List ℕ)
+    (counts : ℕ × ℕ) : Type 0 where
   pub count : counts.0 ≡ min most (length (stored out))
   pub front : take counts.0 bytes ≡ take counts.0 (stored out)
   pub token_count : counts.1 ≡ length (tokens_taken counts.0 out)
@@ -72,7 +78,8 @@ pub record IsTakenInto (out : Outgoing) (most : ℕ) (bytes tokens : List ℕ) (
   pub few : counts.1 ≤ 256
 
 -- a take of what is stored for the peer q
-pub record Takes (limits : Limits) (before : History) (n q most : ℕ) (bytes tokens : List ℕ) (after : History)
+pub record Takes (limits : Limits) (before : History) (n q most : ℕ) (bytes tokens : List ℕ)
+    (after : History)
     (r : Took) : Type 0 where
   pub refused : IfSome (take_refusal (broker_of limits before) q) (λ why. r ≡ why)
   pub accepted : IfNone (take_refusal (broker_of limits before) q) (IsBytesUnlessMemory r)
@@ -88,12 +95,13 @@ pub record IsSessionOf (b : Broker) (s : Session) : Type 0 where
   pub stamps : s.stamps.stamps ≡ b.stamps
 
 -- a copy of it all
-pub record Copies (limits : Limits) (before after : History) (r : Result Session NoMemory) : Type 0 where
+pub record Copies (limits : Limits) (before after : History)
+    (r : Result Session NoMemory) : Type 0 where
   pub copied : IfOk r (λ s. IsSessionOf (broker_of limits before) s)
   pub same : after ≡ before
 
--- the pass with the number n may ask it: a step of the shell, or of the peer whose reader it is; a take for the peer
--- whose writer it is
+-- the pass with the number n may ask it: a step of the shell, or of the peer whose reader it is; a
+-- take for the peer whose writer it is
 abbrev pub MayAsk : History → ℕ → Ask → Type 0
 MayAsk h n (asks.Apply step) = IsOwn h n step
 MayAsk h n (asks.Take t) = writer_of h t.peer ≡ Some n
@@ -101,15 +109,18 @@ MayAsk h n _ = Unit {0}
 
 -- what is asked, and what is answered to it
 abbrev pub Answers : Limits → History → ℕ → Ask → History → Ask → Answer → Type 0
-Answers limits before n (asks.Join role reader) after ask (answers.Joined r) = Joins limits before n role reader after r
-Answers limits before n (asks.Apply step) after ask (answers.Applied r) = Applies limits before n step after r
+Answers limits before n (asks.Join role reader) after ask (answers.Joined r) =
+    Joins limits before n role reader after r
+Answers limits before n (asks.Apply step) after ask (answers.Applied r) =
+    Applies limits before n step after r
 Answers limits before n (asks.Take t) after (asks.Take u) (answers.Took r) =
     Takes limits before n t.peer t.most u.bytes u.tokens after r
 Answers limits before n asks.Copy after ask (answers.Copied r) = Copies limits before after r
 Answers limits before n _ after _ _ = ⊥
 
 -- a play of a call: what is behind the lock is lawful before and after
-pub record Plays (limits : Limits) (before : History) (call : Call) (after : History) (call' : Call) (reply : Reply)
+pub record Plays (limits : Limits) (before : History) (call : Call) (after : History) (call' : Call)
+    (reply : Reply)
     : Type 0 where
   pub lawful : IsLawful limits before
   pub lawful_after : IsLawful limits after
@@ -117,7 +128,8 @@ pub record Plays (limits : Limits) (before : History) (call : Call) (after : His
       → Answers limits before call.number call.ask after call'.ask reply.answer
   pub entries : reply.entries ≡ length (broker_of limits after).journal
   pub rings : AreRung reply.rings
-      (watched_since limits.store (length (broker_of limits before).journal) (broker_of limits after).journal)
+      (watched_since limits.store (length (broker_of limits before).journal)
+      (broker_of limits after).journal)
 
 -- the answer says that a step was made
 abbrev pub is_made : Answer → Bool

@@ -1,5 +1,5 @@
-pub mod Trees
+pub mod TreeIsMap
 mod NearIds
-pub mod Wholes
-pub mod Histories
-pub mod Refusals
+pub mod MapsAreInverse
+pub mod ObjectsAfterCalls
+pub mod MakeRefuses

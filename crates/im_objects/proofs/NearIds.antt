@@ -8,12 +8,13 @@ use Rattle.std.proofs.lemmas.List.{length-set, get_or-set_other}
 use Rattle.std.proofs.lemmas.Grind.{get_or-set_at}
 use Rattle.wl_proto.specs.declared.interface.Interface.{Interface}
 use Rattle.im_objects.specs.Objects.{AreNear}
-use Rattle.im_objects.proofs.Trees.{get_inserted, get_removed}
+use Rattle.im_objects.proofs.TreeIsMap.{get_inserted, get_removed}
 
 abbrev Object : Type 0
 Object = Interface × ℕ
 
-near_set : (near : List (Option Object)) (under after : map.FinMap nat_cmp Object) (id : ℕ) (o : Option Object) → AreNear near under
+near_set : (near : List (Option Object)) (under after : map.FinMap nat_cmp Object) (id : ℕ) (o : Option Object) →
+    AreNear near under
     → ((q : ℕ) → map.get after q ≡ cond (q == id) o (map.get under q)) → AreNear (set near id o) after
 near_set near under after id o all change q l =
     let within : q < length near = subst (λ n. q < n) (length-set near id o) l in
@@ -26,7 +27,8 @@ near_set near under after id o all change q l =
           ∙ sym (change q ∙ ap (λ b. cond b o (map.get under q)) (p.0))
     ]
 
-pub near_inserted : (near : List (Option Object)) (under : map.FinMap nat_cmp Object) (id : ℕ) (object : Object) → AreNear near under
+pub near_inserted : (near : List (Option Object)) (under : map.FinMap nat_cmp Object) (id : ℕ) (object : Object) →
+    AreNear near under
     → AreNear (set near id (Some object)) (map.insert under id object)
 near_inserted near under id object all =
     near_set near under (map.insert under id object) id (Some object) all (get_inserted under id object)
@@ -35,8 +37,10 @@ pub near_removed : (near : List (Option Object)) (under : map.FinMap nat_cmp Obj
     → AreNear (set near id None) (map.remove under id)
 near_removed near under id all = near_set near under (map.remove under id) id None all (get_removed under id)
 
-pub near_same : (near : List (Option Object)) (a b : map.FinMap nat_cmp Object) → a ≡ b → AreNear near b → AreNear near a
+pub near_same : (near : List (Option Object)) (a b : map.FinMap nat_cmp Object) → a ≡ b → AreNear near b →
+    AreNear near a
 near_same near a b e all = subst (AreNear near) (sym e) all
 
-pub near_none : (near : List (Option Object)) → ((i : ℕ) → i < length near → get_or near i None ≡ None) → AreNear near map.empty
+pub near_none : (near : List (Option Object)) → ((i : ℕ) → i < length near → get_or near i None ≡ None) →
+    AreNear near map.empty
 near_none near all q l = all q l ∙ sym (map.get-empty nat_cmp q)

@@ -12,20 +12,25 @@ abbrev pub has_label : (label : ℕ) → Option (Interface × ℕ) → Bool
 has_label label None = false
 has_label label (Some object) = label == object.1
 
--- the object under the id: the last that was made under it, unless the id was dropped since; the display's never is
+-- the object under the id: the last that was made under it, unless the id was dropped since; the
+-- display's never is
 abbrev pub object_under : List Call → (id : ℕ) → Option (Interface × ℕ)
 object_under [] id = None
-object_under (Make at interface label ∷ older) id = (if id == at then Some (interface, label) else object_under older id)
-object_under (Drop at ∷ older) id = (if not (at == 1) && id == at then None else object_under older id)
+object_under (Make at interface label ∷ older) id =
+    (if id == at then Some (interface, label) else object_under older id)
+object_under (Drop at ∷ older) id =
+    (if not (at == 1) && id == at then None else object_under older id)
 
 -- to drop the id has an effect: an object is under it, and it isn't the display's
 abbrev pub takes_effect : List Call → (id : ℕ) → Bool
 takes_effect calls id = not (id == 1) && is_some (object_under calls id)
 
--- the id of the object with this label: the last under which one was made with it, unless that object was dropped since
+-- the id of the object with this label: the last under which one was made with it, unless that
+-- object was dropped since
 abbrev pub id_of : List Call → (label : ℕ) → Option ℕ
 id_of [] label = None
-id_of (Make id interface other ∷ older) label = (if label == other then Some id else id_of older label)
+id_of (Make id interface other ∷ older) label =
+    (if label == other then Some id else id_of older label)
 id_of (Drop id ∷ older) label =
     (if not (id == 1) && has_label label (object_under older id) then None else id_of older label)
 
@@ -34,4 +39,5 @@ abbrev pub number_live : List Call → ℕ
 number_live [] = 0
 number_live (Make id interface label ∷ older) =
     (if is_some (object_under older id) then number_live older else number_live older + 1)
-number_live (Drop id ∷ older) = (if takes_effect older id then number_live older - 1 else number_live older)
+number_live (Drop id ∷ older) =
+    (if takes_effect older id then number_live older - 1 else number_live older)

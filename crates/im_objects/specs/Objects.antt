@@ -1,4 +1,5 @@
--- What a table shows: the live objects by their ids and by their labels, and the calls that they stand for.
+-- What a table shows: the live objects by their ids and by their labels, and the calls that they
+-- stand for.
 use Rattle.std.specs.Prelude.{refl, ◌≡◌, ◌≤◌, ◌<◌, ℕ, List, length, slice_index_or, Bool, false, ◌||◌, ◌==◌, nat_lt, Option, Some, None, is_some, IsSomeAnd, if◌then◌else◌}
 use Rattle.std.specs.Ordering.{nat_cmp}
 use Rattle.std.specs.FinMap as map
@@ -40,8 +41,10 @@ abbrev pub is_id : (id : ℕ) → Option ℕ → Bool
 is_id id None = false
 is_id id (Some other) = id == other
 
--- at most 256 objects besides the display; a label has an id exactly where what is under the id has the label
-pub record IsWhole (under : map.FinMap nat_cmp (Interface × ℕ)) (ids : map.FinMap nat_cmp ℕ) : Type 0 where
+-- at most 256 objects besides the display; a label has an id exactly where what is under the id has
+-- the label
+pub record IsWhole (under : map.FinMap nat_cmp (Interface × ℕ))
+    (ids : map.FinMap nat_cmp ℕ) : Type 0 where
   pub few : map.len under ≤ 257
   pub inverse : (label id : ℕ) → is_id id (map.get ids label) ≡ has_label label (map.get under id)
 
@@ -53,8 +56,8 @@ AreNear near under = (id : ℕ) → id < length near → slice_index_or near id 
 abbrev pub is_no_client_id : (id : ℕ) → Bool
 is_no_client_id id = id == 0 || nat_lt 4278190079 id
 
--- Why nothing can be made under the id, if so: no client may choose it, an object is under it, or 256 objects are live
--- besides the display. The first that applies is told.
+-- Why nothing can be made under the id, if so: no client may choose it, an object is under it, or
+-- 256 objects are live besides the display. The first that applies is told.
 abbrev pub refusal_of : Objects → (id : ℕ) → Option MakeRefusal
 refusal_of objects id =
     (if is_no_client_id id then Some IdRange

@@ -1,5 +1,5 @@
-pub mod Counts
-pub mod History
-pub mod Turns
-pub mod Fates
+pub mod KeysCounted
+pub mod KeysByCalls
+pub mod KeyTurns
+pub mod GrabsStand
 pub mod DownLists

@@ -10,7 +10,8 @@ use Rattle.kbd_grab.specs.declared.keyboard.Route.{Route}
 use Rattle.kbd_grab.specs.declared.keyboard.Route.TheVariants.{Pass, TooMany}
 use Rattle.kbd_grab.specs.Keys.{Call, as_first, to_standing, grab_standing, is_down, number_down, first_went, told_keymap, told_repeat, told_mods}
 
--- the keys that are down, each with the grab that stood at its first press, none where that passed to the shell
+-- the keys that are down, each with the grab that stood at its first press, none where that passed
+-- to the shell
 abbrev pub DownKeys : Type 0
 DownKeys = map.FinMap nat_cmp (Option ℕ)
 
@@ -52,25 +53,35 @@ abbrev pub keyboard_code : Coded Keyboard
 keyboard_code =
     code_by ((Option ℕ × DownKeys) × (Option Keymap × (Option Repeat × Option Mods)))
     (coded× (coded× (coded_option coded_ℕ) (map.code coded_ℕ (coded_option coded_ℕ)))
-    (coded× (coded_option keymap_code) (coded× (coded_option repeat_code) (coded_option mods_code))))
+    (coded× (coded_option keymap_code)
+    (coded× (coded_option repeat_code) (coded_option mods_code))))
     (λ k. ((k.standing, k.down), (k.keymap, (k.repeat, k.mods))))
-    (λ p. record { standing = p.0.0; down = p.0.1; keymap = p.1.0; repeat = p.1.1.0; mods = p.1.1.1 })
+    (λ p. record {
+      standing = p.0.0;
+      down = p.0.1;
+      keymap = p.1.0;
+      repeat = p.1.1.0;
+      mods = p.1.1.1;
+    })
     (λ _. refl)
 
 -- the keyboard is what these calls, the newest first, make of it
 pub record StandsFor (calls : List Call) (keyboard : Keyboard) : Type 0 where
   pub grab : keyboard.standing ≡ grab_standing calls
-  pub keys : (key : ℕ) → map.get keyboard.down key ≡ (if is_down calls key then Some (first_went calls key) else None)
+  pub keys : (key : ℕ) →
+      map.get keyboard.down key ≡ (if is_down calls key then Some (first_went calls key) else None)
   pub number : map.len keyboard.down ≡ number_down calls
   pub last_keymap : keyboard.keymap ≡ told_keymap calls
   pub last_repeat : keyboard.repeat ≡ told_repeat calls
   pub last_mods : keyboard.mods ≡ told_mods calls
 
 -- the keys that are down after a press (true) or a release of a key, by where it went if it is down
-abbrev pub turned_at : (here : Option (Option ℕ)) (standing : Option ℕ) → DownKeys → (key : ℕ) (pressed : Bool) → DownKeys
+abbrev pub turned_at : (here : Option (Option ℕ)) (standing : Option ℕ) → DownKeys →
+    (key : ℕ) (pressed : Bool) → DownKeys
 turned_at (Some went) standing down key true = down
 turned_at (Some went) standing down key false = map.remove down key
-turned_at None standing down key true = (if nat_lt (map.len down) 64 then map.insert down key standing else down)
+turned_at None standing down key true =
+    (if nat_lt (map.len down) 64 then map.insert down key standing else down)
 turned_at None standing down key false = down
 
 abbrev pub turned : Keyboard → (key : ℕ) (pressed : Bool) → DownKeys
@@ -78,14 +89,17 @@ turned keyboard key pressed =
     turned_at (map.get keyboard.down key) keyboard.standing keyboard.down key pressed
 
 -- where that press or release goes, with so many keys down
-abbrev pub answer_at : (here : Option (Option ℕ)) (standing : Option ℕ) (number : ℕ) (pressed : Bool) → Route
+abbrev pub answer_at : (here : Option (Option ℕ)) (standing : Option ℕ) (number : ℕ)
+    (pressed : Bool) → Route
 answer_at (Some went) standing number pressed = as_first standing went
 answer_at None standing number true = (if nat_lt number 64 then to_standing standing else TooMany)
 answer_at None standing number false = Pass
 
--- the same of any list of held keys: a first press goes to the grab `opens`, or to the shell, another key as its first
--- press, where `standing` stands
-abbrev pub routed_at : (here : Option (Option ℕ)) (opens standing : Option ℕ) (number : ℕ) (pressed : Bool) → Route
+-- the same of any list of held keys: a first press goes to the grab `opens`, or to the shell,
+-- another key as its first press, where `standing` stands
+abbrev pub routed_at : (here : Option (Option ℕ)) (opens standing : Option ℕ) (number : ℕ)
+    (pressed : Bool) → Route
 routed_at (Some went) opens standing number pressed = as_first standing went
-routed_at None opens standing number true = (if nat_lt number 64 then to_standing opens else TooMany)
+routed_at None opens standing number true =
+    (if nat_lt number 64 then to_standing opens else TooMany)
 routed_at None opens standing number false = Pass

@@ -7,7 +7,8 @@ use Rattle.kbd_grab.specs.declared.keyboard.Repeat.{Repeat}
 use Rattle.kbd_grab.specs.declared.keyboard.Route.{Route}
 use Rattle.kbd_grab.specs.declared.keyboard.Route.TheVariants.{ToGrab, Pass, Nowhere, TooMany}
 
--- a grab stands or falls, a key is pressed (true) or released, the shell tells its keymap, repeat or modifiers
+-- a grab stands or falls, a key is pressed (true) or released, the shell tells its keymap, repeat
+-- or modifiers
 pub data Call : Type 0 where
   Stand : (label : ℕ) → Call
   Fall : Call
@@ -27,15 +28,17 @@ grab_standing (_ ∷ older) = grab_standing older
 abbrev pub pressed_keys : List Call → List ℕ
 pressed_keys [] = []
 pressed_keys (Key key true ∷ older) =
-    (if list_any (λ k. key == k) (pressed_keys older) then pressed_keys older else key ∷ pressed_keys older)
+    (if list_any (λ k. key == k) (pressed_keys older) then pressed_keys older
+    else key ∷ pressed_keys older)
 pressed_keys (_ ∷ older) = pressed_keys older
 
--- a key is down where it has a press that wasn't refused and no release since; a press is refused where the key is up
--- and 64 keys are down
+-- a key is down where it has a press that wasn't refused and no release since; a press is refused
+-- where the key is up and 64 keys are down
 abbrev pub is_down : List Call → ℕ → Bool
 is_down [] key = false
 is_down (Key k true ∷ older) key =
-    (if key == k then is_down older key || nat_lt (count_by (is_down older) (pressed_keys older)) 64 else is_down older key)
+    (if key == k then is_down older key || nat_lt (count_by (is_down older) (pressed_keys older)) 64
+    else is_down older key)
 is_down (Key k false ∷ older) key = (if key == k then false else is_down older key)
 is_down (_ ∷ older) key = is_down older key
 
@@ -43,7 +46,8 @@ is_down (_ ∷ older) key = is_down older key
 abbrev pub number_down : List Call → ℕ
 number_down calls = count_by (is_down calls) (pressed_keys calls)
 
--- of a key that is down: the grab that stood at its first press since it was last up, none where that passed to the shell
+-- of a key that is down: the grab that stood at its first press since it was last up, none where
+-- that passed to the shell
 abbrev pub first_went : List Call → ℕ → Option ℕ
 first_went [] key = None
 first_went (Key k true ∷ older) key =
@@ -93,14 +97,16 @@ stood (_ ∷ older) label = stood older label
 -- each grab stood up where none stood, and for the first time
 abbrev pub EachStandsOnce : List Call → Type 0
 EachStandsOnce [] = Unit {0}
-EachStandsOnce (Stand label ∷ older) = (grab_standing older ≡ None) × (stood older label ≡ false) × EachStandsOnce older
+EachStandsOnce (Stand label ∷ older) =
+    (grab_standing older ≡ None) × (stood older label ≡ false) × EachStandsOnce older
 EachStandsOnce (_ ∷ older) = EachStandsOnce older
 
 -- of a key that is down: a grab fell since its first press
 abbrev pub fell_since : List Call → (key : ℕ) → Bool
 fell_since [] key = false
 fell_since (Fall ∷ older) key = true
-fell_since (Key k true ∷ older) key = (if key == k && not (is_down older key) then false else fell_since older key)
+fell_since (Key k true ∷ older) key =
+    (if key == k && not (is_down older key) then false else fell_since older key)
 fell_since (_ ∷ older) key = fell_since older key
 
 -- where the first press went, and nowhere where that is a grab that fell since

@@ -15,7 +15,13 @@ use Rattle.link_jobs.specs.declared.link_job.LinkDone.TheVariants as done
 -- the tag of a job with this pass
 abbrev pub tag_with : PassSeat → (peer : ℕ) → Part → Tag
 tag_with seat peer part =
-    record { number = seat.number; peer = peer; part = part; turn = seat.turn; limits = seat.constant }
+    record {
+      number = seat.number;
+      peer = peer;
+      part = part;
+      turn = seat.turn;
+      limits = seat.constant;
+    }
 
 module _ {I O G : Type 0} {s : _} {k : _} where
   abbrev pub job_tag : LinkJob I O G s k → Tag

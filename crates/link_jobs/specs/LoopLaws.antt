@@ -32,9 +32,10 @@ pub record HasWritten (pass : PeerPass) (held : Option (List ℕ)) (end : WriteE
   pub quiet : StaysQuiet before held
   pub law : WritesPeer limits pass before held end
 
--- a shell: of the bytes that its source gave, its pass ordered what the law of shells says, and its sink, which held
--- nothing, gained the answers
-pub record HasOrdered (seat : PassSeat) (given left held : Option (List ℕ)) (end : ShellEnd) : Type 0 where
+-- a shell: of the bytes that its source gave, its pass ordered what the law of shells says, and its
+-- sink, which held nothing, gained the answers
+pub record HasOrdered (seat : PassSeat) (given left held : Option (List ℕ))
+    (end : ShellEnd) : Type 0 where
   pub limits : Limits
   pub constant : seat.constant ≡ Some limits
   pub read : List ℕ

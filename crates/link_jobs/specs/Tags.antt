@@ -12,8 +12,9 @@ pub data Part : Type 0 where
   writer : Part
   shell : Part
 
--- a job: its number, which is that of its pass, from 1 in the order in which the hub made them; its peer's number, or 0
--- for a shell; its part; and which hub it works on: the hub's lock, and its limits as the pass knows them
+-- a job: its number, which is that of its pass, from 1 in the order in which the hub made them; its
+-- peer's number, or 0 for a shell; its part; and which hub it works on: the hub's lock, and its
+-- limits as the pass knows them
 pub record Tag : Type 0 where
   pub number : ℕ
   pub peer : ℕ
@@ -27,9 +28,10 @@ pub data End : Type 0 where
   wrote : WriteEnd → End
   ordered : ShellEnd → End
 
--- a result: the numbers and the part of its job; how its loop ended; how often its link's source and sink failed; and,
--- where the link tells them, the bytes that its source gave, those that it has left, and those that its sink holds. A way
--- that the job doesn't have tells nothing and never failed.
+-- a result: the numbers and the part of its job; how its loop ended; how often its link's source
+-- and sink failed; and, where the link tells them, the bytes that its source gave, those that it
+-- has left, and those that its sink holds. A way that the job doesn't have tells nothing and never
+-- failed.
 pub record Report : Type 0 where
   pub number : ℕ
   pub peer : ℕ

@@ -7,8 +7,8 @@ use Rattle.link_nets.specs.declared.door.Door.{Door}
 use Rattle.link_nets.specs.declared.door.Door.TheVariants.{App, Method, Shell}
 use Rattle.link_nets.specs.declared.mem_link.MemLink.{MemLink}
 
--- a net: which doors are open, the links that wait, the doors of those that it gave, the numbers of the accepts that
--- fail, and how many accepts and faults it had
+-- a net: which doors are open, the links that wait, the doors of those that it gave, the numbers of
+-- the accepts that fail, and how many accepts and faults it had
 pub record NetInMemory : Type 0 where
   pub app : Bool
   pub method : Bool
@@ -42,15 +42,18 @@ pub record IsPlaceFor (d : Door) (waiting : List MemLink) (at : ℕ) (link : Mem
   pub first : LacksLinkFor d (take at waiting)
 
 -- the first link that waits at the door, and those that wait without it
-pub record IsFirstFor (d : Door) (waiting : List MemLink) (link : MemLink) (rest : List MemLink) : Type 0 where
+pub record IsFirstFor (d : Door) (waiting : List MemLink) (link : MemLink)
+    (rest : List MemLink) : Type 0 where
   pub at : ℕ
   pub place : IsPlaceFor d waiting at link
   pub left : rest ≡ remove waiting at
 
 -- an accept gave the first link that waits at the door
-pub record GivesLink (d : Door) (net net' : NetInMemory) (source : SourceInMemory) (sink : SinkInMemory) : Type 0 where
+pub record GivesLink (d : Door) (net net' : NetInMemory) (source : SourceInMemory)
+    (sink : SinkInMemory) : Type 0 where
   pub link : MemLink
   pub first : IsFirstFor d net.waiting link net'.waiting
   pub way_in : source ≡ link.source
   pub way_out : sink ≡ link.sink
-  pub rest : net' ≡ record net { waiting = net'.waiting; links = net.links ++ d ∷ []; calls = raised net.calls }
+  pub rest : net'
+      ≡ record net { waiting = net'.waiting; links = net.links ++ d ∷ []; calls = raised net.calls }

@@ -1,7 +1,8 @@
 -- A list whose oldest items can be let go, as contracts see it. Its oldest item has the number 1.
 use Rattle.std.specs.Prelude.{ℕ, ◌+◌, List, [], ◌∷◌, length, ◌==◌, nat_le, if◌then◌else◌, Option, Some, None}
 
--- all items, the newest first; how many of the oldest were let go; and how many more may be put before memory has to be taken
+-- all items, the newest first; how many of the oldest were let go; and how many more may be put
+-- before memory has to be taken
 pub record Long (T : Type 0) : Type 0 where
   pub items : List T
   pub kept_from : ℕ
@@ -10,7 +11,8 @@ pub record Long (T : Type 0) : Type 0 where
 -- the item with a number
 abbrev pub item_at : {T : Type 0} → List T → ℕ → Option T
 item_at [] number = None
-item_at (item ∷ older) number = (if number == length older + 1 then Some item else item_at older number)
+item_at (item ∷ older) number =
+    (if number == length older + 1 then Some item else item_at older number)
 
 -- the item with a number, unless it was let go
 abbrev pub kept_at : {T : Type 0} → (kept_from : ℕ) → List T → ℕ → Option T

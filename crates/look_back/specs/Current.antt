@@ -13,4 +13,9 @@ content_of content = record { hint = content.hint; purpose = content.purpose }
 
 abbrev pub state_of : State → model.State
 state_of s =
-    record { surrounding = option_map around_of s.surrounding; cause = s.cause; content = content_of s.content; rect = s.rect }
+    record {
+      surrounding = option_map around_of s.surrounding;
+      cause = s.cause;
+      content = content_of s.content;
+      rect = s.rect;
+    }

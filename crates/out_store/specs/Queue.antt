@@ -1,4 +1,5 @@
--- What a contract sees of a store: the bytes that wait, each with the token whose message begins at it.
+-- What a contract sees of a store: the bytes that wait, each with the token whose message begins at
+-- it.
 use Rattle.std.specs.Prelude.{◌==◌, ℕ, ◌+◌, if◌then◌else◌, List, [], ◌∷◌, map, Option, None, Some}
 use Rattle.std.specs.List.{filter_map}
 
@@ -24,7 +25,8 @@ abbrev pub cells_from : ℕ → List ℕ → List (ℕ × ℕ) → List Cell
 cells_from at [] tokens = []
 cells_from at (byte ∷ rest) tokens = (byte, token_at at tokens) ∷ cells_from (at + 1) rest tokens
 
--- the cells of a group's bytes and tokens, each token listed with the offset at which its message begins
+-- the cells of a group's bytes and tokens, each token listed with the offset at which its message
+-- begins
 abbrev pub cells_of : List ℕ → List (ℕ × ℕ) → List Cell
 cells_of bytes tokens = cells_from 0 bytes tokens
 

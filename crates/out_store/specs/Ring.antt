@@ -1,4 +1,5 @@
--- How a store keeps its tokens: by places that count around 2^64, so that no token is touched as the bytes before it go.
+-- How a store keeps its tokens: by places that count around 2^64, so that no token is touched as
+-- the bytes before it go.
 use Rattle.std.specs.Prelude.{ℕ, ◌+◌, ◌-◌, ◌%◌, ◌^◌, nat_lt, if◌then◌else◌, List, [], ◌∷◌, map}
 use Rattle.out_store.specs.declared.begins.Begin.{Begin}
 
@@ -12,7 +13,8 @@ offsets front begins = map (λ (begin : Begin). (distance front begin.place, beg
 
 -- the tokens of a group that begins at this place
 abbrev pub placed : ℕ → List (ℕ × ℕ) → List Begin
-placed start tokens = map (λ (entry : ℕ × ℕ). record { place = (start + entry.0) % 2 ^ 64; token = entry.1 }) tokens
+placed start tokens =
+    map (λ (entry : ℕ × ℕ). record { place = (start + entry.0) % 2 ^ 64; token = entry.1 }) tokens
 
 -- how many of the first tokens are at an offset below n
 abbrev pub begun_count : ℕ → List (ℕ × ℕ) → ℕ

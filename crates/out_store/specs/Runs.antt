@@ -10,13 +10,17 @@ pub data Call : Type 0 where
 -- what waits after the calls
 abbrev pub stored : ℕ → List Call → List Cell
 stored capacity [] = []
-stored capacity (Put group ∷ older) = if nat_le (length (stored capacity older) + length group) capacity then stored capacity older ++ group else stored capacity older
+stored capacity (Put group ∷ older) =
+    if nat_le (length (stored capacity older) + length group) capacity
+    then stored capacity older ++ group else stored capacity older
 stored capacity (Take n ∷ older) = drop n (stored capacity older)
 
 -- the groups that were put, one after another
 abbrev pub put : ℕ → List Call → List Cell
 put capacity [] = []
-put capacity (Put group ∷ older) = if nat_le (length (stored capacity older) + length group) capacity then put capacity older ++ group else put capacity older
+put capacity (Put group ∷ older) =
+    if nat_le (length (stored capacity older) + length group) capacity
+    then put capacity older ++ group else put capacity older
 put capacity (Take n ∷ older) = put capacity older
 
 -- what was taken
@@ -27,4 +31,6 @@ taken capacity (Take n ∷ older) = taken capacity older ++ take n (stored capac
 
 -- what was taken, followed by what waits, is the groups that were put, in order
 abbrev pub NothingIsLost : Type 0
-NothingIsLost = (capacity : ℕ) (calls : List Call) → taken capacity calls ++ stored capacity calls ≡ put capacity calls
+NothingIsLost =
+    (capacity : ℕ) (calls : List Call) →
+    taken capacity calls ++ stored capacity calls ≡ put capacity calls

@@ -53,7 +53,8 @@ answers-here : (limits : Limits) (n : ℕ) (b : History) (e : Entry)
     → answers_from limits n b ((n, only e) ∷ []) ≡ answer_after limits b e ∷ []
 answers-here limits n b e = ap (λ t. answer_by limits b (n, only e) t ++ []) (eq-eqb n n refl)
 
-pub answers-same : (limits : Limits) (seat : PassSeat) (rest after : History) → NoneOf seat.number rest → after ≡ seat.seen ++ rest
+pub answers-same : (limits : Limits) (seat : PassSeat) (rest after : History) → NoneOf seat.number rest →
+    after ≡ seat.seen ++ rest
     → answers_to limits (having_seen seat after) ≡ answers_to limits seat
 answers-same limits seat rest after free is =
     ap (answers_from limits seat.number []) is ∙ answers-append limits seat.number [] seat.seen rest
@@ -62,7 +63,8 @@ answers-same limits seat rest after free is =
 
 answers-one : (limits : Limits) (seat : PassSeat) (rest after : History) (e : Entry) → NoneOf seat.number rest
     → after ≡ (seat.seen ++ rest) ++ (seat.number, only e) ∷ []
-    → answers_to limits (having_seen seat after) ≡ answers_to limits seat ++ answer_after limits (seat.seen ++ rest) e ∷ []
+    → answers_to limits (having_seen seat after)
+    ≡ answers_to limits seat ++ answer_after limits (seat.seen ++ rest) e ∷ []
 answers-one limits seat rest after e free is =
     ap (answers_from limits seat.number []) is
     ∙ answers-append limits seat.number [] (seat.seen ++ rest) ((seat.number, only e) ∷ [])
@@ -98,7 +100,8 @@ not-taken limits before after step why end is k w = record {
 }
 
 pub not-taken-full : (limits : Limits) (before after : PassSeat) (step : ShellStep) (kept : Kept)
-    → after ≡ having_seen before after.seen → LegalStep limits before after.seen (steps.Shell step) (Err (refusals.JournalFull kept))
+    → after ≡ having_seen before after.seen →
+    LegalStep limits before after.seen (steps.Shell step) (Err (refusals.JournalFull kept))
     → NotOrdered limits before after step (ends.JournalFull kept)
 not-taken-full limits before after step kept is k =
     not-taken limits before after step (refusals.JournalFull kept) (ends.JournalFull kept) is k

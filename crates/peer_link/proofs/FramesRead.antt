@@ -68,15 +68,18 @@ pub record Reading (q : ℕ) (pass : PeerPass) (read waiting : List ℕ) : Type 
 pub reading-begins : (q : ℕ) (pass : PeerPass) → entries_by pass.seat ≡ [] → Reading q pass [] []
 reading-begins q pass none = record { frames = []; each = tt; is = refl; made = none; waits = refl }
 
-pub reading-goes : (q : ℕ) (a b : PeerPass) (read waiting waiting' taken : List ℕ) (f : Frame) → a.peer ≡ q → Reading q a read waiting
-    → OneFrame taken f → entries_by b.seat ≡ entries_by a.seat ++ frame_steps a.peer waiting f → waiting' ≡ behind (waiting ++ f.bytes)
+pub reading-goes : (q : ℕ) (a b : PeerPass) (read waiting waiting' taken : List ℕ) (f : Frame) → a.peer ≡ q →
+    Reading q a read waiting
+    → OneFrame taken f → entries_by b.seat ≡ entries_by a.seat ++ frame_steps a.peer waiting f →
+    waiting' ≡ behind (waiting ++ f.bytes)
     → Reading q b (read ++ taken) waiting'
 reading-goes q a b read waiting waiting' taken f peer r o made is = record {
   frames = r.frames ++ f ∷ [];
   each = frames-more r.frames f r.each o.is;
   is = ap₂ (λ (x y : List ℕ). x ++ y) r.is o.spelled ∙ sym (spelled-more r.frames f);
   made = made ∙ ap (λ n. entries_by a.seat ++ frame_steps n waiting f) peer
-      ∙ ap₂ (λ (es : List Entry) (w : List ℕ). es ++ frame_steps q w f) r.made r.waits ∙ sym (steps-more q [] r.frames f);
+      ∙ ap₂ (λ (es : List Entry) (w : List ℕ). es ++ frame_steps q w f) r.made r.waits
+      ∙ sym (steps-more q [] r.frames f);
   waits = is ∙ ap (λ (w : List ℕ). behind (w ++ f.bytes)) r.waits ∙ sym (waiting-more [] r.frames f);
 }
 
@@ -86,17 +89,21 @@ held-more : (fs : List Frame) (f : Frame) (read taken : List ℕ) → AreFrames 
     → HoldFrames (read ++ taken) (fs ++ f ∷ []) []
 held-more fs f read taken each is o = record {
   each = frames-more fs f each o.is;
-  is = ap₂ (λ (x y : List ℕ). x ++ y) is o.spelled ∙ sym (spelled-more fs f) ∙ sym (append-nil (spelled (fs ++ f ∷ [])));
+  is = ap₂ (λ (x y : List ℕ). x ++ y) is o.spelled ∙ sym (spelled-more fs f)
+      ∙ sym (append-nil (spelled (fs ++ f ∷ [])));
 }
 
-stops-at : (limits : Limits) (q : ℕ) (a b : PeerPass) (read waiting : List ℕ) (f : Frame) (end : ReadEnd) (r : Reading q a read waiting)
-    → (m : MadeFirst limits a b (frame_steps q waiting f) end) → StopsAt q (r.frames ++ f ∷ []) [] (entries_by b.seat) m.e
+stops-at : (limits : Limits) (q : ℕ) (a b : PeerPass) (read waiting : List ℕ) (f : Frame) (end : ReadEnd)
+    (r : Reading q a read waiting)
+    → (m : MadeFirst limits a b (frame_steps q waiting f) end) →
+    StopsAt q (r.frames ++ f ∷ []) [] (entries_by b.seat) m.e
 stops-at limits q a b read waiting f end r m =
     let steps : link_steps q (r.frames ++ f ∷ []) ≡ link_steps q r.frames ++ (m.made ++ m.e ∷ m.more) =
     steps-more q [] r.frames f
     ∙ ap (λ (w : List ℕ). link_steps q r.frames ++ frame_steps q w f) (sym r.waits)
     ∙ ap (λ (es : List Entry). link_steps q r.frames ++ es) m.steps_are in
-    let made : entries_by b.seat ≡ link_steps q r.frames ++ m.made = m.entries ∙ ap (λ (es : List Entry). es ++ m.made) r.made in record {
+    let made : entries_by b.seat ≡ link_steps q r.frames ++ m.made =
+    m.entries ∙ ap (λ (es : List Entry). es ++ m.made) r.made in record {
       before = r.frames;
       last = f;
       frames_are = refl;
@@ -108,7 +115,8 @@ stops-at limits q a b read waiting f end r m =
       nothing_past = refl;
     }
 
-ends-first : (limits : Limits) (q : ℕ) (b : PeerPass) (frames : List Frame) (left : Option (List ℕ)) (e : Entry) (end : ReadEnd)
+ends-first : (limits : Limits) (q : ℕ) (b : PeerPass) (frames : List Frame) (left : Option (List ℕ)) (e : Entry)
+    (end : ReadEnd)
     → b.peer ≡ q → StopsAt q frames [] (entries_by b.seat) e → WhyNot limits b e end
     → EndsAs limits b frames [] left (entries_by b.seat) end
 ends-first limits q b frames left e (ends.Ended cause) same s why =
@@ -127,16 +135,20 @@ ends-first limits q b frames left e ends.ReadFault same s why = absurd why
 
 -- no frame came
 
-ends-none : (limits : Limits) (q : ℕ) (b : PeerPass) (frames : List Frame) (rest : List ℕ) (left : Option (List ℕ)) (end : ReadEnd) (why : Got)
+ends-none : (limits : Limits) (q : ℕ) (b : PeerPass) (frames : List Frame) (rest : List ℕ) (left : Option (List ℕ))
+    (end : ReadEnd) (why : Got)
     → b.peer ≡ q → entries_by b.seat ≡ link_steps q frames → got_of end ≡ Some why → Stops why rest left
     → EndsAs limits b frames rest left (entries_by b.seat) end
 ends-none limits q b frames rest left end why same made is stops =
     by end is (subst (λ q. entries_by b.seat ≡ link_steps q frames) (sym same) made)
   where
-    stopped : (g : Got) → Some g ≡ Some why → entries_by b.seat ≡ link_steps b.peer frames → StopsBy b.peer frames rest left (entries_by b.seat) g
-    stopped g e made = record { all = made; stops = subst (λ w. Stops w rest left) (let same : g ≡ why = cc in sym same) stops }
+    stopped : (g : Got) → Some g ≡ Some why → entries_by b.seat ≡ link_steps b.peer frames →
+        StopsBy b.peer frames rest left (entries_by b.seat) g
+    stopped g e made =
+        record { all = made; stops = subst (λ w. Stops w rest left) (let same : g ≡ why = cc in sym same) stops }
 
-    by : (end : ReadEnd) → got_of end ≡ Some why → entries_by b.seat ≡ link_steps b.peer frames → EndsAs limits b frames rest left (entries_by b.seat) end
+    by : (end : ReadEnd) → got_of end ≡ Some why → entries_by b.seat ≡ link_steps b.peer frames →
+        EndsAs limits b frames rest left (entries_by b.seat) end
     by ends.Closed e made = stopped got.End e made
     by (ends.Torn n) e made = stopped (got.Torn n) e made
     by (ends.BadFrame n t) e made = stopped (got.BadFrame n t) e made
@@ -146,23 +158,28 @@ ends-none limits q b frames rest left end why same made is stops =
     by ends.NoMemory e made = absurd (cc)
 
 -- the link's reading ends with a frame, or with none
-pub reading-ends : (limits : Limits) (q : ℕ) (a b : PeerPass) (read waiting waiting' taken : List ℕ) (left : Option (List ℕ)) (end : ReadEnd)
+pub reading-ends : (limits : Limits) (q : ℕ) (a b : PeerPass) (read waiting waiting' taken : List ℕ)
+    (left : Option (List ℕ)) (end : ReadEnd)
     → a.peer ≡ q → b ≡ pass_having_seen a b.seat.seen → Reading q a read waiting
     → ReadsFrame limits a b waiting waiting' taken left (Err end) → ReadsLink limits b (read ++ taken) left end
 reading-ends limits q a b read waiting waiting' taken left end mine is r k =
-    by (subst (λ p. (NoFrame a b taken left end ⊎ (f : Frame) × OneFrame taken f × (MadeFirst limits a b (frame_steps p waiting f) end
+    by (subst (λ p.
+    (NoFrame a b taken left end ⊎ (f : Frame) × OneFrame taken f
+    × (MadeFirst limits a b (frame_steps p waiting f) end
     ⊎ EndedAfter limits a b (frame_steps p waiting f) end))) mine k)
   where
     peer : b.peer ≡ q
     peer = same-peer a b is ∙ mine
 
-    in-frame : (f : Frame) → OneFrame taken f → MadeFirst limits a b (frame_steps q waiting f) end ⊎ EndedAfter limits a b (frame_steps q waiting f) end
+    in-frame : (f : Frame) → OneFrame taken f →
+        MadeFirst limits a b (frame_steps q waiting f) end ⊎ EndedAfter limits a b (frame_steps q waiting f) end
         → ReadsLink limits b (read ++ taken) left end
     in-frame f o (inl m) = record {
       frames = r.frames ++ f ∷ [];
       rest = [];
       holds = held-more r.frames f read taken r.each r.is o;
-      ends = ends-first limits q b (r.frames ++ f ∷ []) left m.e end peer (stops-at limits q a b read waiting f end r m) m.why;
+      ends = ends-first limits q b (r.frames ++ f ∷ []) left m.e end peer
+          (stops-at limits q a b read waiting f end r m) m.why;
     }
     in-frame f o (inr m) = record {
       frames = r.frames ++ f ∷ [];
@@ -172,12 +189,14 @@ reading-ends limits q a b read waiting waiting' taken left end mine is r k =
         m.ended,
         inl (
             subst (λ q. entries_by b.seat ≡ link_steps q (r.frames ++ f ∷ [])) (sym peer)
-            (m.entries ∙ ap₂ (λ (es : List Entry) (w : List ℕ). es ++ frame_steps q w f) r.made r.waits ∙ sym (steps-more q [] r.frames f))
+            (m.entries ∙ ap₂ (λ (es : List Entry) (w : List ℕ). es ++ frame_steps q w f) r.made r.waits
+            ∙ sym (steps-more q [] r.frames f))
             ),
       );
     }
 
-    by : (NoFrame a b taken left end ⊎ (f : Frame) × OneFrame taken f × (MadeFirst limits a b (frame_steps q waiting f) end
+    by : (NoFrame a b taken left end ⊎ (f : Frame) × OneFrame taken f
+        × (MadeFirst limits a b (frame_steps q waiting f) end
         ⊎ EndedAfter limits a b (frame_steps q waiting f) end)) → ReadsLink limits b (read ++ taken) left end
     by (inl n) = record {
       frames = r.frames;
@@ -199,7 +218,8 @@ nothing-read limits pass left none = record {
 
 -- and then the link's end is said
 
-full-later : (limits : Limits) (a b : History) (e : Entry) (kept : Kept) → SawMore limits a b → HasSeenFull limits a e kept → HasSeenFull limits b e kept
+full-later : (limits : Limits) (a b : History) (e : Entry) (kept : Kept) → SawMore limits a b →
+    HasSeenFull limits a e kept → HasSeenFull limits b e kept
 full-later limits a b e kept s f = record {
   earlier = f.earlier;
   later = f.later ++ s.more;
@@ -208,14 +228,18 @@ full-later limits a b e kept s f = record {
 }
 
 -- the end says the same of a pass of the same peer that has seen more, if it isn't that the peer had ended
-ends-later : (limits : Limits) (a b : PeerPass) (frames : List Frame) (rest : List ℕ) (left : Option (List ℕ)) (made : List Entry) (end : ReadEnd)
+ends-later : (limits : Limits) (a b : PeerPass) (frames : List Frame) (rest : List ℕ) (left : Option (List ℕ))
+    (made : List Entry) (end : ReadEnd)
     → b.peer ≡ a.peer → SawMore limits a.seat.seen b.seat.seen → ((cause : EndCause) → end ≢ ends.Ended cause)
     → EndsAs limits a frames rest left made end → EndsAs limits b frames rest left made end
-ends-later limits a b frames rest left made ends.Closed peer s other k = subst (λ q. StopsBy q frames rest left made got.End) (sym peer) k
-ends-later limits a b frames rest left made (ends.Torn n) peer s other k = subst (λ q. StopsBy q frames rest left made (got.Torn n)) (sym peer) k
+ends-later limits a b frames rest left made ends.Closed peer s other k =
+    subst (λ q. StopsBy q frames rest left made got.End) (sym peer) k
+ends-later limits a b frames rest left made (ends.Torn n) peer s other k =
+    subst (λ q. StopsBy q frames rest left made (got.Torn n)) (sym peer) k
 ends-later limits a b frames rest left made (ends.BadFrame n t) peer s other k =
     subst (λ q. StopsBy q frames rest left made (got.BadFrame n t)) (sym peer) k
-ends-later limits a b frames rest left made ends.ReadFault peer s other k = subst (λ q. StopsBy q frames rest left made got.ReadFault) (sym peer) k
+ends-later limits a b frames rest left made ends.ReadFault peer s other k =
+    subst (λ q. StopsBy q frames rest left made got.ReadFault) (sym peer) k
 ends-later limits a b frames rest left made (ends.Ended cause) peer s other k = absurd (other cause refl)
 ends-later limits a b frames rest left made (ends.JournalFull kept) peer s other k = (
   k.0,
@@ -226,18 +250,22 @@ ends-later limits a b frames rest left made ends.NoMemory peer s other k =
     subst (λ q. (BeganNothing frames rest made ⊎ (e : Entry) × StopsAt q frames rest made e)) (sym peer) k
 
 -- what any end says of the steps that were made
-made-so : (limits : Limits) (a : PeerPass) (frames : List Frame) (rest : List ℕ) (left : Option (List ℕ)) (made : List Entry) (end : ReadEnd)
-    → EndsAs limits a frames rest left made end → (made ≡ link_steps a.peer frames) ⊎ (e : Entry) × StopsAt a.peer frames rest made e
+made-so : (limits : Limits) (a : PeerPass) (frames : List Frame) (rest : List ℕ) (left : Option (List ℕ))
+    (made : List Entry) (end : ReadEnd)
+    → EndsAs limits a frames rest left made end →
+    (made ≡ link_steps a.peer frames) ⊎ (e : Entry) × StopsAt a.peer frames rest made e
 made-so limits a frames rest left made ends.Closed k = inl k.all
 made-so limits a frames rest left made (ends.Torn n) k = inl k.all
 made-so limits a frames rest left made (ends.BadFrame n t) k = inl k.all
 made-so limits a frames rest left made ends.ReadFault k = inl k.all
 made-so limits a frames rest left made (ends.Ended cause) k = k.1
 made-so limits a frames rest left made (ends.JournalFull kept) k = inr (k.0, k.1)
-made-so limits a frames rest left made ends.NoMemory (inl n) = inl (n.made_none ∙ ap (link_steps a.peer) (sym n.frames_none))
+made-so limits a frames rest left made ends.NoMemory (inl n) =
+    inl (n.made_none ∙ ap (link_steps a.peer) (sym n.frames_none))
 made-so limits a frames rest left made ends.NoMemory (inr k) = inr k
 
-gone-else : (q : ℕ) (end : ReadEnd) → ((cause : EndCause) → end ≢ ends.Ended cause) → gone_after q end ≡ entries.End q Gone ∷ []
+gone-else : (q : ℕ) (end : ReadEnd) → ((cause : EndCause) → end ≢ ends.Ended cause) →
+    gone_after q end ≡ entries.End q Gone ∷ []
 gone-else q ends.Closed other = refl
 gone-else q (ends.Torn n) other = refl
 gone-else q (ends.BadFrame n t) other = refl
@@ -259,7 +287,8 @@ ended-reads limits pass read left cause r = record {
 }
 
 pub gone-said : (limits : Limits) (a b : PeerPass) (read : List ℕ) (left : Option (List ℕ)) (end : ReadEnd)
-    → b ≡ pass_having_seen a b.seat.seen → SawMore limits a.seat.seen b.seat.seen → ((cause : EndCause) → end ≢ ends.Ended cause)
+    → b ≡ pass_having_seen a b.seat.seen → SawMore limits a.seat.seen b.seat.seen →
+    ((cause : EndCause) → end ≢ ends.Ended cause)
     → entries_by b.seat ≡ entries_by a.seat ++ entries.End a.peer Gone ∷ []
     → ReadsLink limits a read left end → ReadsPeer limits b read left end
 gone-said limits a b read left end is s other made r =
@@ -274,8 +303,10 @@ gone-said limits a b read left end is s other made r =
     }
 
 -- the peer had ended before its link's end was said
-pub gone-late : (limits : Limits) (a b : PeerPass) (read : List ℕ) (left : Option (List ℕ)) (end : ReadEnd) (cause : EndCause)
-    → b ≡ pass_having_seen a b.seat.seen → entries_by b.seat ≡ entries_by a.seat → end_of (journal_of limits b.seat.seen) b.peer ≡ Some cause
+pub gone-late : (limits : Limits) (a b : PeerPass) (read : List ℕ) (left : Option (List ℕ)) (end : ReadEnd)
+    (cause : EndCause)
+    → b ≡ pass_having_seen a b.seat.seen → entries_by b.seat ≡ entries_by a.seat →
+    end_of (journal_of limits b.seat.seen) b.peer ≡ Some cause
     → ReadsLink limits a read left end → ReadsPeer limits b read left (ends.Ended cause)
 gone-late limits a b read left end cause is same ended r =
     let peer = same-peer a b is in record {
@@ -286,7 +317,8 @@ gone-late limits a b read left end cause is same ended r =
       entries = same ∙ sym (append-nil (entries_by a.seat));
       ends = (
         ended,
-        subst (λ q. ((entries_by a.seat ≡ link_steps q r.frames) ⊎ (e : Entry) × StopsAt q r.frames r.rest (entries_by a.seat) e)) (sym peer)
+        subst (λ q. ((entries_by a.seat ≡ link_steps q r.frames) ⊎ (e : Entry)
+            × StopsAt q r.frames r.rest (entries_by a.seat) e)) (sym peer)
             (made-so limits a r.frames r.rest left (entries_by a.seat) end r.ends),
       );
     }
@@ -297,12 +329,14 @@ single x e (m ∷ []) more is = absurd (cc)
 single x e (m ∷ n ∷ made) more is = absurd (cc)
 
 -- the link's end was refused
-pub gone-refused : (limits : Limits) (a b : PeerPass) (read : List ℕ) (left : Option (List ℕ)) (end other : ReadEnd) (e : Entry)
+pub gone-refused : (limits : Limits) (a b : PeerPass) (read : List ℕ) (left : Option (List ℕ)) (end other : ReadEnd)
+    (e : Entry)
     → b ≡ pass_having_seen a b.seat.seen → MadeFirst limits a b (e ∷ []) other → IsGoneRefusal other
     → ReadsLink limits a read left end → ReadsPeer limits b read left other
 gone-refused limits a b read left end (ends.Ended cause) e is m k r =
     gone-late limits a b read left end cause is
-    (m.entries ∙ ap (λ (es : List Entry). entries_by a.seat ++ es) (single e m.e m.made m.more m.steps_are) ∙ append-nil (entries_by a.seat))
+    (m.entries ∙ ap (λ (es : List Entry). entries_by a.seat ++ es) (single e m.e m.made m.more m.steps_are)
+    ∙ append-nil (entries_by a.seat))
     m.why r
 gone-refused limits a b read left end ends.Closed e is m k r = absurd k
 gone-refused limits a b read left end (ends.Torn n) e is m k r = absurd k
@@ -313,22 +347,27 @@ gone-refused limits a b read left end ends.NoMemory e is m k r = absurd k
 
 -- the frame that was read
 
-pub frame-of : (n t : ℕ) (bytes tokens taken bs ts : List ℕ) → IsFrameOf n t bytes tokens taken → bs ≡ take n bytes → ts ≡ take t tokens
+pub frame-of : (n t : ℕ) (bytes tokens taken bs ts : List ℕ) → IsFrameOf n t bytes tokens taken → bs ≡ take n bytes →
+    ts ≡ take t tokens
     → OneFrame taken (frame bs ts)
 frame-of n t bytes tokens taken bs ts k b e =
     let same : frame bs ts ≡ frame (take n bytes) (take t tokens) = ap₂ (λ (x y : List ℕ). frame x y) b e in
     record { is = subst IsFrame (sym same) k.is; spelled = k.spelled ∙ ap spelling (sym same) }
 
-pub no-frame : (limits : Limits) (a : PeerPass) (waiting waiting' taken : List ℕ) (left : Option (List ℕ)) (end : ReadEnd) (why : Got)
+pub no-frame : (limits : Limits) (a : PeerPass) (waiting waiting' taken : List ℕ) (left : Option (List ℕ))
+    (end : ReadEnd) (why : Got)
     → got_of end ≡ Some why → Stops why taken left → ReadsFrame limits a a waiting waiting' taken left (Err end)
-no-frame limits a waiting waiting' taken left end why is stops = inl (record { why = why; is = is; stops = stops; same = refl })
+no-frame limits a waiting waiting' taken left end why is stops =
+    inl (record { why = why; is = is; stops = stops; same = refl })
 
-pub frame-comes : (limits : Limits) (a b : PeerPass) (waiting waiting' taken : List ℕ) (left : Option (List ℕ)) (f : Frame)
+pub frame-comes : (limits : Limits) (a b : PeerPass) (waiting waiting' taken : List ℕ) (left : Option (List ℕ))
+    (f : Frame)
     (r : Result (Unit {0}) ReadEnd) → OneFrame taken f → MakesFrame limits a b waiting waiting' f r
     → ReadsFrame limits a b waiting waiting' taken left r
 frame-comes limits a b waiting waiting' taken left f (Ok done) o m = (f, o, m.0, m.1, m.2)
 frame-comes limits a b waiting waiting' taken left f (Err end) o m = inr (f, o, m)
 
 -- no step is refused for a failed read
-pub made-not-fault : (limits : Limits) (a b : PeerPass) (steps : List Entry) (end : ReadEnd) → MadeFirst limits a b steps end → end ≢ ends.ReadFault
+pub made-not-fault : (limits : Limits) (a b : PeerPass) (steps : List Entry) (end : ReadEnd) →
+    MadeFirst limits a b steps end → end ≢ ends.ReadFault
 made-not-fault limits a b steps end m is = subst (λ (x : ReadEnd). WhyNot limits b m.e x) is m.why

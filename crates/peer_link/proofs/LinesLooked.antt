@@ -15,7 +15,8 @@ use Rattle.peer_link.specs.declared.ends.ShellEnd.TheVariants as ends
 use Rattle.peer_link.specs.ShellLines.{IsOrder}
 use Rattle.peer_link.specs.Ordering.{CanGoOn, NoOrder, GiveLine, LooksAt, StopsReading, ReadsOrder}
 
-no-room : (before after : Option ℕ) (n k : ℕ) → before ≡ None → after ≡ option_map (λ m. m - k) before → after ≡ Some n → ⊥
+no-room : (before after : Option ℕ) (n k : ℕ) → before ≡ None → after ≡ option_map (λ m. m - k) before →
+    after ≡ Some n → ⊥
 no-room None after n k e f g = absurd (cc)
 no-room (Some m) after n k e f g = absurd (cc)
 
@@ -45,10 +46,12 @@ module _ (g0 g1 l0 l1 : Option (List ℕ)) (before after : LinesAhead) (result :
 
   -- a line came
 
-  line-reads : (line : List ℕ) (r : Result ShellStep ShellEnd) → before.settled ≡ None → (k : Looked) → GiveLine (before.held ++ k.0) line after l1
+  line-reads : (line : List ℕ) (r : Result ShellStep ShellEnd) → before.settled ≡ None → (k : Looked) →
+      GiveLine (before.held ++ k.0) line after l1
       → IfOk r (IsOrder line) → IfErr r (NoOrder line number) → Reads r
   line-reads line (Ok step) e k gives order none = (k.0, k.1.took, (looks-at e k, line, gives, order))
-  line-reads line (Err (ends.BadLine n)) e k gives order none = (k.0, k.1.took, (looks-at e k, none.0, inr (line, gives, none.1)))
+  line-reads line (Err (ends.BadLine n)) e k gives order none =
+      (k.0, k.1.took, (looks-at e k, none.0, inr (line, gives, none.1)))
   line-reads line (Err ends.NoMemory) e k gives order none = (k.0, k.1.took, looks-at e k)
   line-reads line (Err ends.Closed) e k gives order none = absurd none
   line-reads line (Err ends.ReadFault) e k gives order none = absurd none
@@ -66,11 +69,13 @@ module _ (g0 g1 l0 l1 : Option (List ℕ)) (before after : LinesAhead) (result :
 
   -- it may be asked again
 
-  on-by : (bytes line : List ℕ) → GiveLine bytes line after l1 → (after.settled ≡ None) ⊎ (after.settled ≡ Some stop.End)
+  on-by : (bytes line : List ℕ) → GiveLine bytes line after l1 →
+      (after.settled ≡ None) ⊎ (after.settled ≡ Some stop.End)
   on-by bytes line (inl w) = inl w.goes_on
   on-by bytes line (inr l) = inr l.settled
 
-  pub line-goes-on : (line : List ℕ) → CanGoOn before → (stop_of result ≡ None) → ((k : Looked) → GiveLine (before.held ++ k.0) line after l1)
+  pub line-goes-on : (line : List ℕ) → CanGoOn before → (stop_of result ≡ None) →
+      ((k : Looked) → GiveLine (before.held ++ k.0) line after l1)
       → Answers before after g0 g1 l0 l1 result → CanGoOn after
   line-goes-on line goes none gives a = by goes.1
     where
@@ -87,9 +92,11 @@ module _ (g0 g1 l0 l1 : Option (List ℕ)) (before after : LinesAhead) (result :
 
 module _ (g0 g1 l0 l1 : Option (List ℕ)) (before after : LinesAhead) (number : ℕ) (goes : CanGoOn before) where
   abbrev Stops : ShellEnd → Type 0
-  Stops end = (more : List ℕ) × TookFrom g0 g1 l0 l1 more × StopsReading before (before.held ++ more) after l1 number end
+  Stops end = (more : List ℕ) × TookFrom g0 g1 l0 l1 more
+      × StopsReading before (before.held ++ more) after l1 number end
 
-  pub end-came : ((why : LineStop) → before.settled ≡ Some why → (g1 ≡ g0) × (l1 ≡ l0)) → Answers before after g0 g1 l0 l1 came.End
+  pub end-came : ((why : LineStop) → before.settled ≡ Some why → (g1 ≡ g0) × (l1 ≡ l0)) →
+      Answers before after g0 g1 l0 l1 came.End
       → Stops ends.Closed
   end-came same a = by goes.1
     where

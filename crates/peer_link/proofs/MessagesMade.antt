@@ -66,7 +66,8 @@ pub record OnWay (q : ℕ) (first now : List ℕ) (a b : PeerPass) : Type 0 wher
   pub behind_same : behind first ≡ behind now
 
 pub way-begins : (q : ℕ) (bytes : List ℕ) (a : PeerPass) → OnWay q bytes bytes a a
-way-begins q bytes a = record { made = []; entries = sym (append-nil (entries_by a.seat)); steps = refl; behind_same = refl }
+way-begins q bytes a =
+    record { made = []; entries = sym (append-nil (entries_by a.seat)); steps = refl; behind_same = refl }
 
 pub way-goes : (q : ℕ) (first : List ℕ) (a b c : PeerPass) (waiting left piece more body : List ℕ) (id opcode used : ℕ)
     → b.peer ≡ q → OnWay q first (waiting ++ piece) a b → IsFirst id opcode body (waiting ++ piece) piece used left
@@ -87,9 +88,11 @@ way-goes q first a b c waiting left piece more body id opcode used peer w i is m
 pub way-stops : (limits : Limits) (q : ℕ) (first : List ℕ) (a b c : PeerPass) (waiting left piece body : List ℕ)
     (id opcode used : ℕ) (end : ReadEnd) → b.peer ≡ q → OnWay q first (waiting ++ piece) a b
     → IsFirst id opcode body (waiting ++ piece) piece used left
-    → MadeFirst limits b c (entries.Message b.peer id opcode body ∷ []) end → MadeFirst limits a c (steps_in q first) end
+    → MadeFirst limits b c (entries.Message b.peer id opcode body ∷ []) end →
+    MadeFirst limits a c (steps_in q first) end
 way-stops limits q first a b c waiting left piece body id opcode used end peer w i m =
-    first-of limits a b c w.made (entries.Message q id opcode body ∷ []) (steps_in q (drop used piece)) (steps_in q first) end
+    first-of limits a b c w.made (entries.Message q id opcode body ∷ []) (steps_in q (drop used piece))
+    (steps_in q first) end
     w.entries (w.steps ∙ ap (λ (es : List Entry). w.made ++ es) (i.steps q))
     (subst (λ n. MadeFirst limits b c (entries.Message n id opcode body ∷ []) end) peer m)
 
@@ -113,7 +116,8 @@ pub way-bad : (q : ℕ) (first : List ℕ) (a b c : PeerPass) (bytes head : List
     → entries_by c.seat ≡ entries_by a.seat ++ steps_in q first
 way-bad q first a b c bytes head peer w l made =
     let e : Entry = entries.BadSize q head in
-    made ∙ ap (λ n. entries_by b.seat ++ entries.BadSize n head ∷ []) peer ∙ ap (λ (es : List Entry). es ++ e ∷ []) w.entries
+    made ∙ ap (λ n. entries_by b.seat ++ entries.BadSize n head ∷ []) peer
+    ∙ ap (λ (es : List Entry). es ++ e ∷ []) w.entries
     ∙ append_assoc (entries_by a.seat) w.made (e ∷ [])
     ∙ ap (λ (es : List Entry). entries_by a.seat ++ es)
     (sym (w.steps ∙ ap (λ (es : List Entry). w.made ++ es) (l.steps q)))
@@ -139,7 +143,8 @@ pub tokens-none : (q : ℕ) (tokens : List ℕ) → (length tokens == 0) ≡ tru
 tokens-none q [] e = refl
 tokens-none q (x ∷ tokens) e = let none = eqb-true (length (x ∷ tokens)) 0 e in absurd (omega arith)
 
-pub tokens-some : (q : ℕ) (tokens : List ℕ) → (length tokens == 0) ≡ false → token_steps q tokens ≡ entries.Tokens q tokens ∷ []
+pub tokens-some : (q : ℕ) (tokens : List ℕ) → (length tokens == 0) ≡ false →
+    token_steps q tokens ≡ entries.Tokens q tokens ∷ []
 tokens-some q [] e = absurd (cc)
 tokens-some q (x ∷ tokens) e = refl
 
@@ -148,16 +153,20 @@ pub frame-is : (q : ℕ) (waiting bytes tokens : List ℕ) → bad_size_at waiti
     → frame_steps q waiting (frame bytes tokens) ≡ token_steps q tokens ++ steps_in q (waiting ++ bytes)
 frame-is q waiting bytes tokens good = ap (λ o. token_steps q tokens ++ steps_unless_bad q o (waiting ++ bytes)) good
 
-pub frame-stops : (limits : Limits) (a b : PeerPass) (waiting bytes tokens : List ℕ) (end : ReadEnd) → bad_size_at waiting ≡ None
-    → MadeFirst limits a b (token_steps a.peer tokens) end → MadeFirst limits a b (frame_steps a.peer waiting (frame bytes tokens)) end
+pub frame-stops : (limits : Limits) (a b : PeerPass) (waiting bytes tokens : List ℕ) (end : ReadEnd) →
+    bad_size_at waiting ≡ None
+    → MadeFirst limits a b (token_steps a.peer tokens) end →
+    MadeFirst limits a b (frame_steps a.peer waiting (frame bytes tokens)) end
 frame-stops limits a b waiting bytes tokens end good m =
     first-of limits a a b [] (token_steps a.peer tokens) (steps_in a.peer (waiting ++ bytes))
     (frame_steps a.peer waiting (frame bytes tokens)) end (sym (append-nil (entries_by a.seat)))
     (frame-is a.peer waiting bytes tokens good) m
 
-pub frame-made : {T : Type 0} (limits : Limits) (a b c : PeerPass) (waiting bytes tokens : List ℕ) (r : Result T ReadEnd)
+pub frame-made : {T : Type 0} (limits : Limits) (a b c : PeerPass) (waiting bytes tokens : List ℕ)
+    (r : Result T ReadEnd)
     → bad_size_at waiting ≡ None → b ≡ pass_having_seen a b.seat.seen
-    → entries_by b.seat ≡ entries_by a.seat ++ token_steps a.peer tokens → Submits limits b c (steps_in b.peer (waiting ++ bytes)) r
+    → entries_by b.seat ≡ entries_by a.seat ++ token_steps a.peer tokens →
+    Submits limits b c (steps_in b.peer (waiting ++ bytes)) r
     → Submits limits a c (frame_steps a.peer waiting (frame bytes tokens)) r
 frame-made limits a b c waiting bytes tokens r good is made next =
     subst (λ (es : List Entry). Submits limits a c es r) (sym (frame-is a.peer waiting bytes tokens good))

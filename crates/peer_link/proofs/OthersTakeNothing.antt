@@ -27,7 +27,8 @@ pub made-back : (h a b : History) → AreMadeBy h (a ++ b) → AreMadeBy h b
 made-back h [] b m = m
 made-back h (x ∷ a) b m = made-back h a b m.1
 
-made_else : (h : History) (q n m : ℕ) (e : Entry) → IsMadeBy h m e → writer_of h q ≡ Some n → (m == n) ≡ false → took_of q e ≡ 0
+made_else : (h : History) (q n m : ℕ) (e : Entry) → IsMadeBy h m e → writer_of h q ≡ Some n → (m == n) ≡ false →
+    took_of q e ≡ 0
 made_else h q n m (entries.Took k c) made w other = by (k == q) refl
   where
     by : (b : Bool) → (k == q) ≡ b → (if b then c else 0) ≡ 0
@@ -43,7 +44,8 @@ made_else h q n m (entries.BadSize k head) made w other = refl
 made_else h q n m (entries.End k cause) made w other = refl
 made_else h q n m (entries.Shell step) made w other = refl
 
-pub took-none : (h rest : History) (q n : ℕ) → AreMadeBy h rest → writer_of h q ≡ Some n → NoneOf n rest → sum_by (took_of q) (entries_of rest) ≡ 0
+pub took-none : (h rest : History) (q n : ℕ) → AreMadeBy h rest → writer_of h q ≡ Some n → NoneOf n rest →
+    sum_by (took_of q) (entries_of rest) ≡ 0
 took-none h [] q n made w free = refl
 took-none h (x ∷ rest) q n made w free =
     let parts = ap (sum_by (took_of q)) (entries-cons x rest) in
@@ -54,6 +56,7 @@ took-none h (x ∷ rest) q n made w free =
     let later = took-none h rest q n made.1 w here.1 in
     let none = here.0 in omega (arith, parts, both, one, zero_is, later, none)
   where
-    by : (b : Bool) → (x.0 == n) ≡ b → (if b then x.1 ∷ own n rest else own n rest) ≡ [] → (took_of q x.1.entry ≡ 0) × NoneOf n rest
+    by : (b : Bool) → (x.0 == n) ≡ b → (if b then x.1 ∷ own n rest else own n rest) ≡ [] →
+        (took_of q x.1.entry ≡ 0) × NoneOf n rest
     by true e f = absurd (cc)
     by false e f = (made_else h q n x.0 x.1.entry made.0 w e, f)

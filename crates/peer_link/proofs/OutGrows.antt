@@ -12,8 +12,8 @@ use Rattle.broker_model.specs.Ids.{Joined, Past, peer_in, peer_at}
 use Rattle.broker_model.specs.Resolve.{past_of}
 use Rattle.broker_model.specs.Out.{Outgoing, fits, with_group, is_label, took_at, before_group, group_at, out_for}
 use Rattle.broker_model.specs.Settle.{due, cause_of, with_end, settled, settle, number_alive, history}
-use Rattle.broker_model.proofs.Peers.{joined_stays}
-use Rattle.broker_model.proofs.Numbers.{one_number}
+use Rattle.broker_model.proofs.LivePeersJoined.{joined_stays}
+use Rattle.broker_model.proofs.LabelsRiseByNumber.{one_number}
 use Rattle.desc_frame.specs.Frames.{Frame, frame}
 use Rattle.peer_link.specs.WritesPeer.{tokens_within, frame_at, frames_from}
 
@@ -59,7 +59,8 @@ begins-both a b c first next =
     let sum = length-append a.bytes first.bytes in record {
       bytes = first.bytes ++ next.bytes;
       tokens = first.tokens ++ next.tokens;
-      bytes_are = next.bytes_are ∙ ap (λ l. l ++ next.bytes) first.bytes_are ∙ append_assoc a.bytes first.bytes next.bytes;
+      bytes_are = next.bytes_are ∙ ap (λ l. l ++ next.bytes) first.bytes_are
+          ∙ append_assoc a.bytes first.bytes next.bytes;
       tokens_are = next.tokens_are ∙ ap (λ (l : List Token). l ++ next.tokens) first.tokens_are
           ∙ append_assoc a.tokens first.tokens next.tokens;
       behind = behind-both (length a.bytes) first.tokens next.tokens first.behind
@@ -92,7 +93,8 @@ goes-both m n a b c first next =
 goes-as : (m n : ℕ) (a b : Outgoing) → m ≡ n → GoesOn m a b → GoesOn n a b
 goes-as m n a b e = subst (λ k. GoesOn k a b) e
 
-with-group-goes : (capacity : ℕ) (g : Piece) (o : Outgoing) (b : Bool) → fits capacity g o ≡ b → GoesOn 0 o (with_group capacity g o)
+with-group-goes : (capacity : ℕ) (g : Piece) (o : Outgoing) (b : Bool) → fits capacity g o ≡ b →
+    GoesOn 0 o (with_group capacity g o)
 with-group-goes capacity g o true e =
     subst (λ t. GoesOn 0 o (if t then record o { put = followed_by o.put g } else record o { choked = true })) (sym e)
     (record { put = begins-followed o.put g; taken = omega arith })
@@ -118,7 +120,8 @@ settled-goes_by : (capacity fuel : ℕ) (journal : List Entry) (p : ℕ) (o : Op
 settled-goes_by capacity fuel journal p None k = k journal
 settled-goes_by capacity fuel journal p (Some q) k =
     let e : Entry = entries.End q (cause_of journal q) in
-    goes-both 0 0 (out_for capacity journal p) (out_for capacity (e ∷ journal) p) (out_for capacity (settled capacity fuel (e ∷ journal)) p)
+    goes-both 0 0 (out_for capacity journal p) (out_for capacity (e ∷ journal) p)
+    (out_for capacity (settled capacity fuel (e ∷ journal)) p)
     (entry-goes capacity e journal p 0 refl) (k (e ∷ journal))
 
 settled-goes : (capacity fuel : ℕ) (journal : List Entry) (p : ℕ)
@@ -141,20 +144,23 @@ settled-joined_by : (capacity fuel : ℕ) (journal : List Entry) (o : Option ℕ
 settled-joined_by capacity fuel journal None k = k journal
 settled-joined_by capacity fuel journal (Some q) k = k (entries.End q (cause_of journal q) ∷ journal)
 
-settled-joined : (capacity fuel : ℕ) (journal : List Entry) → (past_of (settled capacity fuel journal)).joined ≡ (past_of journal).joined
+settled-joined : (capacity fuel : ℕ) (journal : List Entry) →
+    (past_of (settled capacity fuel journal)).joined ≡ (past_of journal).joined
 settled-joined capacity zero journal = refl
 settled-joined capacity (suc fuel) journal =
     settled-joined_by capacity fuel journal (due capacity journal) (settled-joined capacity fuel)
 
 -- who joined keeps the number
-pub settle-keeps : (capacity : ℕ) (e : Entry) (older : List Entry) (q : ℕ) (peer : Joined) → peer_at (past_of older) q ≡ Some peer
+pub settle-keeps : (capacity : ℕ) (e : Entry) (older : List Entry) (q : ℕ) (peer : Joined) →
+    peer_at (past_of older) q ≡ Some peer
     → peer_at (past_of (settle capacity (e ∷ older))) q ≡ Some peer
 settle-keeps capacity e older q peer is =
     let J : List Entry = e ∷ older in
     ap (λ joined. peer_in joined q) (settled-joined capacity (number_alive J) J)
     ∙ joined_stays e (length older + 1) (past_of older).joined q peer is
 
-pub history-keeps : (capacity : ℕ) (es base : List Entry) (q : ℕ) (peer : Joined) → peer_at (past_of (history capacity base)) q ≡ Some peer
+pub history-keeps : (capacity : ℕ) (es base : List Entry) (q : ℕ) (peer : Joined) →
+    peer_at (past_of (history capacity base)) q ≡ Some peer
     → peer_at (past_of (history capacity (es ++ base))) q ≡ Some peer
 history-keeps capacity [] base q peer is = is
 history-keeps capacity (e ∷ es) base q peer is =
@@ -170,7 +176,8 @@ took_of q _ = 0
 abbrev pub IsOnly : List Entry → ℕ → ℕ → Type 0
 IsOnly journal q p = (k : ℕ) (peer : Joined) → peer_at (past_of journal) k ≡ Some peer → peer.label ≡ p → k ≡ q
 
-pub only-one : (journal : List Entry) (q : ℕ) (peer : Joined) → peer_at (past_of journal) q ≡ Some peer → IsOnly journal q peer.label
+pub only-one : (journal : List Entry) (q : ℕ) (peer : Joined) → peer_at (past_of journal) q ≡ Some peer →
+    IsOnly journal q peer.label
 only-one journal q peer is = λ k other e l. one_number journal k q other peer e is l
 
 took_zero : (q k n : ℕ) (past : Past) (p : ℕ) (o : Option Joined) (b : Bool) → peer_at past k ≡ o
@@ -188,7 +195,8 @@ took_zero q k n past p (Some peer) false e only is none = by (peer.label == p) r
     by true same = let at : k ≡ q = only peer e (eqb-true peer.label p same) in let yes = eq-eqb k q at in cc
     by false same = refl
 
-nothing_took : (q : ℕ) (e : Entry) (older : List Entry) (p : ℕ) → IsOnly older q p → took_of q e ≡ 0 → took_at e (past_of older) p ≡ 0
+nothing_took : (q : ℕ) (e : Entry) (older : List Entry) (p : ℕ) → IsOnly older q p → took_of q e ≡ 0 →
+    took_at e (past_of older) p ≡ 0
 nothing_took q (entries.Took k n) older p only none =
     took_zero q k n (past_of older) p (peer_at (past_of older) k) (k == q) refl (λ peer e l. only k peer e l) refl none
 nothing_took q (entries.Join role) older p only none = refl
@@ -199,14 +207,16 @@ nothing_took q (entries.End k cause) older p only none = refl
 nothing_took q (entries.Shell step) older p only none = refl
 
 -- steps that take nothing for the peer leave what is out, or put more
-pub history-goes : (capacity : ℕ) (es base : List Entry) (q p : ℕ) → IsOnly (history capacity (es ++ base)) q p → sum_by (took_of q) es ≡ 0
+pub history-goes : (capacity : ℕ) (es base : List Entry) (q p : ℕ) → IsOnly (history capacity (es ++ base)) q p →
+    sum_by (took_of q) es ≡ 0
     → GoesOn 0 (out_for capacity (history capacity base) p) (out_for capacity (history capacity (es ++ base)) p)
 history-goes capacity [] base q p only none = goes-itself (out_for capacity (history capacity base) p)
 history-goes capacity (e ∷ es) base q p only none =
     let mid : List Entry = history capacity (es ++ base) in
     let split = sum_by-cons (took_of q) e es in
     let before : IsOnly mid q p = λ k peer is l. only k peer (settle-keeps capacity e mid k peer is) l in
-    goes-both 0 0 (out_for capacity (history capacity base) p) (out_for capacity mid p) (out_for capacity (settle capacity (e ∷ mid)) p)
+    goes-both 0 0 (out_for capacity (history capacity base) p) (out_for capacity mid p)
+    (out_for capacity (settle capacity (e ∷ mid)) p)
     (history-goes capacity es base q p before (omega (arith, none, split)))
     (settle-goes capacity e mid p 0 (nothing_took q e mid p before (omega (arith, none, split))))
 
@@ -244,7 +254,8 @@ filter-append f [] ys = refl
 filter-append f (x ∷ xs) ys = by (f x) (filter-append f xs ys)
   where
     by : (b : Bool) → filter f (xs ++ ys) ≡ filter f xs ++ filter f ys
-        → (if b then x ∷ filter f (xs ++ ys) else filter f (xs ++ ys)) ≡ (if b then x ∷ filter f xs else filter f xs) ++ filter f ys
+        → (if b then x ∷ filter f (xs ++ ys) else filter f (xs ++ ys))
+        ≡ (if b then x ∷ filter f xs else filter f xs) ++ filter f ys
     by true later = ap (λ (l : List Token). x ∷ l) later
     by false later = later
 
@@ -253,7 +264,8 @@ frame-stays a b at n g le =
     ap₂ (λ (bs : List ℕ) (ts : List ℕ). frame bs ts) bytes tokens
   where
     bytes : take n (drop at b.bytes) ≡ take n (drop at a.bytes)
-    bytes = ap (λ l. take n (drop at l)) g.bytes_are ∙ ap (take n) (drop-append-le at a.bytes g.bytes (omega (arith, le)))
+    bytes = ap (λ l. take n (drop at l)) g.bytes_are
+        ∙ ap (take n) (drop-append-le at a.bytes g.bytes (omega (arith, le)))
         ∙ take-append-le n (drop at a.bytes) g.bytes (let d = length-drop at a.bytes in omega (arith, d, le))
 
     tokens : tokens_within b at n ≡ tokens_within a at n

@@ -8,7 +8,7 @@ use Rattle.wio_core.specs.Lines.{LacksFeed, TookFrom}
 use Rattle.wio_core.specs.LineAnswers.{LinesAhead}
 use Rattle.wio_core.specs.declared.line_reader.LineStop.{LineStop}
 use Rattle.wio_core.specs.declared.line_reader.LineStop.TheVariants as stop
-use Rattle.wio_core.proofs.Gathered.{TookFrom-both}
+use Rattle.wio_core.proofs.ReadsTogether.{TookFrom-both}
 use Rattle.seat_steps.specs.declared.limits.Limits.{Limits}
 use Rattle.seat_steps.specs.declared.step.ShellStep.{ShellStep}
 use Rattle.session_text.specs.declared.line.Form.TheVariants.{Shell}
@@ -32,7 +32,8 @@ use Rattle.peer_link.specs.Ordering.{CanGoOn, GiveLine, LooksAt, StopsReading, R
 
 -- lists of lines, orders and pieces, with one more
 
-bytes-more : (lines : List (List ℕ)) (line rest : List ℕ) → bytes_of (lines ++ line ∷ []) ++ rest ≡ bytes_of lines ++ (line ++ 10 ∷ rest)
+bytes-more : (lines : List (List ℕ)) (line rest : List ℕ) →
+    bytes_of (lines ++ line ∷ []) ++ rest ≡ bytes_of lines ++ (line ++ 10 ∷ rest)
 bytes-more [] line rest = append_assoc line (10 ∷ []) rest
 bytes-more (l ∷ lines) line rest =
     append_assoc l (10 ∷ bytes_of (lines ++ line ∷ [])) rest
@@ -52,11 +53,13 @@ orders-more (l ∷ lines) (s ∷ orders) line step k o = (k.0, orders-more lines
 
 pub joined-more : (pieces : List (List ℕ)) (piece : List ℕ) → joined (pieces ++ piece ∷ []) ≡ joined pieces ++ piece
 joined-more [] piece = append-nil piece
-joined-more (p ∷ pieces) piece = ap (λ z. p ++ z) (joined-more pieces piece) ∙ sym (append_assoc p (joined pieces) piece)
+joined-more (p ∷ pieces) piece =
+    ap (λ z. p ++ z) (joined-more pieces piece) ∙ sym (append_assoc p (joined pieces) piece)
 
 -- the line at which the reader looked
 
-begins : (bytes line : List ℕ) (after : LinesAhead) (left : Option (List ℕ)) → GiveLine bytes line after left → BeginWith bytes line left
+begins : (bytes line : List ℕ) (after : LinesAhead) (left : Option (List ℕ)) → GiveLine bytes line after left →
+    BeginWith bytes line left
 begins bytes line after left (inl w) = inl (after.held, w.begins)
 begins bytes line after left (inr l) =
     inr (record { is = l.all; some = l.some; lacks = subst LacksFeed l.all l.cause.0.lacks; ended = l.cause.1 })
@@ -77,7 +80,8 @@ ended : (o : Option LineStop) (held read : List ℕ) (lines : List (List ℕ)) (
 ended o held read lines left e h = subst (λ x. IsHeld x held read lines left) e h
 
 -- the line was given, and is one of them from now on
-held-on : (bytes line read : List ℕ) (lines : List (List ℕ)) (after : LinesAhead) (left : Option (List ℕ)) → ReadsNear read lines bytes
+held-on : (bytes line read : List ℕ) (lines : List (List ℕ)) (after : LinesAhead) (left : Option (List ℕ)) →
+    ReadsNear read lines bytes
     → GiveLine bytes line after left → IsHeld after.settled after.held read (lines ++ line ∷ []) left
 held-on bytes line read lines after left n (inl w) =
     subst (λ x. IsHeld x after.held read (lines ++ line ∷ []) left) (sym w.goes_on) (record {
@@ -105,7 +109,8 @@ orders-long [] (s ∷ orders) k = absurd k
 orders-long (l ∷ lines) [] k = absurd k
 orders-long (l ∷ lines) (s ∷ orders) k = let more = orders-long lines orders k.1 in omega (arith, more)
 
-pub counted : (limits : Limits) (seat : PassSeat) (reader : LinesAhead) (read : List ℕ) (left held now : Option (List ℕ))
+pub counted : (limits : Limits) (seat : PassSeat) (reader : LinesAhead) (read : List ℕ)
+    (left held now : Option (List ℕ))
     → (s : Serving limits seat reader read left held now) → steps_of seat + 1 ≡ length s.lines + 1
 counted limits seat reader read left held now s =
     let a = ap length s.entries in
@@ -124,7 +129,8 @@ took-none given left = record { given = Appends-nil given; left = Consumes-nil l
 gained-none : (limits : Limits) (seat : PassSeat) (held : Option (List ℕ)) → NoneOf seat.number seat.seen
     → Appends held held (joined (answers_to limits seat))
 gained-none limits seat held fresh =
-    subst (λ (a : List (List ℕ)). Appends held held (joined a)) (sym (answers-none limits seat.number [] seat.seen fresh)) (Appends-nil held)
+    subst (λ (a : List (List ℕ)). Appends held held (joined a))
+    (sym (answers-none limits seat.number [] seat.seen fresh)) (Appends-nil held)
 
 pub nothing-read : (limits : Limits) (seat : PassSeat) (left held : Option (List ℕ)) → NoneOf seat.number seat.seen
     → ReadsShell limits seat [] left held held ends.NoMemory
@@ -137,7 +143,8 @@ nothing-read limits seat left held fresh = record {
   gained = gained-none limits seat held fresh;
 }
 
-pub serving-begins : (limits : Limits) (seat : PassSeat) (reader : LinesAhead) (left held : Option (List ℕ)) → NoneOf seat.number seat.seen
+pub serving-begins : (limits : Limits) (seat : PassSeat) (reader : LinesAhead) (left held : Option (List ℕ)) →
+    NoneOf seat.number seat.seen
     → reader ≡ record { held = []; room = None; settled = None } → Serving limits seat reader [] left held held
 serving-begins limits seat reader left held fresh is = record {
   lines = [];
@@ -156,7 +163,8 @@ few-begun seat fresh = let none = ap length fresh in omega (arith, none)
 
 -- what one call of the reader, one order and one answer come to
 
-module _ (limits : Limits) (given given₀ given₁ left left₀ left₁ held held₀ : Option (List ℕ)) (s₀ : PassSeat) (r₀ r₁ : LinesAhead)
+module _ (limits : Limits) (given given₀ given₁ left left₀ left₁ held held₀ : Option (List ℕ)) (s₀ : PassSeat)
+    (r₀ r₁ : LinesAhead)
     (read more : List ℕ) (number : ℕ)
     (took : TookFrom given given₀ left left₀ read) (took_more : TookFrom given₀ given₁ left₀ left₁ more)
     (s : Serving limits s₀ r₀ read left₀ held held₀) where
@@ -168,7 +176,8 @@ module _ (limits : Limits) (given given₀ given₁ left left₀ left₁ held he
   took-all = TookFrom-both given given₀ given₁ left left₀ left₁ read more took took_more
 
   near-all : LooksAt r₀ (r₀.held ++ more) → ReadsNear (read ++ more) s.lines (r₀.held ++ more)
-  near-all l = near s.lines r₀.held read more (unsettled r₀.settled r₀.held read s.lines left₀ l.unsettled s.stands) l.near
+  near-all l =
+      near s.lines r₀.held read more (unsettled r₀.settled r₀.held read s.lines left₀ l.unsettled s.stands) l.near
 
   -- the orders and answers are those from before
   stays : (end : ShellEnd) (later : List ℕ) → is_cut end ≡ false → EndsAs limits s₀ later left₁ s.lines end
@@ -193,14 +202,16 @@ module _ (limits : Limits) (given given₀ given₁ left left₀ left₁ held he
       let now = same e in
       let k = ended r₀.settled r₀.held read s.lines left₀ e s.stands in (
         read,
-        subst (λ g. TookFrom given g left left₁ read) (sym now.0) (subst (λ l. TookFrom given given₀ left l read) (sym now.1) took),
+        subst (λ g. TookFrom given g left left₁ read) (sym now.0)
+            (subst (λ l. TookFrom given given₀ left l read) (sym now.1) took),
         stays ends.Closed read refl (subst (λ l. AreLines read s.lines l × IsAtEnd l) (sym now.1) k),
       )
   closed-by same (inr k) =
       let n : ReadsNear (read ++ more) s.lines (r₀.held ++ more) = near-all k.0 in (
         read ++ more,
         took-all,
-        stays ends.Closed (read ++ more) refl (inl (subst (λ rest. HoldLines (read ++ more) s.lines rest) k.1 n.holds), k.2),
+        stays ends.Closed (read ++ more) refl
+            (inl (subst (λ rest. HoldLines (read ++ more) s.lines rest) k.1 n.holds), k.2),
       )
 
   bad-by : (bytes : List ℕ) → (number ≡ length s.lines + 1)
@@ -229,7 +240,8 @@ module _ (limits : Limits) (given given₀ given₁ left left₀ left₁ held he
 
   -- an order came, and wasn't taken
 
-  no-order-ends : (s₁ : PassSeat) (step : ShellStep) (end : ShellEnd) → ReadsOrder r₀ (r₀.held ++ more) r₁ left₁ number (Ok step)
+  no-order-ends : (s₁ : PassSeat) (step : ShellStep) (end : ShellEnd) →
+      ReadsOrder r₀ (r₀.held ++ more) r₁ left₁ number (Ok step)
       → WhyNoOrder limits s₁ step end → (is_cut end ≡ false) × EndsAs limits s₁ (read ++ more) left₁ s.lines end
   no-order-ends s₁ step (ends.JournalFull kept) o w = (
     refl,
@@ -241,7 +253,8 @@ module _ (limits : Limits) (given given₀ given₁ left left₀ left₁ held he
   no-order-ends s₁ step ends.ReadFault o w = absurd w
   no-order-ends s₁ step ends.WriteFault o w = absurd w
 
-  pub not-ordered : (s₁ : PassSeat) (step : ShellStep) (end : ShellEnd) → ReadsOrder r₀ (r₀.held ++ more) r₁ left₁ number (Ok step)
+  pub not-ordered : (s₁ : PassSeat) (step : ShellStep) (end : ShellEnd) →
+      ReadsOrder r₀ (r₀.held ++ more) r₁ left₁ number (Ok step)
       → NotOrdered limits s₀ s₁ step end → Comes s₁ held₀ (Err end)
   not-ordered s₁ step end o n =
       let k = no-order-ends s₁ step end o n.why in (
@@ -280,13 +293,15 @@ module _ (limits : Limits) (given given₀ given₁ left left₀ left₁ held he
       stands = held-on (r₀.held ++ more) o.1 (read ++ more) s.lines r₁ left₁ (near-all o.0) o.2;
       gained = subst (Appends held held₁)
           (sym (joined-more (answers_to limits s₀) (answer applied.entry applied.route)) ∙ ap joined (sym i.answers))
-          (Appends-trans held held₀ held₁ (joined (answers_to limits s₀)) (answer applied.entry applied.route) s.gained w);
+          (Appends-trans held held₀ held₁ (joined (answers_to limits s₀))
+          (answer applied.entry applied.route) s.gained w);
     },
   )
 
   pub not-answered : (s₁ : PassSeat) (step : ShellStep) (applied : Applied) (held₁ : Option (List ℕ)) (n : ℕ)
       → ReadsOrder r₀ (r₀.held ++ more) r₁ left₁ number (Ok step) → IsOrdered limits s₀ s₁ step applied
-      → n < length (answer applied.entry applied.route) → Appends held₀ held₁ (take n (answer applied.entry applied.route))
+      → n < length (answer applied.entry applied.route) →
+      Appends held₀ held₁ (take n (answer applied.entry applied.route))
       → Comes s₁ held₁ (Err ends.WriteFault)
   not-answered s₁ step applied held₁ n o i short w = (
     read ++ more,
@@ -310,7 +325,8 @@ module _ (limits : Limits) (given given₀ given₁ left left₀ left₁ held he
         pieces_are = i.answers;
         count = n;
         short = short;
-        gained = Appends-trans held held₀ held₁ (joined (answers_to limits s₀)) (take n (answer applied.entry applied.route)) s.gained w;
+        gained = Appends-trans held held₀ held₁ (joined (answers_to limits s₀))
+            (take n (answer applied.entry applied.route)) s.gained w;
       };
     },
   )

@@ -38,7 +38,8 @@ entries-same seat rest after free is =
     ap (map entry_in) (ap (own seat.number) is ∙ own-same seat.number seat.seen rest free)
 
 pub entries-one : (seat : PassSeat) (rest after : History) (e : Entry) → NoneOf seat.number rest
-    → after ≡ (seat.seen ++ rest) ++ (seat.number, only e) ∷ [] → entries_by (having_seen seat after) ≡ entries_by seat ++ e ∷ []
+    → after ≡ (seat.seen ++ rest) ++ (seat.number, only e) ∷ [] →
+    entries_by (having_seen seat after) ≡ entries_by seat ++ e ∷ []
 entries-one seat rest after e free is =
     ap (map entry_in) (ap (own seat.number) is ∙ own-longer seat.number (only e) seat.seen rest free)
     ∙ map-append entry_in (own seat.number seat.seen) (only e ∷ [])
@@ -52,14 +53,16 @@ steps-one seat rest after e free is =
 -- a journal is as long as its history at least
 
 settled-long_by : (capacity fuel : ℕ) (journal : List Entry) (o : Option ℕ)
-    → ((later : List Entry) → length later ≤ length (settled capacity fuel later)) → length journal ≤ length (settled capacity fuel (with_end journal o))
+    → ((later : List Entry) → length later ≤ length (settled capacity fuel later)) →
+    length journal ≤ length (settled capacity fuel (with_end journal o))
 settled-long_by capacity fuel journal None k = k journal
 settled-long_by capacity fuel journal (Some q) k =
     let more = k (entries.End q (cause_of journal q) ∷ journal) in omega (arith, more)
 
 settled-long : (capacity fuel : ℕ) (journal : List Entry) → length journal ≤ length (settled capacity fuel journal)
 settled-long capacity zero journal = omega arith
-settled-long capacity (suc fuel) journal = settled-long_by capacity fuel journal (due capacity journal) (settled-long capacity fuel)
+settled-long capacity (suc fuel) journal =
+    settled-long_by capacity fuel journal (due capacity journal) (settled-long capacity fuel)
 
 history-long : (capacity : ℕ) (es : List Entry) → length es ≤ length (history capacity es)
 history-long capacity [] = omega arith
@@ -86,7 +89,8 @@ saw-both limits a b c first next = record {
   lawful = λ k. next.lawful (first.lawful k);
 }
 
-pub saw-legal : (limits : Limits) (seat : PassSeat) (after : History) (Told : History → Type 0) → Legal limits seat after Told
+pub saw-legal : (limits : Limits) (seat : PassSeat) (after : History) (Told : History → Type 0) →
+    Legal limits seat after Told
     → SawMore limits seat.seen after
 saw-legal limits seat after Told k =
     let m = seen-more limits seat after Told k in

@@ -48,7 +48,8 @@ record AreTold (b : Broker) (step : Step) (r : Result Applied Refused) (o : Opti
   refused : IfSome o (λ why. r ≡ Err why)
   accepted : IfNone o (IsAccepted refusals.NoMemory step r)
 
-accepted_by : (step : Step) (why : Refused) → IsAccepted {T = Applied} refusals.NoMemory step (Err why) → why ≡ refusals.NoMemory
+accepted_by : (step : Step) (why : Refused) → IsAccepted {T = Applied} refusals.NoMemory step (Err why) →
+    why ≡ refusals.NoMemory
 accepted_by (steps.Peer q (peers.Message id opcode body)) why k = k
 accepted_by (steps.Peer q (peers.BadSize head)) why k = k
 accepted_by (steps.Peer q (peers.Tokens tokens)) why k = k
@@ -63,16 +64,19 @@ told_is b step why None t other = absurd (other (accepted_by step why t.accepted
 told_is b step why (Some w) t other = let e : Err why ≡ Err w = t.refused in cc
 
 full_is : (b : Broker) (step : Step) (why : Refused) (limits : Limits) (before after : History) (n : ℕ)
-    → Applies limits before n step after (Err why) → (why ≡ refusals.NoMemory → ⊥) → refusal (broker_of limits before) step ≡ Some why
+    → Applies limits before n step after (Err why) → (why ≡ refusals.NoMemory → ⊥) →
+    refusal (broker_of limits before) step ≡ Some why
 full_is b step why limits before after n k other =
     told_is (broker_of limits before) step why (refusal (broker_of limits before) step)
     (record { refused = k.refused; accepted = k.accepted }) other
 
-kept_is : (o : Option Kept) (kept : Kept) → option_map (λ kept. refusals.JournalFull kept) o ≡ Some (refusals.JournalFull kept) → o ≡ Some kept
+kept_is : (o : Option Kept) (kept : Kept) →
+    option_map (λ kept. refusals.JournalFull kept) o ≡ Some (refusals.JournalFull kept) → o ≡ Some kept
 kept_is None kept e = absurd (cc)
 kept_is (Some k) kept e = cc
 
-no_end_full : (o : Option Kept) (cause : EndCause) → option_map (λ kept. refusals.JournalFull kept) o ≡ Some (refusals.Ended cause) → ⊥
+no_end_full : (o : Option Kept) (cause : EndCause) →
+    option_map (λ kept. refusals.JournalFull kept) o ≡ Some (refusals.Ended cause) → ⊥
 no_end_full None cause e = absurd (cc)
 no_end_full (Some k) cause e = absurd (cc)
 
@@ -84,22 +88,26 @@ end_by b q step None cause e = absurd (no_end_full (full_for b (peer_entry q ste
 end_by b q step (Some c) cause e = cc
 
 end_there : (b : Broker) (q : ℕ) (step : PeerStep) (o : Option Joined) (cause : EndCause)
-    → peer_refusal b (peer_entry q step) (standing_in b.journal q o) ≡ Some (refusals.Ended cause) → end_of b.journal q ≡ Some cause
+    → peer_refusal b (peer_entry q step) (standing_in b.journal q o) ≡ Some (refusals.Ended cause) →
+    end_of b.journal q ≡ Some cause
 end_there b q step None cause e = absurd (cc)
 end_there b q step (Some peer) cause e = end_by b q step (end_of b.journal q) cause e
 
 full_by : (b : Broker) (q : ℕ) (step : PeerStep) (o : Option EndCause) (kept : Kept)
-    → peer_refusal b (peer_entry q step) (by_end o) ≡ Some (refusals.JournalFull kept) → full_for b (peer_entry q step) ≡ Some kept
+    → peer_refusal b (peer_entry q step) (by_end o) ≡ Some (refusals.JournalFull kept) →
+    full_for b (peer_entry q step) ≡ Some kept
 full_by b q step None kept e = kept_is (full_for b (peer_entry q step)) kept e
 full_by b q step (Some c) kept e = absurd (cc)
 
 full_there : (b : Broker) (q : ℕ) (step : PeerStep) (o : Option Joined) (kept : Kept)
-    → peer_refusal b (peer_entry q step) (standing_in b.journal q o) ≡ Some (refusals.JournalFull kept) → full_for b (peer_entry q step) ≡ Some kept
+    → peer_refusal b (peer_entry q step) (standing_in b.journal q o) ≡ Some (refusals.JournalFull kept) →
+    full_for b (peer_entry q step) ≡ Some kept
 full_there b q step None kept e = absurd (cc)
 full_there b q step (Some peer) kept e = full_by b q step (end_of b.journal q) kept e
 
 pub step-ended : (limits : Limits) (before : History) (n q : ℕ) (step : PeerStep) (after : History) (cause : EndCause)
-    → Applies limits before n (steps.Peer q step) after (Err (refusals.Ended cause)) → end_of (journal_of limits before) q ≡ Some cause
+    → Applies limits before n (steps.Peer q step) after (Err (refusals.Ended cause)) →
+    end_of (journal_of limits before) q ≡ Some cause
 step-ended limits before n q step after cause k =
     let b : Broker = broker_of limits before in
     end_there b q step (peer_at (past_of b.journal) q) cause
@@ -119,7 +127,8 @@ pub shell-full : (limits : Limits) (before : History) (n : ℕ) (step : ShellSte
     → full_in limits (journal_of limits before) (entries.Shell step) ≡ Some kept
 shell-full limits before n step after kept k =
     kept_is (full_for (broker_of limits before) (entries.Shell step)) kept
-    (full_is (broker_of limits before) (steps.Shell step) (refusals.JournalFull kept) limits before after n k (λ e. absurd (cc)))
+    (full_is (broker_of limits before) (steps.Shell step) (refusals.JournalFull kept) limits before after n k
+    (λ e. absurd (cc)))
 
 -- a call of a reader comes to a step that was made, or to why not
 
@@ -130,7 +139,8 @@ unless (peers.Tokens tokens) N P k = k
 unless peers.Gone N P k = inr k
 
 why_by : (limits : Limits) (seen : History) (p : PeerPass) (step : PeerStep) (before : History) (n : ℕ) (why : Refused)
-    → p.seat.seen ≡ before → (why ≡ refusals.NoPeer → ⊥) → Applies limits before n (steps.Peer p.peer step) p.seat.seen (Err why)
+    → p.seat.seen ≡ before → (why ≡ refusals.NoPeer → ⊥) →
+    Applies limits before n (steps.Peer p.peer step) p.seat.seen (Err why)
     → (end : ReadEnd) × (told (Err why) ≡ Err end) × WhyNot limits p (peer_entry p.peer step) end
 why_by limits seen p step before n refusals.NoPeer is other k = absurd (other refl)
 why_by limits seen p step before n (refusals.Ended cause) is other k = (
@@ -141,7 +151,8 @@ why_by limits seen p step before n (refusals.Ended cause) is other k = (
 why_by limits seen p step before n (refusals.JournalFull kept) is other k = (
   ends.JournalFull kept,
   refl,
-  ap (λ h. full_in limits (journal_of limits h) (peer_entry p.peer step)) is ∙ step-full limits before n p.peer step p.seat.seen kept k,
+  ap (λ h. full_in limits (journal_of limits h) (peer_entry p.peer step)) is
+      ∙ step-full limits before n p.peer step p.seat.seen kept k,
 )
 why_by limits seen p step before n refusals.NoMemory is other k = (ends.NoMemory, refl, tt)
 
@@ -157,14 +168,17 @@ submitted_by limits before after step (Err why) is other k =
     let e = peer_entry before.peer step in
     let w = why_by limits after.seat.seen after step (before.seat.seen ++ k.rest) before.seat.number why k.answer.same
     (λ e. other (ap (λ (w : Refused). Err w) e))
-    (subst (λ q. Applies limits (before.seat.seen ++ k.rest) before.seat.number (steps.Peer q step) after.seat.seen (Err why)) (sym peer) k.answer) in
-    subst (λ (r : Result (Unit {0}) ReadEnd). Submits limits before after (peer_entry before.peer step ∷ []) r) (sym w.1) (record {
+    (subst (λ q. Applies limits (before.seat.seen ++ k.rest) before.seat.number (steps.Peer q step) after.seat.seen
+    (Err why)) (sym peer) k.answer) in
+    subst (λ (r : Result (Unit {0}) ReadEnd). Submits limits before after (peer_entry before.peer step ∷ []) r)
+    (sym w.1) (record {
       made = [];
       e = peer_entry before.peer step;
       more = [];
       steps_are = refl;
       entries = ap (λ (p : PeerPass). entries_by p.seat) is
-          ∙ entries-same before.seat k.rest after.seat.seen k.apart k.answer.same ∙ sym (append-nil (entries_by before.seat));
+          ∙ entries-same before.seat k.rest after.seat.seen k.apart k.answer.same
+          ∙ sym (append-nil (entries_by before.seat));
       why = subst (λ q. WhyNot limits after (peer_entry q step) w.0) peer w.2;
     })
 
@@ -175,10 +189,12 @@ pub submitted : (limits : Limits) (before after : PeerPass) (step : PeerStep) (r
     → Submits limits before after (peer_entry before.peer step ∷ []) (told r)
 submitted limits before after step r is other legal = by (unless step _ _ legal)
   where
-    by : ((after ≡ before) × (r ≡ Err refusals.NoMemory)) ⊎ LegalStep limits before.seat after.seat.seen (steps.Peer before.peer step) r
+    by : ((after ≡ before) × (r ≡ Err refusals.NoMemory))
+        ⊎ LegalStep limits before.seat after.seat.seen (steps.Peer before.peer step) r
         → Submits limits before after (peer_entry before.peer step ∷ []) (told r)
     by (inl k) =
-        subst (λ (x : Result Applied Refused). Submits limits before after (peer_entry before.peer step ∷ []) (told x)) (sym k.1) (record {
+        subst (λ (x : Result Applied Refused). Submits limits before after (peer_entry before.peer step ∷ []) (told x))
+        (sym k.1) (record {
           made = [];
           e = peer_entry before.peer step;
           more = [];
@@ -195,14 +211,18 @@ pub saw-by : (limits : Limits) (before after : PeerPass) (step : PeerStep) (r : 
     → SawMore limits before.seat.seen after.seat.seen
 saw-by limits before after step r legal = by (unless step _ _ legal)
   where
-    by : ((after ≡ before) × (r ≡ Err refusals.NoMemory)) ⊎ LegalStep limits before.seat after.seat.seen (steps.Peer before.peer step) r
+    by : ((after ≡ before) × (r ≡ Err refusals.NoMemory))
+        ⊎ LegalStep limits before.seat after.seat.seen (steps.Peer before.peer step) r
         → SawMore limits before.seat.seen after.seat.seen
-    by (inl k) = subst (λ (p : PeerPass). SawMore limits before.seat.seen p.seat.seen) (sym k.0) (saw-none limits before.seat.seen)
+    by (inl k) =
+        subst (λ (p : PeerPass). SawMore limits before.seat.seen p.seat.seen) (sym k.0)
+        (saw-none limits before.seat.seen)
     by (inr k) = saw-legal limits before.seat after.seat.seen _ k
 
 -- the end of a link
 
-gone_told : (b : Broker) (q : ℕ) (why : Refused) (o : Option Refused) → AreTold b (steps.Peer q peers.Gone) (Err why) o → o ≡ Some why
+gone_told : (b : Broker) (q : ℕ) (why : Refused) (o : Option Refused) →
+    AreTold b (steps.Peer q peers.Gone) (Err why) o → o ≡ Some why
 gone_told b q why None t = (let no = t.accepted in absurd (cc))
 gone_told b q why (Some w) t = (let e : Err why ≡ Err w = t.refused in cc)
 
@@ -213,7 +233,8 @@ gone_by b q (Over cause) why e = inr (cause, cc)
 gone_by b q Alive why e = absurd (cc)
 
 gone_why : (limits : Limits) (before : History) (n q : ℕ) (after : History) (why : Refused)
-    → Applies limits before n (steps.Peer q peers.Gone) after (Err why) → (why ≡ refusals.NoPeer) ⊎ ((cause : EndCause) × (why ≡ refusals.Ended cause))
+    → Applies limits before n (steps.Peer q peers.Gone) after (Err why) →
+    (why ≡ refusals.NoPeer) ⊎ ((cause : EndCause) × (why ≡ refusals.Ended cause))
 gone_why limits before n q after why k =
     let b : Broker = broker_of limits before in
     gone_by b q (standing_of b.journal q) why
@@ -226,7 +247,8 @@ gone_not why end e other (inr k) =
     let same : Err (ends.Ended k.0) ≡ Err end = sym (ap (λ (x : Refused). told (Err x)) k.1) ∙ e in
     let is : ends.Ended k.0 ≡ end = cc in subst IsGoneRefusal is tt
 
-pub refusal-is : (limits : Limits) (before after : PeerPass) (step : PeerStep) (why : Refused) (end : ReadEnd) → told (Err why) ≡ Err end
+pub refusal-is : (limits : Limits) (before after : PeerPass) (step : PeerStep) (why : Refused) (end : ReadEnd) →
+    told (Err why) ≡ Err end
     → (refused_as why ≡ refused_as refusals.NoPeer → ⊥)
     → UnlessMemory step ((after ≡ before) × (refused_as why ≡ refused_as refusals.NoMemory))
     (LegalStep limits before.seat after.seat.seen (steps.Peer before.peer step) (Err why))

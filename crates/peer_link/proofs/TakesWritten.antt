@@ -53,33 +53,41 @@ record Standing (limits : Limits) (h : History) (q : ℕ) (held now : Option (Li
   there : peer_at (past_of (journal_of limits h)) q ≡ Some peer
   front : sum sizes ≤ length (out_for limits.store (journal_of limits h) peer.label).put.bytes
   taken : (out_for limits.store (journal_of limits h) peer.label).taken ≡ sum sizes
-  gained : Appends held now (joined (map spelling (frames_of (out_for limits.store (journal_of limits h) peer.label).put sizes)))
+  gained : Appends held now
+      (joined (map spelling (frames_of (out_for limits.store (journal_of limits h) peer.label).put sizes)))
 
 journal-both : (limits : Limits) (seen rest : History)
     → journal_of limits (seen ++ rest) ≡ history limits.store (entries_of rest ++ entries_of seen)
 journal-both limits seen rest = ap (history limits.store) (entries-append seen rest)
 
-from-nothing : (limits : Limits) (h : History) (q n : ℕ) (held now : Option (List ℕ)) → IsLawful limits h → writer_of h q ≡ Some n
+from-nothing : (limits : Limits) (h : History) (q n : ℕ) (held now : Option (List ℕ)) → IsLawful limits h →
+    writer_of h q ≡ Some n
     → NoneOf n h → Appends held now [] → Standing limits h q held now []
 from-nothing limits h q n held now l w free gained =
     let p = writer-joined limits h q n l w in
     let none = took-none h h q n l.made_by w free in
-    let all : journal_of limits h ≡ history limits.store (entries_of h ++ []) = ap (history limits.store) (sym (append-nil (entries_of h))) in
+    let all : journal_of limits h ≡ history limits.store (entries_of h ++ []) =
+    ap (history limits.store) (sym (append-nil (entries_of h))) in
     let only : IsOnly (history limits.store (entries_of h ++ [])) q p.0.label =
     subst (λ (J : List Entry). IsOnly J q p.0.label) all (only-one (journal_of limits h) q p.0 p.1) in
     let goes = history-goes limits.store (entries_of h) [] q p.0.label only none in
-    let goes_here : GoesOn 0 (out_for limits.store [] p.0.label) (out_for limits.store (journal_of limits h) p.0.label) =
-    subst (λ (J : List Entry). GoesOn 0 (out_for limits.store [] p.0.label) (out_for limits.store J p.0.label)) (sym all) goes in
+    let goes_here : GoesOn 0 (out_for limits.store [] p.0.label)
+    (out_for limits.store (journal_of limits h) p.0.label) =
+    subst (λ (J : List Entry). GoesOn 0 (out_for limits.store [] p.0.label) (out_for limits.store J p.0.label))
+    (sym all) goes in
     record { peer = p.0; there = p.1; front = omega arith; taken = goes_here.taken; gained = gained }
 
-from-before : (limits : Limits) (seen rest : History) (q n : ℕ) (held now : Option (List ℕ)) (sizes : List ℕ) → IsLawful limits (seen ++ rest)
-    → writer_of (seen ++ rest) q ≡ Some n → NoneOf n rest → Standing limits seen q held now sizes → Standing limits (seen ++ rest) q held now sizes
+from-before : (limits : Limits) (seen rest : History) (q n : ℕ) (held now : Option (List ℕ)) (sizes : List ℕ) →
+    IsLawful limits (seen ++ rest)
+    → writer_of (seen ++ rest) q ≡ Some n → NoneOf n rest → Standing limits seen q held now sizes →
+    Standing limits (seen ++ rest) q held now sizes
 from-before limits seen rest q n held now sizes l w free s =
     let es : List Entry = entries_of rest in
     let base : List Entry = entries_of seen in
     let both = journal-both limits seen rest in
     let none = took-none (seen ++ rest) rest q n (made-back (seen ++ rest) seen rest l.made_by) w free in
-    let there : peer_at (past_of (history limits.store (es ++ base))) q ≡ Some s.peer = history-keeps limits.store es base q s.peer s.there in
+    let there : peer_at (past_of (history limits.store (es ++ base))) q ≡ Some s.peer =
+    history-keeps limits.store es base q s.peer s.there in
     let only = only-one (history limits.store (es ++ base)) q s.peer there in
     let goes = history-goes limits.store es base q s.peer.label only none in
     let a : Outgoing = out_for limits.store (journal_of limits seen) s.peer.label in
@@ -99,11 +107,13 @@ from-before limits seen rest q n held now sizes l w free s =
           (sym (frames-stay a.put b.put 0 sizes goes_here.put (omega (arith, front)))) s.gained;
     }
 
-some-out : (capacity : ℕ) (journal : List Entry) (q : ℕ) (out : Outgoing) (o : Option Joined) → peer_at (past_of journal) q ≡ o
+some-out : (capacity : ℕ) (journal : List Entry) (q : ℕ) (out : Outgoing) (o : Option Joined) →
+    peer_at (past_of journal) q ≡ o
     → option_map (λ (peer : Joined). out_for capacity journal peer.label) o ≡ Some out
     → (peer : Joined) × (peer_at (past_of journal) q ≡ Some peer) × (out_for capacity journal peer.label ≡ out)
 some-out capacity journal q out None e is = absurd (cc)
-some-out capacity journal q out (Some peer) e is = (peer, e, (let same : Some (out_for capacity journal peer.label) ≡ Some out = is in cc))
+some-out capacity journal q out (Some peer) e is =
+    (peer, e, (let same : Some (out_for capacity journal peer.label) ≡ Some out = is in cc))
 
 none-of : (xs : List OuterStep) → map (λ (s : OuterStep). s.entry) xs ≡ [] → xs ≡ []
 none-of [] e = refl
@@ -117,7 +127,8 @@ record Before (limits : Limits) (pass : PeerPass) (h : History) (held now : Opti
   stands : Standing limits h pass.peer held now sizes
 
 before-call : (limits : Limits) (pass : PeerPass) (rest : History) (held now : Option (List ℕ))
-    → writer_of pass.seat.seen pass.peer ≡ Some pass.seat.number → NoneOf pass.seat.number rest → IsLawful limits (pass.seat.seen ++ rest)
+    → writer_of pass.seat.seen pass.peer ≡ Some pass.seat.number → NoneOf pass.seat.number rest →
+    IsLawful limits (pass.seat.seen ++ rest)
     → Writing limits pass held now → Before limits pass (pass.seat.seen ++ rest) held now
 before-call limits pass rest held now w free l (inl k) =
     let mine : NoneOf pass.seat.number pass.seat.seen = none-of (own pass.seat.number pass.seat.seen) k.0 in
@@ -142,7 +153,8 @@ before-call limits pass rest held now w free l (inr k) =
         there = p.1;
         front = subst (λ (o : Outgoing). sum k.sizes ≤ length o.put.bytes) (sym p.2) k.front;
         taken = ap (λ (o : Outgoing). o.taken) p.2 ∙ k.taken;
-        gained = subst (λ (o : Outgoing). Appends held now (joined (map spelling (frames_of o.put k.sizes)))) (sym p.2) k.gained;
+        gained = subst (λ (o : Outgoing). Appends held now (joined (map spelling (frames_of o.put k.sizes))))
+            (sym p.2) k.gained;
       });
     }
 
@@ -153,9 +165,12 @@ IsAnswer b q out r = IfSome (take_refusal_from b q (Some out)) (λ why. r ≡ wh
     × IfNone (take_refusal_from b q (Some out)) (IsBytesUnlessMemory r)
 
 abbrev by_stored : Broker → ℕ → Bool → Option Took
-by_stored b q t = (if t then Some (nothing_left (end_of b.journal q)) else option_map (λ kept. took.JournalFull kept) (full_for b (entries.Took q 0)))
+by_stored b q t =
+    (if t then Some (nothing_left (end_of b.journal q))
+    else option_map (λ kept. took.JournalFull kept) (full_for b (entries.Took q 0)))
 
-bytes-some : (b : Broker) (q : ℕ) (out : Outgoing) (n t : ℕ) → IsAnswer b q out (took.Bytes n t) → 1 ≤ length (stored out)
+bytes-some : (b : Broker) (q : ℕ) (out : Outgoing) (n t : ℕ) → IsAnswer b q out (took.Bytes n t) →
+    1 ≤ length (stored out)
 bytes-some b q out n t a = by (length (stored out)) refl a
   where
     left : (o : Option EndCause) → took.Bytes n t ≡ nothing_left o → ⊥
@@ -163,7 +178,8 @@ bytes-some b q out n t a = by (length (stored out)) refl a
     left (Some cause) e = absurd (cc)
 
     by : (k : ℕ) → length (stored out) ≡ k
-        → IfSome (by_stored b q (k == 0)) (λ why. took.Bytes n t ≡ why) × IfNone (by_stored b q (k == 0)) (IsBytesUnlessMemory (took.Bytes n t))
+        → IfSome (by_stored b q (k == 0)) (λ why. took.Bytes n t ≡ why)
+        × IfNone (by_stored b q (k == 0)) (IsBytesUnlessMemory (took.Bytes n t))
         → 1 ≤ length (stored out)
     by zero e k = absurd (left (end_of b.journal q) k.0)
     by (suc m) e k = omega (arith, e)
@@ -181,37 +197,48 @@ closed-is b q out a = by (length (stored out) == 0) refl a
     full None x y = y
     full (Some kept) x y = absurd (cc)
 
-    left : (o : Option EndCause) → end_of b.journal q ≡ o → length (stored out) ≡ 0 → took.Closed ≡ nothing_left o → IsClosed b q out
+    left : (o : Option EndCause) → end_of b.journal q ≡ o → length (stored out) ≡ 0 → took.Closed ≡ nothing_left o →
+        IsClosed b q out
     left None e z x = absurd (cc)
     left (Some cause) e z x = record { none = z; cause = cause; ended = e }
 
     by : (t : Bool) → (length (stored out) == 0) ≡ t
-        → IfSome (by_stored b q t) (λ why. took.Closed ≡ why) × IfNone (by_stored b q t) (IsBytesUnlessMemory took.Closed)
+        → IfSome (by_stored b q t) (λ why. took.Closed ≡ why)
+        × IfNone (by_stored b q t) (IsBytesUnlessMemory took.Closed)
         → IsClosed b q out
     by true e k = left (end_of b.journal q) refl (eqb-true (length (stored out)) 0 e) k.0
     by false e k = absurd (full (full_for b (entries.Took q 0)) k.0 k.1)
 
-full-is : (b : Broker) (q : ℕ) (out : Outgoing) (kept : Kept) → IsAnswer b q out (took.JournalFull kept) → full_for b (entries.Took q 0) ≡ Some kept
+full-is : (b : Broker) (q : ℕ) (out : Outgoing) (kept : Kept) → IsAnswer b q out (took.JournalFull kept) →
+    full_for b (entries.Took q 0) ≡ Some kept
 full-is b q out kept a = by (length (stored out) == 0) a
   where
-    full : (o : Option Kept) → full_for b (entries.Took q 0) ≡ o → IfSome (option_map (λ kept. took.JournalFull kept) o) (λ why. took.JournalFull kept ≡ why)
-        → IfNone (option_map (λ kept. took.JournalFull kept) o) (IsBytesUnlessMemory (took.JournalFull kept)) → full_for b (entries.Took q 0) ≡ Some kept
+    full : (o : Option Kept) → full_for b (entries.Took q 0) ≡ o →
+        IfSome (option_map (λ kept. took.JournalFull kept) o) (λ why. took.JournalFull kept ≡ why)
+        → IfNone (option_map (λ kept. took.JournalFull kept) o) (IsBytesUnlessMemory (took.JournalFull kept)) →
+        full_for b (entries.Took q 0) ≡ Some kept
     full None e x y = absurd y
-    full (Some k) e x y = e ∙ (let same : took.JournalFull kept ≡ took.JournalFull k = x in let less : k ≡ kept = cc in ap (λ k. Some k) less)
+    full (Some k) e x y =
+        e ∙ (let same : took.JournalFull kept ≡ took.JournalFull k = x in let less : k ≡ kept = cc in
+        ap (λ k. Some k) less)
 
     left : (o : Option EndCause) → took.JournalFull kept ≡ nothing_left o → ⊥
     left None x = absurd (cc)
     left (Some cause) x = absurd (cc)
 
-    by : (t : Bool) → IfSome (by_stored b q t) (λ why. took.JournalFull kept ≡ why) × IfNone (by_stored b q t) (IsBytesUnlessMemory (took.JournalFull kept))
+    by : (t : Bool) →
+        IfSome (by_stored b q t) (λ why. took.JournalFull kept ≡ why)
+        × IfNone (by_stored b q t) (IsBytesUnlessMemory (took.JournalFull kept))
         → full_for b (entries.Took q 0) ≡ Some kept
     by true k = absurd (left (end_of b.journal q) k.0)
     by false k = full (full_for b (entries.Took q 0)) refl k.0 k.1
 
 -- of a call of the pass
 
-module _ (limits : Limits) (pass pass' : PeerPass) (held now : Option (List ℕ)) (buf places buf' places' : List ℕ) (r : Took)
-    (is : pass' ≡ pass_having_seen pass pass'.seat.seen) (w : writer_of pass.seat.seen pass.peer ≡ Some pass.seat.number)
+module _ (limits : Limits) (pass pass' : PeerPass) (held now : Option (List ℕ)) (buf places buf' places' : List ℕ)
+    (r : Took)
+    (is : pass' ≡ pass_having_seen pass pass'.seat.seen)
+    (w : writer_of pass.seat.seen pass.peer ≡ Some pass.seat.number)
     (k : IsTake limits pass pass' buf places buf' places' r) where
   abbrev turn : History
   turn = pass.seat.seen ++ k.rest
@@ -228,13 +255,17 @@ module _ (limits : Limits) (pass pass' : PeerPass) (held now : Option (List ℕ)
   abbrev out_by : Joined → Outgoing
   out_by peer = out_for limits.store journal peer.label
 
-  out-here : (peer : Joined) → peer_at (past_of journal) pass.peer ≡ Some peer → out_at limits.store journal pass.peer ≡ Some (out_by peer)
+  out-here : (peer : Joined) → peer_at (past_of journal) pass.peer ≡ Some peer →
+      out_at limits.store journal pass.peer ≡ Some (out_by peer)
   out-here peer e = ap (option_map (λ (peer : Joined). out_by peer)) e
 
-  answer-here : (peer : Joined) → peer_at (past_of journal) pass.peer ≡ Some peer → IsAnswer (broker_of limits turn) pass.peer (out_by peer) r
+  answer-here : (peer : Joined) → peer_at (past_of journal) pass.peer ≡ Some peer →
+      IsAnswer (broker_of limits turn) pass.peer (out_by peer) r
   answer-here peer e = (
-    subst (λ (o : Option Outgoing). IfSome (take_refusal_from (broker_of limits turn) pass.peer o) (λ why. r ≡ why)) (out-here peer e) k.answer.refused,
-    subst (λ (o : Option Outgoing). IfNone (take_refusal_from (broker_of limits turn) pass.peer o) (IsBytesUnlessMemory r)) (out-here peer e) k.answer.accepted,
+    subst (λ (o : Option Outgoing). IfSome (take_refusal_from (broker_of limits turn) pass.peer o) (λ why. r ≡ why))
+        (out-here peer e) k.answer.refused,
+    subst (λ (o : Option Outgoing). IfNone (take_refusal_from (broker_of limits turn) pass.peer o)
+        (IsBytesUnlessMemory r)) (out-here peer e) k.answer.accepted,
   )
 
   -- nothing was taken
@@ -244,13 +275,16 @@ module _ (limits : Limits) (pass pass' : PeerPass) (held now : Option (List ℕ)
   ends-so end same uncut b e = record {
     sizes = b.sizes;
     each = b.each;
-    takes = ap (λ (p : PeerPass). entries_by p.seat) is ∙ entries-same pass.seat k.rest pass'.seat.seen k.apart same ∙ b.takes
+    takes = ap (λ (p : PeerPass). entries_by p.seat) is ∙ entries-same pass.seat k.rest pass'.seat.seen k.apart same
+        ∙ b.takes
         ∙ ap (λ q. map (λ n. entries.Took q n) b.sizes) (sym same-peer);
     out = out_by b.stands.peer;
-    queued = ap₂ (λ (h : History) q. out_at limits.store (journal_of limits h) q) same same-peer ∙ out-here b.stands.peer b.stands.there;
+    queued = ap₂ (λ (h : History) q. out_at limits.store (journal_of limits h) q) same same-peer
+        ∙ out-here b.stands.peer b.stands.there;
     front = b.stands.front;
     taken = b.stands.taken;
-    gained = subst (λ t. Gains t held now (map spelling (frames_of (out_by b.stands.peer).put b.sizes))) (sym uncut) b.stands.gained;
+    gained = subst (λ t. Gains t held now (map spelling (frames_of (out_by b.stands.peer).put b.sizes)))
+        (sym uncut) b.stands.gained;
     ends = e;
   }
 
@@ -263,7 +297,8 @@ module _ (limits : Limits) (pass pass' : PeerPass) (held now : Option (List ℕ)
       let b = before s in
       let o : Outgoing = out_by b.stands.peer in
       let c = closed-is (broker_of limits turn) pass.peer o
-      (subst (λ (x : Took). IsAnswer (broker_of limits turn) pass.peer o x) e (answer-here b.stands.peer b.stands.there)) in
+      (subst (λ (x : Took). IsAnswer (broker_of limits turn) pass.peer o x) e
+      (answer-here b.stands.peer b.stands.there)) in
       let left = length-drop o.taken o.put.bytes in
       let none = c.none in
       let taken = b.stands.taken in
@@ -282,7 +317,8 @@ module _ (limits : Limits) (pass pass' : PeerPass) (held now : Option (List ℕ)
       ends-so (ends.JournalFull kept) same refl b
       (ap₂ (λ (h : History) q. full_in limits (journal_of limits h) (entries.Took q 0)) same same-peer
       ∙ full-is (broker_of limits turn) pass.peer o kept
-      (subst (λ (x : Took). IsAnswer (broker_of limits turn) pass.peer o x) e (answer-here b.stands.peer b.stands.there)))
+      (subst (λ (x : Took). IsAnswer (broker_of limits turn) pass.peer o x) e
+      (answer-here b.stands.peer b.stands.there)))
 
   pub lacks : r ≡ took.NoMemory → Writing limits pass held now → WritesPeer limits pass' held now ends.NoMemory
   lacks e s = ends-so ends.NoMemory (same-seen took.NoMemory e) refl (before s) tt
@@ -297,7 +333,8 @@ module _ (limits : Limits) (pass pass' : PeerPass) (held now : Option (List ℕ)
     pub queued : out_at limits.store (journal_of limits pass'.seat.seen) pass'.peer ≡ Some out
     pub front : sum (sizes ++ n ∷ []) ≤ length out.put.bytes
     pub taken : out.taken ≡ sum (sizes ++ n ∷ [])
-    pub frames : frames_of out.put (sizes ++ n ∷ []) ≡ frames_of out.put sizes ++ frame (take n buf') (take t places') ∷ []
+    pub frames : frames_of out.put (sizes ++ n ∷ [])
+        ≡ frames_of out.put sizes ++ frame (take n buf') (take t places') ∷ []
     pub gained : Appends held now (joined (map spelling (frames_of out.put sizes)))
 
   sum-more : (xs : List ℕ) (n : ℕ) → sum (xs ++ n ∷ []) ≡ sum xs + n
@@ -306,23 +343,30 @@ module _ (limits : Limits) (pass pass' : PeerPass) (held now : Option (List ℕ)
       let one = sum_by-cons (λ (x : ℕ). x) n [] in
       let none : sum [] ≡ 0 = refl in omega (arith, both, one, none)
 
-  each-more : (xs : List ℕ) (n : ℕ) → AllByRecursion (IsWithin 4096) xs → IsWithin 4096 n → AllByRecursion (IsWithin 4096) (xs ++ n ∷ [])
+  each-more : (xs : List ℕ) (n : ℕ) → AllByRecursion (IsWithin 4096) xs → IsWithin 4096 n →
+      AllByRecursion (IsWithin 4096) (xs ++ n ∷ [])
   each-more [] n a i = (i, tt)
   each-more (x ∷ xs) n a i = (a.0, each-more xs n a.1 i)
 
   taken-here : (n t : ℕ) → r ≡ took.Bytes n t → (peer : Joined) → peer_at (past_of journal) pass.peer ≡ Some peer
       → IsTaken (out_by peer) journal pass.peer buf places (n, t) buf' places' (entries.Took pass.peer n ∷ journal)
   taken-here n t e peer there =
-      let some = subst (λ (o : Option Outgoing). IfSome o (λ out. IfBytes r (λ counts. IsTaken out journal pass.peer buf places counts buf' places'
+      let some = subst
+      (λ (o : Option Outgoing). IfSome o
+      (λ out. IfBytes r (λ counts. IsTaken out journal pass.peer buf places counts buf' places'
       (entries.Took pass.peer counts.0 ∷ journal)))) (out-here peer there) k.answer.bytes in
       subst (λ (x : Took). IfBytes x (λ counts. IsTaken (out_by peer) journal pass.peer buf places counts buf' places'
       (entries.Took pass.peer counts.0 ∷ journal))) e some
 
-  longer-here : (n t : ℕ) → r ≡ took.Bytes n t → pass'.seat.seen ≡ turn ++ (pass.seat.number, only (entries.Took pass.peer n)) ∷ []
+  longer-here : (n t : ℕ) → r ≡ took.Bytes n t →
+      pass'.seat.seen ≡ turn ++ (pass.seat.number, only (entries.Took pass.peer n)) ∷ []
   longer-here n t e =
-      subst (λ (x : Took). IfBytes x (λ counts. pass'.seat.seen ≡ turn ++ (pass.seat.number, only (entries.Took pass.peer counts.0)) ∷ [])) e k.answer.taken
+      subst (λ (x : Took). IfBytes x
+      (λ counts. pass'.seat.seen ≡ turn ++ (pass.seat.number, only (entries.Took pass.peer counts.0)) ∷ [])) e
+      k.answer.taken
 
-  frame-here : (n t : ℕ) (o : Outgoing) → IsTaken o journal pass.peer buf places (n, t) buf' places' (entries.Took pass.peer n ∷ journal)
+  frame-here : (n t : ℕ) (o : Outgoing) →
+      IsTaken o journal pass.peer buf places (n, t) buf' places' (entries.Took pass.peer n ∷ journal)
       → n ≤ length (stored o) → frame_at o.put o.taken n ≡ frame (take n buf') (take t places')
   frame-here n t o i le =
       ap₂ (λ (bs : List ℕ) (ts : List ℕ). frame bs ts)
@@ -344,11 +388,14 @@ module _ (limits : Limits) (pass pass' : PeerPass) (held now : Option (List ℕ)
       let less : n ≤ length (stored o) = grind (arith, count) in
       let J' : List Entry = settle limits.store (entries.Took pass.peer n ∷ journal) in
       let later : journal_of limits pass'.seat.seen ≡ J' =
-      ap (journal_of limits) longer ∙ ap (history limits.store) (entries-more turn pass.seat.number (only (entries.Took pass.peer n))) in
+      ap (journal_of limits) longer
+      ∙ ap (history limits.store) (entries-more turn pass.seat.number (only (entries.Took pass.peer n))) in
       let o' : Outgoing = out_for limits.store J' peer.label in
       let goes : GoesOn n o o' =
-      settle-goes limits.store (entries.Took pass.peer n) journal peer.label n (own-took pass.peer n journal peer b.stands.there) in
-      let there : peer_at (past_of J') pass.peer ≡ Some peer = settle-keeps limits.store (entries.Took pass.peer n) journal pass.peer peer b.stands.there in
+      settle-goes limits.store (entries.Took pass.peer n) journal peer.label n
+      (own-took pass.peer n journal peer b.stands.there) in
+      let there : peer_at (past_of J') pass.peer ≡ Some peer =
+      settle-keeps limits.store (entries.Took pass.peer n) journal pass.peer peer b.stands.there in
       let long = begins-long o.put o'.put goes.put in
       let left = length-drop o.taken o.put.bytes in
       let taken = b.stands.taken in
@@ -378,7 +425,8 @@ module _ (limits : Limits) (pass pass' : PeerPass) (held now : Option (List ℕ)
             (sym (frames-stay o.put o'.put 0 b.sizes goes.put (omega (arith, front)))) b.stands.gained;
       }
 
-  pub wrote : (n t : ℕ) (now' : Option (List ℕ)) → OneMore n t → Appends now now' (spelling (frame (take n buf') (take t places')))
+  pub wrote : (n t : ℕ) (now' : Option (List ℕ)) → OneMore n t →
+      Appends now now' (spelling (frame (take n buf') (take t places')))
       → Writing limits pass' held now'
   wrote n t now' m a =
       let f : Frame = frame (take n buf') (take t places') in
@@ -393,12 +441,14 @@ module _ (limits : Limits) (pass pass' : PeerPass) (held now : Option (List ℕ)
         gained = subst (λ (fs : List (List ℕ)). Appends held now' (joined fs))
             (sym (ap (map spelling) m.frames ∙ map-append spelling (frames_of m.out.put m.sizes) (f ∷ [])))
             (subst (Appends held now') (sym (joined-more (map spelling (frames_of m.out.put m.sizes)) (spelling f)))
-            (Appends-trans held now now' (joined (map spelling (frames_of m.out.put m.sizes))) (spelling f) m.gained a));
+            (Appends-trans held now now' (joined (map spelling (frames_of m.out.put m.sizes)))
+            (spelling f) m.gained a));
       })
 
   pub wrote-part : (n t : ℕ) (now' : Option (List ℕ)) (part : ℕ) → OneMore n t
       → part < length (spelling (frame (take n buf') (take t places')))
-      → Appends now now' (take part (spelling (frame (take n buf') (take t places')))) → WritesPeer limits pass' held now' ends.WriteFault
+      → Appends now now' (take part (spelling (frame (take n buf') (take t places')))) →
+      WritesPeer limits pass' held now' ends.WriteFault
   wrote-part n t now' part m short a =
       let f : Frame = frame (take n buf') (take t places') in
       record {
@@ -415,7 +465,8 @@ module _ (limits : Limits) (pass pass' : PeerPass) (held now : Option (List ℕ)
           pieces_are = ap (map spelling) m.frames ∙ map-append spelling (frames_of m.out.put m.sizes) (f ∷ []);
           count = part;
           short = short;
-          gained = Appends-trans held now now' (joined (map spelling (frames_of m.out.put m.sizes))) (take part (spelling f)) m.gained a;
+          gained = Appends-trans held now now' (joined (map spelling (frames_of m.out.put m.sizes)))
+              (take part (spelling f)) m.gained a;
         };
         ends = tt;
       }
@@ -436,25 +487,36 @@ sized limits pass pass' buf places buf' places' r n t k w e size room room' =
     let w_now = writer-stays pass.seat.seen k.rest pass.peer pass.seat.number w in
     let p = writer-joined limits turn pass.peer pass.seat.number k.lawful w_now in
     let o : Outgoing = out_for limits.store J p.0.label in
-    let out : out_at limits.store J pass.peer ≡ Some o = ap (option_map (λ (peer : Joined). out_for limits.store J peer.label)) p.1 in
-    let some = subst (λ (o : Option Outgoing). IfSome o (λ out. IfBytes r (λ counts. IsTaken out J pass.peer buf places counts buf' places'
+    let out : out_at limits.store J pass.peer ≡ Some o =
+    ap (option_map (λ (peer : Joined). out_for limits.store J peer.label)) p.1 in
+    let some = subst
+    (λ (o : Option Outgoing). IfSome o
+    (λ out. IfBytes r (λ counts. IsTaken out J pass.peer buf places counts buf' places'
     (entries.Took pass.peer counts.0 ∷ J)))) out k.answer.bytes in
     let i = subst (λ (x : Took). IfBytes x (λ counts. IsTaken o J pass.peer buf places counts buf' places'
     (entries.Took pass.peer counts.0 ∷ J))) e some in
     let a : IsAnswer (broker_of limits turn) pass.peer o r = (
-      subst (λ (o : Option Outgoing). IfSome (take_refusal_from (broker_of limits turn) pass.peer o) (λ why. r ≡ why)) out k.answer.refused,
-      subst (λ (o : Option Outgoing). IfNone (take_refusal_from (broker_of limits turn) pass.peer o) (IsBytesUnlessMemory r)) out k.answer.accepted,
+      subst (λ (o : Option Outgoing). IfSome (take_refusal_from (broker_of limits turn) pass.peer o) (λ why. r ≡ why))
+          out k.answer.refused,
+      subst (λ (o : Option Outgoing). IfNone (take_refusal_from (broker_of limits turn) pass.peer o)
+          (IsBytesUnlessMemory r)) out k.answer.accepted,
     ) in
-    let full = bytes-some (broker_of limits turn) pass.peer o n t (subst (λ (x : Took). IsAnswer (broker_of limits turn) pass.peer o x) e a) in
+    let full = bytes-some (broker_of limits turn) pass.peer o n t
+    (subst (λ (x : Took). IsAnswer (broker_of limits turn) pass.peer o x) e a) in
     let count : n ≡ min 4096 (length (stored o)) = i.count ∙ ap (λ m. min m (length (stored o))) size in
     let tokens = ap length i.tokens in
     let sum = length-append (map (λ (t : Token). t.token) (tokens_taken n o)) (drop t places) in
     let each = length-map (tokens_taken n o) (λ (t : Token). t.token) in
     let c = i.token_count in
-    record { some = grind (arith, count, full); few = grind (arith, count); tokens_few = omega (arith, tokens, sum, each, c, room') }
+    record {
+      some = grind (arith, count, full);
+      few = grind (arith, count);
+      tokens_few = omega (arith, tokens, sum, each, c, room');
+    }
 
 -- the pass stays its peer's writer
-pub writes-on : (limits : Limits) (a b : PeerPass) → b ≡ pass_having_seen a b.seat.seen → SawMore limits a.seat.seen b.seat.seen
+pub writes-on : (limits : Limits) (a b : PeerPass) → b ≡ pass_having_seen a b.seat.seen →
+    SawMore limits a.seat.seen b.seat.seen
     → writer_of a.seat.seen a.peer ≡ Some a.seat.number → writer_of b.seat.seen b.peer ≡ Some b.seat.number
 writes-on limits a b is s w =
     ap₂ (λ (h : History) q. writer_of h q) s.grew (ap (λ (p : PeerPass). p.peer) is)

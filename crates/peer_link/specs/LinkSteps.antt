@@ -16,7 +16,8 @@ abbrev pub steps_unless_bad : ℕ → Option ℕ → List ℕ → List Entry
 steps_unless_bad q None bytes = steps_in q bytes
 steps_unless_bad q (Some size) bytes = []
 
--- the messages, and the bad size, that the bytes of a frame complete, behind those that wait for more
+-- the messages, and the bad size, that the bytes of a frame complete, behind those that wait for
+-- more
 abbrev pub byte_steps : ℕ → (waiting bytes : List ℕ) → List Entry
 byte_steps q waiting bytes = steps_unless_bad q (bad_size_at waiting) (waiting ++ bytes)
 
@@ -26,9 +27,11 @@ frame_steps q waiting f = token_steps q f.tokens ++ byte_steps q waiting f.bytes
 -- the steps of frames, behind bytes that wait for more
 abbrev pub steps_behind : ℕ → (waiting : List ℕ) → List Frame → List Entry
 steps_behind q waiting [] = []
-steps_behind q waiting (f ∷ fs) = frame_steps q waiting f ++ steps_behind q (behind (waiting ++ f.bytes)) fs
+steps_behind q waiting (f ∷ fs) =
+    frame_steps q waiting f ++ steps_behind q (behind (waiting ++ f.bytes)) fs
 
--- for each frame its tokens, where it has any, and then the messages, and the bad size, that its bytes complete
+-- for each frame its tokens, where it has any, and then the messages, and the bad size, that its
+-- bytes complete
 abbrev pub link_steps : ℕ → List Frame → List Entry
 link_steps q frames = steps_behind q [] frames
 

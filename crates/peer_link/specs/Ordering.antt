@@ -41,26 +41,32 @@ pub record LooksAt (before : LinesAhead) (bytes : List ℕ) : Type 0 where
   pub near : length bytes ≤ 16384
 
 -- why no order came of these bytes, of which the line has that number
-abbrev pub StopsReading : LinesAhead → (bytes : List ℕ) → LinesAhead → (left : Option (List ℕ)) → ℕ → ShellEnd → Type 0
+abbrev pub StopsReading : LinesAhead → (bytes : List ℕ) → LinesAhead → (left : Option (List ℕ)) →
+    ℕ → ShellEnd → Type 0
 StopsReading before bytes after left number ends.Closed =
     (before.settled ≡ Some stop.End) ⊎ (LooksAt before bytes × (bytes ≡ []) × IsAtEnd left)
 StopsReading before bytes after left number (ends.BadLine n) = LooksAt before bytes × (n ≡ number)
-    × (IsTooLong bytes ⊎ (line : List ℕ) × GiveLine bytes line after left × (line_of Shell line ≡ None))
+    × (IsTooLong bytes ⊎ (line : List ℕ) × GiveLine bytes line after left
+    × (line_of Shell line ≡ None))
 StopsReading before bytes after left number ends.ReadFault = LooksAt before bytes × IsOpen bytes
 StopsReading before bytes after left number ends.NoMemory = LooksAt before bytes
 StopsReading before bytes after left number _ = ⊥
 
 -- an order came of these bytes, or none did
-abbrev pub ReadsOrder : LinesAhead → (bytes : List ℕ) → LinesAhead → (left : Option (List ℕ)) → (number : ℕ)
+abbrev pub ReadsOrder : LinesAhead → (bytes : List ℕ) → LinesAhead → (left : Option (List ℕ)) →
+    (number : ℕ)
     → Result ShellStep ShellEnd → Type 0
 ReadsOrder before bytes after left number (Ok step) =
     LooksAt before bytes × (line : List ℕ) × GiveLine bytes line after left × IsOrder line step
-ReadsOrder before bytes after left number (Err end) = StopsReading before bytes after left number end
+ReadsOrder before bytes after left number (Err end) =
+    StopsReading before bytes after left number end
 
 -- the order was made, and this is what is to be answered
-pub record IsOrdered (limits : Limits) (before after : PassSeat) (step : ShellStep) (applied : Applied) : Type 0 where
+pub record IsOrdered (limits : Limits) (before after : PassSeat) (step : ShellStep)
+    (applied : Applied) : Type 0 where
   pub entries : entries_by after ≡ entries_by before ++ entries.Shell step ∷ []
-  pub answers : answers_to limits after ≡ answers_to limits before ++ answer applied.entry applied.route ∷ []
+  pub answers : answers_to limits after
+      ≡ answers_to limits before ++ answer applied.entry applied.route ∷ []
   pub few : steps_of after ≤ applied.entry
 
 -- why an order wasn't taken, by the journal that was seen
@@ -71,13 +77,15 @@ WhyNoOrder limits s step ends.NoMemory = Unit {0}
 WhyNoOrder limits s step _ = ⊥
 
 -- the order wasn't taken
-pub record NotOrdered (limits : Limits) (before after : PassSeat) (step : ShellStep) (end : ShellEnd) : Type 0 where
+pub record NotOrdered (limits : Limits) (before after : PassSeat) (step : ShellStep)
+    (end : ShellEnd) : Type 0 where
   pub entries : entries_by after ≡ entries_by before
   pub answers : answers_to limits after ≡ answers_to limits before
   pub why : WhyNoOrder limits after step end
 
 -- of the bytes read these lines were given, and the rest is held
-abbrev pub IsHeld : Option LineStop → (held read : List ℕ) → List (List ℕ) → (left : Option (List ℕ)) → Type 0
+abbrev pub IsHeld : Option LineStop → (held read : List ℕ) → List (List ℕ) →
+    (left : Option (List ℕ)) → Type 0
 IsHeld None held read lines left = HoldLines read lines held
 IsHeld (Some stop.End) held read lines left = AreLines read lines left × IsAtEnd left
 IsHeld (Some _) held read lines left = ⊥
@@ -93,7 +101,10 @@ pub record Serving (limits : Limits) (seat : PassSeat) (reader : LinesAhead) (re
   pub gained : Appends held held_now (joined (answers_to limits seat))
 
 -- it goes on, or has ended
-abbrev pub ServesOn : Limits → PassSeat → LinesAhead → (read : List ℕ) → (left held held_now : Option (List ℕ))
+abbrev pub ServesOn : Limits → PassSeat → LinesAhead → (read : List ℕ) →
+    (left held held_now : Option (List ℕ))
     → Result (Unit {0}) ShellEnd → Type 0
-ServesOn limits seat reader read left held held_now (Ok done) = Serving limits seat reader read left held held_now
-ServesOn limits seat reader read left held held_now (Err end) = ReadsShell limits seat read left held held_now end
+ServesOn limits seat reader read left held held_now (Ok done) =
+    Serving limits seat reader read left held held_now
+ServesOn limits seat reader read left held held_now (Err end) =
+    ReadsShell limits seat read left held held_now end

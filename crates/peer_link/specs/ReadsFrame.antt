@@ -26,14 +26,16 @@ got_of ends.ReadFault = Some got.ReadFault
 got_of _ = None
 
 -- no frame came, and nothing was made
-pub record NoFrame (before after : PeerPass) (taken : List ℕ) (left : Option (List ℕ)) (end : ReadEnd) : Type 0 where
+pub record NoFrame (before after : PeerPass) (taken : List ℕ) (left : Option (List ℕ))
+    (end : ReadEnd) : Type 0 where
   pub why : Got
   pub is : got_of end ≡ Some why
   pub stops : Stops why taken left
   pub same : entries_by after.seat ≡ entries_by before.seat
 
 -- the peer has ended, and all steps were made before
-pub record EndedAfter (limits : Limits) (before after : PeerPass) (steps : List Entry) (end : ReadEnd) : Type 0 where
+pub record EndedAfter (limits : Limits) (before after : PeerPass) (steps : List Entry)
+    (end : ReadEnd) : Type 0 where
   pub cause : EndCause
   pub is : end ≡ ends.Ended cause
   pub ended : end_of (journal_of limits after.seat.seen) after.peer ≡ Some cause
@@ -45,7 +47,8 @@ pub record OneFrame (taken : List ℕ) (f : Frame) : Type 0 where
   pub spelled : taken ≡ spelling f
 
 -- all steps of a frame were made, or not all were taken, or with the last the peer has ended
-abbrev pub MakesFrame : Limits → (before after : PeerPass) → (waiting waiting_after : List ℕ) → Frame
+abbrev pub MakesFrame : Limits → (before after : PeerPass) → (waiting waiting_after : List ℕ) →
+    Frame
     → Result (Unit {0}) ReadEnd → Type 0
 MakesFrame limits before after waiting waiting_after f (Ok done) =
     (entries_by after.seat ≡ entries_by before.seat ++ frame_steps before.peer waiting f)
@@ -55,18 +58,22 @@ MakesFrame limits before after waiting waiting_after f (Err end) =
     ⊎ EndedAfter limits before after (frame_steps before.peer waiting f) end
 
 -- what was read: a frame whose steps were made, one whose steps weren't all taken, or none
-abbrev pub ReadsFrame : Limits → (before after : PeerPass) → (waiting waiting_after taken : List ℕ) → (left : Option (List ℕ))
+abbrev pub ReadsFrame : Limits → (before after : PeerPass) →
+    (waiting waiting_after taken : List ℕ) → (left : Option (List ℕ))
     → Result (Unit {0}) ReadEnd → Type 0
-ReadsFrame limits before after waiting waiting_after taken left (Ok done) = (f : Frame) × OneFrame taken f
+ReadsFrame limits before after waiting waiting_after taken left (Ok done) =
+    (f : Frame) × OneFrame taken f
     × (entries_by after.seat ≡ entries_by before.seat ++ frame_steps before.peer waiting f)
     × (waiting_after ≡ behind (waiting ++ f.bytes)) × (bad_size_at waiting_after ≡ None)
 ReadsFrame limits before after waiting waiting_after taken left (Err end) =
     NoFrame before after taken left end
-    ⊎ (f : Frame) × OneFrame taken f × (MadeFirst limits before after (frame_steps before.peer waiting f) end
+    ⊎ (f : Frame) × OneFrame taken f
+    × (MadeFirst limits before after (frame_steps before.peer waiting f) end
     ⊎ EndedAfter limits before after (frame_steps before.peer waiting f) end)
 
 -- the link was read up to its end, which isn't said yet
-pub record ReadsLink (limits : Limits) (pass : PeerPass) (read : List ℕ) (left : Option (List ℕ)) (end : ReadEnd)
+pub record ReadsLink (limits : Limits) (pass : PeerPass) (read : List ℕ) (left : Option (List ℕ))
+    (end : ReadEnd)
     : Type 0 where
   pub frames : List Frame
   pub rest : List ℕ

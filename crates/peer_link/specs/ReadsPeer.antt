@@ -15,9 +15,10 @@ use Rattle.peer_link.specs.declared.ends.ReadEnd.TheVariants as ends
 use Rattle.peer_link.specs.Made.{entries_by, journal_of, HasSeenFull}
 use Rattle.peer_link.specs.LinkSteps.{link_steps, HoldFrames}
 
--- the step of this entry wasn't taken: it is the next of those that the frames give, the last of the frames completes
--- it, and no byte past that frame was read
-pub record StopsAt (q : ℕ) (frames : List Frame) (rest : List ℕ) (made : List Entry) (e : Entry) : Type 0 where
+-- the step of this entry wasn't taken: it is the next of those that the frames give, the last of
+-- the frames completes it, and no byte past that frame was read
+pub record StopsAt (q : ℕ) (frames : List Frame) (rest : List ℕ) (made : List Entry)
+    (e : Entry) : Type 0 where
   pub before : List Frame
   pub last : Frame
   pub frames_are : frames ≡ before ++ last ∷ []
@@ -28,7 +29,8 @@ pub record StopsAt (q : ℕ) (frames : List Frame) (rest : List ℕ) (made : Lis
   pub nothing_past : rest ≡ []
 
 -- all steps that the frames give were made, and then no further frame came, as is answered
-pub record StopsBy (q : ℕ) (frames : List Frame) (rest : List ℕ) (left : Option (List ℕ)) (made : List Entry) (why : Got)
+pub record StopsBy (q : ℕ) (frames : List Frame) (rest : List ℕ) (left : Option (List ℕ))
+    (made : List Entry) (why : Got)
     : Type 0 where
   pub all : made ≡ link_steps q frames
   pub stops : Stops why rest left
@@ -39,12 +41,17 @@ pub record BeganNothing (frames : List Frame) (rest : List ℕ) (made : List Ent
   pub rest_none : rest ≡ []
   pub made_none : made ≡ []
 
--- what each end says of the frames that were read, of the rest behind them and of the entries that were made of them
-abbrev pub EndsAs : Limits → PeerPass → List Frame → List ℕ → Option (List ℕ) → List Entry → ReadEnd → Type 0
+-- what each end says of the frames that were read, of the rest behind them and of the entries that
+-- were made of them
+abbrev pub EndsAs : Limits → PeerPass → List Frame → List ℕ → Option (List ℕ) → List Entry →
+    ReadEnd → Type 0
 EndsAs limits p frames rest left made ends.Closed = StopsBy p.peer frames rest left made got.End
-EndsAs limits p frames rest left made (ends.Torn n) = StopsBy p.peer frames rest left made (got.Torn n)
-EndsAs limits p frames rest left made (ends.BadFrame n t) = StopsBy p.peer frames rest left made (got.BadFrame n t)
-EndsAs limits p frames rest left made ends.ReadFault = StopsBy p.peer frames rest left made got.ReadFault
+EndsAs limits p frames rest left made (ends.Torn n) =
+    StopsBy p.peer frames rest left made (got.Torn n)
+EndsAs limits p frames rest left made (ends.BadFrame n t) =
+    StopsBy p.peer frames rest left made (got.BadFrame n t)
+EndsAs limits p frames rest left made ends.ReadFault =
+    StopsBy p.peer frames rest left made got.ReadFault
 EndsAs limits p frames rest left made (ends.Ended cause) =
     (end_of (journal_of limits p.seat.seen) p.peer ≡ Some cause)
     × ((made ≡ link_steps p.peer frames) ⊎ (e : Entry) × StopsAt p.peer frames rest made e)
@@ -58,9 +65,11 @@ abbrev pub gone_after : ℕ → ReadEnd → List Entry
 gone_after q (ends.Ended cause) = []
 gone_after q _ = entries.End q Gone ∷ []
 
--- Of the bytes that were read, these are the frames and that the rest behind them. The pass's entries are a prefix of the
--- steps that the frames give, in order, and then that the link is gone, unless its peer had ended.
-pub record ReadsPeer (limits : Limits) (pass : PeerPass) (read : List ℕ) (left : Option (List ℕ)) (end : ReadEnd)
+-- Of the bytes that were read, these are the frames and that the rest behind them. The pass's
+-- entries are a prefix of the steps that the frames give, in order, and then that the link is gone,
+-- unless its peer had ended.
+pub record ReadsPeer (limits : Limits) (pass : PeerPass) (read : List ℕ) (left : Option (List ℕ))
+    (end : ReadEnd)
     : Type 0 where
   pub frames : List Frame
   pub rest : List ℕ

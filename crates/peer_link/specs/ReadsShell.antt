@@ -17,27 +17,33 @@ use Rattle.peer_link.specs.Gains.{Gains}
 use Rattle.peer_link.specs.ShellLines.{HoldLines, BeginWith, AreLines, IsOrder, AreOrders}
 use Rattle.peer_link.specs.ShellAnswers.{answers_to}
 
--- the bytes read are these lines and what was read behind them, which reaches at most 16,384 past their end, where the
--- next line begins
+-- the bytes read are these lines and what was read behind them, which reaches at most 16,384 past
+-- their end, where the next line begins
 pub record ReadsNear (read : List ℕ) (lines : List (List ℕ)) (rest : List ℕ) : Type 0 where
   pub holds : HoldLines read lines rest
   pub near : length rest ≤ 16384
 
 -- the bytes begin with a line that is outside of the grammar, or too long for any line
 abbrev pub BeginBad : (bytes : List ℕ) → (left : Option (List ℕ)) → Type 0
-BeginBad bytes left = IsTooLong bytes ⊎ (line : List ℕ) × BeginWith bytes line left × (line_of Shell line ≡ None)
+BeginBad bytes left =
+    IsTooLong bytes ⊎ (line : List ℕ) × BeginWith bytes line left × (line_of Shell line ≡ None)
 
 -- the bytes begin with the line of an order for which the journal is full, that holds so much
-abbrev pub BeginFull : Limits → PassSeat → (bytes : List ℕ) → (left : Option (List ℕ)) → Kept → Type 0
-BeginFull limits s bytes left kept = (line : List ℕ) × (step : ShellStep) × BeginWith bytes line left
-    × IsOrder line step × (full_in limits (journal_of limits s.seen) (entries.Shell step) ≡ Some kept)
+abbrev pub BeginFull : Limits → PassSeat → (bytes : List ℕ) → (left : Option (List ℕ)) → Kept →
+    Type 0
+BeginFull limits s bytes left kept =
+    (line : List ℕ) × (step : ShellStep) × BeginWith bytes line left
+    × IsOrder line step
+    × (full_in limits (journal_of limits s.seen) (entries.Shell step) ≡ Some kept)
 
 -- what each end says of the lines that were ordered, and of what was read behind them
-abbrev pub EndsAs : Limits → PassSeat → (read : List ℕ) → (left : Option (List ℕ)) → List (List ℕ) → ShellEnd → Type 0
+abbrev pub EndsAs : Limits → PassSeat → (read : List ℕ) → (left : Option (List ℕ)) → List (List ℕ) →
+    ShellEnd → Type 0
 EndsAs limits s read left lines ends.Closed = AreLines read lines left × IsAtEnd left
 EndsAs limits s read left lines (ends.BadLine number) =
     (number ≡ length lines + 1) × (rest : List ℕ) × ReadsNear read lines rest × BeginBad rest left
-EndsAs limits s read left lines ends.ReadFault = (rest : List ℕ) × ReadsNear read lines rest × IsOpen rest
+EndsAs limits s read left lines ends.ReadFault =
+    (rest : List ℕ) × ReadsNear read lines rest × IsOpen rest
 EndsAs limits s read left lines ends.WriteFault =
     (before : List (List ℕ)) × (last : List ℕ) × (lines ≡ before ++ last ∷ [])
     × (rest : List ℕ) × ReadsNear read before rest × BeginWith rest last left
@@ -50,8 +56,10 @@ abbrev pub is_cut : ShellEnd → Bool
 is_cut ends.WriteFault = true
 is_cut _ = false
 
--- The pass's steps are the orders of the first lines of the bytes read, in order, and the sink gained an answer to each.
-pub record ReadsShell (limits : Limits) (seat : PassSeat) (read : List ℕ) (left held held_after : Option (List ℕ))
+-- The pass's steps are the orders of the first lines of the bytes read, in order, and the sink
+-- gained an answer to each.
+pub record ReadsShell (limits : Limits) (seat : PassSeat) (read : List ℕ)
+    (left held held_after : Option (List ℕ))
     (end : ShellEnd) : Type 0 where
   pub lines : List (List ℕ)
   pub steps : List ShellStep

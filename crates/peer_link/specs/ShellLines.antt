@@ -31,13 +31,15 @@ pub record IsLastLine (bytes line : List ℕ) (left : Option (List ℕ)) : Type 
 
 -- the bytes begin with this line, which its line feed ends, or the source's end
 abbrev pub BeginWith : (bytes line : List ℕ) → (left : Option (List ℕ)) → Type 0
-BeginWith bytes line left = ((rest : List ℕ) × BeginsWithLine bytes line rest) ⊎ IsLastLine bytes line left
+BeginWith bytes line left =
+    ((rest : List ℕ) × BeginsWithLine bytes line rest) ⊎ IsLastLine bytes line left
 
 -- the bytes are these lines, of which the last may lack its line feed
 abbrev pub AreLines : (bytes : List ℕ) → List (List ℕ) → (left : Option (List ℕ)) → Type 0
 AreLines bytes lines left =
     HoldLines bytes lines []
-    ⊎ (before : List (List ℕ)) × (last : List ℕ) × (lines ≡ before ++ last ∷ []) × HoldLines bytes before last
+    ⊎ (before : List (List ℕ)) × (last : List ℕ) × (lines ≡ before ++ last ∷ [])
+    × HoldLines bytes before last
     × IsLastLine last last left
 
 -- the order that a line gives

@@ -18,12 +18,14 @@ use Rattle.peer_link.specs.Made.{entries_by, journal_of}
 -- why the step of an entry wasn't taken, by the journal that the pass has then seen
 abbrev pub WhyNot : Limits → PeerPass → Entry → ReadEnd → Type 0
 WhyNot limits p e (ends.Ended cause) = end_of (journal_of limits p.seat.seen) p.peer ≡ Some cause
-WhyNot limits p e (ends.JournalFull kept) = full_in limits (journal_of limits p.seat.seen) e ≡ Some kept
+WhyNot limits p e (ends.JournalFull kept) =
+    full_in limits (journal_of limits p.seat.seen) e ≡ Some kept
 WhyNot limits p e ends.NoMemory = Unit {0}
 WhyNot limits p e _ = ⊥
 
 -- the first of the steps were made, and the next wasn't taken
-pub record MadeFirst (limits : Limits) (before after : PeerPass) (steps : List Entry) (end : ReadEnd) : Type 0 where
+pub record MadeFirst (limits : Limits) (before after : PeerPass) (steps : List Entry)
+    (end : ReadEnd) : Type 0 where
   pub made : List Entry
   pub e : Entry
   pub more : List Entry
@@ -32,8 +34,10 @@ pub record MadeFirst (limits : Limits) (before after : PeerPass) (steps : List E
   pub why : WhyNot limits after e end
 
 -- all were made, or the first of them
-abbrev pub Submits : {T : Type 0} → Limits → PeerPass → PeerPass → List Entry → Result T ReadEnd → Type 0
-Submits limits before after steps (Ok done) = entries_by after.seat ≡ entries_by before.seat ++ steps
+abbrev pub Submits : {T : Type 0} → Limits → PeerPass → PeerPass → List Entry → Result T ReadEnd →
+    Type 0
+Submits limits before after steps (Ok done) =
+    entries_by after.seat ≡ entries_by before.seat ++ steps
 Submits limits before after steps (Err end) = MadeFirst limits before after steps end
 
 -- the peer has ended for a refused message
@@ -56,5 +60,6 @@ IsRefusal _ end = Unit {0}
 
 -- bytes wait for more, which stand behind the whole messages, or a bad size has ended the peer
 abbrev pub LeavesOff : Limits → PeerPass → (bytes waiting : List ℕ) → Ahead → Type 0
-LeavesOff limits p bytes waiting ahead.More = (waiting ≡ behind bytes) × (bad_size_at waiting ≡ None)
+LeavesOff limits p bytes waiting ahead.More =
+    (waiting ≡ behind bytes) × (bad_size_at waiting ≡ None)
 LeavesOff limits p bytes waiting ahead.Nothing = HasEndedBad limits p

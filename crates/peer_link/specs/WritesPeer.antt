@@ -49,9 +49,11 @@ EndsAs limits p out sizes (ends.JournalFull kept) =
 EndsAs limits p out sizes ends.WriteFault = Unit {0}
 EndsAs limits p out sizes ends.NoMemory = Unit {0}
 
--- The pass's takes took so many bytes each. Together they are the first of what the journal that it has seen puts out for
--- the peer, and all that was taken of that. The sink gained one frame for each take.
-pub record WritesPeer (limits : Limits) (pass : PeerPass) (held held_after : Option (List ℕ)) (end : WriteEnd)
+-- The pass's takes took so many bytes each. Together they are the first of what the journal that it
+-- has seen puts out for the peer, and all that was taken of that. The sink gained one frame for
+-- each take.
+pub record WritesPeer (limits : Limits) (pass : PeerPass) (held held_after : Option (List ℕ))
+    (end : WriteEnd)
     : Type 0 where
   pub sizes : List ℕ
   pub each : AllByRecursion (IsWithin 4096) sizes

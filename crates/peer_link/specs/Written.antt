@@ -14,7 +14,8 @@ use Rattle.peer_link.specs.declared.ends.WriteEnd.{WriteEnd}
 use Rattle.peer_link.specs.Made.{entries_by, journal_of}
 use Rattle.peer_link.specs.WritesPeer.{frames_of, WritesPeer}
 
--- the takes so far: what they took is all that was taken of what is out for the peer, and was written in frames
+-- the takes so far: what they took is all that was taken of what is out for the peer, and was
+-- written in frames
 pub record Written (limits : Limits) (pass : PeerPass) (held now : Option (List ℕ)) : Type 0 where
   pub sizes : List ℕ
   pub each : AllByRecursion (IsWithin 4096) sizes
@@ -27,9 +28,11 @@ pub record Written (limits : Limits) (pass : PeerPass) (held now : Option (List 
 
 -- nothing was taken yet, or so it is
 abbrev pub Writing : Limits → PeerPass → (held now : Option (List ℕ)) → Type 0
-Writing limits pass held now = ((entries_by pass.seat ≡ []) × Appends held now []) ⊎ Written limits pass held now
+Writing limits pass held now =
+    ((entries_by pass.seat ≡ []) × Appends held now []) ⊎ Written limits pass held now
 
 -- it goes on, or has ended
-abbrev pub WritesOn : Limits → PeerPass → (held now : Option (List ℕ)) → Result (Unit {0}) WriteEnd → Type 0
+abbrev pub WritesOn : Limits → PeerPass → (held now : Option (List ℕ)) →
+    Result (Unit {0}) WriteEnd → Type 0
 WritesOn limits pass held now (Ok done) = Writing limits pass held now
 WritesOn limits pass held now (Err end) = WritesPeer limits pass held now end

@@ -19,4 +19,8 @@ preedit_of p = record { text = text_of p.text; begin = p.begin; end = p.end }
 
 abbrev pub batch_of : Edits → model.Batch
 batch_of b =
-    record { deletion = deletion_of b.deletion; string = text_of b.string; preedit = preedit_of b.preedit }
+    record {
+      deletion = deletion_of b.deletion;
+      string = text_of b.string;
+      preedit = preedit_of b.preedit;
+    }

@@ -9,5 +9,6 @@ use Rattle.relay_model.specs.Told.{key_told}
 
 -- a key of a board, told where it goes after these acts; no other act tells one
 abbrev pub board_key_told : Act → List Act → List Told
-board_key_told (VKey v time key state) older = key_told (next older) time key state (board_route older v key state)
+board_key_told (VKey v time key state) older =
+    key_told (next older) time key state (board_route older v key state)
 board_key_told _ older = []

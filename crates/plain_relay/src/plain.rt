@@ -53,7 +53,7 @@ fn tell_rest(
 /// are taken. `NoMemory` is its one error. The time grows with about the third power of the number
 /// of acts, the fourth where methods commit or there are many popups; each act before is a frame of
 /// the stack.
-#[tactic(auto, using(crate::proofs::Runs::told_after_history))]
+#[tactic(auto, using(crate::proofs::GrownHistory::told_after_history))]
 pub fn plain_told(alloc: Global, acts: &[Act]) -> Result<Vec<Told>, NoMemory>
     requires { length acts.now < 2 ^ 32 }
     ensures { IfOk result (λ told. told.items ≡ all_told acts.now) }

@@ -14,7 +14,7 @@ use Rattle.plain_run.specs.Endings.{with_front, ending, is_long}
 use Rattle.plain_run.specs.Transcript.{answer_from, verdict_of, act_text}
 use Rattle.plain_run.specs.Scripts.{Follows, Settles, NamesNext, Played}
 use Rattle.plain_run.specs.ActScript.{ActsStand, acts_text}
-use Rattle.plain_run.proofs.Answering.{by_line, answer_cons, answer_nil, front_of_front}
+use Rattle.plain_run.proofs.ActListAnswers.{by_line, answer_cons, answer_nil, front_of_front}
 
 by_verdict_of : (done : List (List ℕ)) (output : List ℕ) (log : List Act) (raw : List ℕ) (n : ℕ) (v : Verdict)
     → ((cut : Bool) (more : List (List ℕ)) → answer_from cut [] (done ++ more) ≡ with_front output

@@ -6,10 +6,11 @@ use Rattle.plain_run.specs.Endings.{Answer, with_front, ending}
 use Rattle.plain_run.specs.Lines.{bytes_of}
 use Rattle.plain_run.specs.Scripts.{Played}
 use Rattle.plain_run.specs.Reading.{IsDivided, IsReadTo, ComesTo}
-use Rattle.plain_run.proofs.Splits.{length_of, few_lines}
+use Rattle.plain_run.proofs.InputSplits.{length_of, few_lines}
 use Rattle.plain_run.proofs.LinesTold.{open_or_ended, LineCame, told_by_line}
 
-pub line_played : {limit : ℕ} (answer : Bool → List (List ℕ) → Answer) (stands : List (List ℕ) → List ℕ → Type 0) (holds : List ℕ
+pub line_played : {limit : ℕ} (answer : Bool → List (List ℕ) → Answer) (stands : List (List ℕ) → List ℕ → Type 0)
+    (holds : List ℕ
     → Type 0) (gf lf g l : Option (List ℕ))
     (before after : LinesAhead) (done : List (List ℕ)) (raw read output gathered : List ℕ) (end : Option LastLine)
     → LineCame limit gf lf g l before after done raw read → Played answer stands holds done raw output gathered end
@@ -35,5 +36,6 @@ few_done {limit} gf lf g l reader done read r =
           let within = r.within in
           let small = r.small in
           omega (arith, ap length d.0, length-append (bytes_of done) reader.held, length_of done, few_lines done)
-      | inr e ↦ let d = subst (λ o. IsDivided limit o reader.held l done read) e r.divided in omega (arith, d.4, r.small)
+      | inr e ↦ let d =
+          subst (λ o. IsDivided limit o reader.held l done read) e r.divided in omega (arith, d.4, r.small)
     ]

@@ -15,7 +15,7 @@ use Rattle.plain_run.specs.Endings.{Answer, with_front, ending}
 use Rattle.plain_run.specs.Lines.{lines_of, lines_read, is_cut, bytes_of}
 use Rattle.plain_run.specs.Scripts.{Follows, Settles, NamesNext}
 use Rattle.plain_run.specs.Reading.{LackFeeds, IsDivided, IsReadTo, LeadsOff, StaysNear, IsTold, bytes_ahead}
-use Rattle.plain_run.proofs.Splits.{lines_front, lines_nil, lines_open, lines_long}
+use Rattle.plain_run.proofs.InputSplits.{lines_front, lines_nil, lines_open, lines_long}
 use Rattle.plain_run.proofs.ReadLines.{ReadBytes, went_on, input_lines, input_ended, input_cut, leads, none_came, whole_line, last_line_read}
 
 -- the reader went on, or its answer was settled
@@ -30,7 +30,8 @@ by_settled o before after g0 g1 l0 l1 result e h =
     (λ why. (stop_of result ≡ Some why) × (after ≡ before))) e h
 
 -- a reader that reads up to a line is settled at the end alone
-pub open_or_ended : {limit : ℕ} (gf lf g l : Option (List ℕ)) (reader : LinesAhead) (done : List (List ℕ)) (read : List ℕ)
+pub open_or_ended : {limit : ℕ} (gf lf g l : Option (List ℕ)) (reader : LinesAhead) (done : List (List ℕ))
+    (read : List ℕ)
     → IsReadTo limit gf lf g l reader done read
     → (reader.settled ≡ None) ⊎ (reader.settled ≡ Some stop.End)
 open_or_ended {limit} gf lf g l reader done read r = by reader.settled refl r.divided
@@ -44,9 +45,11 @@ open_or_ended {limit} gf lf g l reader done read r = by reader.settled refl r.di
     by (Some stop.ReadFault) e d = absurd d
 
 -- where it answers anything but the end, it went on
-pub goes : {limit : ℕ} (gf lf g0 l0 g1 l1 : Option (List ℕ)) (before after : LinesAhead) (result : NextLine) (done : List (List ℕ))
+pub goes : {limit : ℕ} (gf lf g0 l0 g1 l1 : Option (List ℕ)) (before after : LinesAhead) (result : NextLine)
+    (done : List (List ℕ))
     (read : List ℕ)
-    → IsReadTo limit gf lf g0 l0 before done read → Answers before after g0 g1 l0 l1 result → stop_of result ≢ Some stop.End
+    → IsReadTo limit gf lf g0 l0 before done read → Answers before after g0 g1 l0 l1 result →
+    stop_of result ≢ Some stop.End
     → (before.settled ≡ None) × ((more : List ℕ) × GoesOn before after g0 g1 l0 l1 result more)
 goes {limit} gf lf g0 l0 g1 l1 before after result done read r h other =
     elim (open_or_ended gf lf g0 l0 before done read r) [
@@ -134,7 +137,8 @@ line_came {limit} gf lf g0 l0 g1 l1 before after raw done read r h waits =
         let d = subst (λ o. IsDivided limit o after.held l1 (done ++ line ∷ []) read) e up_to.divided in (d.0, d.2)
 
 -- the line decided
-pub told_by_line : {limit : ℕ} (answer : Bool → List (List ℕ) → Answer) (gf lf g l : Option (List ℕ)) (before after : LinesAhead)
+pub told_by_line : {limit : ℕ} (answer : Bool → List (List ℕ) → Answer) (gf lf g l : Option (List ℕ))
+    (before after : LinesAhead)
     (done : List (List ℕ)) (raw read : List ℕ) (whole : Answer)
     → (came : LineCame limit gf lf g l before after done raw read) → Settles answer (done ++ raw ∷ []) whole
     → IsTold limit answer lf l done came.read_after whole
@@ -164,7 +168,8 @@ told_by_line {limit} answer gf lf g l before after done raw read whole came s =
         inr (end.0, ap (answer false) (end.1 ∙ sym (append-nil (done ++ raw ∷ []))) ∙ s.same false [])
 
 -- the source ended
-told_end : {limit : ℕ} (answer : Bool → List (List ℕ) → Answer) (lf l : Option (List ℕ)) (done : List (List ℕ)) (read : List ℕ)
+told_end : {limit : ℕ} (answer : Bool → List (List ℕ) → Answer) (lf l : Option (List ℕ)) (done : List (List ℕ))
+    (read : List ℕ)
     (whole : Answer)
     → Consumes lf l read → IsAtEnd l → length read < limit → lines_of false read ≡ done
     → answer false done ≡ whole → IsTold limit answer lf l done read whole
@@ -282,7 +287,8 @@ limit_came {limit} answer gf lf g0 l0 g1 l1 before after done read output r h wa
   where
     all : (now : List ℕ) (o p : Option (List ℕ)) → Consumes o p now → length now ≡ limit
         → answer true (lines_of true now) ≡ with_front output (ending last.Long)
-        → IfSome o (λ bytes. answer (is_cut limit bytes) (lines_read limit bytes) ≡ with_front output (ending last.Long))
+        → IfSome o (λ bytes. answer (is_cut limit bytes) (lines_read limit bytes)
+        ≡ with_front output (ending last.Long))
     all now None p took full is = tt
     all now (Some bytes) None took full is = absurd took
     all now (Some bytes) (Some rest) took full is =
@@ -397,12 +403,15 @@ fault_came {limit} gf lf g0 l0 g1 l1 before after done read r h waits =
 pub end_or_long_came : {limit : ℕ} (answer : Bool → List (List ℕ) → Answer) (gf lf g0 l0 g1 l1 : Option (List ℕ))
     (before after : LinesAhead) (result : NextLine) (done : List (List ℕ)) (read output : List ℕ) (end : End)
     → (result ≡ answers.End) ⊎ (result ≡ answers.Long)
-    → IsReadTo limit gf lf g0 l0 before done read → Answers before after g0 g1 l0 l1 result → (¬ IsOpen before.held → l1 ≡ l0)
+    → IsReadTo limit gf lf g0 l0 before done read → Answers before after g0 g1 l0 l1 result →
+    (¬ IsOpen before.held → l1 ≡ l0)
     → (before.settled ≡ Some stop.End → (g1 ≡ g0) × (l1 ≡ l0)) → NamesNext answer done output end
     → Came limit answer gf lf g1 l1 before done read (with_front output (ending end))
-end_or_long_came {limit} answer gf lf g0 l0 g1 l1 before after result done read output end (inl e) r h waits still names =
+end_or_long_came {limit} answer gf lf g0 l0 g1 l1 before after result done read output end
+    (inl e) r h waits still names =
     end_came answer gf lf g0 l0 g1 l1 before after done read output end r
     (subst (Answers before after g0 g1 l0 l1) e h) waits still names
-end_or_long_came {limit} answer gf lf g0 l0 g1 l1 before after result done read output end (inr e) r h waits still names =
+end_or_long_came {limit} answer gf lf g0 l0 g1 l1 before after result done read output end
+    (inr e) r h waits still names =
     long_came answer gf lf g0 l0 g1 l1 before after done read output end r
     (subst (Answers before after g0 g1 l0 l1) e h) waits names

@@ -9,7 +9,7 @@ use Rattle.plain_run.specs.Lines.{lines_read, size_of}
 use Rattle.plain_run.specs.Scripts.{Follows}
 use Rattle.plain_run.specs.Reading.{LeadsOff}
 use Rattle.plain_run.specs.LineByLine.{ReachesNear}
-use Rattle.plain_run.proofs.Splits.{size_both}
+use Rattle.plain_run.proofs.InputSplits.{size_both}
 
 -- no line of these decides, and with none of them the output is longer than so many bytes
 pub record Within (answer : Bool → List (List ℕ) → Answer) (done : List (List ℕ)) (n : ℕ) : Type 0 where
@@ -109,7 +109,8 @@ reaches P base rest lines read e near none before line after split holds =
     ]
 
 -- what was read is near to the line that decides, and to the first of which not all was written
-pub record IsNear (limit : ℕ) (answer : Bool → List (List ℕ) → Answer) (lf held0 held : Option (List ℕ)) (read : List ℕ) :
+pub record IsNear (limit : ℕ) (answer : Bool → List (List ℕ) → Answer) (lf held0 held : Option (List ℕ))
+    (read : List ℕ) :
     Type 0 where
   pub deciding : IfSome lf (λ bytes.
       ReachesNear (lines_read limit bytes) read (λ lines. is_long (answer true lines).1 ≡ false))
@@ -118,7 +119,8 @@ pub record IsNear (limit : ℕ) (answer : Bool → List (List ℕ) → Answer) (
       (λ lines. length now < length was + length (shown (answer true lines))))))
 
 -- it is near to those of which so many bytes were written
-pub is_near : {limit : ℕ} (answer : Bool → List (List ℕ) → Answer) (lf held0 held : Option (List ℕ)) (base : List (List ℕ))
+pub is_near : {limit : ℕ} (answer : Bool → List (List ℕ) → Answer) (lf held0 held : Option (List ℕ))
+    (base : List (List ℕ))
     (read gained : List ℕ) (n : ℕ) → LeadsOff limit lf base → IfSome lf (λ bytes. length read ≤ size_of base + 16384)
     → Within answer base n → Appends held0 held gained → n ≤ length gained → IsNear limit answer lf held0 held read
 is_near {limit} answer lf held0 held base read gained n ahead near w grew enough = record {

@@ -13,17 +13,20 @@ use Rattle.plain_run.specs.Scripts.{Follows, Settles, NamesNext, Played}
 use Rattle.plain_run.specs.Session.{meaning_of, first_stage, header_of}
 use Rattle.plain_run.specs.Migrating.{line_text, migrated_end, migrated_line, migrated_header, by_migrated, migrated_from, by_old_header, migrated_lines}
 use Rattle.plain_run.specs.MigrationScript.{left_by, MigrationStands, migration_text}
-use Rattle.plain_run.proofs.Answering.{front_of_front}
-use Rattle.plain_run.proofs.Sessions.{long_is_bad, long_is_no_header}
+use Rattle.plain_run.proofs.ActListAnswers.{front_of_front}
+use Rattle.plain_run.proofs.SessionLines.{long_is_bad, long_is_no_header}
 
 pub from_cons : (cut : Bool) (n : ℕ) (raw : List ℕ) (lines : List (List ℕ))
-    → migrated_from cut n (raw ∷ lines) ≡ by_migrated raw (migrated_end n (meaning_of (first_stage Session) raw)) (migrated_from cut (n + 1) lines)
+    → migrated_from cut n (raw ∷ lines)
+    ≡ by_migrated raw (migrated_end n (meaning_of (first_stage Session) raw)) (migrated_from cut (n + 1) lines)
 unfolding migrated_from
 from_cons cut n raw lines = refl
 
 -- a line behind the header
-went : (m : Migration) (done : List (List ℕ)) (output raw : List ℕ) (k : Option LastLine) → MigrationStands m done output
-    → m.is_begun ≡ true → k ≡ migrated_end m.before (meaning_of (first_stage Session) raw) → (cut : Bool) (more : List (List ℕ))
+went : (m : Migration) (done : List (List ℕ)) (output raw : List ℕ) (k : Option LastLine) →
+    MigrationStands m done output
+    → m.is_begun ≡ true → k ≡ migrated_end m.before (meaning_of (first_stage Session) raw) →
+    (cut : Bool) (more : List (List ℕ))
     → migrated_lines cut ((done ++ raw ∷ []) ++ more)
     ≡ with_front output (by_migrated raw k (migrated_from cut (m.before + 1) more))
 went m done output raw k s begun is cut more =
@@ -34,7 +37,8 @@ went m done output raw k s begun is cut more =
 
 -- a line that decides
 settles : (m : Migration) (done : List (List ℕ)) (output raw : List ℕ) (end : LastLine) → MigrationStands m done output
-    → m.is_begun ≡ true → Some end ≡ migrated_end m.before (meaning_of (first_stage Session) raw) → is_long (ending end).1 ≡ false
+    → m.is_begun ≡ true → Some end ≡ migrated_end m.before (meaning_of (first_stage Session) raw) →
+    is_long (ending end).1 ≡ false
     → Settles migrated_lines (done ++ raw ∷ []) (with_front output (ending end))
 settles m done output raw end s begun is other =
     record { same = λ cut more. went m done output raw (Some end) s begun is cut more; decides = other }
@@ -42,10 +46,12 @@ settles m done output raw end s begun is other =
 decides : (n : ℕ) (k : Meaning) (end : LastLine) → Some end ≡ migrated_end n k → is_long (ending end).1 ≡ false
 decides n (meaning.Play stamp found) end is = absurd (cc is)
 decides n meaning.End end is = let same : last.Over ≡ end = cc in subst (λ e. is_long (ending e).1 ≡ false) same refl
-decides n meaning.Bad end is = let same : last.Bad (n + 1) ≡ end = cc in subst (λ e. is_long (ending e).1 ≡ false) same refl
+decides n meaning.Bad end is = let same : last.Bad (n + 1) ≡ end =
+    cc in subst (λ e. is_long (ending e).1 ≡ false) same refl
 
 follows : (n : ℕ) (done : List (List ℕ)) (output : List ℕ)
-    → ((cut : Bool) (more : List (List ℕ)) → migrated_lines cut (done ++ more) ≡ with_front output (migrated_from cut n more))
+    → ((cut : Bool) (more : List (List ℕ)) →
+    migrated_lines cut (done ++ more) ≡ with_front output (migrated_from cut n more))
     → Follows migrated_lines done output
 unfolding migrated_from
 follows n done output goes = record {
@@ -56,7 +62,8 @@ follows n done output goes = record {
 -- the output goes on behind these lines
 Goes : ℕ → List (List ℕ) → List ℕ → Type 0
 Goes n done output =
-    (cut : Bool) (more : List (List ℕ)) → migrated_lines cut (done ++ more) ≡ with_front output (migrated_from cut n more)
+    (cut : Bool) (more : List (List ℕ)) →
+    migrated_lines cut (done ++ more) ≡ with_front output (migrated_from cut n more)
 
 -- one line more was written
 written : (after : Migration) (done : List (List ℕ)) (raw output gathered more : List ℕ) → after.is_begun ≡ true
@@ -97,7 +104,8 @@ ended stands text done raw output gathered end held s = (
 )
 
 pub line_told : (m after : Migration) (done : List (List ℕ)) (raw output gathered : List ℕ) (k : Option LastLine)
-    → MigrationStands m done output → m.is_begun ≡ true → k ≡ migrated_end m.before (meaning_of (first_stage Session) raw)
+    → MigrationStands m done output → m.is_begun ≡ true →
+    k ≡ migrated_end m.before (meaning_of (first_stage Session) raw)
     → after.is_begun ≡ true → after.before ≡ m.before + 1 → migration_text after ≡ migration_text m ++ line_text raw k
     → migration_text m ≡ gathered
     → Played migrated_lines (MigrationStands after) (λ g. migration_text after ≡ g) done raw output gathered k
@@ -110,10 +118,12 @@ line_told m after done raw output gathered (Some end) s begun is still next text
     (settles m done output raw end s begun is (decides m.before (meaning_of (first_stage Session) raw) end is))
 
 -- the same of a call that may have found no memory
-pub line_told_if : {E : Type 0} (m after : Migration) (done : List (List ℕ)) (raw output gathered : List ℕ) (r : Result (Option LastLine) E)
+pub line_told_if : {E : Type 0} (m after : Migration) (done : List (List ℕ)) (raw output gathered : List ℕ)
+    (r : Result (Option LastLine) E)
     → MigrationStands m done output → m.is_begun ≡ true → m.before < 2 ^ 63
     → IfOk r (λ k. m.before < 2 ^ 63 → k ≡ migrated_end m.before (meaning_of (first_stage Session) raw))
-    → after.is_begun ≡ true → after.before ≡ m.before + 1 → IfOk r (λ k. migration_text after ≡ migration_text m ++ line_text raw k)
+    → after.is_begun ≡ true → after.before ≡ m.before + 1 →
+    IfOk r (λ k. migration_text after ≡ migration_text m ++ line_text raw k)
     → migration_text m ≡ gathered
     → IfOk r (Played migrated_lines (MigrationStands after) (λ g. migration_text after ≡ g) done raw output gathered)
 line_told_if m after done raw output gathered (Ok k) s begun few is still next text held =
@@ -122,7 +132,8 @@ line_told_if m after done raw output gathered (Err e) s begun few is still next 
 
 -- the first line
 
-first_goes : (m : Migration) (done : List (List ℕ)) (output raw : List ℕ) (o : Option Limits) → MigrationStands m done output
+first_goes : (m : Migration) (done : List (List ℕ)) (output raw : List ℕ) (o : Option Limits) →
+    MigrationStands m done output
     → m.is_begun ≡ false → o ≡ header_of Session raw → (cut : Bool) (more : List (List ℕ))
     → migrated_lines cut ((done ++ raw ∷ []) ++ more) ≡ with_front output (by_old_header cut o more)
 first_goes m done output raw o s none is cut more =
@@ -141,7 +152,8 @@ header_goes m n done output raw limits s none is one cut more =
 
 pub header_written : (m after : Migration) (done : List (List ℕ)) (raw output gathered : List ℕ) (limits : Limits)
     → MigrationStands m done output → m.is_begun ≡ false → Some limits ≡ header_of Session raw
-    → after.is_begun ≡ true → after.before ≡ m.before + 1 → migration_text after ≡ migration_text m ++ migrated_header limits
+    → after.is_begun ≡ true → after.before ≡ m.before + 1 →
+    migration_text after ≡ migration_text m ++ migrated_header limits
     → migration_text m ≡ gathered
     → Played migrated_lines (MigrationStands after) (λ g. migration_text after ≡ g) done raw output gathered None
 header_written m after done raw output gathered limits s none is still next text held =
@@ -166,7 +178,8 @@ names_next m done output next s is =
             ∙ ap (λ b. with_front output (left_by b false m.before [])) begun
             ∙ ap (λ n. with_front output (ending (last.Bad n))) (sym is);
         long = λ raw wide. settles m done output raw (last.Bad next) s begun
-            (ap (λ n. Some (last.Bad n)) is ∙ ap (migrated_end m.before) (sym (long_is_bad (first_stage Session) raw wide))) refl;
+            (ap (λ n. Some (last.Bad n)) is
+            ∙ ap (migrated_end m.before) (sym (long_is_bad (first_stage Session) raw wide))) refl;
       }
       | false ↦ λ none.
           let one : 1 ≡ next = sym (is ∙ ap (λ n. n + 1) (s.first none)) in
@@ -174,7 +187,8 @@ names_next m done output next s is =
             missing = ap (migrated_lines false) (sym (append-nil done)) ∙ s.goes_on false []
                 ∙ ap (λ b. with_front output (left_by b false m.before [])) none
                 ∙ ap (λ n. with_front output (ending (last.Bad n))) one;
-            long = λ raw wide. subst (λ n. Settles migrated_lines (done ++ raw ∷ []) (with_front output (ending (last.Bad n)))) one
+            long = λ raw wide. subst
+                (λ n. Settles migrated_lines (done ++ raw ∷ []) (with_front output (ending (last.Bad n)))) one
                 (no_header m done output raw s none (sym (long_is_no_header Session raw wide)));
           }
     ] refl

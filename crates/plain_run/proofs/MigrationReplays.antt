@@ -18,8 +18,8 @@ use Rattle.session_text.specs.SessionReading.{one_shell_word, one_session_word}
 use Rattle.session_text.specs.StampedReading.{session_2_of}
 use Rattle.transcript_text.specs.Printing.{unstamped}
 use Rattle.session_text.specs.Reading.{line_of}
-use Rattle.session_text.proofs.Laws.{reads_each, reads_only}
-use Rattle.session_text.proofs.Separators.{lacks, IsOutside, decimal_lacks, join_lacks}
+use Rattle.session_text.proofs.LinesReadBack.{reads_each, reads_only}
+use Rattle.session_text.proofs.LinesSplit.{lacks, IsOutside, decimal_lacks, join_lacks}
 use Rattle.session_text.proofs.SpelledStamps.{long_header_parts}
 use Rattle.transcript_text.proofs.StampedSteps.{migrated_read}
 use Rattle.wio_core.specs.Lines.{LacksFeed}
@@ -36,8 +36,8 @@ use Rattle.plain_run.specs.Session.{closed, meaning_of, meaning_of_line, by_mean
 use Rattle.plain_run.specs.Migrating.{migrated_end, migrated_line, migrated_header, by_migrated, migrated_from, by_old_header, migrated_lines, migrated_answer}
 use Rattle.plain_run.specs.Run.{answer_by, status_of, output_of}
 use Rattle.plain_run.specs.Migrates.{migrate, replay, Migrates}
-use Rattle.plain_run.proofs.Sessions.{header_set}
-use Rattle.plain_run.proofs.Splits.{lines_front, lines_nil, length_of, size_both, lack_both, bytes_both}
+use Rattle.plain_run.proofs.SessionLines.{header_set}
+use Rattle.plain_run.proofs.InputSplits.{lines_front, lines_nil, length_of, size_both, lack_both, bytes_both}
 use Rattle.plain_run.proofs.ReadLines.{input_ended}
 use Rattle.plain_run.proofs.WholeLines.{read_lacks, read_size, same_lines}
 
@@ -65,24 +65,28 @@ played_line : (raw : List ℕ) (stamp : Stamp) (found : SessionLine) (o : Option
     → meaning_of_line 0 o ≡ meaning.Play stamp found → IsPlayed raw
 unfolding IsPlayed
 played_line raw stamp found (Some (line.Session other)) is e = (other, is)
-played_line raw stamp found (Some (line.Stamped given other)) is e = absurd (reads_only Session raw (line.Stamped given other) is).1
+played_line raw stamp found (Some (line.Stamped given other)) is e =
+    absurd (reads_only Session raw (line.Stamped given other) is).1
 played_line raw stamp found None is e = absurd (cc e)
 played_line raw stamp found (Some line.End) is e = absurd (cc e)
 played_line raw stamp found (Some (line.Act act)) is e = absurd (cc e)
 played_line raw stamp found (Some (line.Header limits)) is e = absurd (cc e)
 played_line raw stamp found (Some (line.Shell step)) is e = absurd (cc e)
 
-played_by : (raw : List ℕ) (stamp : Stamp) (found : SessionLine) → meaning_of old raw ≡ meaning.Play stamp found → IsPlayed raw
+played_by : (raw : List ℕ) (stamp : Stamp) (found : SessionLine) → meaning_of old raw ≡ meaning.Play stamp found →
+    IsPlayed raw
 unfolding meaning_of
 played_by raw stamp found e = played_line raw stamp found (line_of Session raw) refl e
 
 -- such a line means the same in form 2, with the stamp of nothing known
 
-means_old : (raw : List ℕ) (found : SessionLine) → line_of Session raw ≡ Some (line.Session found) → meaning_of old raw ≡ meaning.Play unstamped found
+means_old : (raw : List ℕ) (found : SessionLine) → line_of Session raw ≡ Some (line.Session found) →
+    meaning_of old raw ≡ meaning.Play unstamped found
 unfolding meaning_of
 means_old raw found is = ap (meaning_of_line 0) is
 
-means_new : (raw : List ℕ) (found : SessionLine) → line_of Session raw ≡ Some (line.Session found) → meaning_of new (renewed raw) ≡ meaning.Play unstamped found
+means_new : (raw : List ℕ) (found : SessionLine) → line_of Session raw ≡ Some (line.Session found) →
+    meaning_of new (renewed raw) ≡ meaning.Play unstamped found
 unfolding meaning_of
 means_new raw found is = ap (meaning_of_line 0) (migrated_read found raw is)
 
@@ -132,13 +136,16 @@ written_by cut n raw lines (meaning.Play stamp found) is more ok =
       ends = later.ends;
       is = ap (λ t. migrated_line raw ++ t) later.is ∙ sym (append_assoc (migrated_line raw) (texts later.front) (codes "end\n"));
     }
-written_by cut n raw lines meaning.End is more ok = record { front = []; end = raw; rest = lines; split = refl; played = tt; ends = is; is = refl }
+written_by cut n raw lines meaning.End is more ok =
+    record { front = []; end = raw; rest = lines; split = refl; played = tt; ends = is; is = refl }
 written_by cut n raw lines meaning.Bad is more ok = absurd (cc ok)
 
-written_of : (cut : Bool) (n : ℕ) (lines : List (List ℕ)) → (migrated_from cut n lines).1 ≡ status.Ok → Written lines (migrated_from cut n lines).0
+written_of : (cut : Bool) (n : ℕ) (lines : List (List ℕ)) → (migrated_from cut n lines).1 ≡ status.Ok →
+    Written lines (migrated_from cut n lines).0
 unfolding migrated_from
 written_of cut n [] ok = absurd (long_or_missing cut n ok)
-written_of cut n (raw ∷ lines) ok = written_by cut n raw lines (meaning_of old raw) refl (λ more. written_of cut (n + 1) lines more) ok
+written_of cut n (raw ∷ lines) ok =
+    written_by cut n raw lines (meaning_of old raw) refl (λ more. written_of cut (n + 1) lines more) ok
 
 -- as lines
 
@@ -151,24 +158,31 @@ texts_are (raw ∷ front) =
 
 -- ---- the lines of form 2 play as those of form 1
 
-same_by : (limits : Limits) (p : Played) (f g : Play → Answer) → ((next : Play) → f next ≡ g next) → by_played limits p f ≡ by_played limits p g
+same_by : (limits : Limits) (p : Played) (f g : Play → Answer) → ((next : Play) → f next ≡ g next) →
+    by_played limits p f ≡ by_played limits p g
 same_by limits p f g same = by p.is_full
   where
-    by : (b : Bool) → (if b then closed limits p.play (ending (last.Full (number_counted p.play.journal))) else f p.play)
+    by : (b : Bool) →
+        (if b then closed limits p.play (ending (last.Full (number_counted p.play.journal))) else f p.play)
         ≡ (if b then closed limits p.play (ending (last.Full (number_counted p.play.journal))) else g p.play)
     by true = refl
     by false = same p.play
 
-plays_as : (limits : Limits) (cut cut' : Bool) (n : ℕ) (play : Play) (front : List (List ℕ)) (end : List ℕ) (rest : List (List ℕ)) → AllPlayed front
+plays_as : (limits : Limits) (cut cut' : Bool) (n : ℕ) (play : Play) (front : List (List ℕ)) (end : List ℕ)
+    (rest : List (List ℕ)) → AllPlayed front
     → meaning_of old end ≡ meaning.End
     → session_from limits cut n old play (front ++ end ∷ rest) ≡ session_from limits cut' n new play (map renewed front ++ codes "end" ∷ [])
 unfolding AllPlayed IsPlayed session_from
 plays_as limits cut cut' n play [] end rest played ends =
-    ap (λ m. by_meaning limits n play m (λ stamp next. session_from limits cut (n + 1) (next_stage old stamp) next rest)) ends
-    ∙ sym (ap (λ m. by_meaning limits n play m (λ stamp next. session_from limits cut' (n + 1) (next_stage new stamp) next [])) end_means)
+    ap (λ m. by_meaning limits n play m
+    (λ stamp next. session_from limits cut (n + 1) (next_stage old stamp) next rest)) ends
+    ∙ sym (ap (λ m. by_meaning limits n play m
+    (λ stamp next. session_from limits cut' (n + 1) (next_stage new stamp) next [])) end_means)
 plays_as limits cut cut' n play (raw ∷ front) end rest played ends =
     let (found, is) = played.0 in
-    ap (λ m. by_meaning limits n play m (λ stamp next. session_from limits cut (n + 1) (next_stage old stamp) next (front ++ end ∷ rest))) (means_old raw found is)
+    ap (λ m. by_meaning limits n play m
+    (λ stamp next. session_from limits cut (n + 1) (next_stage old stamp) next (front ++ end ∷ rest)))
+    (means_old raw found is)
     ∙ same_by limits (line_played limits found play)
     (λ next. session_from limits cut (n + 1) (next_stage old unstamped) next (front ++ end ∷ rest))
     (λ next. session_from limits cut' (n + 1) (next_stage new unstamped) next (map renewed front ++ codes "end" ∷ []))
@@ -177,7 +191,8 @@ plays_as limits cut cut' n play (raw ∷ front) end rest played ends =
 
 -- ---- the header
 
-header_spelled : (raw : List ℕ) (o : Option Line) → line_of Session raw ≡ o → (limits : Limits) → header_of_line o ≡ Some limits → raw ≡ spelling Session (line.Header limits)
+header_spelled : (raw : List ℕ) (o : Option Line) → line_of Session raw ≡ o → (limits : Limits) →
+    header_of_line o ≡ Some limits → raw ≡ spelling Session (line.Header limits)
 header_spelled raw (Some (line.Header other)) is limits e =
     let same : other ≡ limits = cc in
     (reads_only Session raw (line.Header other) is).0 ∙ ap (λ (l : Limits). spelling Session (line.Header l)) same
@@ -195,7 +210,8 @@ new_header limits = spelling Session2 (line.Header limits)
 no_old_header : (limits : Limits) → header_of Session (new_header limits) ≡ None
 unfolding header_of
 no_old_header limits =
-    elim (header_of_line (line_of Session (new_header limits))) as (λ o. header_of_line (line_of Session (new_header limits)) ≡ o → o ≡ None) [
+    elim (header_of_line (line_of Session (new_header limits))) as
+    (λ o. header_of_line (line_of Session (new_header limits)) ≡ o → o ≡ None) [
       | None ↦ λ e. refl
       | Some other ↦ λ e.
           let same = header_spelled (new_header limits) (line_of Session (new_header limits)) refl other e in
@@ -206,7 +222,8 @@ is_new_header : (limits : Limits) → IsLimits limits → header_of Session2 (ne
 unfolding header_of
 is_new_header limits h = ap header_of_line (reads_each Session2 (line.Header limits) h)
 
-opens : (limits : Limits) → IsLimits limits → opening_of (new_header limits) ≡ Some (record { form = Session2; limits = limits })
+opens : (limits : Limits) → IsLimits limits →
+    opening_of (new_header limits) ≡ Some (record { form = Session2; limits = limits })
 opens limits h = rw (no_old_header limits, is_new_header limits h) refl
 
 -- ---- no line that is written has a line feed
@@ -229,7 +246,10 @@ header_lacks limits h =
         refl,
         (
           decimal_lacks 10 feed limits.entries (omega (arith, h.0.1)),
-          (decimal_lacks 10 feed limits.store (omega (arith, h.1.1)), (decimal_lacks 10 feed limits.weight (omega (arith, h.2.1)), tt)),
+          (
+            decimal_lacks 10 feed limits.store (omega (arith, h.1.1)),
+            (decimal_lacks 10 feed limits.weight (omega (arith, h.2.1)), tt),
+          ),
         ),
       ),
     ))
@@ -253,11 +273,13 @@ renewed_size (raw ∷ front) played =
 new_lines : Limits → List (List ℕ) → List (List ℕ)
 new_lines limits front = new_header limits ∷ (map renewed front ++ codes "end" ∷ [])
 
-new_lack : (limits : Limits) (front : List (List ℕ)) → IsLimits limits → LackFeeds front → LackFeeds (new_lines limits front)
+new_lack : (limits : Limits) (front : List (List ℕ)) → IsLimits limits → LackFeeds front →
+    LackFeeds (new_lines limits front)
 unfolding new_lines
 new_lack limits front h lack = (header_lacks limits h, lack_both (map renewed front) (codes "end" ∷ []) (renewed_lack front lack) (lacks_feed (codes "end") refl, tt))
 
-new_size : (limits : Limits) (front : List (List ℕ)) → IsLimits limits → AllPlayed front → size_of front ≤ MIGRATE_LIMIT + 1
+new_size : (limits : Limits) (front : List (List ℕ)) → IsLimits limits → AllPlayed front →
+    size_of front ≤ MIGRATE_LIMIT + 1
     → length (bytes_of (new_lines limits front)) < INPUT_LIMIT
 unfolding new_lines
 new_size limits front h played few =
@@ -274,7 +296,8 @@ new_bytes limits front =
     ∙ ap (λ t. new_header limits ++ 10 ∷ t) (sym (bytes_both (map renewed front) (codes "end" ∷ [])))
 
 -- its lines are read again
-new_read : (limits : Limits) (front : List (List ℕ)) → IsLimits limits → AllPlayed front → LackFeeds front → size_of front ≤ MIGRATE_LIMIT + 1
+new_read : (limits : Limits) (front : List (List ℕ)) → IsLimits limits → AllPlayed front → LackFeeds front →
+    size_of front ≤ MIGRATE_LIMIT + 1
     → lines_read INPUT_LIMIT (bytes_of (new_lines limits front)) ≡ new_lines limits front
 new_read limits front h played lack few =
     let lines = new_lines limits front in
@@ -302,7 +325,8 @@ unfolding output_of status_of answer_by migrated_answer lines_read migrated
 migrate_is bytes = refl
 
 -- a line that ends a session is short
-end_short : (raw : List ℕ) (o : Option Line) → line_of Session raw ≡ o → meaning_of_line 0 o ≡ meaning.End → length raw ≤ 8400
+end_short : (raw : List ℕ) (o : Option Line) → line_of Session raw ≡ o → meaning_of_line 0 o ≡ meaning.End →
+    length raw ≤ 8400
 end_short raw (Some line.End) is e = let text = (reads_only Session raw line.End is).0 in omega (arith, ap length text)
 end_short raw None is e = absurd (cc e)
 end_short raw (Some (line.Act act)) is e = absurd (cc e)
@@ -321,19 +345,25 @@ lack_before (raw ∷ a) b lack = (lack.0, lack_before a b lack.1)
 
 -- where the lines begin with a header, and are written up to the end
 replays_as : (input : List ℕ) (header : List ℕ) (lines : List (List ℕ)) (limits : Limits) (output : List ℕ)
-    → lines_read MIGRATE_LIMIT input ≡ header ∷ lines → header_of Session header ≡ Some limits → (w : Written lines output)
+    → lines_read MIGRATE_LIMIT input ≡ header ∷ lines → header_of Session header ≡ Some limits →
+    (w : Written lines output)
     → replayed (migrated_header limits ++ output) ≡ replayed input
 unfolding replayed new_lines
 replays_as input header lines limits output read is w =
-    let all : lines_read MIGRATE_LIMIT input ≡ (header ∷ w.front) ++ w.end ∷ w.rest = read ∙ ap (λ l. header ∷ l) w.split in
+    let all : lines_read MIGRATE_LIMIT input ≡ (header ∷ w.front) ++ w.end ∷ w.rest =
+    read ∙ ap (λ l. header ∷ l) w.split in
     let set : IsLimits limits = header_set Session header limits (sym is) in
-    let lack : LackFeeds w.front = (lack_before (header ∷ w.front) (w.end ∷ w.rest) (subst LackFeeds all (read_lacks MIGRATE_LIMIT input))).1 in
+    let lack : LackFeeds w.front =
+    (lack_before (header ∷ w.front) (w.end ∷ w.rest) (subst LackFeeds all (read_lacks MIGRATE_LIMIT input))).1 in
     let size : size_of w.front ≤ MIGRATE_LIMIT + 1 =
-    let whole = ap size_of all ∙ size_both (header ∷ w.front) (w.end ∷ w.rest) in omega (arith, whole, read_size MIGRATE_LIMIT input) in
+    let whole = ap size_of all ∙ size_both (header ∷ w.front) (w.end ∷ w.rest) in
+    omega (arith, whole, read_size MIGRATE_LIMIT input) in
     let bytes : migrated_header limits ++ output ≡ bytes_of (new_lines limits w.front) =
     ap (λ t. migrated_header limits ++ t) w.is ∙ new_bytes limits w.front in
     let again = new_read limits w.front set w.played lack size in
-    let longer = same_lines MIGRATE_LIMIT INPUT_LIMIT input (header ∷ w.front) w.end w.rest (omega arith) all (ends_short w.end w.ends) in
+    let longer =
+    same_lines MIGRATE_LIMIT INPUT_LIMIT input (header ∷ w.front) w.end w.rest (omega arith) all
+    (ends_short w.end w.ends) in
     let cut = is_cut INPUT_LIMIT input in
     let cut' = is_cut INPUT_LIMIT (bytes_of (new_lines limits w.front)) in
     ap replayed bytes
@@ -345,13 +375,16 @@ replays_as input header lines limits output read is w =
 
 -- by the first line
 
-by_header : (input : List ℕ) (cut : Bool) (header : List ℕ) (lines : List (List ℕ)) (o : Option Limits) → lines_read MIGRATE_LIMIT input ≡ header ∷ lines
-    → header_of Session header ≡ o → (by_old_header cut o lines).1 ≡ status.Ok → replayed (by_old_header cut o lines).0 ≡ replayed input
+by_header : (input : List ℕ) (cut : Bool) (header : List ℕ) (lines : List (List ℕ)) (o : Option Limits) →
+    lines_read MIGRATE_LIMIT input ≡ header ∷ lines
+    → header_of Session header ≡ o → (by_old_header cut o lines).1 ≡ status.Ok →
+    replayed (by_old_header cut o lines).0 ≡ replayed input
 by_header input cut header lines None read is ok = absurd (cc ok)
 by_header input cut header lines (Some limits) read is ok =
     replays_as input header lines limits (migrated_from cut 1 lines).0 read is (written_of cut 1 lines ok)
 
-by_lines : (input : List ℕ) (cut : Bool) (all : List (List ℕ)) → lines_read MIGRATE_LIMIT input ≡ all → (migrated_lines cut all).1 ≡ status.Ok
+by_lines : (input : List ℕ) (cut : Bool) (all : List (List ℕ)) → lines_read MIGRATE_LIMIT input ≡ all →
+    (migrated_lines cut all).1 ≡ status.Ok
     → replayed (migrated_lines cut all).0 ≡ replayed input
 by_lines input cut [] read ok = absurd (long_or_missing cut 0 ok)
 by_lines input cut (header ∷ lines) read ok = by_header input cut header lines (header_of Session header) read refl ok
@@ -360,7 +393,8 @@ pub migrates : Migrates
 unfolding migrated
 migrates input ok =
     let is = migrate_is input in
-    let same = by_lines input (is_cut MIGRATE_LIMIT input) (lines_read MIGRATE_LIMIT input) refl (sym (ap (λ (a : Answer). a.1) is) ∙ ok) in
+    let same = by_lines input (is_cut MIGRATE_LIMIT input) (lines_read MIGRATE_LIMIT input) refl
+    (sym (ap (λ (a : Answer). a.1) is) ∙ ok) in
     let both : replayed (output_of migrate input) ≡ replayed input = ap (λ (a : Answer). replayed a.0) is ∙ same in
     record {
       output = ap (λ (a : Answer). a.0) (replay_is (output_of migrate input) ∙ both ∙ sym (replay_is input));

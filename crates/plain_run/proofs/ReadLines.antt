@@ -12,13 +12,14 @@ use Rattle.wio_core.specs.LineAnswers.{LinesAhead, WholeLine, LastLine, GoesOn}
 use Rattle.wio_core.specs.declared.line_reader.LineStop.{LineStop}
 use Rattle.wio_core.specs.declared.line_reader.LineStop.TheVariants as stop
 use Rattle.wio_core.specs.declared.line_reader.NextLine.{NextLine}
-use Rattle.wio_core.proofs.Gathered.{TookFrom-both}
+use Rattle.wio_core.proofs.ReadsTogether.{TookFrom-both}
 use Rattle.plain_run.specs.Lines.{lines_of, lines_read, taken, is_cut, bytes_of, size_of}
 use Rattle.plain_run.specs.Reading.{LackFeeds, IsDivided, IsReadTo, LeadsOff}
-use Rattle.plain_run.proofs.Splits.{lines_front, lines_last, length_of, size_both, bytes_both, lack_both, few_lines}
+use Rattle.plain_run.proofs.InputSplits.{lines_front, lines_last, length_of, size_both, bytes_both, lack_both, few_lines}
 
 -- the bytes read by now, where the reader goes on: the lines before, and those at which it looks
-pub record ReadBytes (limit : ℕ) (given_first left_first given left : Option (List ℕ)) (after : LinesAhead) (done : List (List ℕ))
+pub record ReadBytes (limit : ℕ) (given_first left_first given left : Option (List ℕ)) (after : LinesAhead)
+    (done : List (List ℕ))
     (bytes read : List ℕ) : Type 0 where
   pub took : TookFrom given_first given left_first left read
   pub room : after.room ≡ Some (limit - length read)
@@ -93,7 +94,8 @@ pub input_lines : {limit : ℕ} (done : List (List ℕ)) (bytes read rest all : 
     → lines_read limit all ≡ done ++ lines_of (is_cut limit all) (bytes ++ take (limit - length read) rest)
 unfolding lines_read
 input_lines {limit} done bytes read rest all e within split lack =
-    ap (λ l. lines_of (is_cut limit all) (taken limit l)) e ∙ ap (lines_of (is_cut limit all)) (taken_split read rest within)
+    ap (λ l. lines_of (is_cut limit all) (taken limit l)) e
+    ∙ ap (lines_of (is_cut limit all)) (taken_split read rest within)
     ∙ lines_split (is_cut limit all) done bytes read (take (limit - length read) rest) split lack
 
 -- the whole input was read
@@ -155,7 +157,8 @@ none_came (Some all) (Some rest) l1 read more first next same =
     empty_behind read (x ∷ more) e = absurd (omega arith)
 
 -- a line with its line feed
-pub whole_line : {limit : ℕ} (gf lf g l : Option (List ℕ)) (after : LinesAhead) (done : List (List ℕ)) (raw bytes read : List ℕ)
+pub whole_line : {limit : ℕ} (gf lf g l : Option (List ℕ)) (after : LinesAhead) (done : List (List ℕ))
+    (raw bytes read : List ℕ)
     → ReadBytes limit gf lf g l after done bytes read → WholeLine bytes raw after
     → IsReadTo limit gf lf g l after (done ++ raw ∷ []) read
 whole_line {limit} gf lf g l after done raw bytes read b w =
@@ -173,7 +176,8 @@ whole_line {limit} gf lf g l after done raw bytes read b w =
     }
 
 -- the last line, without one
-pub last_line_read : {limit : ℕ} (gf lf g l : Option (List ℕ)) (after : LinesAhead) (done : List (List ℕ)) (raw bytes read : List ℕ)
+pub last_line_read : {limit : ℕ} (gf lf g l : Option (List ℕ)) (after : LinesAhead) (done : List (List ℕ))
+    (raw bytes read : List ℕ)
     → ReadBytes limit gf lf g l after done bytes read → LastLine bytes raw after l
     → IsReadTo limit gf lf g l after (done ++ raw ∷ []) read
 last_line_read {limit} gf lf g l after done raw bytes read b w =
@@ -201,13 +205,14 @@ last_line_read {limit} gf lf g l after done raw bytes read b w =
 pub first_read : {limit : ℕ} (given left : Option (List ℕ)) (reader : LinesAhead)
     → limit ≤ 4294967296 → reader ≡ record { held = []; room = Some limit; settled = None }
     → IsReadTo limit given left given left reader [] []
-first_read {limit} given left reader small e = subst (λ r. IsReadTo limit given left given left r [] []) (sym e) (record {
-  took = record { given = Appends-nil given; left = consumes_none left };
-  room = ap (λ n. Some n) (omega arith);
-  within = omega arith;
-  small = small;
-  divided = (refl, tt);
-})
+first_read {limit} given left reader small e =
+    subst (λ r. IsReadTo limit given left given left r [] []) (sym e) (record {
+      took = record { given = Appends-nil given; left = consumes_none left };
+      room = ap (λ n. Some n) (omega arith);
+      within = omega arith;
+      small = small;
+      divided = (refl, tt);
+    })
   where
     consumes_none : (o : Option (List ℕ)) → Consumes o o []
     consumes_none None = tt

@@ -41,7 +41,8 @@ no_read_fault s short = cut_short (λ x. x ≡ status.ReadFault → ⊥) s short
 no_bad_words : (s : Status) → IsCutShort s → s ≡ status.BadWords → ⊥
 no_bad_words s short = cut_short (λ x. x ≡ status.BadWords → ⊥) s short (λ e. cc e) (λ e. cc e)
 
-ran_short : (limit : ℕ) (answer : Bool → List (List ℕ) → Answer) (lf held0 held : Option (List ℕ)) (reads reads' writes writes' : ℕ)
+ran_short : (limit : ℕ) (answer : Bool → List (List ℕ) → Answer) (lf held0 held : Option (List ℕ))
+    (reads reads' writes writes' : ℕ)
     (s : Status) → IsCutShort s → IfSome lf (λ bytes. GrowsByFront held0 held (answer_read limit answer bytes).0)
     → (s ≡ status.WriteFault → Rose writes writes')
     → Ran (answer_read limit answer) lf reads reads' held0 held writes writes' s
@@ -53,7 +54,8 @@ ran_short limit answer lf held0 held reads reads' writes writes' s short front c
   good_words = λ e. no_bad_words s short e;
 }
 
-law_short : {limit : ℕ} (answer : Bool → List (List ℕ) → Answer) (lf l held0 held : Option (List ℕ)) (s : Status) (read : List ℕ)
+law_short : {limit : ℕ} (answer : Bool → List (List ℕ) → Answer) (lf l held0 held : Option (List ℕ)) (s : Status)
+    (read : List ℕ)
     → IsCutShort s → IsNear limit answer lf held0 held read → LineByLine limit answer lf l held0 held s read
 law_short {limit} answer lf l held0 held s read short near = record {
   read_failed = λ e. absurd (no_read_fault s short e);
@@ -68,7 +70,8 @@ take_front : (a b c : List ℕ) (n : ℕ) → n ≤ length b → take (length a 
 take_front a b c n le =
     ap (take (length a + n)) (append_assoc a b c) ∙ take-append-add a (b ++ c) n ∙ ap (λ t. a ++ t) (rw take-append-le)
 
-front_written : (limit : ℕ) (answer : Bool → List (List ℕ) → Answer) (lf held0 held held' : Option (List ℕ)) (done : List (List ℕ))
+front_written : (limit : ℕ) (answer : Bool → List (List ℕ) → Answer) (lf held0 held held' : Option (List ℕ))
+    (done : List (List ℕ))
     (written ready : List ℕ) (n : ℕ) → n ≤ length ready → Appends held0 held written
     → Appends held held' (take n ready) → Follows answer done (written ++ ready) → LeadsOff limit lf done
     → IfSome lf (λ bytes. GrowsByFront held0 held' (answer_read limit answer bytes).0)
@@ -95,7 +98,8 @@ pub short_ran : {limit : ℕ} {answer : Bool → List (List ℕ) → Answer} {st
     → Ran (answer_read limit answer) lf reads reads' held0 held' writes writes' s
 short_ran {limit} {answer} {lf} {held0} {held} held' reads reads' writes writes' s at part cause =
     ran_short limit answer lf held0 held' reads reads' writes writes' s part.3
-    (front_written limit answer lf held0 held held' at.done at.written at.ready part.0 part.1 at.gained part.2 at.follows
+    (front_written limit answer lf held0 held held' at.done at.written at.ready part.0 part.1 at.gained part.2
+    at.follows
     (leads_done at)) cause
 
 pub short_law : {limit : ℕ} {answer : Bool → List (List ℕ) → Answer} {stands : List (List ℕ) → List ℕ → Type 0}
@@ -112,7 +116,8 @@ short_law {limit} {answer} {lf} {l} {held0} {held} held' s at part =
 
 -- it ends where the answer is told: its output is what was written and what is still to be written
 
-front_told : (limit : ℕ) (answer : Bool → List (List ℕ) → Answer) (lf held0 held held' : Option (List ℕ)) (written : List ℕ)
+front_told : (limit : ℕ) (answer : Bool → List (List ℕ) → Answer) (lf held0 held held' : Option (List ℕ))
+    (written : List ℕ)
     (end : Answer) (n : ℕ) → n ≤ length end.0 → Appends held0 held written → Appends held held' (take n end.0)
     → IfSome lf (λ bytes. answer_read limit answer bytes ≡ with_front written end)
     → IfSome lf (λ bytes. GrowsByFront held0 held' (answer_read limit answer bytes).0)
@@ -130,7 +135,8 @@ front_told limit answer (Some bytes) held0 held held' written end n le wrote par
 decided_told : (limit : ℕ) (answer : Bool → List (List ℕ) → Answer) (lf held0 held : Option (List ℕ)) (whole : Answer)
     (result : Status) → result ≡ whole.1 → Appends held0 held whole.0
     → IfSome lf (λ bytes. answer_read limit answer bytes ≡ whole)
-    → IfSome lf (λ bytes. ((answer_read limit answer bytes).1 ≡ result) × Appends held0 held (answer_read limit answer bytes).0)
+    → IfSome lf (λ bytes. ((answer_read limit answer bytes).1 ≡ result)
+    × Appends held0 held (answer_read limit answer bytes).0)
 decided_told limit answer None held0 held whole result e wrote is = tt
 decided_told limit answer (Some bytes) held0 held whole result e wrote is =
     (ap (λ a. a.1) is ∙ sym e, subst (Appends held0 held) (sym (ap (λ a. a.0) is)) wrote)
@@ -163,7 +169,8 @@ decided_by : (answer : Bool → List (List ℕ) → Answer) (cut : Bool) (held0 
 decided_by answer cut held0 held read whole result is e wrote =
     (ap (λ a. a.1) is ∙ sym e, subst (Appends held0 held) (sym (ap (λ a. a.0) is)) wrote)
 
-law_end : {limit : ℕ} (answer : Bool → List (List ℕ) → Answer) (lf l held0 held held' : Option (List ℕ)) (read written : List ℕ)
+law_end : {limit : ℕ} (answer : Bool → List (List ℕ) → Answer) (lf l held0 held held' : Option (List ℕ))
+    (read written : List ℕ)
     (end : Answer) (result : Status) → Appends held0 held written → WritesEnd held held' end result
     → (answer true (lines_of true read) ≡ with_front written end)
     ⊎ (IsAtEnd l × (answer false (lines_of false read) ≡ with_front written end))
@@ -215,7 +222,8 @@ pub told_ran : {limit : ℕ} {answer : Bool → List (List ℕ) → Answer} {sta
     → WritesEnd held held' (with_front (r.going.ready ++ come.0) (ending end)) result
     → (result ≡ status.WriteFault → Rose writes writes')
     → Ran (answer_read limit answer) lf reads reads' held0 held' writes writes' result
-told_ran {limit} {answer} {lf} {held0} {held} stands_after holds_after g' l' held' after reads reads' writes writes' end result
+told_ran {limit} {answer} {lf} {held0} {held} stands_after holds_after g' l' held' after reads reads' writes writes' end
+    result
     r come wrote cause =
     let at = r.going in
     let rest : Answer = with_front (at.ready ++ come.0) (ending end) in
@@ -276,7 +284,8 @@ pub failed_ran : {limit : ℕ} {answer : Bool → List (List ℕ) → Answer} {s
     r.going.done r.going.read (r.going.written ++ r.going.ready) r.going.ready (Err s)
     → (s ≡ status.ReadFault → Rose reads reads')
     → Ran (answer_read limit answer) lf reads reads' held0 held writes writes' s
-failed_ran {limit} {answer} {gf} {lf} {held0} {held} {reader} stands_after holds_after g' l' after reads reads' writes writes' s
+failed_ran {limit} {answer} {gf} {lf} {held0} {held} {reader} stands_after holds_after g' l' after reads reads' writes
+    writes' s
     r come rose =
     by_error limit answer stands_after holds_after gf lf g' l' reader after r.going.done r.going.read
     (r.going.written ++ r.going.ready) r.going.ready
@@ -299,7 +308,8 @@ failed_ran {limit} {answer} {gf} {lf} {held0} {held} {reader} stands_after holds
         front_written limit answer lf held0 held held r.going.done r.going.written r.going.ready 0 (omega arith)
         r.going.gained (Appends-nil held) r.going.follows (leads_done r.going)
 
-fault_law : {limit : ℕ} (answer : Bool → List (List ℕ) → Answer) (lf l held0 held : Option (List ℕ)) (done : List (List ℕ))
+fault_law : {limit : ℕ} (answer : Bool → List (List ℕ) → Answer) (lf l held0 held : Option (List ℕ))
+    (done : List (List ℕ))
     (read output : List ℕ) → lines_of true read ≡ done → Follows answer done output → Appends held0 held output
     → IsNear limit answer lf held0 held read → LineByLine limit answer lf l held0 held status.ReadFault read
 fault_law {limit} answer lf l held0 held done read output lines follows wrote near =
@@ -334,7 +344,8 @@ pub failed_law : {limit : ℕ} {answer : Bool → List (List ℕ) → Answer} {s
     → (read : List ℕ) × TookFrom gf g' lf l' read × LineByLine limit answer lf l' held0 held s read
 failed_law {limit} {answer} {gf} {lf} {held0} {held} {reader} stands_after holds_after g' l' after s r come other =
     let at = r.going in
-    by_error limit answer stands_after holds_after gf lf g' l' reader after at.done at.read (at.written ++ at.ready) at.ready
+    by_error limit answer stands_after holds_after gf lf g' l' reader after at.done at.read
+    (at.written ++ at.ready) at.ready
     (λ x. x ≢ status.NoMemory
     → (read : List ℕ) × TookFrom gf g' lf l' read × LineByLine limit answer lf l' held0 held x read)
     s come
@@ -350,7 +361,8 @@ failed_law {limit} {answer} {gf} {lf} {held0} {held} {reader} stands_after holds
 
 -- nothing was written
 
-pub none_ran : (limit : ℕ) (answer : Bool → List (List ℕ) → Answer) (lf held0 : Option (List ℕ)) (reads reads' writes writes' : ℕ)
+pub none_ran : (limit : ℕ) (answer : Bool → List (List ℕ) → Answer) (lf held0 : Option (List ℕ))
+    (reads reads' writes writes' : ℕ)
     → Ran (answer_read limit answer) lf reads reads' held0 held0 writes writes' status.NoMemory
 none_ran limit answer lf held0 reads reads' writes writes' =
     ran_short limit answer lf held0 held0 reads reads' writes writes' status.NoMemory (inr refl) (front lf)

@@ -11,7 +11,7 @@ use Rattle.plain_run.specs.Lines.{size_of}
 use Rattle.plain_run.specs.Scripts.{Follows}
 use Rattle.plain_run.specs.Reading.{IsReadTo, LeadsOff, StaysNear, ComesTo}
 use Rattle.plain_run.specs.Writing.{WritesDue}
-use Rattle.plain_run.proofs.Splits.{size_both}
+use Rattle.plain_run.proofs.InputSplits.{size_both}
 use Rattle.plain_run.proofs.ReadLines.{leads}
 use Rattle.plain_run.proofs.LinesTold.{open_or_ended}
 use Rattle.plain_run.proofs.LinesWithin.{Within, within_none, within_more}
@@ -207,7 +207,8 @@ pub leads_done : {limit : ℕ} {answer : Bool → List (List ℕ) → Answer} {s
     → (at : Going limit answer stands holds gf lf g l held0 held reader) → LeadsOff limit lf at.done
 leads_done {limit} {gf} {lf} {g} {l} {reader} at = leads gf lf g l reader at.done at.read at.up_to
 
-leads_front : (limit : ℕ) (lf : Option (List ℕ)) (done first others : List (List ℕ)) → done ≡ first ++ others → LeadsOff limit lf done
+leads_front : (limit : ℕ) (lf : Option (List ℕ)) (done first others : List (List ℕ)) → done ≡ first ++ others →
+    LeadsOff limit lf done
     → LeadsOff limit lf first
 leads_front limit None done first others e h = tt
 leads_front limit (Some bytes) done first others e h =

@@ -12,7 +12,7 @@ use Rattle.trial_script.specs.Lines.{lines_of as script_lines, lines_of_parts as
 use Rattle.plain_run.specs.Lines.{lines_of_parts, lines_of, bytes_of}
 use Rattle.plain_run.specs.Reading.{LackFeeds}
 use Rattle.plain_run.specs.Whole.{IsEndOfLines}
-use Rattle.plain_run.proofs.Splits.{lines_front, lines_one, lines_open, lines_nil, last_long}
+use Rattle.plain_run.proofs.InputSplits.{lines_front, lines_one, lines_open, lines_nil, last_long}
 use Rattle.plain_run.proofs.WholeLines.{parts_of, parts_lack}
 
 -- ---- an input that wasn't cut off
@@ -80,7 +80,8 @@ cut_short input n h short =
     let d = divided input n h in
     let few : length (drop n input) ≤ 8400 = omega (arith, length-drop n input) in
     script_whole (take n input) ∙ front_is input n d
-    ∙ sym (whole_is true input n d ∙ ap (λ l. d.done ++ l) (lines_open (drop n input) (record { few = few; lacks = h.tail })))
+    ∙ sym (whole_is true input n d
+    ∙ ap (λ l. d.done ++ l) (lines_open (drop n input) (record { few = few; lacks = h.tail })))
 
 -- one that is too long stays
 pub cut_long : (input : List ℕ) (n : ℕ) → IsEndOfLines input n → 8400 < length input - n →
@@ -91,7 +92,8 @@ cut_long input n h long =
     let many : 8400 < length tail = omega (arith, length-drop n input) in
     let some : eqb (length tail) 0 ≡ false = ne_eqb (length tail) 0 (λ z. omega arith) in
     let wide : leb (length tail) 8400 ≡ false = lt-leb (length tail) 8400 many in
-    let last : (cut : Bool) → lines_of cut tail ≡ tail ∷ [] = λ cut. lines_one cut tail h.tail ∙ last_long cut tail some wide in
+    let last : (cut : Bool) → lines_of cut tail ≡ tail ∷ [] =
+    λ cut. lines_one cut tail h.tail ∙ last_long cut tail some wide in
     script_whole input ∙ whole_is false input n d ∙ ap (λ l. d.done ++ l) (last false ∙ sym (last true))
     ∙ sym (whole_is true input n d)
 

@@ -27,7 +27,7 @@ use Rattle.plain_run.specs.Session.{closed, full_at, meaning_of, by_meaning, ope
 use Rattle.plain_run.specs.PlayerScript.{fresh, PlayerStands, PlayerHolds}
 use Rattle.plain_run.specs.SessionScript.{StandsBy, HoldsBy}
 use Rattle.plain_run.specs.Watching.{Gathers, Went}
-use Rattle.plain_run.proofs.Sessions.{begins, text_grows, line_grows, long_is_bad, long_is_none}
+use Rattle.plain_run.proofs.SessionLines.{begins, text_grows, line_grows, long_is_bad, long_is_none}
 
 -- by what the line means
 step : (stage : Stage) (player : Playing) (before : ℕ) (done : List (List ℕ)) (output raw : List ℕ) (m : Meaning)
@@ -44,7 +44,8 @@ step stage player before done output raw m s is cut more =
 -- a line that ends the session without a step
 pub settles : (stage : Stage) (player : Playing) (before : ℕ) (done : List (List ℕ)) (output raw : List ℕ) (m : Meaning)
     (end : LastLine) → PlayerStands stage player before done output → m ≡ meaning_of stage raw
-    → ((rest : Stamp → Play → Answer) → by_meaning player.limits before player.play m rest ≡ closed player.limits player.play
+    → ((rest : Stamp → Play → Answer) →
+    by_meaning player.limits before player.play m rest ≡ closed player.limits player.play
     (ending end)) → is_long (ending end).1 ≡ false
     → Settles session_of_lines (done ++ raw ∷ []) (with_front output (ending end))
 settles stage player before done output raw m end s is ends other = record {
@@ -64,9 +65,11 @@ full_by limits p rest entries true h = let same : number_counted p.play.journal 
 full_by limits p rest entries false h = absurd (cc h)
 
 -- a line of which a step met a journal that was full for it
-pub settles_full : (stage : Stage) (player : Playing) (before : ℕ) (done : List (List ℕ)) (output raw : List ℕ) (stamp : Stamp) (found : SessionLine)
+pub settles_full : (stage : Stage) (player : Playing) (before : ℕ) (done : List (List ℕ)) (output raw : List ℕ)
+    (stamp : Stamp) (found : SessionLine)
     (entries : ℕ) → PlayerStands stage player before done output
-    → meaning.Play stamp found ≡ meaning_of stage raw → Some entries ≡ full_at (line_played player.limits found player.play)
+    → meaning.Play stamp found ≡ meaning_of stage raw →
+    Some entries ≡ full_at (line_played player.limits found player.play)
     → Settles session_of_lines (done ++ raw ∷ [])
     (with_front (journal_text player.limits.store (line_played player.limits found player.play).play.journal)
     (ending (last.Full entries)))
@@ -74,7 +77,8 @@ settles_full stage player before done output raw stamp found entries s is h = re
   same = λ cut more.
       let p = line_played player.limits found player.play in
       step stage player before done output raw (meaning.Play stamp found) s is cut more
-      ∙ full_by player.limits p (λ next. session_from player.limits cut (before + 1) (next_stage stage stamp) next more) entries p.is_full h;
+      ∙ full_by player.limits p
+      (λ next. session_from player.limits cut (before + 1) (next_stage stage stamp) next more) entries p.is_full h;
   decides = refl;
 }
 
@@ -85,16 +89,19 @@ played_by limits p rest true h = absurd (cc h)
 played_by limits p rest false h = refl
 
 -- a line that was played
-pub goes_further : (stage : Stage) (player : Playing) (before : ℕ) (done : List (List ℕ)) (output raw : List ℕ) (stamp : Stamp) (found : SessionLine)
+pub goes_further : (stage : Stage) (player : Playing) (before : ℕ) (done : List (List ℕ)) (output raw : List ℕ)
+    (stamp : Stamp) (found : SessionLine)
     → PlayerStands stage player before done output
     → meaning.Play stamp found ≡ meaning_of stage raw → None ≡ full_at (line_played player.limits found player.play)
     → (cut : Bool) (more : List (List ℕ))
-    → session_of_lines cut ((done ++ raw ∷ []) ++ more) ≡ session_from player.limits cut (before + 1) (next_stage stage stamp)
+    → session_of_lines cut ((done ++ raw ∷ []) ++ more)
+    ≡ session_from player.limits cut (before + 1) (next_stage stage stamp)
     (line_played player.limits found player.play).play more
 goes_further stage player before done output raw stamp found s is h cut more =
     let p = line_played player.limits found player.play in
     step stage player before done output raw (meaning.Play stamp found) s is cut more
-    ∙ played_by player.limits p (λ next. session_from player.limits cut (before + 1) (next_stage stage stamp) next more) p.is_full h
+    ∙ played_by player.limits p
+    (λ next. session_from player.limits cut (before + 1) (next_stage stage stamp) next more) p.is_full h
 
 -- no line of these decided
 pub follows : (stage : Stage) (player : Playing) (before : ℕ) (done : List (List ℕ)) (output : List ℕ)
@@ -188,7 +195,8 @@ holds_line player after printer printer_after found end gathered w h =
     }
 
 -- the output so far, with it
-said_line : (stage : Stage) (player after : Playing) (found : SessionLine) (before : ℕ) (done : List (List ℕ)) (output : List ℕ)
+said_line : (stage : Stage) (player after : Playing) (found : SessionLine) (before : ℕ) (done : List (List ℕ))
+    (output : List ℕ)
     → PlayerStands stage player before done output
     → after.play.journal ≡ (line_played player.limits found player.play).play.journal
     → output ++ gained player after ≡ journal_text player.limits.store after.play.journal
@@ -199,7 +207,8 @@ one_more : (done : List (List ℕ)) (raw : List ℕ) → length (done ++ raw ∷
 one_more done raw = length-append done (raw ∷ [])
 
 -- it goes on
-stands_line : (stage : Stage) (player after : Playing) (printer printer_after : Printing) (stamp : Stamp) (found : SessionLine) (before : ℕ)
+stands_line : (stage : Stage) (player after : Playing) (printer printer_after : Printing) (stamp : Stamp)
+    (found : SessionLine) (before : ℕ)
     (done : List (List ℕ)) (raw output : List ℕ) → PlayerStands stage player before done output
     → meaning.Play stamp found ≡ meaning_of stage raw → None ≡ full_at (line_played player.limits found player.play)
     → Went player after printer printer_after found None
@@ -214,16 +223,20 @@ stands_line stage player after printer printer_after stamp found before done raw
           (said_line stage player after found before done output s w.journal);
       goes_on = λ cut more.
           goes_further stage player before done output raw stamp found s is room cut more
-          ∙ ap (λ (p : Playing). session_from p.limits cut (before + 1) (next_stage stage stamp) p.play more) (sym went);
+          ∙ ap (λ (p : Playing). session_from p.limits cut (before + 1) (next_stage stage stamp) p.play more)
+          (sym went);
     }
 
 -- by the entries that are counted where the journal was full
-told_by : (stage : Stage) (player after : Playing) (printer printer_after : Printing) (stamp : Stamp) (found : SessionLine) (before : ℕ)
+told_by : (stage : Stage) (player after : Playing) (printer printer_after : Printing) (stamp : Stamp)
+    (found : SessionLine) (before : ℕ)
     (done : List (List ℕ)) (raw output gathered : List ℕ) (full : Option ℕ)
-    → PlayerStands stage player before done output → PlayerHolds player printer gathered → meaning.Play stamp found ≡ meaning_of stage raw
+    → PlayerStands stage player before done output → PlayerHolds player printer gathered →
+    meaning.Play stamp found ≡ meaning_of stage raw
     → full ≡ full_at (line_played player.limits found player.play)
     → Went player after printer printer_after found (option_map last.Full full)
-    → Played session_of_lines (PlayerStands (next_stage stage stamp) after (before + 1)) (PlayerHolds after printer_after) done raw output
+    → Played session_of_lines (PlayerStands (next_stage stage stamp) after (before + 1))
+    (PlayerHolds after printer_after) done raw output
     gathered (option_map last.Full full)
 told_by stage player after printer printer_after stamp found before done raw output gathered None s h is room w =
     let next = stands_line stage player after printer printer_after stamp found before done raw output s is room w in (
@@ -233,7 +246,8 @@ told_by stage player after printer printer_after stamp found before done raw out
       follows (next_stage stage stamp) after
           (before + 1) (done ++ raw ∷ []) (output ++ gained player after) next,
     )
-told_by stage player after printer printer_after stamp found before done raw output gathered (Some entries) s h is room w =
+told_by stage player after printer printer_after stamp found before done raw output gathered
+    (Some entries) s h is room w =
     let text : journal_text player.limits.store (line_played player.limits found player.play).play.journal ≡ output ++
     gained player after =
     ap (journal_text player.limits.store) (sym w.journal)
@@ -245,23 +259,28 @@ told_by stage player after printer printer_after stamp found before done raw out
     )
 
 -- a line that was played
-pub line_told : (stage : Stage) (player after : Playing) (printer printer_after : Printing) (stamp : Stamp) (found : SessionLine) (before : ℕ)
+pub line_told : (stage : Stage) (player after : Playing) (printer printer_after : Printing) (stamp : Stamp)
+    (found : SessionLine) (before : ℕ)
     (done : List (List ℕ)) (raw output gathered : List ℕ) (end : Option LastLine)
     → PlayerStands stage player before done output → PlayerHolds player printer gathered
     → meaning.Play stamp found ≡ meaning_of stage raw → Went player after printer printer_after found end
-    → Played session_of_lines (PlayerStands (next_stage stage stamp) after (before + 1)) (PlayerHolds after printer_after) done raw output
+    → Played session_of_lines (PlayerStands (next_stage stage stamp) after (before + 1))
+    (PlayerHolds after printer_after) done raw output
     gathered end
 line_told stage player after printer printer_after stamp found before done raw output gathered end s h is w =
     let full : Option ℕ = full_at (line_played player.limits found player.play) in
-    subst (Played session_of_lines (PlayerStands (next_stage stage stamp) after (before + 1)) (PlayerHolds after printer_after) done raw output
+    subst (Played session_of_lines (PlayerStands (next_stage stage stamp) after (before + 1))
+    (PlayerHolds after printer_after) done raw output
     gathered) (sym w.full)
     (told_by stage player after printer printer_after stamp found before done raw output gathered full s h is refl
     (subst (Went player after printer printer_after found) w.full w))
 
 -- the same of a call that may have found no memory
-pub line_told_if : {E : Type 0} (stage : Stage) (player after : Playing) (printer printer_after : Printing) (stamp : Stamp) (found : SessionLine)
+pub line_told_if : {E : Type 0} (stage : Stage) (player after : Playing) (printer printer_after : Printing)
+    (stamp : Stamp) (found : SessionLine)
     (before : ℕ) (done : List (List ℕ)) (raw output gathered : List ℕ)
-    (r : Result (Option LastLine) E) → PlayerStands stage player before done output → PlayerHolds player printer gathered
+    (r : Result (Option LastLine) E) → PlayerStands stage player before done output →
+    PlayerHolds player printer gathered
     → meaning.Play stamp found ≡ meaning_of stage raw
     → IfOk r (Went player after printer printer_after found)
     → IfOk r (Played session_of_lines (PlayerStands (next_stage stage stamp) after (before + 1))
@@ -348,7 +367,8 @@ names_by stage None before next done output s e =
     (subst (λ d. NamesNext session_of_lines d output (last.Bad 1)) (sym s.1)
     (subst (λ t. NamesNext session_of_lines [] t (last.Bad 1)) (sym s.2) names_first))
 names_by stage (Some player) before next done output s e =
-    subst (λ n. NamesNext session_of_lines done output (last.Bad n)) (sym e) (names_next stage player before done output s)
+    subst (λ n. NamesNext session_of_lines done output (last.Bad n)) (sym e)
+    (names_next stage player before done output s)
 
 -- a header came first
 
@@ -364,7 +384,8 @@ begun_fresh opening raw is =
     let s = header_stands opening raw is in
     ([], s, header_holds opening.limits, follows (first_stage opening.form) (fresh opening.limits) 1 (raw ∷ []) [] s)
 
-pub begun : (stage : Stage) (player : Playing) (before : ℕ) (printer : Printing) (opening : Opening) (done : List (List ℕ))
+pub begun : (stage : Stage) (player : Playing) (before : ℕ) (printer : Printing) (opening : Opening)
+    (done : List (List ℕ))
     (raw output gathered : List ℕ) → Some opening ≡ opening_of raw → stage ≡ first_stage opening.form
     → player ≡ fresh opening.limits
     → (before ≡ 1) × (done ≡ []) × (output ≡ []) → (printer ≡ blank) × (gathered ≡ [])

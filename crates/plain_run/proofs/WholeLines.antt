@@ -16,15 +16,19 @@ abbrev pub parts_of : List ℕ → List (List ℕ)
 parts_of bytes = slice_split (λ b. eqb b 10) bytes
 
 first_lacks : (x : ℕ) (parts : List (List ℕ)) → eqb x 10 ≡ false → LackFeeds parts → LackFeeds (onto_first x parts)
-first_lacks x [] other lack = (All-cons (λ b. b ≢ 10) x [] (λ e. let same : eqb x 10 ≡ true = rw e refl in cc) (All-nil (λ b. b ≢ 10)), tt)
-first_lacks x (part ∷ parts) other lack = (All-cons (λ b. b ≢ 10) x part (λ e. let same : eqb x 10 ≡ true = rw e refl in cc) lack.0, lack.1)
+first_lacks x [] other lack =
+    (All-cons (λ b. b ≢ 10) x [] (λ e. let same : eqb x 10 ≡ true = rw e refl in cc) (All-nil (λ b. b ≢ 10)), tt)
+first_lacks x (part ∷ parts) other lack =
+    (All-cons (λ b. b ≢ 10) x part (λ e. let same : eqb x 10 ≡ true = rw e refl in cc) lack.0, lack.1)
 
 pub parts_lack : (bytes : List ℕ) → LackFeeds (parts_of bytes)
 parts_lack [] = (All-nil (λ b. b ≢ 10), tt)
 parts_lack (x ∷ bytes) =
     elim (eqb x 10) as (λ b. eqb x 10 ≡ b → LackFeeds (parts_of (x ∷ bytes))) [
-      | true ↦ λ e. subst LackFeeds (sym (slice_split-cons_yes (λ b. eqb b 10) x bytes e)) (All-nil (λ b. b ≢ 10), parts_lack bytes)
-      | false ↦ λ e. subst LackFeeds (sym (slice_split-cons_no (λ b. eqb b 10) x bytes e)) (first_lacks x (parts_of bytes) e (parts_lack bytes))
+      | true ↦ λ e. subst LackFeeds (sym (slice_split-cons_yes (λ b. eqb b 10) x bytes e))
+          (All-nil (λ b. b ≢ 10), parts_lack bytes)
+      | false ↦ λ e. subst LackFeeds (sym (slice_split-cons_no (λ b. eqb b 10) x bytes e))
+          (first_lacks x (parts_of bytes) e (parts_lack bytes))
     ] refl
 
 lines_lack : (cut : Bool) (parts : List (List ℕ)) → LackFeeds parts → LackFeeds (lines_of_parts cut parts)
@@ -49,7 +53,8 @@ parts_size (part ∷ next ∷ parts) some =
 lines_size : (cut : Bool) (parts : List (List ℕ)) → size_of (lines_of_parts cut parts) ≤ size_of parts
 lines_size cut [] = omega arith
 lines_size cut (part ∷ []) =
-    elim (is_no_line cut part) as (λ b. size_of (if b then [] else part ∷ []) ≤ size_of (part ∷ [])) [ true ↦ omega arith | false ↦ omega arith ]
+    elim (is_no_line cut part) as
+    (λ b. size_of (if b then [] else part ∷ []) ≤ size_of (part ∷ [])) [ true ↦ omega arith | false ↦ omega arith ]
 lines_size cut (part ∷ next ∷ parts) = let rest = lines_size cut (next ∷ parts) in omega (arith, rest)
 
 pub read_size : (limit : ℕ) (bytes : List ℕ) → size_of (lines_read limit bytes) ≤ limit + 1
@@ -81,16 +86,20 @@ none_in : (front : List (List ℕ)) (line : List ℕ) (rest : List (List ℕ)) �
 none_in [] line rest e = absurd (cc e)
 none_in (f ∷ front) line rest e = absurd (cc e)
 
-last_part : (part : List ℕ) (front : List (List ℕ)) (line : List ℕ) (rest : List (List ℕ)) (b : Bool) → is_no_line true part ≡ b
+last_part : (part : List ℕ) (front : List (List ℕ)) (line : List ℕ) (rest : List (List ℕ)) (b : Bool) →
+    is_no_line true part ≡ b
     → (if b then [] else part ∷ []) ≡ front ++ line ∷ rest → length line ≤ 8400 → ⊥
 last_part part front line rest true is e short = none_in front line rest e
 last_part part [] line rest false is e short = let same : part ≡ line = cc in long_part part line same short is
-last_part part (f ∷ front) line rest false is e short = let left : [] ≡ front ++ line ∷ rest = cc in none_in front line rest left
+last_part part (f ∷ front) line rest false is e short = let left : [] ≡ front ++ line ∷ rest =
+    cc in none_in front line rest left
 
-whole_front : (parts front : List (List ℕ)) (line : List ℕ) (rest : List (List ℕ)) → lines_of_parts true parts ≡ front ++ line ∷ rest
+whole_front : (parts front : List (List ℕ)) (line : List ℕ) (rest : List (List ℕ)) →
+    lines_of_parts true parts ≡ front ++ line ∷ rest
     → length line ≤ 8400 → GoesOn parts (front ++ line ∷ [])
 whole_front [] front line rest e short = absurd (none_in front line rest e)
-whole_front (part ∷ []) front line rest e short = absurd (last_part part front line rest (is_no_line true part) refl e short)
+whole_front (part ∷ []) front line rest e short =
+    absurd (last_part part front line rest (is_no_line true part) refl e short)
 whole_front (part ∷ next ∷ parts) [] line rest e short =
     let same : part ≡ line = cc in
     record { more = next ∷ parts; is = ap (λ l. l ∷ next ∷ parts) same; some = omega arith }
@@ -100,11 +109,13 @@ whole_front (part ∷ next ∷ parts) (f ∷ front) line rest e short =
     let later = whole_front (next ∷ parts) front line rest left short in
     record { more = later.more; is = ap (λ l. l ∷ next ∷ parts) same ∙ ap (λ l. f ∷ l) later.is; some = later.some }
 
-join_first : (w : List ℕ) (ws : List (List ℕ)) → 1 ≤ length ws → join_with_byte 10 (w ∷ ws) ≡ w ++ 10 ∷ join_with_byte 10 ws
+join_first : (w : List ℕ) (ws : List (List ℕ)) → 1 ≤ length ws →
+    join_with_byte 10 (w ∷ ws) ≡ w ++ 10 ∷ join_with_byte 10 ws
 join_first w [] some = absurd (omega (arith, some))
 join_first w (v ∷ ws) some = refl
 
-pub join_front : (ws more : List (List ℕ)) → 1 ≤ length more → join_with_byte 10 (ws ++ more) ≡ bytes_of ws ++ join_with_byte 10 more
+pub join_front : (ws more : List (List ℕ)) → 1 ≤ length more →
+    join_with_byte 10 (ws ++ more) ≡ bytes_of ws ++ join_with_byte 10 more
 join_front [] more some = refl
 join_front (w ∷ ws) more some =
     join_first w (ws ++ more) (omega (arith, some, length-append ws more))
@@ -122,18 +133,21 @@ pub record BeginsWith (limit : ℕ) (bytes : List ℕ) (front : List (List ℕ))
   pub is : lines_read limit bytes ≡ front ++ line ∷ rest
 
 -- an input that ends before the lower limit
-ended_before : (low high : ℕ) (bytes : List ℕ) → low ≤ high → length bytes < low → lines_read high bytes ≡ lines_read low bytes
+ended_before : (low high : ℕ) (bytes : List ℕ) → low ≤ high → length bytes < low →
+    lines_read high bytes ≡ lines_read low bytes
 ended_before low high bytes le short =
     (input_ended {limit = high} (lines_of false bytes) bytes bytes refl (omega (arith, le, short)) refl).1
     ∙ sym (input_ended {limit = low} (lines_of false bytes) bytes bytes refl short refl).1
 
-cut_front : (front : List (List ℕ)) (line : List ℕ) (rest : List (List ℕ)) (read : List ℕ) → lines_of true read ≡ front ++ line ∷ rest
+cut_front : (front : List (List ℕ)) (line : List ℕ) (rest : List (List ℕ)) (read : List ℕ) →
+    lines_of true read ≡ front ++ line ∷ rest
     → length line ≤ 8400 → GoesOn (parts_of read) (front ++ line ∷ [])
 unfolding lines_of
 cut_front front line rest read e short = whole_front (parts_of read) front line rest e short
 
 -- an input that the lower limit cuts off
-cut_off : (low high : ℕ) (bytes : List ℕ) (front : List (List ℕ)) (line : List ℕ) (rest : List (List ℕ)) → low ≤ high → low ≤ length bytes
+cut_off : (low high : ℕ) (bytes : List ℕ) (front : List (List ℕ)) (line : List ℕ) (rest : List (List ℕ)) → low ≤ high →
+    low ≤ length bytes
     → lines_read low bytes ≡ front ++ line ∷ rest → length line ≤ 8400 → BeginsWith high bytes front line
 cut_off low high bytes front line rest le long e short =
     let read : List ℕ = take low bytes in
@@ -146,14 +160,17 @@ cut_off low high bytes front line rest le long e short =
     let split : read ≡ bytes_of done ++ join_with_byte 10 on.more =
     sym (join_with_byte-slice_split 10 read) ∙ ap (join_with_byte 10) on.is ∙ join_front done on.more on.some in
     let lack : LackFeeds done = lack_front done on.more (subst LackFeeds on.is (parts_lack read)) in
-    let more : List (List ℕ) = lines_of (is_cut high bytes) (join_with_byte 10 on.more ++ take (high - length read) behind) in
+    let more : List (List ℕ) =
+    lines_of (is_cut high bytes) (join_with_byte 10 on.more ++ take (high - length read) behind) in
     record {
       rest = more;
-      is = input_lines {limit = high} done (join_with_byte 10 on.more) read behind bytes parts (omega (arith, le, full)) split lack
+      is = input_lines {limit = high} done (join_with_byte 10 on.more) read behind bytes parts
+          (omega (arith, le, full)) split lack
           ∙ append_assoc front (line ∷ []) more;
     }
 
-pub same_lines : (low high : ℕ) (bytes : List ℕ) (front : List (List ℕ)) (line : List ℕ) (rest : List (List ℕ)) → low ≤ high
+pub same_lines : (low high : ℕ) (bytes : List ℕ) (front : List (List ℕ)) (line : List ℕ) (rest : List (List ℕ)) →
+    low ≤ high
     → lines_read low bytes ≡ front ++ line ∷ rest → length line ≤ 8400 → BeginsWith high bytes front line
 same_lines low high bytes front line rest le e short =
     elim (ltb (length bytes) low) as (λ b. ltb (length bytes) low ≡ b → BeginsWith high bytes front line) [

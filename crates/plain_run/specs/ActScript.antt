@@ -6,11 +6,13 @@ use Rattle.plain_run.specs.declared.act_list.ActList.{ActList}
 use Rattle.plain_run.specs.Endings.{with_front}
 use Rattle.plain_run.specs.Transcript.{answer_from}
 
--- the relay stands for the acts of these lines, and their output stands before every answer for them and others
+-- the relay stands for the acts of these lines, and their output stands before every answer for
+-- them and others
 pub record ActsStand (list : ActList) (done : List (List ℕ)) (output : List ℕ) : Type 0 where
   pub log : List Act
   pub stands : StandsFor list.relay log
-  pub goes_on : (cut : Bool) (more : List (List ℕ)) → answer_from cut [] (done ++ more) ≡ with_front output
+  pub goes_on : (cut : Bool) (more : List (List ℕ)) →
+      answer_from cut [] (done ++ more) ≡ with_front output
       (answer_from cut log more)
 
 -- the lines that were printed since the buffer was cleared

@@ -51,7 +51,8 @@ abbrev pub is_long : Status → Bool
 is_long status.InputLong = true
 is_long _ = false
 
--- the output of lines for which this is the answer where the input is cut off behind them: without the last line where
--- none of them decides
+-- the output of lines for which this is the answer where the input is cut off behind them: without
+-- the last line where none of them decides
 abbrev pub shown : Answer → List ℕ
-shown answer = if is_long answer.1 then take (length answer.0 - length long_line) answer.0 else answer.0
+shown answer =
+    if is_long answer.1 then take (length answer.0 - length long_line) answer.0 else answer.0

@@ -17,4 +17,5 @@ pub record ReplaysAs (written input : List ℕ) : Type 0 where
 
 -- what is written of any input for which the answer is Ok replays as that input does
 abbrev pub Migrates : Type 0
-Migrates = (input : List ℕ) → status_of migrate input ≡ status.Ok → ReplaysAs (output_of migrate input) input
+Migrates = (input : List ℕ) → status_of migrate input ≡ status.Ok →
+    ReplaysAs (output_of migrate input) input

@@ -40,12 +40,14 @@ by_migrated raw (Some end) rest = ending end
 unfoldable pub migrated_from : Bool → ℕ → List (List ℕ) → Answer
 migrated_from cut n [] = without_end cut n
 migrated_from cut n (raw ∷ lines) =
-    by_migrated raw (migrated_end n (meaning_of (first_stage Session) raw)) (migrated_from cut (n + 1) lines)
+    by_migrated raw (migrated_end n (meaning_of (first_stage Session) raw))
+    (migrated_from cut (n + 1) lines)
 
 -- the answer for the lines after the first, which has to be a header of form 1
 abbrev pub by_old_header : Bool → Option Limits → List (List ℕ) → Answer
 by_old_header cut None lines = ending (last.Bad 1)
-by_old_header cut (Some limits) lines = with_front (migrated_header limits) (migrated_from cut 1 lines)
+by_old_header cut (Some limits) lines =
+    with_front (migrated_header limits) (migrated_from cut 1 lines)
 
 abbrev pub migrated_lines : Bool → List (List ℕ) → Answer
 migrated_lines cut [] = without_end cut 0

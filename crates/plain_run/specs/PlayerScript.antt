@@ -11,20 +11,24 @@ use Rattle.plain_run.specs.Watching.{Gathers}
 
 -- a player that played nothing
 abbrev pub fresh : Limits → Playing
-fresh limits = record { limits = limits; play = unplayed; stamps = []; is_spent = false; stopped = None }
+fresh limits =
+    record { limits = limits; play = unplayed; stamps = []; is_spent = false; stopped = None }
 
--- the transcript of what a player played is the output so far, and stands before every answer for these lines and
--- others, of which the next is read at this stage
-pub record PlayerStands (stage : Stage) (player : Playing) (before : ℕ) (done : List (List ℕ)) (output : List ℕ) :
+-- the transcript of what a player played is the output so far, and stands before every answer for
+-- these lines and others, of which the next is read at this stage
+pub record PlayerStands (stage : Stage) (player : Playing) (before : ℕ) (done : List (List ℕ))
+    (output : List ℕ) :
     Type 0 where
   pub unspent : player.is_spent ≡ false
   pub count : before ≡ length done
   pub said : output ≡ journal_text player.limits.store player.play.journal
   pub goes_on : (cut : Bool) (more : List (List ℕ))
-      → session_of_lines cut (done ++ more) ≡ session_from player.limits cut before stage player.play more
+      → session_of_lines cut (done ++ more)
+      ≡ session_from player.limits cut before stage player.play more
 
 -- what a player played since its journal was this, the printer has gathered
 pub record PlayerHolds (player : Playing) (printer : Printing) (gathered : List ℕ) : Type 0 where
   pub written : List Entry
   pub watched : Gathers player.limits.store written player.play.journal printer
-  pub text : journal_text player.limits.store player.play.journal ≡ journal_text player.limits.store written ++ gathered
+  pub text : journal_text player.limits.store player.play.journal
+      ≡ journal_text player.limits.store written ++ gathered

@@ -8,4 +8,5 @@ use Rattle.plain_run.specs.Transcript.{told_text}
 pub record Prints (old : Printer) (told : Told) (new : Printer) : Type 0 where
   pub same : new.number ≡ old.number
   pub before : new.failed ≡ false → old.failed ≡ false
-  pub gained : new.failed ≡ false → string_bytes new.text ≡ string_bytes old.text ++ told_text old.number told
+  pub gained : new.failed ≡ false →
+      string_bytes new.text ≡ string_bytes old.text ++ told_text old.number told

@@ -15,13 +15,14 @@ answer_read limit answer bytes = answer (is_cut limit bytes) (lines_read limit b
 abbrev pub GrowsByFront : Option (List ℕ) → Option (List ℕ) → List ℕ → Type 0
 GrowsByFront old new text = (n : ℕ) × (n ≤ length text) × Appends old new (take n text)
 
--- What any command owes: what it wrote and answered, by the answer that its input has, what the source had left, and
--- the counts of faults.
+-- What any command owes: what it wrote and answered, by the answer that its input has, what the
+-- source had left, and the counts of faults.
 pub record Ran (answer : List ℕ → Answer) (left : Option (List ℕ)) (reads reads_after : ℕ)
     (held held_after : Option (List ℕ)) (writes writes_after : ℕ) (result : Status) : Type 0 where
   pub front : IfSome left (λ bytes. GrowsByFront held held_after (answer bytes).0)
   pub decided : IsDecided result
-      → IfSome left (λ bytes. ((answer bytes).1 ≡ result) × Appends held held_after (answer bytes).0)
+      → IfSome left
+      (λ bytes. ((answer bytes).1 ≡ result) × Appends held held_after (answer bytes).0)
   pub read_fault : result ≡ status.ReadFault → Rose reads reads_after
   pub write_fault : result ≡ status.WriteFault → Rose writes writes_after
   pub good_words : result ≢ status.BadWords

@@ -26,7 +26,8 @@ session_lines stage [] = []
 session_lines stage (raw ∷ lines) =
     lines_by (meaning_of stage raw) (λ stamp. session_lines (next_stage stage stamp) lines)
 
--- the answer is the transcript of what was played, which is the history of its outer steps, and a last line
+-- the answer is the transcript of what was played, which is the history of its outer steps, and a
+-- last line
 pub record IsReplayed (limits : Limits) (play : Play) (answer : Answer) : Type 0 where
   pub end : LastLine
   pub is : answer ≡ closed limits play (ending end)
@@ -37,5 +38,6 @@ abbrev pub SessionsAreReplayed : Type 0
 SessionsAreReplayed =
     (cut : Bool) (opening : Opening) (first : List ℕ) (more : List (List ℕ)) →
     opening_of first ≡ Some opening →
-    IsReplayed opening.limits (lines_played opening.limits (session_lines (first_stage opening.form) more) unplayed).play
+    IsReplayed opening.limits
+    (lines_played opening.limits (session_lines (first_stage opening.form) more) unplayed).play
     (session_of_lines cut (first ∷ more))

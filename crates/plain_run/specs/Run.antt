@@ -90,7 +90,8 @@ answer_to commands.Migrate cut input = migrated_answer cut input
 
 -- what a command writes for the bytes of an input, and its status
 unfoldable pub answer_by : Command → List ℕ → Answer
-answer_by command bytes = answer_to command (is_cut (limit_of command) bytes) (taken (limit_of command) bytes)
+answer_by command bytes =
+    answer_to command (is_cut (limit_of command) bytes) (taken (limit_of command) bytes)
 
 -- what is written of the bytes of an input, and the status
 abbrev pub task_answer : Task → List ℕ → Answer

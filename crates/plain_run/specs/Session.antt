@@ -27,9 +27,12 @@ closed limits play end = with_front (journal_text limits.store play.journal) end
 abbrev pub full_at : Played → Option ℕ
 full_at p = if p.is_full then Some (number_counted p.play.journal) else None
 
--- what a line that was played makes of the answer for the lines after it, which `rest` gives after what was played
+-- what a line that was played makes of the answer for the lines after it, which `rest` gives after
+-- what was played
 abbrev pub by_played : Limits → Played → (Play → Answer) → Answer
-by_played limits p rest = if p.is_full then closed limits p.play (ending (last.Full (number_counted p.play.journal))) else rest p.play
+by_played limits p rest =
+    if p.is_full then closed limits p.play (ending (last.Full (number_counted p.play.journal)))
+    else rest p.play
 
 -- what a line is after the header, where the line before came at this moment: a moment doesn't fall
 abbrev pub meaning_of_line : ℕ → Option Line → Meaning
@@ -44,8 +47,10 @@ meaning_of stage raw = meaning_of_line stage.moment (line_of stage.form raw)
 
 -- what a line after so many lines makes of it; `rest` goes on with its stamp
 abbrev pub by_meaning : Limits → ℕ → Play → Meaning → (Stamp → Play → Answer) → Answer
-by_meaning limits n play (meaning.Play stamp found) rest = by_played limits (line_played limits found play) (rest stamp)
-by_meaning limits n play meaning.End rest = closed limits play (ending (last.End (length play.journal)))
+by_meaning limits n play (meaning.Play stamp found) rest =
+    by_played limits (line_played limits found play) (rest stamp)
+by_meaning limits n play meaning.End rest =
+    closed limits play (ending (last.End (length play.journal)))
 by_meaning limits n play meaning.Bad rest = closed limits play (ending (last.Bad (n + 1)))
 
 -- the next line comes after one with this stamp
@@ -88,7 +93,8 @@ first_stage form = record { form = form; moment = 0 }
 -- the answer for the lines after the first, which has to be a header
 abbrev pub by_opening : Bool → Option Opening → List (List ℕ) → Answer
 by_opening cut None lines = ending (last.Bad 1)
-by_opening cut (Some opening) lines = session_from opening.limits cut 1 (first_stage opening.form) unplayed lines
+by_opening cut (Some opening) lines =
+    session_from opening.limits cut 1 (first_stage opening.form) unplayed lines
 
 abbrev pub session_of_lines : Bool → List (List ℕ) → Answer
 session_of_lines cut [] = without_end cut 0

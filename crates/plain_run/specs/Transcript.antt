@@ -41,8 +41,8 @@ told_text number told = told_line number told ++ 10 ∷ []
 abbrev pub act_text : ℕ → List Told → List ℕ
 act_text number tolds = flat_map (told_text number) tolds
 
--- what a line makes of the answer for the lines after it, after so many acts: `text` is what an act tells, `rest` the
--- answer after it
+-- what a line makes of the answer for the lines after it, after so many acts: `text` is what an act
+-- tells, `rest` the answer after it
 abbrev pub by_verdict : ℕ → Verdict → (Act → List ℕ) → (Act → Answer) → Answer
 by_verdict n verdict.Bad text rest = ending (last.Bad (n + 1))
 by_verdict n verdict.End text rest = ending (last.End n)
@@ -53,7 +53,8 @@ by_verdict n (verdict.Play act) text rest = with_front (text act) (rest act)
 unfoldable pub answer_from : Bool → List Act → List (List ℕ) → Answer
 answer_from cut log [] = without_end cut (length log)
 answer_from cut log (raw ∷ lines) =
-    by_verdict (length log) (verdict_of (length log) raw) (λ act. act_text (length log + 1) (told act log)) (λ act. answer_from cut (act ∷ log) lines)
+    by_verdict (length log) (verdict_of (length log) raw)
+    (λ act. act_text (length log + 1) (told act log)) (λ act. answer_from cut (act ∷ log) lines)
 
 -- the answer for an act list of which at most the limit was read
 unfoldable pub answer_of : Bool → List ℕ → Answer

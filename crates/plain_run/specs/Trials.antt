@@ -9,8 +9,8 @@ use Rattle.plain_run.specs.declared.last_line.LastLine.{LastLine}
 use Rattle.plain_run.specs.declared.last_line.LastLine.TheVariants as last
 use Rattle.plain_run.specs.Endings.{Answer, with_front, ending}
 
--- where the line with the number is outside the grammar or isn't there; where the input was cut off, a line that isn't
--- there might have come
+-- where the line with the number is outside the grammar or isn't there; where the input was cut
+-- off, a line that isn't there might have come
 abbrev pub bad_last : Bool → Ending → ℕ → LastLine
 bad_last true (endings.Unended number) n = last.Long
 bad_last cut end n = last.Bad n

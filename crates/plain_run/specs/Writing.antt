@@ -19,9 +19,12 @@ WritesPart held held_after text why =
 -- the rest of an output was written, and its status is the answer, or a front of it was
 abbrev pub WritesEnd : Option (List ℕ) → Option (List ℕ) → Answer → Status → Type 0
 WritesEnd held held_after end result =
-    (Appends held held_after end.0 × (result ≡ end.1) × IsDecided result) ⊎ WritesPart held held_after end.0 result
+    (Appends held held_after end.0 × (result ≡ end.1) × IsDecided result)
+    ⊎ WritesPart held held_after end.0 result
 
 -- what was gathered was written, or it wasn't and the reader holds the next line
-abbrev pub WritesDue : (List ℕ → Type 0) → LinesAhead → Option (List ℕ) → Option (List ℕ) → List ℕ → Type 0
+abbrev pub WritesDue : (List ℕ → Type 0) → LinesAhead → Option (List ℕ) → Option (List ℕ) → List ℕ →
+    Type 0
 WritesDue holds reader held held_after gathered =
-    (holds [] × Appends held held_after gathered) ⊎ (holds gathered × Appends held held_after [] × ¬ IsOpen reader.held)
+    (holds [] × Appends held held_after gathered)
+    ⊎ (holds gathered × Appends held held_after [] × ¬ IsOpen reader.held)

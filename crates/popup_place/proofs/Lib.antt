@@ -1,2 +1,2 @@
-pub mod Sums
-pub mod Placing
+pub mod SumsFit
+pub mod PlacedByRule

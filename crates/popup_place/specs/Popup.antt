@@ -1,4 +1,5 @@
--- where a popup stands beside the cursor rectangle of the focused surface; larger numbers are further right and down
+-- where a popup stands beside the cursor rectangle of the focused surface; larger numbers are
+-- further right and down
 use Rattle.std.specs.Prelude.{ℤ, pos, ◌+ℤ◌, ◌-ℤ◌, Bool, ◌&&◌, if◌then◌else◌, int_le}
 use Rattle.std.specs.Int.{int_min, int_max, w32, saturate_signed}
 use Rattle.popup_place.specs.declared.geometry.Rect.{Rect}
@@ -30,7 +31,8 @@ abbrev pub y_of : (screen : Size) → Size → (under above : ℤ) → ℤ
 y_of screen size under above =
     if fits screen size under then under else (if fits screen size above then above else under)
 
--- at the cursor rectangle's left edge, or as far left of it as the screen's right edge asks, and 0 where that is negative
+-- at the cursor rectangle's left edge, or as far left of it as the screen's right edge asks, and 0
+-- where that is negative
 abbrev pub x_of : (screen : Size) → Size → (left : ℤ) → ℤ
 x_of screen size left = int_max (int_min left (screen.width -ℤ size.width)) (pos 0)
 

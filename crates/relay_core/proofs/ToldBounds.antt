@@ -38,7 +38,7 @@ use Rattle.relay_core.specs.Machine.{State, counted, is_live_in, said_to, text_a
 use Rattle.relay_core.specs.Popups.{shown_told, kind_told, popup_told, popups_beside, popups_told, popups_where_holds, popup_beside, cursor_in}
 use Rattle.relay_core.specs.Kept.{HasSpare, text_pending}
 use Rattle.relay_core.specs.Bounds.{text_of, text_bytes, fields_count, fields_at, popups_count, most_told}
-use Rattle.relay_core.proofs.Found.{IsHolding, text_committed}
+use Rattle.relay_core.proofs.FoundAfterCommit.{IsHolding, text_committed}
 
 -- at most n events, and at most m bytes of texts
 pub record Weighs (ts : List Told) (n m : ℕ) : Type 0 where
@@ -70,20 +70,26 @@ either false ts us n m g h = h
 
 -- fields
 
-silent_if : (b : Bool) (t : Told) (ts : List Told) → length (text_of t.event) ≡ 0 → text_bytes ts ≡ 0 → text_bytes (if b then t ∷ ts else ts) ≡ 0
+silent_if : (b : Bool) (t : Told) (ts : List Told) → length (text_of t.event) ≡ 0 → text_bytes ts ≡ 0 →
+    text_bytes (if b then t ∷ ts else ts) ≡ 0
 silent_if true t ts p q = omega (arith, p, q)
 silent_if false t ts p q = q
 
-silent : (say : Said) (peer : Option ℕ) (os : List Object) → length (text_of say) ≡ 0 → text_bytes (said_to say peer os) ≡ 0
+silent : (say : Said) (peer : Option ℕ) (os : List Object) → length (text_of say) ≡ 0 →
+    text_bytes (said_to say peer os) ≡ 0
 silent say peer [] p = refl
-silent say peer (o ∷ os) p = silent_if (is_field_kind o.kind && is_at peer o.peer) (to o.label say) (said_to say peer os) p (silent say peer os p)
+silent say peer (o ∷ os) p =
+    silent_if (is_field_kind o.kind && is_at peer o.peer) (to o.label say) (said_to say peer os) p
+    (silent say peer os p)
 
 told_count : (say : Said) (peer : Option ℕ) (os : List Object) → length (said_to say peer os) ≡ fields_count peer os
 told_count say None os = sym (ap length (none_told say os))
 told_count say (Some p) os = sym (ap length (told_are say p os)) ∙ length-map (fields_of p os) (λ w. to w.label say)
 
-said_weighs : (say : Said) (peer : Option ℕ) (os : List Object) → length (text_of say) ≡ 0 → Weighs (said_to say peer os) (fields_count peer os) 0
-said_weighs say peer os p = record { events = omega (arith, told_count say peer os); bytes = omega (arith, silent say peer os p) }
+said_weighs : (say : Said) (peer : Option ℕ) (os : List Object) → length (text_of say) ≡ 0 →
+    Weighs (said_to say peer os) (fields_count peer os) 0
+said_weighs say peer os p =
+    record { events = omega (arith, told_count say peer os); bytes = omega (arith, silent say peer os p) }
 
 leaves_by : (s : State) (surface : Option ℕ) → Weighs (leaves_of s surface) (fields_count (focused_in s) s.objects) 0
 leaves_by s None = none _ _
@@ -99,14 +105,16 @@ release_weighs (Some h) o = deactivate_weighs o
 
 -- the state of a field
 
-around_weighs : (m : ℕ) (o : Option field.Surrounding) (cause : ℕ) → Weighs (around_told m o cause) 2 (length (text_around o))
+around_weighs : (m : ℕ) (o : Option field.Surrounding) (cause : ℕ) →
+    Weighs (around_told m o cause) 2 (length (text_around o))
 around_weighs m None cause = none _ _
 around_weighs m (Some around) cause = record { events = omega arith; bytes = omega arith }
 
 state_weighs : (m : ℕ) (c : field.State) → Weighs (state_told m c) 4 (length (text_around c.surrounding))
 state_weighs m c =
     more (state_told m c) _ _ _ _
-    (both (around_told m c.surrounding c.cause) _ 2 (length (text_around c.surrounding)) 2 0 (around_weighs m c.surrounding c.cause) (record { events = omega arith; bytes = omega arith }))
+    (both (around_told m c.surrounding c.cause) _ 2 (length (text_around c.surrounding)) 2 0
+    (around_weighs m c.surrounding c.cause) (record { events = omega arith; bytes = omega arith }))
     (omega arith) (omega arith)
 
 activate_weighs : (c : field.State) (o : Option ℕ) → Weighs (activate_told c o) 5 (length (text_around c.surrounding))
@@ -123,10 +131,13 @@ update_weighs c (Some m) = more (state_told m c) _ _ _ _ (state_weighs m c) (ome
 
 shown_weighs : (s : State) (rect : Rect) (x m t : ℕ) → Weighs (shown_told s rect x m t) 2 0
 shown_weighs s rect x m t =
-    either (is_at s.serving m && is_some (find s.objects t)) _ [] 2 0 (record { events = omega arith; bytes = omega arith }) (none _ _)
+    either (is_at s.serving m && is_some (find s.objects t)) _ [] 2 0
+    (record { events = omega arith; bytes = omega arith }) (none _ _)
 
-kind_weighs : (s : State) (rect : Rect) (p x : ℕ) (k : Kind) → Weighs (kind_told s rect x k) (length (popup_of_kind p x k) + length (popup_of_kind p x k)) 0
-kind_weighs s rect p x (Popup m t) = more (shown_told s rect x m t) _ _ _ _ (shown_weighs s rect x m t) (omega arith) (omega arith)
+kind_weighs : (s : State) (rect : Rect) (p x : ℕ) (k : Kind) →
+    Weighs (kind_told s rect x k) (length (popup_of_kind p x k) + length (popup_of_kind p x k)) 0
+kind_weighs s rect p x (Popup m t) =
+    more (shown_told s rect x m t) _ _ _ _ (shown_weighs s rect x m t) (omega arith) (omega arith)
 kind_weighs s rect p x Peer = none _ _
 kind_weighs s rect p x (Surface area) = none _ _
 kind_weighs s rect p x (Field kept) = none _ _
@@ -135,11 +146,13 @@ kind_weighs s rect p x (Grab m) = none _ _
 kind_weighs s rect p x Thing = none _ _
 kind_weighs s rect p x Board = none _ _
 
-popups_weigh : (s : State) (rect : Rect) (os : List Object) → Weighs (flat_map (popup_told s rect) os) (length (popups_of os) + length (popups_of os)) 0
+popups_weigh : (s : State) (rect : Rect) (os : List Object) →
+    Weighs (flat_map (popup_told s rect) os) (length (popups_of os) + length (popups_of os)) 0
 popups_weigh s rect [] = none _ _
 popups_weigh s rect (o ∷ os) =
     more (popup_told s rect o ++ flat_map (popup_told s rect) os) _ _ _ _
-    (both (popup_told s rect o) (flat_map (popup_told s rect) os) _ _ _ _ (kind_weighs s rect o.peer o.label o.kind) (popups_weigh s rect os))
+    (both (popup_told s rect o) (flat_map (popup_told s rect) os) _ _ _ _ (kind_weighs s rect o.peer o.label o.kind)
+    (popups_weigh s rect os))
     (omega (arith, length-append (popup_of o) (popups_of os))) (omega arith)
 
 beside_weighs : (s : State) (rect : Option Rect) → Weighs (popups_beside s rect) (popups_count s + popups_count s) 0
@@ -163,9 +176,11 @@ new_weighs s (Some rect) (Some o) = of_kind o.kind
 
 -- the popups that live stay, whatever fields and surfaces do
 
-popups_kept : (g : Object → Object) → ((o : Object) → popup_of (g o) ≡ popup_of o) → (os : List Object) → popups_of (map g os) ≡ popups_of os
+popups_kept : (g : Object → Object) → ((o : Object) → popup_of (g o) ≡ popup_of o) → (os : List Object) →
+    popups_of (map g os) ≡ popups_of os
 popups_kept g same [] = refl
-popups_kept g same (o ∷ os) = ap (λ ws. ws ++ popups_of (map g os)) (same o) ∙ ap (λ ws. popup_of o ++ ws) (popups_kept g same os)
+popups_kept g same (o ∷ os) =
+    ap (λ ws. ws ++ popups_of (map g os)) (same o) ∙ ap (λ ws. popup_of o ++ ws) (popups_kept g same os)
 
 kind_changed : (f : Kept → Kept) (p x : ℕ) (k : Kind) → popup_of_kind p x (changed f k) ≡ popup_of_kind p x k
 kind_changed f p x Peer = refl
@@ -187,7 +202,8 @@ kind_kept rect p x (Grab m) = refl
 kind_kept rect p x Thing = refl
 kind_kept rect p x Board = refl
 
-popup_if : (b : Bool) (a c o : Object) → popup_of a ≡ popup_of o → popup_of c ≡ popup_of o → popup_of (if b then a else c) ≡ popup_of o
+popup_if : (b : Bool) (a c o : Object) → popup_of a ≡ popup_of o → popup_of c ≡ popup_of o →
+    popup_of (if b then a else c) ≡ popup_of o
 popup_if true a c o p q = p
 popup_if false a c o p q = q
 
@@ -206,23 +222,31 @@ objects_if false s t p = refl
 held_objects : (f : ℕ) (t : Taken) (s : State) → (held f t s).objects ≡ s.objects
 held_objects f Begun s = objects_if (is_some s.serving) _ (record s { holder = Some f }) refl
 held_objects f Updated s = objects_if (is_some s.serving) _ s refl
-held_objects f Ended s = objects_if (is_some s.holder) (deactivated (record s { holder = None })) s (objects_if (is_some s.serving) _ (record s { holder = None }) refl)
+held_objects f Ended s =
+    objects_if (is_some s.holder) (deactivated (record s { holder = None })) s
+    (objects_if (is_some s.serving) _ (record s { holder = None }) refl)
 held_objects f Nothing s = refl
 
 commit_count : (f : ℕ) (s : State) → popups_count (field_committed f s) ≡ popups_count s
 commit_count f s =
     ap (λ os. length (popups_of os)) (held_objects f (taken_by f s) (committing f (taken_by f s) s)) ∙
-    ap length (popups_kept (committed f (displaced_by (taken_by f s) s.holder)) (committed_kept f (displaced_by (taken_by f s) s.holder)) s.objects)
+    ap length (popups_kept (committed f (displaced_by (taken_by f s) s.holder))
+    (committed_kept f (displaced_by (taken_by f s) s.holder)) s.objects)
 
 where_weighs : (f : ℕ) (s : State) → Weighs (popups_where_holds f s) (popups_count s + popups_count s) 0
 where_weighs f s = either (is_at s.holder f) (popups_told s) [] _ _ (beside_weighs s (cursor_in s)) (none _ _)
 
 -- commits
 
-taken_weighs : (f : ℕ) (t : Taken) (s : State) (m : ℕ) → (IsHolding t → length (text_around (state_of s f).surrounding) ≤ m) → Weighs (commit_told f t s) 5 m
-taken_weighs f Begun s m h = more (activate_told (state_of s f) s.serving) _ _ _ _ (activate_weighs (state_of s f) s.serving) (omega arith) (h refl)
-taken_weighs f Updated s m h = more (update_told (state_of s f) s.serving) _ _ _ _ (update_weighs (state_of s f) s.serving) (omega arith) (h refl)
-taken_weighs f Ended s m h = more (release_told s.holder s.serving) _ _ _ _ (release_weighs s.holder s.serving) (omega arith) (omega arith)
+taken_weighs : (f : ℕ) (t : Taken) (s : State) (m : ℕ) →
+    (IsHolding t → length (text_around (state_of s f).surrounding) ≤ m) → Weighs (commit_told f t s) 5 m
+taken_weighs f Begun s m h =
+    more (activate_told (state_of s f) s.serving) _ _ _ _ (activate_weighs (state_of s f) s.serving) (omega arith)
+    (h refl)
+taken_weighs f Updated s m h =
+    more (update_told (state_of s f) s.serving) _ _ _ _ (update_weighs (state_of s f) s.serving) (omega arith) (h refl)
+taken_weighs f Ended s m h =
+    more (release_told s.holder s.serving) _ _ _ _ (release_weighs s.holder s.serving) (omega arith) (omega arith)
 taken_weighs f Nothing s m h = none _ _
 
 commit_weighs : (f : ℕ) (s : State) (m : ℕ) → length (text_pending (field_in (find s.objects f))) ≤ m →
@@ -232,7 +256,8 @@ commit_weighs f s m p =
     let s' : State = committing f t s in
     more (says (acts.Commit f) s) _ _ _ _
     (both (commit_told f t s') (popups_where_holds f (field_committed f s)) 5 m _ 0
-    (taken_weighs f t s' m (λ h. subst (λ (text : List ℕ). length text ≤ m) (text_committed f (displaced_by t s.holder) s.objects h) p))
+    (taken_weighs f t s' m
+    (λ h. subst (λ (text : List ℕ). length text ≤ m) (text_committed f (displaced_by t s.holder) s.objects h) p))
     (where_weighs f (field_committed f s)))
     (omega (arith, commit_count f s)) (omega arith)
 
@@ -246,14 +271,17 @@ group_weighs : (b : Batch) (count h : ℕ) → Weighs (group_told b count h) 5 (
 group_weighs b count h =
     let done : Told = to h (said.FieldDone count) in
     more (group_told b count h) _ _ _ _
-    (both (map (to h) (deletion_said b.deletion)) _ 1 0 _ _ (map_if (b.deletion.before == 0 && b.deletion.after == 0) h (said.Delete b.deletion.before b.deletion.after))
-    (both (map (to h) (string_said b.string)) _ 1 (length b.string) _ _ (map_if (length b.string == 0) h (said.CommitString b.string))
+    (both (map (to h) (deletion_said b.deletion)) _ 1 0 _ _
+    (map_if (b.deletion.before == 0 && b.deletion.after == 0) h (said.Delete b.deletion.before b.deletion.after))
+    (both (map (to h) (string_said b.string)) _ 1 (length b.string) _ _
+    (map_if (length b.string == 0) h (said.CommitString b.string))
     (both (map (to h) (preedit_said b.preedit)) (done ∷ []) 1 (length b.preedit.text) 1 0
     (map_if (is_no_preedit b.preedit) h (said.Preedit b.preedit.text b.preedit.begin b.preedit.end))
     (one done 1 0 (omega arith) (omega arith)))))
     (omega arith) (omega arith)
 
-holder_weighs : (s : State) (o : Option ℕ) → Weighs (group_of_holder s o) 5 (length s.edits.string + length s.edits.preedit.text)
+holder_weighs : (s : State) (o : Option ℕ) →
+    Weighs (group_of_holder s o) 5 (length s.edits.string + length s.edits.preedit.text)
 holder_weighs s None = none _ _
 holder_weighs s (Some h) = group_weighs (batch_of s.edits) (count_in (find s.objects h)) h
 
@@ -275,7 +303,8 @@ keyboard_weighs : (g : ℕ) (keys : Keyboard) → Weighs (keyboard_told g keys) 
 keyboard_weighs g keys =
     more (keyboard_told g keys) _ _ _ _
     (both (keymap_told g keys.keymap) _ 1 0 _ 0 (keymap_weighs g keys.keymap)
-    (both (repeat_told g keys.repeat) (mods_told g keys.mods) 1 0 1 0 (repeat_weighs g keys.repeat) (mods_weighs g keys.mods)))
+    (both (repeat_told g keys.repeat) (mods_told g keys.mods) 1 0 1 0 (repeat_weighs g keys.repeat)
+    (mods_weighs g keys.mods)))
     (omega arith) (omega arith)
 
 key_weighs : (n time key state : ℕ) (route : Route) (m : ℕ) → Weighs (key_told n time key state route) 5 m
@@ -302,18 +331,22 @@ part_weighs false false h o = none _ _
 drop_weighs : (x : ℕ) (s : State) (m : ℕ) → Weighs (drop_told x s) 5 m
 drop_weighs x s m =
     more (drop_told x s) _ _ _ _
-    (both (part_told (is_at s.focus x) (is_at s.holder x) s.holder (serving_unless (is_at s.serving x) s.serving)) (deleted x (owner_in (find s.objects x))) 2 0 1 0
-    (part_weighs (is_at s.focus x) (is_at s.holder x) s.holder (serving_unless (is_at s.serving x) s.serving)) (deleted_weighs x (owner_in (find s.objects x))))
+    (both (part_told (is_at s.focus x) (is_at s.holder x) s.holder (serving_unless (is_at s.serving x) s.serving))
+    (deleted x (owner_in (find s.objects x))) 2 0 1 0
+    (part_weighs (is_at s.focus x) (is_at s.holder x) s.holder (serving_unless (is_at s.serving x) s.serving))
+    (deleted_weighs x (owner_in (find s.objects x))))
     (omega arith) (omega arith)
 
 gone_weighs : (p : ℕ) (s : State) (m : ℕ) → Weighs (gone_told p s) 5 m
 gone_weighs p s m =
     more (gone_told p s) _ _ _ _
-    (part_weighs (is_at (focused_in s) p) false s.holder (serving_unless (is_at (owner_at s.objects s.serving) p) s.serving)) (omega arith) (omega arith)
+    (part_weighs (is_at (focused_in s) p) false s.holder
+    (serving_unless (is_at (owner_at s.objects s.serving) p) s.serving)) (omega arith) (omega arith)
 
 enter_weighs : (s : State) (p f : ℕ) (o : Option ℕ) (m : ℕ) → Weighs (enter_told s p f o) 5 m
 enter_weighs s p f None m = none _ _
-enter_weighs s p f (Some t) m = either (is_at (focused_in s) p) (to f (said.Enter t) ∷ []) [] _ _ (one _ _ _ (omega arith) (omega arith)) (none _ _)
+enter_weighs s p f (Some t) m =
+    either (is_at (focused_in s) p) (to f (said.Enter t) ∷ []) [] _ _ (one _ _ _ (omega arith) (omega arith)) (none _ _)
 
 globals_weigh : (n : ℕ) (r : Role) (m : ℕ) → Weighs (globals_told n r) 5 m
 globals_weigh n role.App m = record { events = omega arith; bytes = omega arith }
@@ -323,23 +356,28 @@ method_weighs : (s : State) (m : ℕ) → length (text_around (holder_state s).s
 method_weighs s m p =
     either (is_some s.serving) _ _ _ _ (one _ _ _ (omega arith) (omega arith))
     (either (is_some s.holder) _ [] _ _
-    (more (activate_told (holder_state s) (Some s.acts)) _ _ _ _ (activate_weighs (holder_state s) (Some s.acts)) (omega arith) p) (none _ _))
+    (more (activate_told (holder_state s) (Some s.acts)) _ _ _ _ (activate_weighs (holder_state s) (Some s.acts))
+    (omega arith) p) (none _ _))
 
-focus_weighs : (t : ℕ) (s : State) (m : ℕ) → Weighs (says (acts.Focus t) s) (fields_at s s.focus + fields_at s (Some t) + 5) m
+focus_weighs : (t : ℕ) (s : State) (m : ℕ) →
+    Weighs (says (acts.Focus t) s) (fields_at s s.focus + fields_at s (Some t) + 5) m
 focus_weighs t s m =
     more (says (acts.Focus t) s) _ _ _ _
     (both (leaves_of s s.focus) _ _ 0 _ 0 (leaves_by s s.focus)
-    (both (release_told s.holder s.serving) (said_to (said.Enter t) (owner_in (find s.objects t)) s.objects) 2 0 _ 0 (release_weighs s.holder s.serving)
+    (both (release_told s.holder s.serving) (said_to (said.Enter t) (owner_in (find s.objects t)) s.objects) 2 0 _ 0
+    (release_weighs s.holder s.serving)
     (said_weighs (said.Enter t) (owner_in (find s.objects t)) s.objects refl)))
     (omega arith) (omega arith)
 
 unfocus_weighs : (s : State) (m : ℕ) → Weighs (says acts.Unfocus s) (fields_at s s.focus + 0 + 5) m
 unfocus_weighs s m =
     more (says acts.Unfocus s) _ _ _ _
-    (both (leaves_of s s.focus) (release_told s.holder s.serving) _ 0 2 0 (leaves_by s s.focus) (release_weighs s.holder s.serving))
+    (both (leaves_of s s.focus) (release_told s.holder s.serving) _ 0 2 0 (leaves_by s s.focus)
+    (release_weighs s.holder s.serving))
     (omega arith) (omega arith)
 
-area_weighs : (t : ℕ) (rect : Rect) (s : State) (m : ℕ) → Weighs (says (acts.Area t rect) s) (popups_count s + popups_count s + 5) m
+area_weighs : (t : ℕ) (rect : Rect) (s : State) (m : ℕ) →
+    Weighs (says (acts.Area t rect) s) (popups_count s + popups_count s + 5) m
 area_weighs t rect s m =
     let s' : State = record s { objects = map (placed_at t rect) s.objects } in
     more (popups_told s') _ _ _ _ (beside_weighs s' (cursor_in s'))
@@ -349,16 +387,19 @@ area_weighs t rect s m =
 abbrev pub Bound : Spare → ℕ
 Bound spare = length spare.text + length spare.preedit
 
-says_weigh : (act : Act) (s : State) (spare : Spare) → HasSpare s spare act → Weighs (says act s) (most_told act s) (Bound spare)
+says_weigh : (act : Act) (s : State) (spare : Spare) → HasSpare s spare act →
+    Weighs (says act s) (most_told act s) (Bound spare)
 says_weigh acts.Peer s spare h = none _ _
 says_weigh (acts.Gone p cause) s spare h = gone_weighs p s _
 says_weigh (acts.Surface p) s spare h = none _ _
 says_weigh (acts.Field p) s spare h = enter_weighs s p s.acts s.focus _
 says_weigh (acts.Method p) s spare h = method_weighs s _ (omega (arith, ap length h))
 says_weigh (acts.Popup m t) s spare h =
-    more (says (acts.Popup m t) s) _ _ _ _ (new_weighs (made_by m (Popup m t) s) (cursor_in (made_by m (Popup m t) s)) _) (omega arith) (omega arith)
+    more (says (acts.Popup m t) s) _ _ _ _
+    (new_weighs (made_by m (Popup m t) s) (cursor_in (made_by m (Popup m t) s)) _) (omega arith) (omega arith)
 says_weigh (acts.Grab m) s spare h =
-    either (stands_now m s) (keyboard_told s.acts s.keys) [] _ _ (more (keyboard_told s.acts s.keys) _ _ _ _ (keyboard_weighs s.acts s.keys) (omega arith) (omega arith)) (none _ _)
+    either (stands_now m s) (keyboard_told s.acts s.keys) [] _ _
+    (more (keyboard_told s.acts s.keys) _ _ _ _ (keyboard_weighs s.acts s.keys) (omega arith) (omega arith)) (none _ _)
 says_weigh (acts.Drop x) s spare h = drop_weighs x s _
 says_weigh (acts.Focus t) s spare h = focus_weighs t s _
 says_weigh acts.Unfocus s spare h = unfocus_weighs s _
@@ -378,7 +419,8 @@ says_weigh (acts.MPreedit m text begin end) s spare h = none _ _
 says_weigh (acts.MDelete m before after) s spare h = none _ _
 says_weigh (acts.MCommit m serial) s spare h =
     either (is_at s.serving m && is_fresh s.dones s.since serial) (group_of_holder s s.holder) [] _ _
-    (more (group_of_holder s s.holder) _ _ _ _ (holder_weighs s s.holder) (omega arith) (omega (arith, ap length h.0, ap length h.1))) (none _ _)
+    (more (group_of_holder s s.holder) _ _ _ _ (holder_weighs s s.holder) (omega arith)
+    (omega (arith, ap length h.0, ap length h.1))) (none _ _)
 says_weigh (acts.Key time key state) s spare h = key_weighs s.acts time key state _ _
 says_weigh (acts.Mods mods) s spare h = grab_weighs s.keys.standing (said.Mods s.acts mods) _ refl
 says_weigh (acts.Keymap keymap) s spare h = grab_weighs s.keys.standing (said.Keymap keymap) _ refl
@@ -396,7 +438,8 @@ says_weigh (acts.Took p bytes) s spare h = none _ _
 says_weigh acts.Idle s spare h = none _ _
 
 -- the same of the act as it is counted
-counted_weighs : (act : Act) (s : State) (spare : Spare) → HasSpare s spare act → Weighs (says act (counted s)) (most_told act s) (Bound spare)
+counted_weighs : (act : Act) (s : State) (spare : Spare) → HasSpare s spare act →
+    Weighs (says act (counted s)) (most_told act s) (Bound spare)
 counted_weighs acts.Peer s spare h = says_weigh acts.Peer (counted s) spare h
 counted_weighs (acts.Gone p cause) s spare h = says_weigh (acts.Gone p cause) (counted s) spare h
 counted_weighs (acts.Surface p) s spare h = says_weigh (acts.Surface p) (counted s) spare h
@@ -411,13 +454,15 @@ counted_weighs (acts.Area t rect) s spare h = says_weigh (acts.Area t rect) (cou
 counted_weighs (acts.Screen size) s spare h = says_weigh (acts.Screen size) (counted s) spare h
 counted_weighs (acts.Enable f) s spare h = says_weigh (acts.Enable f) (counted s) spare h
 counted_weighs (acts.Disable f) s spare h = says_weigh (acts.Disable f) (counted s) spare h
-counted_weighs (acts.Surround f text cursor anchor) s spare h = says_weigh (acts.Surround f text cursor anchor) (counted s) spare h
+counted_weighs (acts.Surround f text cursor anchor) s spare h =
+    says_weigh (acts.Surround f text cursor anchor) (counted s) spare h
 counted_weighs (acts.Cause f cause) s spare h = says_weigh (acts.Cause f cause) (counted s) spare h
 counted_weighs (acts.Content f hint purpose) s spare h = says_weigh (acts.Content f hint purpose) (counted s) spare h
 counted_weighs (acts.Cursor f rect) s spare h = says_weigh (acts.Cursor f rect) (counted s) spare h
 counted_weighs (acts.Commit f) s spare h = says_weigh (acts.Commit f) (counted s) spare h
 counted_weighs (acts.MString m text) s spare h = says_weigh (acts.MString m text) (counted s) spare h
-counted_weighs (acts.MPreedit m text begin end) s spare h = says_weigh (acts.MPreedit m text begin end) (counted s) spare h
+counted_weighs (acts.MPreedit m text begin end) s spare h =
+    says_weigh (acts.MPreedit m text begin end) (counted s) spare h
 counted_weighs (acts.MDelete m before after) s spare h = says_weigh (acts.MDelete m before after) (counted s) spare h
 counted_weighs (acts.MCommit m serial) s spare h = says_weigh (acts.MCommit m serial) (counted s) spare h
 counted_weighs (acts.Key time key state) s spare h = says_weigh (acts.Key time key state) (counted s) spare h
@@ -437,8 +482,10 @@ counted_weighs (acts.Took p bytes) s spare h = says_weigh (acts.Took p bytes) (c
 counted_weighs acts.Idle s spare h = says_weigh acts.Idle (counted s) spare h
 
 -- what the act tells, where room was made for it
-pub tells_weigh : (act : Act) (s : State) (spare : Spare) → HasSpare s spare act → Weighs (tells act s) (most_told act s) (Bound spare)
-tells_weigh act s spare h = either (is_live_in act s) (says act (counted s)) [] _ _ (counted_weighs act s spare h) (none _ _)
+pub tells_weigh : (act : Act) (s : State) (spare : Spare) → HasSpare s spare act →
+    Weighs (tells act s) (most_told act s) (Bound spare)
+tells_weigh act s spare h =
+    either (is_live_in act s) (says act (counted s)) [] _ _ (counted_weighs act s spare h) (none _ _)
 
 -- some copies that would do
 with_texts : List ℕ → List ℕ → Spare

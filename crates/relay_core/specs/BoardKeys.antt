@@ -23,7 +23,8 @@ pub record Boards : Type 0 where
 -- boards are stored as the pair of their fields
 abbrev pub boards_code : Coded Boards
 boards_code =
-    code_by (virt.Boards × Option ℕ) (coded× (map.code coded_ℕ virt.board_code) (coded_option coded_ℕ))
+    code_by (virt.Boards × Option ℕ)
+    (coded× (map.code coded_ℕ virt.board_code) (coded_option coded_ℕ))
     (λ b. (b.keys, b.ahead))
     (λ p. record { keys = p.0; ahead = p.1 })
     (λ _. refl)
@@ -43,14 +44,17 @@ with_keymap None = None
 with_keymap (Some o) = Some (record o { has_keymap = true })
 
 -- a key of the board is pressed or released, where it has had a keymap
-abbrev pub key_turned : (key : ℕ) (pressed : Bool) (grab : Option (ℕ × ℕ)) → Option Board → Option Board
+abbrev pub key_turned : (key : ℕ) (pressed : Bool) (grab : Option (ℕ × ℕ)) → Option Board →
+    Option Board
 key_turned key pressed grab None = None
 key_turned key pressed grab (Some o) = Some (if o.has_keymap then turned o key pressed grab else o)
 
 -- where that goes
-abbrev pub key_sent : (key : ℕ) (pressed : Bool) (grab : Option (ℕ × ℕ)) → Option Board → Option Route
+abbrev pub key_sent : (key : ℕ) (pressed : Bool) (grab : Option (ℕ × ℕ)) → Option Board →
+    Option Route
 key_sent key pressed grab None = None
-key_sent key pressed grab (Some o) = (if o.has_keymap then Some (routed o key pressed grab) else None)
+key_sent key pressed grab (Some o) =
+    (if o.has_keymap then Some (routed o key pressed grab) else None)
 
 -- where modifiers of the board go, where it has had a keymap
 abbrev pub mods_sent : (grab : Option (ℕ × ℕ)) → Option Board → Option Route
@@ -69,17 +73,22 @@ grab_in s = grab_with s.keys.standing (owner_at s.objects s.keys.standing)
 -- the live board v after an act
 abbrev pub board_after : Act → State → Boards → ℕ → Option Board
 board_after (acts.VBoard p) s b v =
-    (if is_peer_in (find s.objects p) && (s.acts + 1 == v) then Some (new_board p) else live_board b v)
-board_after (acts.VKeymap x keymap) s b v = (if x == v then with_keymap (live_board b v) else live_board b v)
+    (if is_peer_in (find s.objects p) && (s.acts + 1 == v) then Some (new_board p)
+    else live_board b v)
+board_after (acts.VKeymap x keymap) s b v =
+    (if x == v then with_keymap (live_board b v) else live_board b v)
 board_after (acts.VKey x time key state) s b v =
-    (if x == v then key_turned key (is_press state) (grab_in s) (live_board b v) else live_board b v)
+    (if x == v then key_turned key (is_press state) (grab_in s) (live_board b v)
+    else live_board b v)
 board_after (acts.Drop x) s b v = (if x == v then None else live_board b v)
-board_after (acts.Gone p cause) s b v = (if is_peer_in (find s.objects p) then unless_of p (live_board b v) else live_board b v)
+board_after (acts.Gone p cause) s b v =
+    (if is_peer_in (find s.objects p) then unless_of p (live_board b v) else live_board b v)
 board_after _ s b v = live_board b v
 
 -- where goes what the act's board sends, if it sends something
 abbrev pub sent_by : Act → State → Boards → Option Route
-sent_by (acts.VKey x time key state) s b = key_sent key (is_press state) (grab_in s) (live_board b x)
+sent_by (acts.VKey x time key state) s b =
+    key_sent key (is_press state) (grab_in s) (live_board b x)
 sent_by (acts.VMods x mods) s b = mods_sent (grab_in s) (live_board b x)
 sent_by _ s b = None
 

@@ -11,12 +11,13 @@ use Rattle.virt_keys.specs.Routes.{standing_call}
 use Rattle.virt_keys.specs.Boards.{Board, AreDown}
 use Rattle.relay_core.specs.BoardKeys.{Boards, live_board}
 
--- the board v as a keyboard by itself: what the acts of a history call on it, the newest first; before each press or release stands the grab that the
--- board's keys may go to
+-- the board v as a keyboard by itself: what the acts of a history call on it, the newest first;
+-- before each press or release stands the grab that the board's keys may go to
 abbrev pub calls_on : List Act → ℕ → List Call
 calls_on [] v = []
 calls_on (acts.VKey x time key state ∷ older) v =
-    (if x == v then Key key (is_press state) ∷ standing_call (grab_for older v) ∷ calls_on older v else calls_on older v)
+    (if x == v then Key key (is_press state) ∷ standing_call (grab_for older v) ∷ calls_on older v
+    else calls_on older v)
 calls_on (_ ∷ older) v = calls_on older v
 
 -- what is kept of the board v is what a history says

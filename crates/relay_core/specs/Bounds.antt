@@ -34,8 +34,8 @@ fields_at s label = fields_count (owner_at s.objects label) s.objects
 abbrev pub popups_count : State → ℕ
 popups_count s = length (popups_of s.objects)
 
--- No act tells more events than this: a focus each field that it leaves and each that it enters, a place of the cursor or of a surface each popup
--- and the shell, and any act at most 5 besides.
+-- No act tells more events than this: a focus each field that it leaves and each that it enters, a
+-- place of the cursor or of a surface each popup and the shell, and any act at most 5 besides.
 abbrev pub most_told : Act → State → ℕ
 most_told (acts.Focus t) s = fields_at s s.focus + fields_at s (Some t) + 5
 most_told acts.Unfocus s = fields_at s s.focus + 0 + 5

@@ -53,7 +53,8 @@ abbrev pub HasSpare : State → Spare → Act → Type 0
 HasSpare s spare (acts.Field p) = spare.field ≡ Some fresh
 HasSpare s spare (acts.Method p) = spare.text ≡ text_around (holder_state s).surrounding
 HasSpare s spare (acts.Commit f) = spare.text ≡ text_pending (field_in (find s.objects f))
-HasSpare s spare (acts.MCommit m serial) = (spare.text ≡ s.edits.string) × (spare.preedit ≡ s.edits.preedit.text)
+HasSpare s spare (acts.MCommit m serial) =
+    (spare.text ≡ s.edits.string) × (spare.preedit ≡ s.edits.preedit.text)
 HasSpare s spare _ = Unit {0}
 
 -- there is room for one more object, which the end of a peer does without

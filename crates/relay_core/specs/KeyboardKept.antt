@@ -9,7 +9,8 @@ use Rattle.relay_model.specs.Keys.{standing, is_down, first_went, number_down, l
 pub record KeepsKeyboard (keyboard : Keyboard) (log : List Act) : Type 0 where
   pub grab : keyboard.standing ≡ standing log
   -- a key is kept while it is down, with the grab that stood at its first press
-  pub down : (key : ℕ) → map.get keyboard.down key ≡ (if is_down log key then Some (first_went log key) else None)
+  pub down : (key : ℕ) →
+      map.get keyboard.down key ≡ (if is_down log key then Some (first_went log key) else None)
   pub number : map.len keyboard.down ≡ number_down log
   pub keymap : keyboard.keymap ≡ last_keymap log
   pub repeat : keyboard.repeat ≡ last_repeat log

@@ -1,4 +1,5 @@
--- The relay as a machine on what it keeps: what an act makes of it, and what it tells. It never looks back.
+-- The relay as a machine on what it keeps: what an act makes of it, and what it tells. It never
+-- looks back.
 use Rattle.std.specs.Prelude.{ℕ, ◌+◌, ◌%◌, ◌^◌, min, List, [], ◌∷◌, ◌++◌, map, filter, Bool, true, false, not, ◌&&◌, ◌||◌, nat_lt, if◌then◌else◌, Option, Some, None, is_some, is_none}
 use Rattle.std.specs.FinMap as keyed_map
 use Rattle.relay_model.specs.declared.act.Act.{Act}
@@ -27,7 +28,8 @@ use Rattle.relay_core.specs.Popups.{popups_told, popups_where_holds, new_popup_t
 pub use Rattle.relay_core.specs.State.{State, owner_at, focused_in, entered_in, is_thing_in, current_of, state_of, holder_state}
 pub use Rattle.seat_objects.specs.Saying.{said_to, text_around, around_told, state_told, activate_told, update_told, deactivate_told, group_told}
 
--- the act may do something here; a press of a key that is refused does nothing besides, and what boards send does nothing here
+-- the act may do something here; a press of a key that is refused does nothing besides, and what
+-- boards send does nothing here
 abbrev pub is_live_in : Act → State → Bool
 is_live_in acts.Peer s = true
 is_live_in (acts.Gone p cause) s = is_peer_in (find s.objects p)
@@ -39,7 +41,8 @@ is_live_in (acts.Focus t) s = is_surface_in (find s.objects t) && not (is_at s.f
 is_live_in acts.Unfocus s = is_some s.focus
 is_live_in (acts.Enable f) s = entered_in s f
 is_live_in (acts.Disable f) s = entered_in s f
-is_live_in (acts.Surround f text cursor anchor) s = entered_in s f && is_place text cursor && is_place text anchor
+is_live_in (acts.Surround f text cursor anchor) s =
+    entered_in s f && is_place text cursor && is_place text anchor
 is_live_in (acts.Cause f cause) s = entered_in s f
 is_live_in (acts.Content f hint purpose) s = entered_in s f
 is_live_in (acts.Cursor f rect) s = entered_in s f && is_sized rect
@@ -48,7 +51,9 @@ is_live_in (acts.MString m text) s = is_method_in (find s.objects m)
 is_live_in (acts.MPreedit m text begin end) s = is_method_in (find s.objects m)
 is_live_in (acts.MDelete m before after) s = is_method_in (find s.objects m)
 is_live_in (acts.MCommit m serial) s = is_method_in (find s.objects m)
-is_live_in (acts.Popup m t) s = is_method_in (find s.objects m) && (is_surface_in (find s.objects t) && not (has_popup_in s.objects t))
+is_live_in (acts.Popup m t) s =
+    is_method_in (find s.objects m)
+    && (is_surface_in (find s.objects t) && not (has_popup_in s.objects t))
 is_live_in (acts.Grab m) s = is_method_in (find s.objects m)
 is_live_in (acts.Area t rect) s = is_surface_in (find s.objects t)
 is_live_in (acts.Screen size) s = true
@@ -78,7 +83,8 @@ counted s = record s { acts = s.acts + 1 }
 
 -- the act made an object
 abbrev pub made : ℕ → Kind → State → State
-made peer kind s = record s { objects = s.objects ++ record { label = s.acts; peer = peer; kind = kind } ∷ [] }
+made peer kind s =
+    record s { objects = s.objects ++ record { label = s.acts; peer = peer; kind = kind } ∷ [] }
 
 abbrev pub made_for : Option ℕ → Kind → State → State
 made_for None kind s = s
@@ -90,15 +96,25 @@ made_by m kind s = made_for (owner_in (find s.objects m)) kind s
 
 -- the serving method was told of an activation
 abbrev pub activated : State → State
-activated s = (if is_some s.serving then record s { active = true; dones = (s.dones + 1) % 2 ^ 32; since = 1; edits = no_edits } else s)
+activated s =
+    (if is_some s.serving
+    then record s { active = true; dones = (s.dones + 1) % 2 ^ 32; since = 1; edits = no_edits }
+    else s)
 
 -- the serving method was told of an update
 abbrev pub updated : State → State
-updated s = (if is_some s.serving then record s { dones = (s.dones + 1) % 2 ^ 32; since = (if s.active then min (s.since + 1) (2 ^ 32) else s.since) } else s)
+updated s = (if is_some s.serving
+    then record s {
+      dones = (s.dones + 1) % 2 ^ 32;
+      since = (if s.active then min (s.since + 1) (2 ^ 32) else s.since);
+    } else s)
 
 -- the serving method was told of a deactivation
 abbrev pub deactivated : State → State
-deactivated s = (if is_some s.serving then record s { active = false; dones = (s.dones + 1) % 2 ^ 32; since = 0; edits = no_edits } else s)
+deactivated s =
+    (if is_some s.serving
+    then record s { active = false; dones = (s.dones + 1) % 2 ^ 32; since = 0; edits = no_edits }
+    else s)
 
 -- a hold ended, where there was one
 abbrev pub released : State → State
@@ -106,7 +122,8 @@ released s = (if is_some s.holder then deactivated (record s { holder = None }) 
 
 -- the focus moved to the surface, or away
 abbrev pub refocused_to : Option ℕ → State → State
-refocused_to surface s = record s { objects = map (refocused (owner_at s.objects surface)) s.objects; focus = surface }
+refocused_to surface s =
+    record s { objects = map (refocused (owner_at s.objects surface)) s.objects; focus = surface }
 
 -- the focus ended
 abbrev pub unfocused : State → State
@@ -123,7 +140,8 @@ served_unless false s = s
 
 -- the method that the act made serves
 abbrev pub serves : State → State
-serves s = record s { serving = Some s.acts; edits = no_edits; active = false; dones = 0; since = 0 }
+serves s = record
+    s { serving = Some s.acts; edits = no_edits; active = false; dones = 0; since = 0 }
 
 abbrev pub method_made : ℕ → State → State
 method_made p s =
@@ -142,7 +160,8 @@ parted false false s = s
 
 -- the grab that stands, if one does, may stand no more
 abbrev pub fallen_keys : Bool → Keyboard → Keyboard
-fallen_keys gone keys = (if is_some keys.standing && gone then record keys { standing = None } else keys)
+fallen_keys gone keys =
+    (if is_some keys.standing && gone then record keys { standing = None } else keys)
 
 abbrev pub fallen : Bool → State → State
 fallen gone s = record s { keys = fallen_keys gone s.keys }
@@ -154,7 +173,10 @@ stands_now m s = is_none s.keys.standing && is_at s.serving m
 -- the method m made a grab
 abbrev pub grabbed : ℕ → State → State
 grabbed m s =
-    record (made_by m (Grab m) s) { keys = (if stands_now m s then record s.keys { standing = Some s.acts } else s.keys) }
+    record (made_by m (Grab m) s) {
+      keys =
+          (if stands_now m s then record s.keys { standing = Some s.acts } else s.keys);
+    }
 
 -- a key was pressed or released
 abbrev pub keyed : ℕ → ℕ → State → State
@@ -162,21 +184,25 @@ keyed key state s = record s { keys = record s.keys { down = turned s.keys key (
 
 -- where that goes
 abbrev pub route_in : ℕ → ℕ → State → Route
-route_in key state s = answer_at (keyed_map.get s.keys.down key) s.keys.standing (keyed_map.len s.keys.down) (is_press state)
+route_in key state s =
+    answer_at (keyed_map.get s.keys.down key) s.keys.standing (keyed_map.len s.keys.down)
+    (is_press state)
 
 -- the object x was dropped
 abbrev pub dropped : ℕ → State → State
 dropped x s =
     parted (is_at s.focus x) (is_at s.holder x)
     (served_unless (is_at s.serving x)
-    (fallen (is_at s.keys.standing x || is_at s.serving x) (record s { objects = filter (not_label x) s.objects })))
+    (fallen (is_at s.keys.standing x || is_at s.serving x)
+    (record s { objects = filter (not_label x) s.objects })))
 
 -- the peer p ended
 abbrev pub gone : ℕ → State → State
 gone p s =
     parted (is_at (focused_in s) p) false
     (served_unless (is_at (owner_at s.objects s.serving) p)
-    (fallen (is_at (owner_at s.objects s.keys.standing) p) (record s { objects = filter (not_peer p) s.objects })))
+    (fallen (is_at (owner_at s.objects s.keys.standing) p)
+    (record s { objects = filter (not_peer p) s.objects })))
 
 -- what a commit of the field does, where a field is there
 abbrev pub taken_in : Option Kept → Taken
@@ -201,7 +227,8 @@ held f Updated s = updated s
 held f Ended s = released s
 held f Nothing s = s
 
--- the field f committed, and another is displaced where this begins a hold; what it does besides is yet to come
+-- the field f committed, and another is displaced where this begins a hold; what it does besides is
+-- yet to come
 abbrev pub committing : ℕ → Taken → State → State
 committing f t s = record s { objects = map (committed f (displaced_by t s.holder)) s.objects }
 
@@ -242,7 +269,8 @@ moved (acts.Content f hint purpose) s = asking f (acts.Content f hint purpose) s
 moved (acts.Cursor f rect) s = asking f (acts.Cursor f rect) s
 moved (acts.Commit f) s = field_committed f s
 moved (acts.MString m text) s = edited m (record s.edits { string = text }) s
-moved (acts.MPreedit m text begin end) s = edited m (record s.edits { preedit = record { text = text; begin = begin; end = end } }) s
+moved (acts.MPreedit m text begin end) s =
+    edited m (record s.edits { preedit = record { text = text; begin = begin; end = end } }) s
 moved (acts.MDelete m before after) s = edited m (record s.edits { deletion = (before, after) }) s
 moved (acts.MCommit m serial) s = (if is_at s.serving m then record s { edits = no_edits } else s)
 moved (acts.Registry p role) s = made p Thing s
@@ -292,12 +320,14 @@ serving_unless false serving = serving
 
 abbrev pub drop_told : ℕ → State → List Told
 drop_told x s =
-    part_told (is_at s.focus x) (is_at s.holder x) s.holder (serving_unless (is_at s.serving x) s.serving)
+    part_told (is_at s.focus x) (is_at s.holder x) s.holder
+    (serving_unless (is_at s.serving x) s.serving)
     ++ deleted x (owner_in (find s.objects x))
 
 abbrev pub gone_told : ℕ → State → List Told
 gone_told p s =
-    part_told (is_at (focused_in s) p) false s.holder (serving_unless (is_at (owner_at s.objects s.serving) p) s.serving)
+    part_told (is_at (focused_in s) p) false s.holder
+    (serving_unless (is_at (owner_at s.objects s.serving) p) s.serving)
 
 -- what a commit of f that does this tells, the field committed
 abbrev pub commit_told : ℕ → Taken → State → List Told
@@ -324,7 +354,9 @@ group_of_holder s None = []
 group_of_holder s (Some h) = group_told (batch_of s.edits) (count_in (find s.objects h)) h
 
 abbrev pub batch_told : ℕ → ℕ → State → List Told
-batch_told m serial s = (if is_at s.serving m && is_fresh s.dones s.since serial then group_of_holder s s.holder else [])
+batch_told m serial s =
+    (if is_at s.serving m && is_fresh s.dones s.since serial then group_of_holder s s.holder
+    else [])
 
 -- what a live act tells, the act counted
 abbrev pub says : Act → State → List Told
@@ -333,14 +365,17 @@ says (acts.Field p) s = enter_told s p s.acts s.focus
 says (acts.Method p) s = method_told s
 says (acts.Drop x) s = drop_told x s
 says (acts.Focus t) s =
-    leaves_of s s.focus ++ (release_told s.holder s.serving ++ said_to (said.Enter t) (owner_in (find s.objects t)) s.objects)
+    leaves_of s s.focus
+    ++ (release_told s.holder s.serving
+    ++ said_to (said.Enter t) (owner_in (find s.objects t)) s.objects)
 says acts.Unfocus s = leaves_of s s.focus ++ release_told s.holder s.serving
 says (acts.Popup m t) s = new_popup_told (made_by m (Popup m t) s)
 says (acts.Grab m) s = (if stands_now m s then keyboard_told s.acts s.keys else [])
 says (acts.Area t rect) s = popups_told (record s { objects = map (placed_at t rect) s.objects })
 says (acts.Screen size) s = popups_told (record s { screen = size })
 says (acts.Commit f) s =
-    commit_told f (taken_by f s) (committing f (taken_by f s) s) ++ popups_where_holds f (field_committed f s)
+    commit_told f (taken_by f s) (committing f (taken_by f s) s)
+    ++ popups_where_holds f (field_committed f s)
 says (acts.Key time key state) s = key_told s.acts time key state (route_in key state s)
 says (acts.Mods mods) s = to_grab s.keys.standing (said.Mods s.acts mods)
 says (acts.Keymap keymap) s = to_grab s.keys.standing (said.Keymap keymap)

@@ -38,12 +38,18 @@ word_kept (Some Disabled) = Some kept.Disabled
 
 abbrev pub around_kept : Option Around → Option field.Surrounding
 around_kept None = None
-around_kept (Some around) = Some (record { text = around.text; cursor = around.cursor; anchor = around.anchor })
+around_kept (Some around) =
+    Some (record { text = around.text; cursor = around.cursor; anchor = around.anchor })
 
 -- a state as a field keeps it
 abbrev pub state_kept : FieldState → field.State
 state_kept s =
-    record { surrounding = around_kept s.surrounding; cause = s.cause; content = (s.content.hint, s.content.purpose); rect = s.rect }
+    record {
+      surrounding = around_kept s.surrounding;
+      cause = s.cause;
+      content = (s.content.hint, s.content.purpose);
+      rect = s.rect;
+    }
 
 -- the current state of x, initial where it doesn't hold
 abbrev pub current_where : Bool → List Act → ℕ → field.State
@@ -75,7 +81,8 @@ kind_of log x BoardKind = Board
 -- what the relay keeps of the object x
 abbrev pub entry_of : List Act → ℕ → Option Object → Kept
 entry_of log x None = record { label = x; peer = 0; kind = Peer }
-entry_of log x (Some object) = record { label = x; peer = object.peer; kind = kind_of log x object.kind }
+entry_of log x (Some object) =
+    record { label = x; peer = object.peer; kind = kind_of log x object.kind }
 
 abbrev pub entry : List Act → ℕ → Kept
 entry log x = entry_of log x (model.object log x)
@@ -112,8 +119,10 @@ edits_since log (Some m) (Some b) = edits_of (edits_past b log m)
 edits_since log None b = no_edits
 edits_since log (Some m) None = no_edits
 
--- what the relay keeps of the serving method, each part a definition's value at the end of a history
-pub record StandsServed (method : Option ℕ) (edits : LastEdits) (active : Bool) (count since : ℕ) (log : List Act) : Type 0 where
+-- what the relay keeps of the serving method, each part a definition's value at the end of a
+-- history
+pub record StandsServed (method : Option ℕ) (edits : LastEdits) (active : Bool) (count since : ℕ)
+    (log : List Act) : Type 0 where
   pub serving_now : method ≡ serving log
   pub edits_now : edits ≡ edits_since log (serving log) (begun log)
   pub active_now : active ≡ is_some (begun log)
@@ -130,7 +139,8 @@ pub record Stands (relay : State) (log : List Act) : Type 0 where
   pub screen_now : relay.screen ≡ screen log
   pub keys_now : keyboard.StandsFor (key_calls log) relay.keys
 
--- a relay stands for a list of acts, the newest first: what it keeps is what the definitions say of their history
+-- a relay stands for a list of acts, the newest first: what it keeps is what the definitions say of
+-- their history
 pub record StandsFor (relay : Shown) (log : List Act) : Type 0 where
   pub state : Stands relay.state (history log)
   pub boards : BoardsStand relay.boards (history log)

@@ -33,7 +33,8 @@ abbrev pub focused_in : State → Option ℕ
 focused_in s = owner_at s.objects s.focus
 
 abbrev pub entered_in : State → ℕ → Bool
-entered_in s f = is_field_in (find s.objects f) && is_same (owner_in (find s.objects f)) (focused_in s)
+entered_in s f =
+    is_field_in (find s.objects f) && is_same (owner_in (find s.objects f)) (focused_in s)
 
 -- an object that may be dropped
 abbrev pub is_thing_in : Option Object → Bool

@@ -149,7 +149,7 @@ impl Machine {
         }
     }
 
-    #[tactic(auto, using(seat_objects::proofs::Reaches::reached_append))]
+    #[tactic(auto, using(seat_objects::proofs::TellsAppend::reached_append))]
     pub fn focus<P: Post>(&mut self, surface: Label, post: &mut P)
         ensures state { state self.new ≡ refocused_to (Some surface) (released (state self.old)) }
         ensures told { Reached P.may_follow post.old (says (acts.Focus surface) (state self.old))
@@ -162,7 +162,7 @@ impl Machine {
         self.refocus(Some(surface));
     }
 
-    #[tactic(auto, using(seat_objects::proofs::Reaches::reached_append))]
+    #[tactic(auto, using(seat_objects::proofs::TellsAppend::reached_append))]
     pub fn unfocus<P: Post>(&mut self, post: &mut P)
         ensures state { state self.new ≡ unfocused (state self.old) }
         ensures told { Reached P.may_follow post.old (says acts.Unfocus (state self.old)) post.new }

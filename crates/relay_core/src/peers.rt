@@ -36,7 +36,7 @@ fn tell_global<P: Post>(registry: Label, name: u32, interface: Interface, post: 
 }
 
 // Tells a new registry the globals that are offered to the role.
-#[tactic(auto, using(seat_objects::proofs::Reaches::reached_append))]
+#[tactic(auto, using(seat_objects::proofs::TellsAppend::reached_append))]
 fn tell_globals<P: Post>(registry: Label, role: Role, post: &mut P)
     ensures { Reached P.may_follow post.old (globals_told registry role) post.new }
 {

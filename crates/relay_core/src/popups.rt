@@ -91,7 +91,7 @@ impl Machine {
         }
     }
 
-    #[tactic(auto, using(seat_objects::proofs::Reaches::reached_append))]
+    #[tactic(auto, using(seat_objects::proofs::TellsAppend::reached_append))]
     fn tell_each<P: Post>(&self, rect: Rect, popups: &[LivePopup], post: &mut P)
         ensures { Reached P.may_follow post.old (flat_map (live_told (state self.now) rect)
             popups.now) post.new }

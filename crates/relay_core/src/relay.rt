@@ -90,7 +90,7 @@ impl Relay {
     /// Makes the room for one act, with copies of the texts that it may tell and the place of a
     /// field that it may make. Asks that a message can carry the act's text. The relay stands for
     /// what it stood for, also after `NoMemory`.
-    #[tactic(auto, using(crate::proofs::Rooms::has_room))]
+    #[tactic(auto, using(crate::proofs::RoomForActs::has_room))]
     pub fn reserve(&mut self, act: &Act) -> Result<(), NoMemory>
         requires { FitsMessage act.now }
         ensures same { self.new.state ≡ self.old.state }

@@ -199,7 +199,7 @@ impl Machine {
         }
     }
 
-    #[tactic(auto, using(seat_objects::proofs::Reaches::reached_append))]
+    #[tactic(auto, using(seat_objects::proofs::TellsAppend::reached_append))]
     fn drop_object<P: Post>(&mut self, label: Label, post: &mut P)
         ensures state { state self.new ≡ dropped label (state self.old) }
         ensures told { Reached P.may_follow post.old (drop_told label (state self.old)) post.new }

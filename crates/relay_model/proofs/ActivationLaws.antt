@@ -14,7 +14,8 @@ pub where_alive_there : (log : List Act) (o : Option ℕ) (m : ℕ) → where_al
 where_alive_there log None m e = cc
 where_alive_there log (Some t) m e = at (alive log t) log t m refl e
   where
-    at : (b : Bool) (log : List Act) (t m : ℕ) → alive log t ≡ b → (if b then Some t else None) ≡ Some m → alive log m ≡ true
+    at : (b : Bool) (log : List Act) (t m : ℕ) → alive log t ≡ b → (if b then Some t else None) ≡ Some m →
+        alive log m ≡ true
     at true log t m k e = let d : t ≡ m = cc in rw (← d) k
     at false log t m k e = cc
 
@@ -43,7 +44,8 @@ serving_beyond_by log (Some n) m e h = ne_eqb n m (λ d. let w : n ≤ length lo
 serving_beyond : (log : List Act) (m : ℕ) → length log < m → is_at (serving log) m ≡ false
 serving_beyond log m h = serving_beyond_by log (serving log) m refl h
 
-serving_step_by : (act : Act) (log : List Act) (o : Option ℕ) → serving log ≡ o → where_alive (act ∷ log) o ≡ focus_left act log o
+serving_step_by : (act : Act) (log : List Act) (o : Option ℕ) → serving log ≡ o →
+    where_alive (act ∷ log) o ≡ focus_left act log o
 serving_step_by act log None e = refl
 serving_step_by act log (Some m) e = rw (object_step act log m (serving_within log m e)) refl
 
@@ -58,7 +60,8 @@ serving_left act log (Some m) k e =
     let there : is_some (object log m) ≡ true = serving_alive log m e in
     rw (k.keeps m (object log m), there) refl
 
-pub serving_same : (act : Act) (log : List Act) → serving (act ∷ log) ≡ where_alive (act ∷ log) (serving log) → IsSteady act →
+pub serving_same : (act : Act) (log : List Act) → serving (act ∷ log) ≡ where_alive (act ∷ log) (serving log) →
+    IsSteady act →
     serving (act ∷ log) ≡ serving log
 serving_same act log e k = serving_step act log e ∙ serving_left act log (serving log) k refl
 
@@ -71,7 +74,8 @@ dones_if : (o : Option Notice) (n : ℕ) (ds : List ℕ) → (if is_some o then 
 dones_if None n ds = refl
 dones_if (Some said) n ds = refl
 
-notice_served : (act : Act) (log : List Act) (m : ℕ) → serving (act ∷ log) ≡ Some m → notice_to m act log ≡ notice act log
+notice_served : (act : Act) (log : List Act) (m : ℕ) → serving (act ∷ log) ≡ Some m →
+    notice_to m act log ≡ notice act log
 notice_served act log m e = rw (e, eq-eqb m m refl) refl
 
 pub dones_step : (act : Act) (log : List Act) (m : ℕ) → serving (act ∷ log) ≡ Some m →
@@ -110,7 +114,8 @@ each_map P Q (x ∷ xs) h k = (k x h.0, each_map P Q xs h.1 k)
 under_more : (n : ℕ) (xs : List ℕ) → Each (λ x. x ≤ n) xs → Each (λ x. x ≤ n + 1) xs
 under_more n xs h = each_map (λ x. x ≤ n) (λ x. x ≤ n + 1) xs h (λ x k. omega arith)
 
-dones_under_by : (o : Option Notice) (n : ℕ) (ds : List ℕ) → Each (λ x. x ≤ n) ds → Each (λ x. x ≤ n + 1) (if is_some o then ds ++ (n + 1) ∷ [] else ds)
+dones_under_by : (o : Option Notice) (n : ℕ) (ds : List ℕ) → Each (λ x. x ≤ n) ds →
+    Each (λ x. x ≤ n + 1) (if is_some o then ds ++ (n + 1) ∷ [] else ds)
 dones_under_by None n ds h = under_more n ds h
 dones_under_by (Some said) n ds h = each_append (λ x. x ≤ n + 1) ds (n + 1) (under_more n ds h) (omega arith)
 
@@ -121,7 +126,8 @@ dones_under (act ∷ older) m =
     each_map (λ x. x ≤ length older + 1) (λ x. x ≤ length (act ∷ older)) (dones (act ∷ older) m)
     (dones_under_by (notice_to m act older) (length older) (dones older m) (dones_under older m)) (λ x k. omega arith)
 
-begun_within_by : (o : Option Notice) (n : ℕ) (before : Option ℕ) (b : ℕ) → (before ≡ Some b → b ≤ n) → begun_by (n + 1) o before ≡ Some b → b ≤ n + 1
+begun_within_by : (o : Option Notice) (n : ℕ) (before : Option ℕ) (b : ℕ) → (before ≡ Some b → b ≤ n) →
+    begun_by (n + 1) o before ≡ Some b → b ≤ n + 1
 begun_within_by None n before b h e = let k : b ≤ n = h e in omega arith
 begun_within_by (Some Activates) n before b h e = let k : n + 1 ≡ b = cc in omega arith
 begun_within_by (Some Updates) n before b h e = let k : b ≤ n = h e in omega arith
@@ -130,14 +136,16 @@ begun_within_by (Some Deactivates) n before b h e = cc
 pub begun_within : (log : List Act) (m b : ℕ) → begun_for log m ≡ Some b → b ≤ length log
 begun_within [] m b e = cc
 begun_within (act ∷ older) m b e =
-    let k : b ≤ length older + 1 = begun_within_by (notice_to m act older) (length older) (begun_for older m) b (begun_within older m b) e in
+    let k : b ≤ length older + 1 =
+    begun_within_by (notice_to m act older) (length older) (begun_for older m) b (begun_within older m b) e in
     omega arith
 
 length_push : (xs : List ℕ) (x : ℕ) → length (xs ++ x ∷ []) ≡ length xs + 1
 length_push [] x = refl
 length_push (y ∷ ys) x = let k : length (ys ++ x ∷ []) ≡ length ys + 1 = length_push ys x in omega arith
 
-dones_few_by : (o : Option Notice) (n k : ℕ) (ds : List ℕ) → length ds ≤ k → length (if is_some o then ds ++ n ∷ [] else ds) ≤ k + 1
+dones_few_by : (o : Option Notice) (n k : ℕ) (ds : List ℕ) → length ds ≤ k →
+    length (if is_some o then ds ++ n ∷ [] else ds) ≤ k + 1
 dones_few_by None n k ds h = omega arith
 dones_few_by (Some said) n k ds h = let e : length (ds ++ n ∷ []) ≡ length ds + 1 = length_push ds n in omega arith
 

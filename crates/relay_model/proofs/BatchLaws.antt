@@ -5,7 +5,7 @@ use Rattle.relay_model.specs.declared.act.Act.{Act}
 use Rattle.relay_model.specs.declared.act.Act.TheVariants.{Commit, Idle}
 use Rattle.relay_model.specs.Objects.{is_field, is_field_kind}
 use Rattle.relay_model.specs.Batch.{commits, commit_count, no_batch, edits_by, edits_past}
-use Rattle.relay_model.proofs.Histories.{IsHistory, live}
+use Rattle.relay_model.proofs.ActsOrIdle.{IsHistory, live}
 use Rattle.relay_model.proofs.ObjectLaws.{kind_within}
 
 -- a field that isn't made yet didn't commit
@@ -21,7 +21,8 @@ pub count_new : (log : List Act) (f : ℕ) → IsHistory log → length log < f 
 count_new log f h l = rw (commits_beyond log f h l) refl
 
 -- the pending edits after an act, counted from an earlier one
-pub edits_step : (act : Act) (log : List Act) (b m : ℕ) → b ≤ length log → edits_past b (act ∷ log) m ≡ edits_by act m (edits_past b log m)
+pub edits_step : (act : Act) (log : List Act) (b m : ℕ) → b ≤ length log →
+    edits_past b (act ∷ log) m ≡ edits_by act m (edits_past b log m)
 edits_step act log b m h = rw (lt-leb (length log + 1) b (omega arith)) refl
 
 -- no pending edit is older than the act itself

@@ -5,7 +5,7 @@ use Rattle.relay_model.specs.declared.act.Act.{Act}
 use Rattle.relay_model.specs.declared.act.Act.TheVariants.{Focus, Unfocus}
 use Rattle.relay_model.specs.Objects.{Object, is_at, is_same, is_surface_kind, is_field_kind, owner, remains, object, alive, peer_of, is_field, is_surface}
 use Rattle.relay_model.specs.Focus.{last_focus, where_alive, focus, focus_since, peer_at, focused_peer, entered, entered_since}
-use Rattle.relay_model.proofs.Histories.{IsHistory, live}
+use Rattle.relay_model.proofs.ActsOrIdle.{IsHistory, live}
 use Rattle.relay_model.proofs.ObjectLaws.{none_of, remains_none, object_step, alive_within, kind_within}
 
 pub and_left : (a b : Bool) → (a && b) ≡ true → a ≡ true
@@ -16,7 +16,8 @@ and_left false b h = cc
 pub last_focus_within : (log : List Act) (s : ℕ) → IsHistory log → last_focus log ≡ Some s → s ≤ length log
 last_focus_within [] s h e = cc
 last_focus_within (Focus t ∷ older) s h e =
-    let l : (is_surface older t && not (is_at (focus older) t)) ≡ true = live (Focus t) older h.0 (λ (d : Focus t ≡ _). cc) in
+    let l : (is_surface older t && not (is_at (focus older) t)) ≡ true =
+    live (Focus t) older h.0 (λ (d : Focus t ≡ _). cc) in
     let w : t ≤ length older = kind_within is_surface_kind older t (and_left _ _ l) in
     let d : t ≡ s = cc in
     omega arith
@@ -49,7 +50,8 @@ focus_alive_by : (log : List Act) (o : Option ℕ) (s : ℕ) → where_alive log
 focus_alive_by log None s e = cc
 focus_alive_by log (Some t) s e = at (alive log t) log t s refl e
   where
-    at : (b : Bool) (log : List Act) (t s : ℕ) → alive log t ≡ b → (if b then Some t else None) ≡ Some s → alive log s ≡ true
+    at : (b : Bool) (log : List Act) (t s : ℕ) → alive log t ≡ b → (if b then Some t else None) ≡ Some s →
+        alive log s ≡ true
     at true log t s k e = let d : t ≡ s = cc in rw (← d) k
     at false log t s k e = cc
 
@@ -70,7 +72,8 @@ pub record IsSteady (act : Act) : Type 0 where
   pub last : (log : List Act) → last_focus (act ∷ log) ≡ last_focus log
   pub since : (log : List Act) → focus_since (act ∷ log) ≡ focus_since log
 
-focus_left_steady : (act : Act) (log : List Act) (o : Option ℕ) → IsSteady act → focus log ≡ o → focus_left act log o ≡ o
+focus_left_steady : (act : Act) (log : List Act) (o : Option ℕ) → IsSteady act → focus log ≡ o →
+    focus_left act log o ≡ o
 focus_left_steady act log None k e = refl
 focus_left_steady act log (Some s) k e =
     let there : is_some (object log s) ≡ true = focus_alive log s e in
@@ -80,14 +83,17 @@ pub focus_same : (act : Act) (log : List Act) → IsHistory log → IsSteady act
 focus_same act log h k = focus_step act log h (k.last log) ∙ focus_left_steady act log (focus log) k refl
 
 -- an object that was there before a steady act
-pub object_same : (act : Act) (log : List Act) (x : ℕ) → IsSteady act → x ≤ length log → object (act ∷ log) x ≡ object log x
+pub object_same : (act : Act) (log : List Act) (x : ℕ) → IsSteady act → x ≤ length log →
+    object (act ∷ log) x ≡ object log x
 object_same act log x k w = object_step act log x w ∙ k.keeps x (object log x)
 
-focused_peer_by : (act : Act) (log : List Act) (o : Option ℕ) → IsSteady act → focus log ≡ o → peer_at (act ∷ log) o ≡ peer_at log o
+focused_peer_by : (act : Act) (log : List Act) (o : Option ℕ) → IsSteady act → focus log ≡ o →
+    peer_at (act ∷ log) o ≡ peer_at log o
 focused_peer_by act log None k e = refl
 focused_peer_by act log (Some s) k e = ap owner (object_same act log s k (focus_within log s e))
 
-pub focused_peer_same : (act : Act) (log : List Act) → IsHistory log → IsSteady act → focused_peer (act ∷ log) ≡ focused_peer log
+pub focused_peer_same : (act : Act) (log : List Act) → IsHistory log → IsSteady act →
+    focused_peer (act ∷ log) ≡ focused_peer log
 focused_peer_same act log h k = rw (focus_same act log h k) (focused_peer_by act log (focus log) k refl)
 
 pub entered_same : (act : Act) (log : List Act) (f : ℕ) → IsHistory log → IsSteady act → f ≤ length log →
@@ -95,7 +101,8 @@ pub entered_same : (act : Act) (log : List Act) (f : ℕ) → IsHistory log → 
 entered_same act log f h k w =
     rw (object_same act log f k w, focused_peer_same act log h k) refl
 
-pub entered_since_same : (act : Act) (log : List Act) (f : ℕ) → IsSteady act → entered_since (act ∷ log) f ≡ entered_since log f
+pub entered_since_same : (act : Act) (log : List Act) (f : ℕ) → IsSteady act →
+    entered_since (act ∷ log) f ≡ entered_since log f
 entered_since_same act log f k = ap (λ n. max n f) (k.since log)
 
 pub entered_field : (log : List Act) (f : ℕ) → entered log f ≡ true → is_field log f ≡ true

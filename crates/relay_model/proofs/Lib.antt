@@ -1,4 +1,4 @@
-pub mod Histories
+pub mod ActsOrIdle
 pub mod ObjectLaws
 pub mod FocusLaws
 pub mod HoldLaws

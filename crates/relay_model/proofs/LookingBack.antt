@@ -23,23 +23,28 @@ set_between from heard until log f = record {
 
 -- the two tests of a look back
 
-between_past : (from until : ℕ) (older : List Act) (g f : ℕ) → length older + 1 ≤ from → between from until older g f ≡ false
+between_past : (from until : ℕ) (older : List Act) (g f : ℕ) → length older + 1 ≤ from →
+    between from until older g f ≡ false
 between_past from until older g f l = rw (le-ltb from (length older + 1) l) refl
 
 pub and_middle : (a b : Bool) → (a && false && b) ≡ false
 and_middle true b = refl
 and_middle false b = refl
 
-between_above : (from until : ℕ) (older : List Act) (g f : ℕ) → until ≤ length older + 1 → between from until older g f ≡ false
-between_above from until older g f l = rw (le-ltb (length older + 1) until l) (and_middle (nat_lt from (length older + 1)) (g == f))
+between_above : (from until : ℕ) (older : List Act) (g f : ℕ) → until ≤ length older + 1 →
+    between from until older g f ≡ false
+between_above from until older g f l =
+    rw (le-ltb (length older + 1) until l) (and_middle (nat_lt from (length older + 1)) (g == f))
 
 pub between_now : (from until : ℕ) (older : List Act) (g f : ℕ) → from ≤ length older → length older + 1 < until →
     between from until older g f ≡ (g == f)
-between_now from until older g f l u = rw (lt-ltb from (length older + 1) (omega arith), lt-ltb (length older + 1) until u) refl
+between_now from until older g f l u =
+    rw (lt-ltb from (length older + 1) (omega arith), lt-ltb (length older + 1) until u) refl
 
 -- nothing is set past the last act
 
-surrounding_past : (from until : ℕ) (log : List Act) (f : ℕ) → length log ≤ from → last_surrounding from until log f ≡ None
+surrounding_past : (from until : ℕ) (log : List Act) (f : ℕ) → length log ≤ from →
+    last_surrounding from until log f ≡ None
 surrounding_past from until [] f l = refl
 surrounding_past from until (Surround g text cursor anchor ∷ older) f l =
     rw (between_past from until older g f (omega arith)) (surrounding_past from until older f (omega arith))
@@ -126,17 +131,21 @@ pub enable_within : (until : ℕ) (log : List Act) (f : ℕ) → last_enable unt
 enable_within until [] f = omega arith
 enable_within until (Enable g ∷ older) f =
     let k : last_enable until (Enable g ∷ older) f ≤ length older + 1 =
-    number_within (nat_lt (length older + 1) until && (g == f)) (length older) (last_enable until older f) (enable_within until older f) in
+    number_within (nat_lt (length older + 1) until && (g == f)) (length older) (last_enable until older f)
+    (enable_within until older f) in
     omega arith
-enable_within until (_ ∷ older) f = let k : last_enable until older f ≤ length older = enable_within until older f in omega arith
+enable_within until (_ ∷ older) f = let k : last_enable until older f ≤ length older =
+    enable_within until older f in omega arith
 
 pub commit_within : (until : ℕ) (log : List Act) (f : ℕ) → last_commit until log f ≤ length log
 commit_within until [] f = omega arith
 commit_within until (Commit g ∷ older) f =
     let k : last_commit until (Commit g ∷ older) f ≤ length older + 1 =
-    number_within (nat_lt (length older + 1) until && (g == f)) (length older) (last_commit until older f) (commit_within until older f) in
+    number_within (nat_lt (length older + 1) until && (g == f)) (length older) (last_commit until older f)
+    (commit_within until older f) in
     omega arith
-commit_within until (_ ∷ older) f = let k : last_commit until older f ≤ length older = commit_within until older f in omega arith
+commit_within until (_ ∷ older) f = let k : last_commit until older f ≤ length older =
+    commit_within until older f in omega arith
 
 -- where the upper bound is above the list, it doesn't matter which it is
 
@@ -174,7 +183,8 @@ past_if : (b : Bool) (x : Option Word) (w : Word) → (if b then None else x) �
 past_if true x w e = cc
 past_if false x w e = (refl, e)
 
-enabled_by : (b c : Bool) (from n k : ℕ) (rest : Option Word) → nat_le (n + 1) from ≡ c → (rest ≡ Some Enabled → from < k) →
+enabled_by : (b c : Bool) (from n k : ℕ) (rest : Option Word) → nat_le (n + 1) from ≡ c →
+    (rest ≡ Some Enabled → from < k) →
     (if c then None else (if b then Some Enabled else rest)) ≡ Some Enabled → from < (if b then n + 1 else k)
 enabled_by b true from n k rest c h e = cc
 enabled_by true false from n k rest c h e = grind (arith, nat_tests)
@@ -187,12 +197,14 @@ unsaid_by true false other rest n e = absurd (n e)
 unsaid_by false false other rest n e = e
 
 -- where the word is enable, the last enable is past the lower bound
-pub enabled_past : (from until : ℕ) (log : List Act) (f : ℕ) → length log < until → word_past from log f ≡ Some Enabled →
+pub enabled_past : (from until : ℕ) (log : List Act) (f : ℕ) → length log < until →
+    word_past from log f ≡ Some Enabled →
     from < last_enable until log f
 enabled_past from until [] f l e = cc
 enabled_past from until (Enable g ∷ older) f l e =
     rw (lt-ltb (length older + 1) until (omega arith))
-    (enabled_by (g == f) (nat_le (length older + 1) from) from (length older) (last_enable until older f) (word_past from older f) refl
+    (enabled_by (g == f) (nat_le (length older + 1) from) from (length older) (last_enable until older f)
+    (word_past from older f) refl
     (enabled_past from until older f (omega arith)) e)
 enabled_past from until (Disable g ∷ older) f l e =
     enabled_past from until older f (omega arith)
@@ -202,12 +214,14 @@ enabled_past from until (Commit g ∷ older) f l e =
     (unsaid_by (g == f) (nat_le (length older + 1) from) None (word_past from older f) (λ d. cc) e)
 enabled_past from until (_ ∷ older) f l e = enabled_past from until older f (omega arith) (past_if _ _ Enabled e).1
 
-unsaid_if : (b : Bool) (w : Word) (rest : Option Word) → (if b then Some w else rest) ≡ None → (b ≡ false) × (rest ≡ None)
+unsaid_if : (b : Bool) (w : Word) (rest : Option Word) → (if b then Some w else rest) ≡ None →
+    (b ≡ false) × (rest ≡ None)
 unsaid_if true w rest e = cc
 unsaid_if false w rest e = (refl, e)
 
 -- where an act that is no commit of f leaves f without a word, there was none
-pub unsaid : (act : Act) (f : ℕ) (rest : Option Word) → is_commit_of act f ≡ false → word_by act f rest ≡ None → rest ≡ None
+pub unsaid : (act : Act) (f : ℕ) (rest : Option Word) → is_commit_of act f ≡ false → word_by act f rest ≡ None →
+    rest ≡ None
 unsaid (Enable g) f rest c e = (unsaid_if (g == f) Enabled rest e).1
 unsaid (Disable g) f rest c e = (unsaid_if (g == f) Disabled rest e).1
 unsaid (Commit g) f rest c e = rw c at e

@@ -26,7 +26,8 @@ object_beyond (act ∷ older) x h =
     rw (ne_eqb x (length older + 1) (λ e. omega arith), object_beyond older x (omega arith)) (remains_none act x)
 
 -- an object that was made before the act
-pub object_step : (act : Act) (log : List Act) (x : ℕ) → x ≤ length log → object (act ∷ log) x ≡ remains act x (object log x)
+pub object_step : (act : Act) (log : List Act) (x : ℕ) → x ≤ length log →
+    object (act ∷ log) x ≡ remains act x (object log x)
 object_step act log x h = rw (ne_eqb x (length log + 1) (λ e. omega arith)) refl
 
 -- the object of the act itself

@@ -11,24 +11,28 @@ use Rattle.relay_model.specs.Focus.{entered, entered_since}
 use Rattle.relay_model.specs.Hold.{word_by, word_past, word, is_enabled, begins_hold, kept, holder, hold_begun}
 use Rattle.relay_model.specs.Current.{last_enable, last_commit, current}
 use Rattle.relay_model.specs.Pending.{pending, is_commit_of}
-use Rattle.relay_model.proofs.Histories.{IsHistory}
+use Rattle.relay_model.proofs.ActsOrIdle.{IsHistory}
 use Rattle.relay_model.proofs.ObjectLaws.{if_same}
 use Rattle.relay_model.proofs.FocusLaws.{entered_since_same, entered_since_within, and_false}
 use Rattle.relay_model.proofs.HoldLaws.{commit_steady, holder_entered, holder_within, held_after, holder_committed, word_entered}
 use Rattle.relay_model.proofs.LookingBack.{set_between, set_above, enable_above, commit_above, commit_within, enable_any, commit_any, commit_other, enabled_past, unsaid, unsaid_enable, hold_begun_within}
 use Rattle.relay_model.proofs.PendingLaws.{applies_from, pending_is}
 
--- The hold: what its holder last enabled before it began is since it was entered, and is its last enable where it said no word since.
+-- The hold: what its holder last enabled before it began is since it was entered, and is its last enable where it said
+-- no word since.
 
 pub record Holding (log : List Act) (f : ℕ) : Type 0 where
   pub low : entered_since log f ≤ last_enable (hold_begun log) log f
-  pub last : word_past (entered_since log f) log f ≡ None → last_enable (length log + 1) log f ≡ last_enable (hold_begun log) log f
+  pub last : word_past (entered_since log f) log f ≡ None →
+      last_enable (length log + 1) log f ≡ last_enable (hold_begun log) log f
 
-word_by_past : (from : ℕ) (act : Act) (older : List Act) (f : ℕ) → from ≤ length older → word_past from (act ∷ older) f ≡ None →
+word_by_past : (from : ℕ) (act : Act) (older : List Act) (f : ℕ) → from ≤ length older →
+    word_past from (act ∷ older) f ≡ None →
     word_by act f (word_past from older f) ≡ None
 word_by_past from act older f l e = rw (lt-leb (length older + 1) from (omega arith)) at e
 
-holding_on : (act : Act) (older : List Act) (f : ℕ) → f ≤ length older → entered_since (act ∷ older) f ≡ entered_since older f →
+holding_on : (act : Act) (older : List Act) (f : ℕ) → f ≤ length older →
+    entered_since (act ∷ older) f ≡ entered_since older f →
     hold_begun (act ∷ older) ≡ hold_begun older → is_commit_of act f ≡ false → Holding older f → Holding (act ∷ older) f
 holding_on act older f w s b c h =
     let begun : hold_begun older ≤ length older = hold_begun_within older in
@@ -53,7 +57,8 @@ holding_committed older f b n h =
     ap (λ n. last_enable n older f) b in
     record {
       low = rw same h.low;
-      last = λ e. enable_any (length (Commit f ∷ older) + 1) (length older + 1) older f (omega arith) (omega arith) ∙ h.last n ∙ sym same;
+      last = λ e. enable_any (length (Commit f ∷ older) + 1) (length older + 1) older f (omega arith) (omega arith)
+          ∙ h.last n ∙ sym same;
     }
 
 -- a commit that begins the hold
@@ -62,27 +67,33 @@ holding_begun : (older : List Act) (f : ℕ) → hold_begun (Commit f ∷ older)
 holding_begun older f b n =
     let same : last_enable (hold_begun (Commit f ∷ older)) older f ≡ last_enable (length older + 1) older f =
     ap (λ n. last_enable n older f) b in
-    let past : entered_since older f < last_enable (length older + 1) older f = enabled_past _ (length older + 1) older f (omega arith) n in
+    let past : entered_since older f < last_enable (length older + 1) older f =
+    enabled_past _ (length older + 1) older f (omega arith) n in
     record {
       low = rw same (omega arith);
-      last = λ e. enable_any (length (Commit f ∷ older) + 1) (length older + 1) older f (omega arith) (omega arith) ∙ sym same;
+      last = λ e. enable_any (length (Commit f ∷ older) + 1) (length older + 1) older f (omega arith) (omega arith)
+          ∙ sym same;
     }
 
-unbegun : (g : ℕ) (older : List Act) → begins_hold (Commit g) older ≡ false → hold_begun (Commit g ∷ older) ≡ hold_begun older
+unbegun : (g : ℕ) (older : List Act) → begins_hold (Commit g) older ≡ false →
+    hold_begun (Commit g ∷ older) ≡ hold_begun older
 unbegun g older e = rw e refl
 
 -- a commit without the word enable begins no hold
-silent_begins_not : (g : ℕ) (older : List Act) → is_enabled (word older g) ≡ false → begins_hold (Commit g) older ≡ false
+silent_begins_not : (g : ℕ) (older : List Act) → is_enabled (word older g) ≡ false →
+    begins_hold (Commit g) older ≡ false
 silent_begins_not g older e = rw e (and_false (entered older g))
 
 -- a commit of another field, which begins no hold
 holding_beside : (g : ℕ) (older : List Act) (f : ℕ) → IsHistory older → begins_hold (Commit g) older ≡ false →
     (g == f) ≡ false → holder older ≡ Some f → Holding older f → Holding (Commit g ∷ older) f
 holding_beside g older f i u n k h =
-    let s : entered_since (Commit g ∷ older) f ≡ entered_since older f = entered_since_same (Commit g) older f (commit_steady g) in
+    let s : entered_since (Commit g ∷ older) f ≡ entered_since older f =
+    entered_since_same (Commit g) older f (commit_steady g) in
     holding_on (Commit g) older f (holder_within older f i k) s (unbegun g older u) n h
 
-word_is : (log : List Act) (f : ℕ) (o : Option Word) → entered log f ≡ true → word log f ≡ o → word_past (entered_since log f) log f ≡ o
+word_is : (log : List Act) (f : ℕ) (o : Option Word) → entered log f ≡ true → word log f ≡ o →
+    word_past (entered_since log f) log f ≡ o
 word_is log f o h e = rw h at e
 
 at_is : (o : Option ℕ) (f : ℕ) → is_at o f ≡ true → o ≡ Some f
@@ -92,12 +103,14 @@ at_is (Some g) f e = ap Some (eqb-true g f e)
 other_way : (f g : ℕ) → (f == g) ≡ false → (g == f) ≡ false
 other_way f g e = ne_eqb g f (λ k. true≢false (sym (eq-eqb f g (sym k)) ∙ e))
 
-at_none : (older : List Act) (g f : ℕ) (b : Bool) → (g == f) ≡ b → IsHistory older → word older g ≡ None → holder older ≡ Some f →
+at_none : (older : List Act) (g f : ℕ) (b : Bool) → (g == f) ≡ b → IsHistory older → word older g ≡ None →
+    holder older ≡ Some f →
     Holding older f → Holding (Commit g ∷ older) f
 at_none older g f true q i w k h =
     let same : g ≡ f = eqb-true g f q in
     let silent : word older f ≡ None = rw same at w in
-    let none : word_past (entered_since older f) older f ≡ None = word_is older f None (holder_entered older f i k) silent in
+    let none : word_past (entered_since older f) older f ≡ None =
+    word_is older f None (holder_entered older f i k) silent in
     rw same (holding_committed older f (unbegun f older (silent_begins_not f older (ap is_enabled silent))) none h)
 at_none older g f false q i w k h = holding_beside g older f i (silent_begins_not g older (ap is_enabled w)) q k h
 
@@ -107,8 +120,10 @@ at_enabled older g f w e =
     let here : entered older g ≡ true = word_entered older g Enabled w in
     rw (← same) (holding_begun older g (rw (w, here) refl) (word_is older g (Some Enabled) here w))
 
-at_disabled : (older : List Act) (g f : ℕ) (b : Bool) → is_at (holder older) g ≡ b → IsHistory older → word older g ≡ Some Disabled →
-    (holder older ≡ Some f → Holding older f) → (if b then None else holder older) ≡ Some f → Holding (Commit g ∷ older) f
+at_disabled : (older : List Act) (g f : ℕ) (b : Bool) → is_at (holder older) g ≡ b → IsHistory older →
+    word older g ≡ Some Disabled →
+    (holder older ≡ Some f → Holding older f) → (if b then None else holder older) ≡ Some f →
+    Holding (Commit g ∷ older) f
 at_disabled older g f true q i w h e = cc
 at_disabled older g f false q i w h e =
     let other : (f == g) ≡ false = rw e at q in
@@ -134,14 +149,16 @@ kept_from : (act : Act) (older : List Act) (o : Option ℕ) (f : ℕ) → kept a
     (o ≡ Some f) × (entered_since (act ∷ older) f ≡ entered_since older f)
 kept_from act older None f e = cc
 kept_from act older (Some g) f e =
-    let p : ((entered_since (act ∷ older) g == entered_since older g) ≡ true) × (g ≡ f) = kept_if (entered (act ∷ older) g) _ g f e in
+    let p : ((entered_since (act ∷ older) g == entered_since older g) ≡ true) × (g ≡ f) =
+    kept_if (entered (act ∷ older) g) _ g f e in
     (ap Some p.1, rw p.1 at (eqb-true (entered_since (act ∷ older) g) (entered_since older g) p.0))
 
 holding_kept : (act : Act) (older : List Act) (f : ℕ) → IsHistory older → (holder older ≡ Some f → Holding older f) →
     hold_begun (act ∷ older) ≡ hold_begun older → is_commit_of act f ≡ false → kept act older (holder older) ≡ Some f →
     Holding (act ∷ older) f
 holding_kept act older f i h b c e =
-    let p : (holder older ≡ Some f) × (entered_since (act ∷ older) f ≡ entered_since older f) = kept_from act older (holder older) f e in
+    let p : (holder older ≡ Some f) × (entered_since (act ∷ older) f ≡ entered_since older f) =
+    kept_from act older (holder older) f e in
     holding_on act older f (holder_within older f i p.0) p.1 b c (h p.0)
 
 holding : (log : List Act) (f : ℕ) → IsHistory log → holder log ≡ Some f → Holding log f
@@ -151,7 +168,8 @@ holding (act ∷ older) f i e = holding_kept act older f i.1 (holding older f i.
 
 -- the current state
 
-entered_after : (log : List Act) (f : ℕ) (w : Option Word) → IsHistory log → word log f ≡ w → held_after f w (holder log) ≡ Some f →
+entered_after : (log : List Act) (f : ℕ) (w : Option Word) → IsHistory log → word log f ≡ w →
+    held_after f w (holder log) ≡ Some f →
     entered log f ≡ true
 entered_after log f None i w e = holder_entered log f i e
 entered_after log f (Some said) i w e = word_entered log f said w
@@ -173,7 +191,8 @@ current_committed log f i e =
     let applied : last_commit (length (Commit f ∷ log) + 1) (Commit f ∷ log) f ≡ length log + 1 =
     rw (lt-ltb (length log + 1) (length (Commit f ∷ log) + 1) (omega arith), eq-eqb f f refl) refl in
     ap (λ n. set_between reset (max reset (last_commit n (Commit f ∷ log) f)) n log f) applied
-    ∙ ap (λ n. set_between reset (max reset n) (length log + 1) log f) (commit_above (length log + 1) (Commit f) log f (omega arith))
+    ∙ ap (λ n. set_between reset (max reset n) (length log + 1) log f)
+    (commit_above (length log + 1) (Commit f) log f (omega arith))
     ∙ ap (λ n. set_between n (max n (last_commit (length log + 1) log f)) (length log + 1) log f) from
     ∙ sym (pending_is log f (length log + 1) i (omega arith) here)
 

@@ -22,9 +22,11 @@ abbrev pub makes_serving : Act → List Act → Bool
 makes_serving (Method p) older = is_none (serving older)
 makes_serving _ older = false
 
--- a hold begins, also one that takes the seat from another field, or a method comes while a field holds
+-- a hold begins, also one that takes the seat from another field, or a method comes while a field
+-- holds
 abbrev pub activates : Act → List Act → Bool
-activates act older = begins_hold act older || (makes_serving act older && is_some (holder (act ∷ older)))
+activates act older =
+    begins_hold act older || (makes_serving act older && is_some (holder (act ∷ older)))
 
 -- a commit of the holder without a word
 abbrev pub updates : Act → List Act → Bool
@@ -49,9 +51,11 @@ notice_to m act older = (if is_at (serving (act ∷ older)) m then notice act ol
 -- the acts that told m a done, rising
 abbrev pub dones : List Act → ℕ → List ℕ
 dones [] m = []
-dones (act ∷ older) m = (if is_some (notice_to m act older) then dones older m ++ next older ∷ [] else dones older m)
+dones (act ∷ older) m =
+    (if is_some (notice_to m act older) then dones older m ++ next older ∷ [] else dones older m)
 
--- the act that began the present activation of m after the act n, where `before` began it until then
+-- the act that began the present activation of m after the act n, where `before` began it until
+-- then
 abbrev pub begun_by : ℕ → Option Notice → Option ℕ → Option ℕ
 begun_by n (Some Activates) before = Some n
 begun_by n (Some Updates) before = before
@@ -77,7 +81,8 @@ abbrev pub at_position : List ℕ → Option ℕ → Option ℕ
 at_position xs None = None
 at_position xs (Some n) = slice_get xs (n - 1)
 
--- the done of m that a serial names: the latest with that number modulo 2^32 (zwp_input_method_v2.commit)
+-- the done of m that a serial names: the latest with that number modulo 2^32
+-- (zwp_input_method_v2.commit)
 abbrev pub named : List Act → ℕ → ℕ → Option ℕ
 named log m serial = at_position (dones log m) (position_named (length (dones log m)) serial)
 
@@ -89,5 +94,6 @@ is_from (Some x) (Some y) = nat_le x y
 
 -- a commit of the serving method whose serial names a done of the present activation
 abbrev pub fresh : Act → List Act → Bool
-fresh (MCommit m serial) older = is_at (serving older) m && is_from (begun older) (named older m serial)
+fresh (MCommit m serial) older =
+    is_at (serving older) m && is_from (begun older) (named older m serial)
 fresh _ older = false

@@ -39,15 +39,18 @@ no_batch = record { deletion = no_deletion; string = []; preedit = no_preedit }
 
 -- what an act makes of the last deletion of m, where rest is what the acts before it say
 abbrev pub deletion_by : Act → ℕ → Deletion → Deletion
-deletion_by (MDelete n before after) m rest = (if n == m then record { before = before; after = after } else rest)
+deletion_by (MDelete n before after) m rest =
+    (if n == m then record { before = before; after = after } else rest)
 deletion_by (MCommit n serial) m rest = (if n == m then no_deletion else rest)
 deletion_by _ m rest = rest
 
--- the last deletion of m past the act `from` and past m's last commit (zwp_input_method_v2.delete_surrounding_text)
+-- the last deletion of m past the act `from` and past m's last commit
+-- (zwp_input_method_v2.delete_surrounding_text)
 abbrev pub last_deletion : ℕ → List Act → ℕ → Deletion
 last_deletion from [] m = no_deletion
 last_deletion from (act ∷ older) m =
-    (if nat_le (next older) from then no_deletion else deletion_by act m (last_deletion from older m))
+    (if nat_le (next older) from then no_deletion
+    else deletion_by act m (last_deletion from older m))
 
 -- what an act makes of the last string of m, where rest is what the acts before it say
 abbrev pub string_by : Act → ℕ → List ℕ → List ℕ
@@ -55,10 +58,12 @@ string_by (MString n text) m rest = (if n == m then text else rest)
 string_by (MCommit n serial) m rest = (if n == m then [] else rest)
 string_by _ m rest = rest
 
--- the last string of m past the act `from` and past m's last commit (zwp_input_method_v2.commit_string)
+-- the last string of m past the act `from` and past m's last commit
+-- (zwp_input_method_v2.commit_string)
 abbrev pub last_string : ℕ → List Act → ℕ → List ℕ
 last_string from [] m = []
-last_string from (act ∷ older) m = (if nat_le (next older) from then [] else string_by act m (last_string from older m))
+last_string from (act ∷ older) m =
+    (if nat_le (next older) from then [] else string_by act m (last_string from older m))
 
 -- what an act makes of the last preedit of m, where rest is what the acts before it say
 abbrev pub preedit_by : Act → ℕ → Preedit → Preedit
@@ -67,7 +72,8 @@ preedit_by (MPreedit n text begin end) m rest =
 preedit_by (MCommit n serial) m rest = (if n == m then no_preedit else rest)
 preedit_by _ m rest = rest
 
--- the last preedit of m past the act `from` and past m's last commit (zwp_input_method_v2.set_preedit_string)
+-- the last preedit of m past the act `from` and past m's last commit
+-- (zwp_input_method_v2.set_preedit_string)
 abbrev pub last_preedit : ℕ → List Act → ℕ → Preedit
 last_preedit from [] m = no_preedit
 last_preedit from (act ∷ older) m =
@@ -76,14 +82,23 @@ last_preedit from (act ∷ older) m =
 -- the edits of m since its last commit and since the act `from`
 abbrev pub edits_past : ℕ → List Act → ℕ → Batch
 edits_past from log m =
-    record { deletion = last_deletion from log m; string = last_string from log m; preedit = last_preedit from log m }
+    record {
+      deletion = last_deletion from log m;
+      string = last_string from log m;
+      preedit = last_preedit from log m;
+    }
 
 -- what an act makes of the pending edits of m
 abbrev pub edits_by : Act → ℕ → Batch → Batch
 edits_by act m rest =
-    record { deletion = deletion_by act m rest.deletion; string = string_by act m rest.string; preedit = preedit_by act m rest.preedit }
+    record {
+      deletion = deletion_by act m rest.deletion;
+      string = string_by act m rest.string;
+      preedit = preedit_by act m rest.preedit;
+    }
 
--- what a commit of m makes one batch: its last edits since its previous commit and since its activation began
+-- what a commit of m makes one batch: its last edits since its previous commit and since its
+-- activation began
 abbrev pub batch : List Act → ℕ → Batch
 batch log m = edits_past (unwrap_or (begun log) 0) log m
 
@@ -118,17 +133,22 @@ is_no_preedit p = (length p.text == 0) && is_zero p.begin && is_zero p.end
 abbrev pub preedit_said : Preedit → List Said
 preedit_said p = (if is_no_preedit p then [] else said.Preedit p.text p.begin p.end ∷ [])
 
--- the events of a batch: deletion, string and preedit, each unless it is empty, and then the done with the count
+-- the events of a batch: deletion, string and preedit, each unless it is empty, and then the done
+-- with the count
 abbrev pub group : Batch → ℕ → List Said
-group b count = deletion_said b.deletion ++ (string_said b.string ++ (preedit_said b.preedit ++ said.FieldDone count ∷ []))
+group b count =
+    deletion_said b.deletion
+    ++ (string_said b.string ++ (preedit_said b.preedit ++ said.FieldDone count ∷ []))
 
 -- the group of the batch that the act commits, told to the field f; no other act has one
 abbrev pub group_of : Act → List Act → ℕ → List Said
 group_of (MCommit m serial) older f = group (batch older m) (commit_count older f)
 group_of _ older f = []
 
--- what the acts of a history relay to the field f: the group of each fresh batch that was committed while f held the seat, in order
+-- what the acts of a history relay to the field f: the group of each fresh batch that was committed
+-- while f held the seat, in order
 abbrev pub relayed : List Act → ℕ → List (List Said)
 relayed [] f = []
 relayed (act ∷ older) f =
-    (if fresh act older && is_at (holder older) f then relayed older f ++ group_of act older f ∷ [] else relayed older f)
+    (if fresh act older && is_at (holder older) f then relayed older f ++ group_of act older f ∷ []
+    else relayed older f)

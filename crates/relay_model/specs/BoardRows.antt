@@ -6,7 +6,8 @@ use Rattle.relay_model.specs.declared.said.Said.TheVariants as said
 use Rattle.relay_model.specs.KeyRows.{mods, keymap}
 use Rattle.relay_model.specs.Told.{to, told_each}
 
--- a method's own keys pass by its grab, and another peer's go to it; the keys of each board are counted by themselves
+-- a method's own keys pass by its grab, and another peer's go to it; the keys of each board are
+-- counted by themselves
 abbrev pub OwnKeysPass : Type 0
 OwnKeysPass =
     told_each []
@@ -60,7 +61,8 @@ NoKeymap =
     ∷ []
     ∷ [])
 
--- a release goes where the press went, also beside the same key on another board and on the shell's keyboard; nowhere where the grab fell
+-- a release goes where the press went, also beside the same key on another board and on the shell's
+-- keyboard; nowhere where the grab fell
 abbrev pub ReleasesFollow : Type 0
 ReleasesFollow =
     told_each []

@@ -26,7 +26,12 @@ pub record State : Type 0 where
 
 -- the state of a field that set nothing
 abbrev pub initial : State
-initial = record { surrounding = None; cause = 0; content = record { hint = 0; purpose = 0 }; rect = None }
+initial = record {
+  surrounding = None;
+  cause = 0;
+  content = record { hint = 0; purpose = 0 };
+  rect = None;
+}
 
 -- the last enable of f below the act `until`
 abbrev pub last_enable : ℕ → List Act → ℕ → ℕ
@@ -50,7 +55,8 @@ between from until older g f = nat_lt from (next older) && nat_lt (next older) u
 abbrev pub last_surrounding : ℕ → ℕ → List Act → ℕ → Option Around
 last_surrounding from until [] f = None
 last_surrounding from until (Surround g text cursor anchor ∷ older) f =
-    (if between from until older g f then Some (record { text = text; cursor = cursor; anchor = anchor })
+    (if between from until older g f
+    then Some (record { text = text; cursor = cursor; anchor = anchor })
     else last_surrounding from until older f)
 last_surrounding from until (_ ∷ older) f = last_surrounding from until older f
 
@@ -65,7 +71,8 @@ last_cause from until (_ ∷ older) f = last_cause from until older f
 abbrev pub last_content : ℕ → ℕ → List Act → ℕ → ContentType
 last_content from until [] f = record { hint = 0; purpose = 0 }
 last_content from until (Content g hint purpose ∷ older) f =
-    (if between from until older g f then record { hint = hint; purpose = purpose } else last_content from until older f)
+    (if between from until older g f then record { hint = hint; purpose = purpose }
+    else last_content from until older f)
 last_content from until (_ ∷ older) f = last_content from until older f
 
 -- the last rectangle that f set between two acts
@@ -75,8 +82,9 @@ last_rect from until (Cursor g rect ∷ older) f =
     (if between from until older g f then Some rect else last_rect from until older f)
 last_rect from until (_ ∷ older) f = last_rect from until older f
 
--- The current state of the holder h: what it last set between the last enable before its hold, which resets everything, and its last commit, which
--- applies it. The cause is that of the last commit alone.
+-- The current state of the holder h: what it last set between the last enable before its hold,
+-- which resets everything, and its last commit, which applies it. The cause is that of the last
+-- commit alone.
 abbrev pub current : List Act → ℕ → State
 current log h =
     let reset = last_enable (hold_begun log) log h in

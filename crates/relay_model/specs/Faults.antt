@@ -3,8 +3,9 @@ use Rattle.std.specs.Prelude.{ℕ, List, codes}
 use Rattle.relay_model.specs.declared.fault.Fault.{Fault}
 use Rattle.relay_model.specs.declared.fault.Fault.TheVariants.{Size, Object, Opcode, Malformed, Argument, NewId, TooMany, Bind, Capability, Role}
 
--- the code of the error, a number of the interface of the object that it names: of wl_display 0 is invalid_object, 1 invalid_method and 3
--- implementation; of wl_seat 0 is missing_capability; of zwp_input_method_v2 0 is role
+-- the code of the error, a number of the interface of the object that it names: of wl_display 0 is
+-- invalid_object, 1 invalid_method and 3 implementation; of wl_seat 0 is missing_capability; of
+-- zwp_input_method_v2 0 is role
 abbrev pub code_of : Fault → ℕ
 code_of Size = 1
 code_of Object = 0

@@ -37,6 +37,7 @@ focused_peer log = peer_at log (focus log)
 abbrev pub entered : List Act → ℕ → Bool
 entered log f = is_field log f && is_same (peer_of log f) (focused_peer log)
 
--- since when a field is entered: the later of the act that gave the focus and the field's own making
+-- since when a field is entered: the later of the act that gave the focus and the field's own
+-- making
 abbrev pub entered_since : List Act → ℕ → ℕ
 entered_since log f = max (focus_since log) f

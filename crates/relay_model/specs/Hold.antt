@@ -17,9 +17,11 @@ word_by _ f rest = rest
 -- the last enable or disable of f past the act `from`, and past the last commit of f
 abbrev pub word_past : ℕ → List Act → ℕ → Option Word
 word_past from [] f = None
-word_past from (act ∷ older) f = (if nat_le (next older) from then None else word_by act f (word_past from older f))
+word_past from (act ∷ older) f =
+    (if nat_le (next older) from then None else word_by act f (word_past from older f))
 
--- the word of a commit of f: the last enable or disable since f's previous commit and since it was entered (zwp_text_input_v3.commit)
+-- the word of a commit of f: the last enable or disable since f's previous commit and since it was
+-- entered (zwp_text_input_v3.commit)
 abbrev pub word : List Act → ℕ → Option Word
 word log f = (if entered log f then word_past (entered_since log f) log f else None)
 
@@ -52,14 +54,17 @@ committed _ = None
 abbrev pub kept : Act → List Act → Option ℕ → Option ℕ
 kept act older None = None
 kept act older (Some h) =
-    (if entered (act ∷ older) h && (entered_since (act ∷ older) h == entered_since older h) then Some h else None)
+    (if entered (act ∷ older) h && (entered_since (act ∷ older) h == entered_since older h)
+    then Some h else None)
 
 -- the holder after an act, where `held` held before it
 abbrev pub holder_after : Act → List Act → Option ℕ → Option ℕ
 holder_after act older held =
-    (if begins_hold act older then committed act else (if ends act older held then None else kept act older held))
+    (if begins_hold act older then committed act
+    else (if ends act older held then None else kept act older held))
 
--- the field that holds the seat: the last that committed an enable, while no commit of its own and no focus ended its hold
+-- the field that holds the seat: the last that committed an enable, while no commit of its own and
+-- no focus ended its hold
 abbrev pub holder : List Act → Option ℕ
 holder [] = None
 holder (act ∷ older) = holder_after act older (holder older)

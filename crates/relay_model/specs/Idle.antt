@@ -11,7 +11,9 @@ use Rattle.relay_model.specs.Boards.{sends, board_refused}
 -- the offset is that of a character's first byte, or the text's end
 abbrev pub is_boundary : List ℕ → ℕ → Bool
 is_boundary text n =
-    (n == length text) || (nat_lt n (length text) && (nat_lt (slice_index text n) 128 || nat_le 192 (slice_index text n)))
+    (n == length text)
+    || (nat_lt n (length text)
+    && (nat_lt (slice_index text n) 128 || nat_le 192 (slice_index text n)))
 
 -- a cursor or an anchor that a text can have (zwp_text_input_v3.set_surrounding_text)
 abbrev pub is_place : List ℕ → ℤ → Bool
@@ -27,18 +29,20 @@ is_not_negative (negsuc n) = false
 abbrev pub is_sized : Rect → Bool
 is_sized rect = is_not_negative rect.width && is_not_negative rect.height
 
--- The act does something. The objects that it names are alive and of its kind. A focus moves the focus. A request of a
--- field other than commit and drop comes while the field is entered. The cursor and the anchor of a surrounding text
--- are at the beginning of a character of it or at its end. No side of a rectangle is negative. The surface of a new
--- popup has no popup. A press isn't refused. A board that sends keys or modifiers has had a keymap.
--- A step that takes bytes for a peer does nothing on the seat, so it stands in the log as Idle.
+-- The act does something. The objects that it names are alive and of its kind. A focus moves the
+-- focus. A request of a field other than commit and drop comes while the field is entered. The
+-- cursor and the anchor of a surrounding text are at the beginning of a character of it or at its
+-- end. No side of a rectangle is negative. The surface of a new popup has no popup. A press isn't
+-- refused. A board that sends keys or modifiers has had a keymap. A step that takes bytes for a
+-- peer does nothing on the seat, so it stands in the log as Idle.
 abbrev pub is_live : Act → List Act → Bool
 is_live acts.Peer older = true
 is_live (acts.Gone p cause) older = is_peer older p
 is_live (acts.Surface p) older = is_peer older p
 is_live (acts.Field p) older = is_peer older p
 is_live (acts.Method p) older = is_peer older p
-is_live (acts.Popup m s) older = is_method older m && (is_surface older s && not (has_popup older s))
+is_live (acts.Popup m s) older =
+    is_method older m && (is_surface older s && not (has_popup older s))
 is_live (acts.Grab m) older = is_method older m
 is_live (acts.Drop x) older = alive older x && not (is_peer older x)
 is_live (acts.Focus s) older = is_surface older s && not (is_at (focus older) s)
@@ -47,7 +51,8 @@ is_live (acts.Area s rect) older = is_surface older s
 is_live (acts.Screen size) older = true
 is_live (acts.Enable f) older = entered older f
 is_live (acts.Disable f) older = entered older f
-is_live (acts.Surround f text cursor anchor) older = entered older f && is_place text cursor && is_place text anchor
+is_live (acts.Surround f text cursor anchor) older =
+    entered older f && is_place text cursor && is_place text anchor
 is_live (acts.Cause f cause) older = entered older f
 is_live (acts.Content f hint purpose) older = entered older f
 is_live (acts.Cursor f rect) older = entered older f && is_sized rect
@@ -76,7 +81,8 @@ is_live acts.Idle older = false
 abbrev pub cleaned : Act → List Act → Act
 cleaned act older = (if is_live act older then act else acts.Idle)
 
--- a list of acts, the newest first, with Idle in the place of each act that was idle at its number: a history
+-- a list of acts, the newest first, with Idle in the place of each act that was idle at its number:
+-- a history
 abbrev pub history : List Act → List Act
 history [] = []
 history (act ∷ older) = cleaned act (history older) ∷ history older

@@ -10,7 +10,8 @@ use Rattle.relay_model.specs.Told.{to, told_each}
 
 -- the modifiers with these masks and this layout
 abbrev pub mods : (depressed latched locked group : ℕ) → Mods
-mods depressed latched locked group = record { depressed = depressed; latched = latched; locked = locked; group = group }
+mods depressed latched locked group =
+    record { depressed = depressed; latched = latched; locked = locked; group = group }
 
 -- the keymap with this format, token and size
 abbrev pub keymap : (format token size : ℕ) → Keymap
@@ -89,12 +90,14 @@ GrabsInTurn =
     ∷ []
     ∷ []
     ∷ []
-    ∷ (to 6 (said.Keymap (keymap 1 7 90)) ∷ to 6 (said.Repeat repeat) ∷ to 6 (said.Mods 6 (mods 1 2 3 4)) ∷ [])
+    ∷ (to 6 (said.Keymap (keymap 1 7 90)) ∷ to 6 (said.Repeat repeat)
+    ∷ to 6 (said.Mods 6 (mods 1 2 3 4)) ∷ [])
     ∷ (to 6 (said.Mods 7 (mods 5 6 7 8)) ∷ [])
     ∷ []
     ∷ (to 1 (said.DeleteId 6) ∷ [])
     ∷ (to 0 (said.Pass 5 30 1) ∷ [])
-    ∷ (to 11 (said.Keymap (keymap 1 7 90)) ∷ to 11 (said.Repeat repeat) ∷ to 11 (said.Mods 11 (mods 5 6 7 8)) ∷ [])
+    ∷ (to 11 (said.Keymap (keymap 1 7 90)) ∷ to 11 (said.Repeat repeat)
+    ∷ to 11 (said.Mods 11 (mods 5 6 7 8)) ∷ [])
     ∷ [])
 
 -- a popup that fits above the cursor rectangle
@@ -129,7 +132,8 @@ Placement =
     ∷ []
     ∷ []
     ∷ (to 6 said.Activate ∷ to 6 (said.ContentType 0 0) ∷ to 6 said.MethodDone ∷ [])
-    ∷ (to 14 (said.PopupRect (pos 150) (pos 100) (pos 2) (pos 20)) ∷ to 0 (said.Placed 14 (pos 800) (pos 660)) ∷ [])
+    ∷ (to 14 (said.PopupRect (pos 150) (pos 100) (pos 2) (pos 20))
+    ∷ to 0 (said.Placed 14 (pos 800) (pos 660)) ∷ [])
     ∷ [])
 
 -- two popups, on surfaces in the other order, told by rising label
@@ -213,7 +217,8 @@ PopupWithoutSurface =
     ∷ to 6 (said.PopupRect (pos 10) (negsuc 7) (pos 2) (pos 8))
     ∷ to 0 (said.Placed 6 (pos 0) (pos 28))
     ∷ [])
-    ∷ (to 6 (said.PopupRect (pos 0) (negsuc 7) (pos 2) (pos 8)) ∷ to 0 (said.Placed 6 (pos 10) (pos 28)) ∷ [])
+    ∷ (to 6 (said.PopupRect (pos 0) (negsuc 7) (pos 2) (pos 8))
+    ∷ to 0 (said.Placed 6 (pos 10) (pos 28)) ∷ [])
     ∷ (to 1 (said.DeleteId 5) ∷ [])
     ∷ []
     ∷ [])

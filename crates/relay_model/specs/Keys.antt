@@ -14,11 +14,13 @@ abbrev pub stands_on : List Act → Option ℕ → Option ℕ
 stands_on log None = None
 stands_on log (Some g) = (if is_same (method_of log g) (serving log) then Some g else None)
 
--- the grab that stands: one that the serving method made while none stood; one made while another stands never does
+-- the grab that stands: one that the serving method made while none stood; one made while another
+-- stands never does
 abbrev pub standing : List Act → Option ℕ
 standing [] = None
 standing (acts.Grab m ∷ older) =
-    (if is_none (standing older) && is_at (serving older) m then Some (next older) else standing older)
+    (if is_none (standing older) && is_at (serving older) m then Some (next older)
+    else standing older)
 standing (act ∷ older) = stands_on (act ∷ older) (standing older)
 
 -- the grab g stands
@@ -35,13 +37,15 @@ with_key key keys = (if list_any (λ k. key == k) keys then keys else key ∷ ke
 -- the keys that were pressed, each once
 abbrev pub pressed_keys : List Act → List ℕ
 pressed_keys [] = []
-pressed_keys (acts.Key time key state ∷ older) = (if is_press state then with_key key (pressed_keys older) else pressed_keys older)
+pressed_keys (acts.Key time key state ∷ older) =
+    (if is_press state then with_key key (pressed_keys older) else pressed_keys older)
 pressed_keys (_ ∷ older) = pressed_keys older
 
 -- the key is down: its last act pressed it
 abbrev pub is_down : List Act → ℕ → Bool
 is_down [] key = false
-is_down (acts.Key time k state ∷ older) key = (if key == k then is_press state else is_down older key)
+is_down (acts.Key time k state ∷ older) key =
+    (if key == k then is_press state else is_down older key)
 is_down (_ ∷ older) key = is_down older key
 
 -- how many keys are down
@@ -52,7 +56,8 @@ number_down log = count_by (is_down log) (pressed_keys log)
 abbrev pub is_first_press : List Act → ℕ → ℕ → Bool
 is_first_press log key state = is_press state && not (is_down log key)
 
--- of a key that is down: the grab that stood at its first press since it was last up, none where that passed to the shell
+-- of a key that is down: the grab that stood at its first press since it was last up, none where
+-- that passed to the shell
 abbrev pub first_went : List Act → ℕ → Option ℕ
 first_went [] key = None
 first_went (acts.Key time k state ∷ older) key =
@@ -74,8 +79,8 @@ abbrev pub as_first : List Act → Option ℕ → Goes
 as_first log None = ToShell
 as_first log (Some g) = (if grab_stands log g then ToGrab g else Nowhere)
 
--- where the key goes: a key that is down to where its first press went, a release of another to the shell, a first press to the grab that stands,
--- and it is refused where 64 keys are down
+-- where the key goes: a key that is down to where its first press went, a release of another to the
+-- shell, a first press to the grab that stands, and it is refused where 64 keys are down
 abbrev pub key_route : List Act → ℕ → ℕ → Goes
 key_route log key state =
     (if is_down log key then as_first log (first_went log key)

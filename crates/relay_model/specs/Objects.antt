@@ -1,17 +1,20 @@
--- The objects of a history of acts, the newest act first: which are alive, of which kind, and whose.
+-- The objects of a history of acts, the newest act first: which are alive, of which kind, and
+-- whose.
 use Rattle.std.specs.Prelude.{ℕ, ◌+◌, List, [], ◌∷◌, ◌++◌, length, filter, Bool, true, false, ◌==◌, if◌then◌else◌, Option, Some, None, is_some}
 use Rattle.std.specs.List.{list_any}
 use Rattle.relay_model.specs.declared.act.Act.{Act}
 use Rattle.relay_model.specs.declared.act.Act.TheVariants.{Peer, Gone, Surface, Field, Method, Popup, Grab, Drop, Registry, Seat, Thing, VBoard}
 
--- what an object is; a popup is made by a method on a surface, a grab by a method; a board is a virtual keyboard; a registry, a seat or another bound
--- global is a thing, of which nothing is asked but whether it is alive
+-- what an object is; a popup is made by a method on a surface, a grab by a method; a board is a
+-- virtual keyboard; a registry, a seat or another bound global is a thing, of which nothing is
+-- asked but whether it is alive
 pub data Kind : Type 0 where
   PeerKind SurfaceKind FieldKind MethodKind ThingKind BoardKind : Kind
   PopupKind : (method surface : ℕ) → Kind
   GrabKind : (method : ℕ) → Kind
 
--- a live object: its kind, and the peer that it belongs to; a peer is its own, a popup's or grab's is that of its method
+-- a live object: its kind, and the peer that it belongs to; a peer is its own, a popup's or grab's
+-- is that of its method
 pub record Object : Type 0 where
   pub kind : Kind
   pub peer : ℕ
@@ -90,7 +93,8 @@ abbrev pub made_for : Kind → Option ℕ → Option Object
 made_for kind None = None
 made_for kind (Some p) = Some (record { kind = kind; peer = p })
 
--- what the act makes, where it has this number, and its maker this peer; the callback of a sync is never alive
+-- what the act makes, where it has this number, and its maker this peer; the callback of a sync is
+-- never alive
 abbrev pub made : Act → ℕ → Option ℕ → Option Object
 made Peer n whose = Some (record { kind = PeerKind; peer = n })
 made (Surface p) n whose = Some (record { kind = SurfaceKind; peer = p })
@@ -120,7 +124,8 @@ remains _ x object = object
 abbrev pub object : List Act → ℕ → Option Object
 object [] x = None
 object (act ∷ older) x =
-    (if x == next older then made act x (owner (object older (maker act))) else remains act x (object older x))
+    (if x == next older then made act x (owner (object older (maker act)))
+    else remains act x (object older x))
 
 -- x is alive
 abbrev pub alive : List Act → ℕ → Bool

@@ -56,7 +56,8 @@ place log s rect = place_of (screen log) (origin log) rect (size_of (area log s)
 
 -- the surface of the popup x, where it is alive, x too, and x's method serves
 abbrev pub ready_surface : List Act → ℕ → Option ℕ
-ready_surface log x = (if is_same (method_of log x) (serving log) then where_alive log (surface_of log x) else None)
+ready_surface log x =
+    (if is_same (method_of log x) (serving log) then where_alive log (surface_of log x) else None)
 
 -- the popup x is shown: it is ready, and a field holds whose rectangle is set
 abbrev pub popup_shown : List Act → ℕ → Bool

@@ -287,7 +287,8 @@ CursorInsideACharacter =
     ∷ []
     ∷ []
     ∷ []
-    ∷ (to 5 said.Activate ∷ to 5 (said.Surrounding (195 ∷ 169 ∷ []) 2 2) ∷ to 5 (said.ChangeCause 0) ∷ to 5 (said.ContentType 0 0) ∷ to 5 said.MethodDone ∷ [])
+    ∷ (to 5 said.Activate ∷ to 5 (said.Surrounding (195 ∷ 169 ∷ []) 2 2) ∷ to 5 (said.ChangeCause 0)
+    ∷ to 5 (said.ContentType 0 0) ∷ to 5 said.MethodDone ∷ [])
     ∷ [])
 
 -- the focused surface is dropped
@@ -383,8 +384,10 @@ CauseOfOneCommit =
     ∷ []
     ∷ []
     ∷ []
-    ∷ (to 5 said.Activate ∷ to 5 (said.Surrounding (97 ∷ 98 ∷ []) 1 1) ∷ to 5 (said.ChangeCause 1) ∷ to 5 (said.ContentType 0 0) ∷ to 5 said.MethodDone ∷ [])
-    ∷ (to 5 (said.Surrounding (97 ∷ 98 ∷ []) 1 1) ∷ to 5 (said.ChangeCause 0) ∷ to 5 (said.ContentType 0 0) ∷ to 5 said.MethodDone ∷ [])
+    ∷ (to 5 said.Activate ∷ to 5 (said.Surrounding (97 ∷ 98 ∷ []) 1 1) ∷ to 5 (said.ChangeCause 1)
+    ∷ to 5 (said.ContentType 0 0) ∷ to 5 said.MethodDone ∷ [])
+    ∷ (to 5 (said.Surrounding (97 ∷ 98 ∷ []) 1 1) ∷ to 5 (said.ChangeCause 0)
+    ∷ to 5 (said.ContentType 0 0) ∷ to 5 said.MethodDone ∷ [])
     ∷ [])
 
 -- what was set before the enable
@@ -440,5 +443,6 @@ WholeBatch =
     ∷ []
     ∷ []
     ∷ []
-    ∷ (to 3 (said.Delete 2 0) ∷ to 3 (said.CommitString (97 ∷ [])) ∷ to 3 (said.Preedit (98 ∷ []) (pos 0) (pos 1)) ∷ to 3 (said.FieldDone 1) ∷ [])
+    ∷ (to 3 (said.Delete 2 0) ∷ to 3 (said.CommitString (97 ∷ []))
+    ∷ to 3 (said.Preedit (98 ∷ []) (pos 0) (pos 1)) ∷ to 3 (said.FieldDone 1) ∷ [])
     ∷ [])

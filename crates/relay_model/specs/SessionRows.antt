@@ -1,4 +1,5 @@
--- Worked rows of the acts that only sessions have: what each act of a list tells, by the definitions.
+-- Worked rows of the acts that only sessions have: what each act of a list tells, by the
+-- definitions.
 use Rattle.std.specs.Prelude.{◌≡◌, [], ◌∷◌}
 use Rattle.wl_proto.specs.declared.interface.Interface.TheVariants as interfaces
 use Rattle.relay_model.specs.declared.act.Act.TheVariants as acts
@@ -38,12 +39,14 @@ AnsweredSync =
 
 -- a seat, which has no pointer, no keyboard and no touch
 abbrev pub BoundSeat : Type 0
-BoundSeat = told_each [] (acts.Peer ∷ acts.Seat 1 ∷ []) ≡ ([] ∷ (to 2 (said.Capabilities 0) ∷ []) ∷ [])
+BoundSeat = told_each [] (acts.Peer ∷ acts.Seat 1 ∷ [])
+    ≡ ([] ∷ (to 2 (said.Capabilities 0) ∷ []) ∷ [])
 
 -- refused messages: one whose header has a bad size, and a pointer asked of a seat
 abbrev pub RefusedMessages : Type 0
 RefusedMessages =
-    told_each [] (acts.Peer ∷ acts.Seat 1 ∷ acts.Bad 1 faults.Size 1 ∷ acts.Bad 1 faults.Capability 2 ∷ [])
+    told_each []
+    (acts.Peer ∷ acts.Seat 1 ∷ acts.Bad 1 faults.Size 1 ∷ acts.Bad 1 faults.Capability 2 ∷ [])
     ≡ ([]
     ∷ (to 2 (said.Capabilities 0) ∷ [])
     ∷ (to 1 (said.Error 1 faults.Size) ∷ [])

@@ -36,16 +36,19 @@ leaves (Focus s) older = each_entered leave older (focus older)
 leaves Unfocus older = each_entered leave older (focus older)
 leaves _ older = []
 
--- the surrounding text and its cause, where one is set; its cursor and anchor, never negative, are told as plain numbers
+-- the surrounding text and its cause, where one is set; its cursor and anchor, never negative, are
+-- told as plain numbers
 abbrev pub around_said : Option Around → ℕ → List Said
 around_said None cause = []
 around_said (Some around) cause =
-    said.Surrounding around.text (nat_abs around.cursor) (nat_abs around.anchor) ∷ said.ChangeCause cause ∷ []
+    said.Surrounding around.text (nat_abs around.cursor) (nat_abs around.anchor)
+    ∷ said.ChangeCause cause ∷ []
 
 -- the state of the holder, and the done that ends it
 abbrev pub state_said : State → List Said
 state_said s =
-    around_said s.surrounding s.cause ++ (said.ContentType s.content.hint s.content.purpose ∷ said.MethodDone ∷ [])
+    around_said s.surrounding s.cause
+    ++ (said.ContentType s.content.hint s.content.purpose ∷ said.MethodDone ∷ [])
 
 abbrev pub holders_state : List Act → Option ℕ → List Said
 holders_state log None = []
@@ -101,9 +104,11 @@ abbrev pub mods_said : ℕ → Option keys.Mods → List Said
 mods_said n None = []
 mods_said n (Some mods) = said.Mods n mods ∷ []
 
--- what a grab is told that stands from the act n on: the last keymap, repeat and modifiers, as far as there were any
+-- what a grab is told that stands from the act n on: the last keymap, repeat and modifiers, as far
+-- as there were any
 abbrev pub keyboard_said : ℕ → List Act → List Said
-keyboard_said n log = keymap_said (last_keymap log) ++ (repeat_said (last_repeat log) ++ mods_said n (last_mods log))
+keyboard_said n log =
+    keymap_said (last_keymap log) ++ (repeat_said (last_repeat log) ++ mods_said n (last_mods log))
 
 abbrev pub to_grab : Option ℕ → Said → List Told
 to_grab None said = []
@@ -118,23 +123,32 @@ board_mods_told n mods (Some g) = to g (said.Mods n mods) ∷ []
 abbrev pub synced : ℕ → ℕ → List Told
 synced n p = to n (said.CallbackDone 0) ∷ to p (said.DeleteId n) ∷ []
 
--- The act's own events: a method beside the one that serves, what a grab is told that stands, the id of a dropped object, a fresh batch, a key, what the
--- shell says of the keyboard, a key and the modifiers of a board, and of each popup where it is, after a commit of the holder and when the shell places
--- surfaces; the globals of a new registry, the answer to a sync, what a new seat has, and the error of a refused message.
+-- The act's own events: a method beside the one that serves, what a grab is told that stands, the
+-- id of a dropped object, a fresh batch, a key, what the shell says of the keyboard, a key and the
+-- modifiers of a board, and of each popup where it is, after a commit of the holder and when the
+-- shell places surfaces; the globals of a new registry, the answer to a sync, what a new seat has,
+-- and the error of a refused message.
 abbrev pub own : Act → List Act → List Told
-own (Method p) older = (if is_some (serving older) then to (next older) said.Unavailable ∷ [] else [])
+own (Method p) older =
+    (if is_some (serving older) then to (next older) said.Unavailable ∷ [] else [])
 own (Popup m s) older = popup_told (Popup m s ∷ older) (next older)
-own (Grab m) older = (if is_at (standing (Grab m ∷ older)) (next older) then map (to (next older)) (keyboard_said (next older) older) else [])
+own (Grab m) older =
+    (if is_at (standing (Grab m ∷ older)) (next older)
+    then map (to (next older)) (keyboard_said (next older) older) else [])
 own (Drop x) older = deleted x (peer_of older x)
 own (Area s rect) older = each_popup (Area s rect ∷ older)
 own (Screen size) older = each_popup (Screen size ∷ older)
-own (Commit f) older = (if is_at (holder (Commit f ∷ older)) f then each_popup (Commit f ∷ older) else [])
-own (MCommit m serial) older = (if fresh (MCommit m serial) older then to_holder (MCommit m serial) older (holder older) else [])
+own (Commit f) older =
+    (if is_at (holder (Commit f ∷ older)) f then each_popup (Commit f ∷ older) else [])
+own (MCommit m serial) older =
+    (if fresh (MCommit m serial) older then to_holder (MCommit m serial) older (holder older)
+    else [])
 own (Key time key state) older = key_told (next older) time key state (key_route older key state)
 own (Mods mods) older = to_grab (standing older) (said.Mods (next older) mods)
 own (Keymap keymap) older = to_grab (standing older) (said.Keymap keymap)
 own (Repeat repeat) older = to_grab (standing older) (said.Repeat repeat)
-own (VKey v time key state) older = key_told (next older) time key state (board_route older v key state)
+own (VKey v time key state) older =
+    key_told (next older) time key state (board_route older v key state)
 own (VMods v mods) older = board_mods_told (next older) mods (grab_for older v)
 own (Registry p role) older = globals_told (next older) role
 own (Sync p) older = synced (next older) p
@@ -144,7 +158,9 @@ own _ older = []
 
 -- all that an act tells after a history, in order
 abbrev pub told_by : Act → List Act → List Told
-told_by act older = leaves act older ++ (to_method act older (serving (act ∷ older)) ++ (enters act older ++ own act older))
+told_by act older =
+    leaves act older
+    ++ (to_method act older (serving (act ∷ older)) ++ (enters act older ++ own act older))
 
 -- what an act tells after the acts of a list, the newest first
 abbrev pub told : Act → List Act → List Told

@@ -1,2 +1,2 @@
-pub mod Heards
-pub mod Tells
+pub mod EventsWithTexts
+pub mod QueueAfterTells

@@ -36,7 +36,16 @@ kind_of _ = None
 
 abbrev pub numbers : ℤ → ℤ → ℤ → ℤ → Event
 numbers first second third fourth =
-    record { kind = 0; to = 0; length = 0; first = first; second = second; third = third; fourth = fourth; group = pos 0 }
+    record {
+      kind = 0;
+      to = 0;
+      length = 0;
+      first = first;
+      second = second;
+      third = third;
+      fourth = fourth;
+      group = pos 0;
+    }
 
 -- the numbers with the group of modifiers
 abbrev pub grouped : Event → ℕ → Event
@@ -55,16 +64,19 @@ arguments (said.ContentType hint purpose) = numbers (pos hint) (pos purpose) (po
 arguments (said.PopupRect x y width height) = numbers x y width height
 arguments (said.Keymap k) = numbers (pos k.format) (pos k.token) (pos k.size) (pos 0)
 arguments (said.Key serial time key state) = numbers (pos serial) (pos time) (pos key) (pos state)
-arguments (said.Mods serial m) = grouped (numbers (pos serial) (pos m.depressed) (pos m.latched) (pos m.locked)) m.group
+arguments (said.Mods serial m) =
+    grouped (numbers (pos serial) (pos m.depressed) (pos m.latched) (pos m.locked)) m.group
 arguments (said.Repeat r) = numbers r.rate r.delay (pos 0) (pos 0)
 arguments (said.Pass time key state) = numbers (pos time) (pos key) (pos state) (pos 0)
 arguments (said.Placed popup x y) = numbers (pos popup) x y (pos 0)
-arguments (said.VMods m) = grouped (numbers (pos m.depressed) (pos m.latched) (pos m.locked) (pos 0)) m.group
+arguments (said.VMods m) =
+    grouped (numbers (pos m.depressed) (pos m.latched) (pos m.locked) (pos 0)) m.group
 arguments _ = numbers (pos 0) (pos 0) (pos 0) (pos 0)
 
 abbrev pub event_at : Option ℕ → Told → Option Event
 event_at None t = None
-event_at (Some kind) t = Some (record (arguments t.event) { kind = kind; to = t.to; length = length (text_of t.event) })
+event_at (Some kind) t =
+    Some (record (arguments t.event) { kind = kind; to = t.to; length = length (text_of t.event) })
 
 -- what is told as numbers, with the length of its text
 abbrev pub event_of : Told → Option Event

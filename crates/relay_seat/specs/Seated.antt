@@ -27,11 +27,13 @@ fits (acts.MPreedit m text begin end) = nat_le (length text) 4075
 fits (acts.MString m text) = nat_le (length text) 4083
 fits _ = true
 
--- An act was taken: it has the next number, and what it tells waits behind what waited. Or it does nothing, and costs no number. Or it was
--- refused. In the last two the seat stands for what it stood for, and the same events wait.
+-- An act was taken: it has the next number, and what it tells waits behind what waited. Or it does
+-- nothing, and costs no number. Or it was refused. In the last two the seat stands for what it
+-- stood for, and the same events wait.
 abbrev pub Takes : Seat → List Act → List Heard → Act → Result (Option ℕ) Refusal → Type 0
 Takes new log waits act (Ok (Some number)) =
-    (number ≡ length log + 1) × (is_key act ≡ false → is_live act (history log) ≡ true) × Seated new (act ∷ log) (waits ++ heard act log)
+    (number ≡ length log + 1) × (is_key act ≡ false → is_live act (history log) ≡ true)
+    × Seated new (act ∷ log) (waits ++ heard act log)
 Takes new log waits act (Ok None) = (is_live act (history log) ≡ false) × Seated new log waits
 Takes new log waits act (Err NoMemory) = Seated new log waits
 Takes new log waits act (Err Full) = (length log ≡ 4294967295) × Seated new log waits

@@ -9,7 +9,8 @@ abbrev pub all_heard : List Act → List Heard
 all_heard [] = []
 all_heard (act ∷ older) = all_heard older ++ heard act older
 
--- the seat stands for the acts, and what it handed out and what waits is all that is heard of them, in order
+-- the seat stands for the acts, and what it handed out and what waits is all that is heard of them,
+-- in order
 pub record Served (seat : Seat) (log : List Act) (handed : List Heard) : Type 0 where
   pub waits : List Heard
   pub seated : Seated seat log waits

@@ -6,7 +6,8 @@ use Rattle.relay_seat.specs.declared.event.Event.{Event}
 use Rattle.relay_seat.specs.declared.queue.TooShort.{TooShort}
 use Rattle.relay_seat.specs.Events.{Heard, heard_of}
 
--- a queue as contracts see it: what waits, the next event first, and room for so many events and bytes of texts more
+-- a queue as contracts see it: what waits, the next event first, and room for so many events and
+-- bytes of texts more
 pub record Waiting : Type 0 where
   pub heard : List Heard
   pub places : ℕ
@@ -15,7 +16,8 @@ pub record Waiting : Type 0 where
 -- the events with their texts, which stand one behind the other
 abbrev pub heard_from : List Event → List ℕ → List Heard
 heard_from [] bytes = []
-heard_from (e ∷ es) bytes = record { event = e; text = take e.length bytes } ∷ heard_from es (drop e.length bytes)
+heard_from (e ∷ es) bytes =
+    record { event = e; text = take e.length bytes } ∷ heard_from es (drop e.length bytes)
 
 -- how many bytes the texts of the events have
 abbrev pub lengths : List Event → ℕ
@@ -26,7 +28,8 @@ lengths (e ∷ es) = e.length + lengths es
 abbrev pub HasPlace : Waiting → Told → Type 0
 HasPlace queue told = (0 < queue.places) × (length (text_of told.event) ≤ queue.bytes)
 
--- a queue is told something: it waits behind what waited, where there was room, which is one place less and the bytes of the text
+-- a queue is told something: it waits behind what waited, where there was room, which is one place
+-- less and the bytes of the text
 pub record Queues (old : Waiting) (told : Told) (new : Waiting) : Type 0 where
   pub gained : HasPlace old told → new.heard ≡ old.heard ++ heard_of told
   pub places : old.places ≤ new.places + 1
@@ -36,16 +39,20 @@ pub record Queues (old : Waiting) (told : Told) (new : Waiting) : Type 0 where
 abbrev pub IsFirst : List Heard → Option Event → Type 0
 IsFirst heard None = heard ≡ []
 IsFirst heard (Some event) =
-    (text : List ℕ) × (rest : List Heard) × (heard ≡ record { event = event; text = text } ∷ rest) × (length text ≡ event.length)
+    (text : List ℕ) × (rest : List Heard) × (heard ≡ record { event = event; text = text } ∷ rest)
+    × (length text ≡ event.length)
 
--- What waits longest is handed out, with its text at the front of the bytes after, which are else those before. Where nothing waits, or its text has
--- more bytes than there are, nothing is changed.
-abbrev pub Pulls : (old new : List Heard) → (before after : List ℕ) → Result (Option Event) TooShort → Type 0
+-- What waits longest is handed out, with its text at the front of the bytes after, which are else
+-- those before. Where nothing waits, or its text has more bytes than there are, nothing is changed.
+abbrev pub Pulls : (old new : List Heard) → (before after : List ℕ) →
+    Result (Option Event) TooShort → Type 0
 Pulls old new before after (Ok None) = (old ≡ []) × (new ≡ []) × (after ≡ before)
 Pulls old new before after (Ok (Some event)) =
-    (text : List ℕ) × (old ≡ record { event = event; text = text } ∷ new) × (length text ≡ event.length) × (after ≡ text ++ drop (length text) before)
+    (text : List ℕ) × (old ≡ record { event = event; text = text } ∷ new)
+    × (length text ≡ event.length) × (after ≡ text ++ drop (length text) before)
 Pulls old new before after (Err short) =
-    (first : Heard) × (rest : List Heard) × (old ≡ first ∷ rest) × (length first.text ≡ short.needed) × (length before < short.needed)
+    (first : Heard) × (rest : List Heard) × (old ≡ first ∷ rest)
+    × (length first.text ≡ short.needed) × (length before < short.needed)
     × (new ≡ old) × (after ≡ before)
 
 -- there is room for all that is told

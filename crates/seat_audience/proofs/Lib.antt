@@ -1,11 +1,11 @@
-pub mod Gathered
-pub mod Changing
-pub mod Labelled
-pub mod Numbered
-pub mod Overhearing
-pub mod Marking
-pub mod Visiting
-pub mod Placing
-pub mod Listening
-pub mod Seating
+pub mod GatheredTokens
+pub mod OneOfPeersChanges
+pub mod SearchByLabel
+pub mod PlaceByNumber
+pub mod ToldToAll
+pub mod MarkedPlaces
+pub mod VisitIsPass
+pub mod PeersInOrder
+pub mod UnmarkedAreQuiet
+pub mod SlabIsList
 mod TokensFit

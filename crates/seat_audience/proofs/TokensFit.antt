@@ -15,10 +15,12 @@ take_least n t =
     ]
 
 -- what is put behind
-pub with_more : (w t more now : List ℕ) (k at : ℕ) → length w ≤ 256 → k ≡ min (256 - length w) (length t) → more ≡ take k t → length more ≤ at →
+pub with_more : (w t more now : List ℕ) (k at : ℕ) → length w ≤ 256 → k ≡ min (256 - length w) (length t) →
+    more ≡ take k t → length more ≤ at →
     now ≡ w ++ take at more → now ≡ with_tokens w t
 with_more w t more now k at few is front all h =
     let whole : length w + (256 - length w) ≡ 256 = omega arith in
-    h ∙ ap (λ (l : List ℕ). w ++ l) (take_all at more all ∙ front ∙ ap (λ (n : ℕ). take n t) is ∙ take_least (256 - length w) t)
+    h ∙ ap (λ (l : List ℕ). w ++ l)
+    (take_all at more all ∙ front ∙ ap (λ (n : ℕ). take n t) is ∙ take_least (256 - length w) t)
     ∙ sym (take-append-add w t (256 - length w))
     ∙ ap (λ (n : ℕ). take n (w ++ t)) whole

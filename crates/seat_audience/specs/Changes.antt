@@ -18,8 +18,8 @@ use Rattle.seat_audience.specs.declared.live.Live.{Live}
 use Rattle.seat_audience.specs.Gathered.{empty}
 use Rattle.seat_audience.specs.Lives.{who}
 
--- The calls on its sender's table that a message to the object with the id comes to: the drop of that object, or what it makes with the label n. The callback
--- of a sync is never alive.
+-- The calls on its sender's table that a message to the object with the id comes to: the drop of
+-- that object, or what it makes with the label n. The callback of a sync is never alive.
 abbrev pub own_calls : (id n : ℕ) → Act → Option Argument → List Call
 own_calls id n (acts.Drop x) new = Drop id ∷ []
 own_calls id n (acts.Sync p) new = []
@@ -31,14 +31,22 @@ abbrev pub make_calls : (n : ℕ) → Option Argument → List Call
 make_calls n None = []
 make_calls n (Some new) = Make new.id new.interface n ∷ []
 
--- its objects are as after that message, whether the message was refused is kept, and the token that it took is gone
-pub record IsChanged (id n : ℕ) (takes : Bool) (act : Act) (new : Option Argument) (before after : Live) : Type 0 where
+-- its objects are as after that message, whether the message was refused is kept, and the token
+-- that it took is gone
+pub record IsChanged (id n : ℕ) (takes : Bool) (act : Act) (new : Option Argument)
+    (before after : Live) : Type 0 where
   pub same : after
-      ≡ record before { table = after.table; is_refused = is_bad act; waiting = without_taken takes before.waiting }
-  pub table : (calls : List Call) → table.Stands calls before.table → table.Stands (own_calls id n act new ++ calls) after.table
+      ≡ record before {
+        table = after.table;
+        is_refused = is_bad act;
+        waiting = without_taken takes before.waiting;
+      }
+  pub table : (calls : List Call) → table.Stands calls before.table →
+      table.Stands (own_calls id n act new ++ calls) after.table
 
 -- so it is with the peer at the place, and all others are as before
-pub record IsChangedAt (place id n : ℕ) (takes : Bool) (act : Act) (new : Option Argument) (old now : List Live) : Type 0 where
+pub record IsChangedAt (place id n : ℕ) (takes : Bool) (act : Act) (new : Option Argument)
+    (old now : List Live) : Type 0 where
   -- that peer
   pub after : Live
   pub others : now ≡ set old place after
@@ -57,4 +65,6 @@ pub record IsNewcomer (capacity number label : ℕ) (role : Role) (l : Live) : T
 -- the first that has to be ended, with the cause
 abbrev pub first_due : List Live → Option (ℕ × EndCause)
 first_due [] = None
-first_due (l ∷ rest) = (if l.is_refused then Some (l.number, Bad) else (if l.is_choked then Some (l.number, Full) else first_due rest))
+first_due (l ∷ rest) =
+    (if l.is_refused then Some (l.number, Bad)
+    else (if l.is_choked then Some (l.number, Full) else first_due rest))

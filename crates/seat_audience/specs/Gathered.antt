@@ -14,7 +14,10 @@ pub record Gathered : Type 0 where
 abbrev pub empty : ℕ → Gathered
 empty capacity = record { group = nothing; capacity = capacity; is_over = false }
 
--- the message goes behind what is gathered where nothing was left out before and all fits; otherwise it is left out
+-- the message goes behind what is gathered where nothing was left out before and all fits;
+-- otherwise it is left out
 abbrev pub with_message : ℕ → Message → Gathered → Gathered
 with_message id m g =
-    (if not g.is_over && nat_le (length g.group.bytes + message_len m) g.capacity then record g { group = followed_by g.group (message_piece id (Some m)) } else record g { is_over = true })
+    (if not g.is_over && nat_le (length g.group.bytes + message_len m) g.capacity
+    then record g { group = followed_by g.group (message_piece id (Some m)) }
+    else record g { is_over = true })

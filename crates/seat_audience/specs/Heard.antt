@@ -15,7 +15,8 @@ with_event id (Some m) g = with_message id m g
 -- an event that goes to this object, where it is one of the peer p
 abbrev pub hears_at : List Made → ℕ → Said → Option Made → Gathered → Gathered
 hears_at made p event None g = g
-hears_at made p event (Some m) g = (if m.peer == p then with_event m.id (message_of made event) g else g)
+hears_at made p event (Some m) g =
+    (if m.peer == p then with_event m.id (message_of made event) g else g)
 
 -- one thing told
 abbrev pub hears : List Made → ℕ → Told → Gathered → Gathered

@@ -33,13 +33,20 @@ has_heard made told l = record l { gathering = heard made l.label told l.gatheri
 
 -- what is gathered is a whole group, and there is room for it
 abbrev pub has_room : Live → Bool
-has_room l = not l.gathering.is_over && nat_le (length l.store.cells + length l.gathering.group.bytes) l.store.capacity
+has_room l =
+    not l.gathering.is_over
+    && nat_le (length l.store.cells + length l.gathering.group.bytes) l.store.capacity
 
 -- what is gathered goes whole behind what is stored, or is left out
 abbrev pub delivered : Live → Live
 delivered l =
     (if has_room l
-    then record l { store = queue (l.store.cells ++ cells_of l.gathering.group.bytes (map pair_of l.gathering.group.tokens)) l.store.capacity }
+    then record l {
+      store =
+          queue (l.store.cells
+          ++ cells_of l.gathering.group.bytes (map pair_of l.gathering.group.tokens))
+          l.store.capacity;
+    }
     else record l { is_choked = true })
 
 -- what an act that tells all this makes of it
@@ -70,4 +77,5 @@ AreRising live = AreAbove 0 live
 
 -- a message to that object, where it is one of the peer's
 abbrev pub hears_message : Named → Message → Live → Live
-hears_message to m l = (if l.label == to.peer then record l { gathering = with_message to.id m l.gathering } else l)
+hears_message to m l =
+    (if l.label == to.peer then record l { gathering = with_message to.id m l.gathering } else l)

@@ -22,7 +22,9 @@ pub record IsNamedBy (p : Place) (l : Live) : Type 0 where
 
 -- each place names a peer
 abbrev pub AreNamed : Slab Live → List Place → Type 0
-AreNamed s places = (k : ℕ) (d : Place) → k < length places → IsSomeAnd (get s (get_or places k d).key) (IsNamedBy (get_or places k d))
+AreNamed s places =
+    (k : ℕ) (d : Place) → k < length places →
+    IsSomeAnd (get s (get_or places k d).key) (IsNamedBy (get_or places k d))
 
 -- the places are in order and name all that the slab holds
 pub record AreSeated (s : Slab Live) (places : List Place) : Type 0 where

@@ -18,7 +18,9 @@ pub record Peers : Type 0 where
 
 -- stored as the pair of the two
 abbrev pub peers_code : Coded Peers
-peers_code = code_by (List Live × ℕ) (coded× (coded_list live.the_row.coded) coded_ℕ) (λ p. (p.items, p.room)) (λ p. record { items = p.0; room = p.1 }) (λ _. refl)
+peers_code =
+    code_by (List Live × ℕ) (coded× (coded_list live.the_row.coded) coded_ℕ)
+    (λ p. (p.items, p.room)) (λ p. record { items = p.0; room = p.1 }) (λ _. refl)
 
 -- the peer at the place is changed, and all others are as before
 abbrev pub changed_at : ℕ → (Live → Live) → List Live → List Live
@@ -37,7 +39,9 @@ at_marked marked f k l = (if is_marked k marked then f l else l)
 
 -- why it has to be ended, if so
 abbrev pub cause_of : Live → Option (ℕ × EndCause)
-cause_of l = (if l.is_refused then Some (l.number, Bad) else (if l.is_choked then Some (l.number, Full) else None))
+cause_of l =
+    (if l.is_refused then Some (l.number, Bad)
+    else (if l.is_choked then Some (l.number, Full) else None))
 
 -- one for which this is counted stands at the place
 pub record IsAt {X : Type 0} (key : X → ℕ) (x : ℕ) (live : List X) (place : ℕ) : Type 0 where
@@ -67,9 +71,11 @@ refusing l = record l { is_refused = true }
 abbrev pub waits : List ℕ → Live → Live
 waits tokens l = record l { waiting = tokens }
 
--- its objects are as that peer's, whether its last message was refused, and the tokens that wait for it
+-- its objects are as that peer's, whether its last message was refused, and the tokens that wait
+-- for it
 abbrev pub rewritten : (after : Live) → Live → Live
-rewritten after l = record l { table = after.table; is_refused = after.is_refused; waiting = after.waiting }
+rewritten after l =
+    record l { table = after.table; is_refused = after.is_refused; waiting = after.waiting }
 
 -- so many bytes were taken from its store
 abbrev pub taken : ℕ → Live → Live
@@ -94,10 +100,13 @@ pub record IsNew (l : Live) : Type 0 where
   pub calm : IsCalm l
   pub bounded : IsBounded l
 
--- Who was told is marked, and who may have to be ended: all others are quiet and calm, so that no pass over them is wanted.
+-- Who was told is marked, and who may have to be ended: all others are quiet and calm, so that no
+-- pass over them is wanted.
 pub record AreListening (live : List Live) (told due : List ℕ) : Type 0 where
   pub told_within : AreWithin 0 (length live) told
   pub due_within : AreWithin 0 (length live) due
-  pub quiet : (k : ℕ) (d : Live) → k < length live → is_marked k told ≡ false → IsQuiet (get_or live k d)
-  pub calm : (k : ℕ) (d : Live) → k < length live → is_marked k due ≡ false → IsCalm (get_or live k d)
+  pub quiet : (k : ℕ) (d : Live) → k < length live → is_marked k told ≡ false →
+      IsQuiet (get_or live k d)
+  pub calm : (k : ℕ) (d : Live) → k < length live → is_marked k due ≡ false →
+      IsCalm (get_or live k d)
   pub bounded : All IsBounded live

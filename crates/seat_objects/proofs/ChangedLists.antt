@@ -17,8 +17,10 @@ use Rattle.seat_objects.proofs.SiftedLists.{map_map}
 use Rattle.seat_objects.proofs.ListedObjects.{lists_changed}
 use Rattle.seat_objects.proofs.LeftFields.{IsFirm, keeps_at, label_kept, calm_kept}
 
-pub still_listed : (os : List Object) (fields : List LiveField) (popups : List LivePopup) (entered : Entered) (bound x : ℕ) (c : Change) → IsFirm c →
-    (Lists os fields popups entered × IsNew os bound) → (Lists (map (changed_at x c) os) fields popups entered × IsNew (map (changed_at x c) os) bound)
+pub still_listed : (os : List Object) (fields : List LiveField) (popups : List LivePopup) (entered : Entered)
+    (bound x : ℕ) (c : Change) → IsFirm c →
+    (Lists os fields popups entered × IsNew os bound) →
+    (Lists (map (changed_at x c) os) fields popups entered × IsNew (map (changed_at x c) os) bound)
 still_listed os fields popups entered bound x c firm kept = (
   lists_changed (changed_at x c) (keeps_at x c) os fields popups entered kept.0 (calm_kept x c firm entered),
   new_mapped (changed_at x c) (label_kept x c) os bound kept.1,
@@ -26,7 +28,8 @@ still_listed os fields popups entered bound x c firm kept = (
 
 -- a commit and a displacement are of two objects
 
-both_changed : (f other : ℕ) (o : Object) → other ≢ f → changed_at f Commit (changed_at other Displace o) ≡ committed f (Some other) o
+both_changed : (f other : ℕ) (o : Object) → other ≢ f →
+    changed_at f Commit (changed_at other Displace o) ≡ committed f (Some other) o
 both_changed f other o differs = elim (cases_eq o.label f) [
   | inl same ↦
       let test : eqb o.label f ≡ true = grind (arith, nat_tests) in
@@ -37,9 +40,14 @@ both_changed f other o differs = elim (cases_eq o.label f) [
       by_other test (eqb o.label other) (grind (arith, nat_tests))
 ]
   where
-    by_other : eqb o.label f ≡ false → (b : Bool) → eqb other o.label ≡ b → changed_at f Commit (if b then record o { kind = kind_after Displace o.peer o.kind } else o) ≡ committed f (Some other) o
+    by_other : eqb o.label f ≡ false → (b : Bool) → eqb other o.label ≡ b →
+        changed_at f Commit (if b then record o { kind = kind_after Displace o.peer o.kind } else o)
+        ≡ committed f (Some other) o
     by_other test true is = rw (test, is) refl
     by_other test false is = rw (test, is) refl
 
-pub commit_over : (f other : ℕ) (os : List Object) → other ≢ f → map (changed_at f Commit) (map (changed_at other Displace) os) ≡ map (committed f (Some other)) os
-commit_over f other os differs = map_map (changed_at f Commit) (changed_at other Displace) (committed f (Some other)) os (λ o. both_changed f other o differs)
+pub commit_over : (f other : ℕ) (os : List Object) → other ≢ f →
+    map (changed_at f Commit) (map (changed_at other Displace) os) ≡ map (committed f (Some other)) os
+commit_over f other os differs =
+    map_map (changed_at f Commit) (changed_at other Displace) (committed f (Some other)) os
+    (λ o. both_changed f other o differs)

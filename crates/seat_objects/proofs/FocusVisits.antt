@@ -35,7 +35,8 @@ changed_twice e Board = refl
 refocused_twice : (peer : Option ℕ) (o : Object) → refocused peer (refocused peer o) ≡ refocused peer o
 refocused_twice peer o = ap (λ k. record o { kind = k }) (changed_twice (is_at peer o.peer) o.kind)
 
-again : (peer : Option ℕ) (o : Object) (b : Bool) → (if b then refocused peer (refocused peer o) else refocused peer o) ≡ refocused peer o
+again : (peer : Option ℕ) (o : Object) (b : Bool) →
+    (if b then refocused peer (refocused peer o) else refocused peer o) ≡ refocused peer o
 again peer o true = refocused_twice peer o
 again peer o false = refl
 
@@ -49,16 +50,20 @@ or_assoc : (a b c : Bool) → (a || (b || c)) ≡ ((a || b) || c)
 or_assoc true b c = refl
 or_assoc false b c = refl
 
-among_push : (ws : List LiveField) (w : LiveField) (o : Object) → is_among (ws ++ w ∷ []) o ≡ (is_among ws o || eqb o.label w.label)
+among_push : (ws : List LiveField) (w : LiveField) (o : Object) →
+    is_among (ws ++ w ∷ []) o ≡ (is_among ws o || eqb o.label w.label)
 among_push [] w o = or_false (eqb o.label w.label)
 among_push (v ∷ vs) w o = rw (among_push vs w o) (or_assoc (eqb o.label v.label) (is_among vs o) (eqb o.label w.label))
 
-one_more : (peer : Option ℕ) (x : ℕ) (o : Object) (a : Bool) → changed_at x (Focus peer) (if a then refocused peer o else o) ≡ (if a || eqb o.label x then refocused peer o else o)
+one_more : (peer : Option ℕ) (x : ℕ) (o : Object) (a : Bool) →
+    changed_at x (Focus peer) (if a then refocused peer o else o) ≡ (if a || eqb o.label x then refocused peer o else o)
 one_more peer x o true = again peer o (eqb o.label x)
 one_more peer x o false = refl
 
-pub visit_more : (ws : List LiveField) (w : LiveField) (peer : Option ℕ) (os : List Object) → map (changed_at w.label (Focus peer)) (map (refocused_in ws peer) os) ≡ map (refocused_in (ws ++ w ∷ []) peer) os
-visit_more ws w peer os = map_map (changed_at w.label (Focus peer)) (refocused_in ws peer) (refocused_in (ws ++ w ∷ []) peer) os
+pub visit_more : (ws : List LiveField) (w : LiveField) (peer : Option ℕ) (os : List Object) →
+    map (changed_at w.label (Focus peer)) (map (refocused_in ws peer) os) ≡ map (refocused_in (ws ++ w ∷ []) peer) os
+visit_more ws w peer os =
+    map_map (changed_at w.label (Focus peer)) (refocused_in ws peer) (refocused_in (ws ++ w ∷ []) peer) os
     (λ o. rw (among_push ws w o) (one_more peer w.label o (is_among ws o)))
 
 pub visit_none : (peer : Option ℕ) (os : List Object) → map (refocused_in [] peer) os ≡ os
@@ -67,7 +72,8 @@ visit_none peer (o ∷ os) = ap (λ rest. o ∷ rest) (visit_none peer os)
 
 -- who is visited
 
-among_if : (o x : Object) (b : Bool) (xs : List Object) → is_among (map live_field xs) o ≡ true → is_among (map live_field (if b then x ∷ xs else xs)) o ≡ true
+among_if : (o x : Object) (b : Bool) (xs : List Object) → is_among (map live_field xs) o ≡ true →
+    is_among (map live_field (if b then x ∷ xs else xs)) o ≡ true
 among_if o x true xs any = either (eqb o.label x.label)
   where
     either : (a : Bool) → (a || is_among (map live_field xs) o) ≡ true
@@ -76,12 +82,14 @@ among_if o x true xs any = either (eqb o.label x.label)
 among_if o x false xs any = any
 
 -- a field of the peer is among the peer's fields
-own_field : (q : ℕ) (os : List Object) (k : ℕ) (d : Object) → k < length os → is_field_of q (get_or os k d) ≡ true → is_among (fields_of q os) (get_or os k d) ≡ true
+own_field : (q : ℕ) (os : List Object) (k : ℕ) (d : Object) → k < length os → is_field_of q (get_or os k d) ≡ true →
+    is_among (fields_of q os) (get_or os k d) ≡ true
 own_field q [] k d lt is = absurd (omega arith)
 own_field q (o ∷ os) zero d lt is =
     let itself : eqb o.label o.label ≡ true = grind (arith, nat_tests) in
     rw (is, itself) refl
-own_field q (o ∷ os) (suc k) d lt is = among_if (get_or os k d) o (is_field_of q o) (filter (is_field_of q) os) (own_field q os k d (omega arith) is)
+own_field q (o ∷ os) (suc k) d lt is =
+    among_if (get_or os k d) o (is_field_of q o) (filter (is_field_of q) os) (own_field q os k d (omega arith) is)
 
 not_field : (f : Kept → Kept) (k : Kind) → is_field_kind k ≡ false → changed f k ≡ k
 not_field f Peer off = refl
@@ -98,7 +106,8 @@ may_be_by None p = refl
 may_be_by (Some q) p = refl
 
 -- who is left, or has the focus, is all who may be entered
-left_covers : (e : Entered) (peer : Option ℕ) (p : ℕ) → may_be (left_for e peer) p ≡ false → may_be (entered_by peer) p ≡ false → may_be e p ≡ false
+left_covers : (e : Entered) (peer : Option ℕ) (p : ℕ) → may_be (left_for e peer) p ≡ false →
+    may_be (entered_by peer) p ≡ false → may_be e p ≡ false
 left_covers Nobody peer p left now = refl
 left_covers Anyone peer p left now = left
 left_covers (One q) None p left now = left
@@ -108,9 +117,11 @@ left_covers (One q) (Some r) p left now = by_test (eqb r q) refl left
     by_test true is left = grind (arith, nat_tests)
     by_test false is left = left
 
-module _ (os : List Object) (fields : List LiveField) (popups : List LivePopup) (entered : Entered) (lists : Lists os fields popups entered) where
+module _ (os : List Object) (fields : List LiveField) (popups : List LivePopup) (entered : Entered)
+    (lists : Lists os fields popups entered) where
   -- a field of a peer whose fields are visited is visited
-  is_visited : (e : Entered) (k : ℕ) (d : Object) → k < length os → is_field_kind (get_or os k d).kind ≡ true → may_be e (get_or os k d).peer ≡ true → is_among (visited e fields) (get_or os k d) ≡ true
+  is_visited : (e : Entered) (k : ℕ) (d : Object) → k < length os → is_field_kind (get_or os k d).kind ≡ true →
+      may_be e (get_or os k d).peer ≡ true → is_among (visited e fields) (get_or os k d) ≡ true
   is_visited Nobody k d lt field may = absurd (cc)
   is_visited (One q) k d lt field may =
       let test : eqb (get_or os k d).peer q ≡ true = grind (arith, nat_tests) in
@@ -118,15 +129,23 @@ module _ (os : List Object) (fields : List LiveField) (popups : List LivePopup) 
   is_visited Anyone k d lt field may =
       let o = get_or os k d in
       let test : eqb o.peer o.peer ≡ true = grind (arith, nat_tests) in
-      any_filter (λ w. eqb o.label w.label) (of_peer o.peer) fields (rw (lists.fields_are o.peer) (own_field o.peer os k d lt (rw (field, test) refl)))
+      any_filter (λ w. eqb o.label w.label) (of_peer o.peer) fields
+      (rw (lists.fields_are o.peer) (own_field o.peer os k d lt (rw (field, test) refl)))
 
-  unvisited : (e : Entered) (k : ℕ) (d : Object) (b : Bool) → k < length os → is_among (visited e fields) (get_or os k d) ≡ false → is_field_kind (get_or os k d).kind ≡ true → may_be e (get_or os k d).peer ≡ b → may_be e (get_or os k d).peer ≡ false
+  unvisited : (e : Entered) (k : ℕ) (d : Object) (b : Bool) → k < length os →
+      is_among (visited e fields) (get_or os k d) ≡ false → is_field_kind (get_or os k d).kind ≡ true →
+      may_be e (get_or os k d).peer ≡ b → may_be e (get_or os k d).peer ≡ false
   unvisited e k d true lt off field is = let yes = is_visited e k d lt field is in absurd (cc)
   unvisited e k d false lt off field is = is
 
   -- what is not visited is as the focus would leave it
-  still : (peer : Option ℕ) (k : ℕ) (d : Object) (b : Bool) → k < length os → is_among (visited (left_for entered peer) fields) (get_or os k d) ≡ false → is_among (visited (entered_by peer) fields) (get_or os k d) ≡ false → is_field_kind (get_or os k d).kind ≡ b → refocused peer (get_or os k d) ≡ get_or os k d
-  still peer k d false lt not_old not_new off = ap (λ v. record (get_or os k d) { kind = v }) (not_field (focused (is_at peer (get_or os k d).peer)) (get_or os k d).kind off)
+  still : (peer : Option ℕ) (k : ℕ) (d : Object) (b : Bool) → k < length os →
+      is_among (visited (left_for entered peer) fields) (get_or os k d) ≡ false →
+      is_among (visited (entered_by peer) fields) (get_or os k d) ≡ false → is_field_kind (get_or os k d).kind ≡ b →
+      refocused peer (get_or os k d) ≡ get_or os k d
+  still peer k d false lt not_old not_new off =
+      ap (λ v. record (get_or os k d) { kind = v })
+      (not_field (focused (is_at peer (get_or os k d).peer)) (get_or os k d).kind off)
   still peer k d true lt not_old not_new field =
       let p = (get_or os k d).peer in
       let not_left = unvisited (left_for entered peer) k d (may_be (left_for entered peer) p) lt not_old field refl in
@@ -135,18 +154,27 @@ module _ (os : List Object) (fields : List LiveField) (popups : List LivePopup) 
       let away : is_at peer p ≡ false = sym (may_be_by peer p) ∙ not_now in
       rw away calm
 
-  after_second : (peer : Option ℕ) (o : Object) (b : Bool) → (b ≡ false → refocused peer o ≡ o) → (if b then refocused peer o else o) ≡ refocused peer o
+  after_second : (peer : Option ℕ) (o : Object) (b : Bool) → (b ≡ false → refocused peer o ≡ o) →
+      (if b then refocused peer o else o) ≡ refocused peer o
   after_second peer o true rest = refl
   after_second peer o false rest = sym (rest refl)
 
-  after_both : (peer : Option ℕ) (o : Object) (a : Bool) (ws : List LiveField) → (a ≡ false → is_among ws o ≡ false → refocused peer o ≡ o) → refocused_in ws peer (if a then refocused peer o else o) ≡ refocused peer o
+  after_both : (peer : Option ℕ) (o : Object) (a : Bool) (ws : List LiveField) →
+      (a ≡ false → is_among ws o ≡ false → refocused peer o ≡ o) →
+      refocused_in ws peer (if a then refocused peer o else o) ≡ refocused peer o
   after_both peer o true ws rest = again peer o (is_among ws o)
   after_both peer o false ws rest = after_second peer o (is_among ws o) (rest refl)
 
   -- the two visits are the change of all
-  pub visits_are : (peer : Option ℕ) → map (refocused_in (visited (entered_by peer) fields) peer) (map (refocused_in (visited (left_for entered peer) fields) peer) os) ≡ map (refocused peer) os
-  visits_are peer = map_all (refocused_in (visited (entered_by peer) fields) peer) (refocused_in (visited (left_for entered peer) fields) peer) (refocused peer) os
-      (λ k d lt. after_both peer (get_or os k d) (is_among (visited (left_for entered peer) fields) (get_or os k d)) (visited (entered_by peer) fields) (λ not_old not_new. still peer k d (is_field_kind (get_or os k d).kind) lt not_old not_new refl))
+  pub visits_are : (peer : Option ℕ) →
+      map (refocused_in (visited (entered_by peer) fields) peer)
+      (map (refocused_in (visited (left_for entered peer) fields) peer) os) ≡ map (refocused peer) os
+  visits_are peer =
+      map_all (refocused_in (visited (entered_by peer) fields) peer)
+      (refocused_in (visited (left_for entered peer) fields) peer) (refocused peer) os
+      (λ k d lt. after_both peer (get_or os k d) (is_among (visited (left_for entered peer) fields) (get_or os k d))
+      (visited (entered_by peer) fields)
+      (λ not_old not_new. still peer k d (is_field_kind (get_or os k d).kind) lt not_old not_new refl))
 
   calm_now : (peer : Option ℕ) (o : Object) → IsCalm (entered_by peer) (refocused peer o)
   calm_now peer o may =
@@ -154,4 +182,6 @@ module _ (os : List Object) (fields : List LiveField) (popups : List LivePopup) 
       rw away (refocused_twice None o)
 
   pub lists_refocused : (peer : Option ℕ) → Lists (map (refocused peer) os) fields popups (entered_by peer)
-  lists_refocused peer = lists_mapped (refocused peer) (keeps_changed (Focus peer)) os fields popups entered lists (entered_by peer) (All-map (IsCalm (entered_by peer)) (refocused peer) os (λ k d lt. calm_now peer (get_or os k d)))
+  lists_refocused peer =
+      lists_mapped (refocused peer) (keeps_changed (Focus peer)) os fields popups entered lists (entered_by peer)
+      (All-map (IsCalm (entered_by peer)) (refocused peer) os (λ k d lt. calm_now peer (get_or os k d)))

@@ -87,8 +87,12 @@ keeps_changed c = record {
 pub keeps_at : (x : ℕ) (c : Change) → KeepsListed (changed_at x c)
 keeps_at x c = record {
   same_entry = λ o. either (λ v. live_field v ≡ live_field o) (eqb o.label x) (changed_by c o) o refl refl;
-  same_field = λ o. either (λ v. is_field_kind v.kind ≡ is_field_kind o.kind) (eqb o.label x) (changed_by c o) o (field_after c o.peer o.kind) refl;
-  same_popup = λ o. either (λ v. popup_of v ≡ popup_of o) (eqb o.label x) (changed_by c o) o (popup_after c o.peer o.peer o.label o.kind) refl;
+  same_field =
+      λ o. either (λ v. is_field_kind v.kind ≡ is_field_kind o.kind) (eqb o.label x) (changed_by c o) o
+      (field_after c o.peer o.kind) refl;
+  same_popup =
+      λ o. either (λ v. popup_of v ≡ popup_of o) (eqb o.label x) (changed_by c o) o
+      (popup_after c o.peer o.peer o.label o.kind) refl;
 }
 
 pub label_kept : (x : ℕ) (c : Change) (o : Object) → (changed_at x c o).label ≡ o.label
@@ -107,10 +111,14 @@ unless false u v out = refl
 asked_out : (act : Act) (kept : Kept) → kept.entered ≡ false → asked act kept ≡ kept
 asked_out (acts.Enable f) kept out = unless kept.entered _ kept out
 asked_out (acts.Disable f) kept out = unless kept.entered _ kept out
-asked_out (acts.Surround f text cursor anchor) kept out = unless (kept.entered && is_place text cursor && is_place text anchor) _ kept (ap (λ b. b && is_place text cursor && is_place text anchor) out)
+asked_out (acts.Surround f text cursor anchor) kept out =
+    unless (kept.entered && is_place text cursor && is_place text anchor) _ kept
+    (ap (λ b. b && is_place text cursor && is_place text anchor) out)
 asked_out (acts.Cause f cause) kept out = unless kept.entered _ kept out
 asked_out (acts.Content f hint purpose) kept out = unless kept.entered _ kept out
-asked_out (acts.Cursor f rect) kept out = unless (kept.entered && is_length rect.width && is_length rect.height) _ kept (ap (λ b. b && is_length rect.width && is_length rect.height) out)
+asked_out (acts.Cursor f rect) kept out =
+    unless (kept.entered && is_length rect.width && is_length rect.height) _ kept
+    (ap (λ b. b && is_length rect.width && is_length rect.height) out)
 asked_out _ kept out = refl
 
 asked_left : (act : Act) (kept : Kept) → IsLeft kept → IsLeft (asked act kept)
@@ -128,7 +136,8 @@ displaced_left kept left = subst (λ k. IsLeft (change.displaced k)) left refl
 abbrev pub IsLeftKind : Kind → Type 0
 IsLeftKind k = changed (change.focused false) k ≡ k
 
-changed_left : (f : Kept → Kept) → ((kept : Kept) → IsLeft kept → IsLeft (f kept)) → (k : Kind) → IsLeftKind k → IsLeftKind (changed f k)
+changed_left : (f : Kept → Kept) → ((kept : Kept) → IsLeft kept → IsLeft (f kept)) → (k : Kind) → IsLeftKind k →
+    IsLeftKind (changed f k)
 changed_left f keeps Peer left = refl
 changed_left f keeps (Surface area) left = refl
 changed_left f keeps (Field kept) left =
@@ -165,7 +174,9 @@ after_left Commit firm p k left = changed_left change.committed committed_left k
 after_left Displace firm p k left = changed_left change.displaced displaced_left k left
 after_left (Area rect) firm p k left = placed_left rect k left
 
-pub calm_kept : (x : ℕ) (c : Change) → IsFirm c → (entered : Entered) (o : Object) → IsCalm entered o → IsCalm entered (changed_at x c o)
+pub calm_kept : (x : ℕ) (c : Change) → IsFirm c → (entered : Entered) (o : Object) → IsCalm entered o →
+    IsCalm entered (changed_at x c o)
 calm_kept x c firm entered o calm =
     either (IsCalm entered) (eqb o.label x) (changed_by c o) o
-    (λ may. ap (λ k. record o { kind = k }) (after_left c firm o.peer o.kind (ap (λ (v : Object). v.kind) (calm may)))) calm
+    (λ may. ap (λ k. record o { kind = k }) (after_left c firm o.peer o.kind (ap (λ (v : Object). v.kind) (calm may))))
+    calm

@@ -1,5 +1,5 @@
-pub mod Mapped
-pub mod Reaches
+pub mod EachChanges
+pub mod TellsAppend
 pub mod SiftedLists
 pub mod RisingNumbers
 pub mod SearchedPlaces

@@ -21,11 +21,13 @@ abbrev pub at_key : Slab Object → Option ℕ → Option Object
 at_key s None = None
 at_key s (Some k) = get s k
 
-find-put : (p : Place) (slot : Option Object) (os : List Object) (x : ℕ) → IsSomeAnd slot (IsAt p) → find (put slot os) x ≡ (if eqb p.label x then slot else find os x)
+find-put : (p : Place) (slot : Option Object) (os : List Object) (x : ℕ) → IsSomeAnd slot (IsAt p) →
+    find (put slot os) x ≡ (if eqb p.label x then slot else find os x)
 find-put p None os x is = absurd is
 find-put p (Some o) os x is = rw is.same_label refl
 
-at_key-if : (s : Slab Object) (b : Bool) (k : ℕ) (rest : Option ℕ) → at_key s (if b then Some k else rest) ≡ (if b then get s k else at_key s rest)
+at_key-if : (s : Slab Object) (b : Bool) (k : ℕ) (rest : Option ℕ) →
+    at_key s (if b then Some k else rest) ≡ (if b then get s k else at_key s rest)
 at_key-if s true k rest = refl
 at_key-if s false k rest = refl
 
@@ -37,18 +39,22 @@ find_named s (p ∷ ps) x held =
     ∙ ap (λ rest. if eqb p.label x then get s p.key else rest) (find_named s ps x held.1)
     ∙ sym (at_key-if s (eqb p.label x) p.key (key_in ps x))
 
-put_rises : (p : Place) (slot : Option Object) (n : ℕ) (os : List Object) → IsSomeAnd slot (IsAt p) → n ≤ p.label → RisesBy (λ (o : Object). o.label) (p.label + 1) os → RisesBy (λ (o : Object). o.label) n (put slot os)
+put_rises : (p : Place) (slot : Option Object) (n : ℕ) (os : List Object) → IsSomeAnd slot (IsAt p) → n ≤ p.label →
+    RisesBy (λ (o : Object). o.label) (p.label + 1) os → RisesBy (λ (o : Object). o.label) n (put slot os)
 put_rises p None n os is le rest = absurd is
 put_rises p (Some o) n os is le rest = rw is.same_label (le, rest)
 
 -- their labels rise
-pub named_rise : (s : Slab Object) (ps : List Place) (n : ℕ) → RisesBy label_of n ps → Held s ps → RisesBy (λ (o : Object). o.label) n (named s ps)
+pub named_rise : (s : Slab Object) (ps : List Place) (n : ℕ) → RisesBy label_of n ps → Held s ps →
+    RisesBy (λ (o : Object). o.label) n (named s ps)
 named_rise s [] n rise held = tt
-named_rise s (p ∷ ps) n rise held = put_rises p (get s p.key) n (named s ps) held.0 rise.0 (named_rise s ps (p.label + 1) rise.1 held.1)
+named_rise s (p ∷ ps) n rise held =
+    put_rises p (get s p.key) n (named s ps) held.0 rise.0 (named_rise s ps (p.label + 1) rise.1 held.1)
 
 -- at a place
 
-pub held_at : (s : Slab Object) (ps : List Place) (i : ℕ) → Held s ps → i < length ps → IsSomeAnd (get s (key_at ps i)) (IsAt (get_or ps i no_place))
+pub held_at : (s : Slab Object) (ps : List Place) (i : ℕ) → Held s ps → i < length ps →
+    IsSomeAnd (get s (key_at ps i)) (IsAt (get_or ps i no_place))
 held_at s [] i held lt = absurd (omega arith)
 held_at s (p ∷ ps) zero held lt = held.0
 held_at s (p ∷ ps) (suc i) held lt = held_at s ps i held.1 (omega arith)
@@ -60,17 +66,20 @@ some_of P (Some o) h = refl
 pub key_some : (s : Slab Object) (ps : List Place) (i : ℕ) → Held s ps → i < length ps → IsSome (get s (key_at ps i))
 key_some s ps i held lt = some_of _ _ (held_at s ps i held lt)
 
-pub slot_at : (s : Slab Object) (ps : List Place) (i : ℕ) (p : Place) → Held s ps → i < length ps → p ≡ get_or ps i p → IsSome (get s p.key)
+pub slot_at : (s : Slab Object) (ps : List Place) (i : ℕ) (p : Place) → Held s ps → i < length ps → p ≡ get_or ps i p →
+    IsSome (get s p.key)
 slot_at s ps i p held lt is =
     let here : p ≡ get_or ps i no_place = is ∙ get_or_default ps i p no_place lt in
     rw here (some_of _ _ (held_at s ps i held lt))
 
-pub label_there : (p : Place) (o : Object) (slot : Option Object) → slot ≡ Some o → IsSomeAnd slot (IsAt p) → o.label ≡ p.label
+pub label_there : (p : Place) (o : Object) (slot : Option Object) → slot ≡ Some o → IsSomeAnd slot (IsAt p) →
+    o.label ≡ p.label
 label_there p o None is held = absurd held
 label_there p o (Some v) is held = grind (arith, held.same_label)
 
 -- the key of a label that is found names an object with that label
-pub found_there : (s : Slab Object) (ps : List Place) (x key : ℕ) → Held s ps → key_in ps x ≡ Some key → (o : Object) × (get s key ≡ Some o) × (o.label ≡ x)
+pub found_there : (s : Slab Object) (ps : List Place) (x key : ℕ) → Held s ps → key_in ps x ≡ Some key →
+    (o : Object) × (get s key ≡ Some o) × (o.label ≡ x)
 found_there s [] x key held found = absurd (cc)
 found_there s (p ∷ ps) x key held found = elim (cases_eq p.label x) [
   | inl same ↦
@@ -79,7 +88,8 @@ found_there s (p ∷ ps) x key held found = elim (cases_eq p.label x) [
   | inr differs ↦ found_there s ps x key held.1 (grind (arith, nat_tests))
 ]
   where
-    here : (slot : Option Object) → get s p.key ≡ slot → IsSomeAnd slot (IsAt p) → p.label ≡ x → (o : Object) × (get s p.key ≡ Some o) × (o.label ≡ x)
+    here : (slot : Option Object) → get s p.key ≡ slot → IsSomeAnd slot (IsAt p) → p.label ≡ x →
+        (o : Object) × (get s p.key ≡ Some o) × (o.label ≡ x)
     here None is held same = absurd held
     here (Some v) is held same = (v, is, held.same_label ∙ same)
 
@@ -95,7 +105,8 @@ module _ (x : ℕ) (c : Change) (s t : Slab Object) where
   Changed [] = Unit {0}
   Changed (p ∷ ps) = (get t p.key ≡ option_map (changed_at x c) (get s p.key)) × Changed ps
 
-  put-map : (slot : Option Object) (os : List Object) → put (option_map (changed_at x c) slot) (map (changed_at x c) os) ≡ map (changed_at x c) (put slot os)
+  put-map : (slot : Option Object) (os : List Object) →
+      put (option_map (changed_at x c) slot) (map (changed_at x c) os) ≡ map (changed_at x c) (put slot os)
   put-map None os = refl
   put-map (Some o) os = refl
 
@@ -103,9 +114,12 @@ module _ (x : ℕ) (c : Change) (s t : Slab Object) where
   named_changed [] m = refl
   named_changed (p ∷ ps) m = rw (m.0, named_changed ps m.1) (put-map (get s p.key) (named s ps))
 
-  still_at : (p : Place) (slot : Option Object) → IsSomeAnd slot (IsAt p) → IsSomeAnd (option_map (changed_at x c) slot) (IsAt p)
+  still_at : (p : Place) (slot : Option Object) → IsSomeAnd slot (IsAt p) →
+      IsSomeAnd (option_map (changed_at x c) slot) (IsAt p)
   still_at p None is = absurd is
-  still_at p (Some o) is = either (IsAt p) (eqb o.label x) (changed_by c o) o (record { same_label = is.same_label; same_peer = is.same_peer }) is
+  still_at p (Some o) is =
+      either (IsAt p) (eqb o.label x) (changed_by c o) o
+      (record { same_label = is.same_label; same_peer = is.same_peer }) is
 
   pub held_changed : (ps : List Place) → Changed ps → Held s ps → Held t ps
   held_changed [] m held = tt
@@ -118,7 +132,8 @@ OnlyAt (p ∷ ps) x key = (p.label ≡ x → p.key ≡ key) × OnlyAt ps x key
 
 only_past : (ps : List Place) (n x key : ℕ) → RisesBy label_of n ps → x < n → OnlyAt ps x key
 only_past [] n x key r lt = tt
-only_past (p ∷ ps) n x key r lt = (λ same. absurd (omega (arith, r.0)), only_past ps (p.label + 1) x key r.1 (omega (arith, r.0)))
+only_past (p ∷ ps) n x key r lt =
+    (λ same. absurd (omega (arith, r.0)), only_past ps (p.label + 1) x key r.1 (omega (arith, r.0)))
 
 only_at_key : (ps : List Place) (n x key : ℕ) → RisesBy label_of n ps → key_in ps x ≡ Some key → OnlyAt ps x key
 only_at_key [] n x key r found = absurd (cc)
@@ -128,7 +143,8 @@ only_at_key (p ∷ ps) n x key r found = elim (cases_eq p.label x) [
 ]
 
 -- where no place is the label's, nothing changes
-unchanged : (x : ℕ) (c : Change) (s : Slab Object) (ps : List Place) → Held s ps → key_in ps x ≡ None → Changed x c s s ps
+unchanged : (x : ℕ) (c : Change) (s : Slab Object) (ps : List Place) → Held s ps → key_in ps x ≡ None →
+    Changed x c s s ps
 unchanged x c s [] held none = tt
 unchanged x c s (p ∷ ps) held none = (slot (get s p.key) held.0, unchanged x c s ps held.1 (grind (arith, nat_tests)))
   where
@@ -149,7 +165,8 @@ module _ (x : ℕ) (c : Change) (s : Slab Object) (ps : List Place) (stands : St
     updates : Updates s t key (Some (changed_by c o))
     updates = Updates-with_value s key (changed_by c o) (rw is refl)
 
-    changed_slot : (p : Place) (slot : Option Object) → get s p.key ≡ slot → IsSomeAnd slot (IsAt p) → (p.label ≡ x → p.key ≡ key) → get t p.key ≡ option_map (changed_at x c) slot
+    changed_slot : (p : Place) (slot : Option Object) → get s p.key ≡ slot → IsSomeAnd slot (IsAt p) →
+        (p.label ≡ x → p.key ≡ key) → get t p.key ≡ option_map (changed_at x c) slot
     changed_slot p None at held only = absurd held
     changed_slot p (Some v) at held only = elim (cases_eq p.key key) [
       | inl same ↦
@@ -179,7 +196,12 @@ module _ (x : ℕ) (c : Change) (s : Slab Object) (ps : List Place) (stands : St
     items_changed = named_changed x c s t ps changed
 
     pub stands_changed : Stands (with_value s key (changed_by c o)) ps
-    stands_changed = record { rise = stands.rise; counted = same_count ∙ stands.counted; held = held_changed x c s t ps changed stands.held }
+    stands_changed =
+        record {
+          rise = stands.rise;
+          counted = same_count ∙ stands.counted;
+          held = held_changed x c s t ps changed stands.held;
+        }
 
   pub items_unchanged : key_in ps x ≡ None → named s ps ≡ map (changed_at x c) (named s ps)
   items_unchanged none = named_changed x c s s ps (unchanged x c s ps stands.held none)

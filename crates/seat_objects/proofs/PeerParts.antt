@@ -18,7 +18,8 @@ peer_from [] n i d rise lt = absurd (omega arith)
 peer_from (w ∷ ws) n zero d rise lt = rise.0
 peer_from (w ∷ ws) n (suc i) d rise lt = omega (arith, rise.0, peer_from ws w.peer i d rise.1 (omega arith))
 
-peers_rise : (ws : List LiveField) (n i j : ℕ) (d : LiveField) → PeersFrom n ws → i ≤ j → j < length ws → (get_or ws i d).peer ≤ (get_or ws j d).peer
+peers_rise : (ws : List LiveField) (n i j : ℕ) (d : LiveField) → PeersFrom n ws → i ≤ j → j < length ws →
+    (get_or ws i d).peer ≤ (get_or ws j d).peer
 peers_rise [] n i j d rise le lt = absurd (omega arith)
 peers_rise (w ∷ ws) n zero zero d rise le lt = omega arith
 peers_rise (w ∷ ws) n zero (suc j) d rise le lt = peer_from ws w.peer j d rise.1 (omega arith)
@@ -84,7 +85,8 @@ module _ (w : LiveField) (ws : List LiveField) (p : ℕ) where
     behind = λ k d lo lt. part.behind (suc k) d (omega arith) (omega arith);
   }
 
-part_by : (ws : List LiveField) (p start n stop : ℕ) → start + n ≡ stop → IsPart ws p start stop → take n (drop start ws) ≡ filter (of_peer p) ws
+part_by : (ws : List LiveField) (p start n stop : ℕ) → start + n ≡ stop → IsPart ws p start stop →
+    take n (drop start ws) ≡ filter (of_peer p) ws
 part_by [] p zero zero stop e part = refl
 part_by [] p zero (suc n) stop e part = refl
 part_by [] p (suc start) zero stop e part = refl
@@ -105,7 +107,8 @@ part_by (w ∷ ws) p (suc start) n (suc stop) e part =
     let test : eqb w.peer p ≡ false = grind (arith, nat_tests) in
     rw test (part_by ws p start n stop (omega arith) (part_later w ws p start stop part))
 
-pub part_is : (ws : List LiveField) (p start stop : ℕ) → IsPart ws p start stop → take (stop - start) (drop start ws) ≡ filter (of_peer p) ws
+pub part_is : (ws : List LiveField) (p start stop : ℕ) → IsPart ws p start stop →
+    take (stop - start) (drop start ws) ≡ filter (of_peer p) ws
 part_is ws p start stop part = part_by ws p start (stop - start) stop (omega (arith, part.ordered)) part
 
 -- one field more, behind its peer's part
@@ -113,18 +116,22 @@ part_is ws p start stop part = part_by ws p start (stop - start) stop (omega (ar
 abbrev pub one_of : ℕ → LiveField → List LiveField
 one_of p w = (if eqb w.peer p then w ∷ [] else [])
 
-none_behind : (ws : List LiveField) (p q : ℕ) → p ≤ q → ((k : ℕ) (d : LiveField) → k < length ws → q < (get_or ws k d).peer) → filter (of_peer p) ws ≡ []
+none_behind : (ws : List LiveField) (p q : ℕ) → p ≤ q →
+    ((k : ℕ) (d : LiveField) → k < length ws → q < (get_or ws k d).peer) → filter (of_peer p) ws ≡ []
 none_behind [] p q le high = refl
 none_behind (w ∷ ws) p q le high =
     let first : q < w.peer = high 0 w (omega arith) in
     let test : eqb w.peer p ≡ false = grind (arith, nat_tests) in
     rw test (none_behind ws p q le (λ k d lt. high (suc k) d (omega arith)))
 
-keep : (b : Bool) (v : LiveField) (xs ys zs : List LiveField) → xs ≡ ys ++ zs → (if b then v ∷ xs else xs) ≡ (if b then v ∷ ys else ys) ++ zs
+keep : (b : Bool) (v : LiveField) (xs ys zs : List LiveField) → xs ≡ ys ++ zs →
+    (if b then v ∷ xs else xs) ≡ (if b then v ∷ ys else ys) ++ zs
 keep true v xs ys zs e = ap (λ rest. v ∷ rest) e
 keep false v xs ys zs e = e
 
-insert_front : (ws : List LiveField) (p : ℕ) (w : LiveField) → ((k : ℕ) (d : LiveField) → k < length ws → w.peer < (get_or ws k d).peer) → filter (of_peer p) (w ∷ ws) ≡ filter (of_peer p) ws ++ one_of p w
+insert_front : (ws : List LiveField) (p : ℕ) (w : LiveField) →
+    ((k : ℕ) (d : LiveField) → k < length ws → w.peer < (get_or ws k d).peer) →
+    filter (of_peer p) (w ∷ ws) ≡ filter (of_peer p) ws ++ one_of p w
 insert_front ws p w high = elim (cases_eq w.peer p) [
   | inl same ↦
       let test : eqb w.peer p ≡ true = grind (arith, nat_tests) in
@@ -134,19 +141,29 @@ insert_front ws p w high = elim (cases_eq w.peer p) [
       rw (test, append-nil (filter (of_peer p) ws)) refl
 ]
 
-insert_at : (ws : List LiveField) (p : ℕ) (w : LiveField) (i : ℕ) → ((k : ℕ) (d : LiveField) → i ≤ k → k < length ws → w.peer < (get_or ws k d).peer) → filter (of_peer p) (insert ws i w) ≡ filter (of_peer p) ws ++ one_of p w
+insert_at : (ws : List LiveField) (p : ℕ) (w : LiveField) (i : ℕ) →
+    ((k : ℕ) (d : LiveField) → i ≤ k → k < length ws → w.peer < (get_or ws k d).peer) →
+    filter (of_peer p) (insert ws i w) ≡ filter (of_peer p) ws ++ one_of p w
 insert_at ws p w zero high = insert_front ws p w (λ k d lt. high k d (omega arith) lt)
 insert_at [] p w (suc i) high = refl
-insert_at (v ∷ vs) p w (suc i) high = keep (eqb v.peer p) v _ _ (one_of p w) (insert_at vs p w i (λ k d le lt. high (suc k) d (omega arith) (omega arith)))
+insert_at (v ∷ vs) p w (suc i) high =
+    keep (eqb v.peer p) v _ _ (one_of p w)
+    (insert_at vs p w i (λ k d le lt. high (suc k) d (omega arith) (omega arith)))
 
-rise_at : (ws : List LiveField) (n : ℕ) (w : LiveField) (i : ℕ) → PeersFrom n ws → n ≤ w.peer → ((k : ℕ) (d : LiveField) → k < i → k < length ws → (get_or ws k d).peer ≤ w.peer) → ((k : ℕ) (d : LiveField) → i ≤ k → k < length ws → w.peer < (get_or ws k d).peer) → PeersFrom n (insert ws i w)
+rise_at : (ws : List LiveField) (n : ℕ) (w : LiveField) (i : ℕ) → PeersFrom n ws → n ≤ w.peer →
+    ((k : ℕ) (d : LiveField) → k < i → k < length ws → (get_or ws k d).peer ≤ w.peer) →
+    ((k : ℕ) (d : LiveField) → i ≤ k → k < length ws → w.peer < (get_or ws k d).peer) → PeersFrom n (insert ws i w)
 rise_at [] n w zero rise le low high = (le, tt)
 rise_at (v ∷ vs) n w zero rise le low high =
     let first : w.peer < v.peer = high 0 v (omega arith) (omega arith) in
     (le, (omega arith, rise.1))
 rise_at [] n w (suc i) rise le low high = (le, tt)
-rise_at (v ∷ vs) n w (suc i) rise le low high =
-    (rise.0, rise_at vs v.peer w i rise.1 (low 0 v (omega arith) (omega arith)) (λ k d lt within. low (suc k) d (omega arith) (omega arith)) (λ k d lo lt. high (suc k) d (omega arith) (omega arith)))
+rise_at (v ∷ vs) n w (suc i) rise le low high = (
+  rise.0,
+  rise_at vs v.peer w i rise.1 (low 0 v (omega arith) (omega arith))
+      (λ k d lt within. low (suc k) d (omega arith) (omega arith))
+      (λ k d lo lt. high (suc k) d (omega arith) (omega arith)),
+)
 
 module _ (ws : List LiveField) (w : LiveField) (start stop : ℕ) (part : IsPart ws w.peer start stop) where
   up_to : (k : ℕ) (d : LiveField) → k < stop → (get_or ws k d).peer ≤ w.peer
@@ -164,7 +181,8 @@ abbrev pub field_label : LiveField → ℕ
 field_label w = w.label
 
 module _ (ws : List LiveField) (v : LiveField) (start stop : ℕ) (part : IsPart ws v.peer start stop) where
-  in_part : (j : ℕ) (d : LiveField) → j < stop - start → get_or (take (stop - start) (drop start ws)) j d ≡ get_or ws (start + j) d
+  in_part : (j : ℕ) (d : LiveField) → j < stop - start →
+      get_or (take (stop - start) (drop start ws)) j d ≡ get_or ws (start + j) d
   in_part j d lt = get_or-take (stop - start) (drop start ws) j d lt ∙ get_or-drop start ws j d
 
   part_length : length (take (stop - start) (drop start ws)) ≡ stop - start
@@ -186,7 +204,8 @@ module _ (ws : List LiveField) (v : LiveField) (start stop : ℕ) (part : IsPart
       by_peer false false is = refl
 
   -- outside the part each field is another's
-  outside : (k : ℕ) (d : LiveField) → k < length ws → ((start ≤ k) → k < stop → is_other v (get_or ws k d) ≡ true) → is_other v (get_or ws k d) ≡ true
+  outside : (k : ℕ) (d : LiveField) → k < length ws → ((start ≤ k) → k < stop → is_other v (get_or ws k d) ≡ true) →
+      is_other v (get_or ws k d) ≡ true
   outside k d lt inside = elim (cases_lt k start) [
     | inl below ↦ other_peer k d (λ same. omega (arith, part.before k d below))
     | inr from ↦ elim (cases_lt k stop) [
@@ -195,22 +214,29 @@ module _ (ws : List LiveField) (v : LiveField) (start stop : ℕ) (part : IsPart
     ]
   ]
 
-  pub field_absent : ((j : ℕ) (d : LiveField) → j < length (take (stop - start) (drop start ws)) → (get_or (take (stop - start) (drop start ws)) j d).label ≢ v.label) → ws ≡ filter (is_other v) ws
+  pub field_absent :
+      ((j : ℕ) (d : LiveField) → j < length (take (stop - start) (drop start ws)) →
+      (get_or (take (stop - start) (drop start ws)) j d).label ≢ v.label) → ws ≡ filter (is_other v) ws
   field_absent none = filter_keeps (is_other v) ws (λ k d lt. outside k d lt (λ from under.
       let j = k - start in
       let here : start + j ≡ k = omega arith in
       let short : j < stop - start = omega arith in
-      let there : get_or (take (stop - start) (drop start ws)) j d ≡ get_or ws k d = in_part j d short ∙ ap (λ i. get_or ws i d) here in
+      let there : get_or (take (stop - start) (drop start ws)) j d ≡ get_or ws k d =
+      in_part j d short ∙ ap (λ i. get_or ws i d) here in
       other_label k d (λ same. none j d (omega (arith, part_length)) (ap field_label there ∙ same))))
 
-  module _ (at : ℕ) (within : at < length (take (stop - start) (drop start ws))) (rise : LabelsRise (take (stop - start) (drop start ws))) (found : (d : LiveField) → (get_or (take (stop - start) (drop start ws)) at d).label ≡ v.label) where
+  module _ (at : ℕ) (within : at < length (take (stop - start) (drop start ws)))
+      (rise : LabelsRise (take (stop - start) (drop start ws)))
+      (found : (d : LiveField) → (get_or (take (stop - start) (drop start ws)) at d).label ≡ v.label) where
     at_short : at < stop - start
     at_short = omega (arith, part_length)
 
     found_out : (d : LiveField) → is_other v (get_or ws (start + at) d) ≡ false
     found_out d =
-        let label : (get_or ws (start + at) d).label ≡ v.label = ap field_label (sym (in_part at d at_short)) ∙ found d in
-        let peer : (get_or ws (start + at) d).peer ≡ v.peer = part.inside (start + at) d (omega arith) (omega (arith, at_short)) in
+        let label : (get_or ws (start + at) d).label ≡ v.label =
+        ap field_label (sym (in_part at d at_short)) ∙ found d in
+        let peer : (get_or ws (start + at) d).peer ≡ v.peer =
+        part.inside (start + at) d (omega arith) (omega (arith, at_short)) in
         let test : eqb (get_or ws (start + at) d).label v.label ≡ true = grind (arith, nat_tests) in
         let other : eqb (get_or ws (start + at) d).peer v.peer ≡ true = grind (arith, nat_tests) in
         rw (other, test) refl
@@ -220,15 +246,19 @@ module _ (ws : List LiveField) (v : LiveField) (start stop : ℕ) (part : IsPart
         let j = k - start in
         let here : start + j ≡ k = omega arith in
         let short : j < stop - start = omega arith in
-        let there : get_or (take (stop - start) (drop start ws)) j d ≡ get_or ws k d = in_part j d short ∙ ap (λ i. get_or ws i d) here in
+        let there : get_or (take (stop - start) (drop start ws)) j d ≡ get_or ws k d =
+        in_part j d short ∙ ap (λ i. get_or ws i d) here in
         other_label k d (λ same. differs (
-        let one = one_number field_label (take (stop - start) (drop start ws)) 0 j at d rise (omega (arith, part_length)) within (ap field_label there ∙ same ∙ sym (found d)) in
+        let one = one_number field_label (take (stop - start) (drop start ws)) 0 j at d rise
+        (omega (arith, part_length)) within (ap field_label there ∙ same ∙ sym (found d)) in
         omega arith)))
 
     pub field_removed : remove ws (start + at) ≡ filter (is_other v) ws
-    field_removed = remove_filters (is_other v) ws (start + at) (omega (arith, at_short, part.within)) found_out others_stay
+    field_removed =
+        remove_filters (is_other v) ws (start + at) (omega (arith, at_short, part.within)) found_out others_stay
 
-rises_if : (w : LiveField) (b : Bool) (n : ℕ) (ws : List LiveField) → n ≤ w.peer → PeersFrom w.peer ws → PeersFrom n (if b then w ∷ ws else ws)
+rises_if : (w : LiveField) (b : Bool) (n : ℕ) (ws : List LiveField) → n ≤ w.peer → PeersFrom w.peer ws →
+    PeersFrom n (if b then w ∷ ws else ws)
 rises_if w true n ws le rest = (le, rest)
 rises_if w false n [] le rest = tt
 rises_if w false n (v ∷ vs) le rest = (omega (arith, rest.0), rest.1)

@@ -12,7 +12,8 @@ use Rattle.seat_objects.specs.Listed.{popup_of_kind, popups_of}
 abbrev has : ℕ → LivePopup → Bool
 has s w = eqb w.surface s
 
-has_one : (s p x : ℕ) (k : Kind) (ws : List LivePopup) → list_any (has s) (popup_of_kind p x k ++ ws) ≡ (is_at (surface_of_kind k) s || list_any (has s) ws)
+has_one : (s p x : ℕ) (k : Kind) (ws : List LivePopup) →
+    list_any (has s) (popup_of_kind p x k ++ ws) ≡ (is_at (surface_of_kind k) s || list_any (has s) ws)
 has_one s p x (Popup m t) ws = refl
 has_one s p x Peer ws = refl
 has_one s p x (Surface area) ws = refl
@@ -24,4 +25,5 @@ has_one s p x Board ws = refl
 
 pub surfaces_are : (s : ℕ) (os : List Object) → list_any (has s) (popups_of os) ≡ has_popup_in os s
 surfaces_are s [] = refl
-surfaces_are s (o ∷ os) = has_one s o.peer o.label o.kind (popups_of os) ∙ ap (λ b. is_at (surface_of_kind o.kind) s || b) (surfaces_are s os)
+surfaces_are s (o ∷ os) =
+    has_one s o.peer o.label o.kind (popups_of os) ∙ ap (λ b. is_at (surface_of_kind o.kind) s || b) (surfaces_are s os)

@@ -10,7 +10,8 @@ abbrev pub label_of : Place → ℕ
 label_of p = p.label
 
 -- the key at the label's place is the one that is found
-pub key_at_place : (ps : List Place) (n x i : ℕ) → RisesBy label_of n ps → IsPlaceOf ps x i → Some (get_or ps i no_place).key ≡ key_in ps x
+pub key_at_place : (ps : List Place) (n x i : ℕ) → RisesBy label_of n ps → IsPlaceOf ps x i →
+    Some (get_or ps i no_place).key ≡ key_in ps x
 key_at_place [] n x i r at = absurd (omega (arith, at.within))
 key_at_place (p ∷ ps) n x zero r at = grind (arith, nat_tests, at.has_label)
 key_at_place (p ∷ ps) n x (suc i) r at =
@@ -20,4 +21,5 @@ key_at_place (p ∷ ps) n x (suc i) r at =
 
 pub key_absent : (ps : List Place) (x : ℕ) → HasNoPlace ps x → None ≡ key_in ps x
 key_absent [] x none = refl
-key_absent (p ∷ ps) x none = grind (arith, nat_tests, none 0 (omega arith), key_absent ps x (λ i lt. none (suc i) (omega arith)))
+key_absent (p ∷ ps) x none =
+    grind (arith, nat_tests, none 0 (omega arith), key_absent ps x (λ i lt. none (suc i) (omega arith)))

@@ -12,13 +12,17 @@ use Rattle.seat_objects.specs.Saying.{said_to, told_each}
 either_way : (p q : ℕ) → eqb q p ≡ eqb p q
 either_way p q = grind (arith, nat_tests)
 
-told_one : (say : Said) (p : ℕ) (o : Object) (os : List Object) (b : Bool) → told_each say (fields_of p os) ≡ said_to say (Some p) os → told_each say (map live_field (if b then o ∷ filter (is_field_of p) os else filter (is_field_of p) os)) ≡ (if b then to o.label say ∷ said_to say (Some p) os else said_to say (Some p) os)
+told_one : (say : Said) (p : ℕ) (o : Object) (os : List Object) (b : Bool) →
+    told_each say (fields_of p os) ≡ said_to say (Some p) os →
+    told_each say (map live_field (if b then o ∷ filter (is_field_of p) os else filter (is_field_of p) os))
+    ≡ (if b then to o.label say ∷ said_to say (Some p) os else said_to say (Some p) os)
 told_one say p o os true rest = ap (λ ts. to o.label say ∷ ts) rest
 told_one say p o os false rest = rest
 
 pub told_are : (say : Said) (p : ℕ) (os : List Object) → told_each say (fields_of p os) ≡ said_to say (Some p) os
 told_are say p [] = refl
-told_are say p (o ∷ os) = rw (either_way p o.peer) (told_one say p o os (is_field_kind o.kind && eqb p o.peer) (told_are say p os))
+told_are say p (o ∷ os) =
+    rw (either_way p o.peer) (told_one say p o os (is_field_kind o.kind && eqb p o.peer) (told_are say p os))
 
 none_if : (b : Bool) (t : Told) → (ts : List Told) → [] ≡ ts → [] ≡ (if b && false then t ∷ ts else ts)
 none_if true t ts rest = rest

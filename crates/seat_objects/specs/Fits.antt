@@ -3,8 +3,8 @@ use Rattle.std.specs.Prelude.{◌≤◌, length}
 use Rattle.relay_model.specs.declared.act.Act.{Act}
 use Rattle.relay_model.specs.declared.act.Act.TheVariants as acts
 
--- The texts of the act have at most 4,083 bytes, or 4,075 beside two numbers: a message has 4,096, of which its header takes 8, a text's length 4 and its
--- zero byte 1, and two numbers 8.
+-- The texts of the act have at most 4,083 bytes, or 4,075 beside two numbers: a message has 4,096,
+-- of which its header takes 8, a text's length 4 and its zero byte 1, and two numbers 8.
 abbrev pub FitsMessage : Act → Type 0
 FitsMessage (acts.Surround f text cursor anchor) = length text ≤ 4075
 FitsMessage (acts.MString m text) = length text ≤ 4083

@@ -8,4 +8,9 @@ preedit_in p = record { text = p.text; begin = p.begin; end = p.end }
 
 -- the edits as a batch
 abbrev pub batch_in : Group → Batch
-batch_in g = record { deletion = record { before = g.before; after = g.after }; string = g.string; preedit = preedit_in g.preedit }
+batch_in g =
+    record {
+      deletion = record { before = g.before; after = g.after };
+      string = g.string;
+      preedit = preedit_in g.preedit;
+    }

@@ -24,7 +24,8 @@ mods_told g (Some mods) = to g (said.Mods g mods) ∷ []
 
 -- what the grab g is told that stands from its making on
 abbrev pub keyboard_told : ℕ → Keyboard → List Told
-keyboard_told g keys = keymap_told g keys.keymap ++ (repeat_told g keys.repeat ++ mods_told g keys.mods)
+keyboard_told g keys =
+    keymap_told g keys.keymap ++ (repeat_told g keys.repeat ++ mods_told g keys.mods)
 
 -- a key that takes this route
 abbrev pub key_told : ℕ → ℕ → ℕ → ℕ → Route → List Told

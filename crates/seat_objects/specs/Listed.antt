@@ -1,4 +1,5 @@
--- What is listed beside the live objects: the fields by peer, the popups, and whose fields may be entered.
+-- What is listed beside the live objects: the fields by peer, the popups, and whose fields may be
+-- entered.
 use Rattle.std.specs.Prelude.{◌≡◌, ℕ, ◌<◌, ◌≤◌, List, [], ◌∷◌, length, slice_index_or, map, filter, All, Bool, true, false, not, ◌&&◌, ◌==◌, if◌then◌else◌, Option, Some, None}
 use Rattle.std.specs.List.{flat_map, list_any}
 use Rattle.relay_model.specs.Objects.{is_at}
@@ -68,7 +69,8 @@ is_popup_kind (Popup method surface) = true
 is_popup_kind _ = false
 
 abbrev pub popup_of_kind : ℕ → ℕ → Kind → List LivePopup
-popup_of_kind p x (Popup method surface) = record { peer = p; label = x; method = method; surface = surface } ∷ []
+popup_of_kind p x (Popup method surface) =
+    record { peer = p; label = x; method = method; surface = surface } ∷ []
 popup_of_kind p x _ = []
 
 -- the object's entry, if it is a popup
@@ -81,7 +83,8 @@ popups_of os = flat_map popup_of os
 
 -- the list without the object, if it is a popup
 abbrev pub without_popup : Object → List LivePopup → List LivePopup
-without_popup o ws = (if is_popup_kind o.kind then filter (λ w. not (w.label == o.label)) ws else ws)
+without_popup o ws =
+    (if is_popup_kind o.kind then filter (λ w. not (w.label == o.label)) ws else ws)
 
 -- whose fields may be entered
 
@@ -126,7 +129,8 @@ abbrev pub IsCalm : Entered → Object → Type 0
 IsCalm entered o = may_be entered o.peer ≡ false → refocused None o ≡ o
 
 -- the lists are of these objects
-pub record Lists (os : List Object) (fields : List LiveField) (popups : List LivePopup) (entered : Entered) : Type 0 where
+pub record Lists (os : List Object) (fields : List LiveField) (popups : List LivePopup)
+    (entered : Entered) : Type 0 where
   pub peers_rise : PeersRise fields
   pub fields_are : (p : ℕ) → filter (of_peer p) fields ≡ fields_of p os
   pub popups_are : popups ≡ popups_of os

@@ -2,7 +2,8 @@
 use Rattle.std.specs.Prelude.{ℕ, List}
 use Rattle.seat_objects.specs.declared.object.Object.{Object}
 
--- the objects by rising label, how many more can be made with no memory, and a number above each label
+-- the objects by rising label, how many more can be made with no memory, and a number above each
+-- label
 pub record Living : Type 0 where
   pub items : List Object
   pub room : ℕ

@@ -136,7 +136,8 @@ refocused peer o = record o { kind = changed (change.focused (is_at peer o.peer)
 abbrev pub committed : ℕ → (displaced : Option ℕ) → Object → Object
 committed f displaced o =
     (if o.label == f then record o { kind = changed change.committed o.kind }
-    else (if is_at displaced o.label then record o { kind = changed change.displaced o.kind } else o))
+    else (if is_at displaced o.label then record o { kind = changed change.displaced o.kind }
+    else o))
 
 abbrev pub kind_placed : Rect → Kind → Kind
 kind_placed rect (Surface area) = Surface rect

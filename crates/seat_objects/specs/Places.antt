@@ -5,7 +5,8 @@ use Rattle.seat_objects.specs.declared.place.Place.{Place}
 use Rattle.seat_objects.specs.declared.object.Object.{Object}
 use Rattle.seat_objects.specs.Rising.{RisesBy}
 
--- what a contract sees of a shelf: the objects by rising label, and how many more it takes in with no memory
+-- what a contract sees of a shelf: the objects by rising label, and how many more it takes in with
+-- no memory
 pub record Shelved : Type 0 where
   pub items : List Object
   pub room : ℕ

@@ -16,7 +16,8 @@ use Rattle.seat_objects.specs.Objects.{is_field_in}
 abbrev pub said_to : Said → Option ℕ → List Object → List Told
 said_to say peer [] = []
 said_to say peer (o ∷ os) =
-    (if is_field_in (Some o) && is_at peer o.peer then to o.label say ∷ said_to say peer os else said_to say peer os)
+    (if is_field_in (Some o) && is_at peer o.peer then to o.label say ∷ said_to say peer os
+    else said_to say peer os)
 
 -- the event for each of these fields
 abbrev pub told_each : Said → List LiveField → List Told
@@ -36,12 +37,14 @@ text_around (Some around) = around.text
 abbrev pub around_told : ℕ → Option field.Surrounding → ℕ → List Told
 around_told m None cause = []
 around_told m (Some around) cause =
-    to m (said.Surrounding around.text (nat_abs around.cursor) (nat_abs around.anchor)) ∷ to m (said.ChangeCause cause) ∷ []
+    to m (said.Surrounding around.text (nat_abs around.cursor) (nat_abs around.anchor))
+    ∷ to m (said.ChangeCause cause) ∷ []
 
 -- the state, and the done that ends it
 abbrev pub state_told : ℕ → field.State → List Told
 state_told m c =
-    around_told m c.surrounding c.cause ++ (to m (said.ContentType c.content.0 c.content.1) ∷ to m said.MethodDone ∷ [])
+    around_told m c.surrounding c.cause
+    ++ (to m (said.ContentType c.content.0 c.content.1) ∷ to m said.MethodDone ∷ [])
 
 -- a hold begins
 abbrev pub activate_told : field.State → Option ℕ → List Told
@@ -58,8 +61,10 @@ abbrev pub deactivate_told : Option ℕ → List Told
 deactivate_told None = []
 deactivate_told (Some m) = to m said.Deactivate ∷ to m said.MethodDone ∷ []
 
--- a batch: its deletion, its string and its preedit, each unless it is empty, and the done with the count of the commits
+-- a batch: its deletion, its string and its preedit, each unless it is empty, and the done with the
+-- count of the commits
 abbrev pub group_told : Batch → ℕ → ℕ → List Told
 group_told b count h =
     map (to h) (deletion_said b.deletion) ++
-    (map (to h) (string_said b.string) ++ (map (to h) (preedit_said b.preedit) ++ to h (said.FieldDone count) ∷ []))
+    (map (to h) (string_said b.string)
+    ++ (map (to h) (preedit_said b.preedit) ++ to h (said.FieldDone count) ∷ []))

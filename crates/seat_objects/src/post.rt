@@ -120,7 +120,7 @@ fn tell_content<P: Post>(method: Label, hint: u32, purpose: u32, post: &mut P)
 }
 
 // Tells the method the state of the field, with a copy of its surrounding text, and the done that ends it.
-#[tactic(auto, using(crate::proofs::Reaches::reached_append))]
+#[tactic(auto, using(crate::proofs::TellsAppend::reached_append))]
 fn tell_state<P: Post>(method: Label, field: Option<&Field>, text: Text, post: &mut P)
     requires { text ≡ text_around (current_of (option_map (λ f. f.now) field)).surrounding }
     ensures { Reached P.may_follow post.old (state_told method

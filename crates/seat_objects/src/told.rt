@@ -14,7 +14,7 @@ use relay_model::{Label, Said, Told};
 const SHELL: Label = 0;
 
 /// Tells the grab that stands from its making on the last keymap, repeat and modifiers, as far as there were any.
-#[tactic(auto, using(crate::proofs::Reaches::reached_append))]
+#[tactic(auto, using(crate::proofs::TellsAppend::reached_append))]
 pub fn tell_keyboard<P: Post>(grab: Label, keys: &Grab, post: &mut P)
     ensures { Reached P.may_follow post.old (keyboard_told grab keys.now) post.new }
 {

@@ -30,7 +30,8 @@ all_printed (event ∷ rest) p = all_printed rest (printed event p)
 abbrev pub full : Printing → List ℕ
 full p = p.text ++ p.shell
 
-pub printed_append : (xs ys : List Watched) (p : Printing) → all_printed (xs ++ ys) p ≡ all_printed ys (all_printed xs p)
+pub printed_append : (xs ys : List Watched) (p : Printing) →
+    all_printed (xs ++ ys) p ≡ all_printed ys (all_printed xs p)
 printed_append [] ys p = refl
 printed_append (x ∷ xs) ys p = printed_append xs ys (printed x p)
 
@@ -54,19 +55,30 @@ IsInner _ = Unit {0}
 abbrev with_lines : List ℕ → List ℕ → Printing → Printing
 with_lines groups shell p = record p { text = p.text ++ groups; shell = p.shell ++ shell }
 
-one_inner : (event : Watched) (p : Printing) → IsInner event → printed event p ≡ with_lines (group_lines event) (shell_lines event) p
+one_inner : (event : Watched) (p : Printing) → IsInner event →
+    printed event p ≡ with_lines (group_lines event) (shell_lines event) p
 one_inner (Entered n e) p i = absurd i
-one_inner (Placed n q id x y) p i = ap (λ (t : List ℕ). record p { text = t; shell = p.shell ++ with_feed (placed_line n q id x y) }) (sym (append-nil p.text))
-one_inner (Passed n time key state) p i = ap (λ (t : List ℕ). record p { text = t; shell = p.shell ++ with_feed (pass_line n time key state) }) (sym (append-nil p.text))
-one_inner (Modified n mods) p i = ap (λ (t : List ℕ). record p { text = t; shell = p.shell ++ with_feed (vmods_line n mods) }) (sym (append-nil p.text))
-one_inner (Put n q bytes tokens) p i = ap (λ (s : List ℕ). record p { text = p.text ++ with_feed (out_line n q bytes tokens); shell = s }) (sym (append-nil p.shell))
+one_inner (Placed n q id x y) p i =
+    ap (λ (t : List ℕ). record p { text = t; shell = p.shell ++ with_feed (placed_line n q id x y) })
+    (sym (append-nil p.text))
+one_inner (Passed n time key state) p i =
+    ap (λ (t : List ℕ). record p { text = t; shell = p.shell ++ with_feed (pass_line n time key state) })
+    (sym (append-nil p.text))
+one_inner (Modified n mods) p i =
+    ap (λ (t : List ℕ). record p { text = t; shell = p.shell ++ with_feed (vmods_line n mods) })
+    (sym (append-nil p.text))
+one_inner (Put n q bytes tokens) p i =
+    ap (λ (s : List ℕ). record p { text = p.text ++ with_feed (out_line n q bytes tokens); shell = s })
+    (sym (append-nil p.shell))
 
 lines_twice : (a b c d : List ℕ) (p : Printing) → with_lines c d (with_lines a b p) ≡ with_lines (a ++ c) (b ++ d) p
-lines_twice a b c d p = ap₂ (λ (t s : List ℕ). record p { text = t; shell = s }) (append_assoc p.text a c) (append_assoc p.shell b d)
+lines_twice a b c d p =
+    ap₂ (λ (t s : List ℕ). record p { text = t; shell = s }) (append_assoc p.text a c) (append_assoc p.shell b d)
 
 all_inner : (events : List Watched) (p : Printing) → AllByRecursion IsInner events →
     all_printed events p ≡ with_lines (flat_map group_lines events) (flat_map shell_lines events) p
-all_inner [] p i = ap₂ (λ (t s : List ℕ). record p { text = t; shell = s }) (sym (append-nil p.text)) (sym (append-nil p.shell))
+all_inner [] p i =
+    ap₂ (λ (t s : List ℕ). record p { text = t; shell = s }) (sym (append-nil p.text)) (sym (append-nil p.shell))
 all_inner (event ∷ rest) p i =
     ap (all_printed rest) (one_inner event p i.0)
     ∙ all_inner rest (with_lines (group_lines event) (shell_lines event) p) i.1
@@ -81,11 +93,13 @@ record Prints (groups shell : List ℕ) (events : List Watched) : Type 0 where
 prints_none : Prints [] [] []
 prints_none = record { inner = tt; groups_are = refl; shell_is = refl }
 
-inner_both : (xs ys : List Watched) → AllByRecursion IsInner xs → AllByRecursion IsInner ys → AllByRecursion IsInner (xs ++ ys)
+inner_both : (xs ys : List Watched) → AllByRecursion IsInner xs → AllByRecursion IsInner ys →
+    AllByRecursion IsInner (xs ++ ys)
 inner_both [] ys h k = k
 inner_both (x ∷ xs) ys h k = (h.0, inner_both xs ys h.1 k)
 
-prints_both : (a b c d : List ℕ) (xs ys : List Watched) → Prints a b xs → Prints c d ys → Prints (a ++ c) (b ++ d) (xs ++ ys)
+prints_both : (a b c d : List ℕ) (xs ys : List Watched) → Prints a b xs → Prints c d ys →
+    Prints (a ++ c) (b ++ d) (xs ++ ys)
 prints_both a b c d xs ys h k = record {
   inner = inner_both xs ys h.inner k.inner;
   groups_are = flat_map-append group_lines xs ys ∙ ap₂ (λ (l m : List ℕ). l ++ m) h.groups_are k.groups_are;
@@ -95,8 +109,10 @@ prints_both a b c d xs ys h k = record {
 -- what the shell is told
 shown_prints : (n : ℕ) (made : List Made) (peers : List Numbered) (event : Said) →
     Prints [] (shell_text n made peers event) (shown n made peers event)
-shown_prints n made peers (said.Placed popup x y) = record { inner = (tt, tt); groups_are = refl; shell_is = append-nil _ }
-shown_prints n made peers (said.Pass time key state) = record { inner = (tt, tt); groups_are = refl; shell_is = append-nil _ }
+shown_prints n made peers (said.Placed popup x y) =
+    record { inner = (tt, tt); groups_are = refl; shell_is = append-nil _ }
+shown_prints n made peers (said.Pass time key state) =
+    record { inner = (tt, tt); groups_are = refl; shell_is = append-nil _ }
 shown_prints n made peers (said.VMods mods) = record { inner = (tt, tt); groups_are = refl; shell_is = append-nil _ }
 shown_prints n made peers _ = prints_none
 
@@ -105,7 +121,8 @@ all_shown_print : (n : ℕ) (made : List Made) (peers : List Numbered) (ts : Lis
 all_shown_print n made peers [] = prints_none
 all_shown_print n made peers (t ∷ ts) =
     prints_both [] (shell_text n made peers t.event) [] (flat_map (λ (x : Told). shell_text n made peers x.event) ts)
-    (shown n made peers t.event) (shown_by n made peers ts) (shown_prints n made peers t.event) (all_shown_print n made peers ts)
+    (shown n made peers t.event) (shown_by n made peers ts) (shown_prints n made peers t.event)
+    (all_shown_print n made peers ts)
 
 -- what is put for a peer
 put_prints : (n q : ℕ) (group : Piece) → Prints (group_text n q group) [] (group_put n q group)
@@ -120,7 +137,8 @@ put_prints n q group = by_length (length group.bytes == 0)
 out_prints : (capacity : ℕ) (e : Entry) (older : List Entry) (p : Numbered) →
     Prints (out_text capacity e older p) [] (out_put capacity e older p)
 out_prints capacity e older p =
-    by_room (fits capacity (group_at e older p.peer.label) (before_group e older p.peer.label (out_for capacity older p.peer.label)))
+    by_room (fits capacity (group_at e older p.peer.label)
+    (before_group e older p.peer.label (out_for capacity older p.peer.label)))
   where
     n : ℕ
     n = length older + 1
@@ -128,7 +146,8 @@ out_prints capacity e older p =
     group : Piece
     group = group_at e older p.peer.label
 
-    by_room : (b : Bool) → Prints (if b then group_text n p.number group else []) [] (if b then group_put n p.number group else [])
+    by_room : (b : Bool) →
+        Prints (if b then group_text n p.number group else []) [] (if b then group_put n p.number group else [])
     by_room true = put_prints n p.number group
     by_room false = prints_none
 
@@ -136,7 +155,8 @@ all_out_print : (capacity : ℕ) (e : Entry) (older : List Entry) (ps : List Num
     Prints (flat_map (out_text capacity e older) ps) [] (flat_map (out_put capacity e older) ps)
 all_out_print capacity e older [] = prints_none
 all_out_print capacity e older (p ∷ ps) =
-    prints_both (out_text capacity e older p) [] (flat_map (out_text capacity e older) ps) [] (out_put capacity e older p)
+    prints_both (out_text capacity e older p) [] (flat_map (out_text capacity e older) ps) []
+    (out_put capacity e older p)
     (flat_map (out_put capacity e older) ps) (out_prints capacity e older p) (all_out_print capacity e older ps)
 
 -- an entry
@@ -144,25 +164,35 @@ all_out_print capacity e older (p ∷ ps) =
 -- what the shell is told of an entry, and what is put for all that joined
 abbrev shell_of : Entry → List Entry → List ℕ
 shell_of e older =
-    flat_map (λ (t : Told). shell_text (length older + 1) (past_of (e ∷ older)).made (numbered 1 (past_of (e ∷ older)).joined) t.event)
+    flat_map (λ (t : Told). shell_text (length older + 1) (past_of (e ∷ older)).made
+    (numbered 1 (past_of (e ∷ older)).joined) t.event)
     (told (act_at e older) (resolve older))
 
 abbrev groups_of : ℕ → Entry → List Entry → List ℕ
 groups_of capacity e older = flat_map (out_text capacity e older) (numbered 1 (past_of (e ∷ older)).joined)
 
-told_prints : (capacity : ℕ) (e : Entry) (older : List Entry) → Prints (groups_of capacity e older) (shell_of e older) (told_of capacity e older)
+told_prints : (capacity : ℕ) (e : Entry) (older : List Entry) →
+    Prints (groups_of capacity e older) (shell_of e older) (told_of capacity e older)
 told_prints capacity e older =
     let past = past_of (e ∷ older) in
     let peers = numbered 1 past.joined in
     let ts = told (act_at e older) (resolve older) in
-    let both = prints_both [] (shell_of e older) (groups_of capacity e older) [] (shown_by (length older + 1) past.made peers ts)
-    (flat_map (out_put capacity e older) peers) (all_shown_print (length older + 1) past.made peers ts) (all_out_print capacity e older peers) in
-    record { inner = both.inner; groups_are = both.groups_are; shell_is = both.shell_is ∙ append-nil (shell_of e older) }
+    let both = prints_both [] (shell_of e older) (groups_of capacity e older) []
+    (shown_by (length older + 1) past.made peers ts)
+    (flat_map (out_put capacity e older) peers) (all_shown_print (length older + 1) past.made peers ts)
+    (all_out_print capacity e older peers) in
+    record {
+      inner = both.inner;
+      groups_are = both.groups_are;
+      shell_is = both.shell_is
+          ∙ append-nil (shell_of e older);
+    }
 
 entry_full : (head groups shell : List ℕ) (p : Printing) →
     (p.text ++ (p.shell ++ head)) ++ (groups ++ shell) ≡ full p ++ (head ++ (groups ++ shell))
 entry_full head groups shell p =
-    ap (λ (l : List ℕ). l ++ (groups ++ shell)) (sym (append_assoc p.text p.shell head)) ∙ append_assoc (full p) head (groups ++ shell)
+    ap (λ (l : List ℕ). l ++ (groups ++ shell)) (sym (append_assoc p.text p.shell head))
+    ∙ append_assoc (full p) head (groups ++ shell)
 
 pub entry_printed : (capacity : ℕ) (e : Entry) (older : List Entry) (p : Printing) →
     full (all_printed (watched capacity e older) p) ≡ full p ++ entry_text capacity e older
@@ -182,7 +212,8 @@ pub since_printed : (capacity k : ℕ) (journal : List Entry) (p : Printing) →
 since_printed capacity k [] p = sym (append-nil (full p))
 since_printed capacity k (e ∷ older) p = by_place (nat_le k (length older)) (since_printed capacity k older p)
   where
-    by_place : (b : Bool) → full (all_printed (watched_since capacity k older) p) ≡ full p ++ text_since capacity k older →
+    by_place : (b : Bool) →
+        full (all_printed (watched_since capacity k older) p) ≡ full p ++ text_since capacity k older →
         full (all_printed (if b then watched_since capacity k older ++ watched capacity e older else []) p)
         ≡ full p ++ (if b then text_since capacity k older ++ entry_text capacity e older else [])
     by_place true before =

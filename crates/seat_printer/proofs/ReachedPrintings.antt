@@ -33,7 +33,8 @@ one_grows (Put n q bytes tokens) p = (with_feed (out_line n q bytes tokens), ref
 all_grow : (events : List Watched) (p : Printing) → IsFront p.text (all_printed events p).text
 all_grow [] p = front_self p.text
 all_grow (event ∷ rest) p =
-    front_front p.text (printed event p).text (all_printed rest (printed event p)).text (one_grows event p) (all_grow rest (printed event p))
+    front_front p.text (printed event p).text (all_printed rest (printed event p)).text (one_grows event p)
+    (all_grow rest (printed event p))
 
 stays_unshort : (event : Watched) (p : Printing) → (printed event p).is_short ≡ p.is_short
 stays_unshort (Entered n e) p = refl
@@ -54,8 +55,10 @@ pub record ComesTo (all q : Printing) : Type 0 where
   pub whole : q.is_short ≡ false → q ≡ all
   pub front : IsFront q.text all.text
 
-pub comes_to : (events : List Watched) (p q : Printing) → p.is_short ≡ false → Reached MayPrint p events q → ComesTo (all_printed events p) q
-comes_to [] p q s h = record { whole = λ _. h; front = subst (λ (x : Printing). IsFront x.text p.text) (sym h) (front_self p.text) }
+pub comes_to : (events : List Watched) (p q : Printing) → p.is_short ≡ false → Reached MayPrint p events q →
+    ComesTo (all_printed events p) q
+comes_to [] p q s h =
+    record { whole = λ _. h; front = subst (λ (x : Printing). IsFront x.text p.text) (sym h) (front_self p.text) }
 comes_to (event ∷ rest) p q s h =
     by_memory h.0.is_short refl (subst (λ (b : Bool). IsPrinted b h.0.is_short p event h.0) s h.1) (comes_to rest)
   where
@@ -79,26 +82,34 @@ found_ok P (Ok x) f h = h
 found_ok P (Err x) f h = absurd (true≢false f)
 
 -- from nothing, its text with what the shell was told is that of the entries since
-full_whole : (capacity k : ℕ) (journal : List Entry) (p : Printing) → Reached MayPrint blank (watched_since capacity k journal) p →
+full_whole : (capacity k : ℕ) (journal : List Entry) (p : Printing) →
+    Reached MayPrint blank (watched_since capacity k journal) p →
     p.is_short ≡ false → full p ≡ text_since capacity k journal
 full_whole capacity k journal p h s =
-    ap full ((comes_to (watched_since capacity k journal) blank p refl h).whole s) ∙ since_printed capacity k journal blank
+    ap full ((comes_to (watched_since capacity k journal) blank p refl h).whole s)
+    ∙ since_printed capacity k journal blank
 
-pub closed_whole : {T E : Type 0} (capacity k : ℕ) (journal : List Entry) (p : Printing) (text : List ℕ) (r : Result T E) →
-    Reached MayPrint blank (watched_since capacity k journal) p → p.is_short ≡ false → is_err r ≡ false → OnOk r (text ≡ full p) →
+pub closed_whole : {T E : Type 0} (capacity k : ℕ) (journal : List Entry) (p : Printing) (text : List ℕ)
+    (r : Result T E) →
+    Reached MayPrint blank (watched_since capacity k journal) p → p.is_short ≡ false → is_err r ≡ false →
+    OnOk r (text ≡ full p) →
     text ≡ text_since capacity k journal
-closed_whole capacity k journal p text r h s f ok = found_ok (text ≡ full p) r f ok ∙ full_whole capacity k journal p h s
+closed_whole capacity k journal p text r h s f ok =
+    found_ok (text ≡ full p) r f ok ∙ full_whole capacity k journal p h s
 
 -- or a front of it
-pub open_front : (capacity k : ℕ) (journal : List Entry) (p : Printing) → Reached MayPrint blank (watched_since capacity k journal) p →
+pub open_front : (capacity k : ℕ) (journal : List Entry) (p : Printing) →
+    Reached MayPrint blank (watched_since capacity k journal) p →
     IsFront p.text (text_since capacity k journal)
 open_front capacity k journal p h =
     let all = all_printed (watched_since capacity k journal) blank in
     subst (λ (text : List ℕ). IsFront p.text text) (since_printed capacity k journal blank)
     (front_more p.text all.text all.shell (comes_to (watched_since capacity k journal) blank p refl h).front)
 
-pub closed_front : {T E : Type 0} (capacity k : ℕ) (journal : List Entry) (p : Printing) (text : List ℕ) (r : Result T E) →
-    Reached MayPrint blank (watched_since capacity k journal) p → p.is_short ≡ false → OnOk r (text ≡ full p) → OnErr r (text ≡ p.text) →
+pub closed_front : {T E : Type 0} (capacity k : ℕ) (journal : List Entry) (p : Printing) (text : List ℕ)
+    (r : Result T E) →
+    Reached MayPrint blank (watched_since capacity k journal) p → p.is_short ≡ false → OnOk r (text ≡ full p) →
+    OnErr r (text ≡ p.text) →
     IsFront text (text_since capacity k journal)
 closed_front capacity k journal p text (Ok x) h s ok err =
     subst (λ (t : List ℕ). IsFront t (text_since capacity k journal)) (sym (ok ∙ full_whole capacity k journal p h s))

@@ -23,9 +23,11 @@ closed p = record p { text = p.text ++ p.shell; shell = [] }
 abbrev pub printed : Watched → Printing → Printing
 printed (Entered n e) p = record p { text = p.text ++ (p.shell ++ head_text n e); shell = [] }
 printed (Placed n q id x y) p = record p { shell = p.shell ++ with_feed (placed_line n q id x y) }
-printed (Passed n time key state) p = record p { shell = p.shell ++ with_feed (pass_line n time key state) }
+printed (Passed n time key state) p =
+    record p { shell = p.shell ++ with_feed (pass_line n time key state) }
 printed (Modified n mods) p = record p { shell = p.shell ++ with_feed (vmods_line n mods) }
-printed (Put n q bytes tokens) p = record p { text = p.text ++ with_feed (out_line n q bytes tokens) }
+printed (Put n q bytes tokens) p =
+    record p { text = p.text ++ with_feed (out_line n q bytes tokens) }
 
 -- by whether it was short and is short: short, it stays so with the text that it has
 abbrev pub IsPrinted : Bool → Bool → Printing → Watched → Printing → Type 0

@@ -12,7 +12,8 @@ use Rattle.seat_set.specs.Seats.{Seat, seat_by, seat_after, seat_said}
 -- a seat that is full stays, and its transcript has nothing more
 
 pub stays_full : (line : SessionLine) (seat : Seat) → is_some seat.full ≡ true → seat ≡ seat_after line seat
-stays_full line seat full = sym (ap (λ (b : Bool). (if b then seat else seat_by seat.limits (line_played seat.limits line seat.play))) full)
+stays_full line seat full =
+    sym (ap (λ (b : Bool). (if b then seat else seat_by seat.limits (line_played seat.limits line seat.play))) full)
 
 pub none_since : (capacity : ℕ) (journal : List Entry) → text_since capacity (length journal) journal ≡ []
 none_since capacity [] = refl
@@ -23,5 +24,6 @@ none_since capacity (e ∷ older) =
 pub says_nothing : (number : ℕ) (line : SessionLine) (seat : Seat) → is_some seat.full ≡ true
     → seat_lines number (seat_said line seat) ≡ []
 says_nothing number line seat full =
-    ap (λ (s : Seat). seat_lines number (text_since seat.limits.store (length seat.play.journal) s.play.journal)) (sym (stays_full line seat full))
+    ap (λ (s : Seat). seat_lines number (text_since seat.limits.store (length seat.play.journal) s.play.journal))
+    (sym (stays_full line seat full))
     ∙ ap (seat_lines number) (none_since seat.limits.store seat.play.journal)

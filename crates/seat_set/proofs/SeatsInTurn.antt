@@ -22,20 +22,23 @@ all_next line i seats x y d whole lt at is so =
     let behind : drop i seats ≡ x ∷ drop (i + 1) seats =
     drop-cons seats i d lt ∙ ap₂ (λ (s : Seat) (k : ℕ). s ∷ drop k seats) (sym at) (sym (add-one i)) in
     let rest : List Seat = seats_after (All line) (i + 1 + 1) (drop (i + 1) seats) in
-    ap₂ (λ (a b : List Seat). a ++ seats_after (All line) (i + 1 + 1) b) (take_more_set seats i y lt) (drop-set-lt (i + 1) seats i y (omega arith))
+    ap₂ (λ (a b : List Seat). a ++ seats_after (All line) (i + 1 + 1) b) (take_more_set seats i y lt)
+    (drop-set-lt (i + 1) seats i y (omega arith))
     ∙ append_assoc (take i seats) (y ∷ []) rest
     ∙ ap (λ (s : Seat). take i seats ++ s ∷ rest) is
     ∙ sym (ap (λ (l : List Seat). take i seats ++ seats_after (All line) (i + 1) l) behind)
     ∙ so
 
-pub all_said_next : (line : SessionLine) (i : ℕ) (seats : List Seat) (x y d : Seat) (text grown whole : List ℕ) → i < length seats
+pub all_said_next : (line : SessionLine) (i : ℕ) (seats : List Seat) (x y d : Seat) (text grown whole : List ℕ) →
+    i < length seats
     → x ≡ get_or seats i d → grown ≡ text ++ seat_lines (i + 1) (seat_said line x)
     → text ++ seats_said (All line) (i + 1) (drop i seats) ≡ whole
     → grown ++ seats_said (All line) (i + 1 + 1) (drop (i + 1) (set seats i y)) ≡ whole
 all_said_next line i seats x y d text grown whole lt at grew so =
     let behind : drop i seats ≡ x ∷ drop (i + 1) seats =
     drop-cons seats i d lt ∙ ap₂ (λ (s : Seat) (k : ℕ). s ∷ drop k seats) (sym at) (sym (add-one i)) in
-    ap₂ (λ (t : List ℕ) (b : List Seat). t ++ seats_said (All line) (i + 1 + 1) b) grew (drop-set-lt (i + 1) seats i y (omega arith))
+    ap₂ (λ (t : List ℕ) (b : List Seat). t ++ seats_said (All line) (i + 1 + 1) b) grew
+    (drop-set-lt (i + 1) seats i y (omega arith))
     ∙ append_assoc text (seat_lines (i + 1) (seat_said line x)) (seats_said (All line) (i + 1 + 1) (drop (i + 1) seats))
     ∙ sym (ap (λ (l : List Seat). text ++ seats_said (All line) (i + 1) l) behind)
     ∙ so
@@ -44,7 +47,8 @@ all_said_next line i seats x y d text grown whole lt at grew so =
 pub all_done : (line : SessionLine) (i : ℕ) (seats whole : List Seat) → length seats ≤ i
     → take i seats ++ seats_after (All line) (i + 1) (drop i seats) ≡ whole → seats ≡ whole
 all_done line i seats whole past so =
-    sym (ap₂ (λ (a b : List Seat). a ++ seats_after (All line) (i + 1) b) (take_all i seats past) (drop_all i seats past)
+    sym (ap₂ (λ (a b : List Seat). a ++ seats_after (All line) (i + 1) b) (take_all i seats past)
+    (drop_all i seats past)
     ∙ append-nil seats) ∙ so
 
 pub all_said : (line : SessionLine) (i : ℕ) (seats : List Seat) (text whole : List ℕ) → length seats ≤ i
@@ -81,11 +85,13 @@ pub one_after : (s k i : ℕ) (line : SessionLine) (seats : List Seat) (x d : Se
     → x ≡ get_or seats i d → seats_after (One s line) k seats ≡ set seats i (seat_after line x)
 one_after s k i line [] x d is lt at = absurd (omega (arith, lt))
 one_after s k zero line (seat ∷ rest) x d is lt at =
-    ap₂ (λ (b : Bool) (l : List Seat). (if b then seat_after line seat else seat) ∷ l) (one_test s k (omega (arith, is)))
+    ap₂ (λ (b : Bool) (l : List Seat). (if b then seat_after line seat else seat) ∷ l)
+    (one_test s k (omega (arith, is)))
     (untouched s (k + 1) line rest (omega (arith, is)))
     ∙ ap (λ (y : Seat). seat_after line y ∷ rest) (sym at)
 one_after s k (suc i) line (seat ∷ rest) x d is lt at =
-    ap₂ (λ (b : Bool) (l : List Seat). (if b then seat_after line seat else seat) ∷ l) (later_test s k (omega (arith, is)))
+    ap₂ (λ (b : Bool) (l : List Seat). (if b then seat_after line seat else seat) ∷ l)
+    (later_test s k (omega (arith, is)))
     (one_after s (k + 1) i line rest x d (omega (arith, is)) (omega (arith, lt)) at)
 
 pub one_said : (s k i : ℕ) (line : SessionLine) (seats : List Seat) (x d : Seat) → s ≡ k + i → i < length seats
@@ -93,12 +99,14 @@ pub one_said : (s k i : ℕ) (line : SessionLine) (seats : List Seat) (x d : Sea
 one_said s k i line [] x d is lt at = absurd (omega (arith, lt))
 one_said s k zero line (seat ∷ rest) x d is lt at =
     let here : k ≡ s = omega (arith, is) in
-    ap₂ (λ (b : Bool) (l : List ℕ). (if b then seat_lines k (seat_said line seat) else []) ++ l) (one_test s k (omega (arith, is)))
+    ap₂ (λ (b : Bool) (l : List ℕ). (if b then seat_lines k (seat_said line seat) else []) ++ l)
+    (one_test s k (omega (arith, is)))
     (silent s (k + 1) line rest (omega (arith, is)))
     ∙ append-nil (seat_lines k (seat_said line seat))
     ∙ ap₂ (λ (n : ℕ) (y : Seat). seat_lines n (seat_said line y)) here (sym at)
 one_said s k (suc i) line (seat ∷ rest) x d is lt at =
-    ap₂ (λ (b : Bool) (l : List ℕ). (if b then seat_lines k (seat_said line seat) else []) ++ l) (later_test s k (omega (arith, is)))
+    ap₂ (λ (b : Bool) (l : List ℕ). (if b then seat_lines k (seat_said line seat) else []) ++ l)
+    (later_test s k (omega (arith, is)))
     (one_said s (k + 1) i line rest x d (omega (arith, is)) (omega (arith, lt)) at)
 
 -- ---- as many as before

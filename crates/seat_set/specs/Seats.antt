@@ -14,8 +14,8 @@ use Rattle.session_play.specs.Laws.{unplayed}
 use Rattle.session_play.specs.Played.{Play, Played, line_played}
 use Rattle.session_play.specs.Playing.{Playing}
 
--- a seat: what is allowed on it, what was played, and how much its journal held where a step met it full. Of a seat that
--- is full no unread bytes are kept
+-- a seat: what is allowed on it, what was played, and how much its journal held where a step met it
+-- full. Of a seat that is full no unread bytes are kept
 pub record Seat : Type 0 where
   pub limits : Limits
   pub play : Play
@@ -43,11 +43,14 @@ seat_by limits p =
 
 -- one seat after a line; one that is full plays nothing more
 abbrev pub seat_after : SessionLine → Seat → Seat
-seat_after line seat = (if is_some seat.full then seat else seat_by seat.limits (line_played seat.limits line seat.play))
+seat_after line seat =
+    (if is_some seat.full then seat
+    else seat_by seat.limits (line_played seat.limits line seat.play))
 
 -- what its transcript has more after the line
 abbrev pub seat_said : SessionLine → Seat → List ℕ
-seat_said line seat = text_since seat.limits.store (length seat.play.journal) (seat_after line seat).play.journal
+seat_said line seat =
+    text_since seat.limits.store (length seat.play.journal) (seat_after line seat).play.journal
 
 -- the seat with the number is given the line
 abbrev pub is_for : SeatLine → ℕ → Bool
@@ -63,13 +66,15 @@ line_in (All line) = line
 abbrev pub seats_after : SeatLine → ℕ → List Seat → List Seat
 seats_after line number [] = []
 seats_after line number (seat ∷ rest) =
-    (if is_for line number then seat_after (line_in line) seat else seat) ∷ seats_after line (number + 1) rest
+    (if is_for line number then seat_after (line_in line) seat else seat)
+    ∷ seats_after line (number + 1) rest
 
 -- what the transcript of the seats has more after the line, of which the first has this number
 abbrev pub seats_said : SeatLine → ℕ → List Seat → List ℕ
 seats_said line number [] = []
 seats_said line number (seat ∷ rest) =
-    (if is_for line number then seat_lines number (seat_said (line_in line) seat) else []) ++ seats_said line (number + 1) rest
+    (if is_for line number then seat_lines number (seat_said (line_in line) seat) else [])
+    ++ seats_said line (number + 1) rest
 
 -- what was played, if a seat with this player's reason to stop goes on from it
 abbrev pub play_left : Option Stop → Play → Play
@@ -82,4 +87,5 @@ full_by _ = None
 
 -- the seat of a player that stopped for this reason, or goes on
 abbrev pub seat_of : Playing → Option Stop → Seat
-seat_of player stopped = record { limits = player.limits; play = play_left stopped player.play; full = full_by stopped }
+seat_of player stopped =
+    record { limits = player.limits; play = play_left stopped player.play; full = full_by stopped }

@@ -1,4 +1,4 @@
-pub mod Readings
-pub mod Meanings
-pub mod Tabled
+pub mod BodiesRead
+pub mod MeaningBySteps
+pub mod TableIsJournals
 pub mod RequestTexts

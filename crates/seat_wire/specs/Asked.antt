@@ -1,4 +1,5 @@
--- What is said beside a request or a step of the shell: its surface's label, whether that has a popup, its text.
+-- What is said beside a request or a step of the shell: its surface's label, whether that has a
+-- popup, its text.
 use Rattle.std.specs.Prelude.{◌≡◌, ℕ, Bool, Option, IsTrue}
 use Rattle.wl_wire.specs.Texts.{has_no_zero}
 use Rattle.wl_proto.specs.declared.request.Request.{Request}
@@ -17,7 +18,8 @@ asked a = argument a.interface a.id
 
 -- where a popup is asked for, it says whether a live popup has the surface
 abbrev pub SaysPopup : Past → (ℕ → ℕ) → Request → Bool → Type 0
-SaysPopup past at (request.GetInputPopupSurface id surface) taken = taken ≡ has_popup (log_of past) (at surface)
+SaysPopup past at (request.GetInputPopupSurface id surface) taken =
+    taken ≡ has_popup (log_of past) (at surface)
 SaysPopup past at _ taken = Unit {0}
 
 -- where a popup is asked for, it is the label of the surface

@@ -15,9 +15,12 @@ named (said.DeleteId label) = Some label
 named (said.Error object fault) = Some object
 named _ = None
 
--- an event that says what is told, where the object that it names has the id; None for what the shell is told
+-- an event that says what is told, where the object that it names has the id; None for what the
+-- shell is told
 abbrev pub IsEventOf : Said → ℕ → Option Event → Type 0
-IsEventOf said id event = (made : List Made) → IfSome (named said) (λ label. id_of (made_as made label) ≡ id) → option_map event_message event ≡ message_of made said
+IsEventOf said id event =
+    (made : List Made) → IfSome (named said) (λ label. id_of (made_as made label) ≡ id) →
+    option_map event_message event ≡ message_of made said
 
 -- a token at a message's first byte, or none
 abbrev pub first_token : Option ℕ → List Token

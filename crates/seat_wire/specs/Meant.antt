@@ -9,7 +9,9 @@ use Rattle.seat_wire.specs.Asked.{asked}
 
 -- the table has the live objects of the peer p under their ids, with its display, and no others
 pub record IsTableOf (past : Past) (p : ℕ) (table : Objects) : Type 0 where
-  pub by_id : (id : ℕ) → map.get table.under id ≡ option_map (λ (m : Made). (m.interface, m.label)) (object_at past p id)
+  pub by_id : (id : ℕ) →
+      map.get table.under id
+      ≡ option_map (λ (m : Made). (m.interface, m.label)) (object_at past p id)
   pub count : map.len table.under ≡ number_live past p + 1
 
 -- the same meaning, of the entry n of the peer p

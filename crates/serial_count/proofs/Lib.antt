@@ -1,1 +1,1 @@
-pub mod Distances
+pub mod DonesAgo

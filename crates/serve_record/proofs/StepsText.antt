@@ -50,16 +50,19 @@ one_more zero (e ∷ older) (s ∷ before) within each =
     let number : suc (length older) - 0 ≡ suc (length older) = omega arith in
     ap (λ t. steps_text older before ++ t)
     (ap (λ n. text_at (e ∷ older) (s ∷ before) n) number
-    ∙ ap (λ o. lines_text o (entry_at (s ∷ before) (suc (length older)))) (newest e older (suc (length older)) (omega arith))
+    ∙ ap (λ o. lines_text o (entry_at (s ∷ before) (suc (length older))))
+    (newest e older (suc (length older)) (omega arith))
     ∙ ap (λ o. lines_text (Some e) o) (newest s before (suc (length older)) (omega arith)))
 one_more (suc k) (e ∷ older) (s ∷ before) within each =
     let number : suc (length older) - suc k ≡ length older - k = omega arith in
     let few : length older - k ≤ length older = omega arith in
     let same : length before ≡ length older = omega arith in
     ap (λ n. steps_text (drop (suc k) older) (drop (suc k) before) ++ text_at (e ∷ older) (s ∷ before) n) number
-    ∙ (ap (λ o. steps_text (drop (suc k) older) (drop (suc k) before) ++ lines_text o (entry_at (s ∷ before) (length older - k)))
+    ∙ (ap (λ o. steps_text (drop (suc k) older) (drop (suc k) before)
+    ++ lines_text o (entry_at (s ∷ before) (length older - k)))
     (not_newest e older (length older - k) few)
-    ∙ (ap (λ o. steps_text (drop (suc k) older) (drop (suc k) before) ++ lines_text (entry_at older (length older - k)) o)
+    ∙ (ap (λ o. steps_text (drop (suc k) older) (drop (suc k) before)
+    ++ lines_text (entry_at older (length older - k)) o)
     (not_newest s before (length older - k) (omega arith))
     ∙ one_more k older before (omega arith) same))
 
@@ -89,15 +92,18 @@ text_grows limits journal stamps before within each =
     let header = text_line (Header limits) in
     ap (λ n. text_without limits n journal stamps ++ text_at journal stamps (before + 1)) newer
     ∙ (ap (λ n. text_without limits (suc k) journal stamps ++ text_at journal stamps n) number
-    ∙ (append_assoc header (steps_text (drop (suc k) journal) (drop (suc k) stamps)) (text_at journal stamps (length journal - k))
+    ∙ (append_assoc header (steps_text (drop (suc k) journal) (drop (suc k) stamps))
+    (text_at journal stamps (length journal - k))
     ∙ ap (λ t. header ++ t) (one_more k journal stamps (omega arith) each)))
 
 -- it begins with the header alone, and is followed by the end
 pub text_begins : (limits : Limits) (journal : List Entry) (stamps : List Stamp) → length stamps ≡ length journal
     → text_without limits (length journal) journal stamps ≡ text_line (Header limits)
-text_begins limits journal stamps each = ap (λ t. text_line (Header limits) ++ t) (nothing journal stamps each) ∙ append-nil (text_line (Header limits))
+text_begins limits journal stamps each =
+    ap (λ t. text_line (Header limits) ++ t) (nothing journal stamps each) ∙ append-nil (text_line (Header limits))
   where
-    nothing : (js : List Entry) (ss : List Stamp) → length ss ≡ length js → steps_text (drop (length js) js) (drop (length js) ss) ≡ []
+    nothing : (js : List Entry) (ss : List Stamp) → length ss ≡ length js →
+        steps_text (drop (length js) js) (drop (length js) ss) ≡ []
     nothing [] [] e = refl
     nothing [] (s ∷ ss) e = absurd (omega arith)
     nothing (j ∷ js) [] e = absurd (omega arith)
@@ -119,5 +125,6 @@ text_is_front limits journal stamps newest each =
     let older = steps_text (drop newest journal) (drop newest stamps) in (
       begun.0 ++ text_line End,
       append_assoc header older (begun.0 ++ text_line End)
-          ∙ ap (λ t. header ++ t) (sym (append_assoc older begun.0 (text_line End)) ∙ ap (λ t. t ++ text_line End) begun.1),
+          ∙ ap (λ t. header ++ t)
+          (sym (append_assoc older begun.0 (text_line End)) ∙ ap (λ t. t ++ text_line End) begun.1),
     )

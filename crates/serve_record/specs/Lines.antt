@@ -47,5 +47,6 @@ Holds held held_after waiting text =
 
 -- a sink gained some bytes with which this text begins
 abbrev pub GainsFront : (held held_after : Option (List ℕ)) → (text : List ℕ) → Type 0
-GainsFront held held_after text = (written : List ℕ) × (rest : List ℕ) × Appends held held_after written
+GainsFront held held_after text =
+    (written : List ℕ) × (rest : List ℕ) × Appends held held_after written
     × (written ++ rest ≡ text)

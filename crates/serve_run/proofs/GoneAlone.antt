@@ -29,7 +29,8 @@ pub says_gone : (limits : Limits) (before after : PeerPass) (r : Result Applied 
 says_gone limits before after (Ok applied) fresh is other legal =
     let none = entries-none before.seat (none_long (own before.seat.number before.seat.seen) fresh) in
     inl (ap (λ (p : PeerPass). entries_by p.seat) is
-    ∙ (entries-one before.seat legal.rest after.seat.seen (entries.End before.peer Gone) legal.apart legal.answer.applied
+    ∙ (entries-one before.seat legal.rest after.seat.seen
+    (entries.End before.peer Gone) legal.apart legal.answer.applied
     ∙ (ap (λ es. es ++ entries.End before.peer Gone ∷ []) none
     ∙ ap (λ (p : PeerPass). entries.End p.peer Gone ∷ []) (sym is))))
 says_gone limits before after (Err refusals.NoPeer) fresh is other legal = absurd (other refl)
@@ -41,12 +42,15 @@ says_gone limits before after (Err (refusals.Ended cause)) fresh is other legal 
       cause,
       ap (λ (p : PeerPass). end_at p.peer after.seat.seen) is
           ∙ (ap (λ h. end_at before.peer h) legal.answer.same
-          ∙ step-ended limits (before.seat.seen ++ legal.rest) before.seat.number before.peer peers.Gone after.seat.seen cause legal.answer),
+          ∙ step-ended limits
+          (before.seat.seen ++ legal.rest) before.seat.number before.peer peers.Gone after.seat.seen cause
+          legal.answer),
     )
   where
     end_at : ℕ → History → Option EndCause
     end_at q h = end_of (journal_of limits h) q
 says_gone limits before after (Err (refusals.JournalFull kept)) fresh is other legal =
-    absurd (refusal-is limits before after peers.Gone (refusals.JournalFull kept) (ends.JournalFull kept) refl other legal)
+    absurd (refusal-is limits before after peers.Gone (refusals.JournalFull kept)
+    (ends.JournalFull kept) refl other legal)
 says_gone limits before after (Err refusals.NoMemory) fresh is other legal =
     absurd (refusal-is limits before after peers.Gone refusals.NoMemory ends.NoMemory refl other legal)

@@ -68,7 +68,8 @@ copied_each limits root h s legal =
     let is = legal.answer.copied in
     ap length is.stamps ∙ (legal.lawful.shared.each ∙ sym (ap length is.journal))
 
-pub copied_text : (asked : Serving) (limits : Limits) (root : PassSeat) (h : History) (s : Session) → limits ≡ asked.limits
+pub copied_text : (asked : Serving) (limits : Limits) (root : PassSeat) (h : History) (s : Session) →
+    limits ≡ asked.limits
     → LegalCopy limits root h (Ok s) → recorded s.limits s.journal.entries s.stamps.stamps ≡ text_of asked h
 copied_text asked limits root h s same legal =
     let is = legal.answer.copied in

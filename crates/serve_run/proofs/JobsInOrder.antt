@@ -31,7 +31,8 @@ jobs_more next (e ∷ doors) d =
     ap (λ jobs. jobs_by next (role_at e) ++ jobs) (jobs_more (next + passes_by (role_at e)) doors d)
     ∙ (sym (append_assoc (jobs_by next (role_at e)) (jobs_of (next + passes_by (role_at e)) doors)
     (jobs_by (next + passes_by (role_at e) + passes_of doors) (role_at d)))
-    ∙ ap (λ n. (jobs_by next (role_at e) ++ jobs_of (next + passes_by (role_at e)) doors) ++ jobs_by n (role_at d)) (omega arith))
+    ∙ ap (λ n. (jobs_by next (role_at e) ++ jobs_of (next + passes_by (role_at e)) doors) ++ jobs_by n (role_at d))
+    (omega arith))
 
 pub joins_more : (next : ℕ) (doors : List Door) (d : Door)
     → joins_of next (doors ++ d ∷ []) ≡ joins_of next doors ++ joins_by (next + passes_of doors) (role_at d)
@@ -40,7 +41,8 @@ joins_more next (e ∷ doors) d =
     ap (λ joins. joins_by next (role_at e) ++ joins) (joins_more (next + passes_by (role_at e)) doors d)
     ∙ (sym (append_assoc (joins_by next (role_at e)) (joins_of (next + passes_by (role_at e)) doors)
     (joins_by (next + passes_by (role_at e) + passes_of doors) (role_at d)))
-    ∙ ap (λ n. (joins_by next (role_at e) ++ joins_of (next + passes_by (role_at e)) doors) ++ joins_by n (role_at d)) (omega arith))
+    ∙ ap (λ n. (joins_by next (role_at e) ++ joins_of (next + passes_by (role_at e)) doors) ++ joins_by n (role_at d))
+    (omega arith))
 
 -- fewer doors bring no more passes
 pub passes_front : (doors : List Door) (n m : ℕ) → n ≤ m → passes_of (take n doors) ≤ passes_of (take m doors)

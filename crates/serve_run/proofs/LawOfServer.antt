@@ -37,7 +37,8 @@ drop_front (x ∷ xs) ys (suc n) is = drop_front xs ys n (omega arith)
 
 -- what was refused stays refused
 
-refused_stays : (limits : Limits) (a b more : History) (role : Option Role) (stop : Result (Unit {0}) Stop) → b ≡ a ++ more
+refused_stays : (limits : Limits) (a b more : History) (role : Option Role) (stop : Result (Unit {0}) Stop) →
+    b ≡ a ++ more
     → WasRefused limits a role stop → WasRefused limits b role stop
 refused_stays limits a b more None stop is was = absurd was
 refused_stays limits a b more (Some role) stop is was = (
@@ -52,7 +53,8 @@ refused_stays limits a b more (Some role) stop is was = (
   },
 )
 
-unless_stays : (limits : Limits) (a b : History) (doors : List Door) (joined accepted : ℕ) (stop : Result (Unit {0}) Stop)
+unless_stays : (limits : Limits) (a b : History) (doors : List Door) (joined accepted : ℕ)
+    (stop : Result (Unit {0}) Stop)
     (more : History) → b ≡ a ++ more → JoinedUnless limits a doors joined accepted stop
     → JoinedUnless limits b doors joined accepted stop
 unless_stays limits a b doors joined accepted stop more is unless =
@@ -99,7 +101,8 @@ pub record Run (asked : Serving) (before after : Sides) (status : ServeStatus) :
   -- the text
   pub written : IsWritten status before.held after.held (text_of asked history)
   pub write : status ≡ statuses.WriteFault → Rose before.output_faults after.output_faults
-  pub status_is : (status ≡ status_by accepted (worst given)) ⊎ ((status ≡ statuses.WriteFault) ⊎ (status ≡ statuses.NoMemory))
+  pub status_is : (status ≡ status_by accepted (worst given))
+      ⊎ ((status ≡ statuses.WriteFault) ⊎ (status ≡ statuses.NoMemory))
 
 -- it keeps the server law
 pub law_of : (asked : Serving) (before after : Sides) (status : ServeStatus) → Run asked before after status
@@ -132,18 +135,22 @@ law_of asked before after status run =
           (unless_stays run.hub.limits run.linked.seen run.history asked.order links.joined run.count run.accepted
           (seen_through run.history run.collected.seen run.linked.seen 0 run.copied run.mine).0
           (seen_through run.history run.collected.seen run.linked.seen 0 run.copied run.mine).1 links.refused);
-      joins = own-seen run.history run.collected.seen 0 run.copied ∙ (own-seen run.collected.seen run.linked.seen 0 run.mine ∙ (links.joins ∙ (ap (λ o. o ++ joins_of run.first.next (take links.joined asked.order)) no_joins
+      joins = own-seen run.history run.collected.seen 0 run.copied
+          ∙ (own-seen run.collected.seen run.linked.seen 0 run.mine
+          ∙ (links.joins ∙ (ap (λ o. o ++ joins_of run.first.next (take links.joined asked.order)) no_joins
           ∙ ap (λ n. joins_of n (take links.joined asked.order)) next_is)));
       given = run.given;
       reports = run.reports;
       served = links.count;
       only_root = λ some. only_root run.collected.taken run.history
           (all_in (0 ∷ run.collected.taken) run.history
-          (subst (λ taken. IsDistinct (0 ∷ taken)) (sym (taken_is are next_is)) (once_both links.count jobs (jobs_from 1 _)))
+          (subst (λ taken. IsDistinct (0 ∷ taken)) (sym (taken_is are next_is))
+          (once_both links.count jobs (jobs_from 1 _)))
           (run.owned some))
           (λ n out. plain_pushed run.history (map job_reported run.given) (pushed (drop links.count jobs) [])
           (plain_reports asked.limits run.history run.given laws)
-          (plain_pushed run.history (drop links.count jobs) [] (plain_unserved asked.limits run.history _ unserved) (λ m i. absurd i))
+          (plain_pushed run.history (drop links.count jobs) [] (plain_unserved asked.limits run.history _ unserved)
+          (λ m i. absurd i))
           n (subst (IsIn n) (back_is next_is) out));
       are = are;
       before_last = links.before_last;
@@ -174,27 +181,34 @@ law_of asked before after status run =
     are_served behind few next_is =
         run.keyed ∙ (ap (λ t. map job_tagged (take (length run.given) t)) behind
         ∙ (ap (map job_tagged) (take_all (length run.given) tags few)
-        ∙ (run.links.jobs.jobs_are ∙ ap (λ n. take run.links.count (jobs_of n (take run.links.joined asked.order))) next_is)))
+        ∙ (run.links.jobs.jobs_are
+        ∙ ap (λ n. take run.links.count (jobs_of n (take run.links.joined asked.order))) next_is)))
 
     kept_laws : HaveLaws asked.limits run.history run.given
     kept_laws =
         subst (λ l. HaveLaws l run.history run.given) run.limits
-        (laws_kept run.hub.limits run.collected.seen run.history run.collected.taken run.given run.settled run.in_taken run.laws)
+        (laws_kept run.hub.limits run.collected.seen run.history run.collected.taken run.given run.settled run.in_taken
+        run.laws)
 
     kept_unserved : run.first.next ≡ 1 → AreUnserved asked.limits run.history (drop run.links.count jobs)
     kept_unserved next_is =
-        subst (λ n. AreUnserved asked.limits run.history (drop run.links.count (jobs_of n (take run.links.joined asked.order)))) next_is
-        (subst (λ l. AreUnserved l run.history (drop run.links.count (jobs_of run.first.next (take run.links.joined asked.order)))) run.limits
+        subst (λ n. AreUnserved asked.limits run.history
+        (drop run.links.count (jobs_of n (take run.links.joined asked.order)))) next_is
+        (subst (λ l. AreUnserved l run.history
+        (drop run.links.count (jobs_of run.first.next (take run.links.joined asked.order)))) run.limits
         (unserved_stay run.hub.limits run.linked.seen run.history run.first.taken _
         (λ n out. let back = subst (IsIn n) (sym run.links.others.taken) out in
-        seen_through run.history run.collected.seen run.linked.seen n (run.settled n (run.kept n back).0) (run.kept n back).1)
+        seen_through run.history run.collected.seen run.linked.seen n (run.settled n (run.kept n back).0)
+        (run.kept n back).1)
         run.links.others.made))
 
-    back_is : run.first.next ≡ 1 → run.collected.taken ≡ pushed (map job_reported run.given) (pushed (drop run.links.count jobs) [])
+    back_is : run.first.next ≡ 1 →
+        run.collected.taken ≡ pushed (map job_reported run.given) (pushed (drop run.links.count jobs) [])
     back_is next_is =
         run.taken ∙ ap (pushed (map job_reported run.given))
         (run.links.others.taken
-        ∙ (ap (λ (s : PassSeat). pushed (drop run.links.count (jobs_of run.first.next (take run.links.joined asked.order))) s.taken) run.new
+        ∙ (ap (λ (s : PassSeat). pushed
+        (drop run.links.count (jobs_of run.first.next (take run.links.joined asked.order))) s.taken) run.new
         ∙ ap (λ n. pushed (drop run.links.count (jobs_of n (take run.links.joined asked.order))) []) next_is))
 
     taken_is : map job_reported run.given ≡ take run.links.count jobs → run.first.next ≡ 1

@@ -78,7 +78,8 @@ jobs_then hub first before after a b c doors i d r within is all link =
 others_then : (hub : HubId) (first before after : PassSeat) (a b c : List Tag) (doors : List Door) (i : ℕ) (d : Door)
     (r : Result (Unit {0}) Stop) → i < length doors → d ≡ get_or doors i App → AllStarted hub first before a b doors i
     → (link : LinkStarted hub before after b c (role_at d) r) → link.is_joined ≡ true
-    → AreGivenBack hub.limits first after (drop (passes_of (take i doors) + link.count) (jobs_of first.next (take (i + 1) doors)))
+    → AreGivenBack hub.limits first after
+    (drop (passes_of (take i doors) + link.count) (jobs_of first.next (take (i + 1) doors)))
 others_then hub first before after a b c doors i d r within is all link joined =
     let so_far = jobs_of first.next (take i doors) in
     let following = jobs_by (first.next + passes_of (take i doors)) (role_at d) in
@@ -101,7 +102,8 @@ found (e ∷ doors) zero d within is = ap (λ f. Some f) (sym is)
 found (e ∷ doors) (suc i) d within is = found doors i d (omega arith) is
 
 -- a link more, with all its jobs
-pub one_link_more : (hub : HubId) (first before after : PassSeat) (a b c : List Tag) (doors : List Door) (i : ℕ) (d : Door)
+pub one_link_more : (hub : HubId) (first before after : PassSeat) (a b c : List Tag) (doors : List Door) (i : ℕ)
+    (d : Door)
     → i < length doors → d ≡ get_or doors i App → AllStarted hub first before a b doors i
     → LinkStarted hub before after b c (role_at d) (Ok tt) → AllStarted hub first after a c doors (i + 1)
 one_link_more hub first before after a b c doors i d within is all link =
@@ -117,7 +119,8 @@ one_link_more hub first before after a b c doors i d within is all link =
           (take_all (passes_of (take i doors) + link.count) (jobs_of first.next (take (i + 1) doors)) (omega arith))
           (jobs_then hub first before after a b c doors i d (Ok tt) within is all link);
       taken = (link.others link.all_joined).taken
-          ∙ (ap (λ jobs. pushed jobs before.taken) (drop_whole (jobs_by before.next (role_at d)) link.count (omega arith))
+          ∙ (ap (λ jobs. pushed jobs before.taken)
+          (drop_whole (jobs_by before.next (role_at d)) link.count (omega arith))
           ∙ all.taken);
       balance = let x = all.balance in let y = link.balance in omega arith;
     }
@@ -135,7 +138,8 @@ none_came hub first after a b doors i all =
       next = all.next;
       joins = all.joins;
       count = passes_of (take i doors);
-      jobs = subst (AreStarted hub a b) (sym (take_all (passes_of (take i doors)) (jobs_of first.next (take i doors)) (omega arith))) all.jobs;
+      jobs = subst (AreStarted hub a b)
+          (sym (take_all (passes_of (take i doors)) (jobs_of first.next (take i doors)) (omega arith))) all.jobs;
       before_last = passes_front doors (i - 1) i (omega arith);
       others = none_back hub.limits first after _
           (drop_whole (jobs_of first.next (take i doors)) (passes_of (take i doors)) (omega arith)) all.taken;
@@ -159,7 +163,8 @@ all_came hub first after a b doors i all =
       next = all.next;
       joins = all.joins;
       count = passes_of (take i doors);
-      jobs = subst (AreStarted hub a b) (sym (take_all (passes_of (take i doors)) (jobs_of first.next (take i doors)) (omega arith))) all.jobs;
+      jobs = subst (AreStarted hub a b)
+          (sym (take_all (passes_of (take i doors)) (jobs_of first.next (take i doors)) (omega arith))) all.jobs;
       before_last = passes_front doors (i - 1) i (omega arith);
       others = none_back hub.limits first after _
           (drop_whole (jobs_of first.next (take i doors)) (passes_of (take i doors)) (omega arith)) all.taken;
@@ -173,7 +178,8 @@ all_came hub first after a b doors i all =
 -- a link came, and was refused, or not all of its jobs were started
 pub last_came : (hub : HubId) (first before after : PassSeat) (a b c : List Tag) (doors : List Door) (i : ℕ) (d : Door)
     (stop : Stop) → i < length doors → d ≡ get_or doors i App → AllStarted hub first before a b doors i
-    → LinkStarted hub before after b c (role_at d) (Err stop) → LinksStarted hub first after a c doors (i + 1) (Err stop)
+    → LinkStarted hub before after b c (role_at d) (Err stop) →
+    LinksStarted hub first after a c doors (i + 1) (Err stop)
 last_came hub first before after a b c doors i d stop within is all link = at link.is_joined refl
   where
     at : (joined : Bool) → link.is_joined ≡ joined → LinksStarted hub first after a c doors (i + 1) (Err stop)
@@ -207,7 +213,8 @@ last_came hub first before after a b c doors i d stop within is all link = at li
           none_more = omega arith;
           near = omega arith;
           next = let two = all.next in omega arith;
-          joins = link.joins ∙ (ap (λ j. own 0 before.seen ++ (if j then joins_by before.next (role_at d) else [])) joined
+          joins = link.joins
+              ∙ (ap (λ j. own 0 before.seen ++ (if j then joins_by before.next (role_at d) else [])) joined
               ∙ (append-nil (own 0 before.seen) ∙ all.joins));
           count = passes_of (take i doors);
           jobs = subst (AreStarted hub a c)

@@ -95,7 +95,8 @@ module _ (hub : HubId) (root : PassSeat) (started : List Tag) (reads writes : �
   pub first_of_two : (middle after : PassSeat) (more most : List Tag) (t u : Tag) (r : Result (Unit {0}) Stop)
       → 2 ≤ root.out → IsRootOf hub root → middle ≡ root → more ≡ started ++ t ∷ [] → job_tagged t ≡ job reads reader
       → IsOnHub hub t → job_tagged u ≡ job writes writer → IsOnHub hub u → OnOk r (after ≡ middle)
-      → OnOk r (most ≡ more ++ u ∷ []) → OnErr r (IsGivenBack hub middle after writes) → OnErr r (NoneOf writes after.seen)
+      → OnOk r (most ≡ more ++ u ∷ []) → OnErr r (IsGivenBack hub middle after writes) →
+      OnErr r (NoneOf writes after.seen)
       → OnErr r (most ≡ more) → IfErr r MayLack → BothStarted hub root after started most reads writes r
   first_of_two middle after more most t u (Ok done) two is same are of on of2 on2 kept are2 back made none may =
       two_of_two hub root started reads writes after more most t u is (kept ∙ same) are of on are2 of2 on2
@@ -137,11 +138,17 @@ module _ (hub : HubId) (root : PassSeat) (started : List Tag) where
     next = both.next ∙ is.next;
     joins = both.joins ∙ is.joins;
     count = both.count;
-    jobs = subst (λ n. AreStarted hub started more (take both.count (job n reader ∷ job (root.next + 1) writer ∷ []))) is.reader_number
-        (subst (λ n. AreStarted hub started more (take both.count (job one.seat.number reader ∷ job n writer ∷ []))) is.writer_number both.jobs);
+    jobs = subst
+        (λ n. AreStarted hub started more (take both.count (job n reader ∷ job (root.next + 1) writer ∷ [])))
+        is.reader_number
+        (subst (λ n. AreStarted hub started more (take both.count (job one.seat.number reader ∷ job n writer ∷ [])))
+        is.writer_number both.jobs);
     none_else = λ e. absurd cc;
-    others = λ e. subst (λ n. AreGivenBack hub.limits root after (drop both.count (job n reader ∷ job (root.next + 1) writer ∷ []))) is.reader_number
-        (subst (λ n. AreGivenBack hub.limits root after (drop both.count (job one.seat.number reader ∷ job n writer ∷ []))) is.writer_number
+    others = λ e. subst
+        (λ n. AreGivenBack hub.limits root after (drop both.count (job n reader ∷ job (root.next + 1) writer ∷ [])))
+        is.reader_number
+        (subst (λ n. AreGivenBack hub.limits root after
+        (drop both.count (job one.seat.number reader ∷ job n writer ∷ []))) is.writer_number
         (back_since hub.limits root joined after _ is.taken both.others));
     same = λ e. absurd cc;
     balance = let x = is.out in let y = both.balance in omega arith;

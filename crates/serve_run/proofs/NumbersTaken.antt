@@ -40,7 +40,8 @@ pub jobs_from : (next : ℕ) (doors : List Door) → AreFrom next (jobs_of next 
 jobs_from next [] = tt
 jobs_from next (d ∷ doors) =
     from_both next (jobs_by next (role_at d)) (jobs_of (next + passes_by (role_at d)) doors) (by_from next (role_at d))
-    (subst (λ n. AreFrom (next + n) (jobs_of (next + passes_by (role_at d)) doors)) (sym (jobs_counted next (role_at d)))
+    (subst (λ n. AreFrom (next + n) (jobs_of (next + passes_by (role_at d)) doors))
+    (sym (jobs_counted next (role_at d)))
     (jobs_from (next + passes_by (role_at d)) doors))
 
 front_from : (n k : ℕ) (jobs : List LinkedJob) → AreFrom n jobs → AreFrom n (take k jobs)
@@ -51,7 +52,8 @@ front_from n (suc k) (j ∷ jobs) from = (from.0, front_from (n + 1) k jobs from
 rest_from : (n k : ℕ) (jobs : List LinkedJob) → AreFrom n jobs → AreFrom (n + k) (drop k jobs)
 rest_from n zero jobs from = subst (λ m. AreFrom m jobs) (omega arith) from
 rest_from n (suc k) [] from = tt
-rest_from n (suc k) (j ∷ jobs) from = subst (λ m. AreFrom m (drop k jobs)) (omega arith) (rest_from (n + 1) k jobs from.1)
+rest_from n (suc k) (j ∷ jobs) from =
+    subst (λ m. AreFrom m (drop k jobs)) (omega arith) (rest_from (n + 1) k jobs from.1)
 
 few_front : (k : ℕ) (jobs : List LinkedJob) → length (take k jobs) ≤ k
 few_front zero jobs = omega arith
@@ -88,7 +90,8 @@ once_both served jobs from =
     let high = above (1 + served) (1 + served) b [] (omega arith) then (λ k i. absurd i) in
     let once = once_pushed (1 + served) b [] then tt (λ k low big i. i) in (
       (λ (i : IsIn 0 (pushed a (pushed b []))).
-          let low = above 1 1 a (pushed b []) (omega arith) first (λ k i. let h = high k i in omega arith) 0 i in absurd (omega arith)),
+          let low = above 1 1 a (pushed b []) (omega arith) first (λ k i. let h = high k i in omega arith) 0 i in
+          absurd (omega arith)),
       once_pushed 1 a (pushed b []) first once (λ k low big i. let h = high k i in absurd (omega arith)),
     )
 

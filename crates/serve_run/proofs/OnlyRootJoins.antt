@@ -90,17 +90,20 @@ plain_tokens q (t ∷ tokens) = refl
 plain_link : (q : ℕ) (waiting : List ℕ) (frames : List Frame) → all_plain (steps_behind q waiting frames) ≡ true
 plain_link q waiting [] = refl
 plain_link q waiting (f ∷ frames) =
-    plain_both (token_steps q f.tokens ++ byte_steps q waiting f.bytes) (steps_behind q (behind (waiting ++ f.bytes)) frames)
+    plain_both (token_steps q f.tokens ++ byte_steps q waiting f.bytes)
+    (steps_behind q (behind (waiting ++ f.bytes)) frames)
     (plain_both (token_steps q f.tokens) (byte_steps q waiting f.bytes) (plain_tokens q f.tokens)
     (plain_unless q (bad_size_at waiting) (waiting ++ f.bytes)))
     (plain_link q (behind (waiting ++ f.bytes)) frames)
 
-plain_stopped : (q : ℕ) (frames : List Frame) (rest : List ℕ) (made : List Entry) (e : Entry) → StopsAt q frames rest made e
+plain_stopped : (q : ℕ) (frames : List Frame) (rest : List ℕ) (made : List Entry) (e : Entry) →
+    StopsAt q frames rest made e
     → all_plain made ≡ true
 plain_stopped q frames rest made e at =
     plain_front made (e ∷ at.more) (ap all_plain (sym at.given) ∙ plain_link q [] frames)
 
-plain_made : (limits : Limits) (p : PeerPass) (frames : List Frame) (rest : List ℕ) (left : Option (List ℕ)) (made : List Entry)
+plain_made : (limits : Limits) (p : PeerPass) (frames : List Frame) (rest : List ℕ) (left : Option (List ℕ))
+    (made : List Entry)
     (end : ReadEnd) → EndsAs limits p frames rest left made end → all_plain made ≡ true
 plain_made limits p frames rest left made ends.Closed is = ap all_plain is.all ∙ plain_link p.peer [] frames
 plain_made limits p frames rest left made (ends.Torn n) is = ap all_plain is.all ∙ plain_link p.peer [] frames
@@ -108,7 +111,8 @@ plain_made limits p frames rest left made (ends.BadFrame n t) is = ap all_plain 
 plain_made limits p frames rest left made ends.ReadFault is = ap all_plain is.all ∙ plain_link p.peer [] frames
 plain_made limits p frames rest left made (ends.Ended cause) is =
     ⊎_elim (λ (all : made ≡ link_steps p.peer frames). ap all_plain all ∙ plain_link p.peer [] frames)
-    (λ (some : (e : Entry) × StopsAt p.peer frames rest made e). plain_stopped p.peer frames rest made some.0 some.1) is.1
+    (λ (some : (e : Entry) × StopsAt p.peer frames rest made e). plain_stopped p.peer frames rest made some.0 some.1)
+    is.1
 plain_made limits p frames rest left made (ends.JournalFull kept) is = plain_stopped p.peer frames rest made is.0 is.1
 plain_made limits p frames rest left made ends.NoMemory (inl none) = ap all_plain none.made_none
 plain_made limits p frames rest left made ends.NoMemory (inr some) = plain_stopped p.peer frames rest made some.0 some.1
@@ -178,7 +182,8 @@ plain_unserved_by limits h n reader made = plain_alone limits h n made
 plain_unserved_by limits h n writer made = ap (λ steps. all_plain (map (λ (s : OuterStep). s.entry) steps)) made
 plain_unserved_by limits h n shell made = ap (λ steps. all_plain (map (λ (s : OuterStep). s.entry) steps)) made
 
-pub plain_unserved : (limits : Limits) (h : History) (jobs : List LinkedJob) → AreUnserved limits h jobs → ArePlain h jobs
+pub plain_unserved : (limits : Limits) (h : History) (jobs : List LinkedJob) → AreUnserved limits h jobs →
+    ArePlain h jobs
 plain_unserved limits h [] made = tt
 plain_unserved limits h (j ∷ jobs) made =
     (plain_unserved_by limits h j.number j.part made.0, plain_unserved limits h jobs made.1)
@@ -212,7 +217,8 @@ plain_may n (entries.Took q bytes) is = tt
 
 plain_rest : (x : ℕ × OuterStep) (h : History) (n : ℕ) → PlainAt (x ∷ h) n → PlainAt h n
 plain_rest x h n plain = dite (ℕ_discrete x.0 n)
-    (λ e. and_right _ _ (ap (λ steps. all_plain (map (λ (s : OuterStep). s.entry) steps)) (sym (own-here n x h e)) ∙ plain))
+    (λ e. and_right _ _
+    (ap (λ steps. all_plain (map (λ (s : OuterStep). s.entry) steps)) (sym (own-here n x h e)) ∙ plain))
     (λ e. ap (λ steps. all_plain (map (λ (s : OuterStep). s.entry) steps)) (sym (own-else n x h e)) ∙ plain)
 
 pub only_root : (taken : List ℕ) (h : History) → AllIn (0 ∷ taken) h → ((n : ℕ) → IsIn n taken → PlainAt h n)
@@ -221,6 +227,7 @@ only_root taken [] all each = tt
 only_root taken (x ∷ h) all each = (
   ⊎_elim (λ (e : 0 ≡ x.0). root_may x.0 x.1.entry (sym e))
       (λ (i : IsIn x.0 taken). plain_may x.0 x.1.entry (and_left _ _
-      (ap (λ steps. all_plain (map (λ (s : OuterStep). s.entry) steps)) (sym (own-here x.0 x h refl)) ∙ each x.0 i))) all.0,
+      (ap (λ steps. all_plain (map (λ (s : OuterStep). s.entry) steps)) (sym (own-here x.0 x h refl)) ∙ each x.0 i)))
+      all.0,
   only_root taken h all.1 (λ n i. plain_rest x h n (each n i)),
 )

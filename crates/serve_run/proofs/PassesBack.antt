@@ -24,7 +24,8 @@ made_nothing h pass fresh seen = own-seen h pass.seen pass.number seen ∙ none_
 
 -- what they made stays all they made
 
-made_stays : (limits : Limits) (before h : History) (n : ℕ) (part : Part) → HasSeen h n before → MadeBy limits before n part
+made_stays : (limits : Limits) (before h : History) (n : ℕ) (part : Part) → HasSeen h n before →
+    MadeBy limits before n part
     → MadeBy limits h n part
 made_stays limits before h n reader grows made = record {
   pass = made.pass;

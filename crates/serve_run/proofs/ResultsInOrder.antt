@@ -19,7 +19,8 @@ take_next (y ∷ xs) zero zero x is = ap (λ z. z ∷ []) (some_is y x is)
 take_next (y ∷ xs) zero (suc n) x is =
     let same : 0 + suc n ≡ suc (0 + n) = omega arith in
     let more : suc n + 1 ≡ suc (n + 1) = omega arith in
-    ap (λ k. take k (y ∷ xs)) more ∙ ap (λ zs. y ∷ zs) (take_next xs zero n x (subst (λ k. slice_get (y ∷ xs) k ≡ Some x) same is))
+    ap (λ k. take k (y ∷ xs)) more
+    ∙ ap (λ zs. y ∷ zs) (take_next xs zero n x (subst (λ k. slice_get (y ∷ xs) k ≡ Some x) same is))
 take_next (y ∷ xs) (suc base) n x is =
     let same : suc base + n ≡ suc (base + n) = omega arith in
     take_next xs base n x (subst (λ k. slice_get (y ∷ xs) k ≡ Some x) same is)

@@ -26,7 +26,8 @@ given_back hub root root' other is met both = record {
 }
 
 -- a pass was split off
-pub split_root : (hub : HubId) (root root' : PassSeat) → IsRootOf hub root → root' ≡ after_split root → IsRootOf hub root'
+pub split_root : (hub : HubId) (root root' : PassSeat) → IsRootOf hub root → root' ≡ after_split root →
+    IsRootOf hub root'
 split_root hub root root' is same = record {
   of = (ap (λ (s : PassSeat). s.turn) same ∙ is.of.0, ap (λ (s : PassSeat). s.constant) same ∙ is.of.1);
   zero = ap (λ (s : PassSeat). s.number) same ∙ is.zero;
@@ -59,8 +60,16 @@ joined_by hub root root' role reader writer is it = record {
       ∙ own_longer root.seen it.legal.rest (joining (entries.Join role) root.next)
       (subst (λ n. NoneOf n it.legal.rest) is.zero it.legal.apart));
   taken = ap (λ (s : PassSeat). s.taken) it.left;
-  reads = (ap (λ (s : PassSeat). s.turn) it.for_reader ∙ is.of.0, ap (λ (s : PassSeat). s.constant) it.for_reader ∙ is.of.1);
-  writes = (ap (λ (s : PassSeat). s.turn) it.for_writer ∙ is.of.0, ap (λ (s : PassSeat). s.constant) it.for_writer ∙ is.of.1);
+  reads = (
+    ap (λ (s : PassSeat). s.turn) it.for_reader ∙ is.of.0,
+    ap (λ (s : PassSeat). s.constant) it.for_reader
+        ∙ is.of.1,
+  );
+  writes = (
+    ap (λ (s : PassSeat). s.turn) it.for_writer ∙ is.of.0,
+    ap (λ (s : PassSeat). s.constant) it.for_writer
+        ∙ is.of.1,
+  );
   reader_number = ap (λ (s : PassSeat). s.number) it.for_reader;
   writer_number = ap (λ (s : PassSeat). s.number) it.for_writer;
 }

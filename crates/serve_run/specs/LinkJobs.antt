@@ -1,5 +1,5 @@
--- What the links of doors bring: joins, and jobs. Passes are numbered from 1 in the order in which they are made: a peer's
--- reader's, then its writer's, or that of a shell.
+-- What the links of doors bring: joins, and jobs. Passes are numbered from 1 in the order in which
+-- they are made: a peer's reader's, then its writer's, or that of a shell.
 use Rattle.std.specs.Prelude.{◌≡◌, ℕ, ◌+◌, ◌≤◌, List, [], ◌∷◌, ◌++◌, Option, Some, None}
 use Rattle.std.specs.List.{slice_get}
 use Rattle.relay_model.specs.declared.role.Role.{Role}

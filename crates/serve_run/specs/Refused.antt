@@ -32,14 +32,19 @@ pub record HasMet (limits : Limits) (h : History) (role : Role) (why : JoinRefus
 -- the join of a peer with the role was refused, and so the accepting stopped; a shell joins nobody
 abbrev pub WasRefused : Limits → History → Option Role → Result (Unit {0}) Stop → Type 0
 WasRefused limits h None stop = ⊥
-WasRefused limits h (Some role) stop = (why : JoinRefusal) × (stop ≡ stopped (stop_of why)) × HasMet limits h role why
+WasRefused limits h (Some role) stop =
+    (why : JoinRefusal) × (stop ≡ stopped (stop_of why)) × HasMet limits h role why
 
 -- so it was with the link behind those that joined
-abbrev pub IsRefusedAt : Limits → History → List Door → (joined accepted : ℕ) → Result (Unit {0}) Stop → Type 0
+abbrev pub IsRefusedAt : Limits → History → List Door → (joined accepted : ℕ) →
+    Result (Unit {0}) Stop → Type 0
 IsRefusedAt limits h doors joined accepted stop =
-    (accepted ≡ joined + 1) × (d : Door) × (slice_get doors joined ≡ Some d) × WasRefused limits h (role_at d) stop
+    (accepted ≡ joined + 1) × (d : Door) × (slice_get doors joined ≡ Some d)
+    × WasRefused limits h (role_at d) stop
 
 -- every link that was accepted joined, or the last was refused, and only then for a full journal
-abbrev pub JoinedUnless : Limits → History → List Door → (joined accepted : ℕ) → Result (Unit {0}) Stop → Type 0
+abbrev pub JoinedUnless : Limits → History → List Door → (joined accepted : ℕ) →
+    Result (Unit {0}) Stop → Type 0
 JoinedUnless limits h doors joined accepted stop =
-    ((joined ≡ accepted) × ¬ (stop ≡ stopped stops.JournalFull)) ⊎ IsRefusedAt limits h doors joined accepted stop
+    ((joined ≡ accepted) × ¬ (stop ≡ stopped stops.JournalFull))
+    ⊎ IsRefusedAt limits h doors joined accepted stop

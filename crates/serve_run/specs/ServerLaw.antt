@@ -35,7 +35,8 @@ pub record Sides : Type 0 where
   pub held : Option (List ℕ)
   pub output_faults : ℕ
 
-abbrev pub sides : (Door → Bool) → List Door → ℕ → List Tag → List Report → ℕ → ℕ → Option (List ℕ) → ℕ → Sides
+abbrev pub sides : (Door → Bool) → List Door → ℕ → List Tag → List Report → ℕ → ℕ →
+    Option (List ℕ) → ℕ → Sides
 sides opened links net_faults started reports before_start refusals held output_faults = record {
   opened = opened;
   links = links;
@@ -69,7 +70,8 @@ abbrev pub OnlyRootJoins : History → Type 0
 OnlyRootJoins [] = Unit {0}
 OnlyRootJoins (s ∷ rest) = IsRootIfJoin s.0 s.1.entry × OnlyRootJoins rest
 
--- One hub served. Its journal is that of the history, whose steps have the numbers of the passes that made them.
+-- One hub served. Its journal is that of the history, whose steps have the numbers of the passes
+-- that made them.
 pub record ServerLaw (asked : Serving) (before after : Sides) (status : ServeStatus) : Type 0 where
   -- the journal is the history of its outer steps, and what is written is its recorded session
   pub history : History
@@ -81,28 +83,31 @@ pub record ServerLaw (asked : Serving) (before after : Sides) (status : ServeSta
   pub accepted : ℕ
   pub within : accepted ≤ length asked.order
   pub doors : after.links ≡ before.links ++ take accepted asked.order
-  -- each was joined, or all but the last; the joins of the root are theirs, in order, and, where there was memory for the
-  -- session, there are no others
+  -- each was joined, or all but the last; the joins of the root are theirs, in order, and, where
+  -- there was memory for the session, there are no others
   pub joined : ℕ
   pub none_more : joined ≤ accepted
   pub near : accepted ≤ joined + 1
   pub refused : JoinedUnless asked.limits history asked.order joined accepted stop
   pub joins : own 0 history ≡ joins_of 1 (take joined asked.order)
   pub only_root : ¬ (status ≡ statuses.NoMemory) → OnlyRootJoins history
-  -- the results that came are those of a reader and a writer of each peer that joined, and of each shell, in order; of
-  -- the last link some may lack. Each has its loop law.
+  -- the results that came are those of a reader and a writer of each peer that joined, and of each
+  -- shell, in order; of the last link some may lack. Each has its loop law.
   pub given : List Report
   pub reports : after.reports ≡ before.reports ++ given
   pub served : ℕ
   pub are : map job_reported given ≡ take served (jobs_of 1 (take joined asked.order))
   pub before_last : passes_of (take (joined - 1) asked.order) ≤ served
   pub laws : HaveLaws asked.limits history given
-  -- some lack only where memory or a thread did; of those a reader's pass says that its link is gone, and no other anything
+  -- some lack only where memory or a thread did; of those a reader's pass says that its link is
+  -- gone, and no other anything
   pub lacks : (served ≡ passes_of (take joined asked.order)) ⊎ IfErr stop MayLack
-  pub unserved : AreUnserved asked.limits history (drop served (jobs_of 1 (take joined asked.order)))
+  pub unserved : AreUnserved asked.limits history
+      (drop served (jobs_of 1 (take joined asked.order)))
   -- as many came as jobs were started, none of them before the last start
   pub as_many : length after.started ≡ length before.started + length given
-  pub starts : (after.before_start ≡ before.before_start) ⊎ (after.before_start ≡ length before.reports)
+  pub starts : (after.before_start ≡ before.before_start)
+      ⊎ (after.before_start ≡ length before.reports)
   -- what a stop tells, and what the status is
   pub all_accepted : OnOk stop (accepted ≡ length asked.order)
   pub all_joined : OnOk stop (joined ≡ accepted)
@@ -111,4 +116,5 @@ pub record ServerLaw (asked : Serving) (before after : Sides) (status : ServeSta
   pub net : stop ≡ Err stops.NetFault → Rose before.net_faults after.net_faults
   pub threads : stop ≡ Err stops.NoThread → Rose before.refusals after.refusals
   pub write : status ≡ statuses.WriteFault → Rose before.output_faults after.output_faults
-  pub status_is : (status ≡ status_by stop (worst given)) ⊎ ((status ≡ statuses.WriteFault) ⊎ (status ≡ statuses.NoMemory))
+  pub status_is : (status ≡ status_by stop (worst given))
+      ⊎ ((status ≡ statuses.WriteFault) ⊎ (status ≡ statuses.NoMemory))

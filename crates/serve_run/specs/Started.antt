@@ -19,8 +19,8 @@ pub record IsRootOf (hub : HubId) (root : PassSeat) : Type 0 where
   pub of : IsOf hub root
   pub zero : root.number ≡ 0
 
--- the pass with that number, which was out, is back: no pass and no step of the root was made, nor one of a pass that was
--- back before
+-- the pass with that number, which was out, is back: no pass and no step of the root was made, nor
+-- one of a pass that was back before
 pub record IsGivenBack (hub : HubId) (root root' : PassSeat) (number : ℕ) : Type 0 where
   pub root_is : IsRootOf hub root'
   pub next : root'.next ≡ root.next
@@ -29,8 +29,10 @@ pub record IsGivenBack (hub : HubId) (root root' : PassSeat) (number : ℕ) : Ty
   pub taken : root'.taken ≡ number ∷ root.taken
   pub settled : (n : ℕ) → IsIn n root.taken → HasSeen root'.seen n root.seen
 
--- a peer joined by the root, which has seen its join, and two passes more are out, with the next two numbers
-pub record IsJoinedBy (hub : HubId) (root root' : PassSeat) (role : Role) (reader writer : PeerPass) : Type 0 where
+-- a peer joined by the root, which has seen its join, and two passes more are out, with the next
+-- two numbers
+pub record IsJoinedBy (hub : HubId) (root root' : PassSeat) (role : Role)
+    (reader writer : PeerPass) : Type 0 where
   pub root_is : IsRootOf hub root'
   pub next : root'.next ≡ root.next + 2
   pub out : root'.out ≡ root.out + 2
@@ -64,42 +66,52 @@ MayLack stops.NetFault = ⊥
 MayLack stops.JournalFull = ⊥
 
 -- these jobs were started on the hub
-pub record AreStarted (hub : HubId) (started started' : List Tag) (jobs : List LinkedJob) : Type 0 where
+pub record AreStarted (hub : HubId) (started started' : List Tag)
+    (jobs : List LinkedJob) : Type 0 where
   pub tags : List Tag
   pub are : started' ≡ started ++ tags
   pub jobs_are : map job_tagged tags ≡ jobs
   pub on_hub : All (IsOnHub hub) tags
 
--- the passes of these jobs, which weren't started, are back and no others, and made what such passes do
-pub record AreGivenBack (limits : Limits) (root root' : PassSeat) (jobs : List LinkedJob) : Type 0 where
+-- the passes of these jobs, which weren't started, are back and no others, and made what such
+-- passes do
+pub record AreGivenBack (limits : Limits) (root root' : PassSeat)
+    (jobs : List LinkedJob) : Type 0 where
   pub taken : root'.taken ≡ pushed jobs root.taken
   pub made : AreUnserved limits root'.seen jobs
 
--- the first of a peer's two jobs were started, whose passes have these numbers; those that weren't are back
-pub record BothStarted (hub : HubId) (root root' : PassSeat) (started started' : List Tag) (reads writes : ℕ)
+-- the first of a peer's two jobs were started, whose passes have these numbers; those that weren't
+-- are back
+pub record BothStarted (hub : HubId) (root root' : PassSeat) (started started' : List Tag)
+    (reads writes : ℕ)
     (accepted : Result (Unit {0}) Stop) : Type 0 where
   pub root_is : IsRootOf hub root'
   pub next : root'.next ≡ root.next
   pub joins : own 0 root'.seen ≡ own 0 root.seen
   pub count : ℕ
-  pub jobs : AreStarted hub started started' (take count (job reads reader ∷ job writes writer ∷ []))
-  pub others : AreGivenBack hub.limits root root' (drop count (job reads reader ∷ job writes writer ∷ []))
+  pub jobs : AreStarted hub started started'
+      (take count (job reads reader ∷ job writes writer ∷ []))
+  pub others : AreGivenBack hub.limits root root'
+      (drop count (job reads reader ∷ job writes writer ∷ []))
   pub balance : root'.out + length started + 2 ≡ root.out + length started'
   pub all_started : OnOk accepted (count ≡ 2)
   pub why : IfErr accepted MayLack
 
--- A link of that role was joined, unless that was refused, and the first of its jobs were started; the passes of the others
--- are back. As many passes more are out as jobs were started.
-pub record LinkStarted (hub : HubId) (root root' : PassSeat) (started started' : List Tag) (role : Option Role)
+-- A link of that role was joined, unless that was refused, and the first of its jobs were started;
+-- the passes of the others are back. As many passes more are out as jobs were started.
+pub record LinkStarted (hub : HubId) (root root' : PassSeat) (started started' : List Tag)
+    (role : Option Role)
     (accepted : Result (Unit {0}) Stop) : Type 0 where
   pub root_is : IsRootOf hub root'
   pub is_joined : Bool
   pub next : root'.next ≡ root.next + (if is_joined then passes_by role else 0)
-  pub joins : own 0 root'.seen ≡ own 0 root.seen ++ (if is_joined then joins_by root.next role else [])
+  pub joins : own 0 root'.seen
+      ≡ own 0 root.seen ++ (if is_joined then joins_by root.next role else [])
   pub count : ℕ
   pub jobs : AreStarted hub started started' (take count (jobs_by root.next role))
   pub none_else : is_joined ≡ false → count ≡ 0
-  pub others : is_joined ≡ true → AreGivenBack hub.limits root root' (drop count (jobs_by root.next role))
+  pub others : is_joined ≡ true →
+      AreGivenBack hub.limits root root' (drop count (jobs_by root.next role))
   pub balance : root'.out + length started ≡ root.out + length started'
   pub all_joined : OnOk accepted (is_joined ≡ true)
   pub all_started : OnOk accepted (count ≡ passes_by role)
@@ -108,7 +120,8 @@ pub record LinkStarted (hub : HubId) (root root' : PassSeat) (started started' :
   pub lacks : is_joined ≡ true → IfErr accepted MayLack
 
 -- the links of the first so many doors were joined and started, with all their jobs
-pub record AllStarted (hub : HubId) (root root' : PassSeat) (started started' : List Tag) (doors : List Door) (count : ℕ)
+pub record AllStarted (hub : HubId) (root root' : PassSeat) (started started' : List Tag)
+    (doors : List Door) (count : ℕ)
     : Type 0 where
   pub root_is : IsRootOf hub root'
   pub next : root'.next ≡ root.next + passes_of (take count doors)
@@ -117,9 +130,11 @@ pub record AllStarted (hub : HubId) (root root' : PassSeat) (started started' : 
   pub taken : root'.taken ≡ root.taken
   pub balance : root'.out + length started ≡ root.out + length started'
 
--- The links of the first doors were joined and started: all that were accepted, or all but the last, whose join was
--- refused. Where memory or a thread lacked, the last of them may lack some of its jobs, whose passes are back.
-pub record LinksStarted (hub : HubId) (root root' : PassSeat) (started started' : List Tag) (doors : List Door)
+-- The links of the first doors were joined and started: all that were accepted, or all but the
+-- last, whose join was refused. Where memory or a thread lacked, the last of them may lack some of
+-- its jobs, whose passes are back.
+pub record LinksStarted (hub : HubId) (root root' : PassSeat) (started started' : List Tag)
+    (doors : List Door)
     (accepted : ℕ) (result : Result (Unit {0}) Stop) : Type 0 where
   pub root_is : IsRootOf hub root'
   pub joined : ℕ
@@ -130,7 +145,8 @@ pub record LinksStarted (hub : HubId) (root root' : PassSeat) (started started' 
   pub count : ℕ
   pub jobs : AreStarted hub started started' (take count (jobs_of root.next (take joined doors)))
   pub before_last : passes_of (take (joined - 1) doors) ≤ count
-  pub others : AreGivenBack hub.limits root root' (drop count (jobs_of root.next (take joined doors)))
+  pub others : AreGivenBack hub.limits root root'
+      (drop count (jobs_of root.next (take joined doors)))
   pub balance : root'.out + length started ≡ root.out + length started'
   pub all_joined : OnOk result (joined ≡ accepted)
   pub all_started : OnOk result (count ≡ passes_of (take joined doors))

@@ -21,7 +21,8 @@ number_of statuses.JournalFull = 7
 number_of statuses.NetFault = 8
 number_of statuses.NoThread = 9
 
--- what the end of a loop brings: a fault, a torn frame, a bad frame or a bad line ends its link alone, and brings nothing
+-- what the end of a loop brings: a fault, a torn frame, a bad frame or a bad line ends its link
+-- alone, and brings nothing
 abbrev pub brought_by : End → Trouble
 brought_by (read (read_ends.JournalFull kept)) = troubles.JournalFull
 brought_by (read read_ends.NoMemory) = troubles.NoMemory
@@ -49,7 +50,8 @@ worst_from so_far (r ∷ rs) = worst_from (worse so_far (brought_by r.end)) rs
 abbrev pub worst : List Report → Trouble
 worst reports = worst_from troubles.None reports
 
--- the status of a run whose whole session was written: of all that came the one with the lowest number
+-- the status of a run whose whole session was written: of all that came the one with the lowest
+-- number
 abbrev pub status_by : Result (Unit {0}) Stop → Trouble → ServeStatus
 status_by (Err stops.NoMemory) trouble = statuses.NoMemory
 status_by accepted troubles.NoMemory = statuses.NoMemory

@@ -17,7 +17,8 @@ use Rattle.serve_run.specs.LinkJobs.{LinkedJob}
 abbrev pub SaysGone : Limits → PeerPass → Type 0
 SaysGone limits p =
     (entries_by p.seat ≡ entries.End p.peer Gone ∷ [])
-    ⊎ ((entries_by p.seat ≡ []) × (cause : EndCause) × (end_of (journal_of limits p.seat.seen) p.peer ≡ Some cause))
+    ⊎ ((entries_by p.seat ≡ []) × (cause : EndCause)
+    × (end_of (journal_of limits p.seat.seen) p.peer ≡ Some cause))
 
 -- so it is in the history of the pass with this number, which is its peer's reader's
 pub record IsGoneAlone (limits : Limits) (h : History) (n : ℕ) : Type 0 where
@@ -38,7 +39,8 @@ abbrev pub AreUnserved : Limits → History → List LinkedJob → Type 0
 AreUnserved limits h [] = Unit {0}
 AreUnserved limits h (j ∷ jobs) = MadeBy limits h j.number j.part × AreUnserved limits h jobs
 
--- the numbers of the passes that came back, the last first: those of these jobs, in order, behind the earlier ones
+-- the numbers of the passes that came back, the last first: those of these jobs, in order, behind
+-- the earlier ones
 abbrev pub pushed : List LinkedJob → List ℕ → List ℕ
 pushed [] taken = taken
 pushed (j ∷ jobs) taken = pushed jobs (j.number ∷ taken)

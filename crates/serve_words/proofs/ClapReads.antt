@@ -42,7 +42,8 @@ rows_of_pairs (word ∷ value ∷ rest) = row_for (drop 2 word) value ∷ rows_o
 at_missing : (name : List ℕ) (change : Row → List Row) (missing rows : List Row) → has_row name rows ≡ false
     → at_row name change missing rows ≡ rows ++ missing
 at_missing name change missing [] none = refl
-at_missing name change missing (r ∷ rows) none = go (bytes_eq r.id name) none (λ e. at_missing name change missing rows e)
+at_missing name change missing (r ∷ rows) none =
+    go (bytes_eq r.id name) none (λ e. at_missing name change missing rows e)
   where
     go : (b : Bool) → (b || has_row name rows) ≡ false
         → (has_row name rows ≡ false → at_row name change missing rows ≡ rows ++ missing)
@@ -76,7 +77,8 @@ uses_step word value name other rest is =
     either true = omega arith
     either false = omega arith
 
-absent_of : (b has : Bool) (all rest : ℕ) → b ≡ true → all ≡ (if b then 1 else 0) + rest → all + (if has then 1 else 0) ≤ 1
+absent_of : (b has : Bool) (all rest : ℕ) → b ≡ true → all ≡ (if b then 1 else 0) + rest →
+    all + (if has then 1 else 0) ≤ 1
     → has ≡ false
 absent_of true true all rest e step few = absurd (omega arith)
 absent_of false true all rest e step few = absurd cc
@@ -106,17 +108,21 @@ few_after word name value rest rows is few other names =
 
 -- ---- the walk
 
-walks_two : (w one two : Walk) (word value : List ℕ) (rest : List (List ℕ)) → walked rules [] w word ≡ one → walked rules [] one value ≡ two
+walks_two : (w one two : Walk) (word value : List ℕ) (rest : List (List ℕ)) → walked rules [] w word ≡ one →
+    walked rules [] one value ≡ two
     → fold (walked rules []) w (word ∷ value ∷ rest) ≡ fold (walked rules []) two rest
 walks_two w one two word value rest first second =
-    ap (λ (x : Walk). fold (walked rules []) (walked rules [] x value) rest) first ∙ ap (λ (x : Walk). fold (walked rules []) x rest) second
+    ap (λ (x : Walk). fold (walked rules []) (walked rules [] x value) rest) first
+    ∙ ap (λ (x : Walk). fold (walked rules []) x rest) second
 
 passes_two : (w one two : Walk) (word value : List ℕ) (rest : List (List ℕ)) → turn_passes top [] w word ≡ true
     → walked rules [] w word ≡ one → turn_passes top [] one value ≡ true → walked rules [] one value ≡ two
     → walk_passes top [] two rest ≡ true → walk_passes top [] w (word ∷ value ∷ rest) ≡ true
 unfolding walk_passes
 passes_two w one two word value rest passes first more second after =
-    ap (λ b. b && (turn_passes top [] (walked rules [] w word) value && walk_passes top [] (walked rules [] (walked rules [] w word) value) rest)) passes
+    ap (λ b. b &&
+    (turn_passes top [] (walked rules [] w word) value
+    && walk_passes top [] (walked rules [] (walked rules [] w word) value) rest)) passes
     ∙ ap (λ (x : Walk). turn_passes top [] x value && walk_passes top [] (walked rules [] x value) rest) first
     ∙ ap (λ b. b && walk_passes top [] (walked rules [] one value) rest) more
     ∙ ap (λ (x : Walk). walk_passes top [] x rest) second ∙ after
@@ -133,9 +139,11 @@ record IsTaken (words : List (List ℕ)) (h : Held) : Type 0 where
   settles : settle_passes rules false last ≡ true
   found : rows_in last ≡ rows_in h ++ rows_of_pairs words
 
-pair_taken : (word name value : List ℕ) (rest : List (List ℕ)) (h : Held) → is_option word ≡ true → is_value value ≡ true → IsKnown word name
+pair_taken : (word name value : List ℕ) (rest : List (List ℕ)) (h : Held) → is_option word ≡ true →
+    is_value value ≡ true → IsKnown word name
     → IsFew (word ∷ value ∷ rest) (rows_in h) → settle_passes rules false h ≡ true
-    → (IsFew rest (rows_in (holding name value h)) → settle_passes rules false (holding name value h) ≡ true → IsTaken rest (holding name value h))
+    → (IsFew rest (rows_in (holding name value h)) → settle_passes rules false (holding name value h) ≡ true →
+    IsTaken rest (holding name value h))
     → drop 2 word ≡ name → IsTaken (word ∷ value ∷ rest) h
 pair_taken word name value rest h names good is few settles more name_is =
     let gone = absent word name value rest (rows_in h) names is few in
@@ -145,20 +153,29 @@ pair_taken word name value rest h names good is few settles more name_is =
     (ap (λ a. option_map_or (λ (r : Rule). use_passes false r (value ∷ []) (rows_in h)) a true) is.by_id
     ∙ ap (λ b. (not b || false) && true) gone) in
     record {
-      passes = passes_two (walk_from h) _ _ word value rest (option_taken word name h is settles) (option_walked word name h is)
+      passes = passes_two (walk_from h) _ _ word value rest (option_taken word name h is settles)
+          (option_walked word name h is)
           (value_taken word name value h is good) (value_walked word name value h is good) after.passes;
       last = after.last;
-      ends = walks_two (walk_from h) _ _ word value rest (option_walked word name h is) (value_walked word name value h is good) ∙ after.ends;
+      ends = walks_two (walk_from h) _ _ word value rest (option_walked word name h is)
+          (value_walked word name value h is good) ∙ after.ends;
       settles = after.settles;
       found = after.found ∙ (ap (λ rs. rs ++ rows_of_pairs rest) now
           ∙ (append_assoc (rows_in h) (row_for name value ∷ []) (rows_of_pairs rest)
           ∙ ap (λ n. rows_in h ++ row_for n value ∷ rows_of_pairs rest) (sym name_is)));
     }
 
-pairs_taken : (words : List (List ℕ)) (h : Held) → are_pairs words ≡ true → IsFew words (rows_in h) → settle_passes rules false h ≡ true
+pairs_taken : (words : List (List ℕ)) (h : Held) → are_pairs words ≡ true → IsFew words (rows_in h) →
+    settle_passes rules false h ≡ true
     → IsTaken words h
 pairs_taken [] h pairs few settles =
-    record { passes = none_passes (walk_from h); last = h; ends = refl; settles = settles; found = sym (append-nil (rows_in h)) }
+    record {
+      passes = none_passes (walk_from h);
+      last = h;
+      ends = refl;
+      settles = settles;
+      found = sym (append-nil (rows_in h));
+    }
 pairs_taken (word ∷ []) h pairs few settles = absurd cc
 pairs_taken (word ∷ value ∷ rest) h pairs few settles =
     let one = both (is_option word && is_value value) _ pairs in
@@ -177,7 +194,8 @@ stands_few word words names few =
     let to_shell = both (stands_once_at_most (codes "--app") words && stands_once_at_most (codes "--method") words && stands_once_at_most (codes "--shell") words) _ to_order.0 in
     let to_method = both (stands_once_at_most (codes "--app") words && stands_once_at_most (codes "--method") words) _ to_shell.0 in
     let first = both (stands_once_at_most (codes "--app") words) _ to_method.0 in
-    by_option (λ w. length (values_of w words) ≤ 1) (leb-true _ _ first.0) (leb-true _ _ first.1) (leb-true _ _ to_method.1)
+    by_option (λ w. length (values_of w words) ≤ 1) (leb-true _ _ first.0) (leb-true _ _ first.1)
+    (leb-true _ _ to_method.1)
     (leb-true _ _ to_shell.1) (leb-true _ _ to_order.1) (leb-true _ _ to_entries.1) (leb-true _ _ to_store.1) word names
 
 -- the walk over words of the shape
@@ -192,8 +210,12 @@ pub shape_taken : (words : List (List ℕ)) → has_shape words ≡ true → tak
 shape_taken words shape =
     let t = words_taken words shape in
     leaf_takes (built serve_app) nothing_held words refl
-    (ap (λ b. b && (settle_passes rules false (walk rules [] nothing_held words).held && (list_all default_passes rules && is_valid top (finished rules (walk rules [] nothing_held words).held) false))) t.passes
-    ∙ ap (λ (w : Walk). settle_passes rules false w.held && (list_all default_passes rules && is_valid top (finished rules w.held) false)) t.ends
+    (ap (λ b. b &&
+    (settle_passes rules false (walk rules [] nothing_held words).held
+    && (list_all default_passes rules && is_valid top (finished rules (walk rules [] nothing_held words).held) false)))
+    t.passes
+    ∙ ap (λ (w : Walk). settle_passes rules false w.held
+    && (list_all default_passes rules && is_valid top (finished rules w.held) false)) t.ends
     ∙ ap (λ b. b && (list_all default_passes rules && is_valid top (finished rules t.last) false)) t.settles)
 
 -- an option has no value of its own
@@ -206,7 +228,8 @@ plain_default name rows = go (has_row name rows)
 
 no_defaults : (names : List (List ℕ)) (rows : List Row) → fold with_default rows (map ready names) ≡ rows
 no_defaults [] rows = refl
-no_defaults (name ∷ names) rows = ap (λ rs. fold with_default rs (map ready names)) (plain_default name rows) ∙ no_defaults names rows
+no_defaults (name ∷ names) rows =
+    ap (λ rs. fold with_default rs (map ready names)) (plain_default name rows) ∙ no_defaults names rows
 
 abbrev names : List (List ℕ)
 names =
@@ -221,7 +244,9 @@ first_pairs name (word ∷ value ∷ rest) pairs =
     let one = both (is_option word && is_value value) _ pairs in
     let is = known word (both (is_option word) _ one.0).0 in
     go (bytes_eq (drop 2 word) name) (first_pairs name rest one.1)
-    ∙ sym (ap (λ w. slice_get (if bytes_eq w (dashed name) then value ∷ values_of (dashed name) rest else values_of (dashed name) rest) 0) is.dashes)
+    ∙ sym (ap (λ w. slice_get
+    (if bytes_eq w (dashed name) then value ∷ values_of (dashed name) rest else values_of (dashed name) rest) 0)
+    is.dashes)
   where
     go : (b : Bool) → first_of name (rows_of_pairs rest) ≡ slice_get (values_of (dashed name) rest) 0
         → option_and_then (λ (r : Row). slice_get r.values 0)
@@ -248,7 +273,8 @@ shape_found words name shape names_one =
 
 -- ---- a command that is as `serve`'s
 
-pub takes_shape : (app : App) (words : List (List ℕ)) → app ≡ serve_app → has_shape words ≡ true → takes app words ≡ true
+pub takes_shape : (app : App) (words : List (List ℕ)) → app ≡ serve_app → has_shape words ≡ true →
+    takes app words ≡ true
 takes_shape app words is shape = ap (λ (a : App). takes a words) is ∙ shape_taken words shape
 
 pub holds_shape : (app : App) (words : List (List ℕ)) (matches : ArgMatches) → app ≡ serve_app → has_shape words ≡ true

@@ -79,7 +79,8 @@ by_option P app method shell order entries store weight word is =
 
 pub known : (word : List ℕ) → is_option word ≡ true → IsKnown word (drop 2 word)
 known =
-    by_option (λ w. IsKnown w (drop 2 w)) known_app known_method known_shell known_order known_entries known_store known_weight
+    by_option (λ w. IsKnown w (drop 2 w)) known_app known_method known_shell known_order known_entries known_store
+    known_weight
 
 -- ---- a word that names an option
 
@@ -97,7 +98,8 @@ option_met_at word name h is =
 pub option_walked : (word name : List ℕ) (h : Held) → IsKnown word name
     → walked rules [] (walk_from h) word ≡ record (walk_from (waiting_for name h)) { waiting = option name }
 unfolding walked
-option_walked word name h is = ap (λ (p : Held × Step). after_step rules word (walk_from h) p.0 p.1) (option_met_at word name h is)
+option_walked word name h is =
+    ap (λ (p : Held × Step). after_step rules word (walk_from h) p.0 p.1) (option_met_at word name h is)
 
 -- `clap` takes it, where the option before it is taken
 pub option_taken : (word name : List ℕ) (h : Held) → IsKnown word name → settle_passes rules false h ≡ true
@@ -132,27 +134,35 @@ no_long value is =
     (Rattle.std.specs.Prelude.option_and_then (strip_byte 45) o)) (strips value is)
 
 no_short : (value : List ℕ) → is_value value ≡ true → short_of value ≡ None
-no_short value is = ap (Rattle.std.specs.Prelude.option_and_then Rattle.clap.specs.Lexer.short_of_rest) (strips value is)
+no_short value is =
+    ap (Rattle.std.specs.Prelude.option_and_then Rattle.clap.specs.Lexer.short_of_rest) (strips value is)
 
 -- what is held of an option and its value
 abbrev pub holding : (name value : List ℕ) → Held → Held
-holding name value h = record { rows = settled_rows rules h.pending h.rows; pending = Some (name, value ∷ []); skip = h.skip }
+holding name value h =
+    record { rows = settled_rows rules h.pending h.rows; pending = Some (name, value ∷ []); skip = h.skip }
 
 pub value_met_at : (word name value : List ℕ) (h : Held) → IsKnown word name → is_value value ≡ true
     → word_met rules [] false (option name) 1 value (waiting_for name h) ≡ (holding name value h, next idle)
 value_met_at word name value h is good =
     let w = waiting_for name h in
-    ap (λ b. if b then (w, trailing 1) else long_or_other rules (option name) value (long_of value) w) (not_end value good)
+    ap (λ b. if b then (w, trailing 1) else long_or_other rules (option name) value (long_of value) w)
+    (not_end value good)
     ∙ ap (λ o. long_or_other rules (option name) value o w) (no_long value good)
     ∙ ap (λ o. short_or_plain rules (option name) value o w) (no_short value good)
     ∙ ap (λ o. ((option_word o name value w).0, next (option_word o name value w).1)) is.by_id
-    ∙ ap (λ b. (holding name value h, next (if Rattle.std.specs.Prelude.nat_lt (if b then 1 else 0) 1 then option name else idle))) is.self
+    ∙ ap (λ b. (
+      holding name value h,
+      next (if Rattle.std.specs.Prelude.nat_lt (if b then 1 else 0) 1 then option name else idle),
+    )) is.self
 
 pub value_walked : (word name value : List ℕ) (h : Held) → IsKnown word name → is_value value ≡ true
-    → walked rules [] (record (walk_from (waiting_for name h)) { waiting = option name }) value ≡ walk_from (holding name value h)
+    → walked rules [] (record (walk_from (waiting_for name h)) { waiting = option name }) value
+    ≡ walk_from (holding name value h)
 unfolding walked
 value_walked word name value h is good =
-    ap (λ (p : Held × Step). after_step rules value (record (walk_from (waiting_for name h)) { waiting = option name }) p.0 p.1)
+    ap (λ (p : Held × Step). after_step rules value
+    (record (walk_from (waiting_for name h)) { waiting = option name }) p.0 p.1)
     (value_met_at word name value h is good)
 
 pub value_taken : (word name value : List ℕ) (h : Held) → IsKnown word name → is_value value ≡ true

@@ -32,7 +32,8 @@ at_most_one false = omega arith
 
 pub uses_more : (name : List ℕ) (words : List (List ℕ)) (i : ℕ) (option : List ℕ) → i + 1 < length words
     → get_or words i option ≡ option
-    → length (values_of name (drop i words)) ≡ (if bytes_eq option name then 1 else 0) + length (values_of name (drop (i + 2) words))
+    → length (values_of name (drop i words))
+    ≡ (if bytes_eq option name then 1 else 0) + length (values_of name (drop (i + 2) words))
 uses_more name words i option within one =
     ap (λ ws. length (values_of name ws)) (drop_more words i option (omega arith)
     ∙ (ap (λ o. o ∷ drop (i + 1) words) one
@@ -41,7 +42,8 @@ uses_more name words i option within one =
     ∙ either (bytes_eq option name)
   where
     either : (b : Bool)
-        → length (if b then get_or words (i + 1) option ∷ values_of name (drop (i + 2) words) else values_of name (drop (i + 2) words))
+        → length (if b then get_or words (i + 1) option ∷ values_of name (drop (i + 2) words)
+        else values_of name (drop (i + 2) words))
         ≡ (if b then 1 else 0) + length (values_of name (drop (i + 2) words))
     either true = omega arith
     either false = omega arith

@@ -12,7 +12,8 @@ once_many [] many = absurd cc
 once_many (value ∷ []) many = absurd cc
 once_many (value ∷ more ∷ rest) many = refl
 
-number_many : (default most : ℕ) (values : List (List ℕ)) → nat_le (length values) 1 ≡ false → number_or default most values ≡ None
+number_many : (default most : ℕ) (values : List (List ℕ)) → nat_le (length values) 1 ≡ false →
+    number_or default most values ≡ None
 number_many default most [] many = absurd cc
 number_many default most (value ∷ []) many = absurd cc
 number_many default most (value ∷ more ∷ rest) many = refl
@@ -21,7 +22,9 @@ number_many default most (value ∷ more ∷ rest) many = refl
 
 abbrev needed_from : (app method shell order : Option (List ℕ)) → Option Needed
 needed_from a m s o =
-    a >>= (λ app. m >>= (λ method. s >>= (λ shell. o >>= (λ order. Some (record { app = app; method = method; shell = shell; order = order })))))
+    a >>= (λ app. m >>=
+    (λ method. s >>=
+    (λ shell. o >>= (λ order. Some (record { app = app; method = method; shell = shell; order = order })))))
 
 no_method : (a s o : Option (List ℕ)) → needed_from a None s o ≡ None
 no_method None s o = refl
@@ -42,7 +45,8 @@ no_order (Some app) (Some method) (Some shell) = refl
 
 abbrev limits_from : (entries store weight : Option ℕ) → Option Limits
 limits_from e s w =
-    e >>= (λ entries. s >>= (λ store. w >>= (λ weight. Some (record { entries = entries; store = store; weight = weight }))))
+    e >>= (λ entries. s >>=
+    (λ store. w >>= (λ weight. Some (record { entries = entries; store = store; weight = weight }))))
 
 no_store : (e w : Option ℕ) → limits_from e None w ≡ None
 no_store None w = refl
@@ -146,7 +150,8 @@ no_shape true words bad = go (are_pairs words) bad
     go false e = refl
 
 -- words that aren't `serve` and pairs of the shape are in no grammar
-pub refused : {W : Type 0} (bytes : W → List ℕ) (words rest : List W) (first : W) → 1 ≤ length words → first ≡ get_or words 0 first
+pub refused : {W : Type 0} (bytes : W → List ℕ) (words rest : List W) (first : W) → 1 ≤ length words →
+    first ≡ get_or words 0 first
     → rest ≡ drop 1 words → (bytes_eq (bytes first) (codes "serve") && has_shape (map bytes rest)) ≡ false
     → serve_of (map bytes words) ≡ None
 refused bytes [] rest first some is same bad = absurd (omega arith)

@@ -15,4 +15,9 @@ asked s = record {
 
 -- what has to be given
 abbrev pub needed : Needed → words.Needed
-needed n = record { app = n.app.now; method = n.method.now; shell = n.shell.now; order = n.order.now }
+needed n = record {
+  app = n.app.now;
+  method = n.method.now;
+  shell = n.shell.now;
+  order = n.order.now;
+}

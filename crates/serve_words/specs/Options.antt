@@ -34,4 +34,5 @@ listed (Some value) = value ∷ []
 -- the matches hold of each option what stands in the pairs
 abbrev pub HoldsValues : ArgMatches → List (List ℕ) → Type 0
 HoldsValues matches words =
-    (name : List ℕ) → is_option (dashed name) ≡ true → values_of (dashed name) words ≡ listed (first_value (found_of matches) name)
+    (name : List ℕ) → is_option (dashed name) ≡ true →
+    values_of (dashed name) words ≡ listed (first_value (found_of matches) name)

@@ -1,4 +1,5 @@
--- The grammar of the words of `serve`: pairs of an option and a value, in any order, each option at most once
+-- The grammar of the words of `serve`: pairs of an option and a value, in any order, each option at
+-- most once
 use Rattle.std.specs.Prelude.{ℕ, ◌==◌, ◌||◌, ◌&&◌, not, nat_le, Bool, true, false, if◌then◌else◌, List, [], ◌∷◌, length, map, codes, Option, Some, None}
 use Rattle.std.specs.Str.{bytes_eq}
 use Rattle.seat_steps.specs.declared.limits.Limits.{Limits}
@@ -7,7 +8,8 @@ use Rattle.session_text.specs.Words.{count_of, ◌>>=◌, kept}
 use Rattle.link_nets.specs.declared.door.Door.{Door}
 use Rattle.link_nets.specs.declared.door.Door.TheVariants.{App, Method, Shell}
 
--- what the words ask for: the doors' paths, the doors of the links to accept, in order, and the hub's limits
+-- what the words ask for: the doors' paths, the doors of the links to accept, in order, and the
+-- hub's limits
 pub record Serving : Type 0 where
   pub app : List ℕ
   pub method : List ℕ
@@ -109,7 +111,8 @@ serving n limits = record {
 
 -- what pairs ask for
 abbrev pub asked_by : List (List ℕ) → Option Serving
-asked_by words = needed_by words >>= (λ needed. limits_of words >>= (λ limits. Some (serving needed limits)))
+asked_by words =
+    needed_by words >>= (λ needed. limits_of words >>= (λ limits. Some (serving needed limits)))
 
 -- what the words ask for, which begin with `serve`; none, where they are in no grammar
 abbrev pub serve_of : List (List ℕ) → Option Serving

@@ -4,7 +4,7 @@ use Rattle.std.proofs.lemmas.List.{length-append, length-drop, take-append-le}
 use Rattle.std.proofs.Math.Seq.{take-length}
 use Rattle.wl_proto.specs.Rows.{Message}
 use Rattle.wl_proto.specs.Spelling.{row_bytes, message_bytes, message_len, spelling}
-use Rattle.wl_proto.proofs.Whole.{written_whole}
+use Rattle.wl_proto.proofs.WrittenIsWhole.{written_whole}
 use Rattle.seat_steps.specs.declared.step.Step.TheVariants as steps
 use Rattle.seat_steps.specs.declared.step.PeerStep.TheVariants as peers
 use Rattle.session_gen.specs.Sending.{sends}

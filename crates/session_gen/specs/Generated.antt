@@ -1,4 +1,5 @@
--- The session of a number: its set-up, and then a step for each word of a generator that the number seeds.
+-- The session of a number: its set-up, and then a step for each word of a generator that the number
+-- seeds.
 use Rattle.std.specs.Prelude.{ℕ, zero, suc, ◌-◌, unwrap_or}
 use Rattle.std.specs.List.{slice_get}
 use Rattle.rand_core.specs.Pcg32Seed.{pcg32_seed}
@@ -21,7 +22,8 @@ word_after n words = (pcg32 (generator_after n words)).0
 abbrev pub setup_count : ℕ
 setup_count = 33
 
--- the step behind the first `made` ones, where d done events were put into the method's store so far
+-- the step behind the first `made` ones, where d done events were put into the method's store so
+-- far
 unfoldable pub step_of : ℕ → ℕ → ℕ → Step
 step_of n made d = unwrap_or (slice_get setup made) (drawn (word_after n (made - setup_count)) d)
 

@@ -17,7 +17,8 @@ letter v = (97 + v % 26) ∷ []
 abbrev pub rows : List Row
 rows =
     Focus ∷ Unfocus ∷ Enable ∷ Enable ∷ Commit ∷ Commit ∷ Commit ∷ SurroundingText
-    ∷ ChangeCause ∷ CommitString ∷ CommitString ∷ Preedit ∷ Deletion ∷ MethodCommit ∷ MethodCommit ∷ Take ∷ []
+    ∷ ChangeCause ∷ CommitString ∷ CommitString ∷ Preedit ∷ Deletion ∷ MethodCommit ∷ MethodCommit
+    ∷ Take ∷ []
 
 -- the row of a word, by its lowest digit in base 16
 unfoldable pub row_of : ℕ → Row
@@ -34,7 +35,8 @@ row_step ChangeCause a v d = field_sends a (request_message (requests.SetTextCha
 row_step CommitString a v d = method_sends (commit_string (letter v))
 row_step Preedit a v d = method_sends (set_preedit_string (letter v) (pos 0) (pos 1))
 row_step Deletion a v d = method_sends (request_message (requests.DeleteSurroundingText (v % 3) 0))
-row_step MethodCommit a v d = method_sends (request_message (requests.InputMethodCommit (d - v % 4)))
+row_step MethodCommit a v d =
+    method_sends (request_message (requests.InputMethodCommit (d - v % 4)))
 row_step Take a v d = steps.Take (1 + v % 5) 4096
 
 -- the peer and the value of a word

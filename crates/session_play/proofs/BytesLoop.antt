@@ -93,7 +93,8 @@ abbrev goes_on : Limits → ℕ → List ℕ → Play → Played
 goes_on limits q bytes play =
     steps_played limits q (steps_in q bytes) (record play { unread = with_unread q (behind bytes) play.unread })
 
-nothing_played : (limits : Limits) (q : ℕ) (play : Play) → unread_of play q ≡ [] → bytes_played limits q [] play ≡ went play
+nothing_played : (limits : Limits) (q : ℕ) (play : Play) → unread_of play q ≡ [] →
+    bytes_played limits q [] play ≡ went play
 nothing_played limits q play h = by (lives play.journal q)
   where
     by : (b : Bool) → (if b then goes_on limits q (unread_of play q ++ []) play else went play) ≡ went play
@@ -101,7 +102,8 @@ nothing_played limits q play h = by (lives play.journal q)
         let none : IsUnfinished q [] [] =
         nothing_yet q [] [] (found_nothing [] [] (λ long. absurd (omega arith)) refl) in
         ap (λ (bytes : List ℕ). goes_on limits q (bytes ++ []) play) h
-        ∙ ap (λ (es : List Entry). steps_played limits q es (record play { unread = with_unread q (behind []) play.unread }))
+        ∙ ap (λ (es : List Entry). steps_played limits q es
+        (record play { unread = with_unread q (behind []) play.unread }))
         none.steps
         ∙ ap (λ (us : List Waiting). went (record play { unread = us }))
         (ap (λ (bytes : List ℕ). with_unread q bytes play.unread) none.all_behind ∙ nothing_left q play.unread h)

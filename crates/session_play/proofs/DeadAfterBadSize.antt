@@ -10,7 +10,7 @@ use Rattle.relay_model.specs.declared.fault.Fault.TheVariants as fault
 use Rattle.broker_model.specs.Resolve.{of_peer, refused_for, past_of}
 use Rattle.broker_model.specs.Out.{act_at, out_for}
 use Rattle.broker_model.specs.Settle.{is_bad, refused, due, cause_of, with_end, settled, number_alive, settle}
-use Rattle.broker_model.proofs.Settling.{IsSettled, settles}
+use Rattle.broker_model.proofs.SettlingEnds.{IsSettled, settles}
 use Rattle.broker_core.specs.Taking.{lives_in, lives}
 use Rattle.session_play.proofs.LivesBefore.{IsAlive, is_alive}
 

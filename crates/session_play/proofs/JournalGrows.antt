@@ -12,7 +12,7 @@ use Rattle.broker_model.specs.Settle.{number_alive, settle}
 use Rattle.broker_core.specs.Taking.{lives}
 use Rattle.seat_objects.specs.Reached.{Reached}
 use Rattle.broker_core.specs.Watched.{Watched, watched_since}
-use Rattle.seat_objects.proofs.Reaches.{reached_append}
+use Rattle.seat_objects.proofs.TellsAppend.{reached_append}
 use Rattle.broker_core.proofs.WatchedSince.{since_none, since_append, settled_more}
 use Rattle.step_cutter.specs.Steps.{steps_in}
 use Rattle.session_play.specs.Played.{Play, went, with_step, step_played, steps_played, unread_of, with_unread, bytes_played, with_peer, join_played, tokens_played, take_played}

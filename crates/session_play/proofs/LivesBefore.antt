@@ -11,9 +11,9 @@ use Rattle.broker_model.specs.Ids.{Joined, log_of, peer_in, peer_at}
 use Rattle.broker_model.specs.Resolve.{past_of}
 use Rattle.broker_model.specs.Limits.{is_end}
 use Rattle.broker_model.specs.Settle.{due, cause_of, with_end, settled, number_alive, settle}
-use Rattle.broker_model.proofs.Numbers.{label_within}
-use Rattle.broker_model.proofs.Peers.{joined_stays}
-use Rattle.broker_model.proofs.Settling.{IsDue, due_is, due_lives}
+use Rattle.broker_model.proofs.LabelsRiseByNumber.{label_within}
+use Rattle.broker_model.proofs.LivePeersJoined.{joined_stays}
+use Rattle.broker_model.proofs.SettlingEnds.{IsDue, due_is, due_lives}
 use Rattle.broker_core.specs.Taking.{lives_in, lives}
 use Rattle.broker_core.proofs.OnlyEndsTakePeers.{peer_kept, peer_ended}
 

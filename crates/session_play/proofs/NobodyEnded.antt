@@ -99,7 +99,8 @@ pub took_live : (stamp : Stamp) (b after : Broker) (was : List Unread) (k n : �
     after ≡ broker.with_step (entries.Took k n) stamp b →
     AreLive b.journal (map waiting was) → ends_in_end after.journal ≡ false → AreLive after.journal (map waiting was)
 took_live stamp b after was k n a l h =
-    stays_live_after (entries.Took k n) stamp b after (map waiting was) (lives_on (entries.Took k n) b.journal refl) a l h
+    stays_live_after (entries.Took k n) stamp b after (map waiting was)
+    (lives_on (entries.Took k n) b.journal refl) a l h
 
 -- only live peers are kept
 

@@ -9,7 +9,7 @@ use Rattle.seat_steps.specs.declared.limits.Limits.{Limits}
 use Rattle.seat_steps.specs.declared.step.Step.TheVariants as steps
 use Rattle.seat_steps.specs.declared.step.PeerStep.TheVariants as peers
 use Rattle.session_text.specs.Steps.{message_bytes}
-use Rattle.transcript_text.proofs.Printed.{message_whole}
+use Rattle.transcript_text.proofs.PrintedStepsHold.{message_whole}
 use Rattle.broker_model.specs.declared.journal.Entry.{Entry}
 use Rattle.broker_model.specs.declared.journal.Entry.TheVariants as entries
 use Rattle.broker_model.specs.Limits.{is_full}

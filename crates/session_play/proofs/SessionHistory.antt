@@ -14,7 +14,7 @@ use Rattle.broker_model.specs.Limits.{is_full}
 use Rattle.broker_model.specs.Out.{stored, out_for}
 use Rattle.broker_model.specs.Resolve.{past_of}
 use Rattle.broker_model.specs.Settle.{number_alive, settle, history, step_of, outer}
-use Rattle.broker_model.proofs.Settling.{history_stays}
+use Rattle.broker_model.proofs.SettlingEnds.{history_stays}
 use Rattle.broker_core.specs.Taking.{lives}
 use Rattle.step_cutter.specs.Steps.{message_entry, bad_entries, steps_in}
 use Rattle.session_play.specs.Played.{Play, Played, went, with_step, step_played, steps_played, unread_of, with_unread, bytes_played, with_peer, take_played, line_played}

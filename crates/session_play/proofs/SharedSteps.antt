@@ -57,7 +57,8 @@ stepped given e b after was now a l =
     ap₂ (λ (journal : List Entry) (unread : List Waiting). record { journal = journal; unread = unread }) j
     (given_back after.journal was now l ∙ ap (λ (journal : List Entry). of_live journal (map waiting was)) j)
 
-pub step_ok : {T : Type 0} (given : Stamp) (s : Ongoing) (b after : Broker) (was now : List Unread) (step : Step) (x : T) →
+pub step_ok : {T : Type 0} (given : Stamp) (s : Ongoing) (b after : Broker) (was now : List Unread) (step : Step)
+    (x : T) →
     view_of b was ≡ s → IsSaid step →
     IsThere step s.play.journal → IfSome (refusal b step) (λ (w : Refused). Ok x ≡ Err w) →
     after ≡ broker.with_step (entry_of step) given b → AreLeft after was now →
@@ -70,7 +71,8 @@ step_ok given s b after was now step x v said there r a l =
     subst (λ (y : Ongoing). IsThere step y.play.journal → IsPlayed (step_played y.limits (entry_of step) y.play) (Ok tt)
     (play_in after now)) v at there
 
-pub step_waits : (given : Stamp) (s : Ongoing) (b after : Broker) (was now : List Unread) (step : Step) → view_of b was ≡ s →
+pub step_waits : (given : Stamp) (s : Ongoing) (b after : Broker) (was now : List Unread) (step : Step) →
+    view_of b was ≡ s →
     IsSaid step → IsThere step s.play.journal →
     after ≡ broker.with_step (entry_of step) given b → AreLeft after was now → AreWaiting b.journal (map waiting was) →
     AreWaiting after.journal (map waiting now)
@@ -80,7 +82,8 @@ step_waits given s b after was now step v said there a l w =
     (subst (λ (x : Broker). NoMoreLive b.journal x.journal) (sym a) (said_before b.limits.store step b.journal said t))
     l
 
-pub step_watched : {W : Type 0} (given : Stamp) (R : W → Watched → W → Type 0) (s : Ongoing) (b after : Broker) (was : List Unread)
+pub step_watched : {W : Type 0} (given : Stamp) (R : W → Watched → W → Type 0) (s : Ongoing) (b after : Broker)
+    (was : List Unread)
     (e : Entry) (w u : W) → view_of b was ≡ s →
     after ≡ broker.with_step e given b → broker.IsWatched R b w after u →
     IsWatched R s.limits.store s.play.journal w after.journal u
@@ -107,9 +110,11 @@ none_watched {W} R s b was w v = subst (λ (y : Ongoing). IsWatched R y.limits.s
 
 -- one more joined
 
-pub join_ok : {T : Type 0} (given : Stamp) (s : Ongoing) (b after : Broker) (was now : List Unread) (u : Unread) (role : Role) (x : T) →
+pub join_ok : {T : Type 0} (given : Stamp) (s : Ongoing) (b after : Broker) (was now : List Unread) (u : Unread)
+    (role : Role) (x : T) →
     view_of b was ≡ s →
-    IfSome (join_refusal b role) (λ (w : JoinRefusal). Ok x ≡ Err w) → after ≡ broker.with_step (entries.Join role) given b →
+    IfSome (join_refusal b role) (λ (w : JoinRefusal). Ok x ≡ Err w) →
+    after ≡ broker.with_step (entries.Join role) given b →
     u.number ≡ length (past_of after.journal).joined →
     waiting u ≡ record { number = u.number; bytes = [] } → AreLeft after (was ++ u ∷ []) now →
     IsPlayed (join_played s.limits (entries.Join role) s.play) (Ok tt) (play_in after now)
@@ -201,7 +206,8 @@ join_full s b after was now role r why kept v e w f o a u =
 
 -- bytes were taken
 
-pub take_waits : (given : Stamp) (b after : Broker) (was now : List Unread) (q n : ℕ) → after ≡ broker.with_step (entries.Took q n) given b →
+pub take_waits : (given : Stamp) (b after : Broker) (was now : List Unread) (q n : ℕ) →
+    after ≡ broker.with_step (entries.Took q n) given b →
     AreLeft after was now →
     AreWaiting b.journal (map waiting was) → AreWaiting after.journal (map waiting now)
 take_waits given b after was now q n a l w =
@@ -219,7 +225,8 @@ take_short s b after was q n v a =
 
 pub take_ok : (given : Stamp) (s : Ongoing) (b after : Broker) (was now : List Unread) (q n k t : ℕ)
     (buf places buf_after places_after : List ℕ) → view_of b was ≡ s →
-    1 ≤ n → IfSome (out_at s.limits.store s.play.journal q) (IsEnough (length buf) n) → IfSome (take_refusal b q) (λ why. took.Bytes k t ≡ why) →
+    1 ≤ n → IfSome (out_at s.limits.store s.play.journal q) (IsEnough (length buf) n) →
+    IfSome (take_refusal b q) (λ why. took.Bytes k t ≡ why) →
     IfSome (out_at b.limits.store b.journal q) (λ out. IsTaken out b.journal q buf places (k, t) buf_after places_after
     (entries.Took q k ∷ b.journal)) →
     after ≡ broker.with_step (entries.Took q k) given b → AreLeft after was now →
@@ -228,7 +235,8 @@ take_ok given s b after was now q n k t buf places buf_after places_after v l en
     subst (λ (y : Ongoing). IsPlayed (take_played y.limits q n y.play (peer_at (past_of y.play.journal) q)) (Ok tt)
     (play_in after now)) v
     (bytes_taken b (map waiting was) q n k t buf places buf_after places_after (took.Bytes k t) (play_in after now) l
-    (subst (λ (y : Ongoing). IfSome (out_at y.limits.store y.play.journal q) (IsEnough (length buf) n)) (sym v) enough) refl r i
+    (subst (λ (y : Ongoing). IfSome (out_at y.limits.store y.play.journal q) (IsEnough (length buf) n)) (sym v) enough)
+    refl r i
     (stepped given (entries.Took q k) b after was now a left))
 
 -- a piece was read

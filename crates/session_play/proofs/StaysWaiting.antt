@@ -37,7 +37,8 @@ said_before capacity (steps.Peer k (peers.BadSize head)) journal s t q h =
     lives_same (entries.BadSize k head) journal q refl refl (lives_settle capacity (entries.BadSize k head ∷ journal) q
     h)
 said_before capacity (steps.Peer k (peers.Tokens tokens)) journal s t q h =
-    lives_same (entries.Tokens k tokens) journal q refl refl (lives_settle capacity (entries.Tokens k tokens ∷ journal) q h)
+    lives_same (entries.Tokens k tokens) journal q refl refl
+    (lives_settle capacity (entries.Tokens k tokens ∷ journal) q h)
 said_before capacity (steps.Peer k peers.Gone) journal s t q h =
     lives_end k Gone journal q t.1 (lives_settle capacity (entries.End k Gone ∷ journal) q h)
 said_before capacity (steps.Shell step) journal s t q h =

@@ -28,7 +28,8 @@ whole_is s b was q place old piece raw id opcode used v h f all =
     subst (λ (n : ℕ). IsRead s q piece (Message (peers.Message id opcode raw) n) s) all
     (subst (λ (y : Ongoing). IsRead y q piece (Message (peers.Message id opcode raw) used) y) v (record {
       left = [];
-      finds = first_step q id opcode used raw (unread_by (map waiting was) q ++ piece) piece [] (peers.Message id opcode raw) refl
+      finds = first_step q id opcode used raw (unread_by (map waiting was) q ++ piece) piece []
+          (peers.Message id opcode raw) refl
           (subst (λ (x : List ℕ). cuts.IsFirst id opcode raw (x ++ piece) piece used []) (sym h.bytes)
           (subst (λ (x : List ℕ). cuts.IsFirst id opcode raw (begun old.cutter ++ piece) piece used x) f.none_left f));
       unread = sym (nothing_left q (map waiting was) none);
@@ -42,5 +43,6 @@ pub whole_played : (s after : Ongoing) (q : ℕ) (piece : List ℕ) (step : Peer
 whole_played s after q piece step (Err stop) h r p =
     message_stops s s s q piece piece step (length piece) stop after.play refl refl refl h r refl p
 whole_played s after q piece step (Ok done) h r p =
-    let way = message_goes s s s after q piece piece (drop (length piece) piece) step (length piece) refl refl refl h r refl refl p in
+    let way = message_goes s s s after q piece piece (drop (length piece) piece) step
+    (length piece) refl refl refl h r refl refl p in
     message_last s s s after q piece piece (drop (length piece) piece) step (length piece) way (drop-length piece) r p

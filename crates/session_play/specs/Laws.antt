@@ -32,7 +32,9 @@ unplayed = record { journal = []; unread = [] }
 abbrev pub SessionLaw : Type 0
 SessionLaw =
     (limits : Limits) (lines : List SessionLine) →
-    let journal = (lines_played limits lines unplayed).play.journal in history limits.store (outer journal) ≡ journal
+    let journal =
+    (lines_played limits lines unplayed).play.journal in
+    history limits.store (outer journal) ≡ journal
 
 -- the peer is alive and has no unread bytes
 pub record IsIdle (play : Play) (q : ℕ) : Type 0 where
@@ -75,4 +77,5 @@ pub record IsSame (p other : Played) : Type 0 where
 abbrev pub PrintedSteps : Type 0
 PrintedSteps =
     (limits : Limits) (step : Step) (play : Play) → CanPlay limits step play →
-    IsSame (line_played limits (step_line step) play) (step_played limits (entry_of step) (ready_for step play))
+    IsSame (line_played limits (step_line step) play)
+    (step_played limits (entry_of step) (ready_for step play))

@@ -25,7 +25,8 @@ pub record Play : Type 0 where
   pub journal : List Entry
   pub unread : List Waiting
 
--- where a line leads, and whether a step of it met a journal that is full for it, before which it stopped
+-- where a line leads, and whether a step of it met a journal that is full for it, before which it
+-- stopped
 pub record Played : Type 0 where
   pub play : Play
   pub is_full : Bool
@@ -73,28 +74,33 @@ with_unread q bytes [] = []
 with_unread q bytes (w ∷ rest) =
     (if w.number == q then record w { bytes = bytes } ∷ rest else w ∷ with_unread q bytes rest)
 
--- bytes of the peer q: a step for each message that they complete; those of a peer that ended say nothing
+-- bytes of the peer q: a step for each message that they complete; those of a peer that ended say
+-- nothing
 abbrev pub bytes_played : Limits → ℕ → List ℕ → Play → Played
 bytes_played limits q piece play =
     (if lives play.journal q
     then (let bytes = unread_of play q ++ piece in
-    steps_played limits q (steps_in q bytes) (record play { unread = with_unread q (behind bytes) play.unread }))
+    steps_played limits q (steps_in q bytes)
+    (record play { unread = with_unread q (behind bytes) play.unread }))
     else went play)
 
 -- with one more peer, of which no bytes came yet
 abbrev pub with_peer : Play → Play
 with_peer play = record play {
-  unread = play.unread ++ record { number = length (past_of play.journal).joined + 1; bytes = [] } ∷ [];
+  unread = play.unread
+      ++ record { number = length (past_of play.journal).joined + 1; bytes = [] } ∷ [];
 }
 
 -- at most 64 peers are alive
 abbrev pub join_played : Limits → Entry → Play → Played
-join_played limits e play = (if nat_le 64 (number_alive play.journal) then went play else step_played limits e
+join_played limits e play =
+    (if nat_le 64 (number_alive play.journal) then went play else step_played limits e
     (with_peer play))
 
 -- the end of the link of the peer q, if it is alive
 abbrev pub gone_played : Limits → ℕ → Play → Played
-gone_played limits q play = (if lives play.journal q then step_played limits (entries.End q Gone) play else went play)
+gone_played limits q play =
+    (if lives play.journal q then step_played limits (entries.End q Gone) play else went play)
 
 -- tokens of the peer q, if it is alive
 abbrev pub tokens_played : Limits → ℕ → List ℕ → Play → Played
@@ -113,6 +119,7 @@ abbrev pub line_played : Limits → SessionLine → Play → Played
 line_played limits (lines.Join role) play = join_played limits (entries.Join role) play
 line_played limits (lines.Bytes q piece) play = bytes_played limits q piece play
 line_played limits (lines.Gone q) play = gone_played limits q play
-line_played limits (lines.Take q n) play = take_played limits q n play (peer_at (past_of play.journal) q)
+line_played limits (lines.Take q n) play =
+    take_played limits q n play (peer_at (past_of play.journal) q)
 line_played limits (lines.Tokens q tokens) play = tokens_played limits q tokens play
 line_played limits (lines.Shell step) play = step_played limits (entries.Shell step) play

@@ -26,14 +26,15 @@ use Rattle.session_play.specs.declared.unread.Found.{Found}
 use Rattle.session_play.specs.Played.{Waiting, Play, Played, unread_of, with_unread}
 use Rattle.session_play.specs.Unread.{Finds}
 
--- a session that goes on: what was allowed, what was played so far, and the stamps of its journal, the newest first
+-- a session that goes on: what was allowed, what was played so far, and the stamps of its journal,
+-- the newest first
 pub record Ongoing : Type 0 where
   pub limits : Limits
   pub play : Play
   pub stamps : List Stamp
 
--- what a player's callers see: what was allowed, what was played so far with its stamps, whether nothing more can be
--- played, and why
+-- what a player's callers see: what was allowed, what was played so far with its stamps, whether
+-- nothing more can be played, and why
 pub record Playing : Type 0 where
   pub limits : Limits
   pub play : Play
@@ -72,23 +73,25 @@ pub record IsMore (before after : List Entry) : Type 0 where
   pub more : List Entry
   pub is : after ≡ more ++ before
 
--- The stamp was given with each step that the journal has more, and with no other: whatever was given with the steps
--- before, the stamps are those for that and this.
-pub record AreStamped (given : Stamp) (before : List Entry) (was : List Stamp) (after : List Entry) (now : List Stamp) :
+-- The stamp was given with each step that the journal has more, and with no other: whatever was
+-- given with the steps before, the stamps are those for that and this.
+pub record AreStamped (given : Stamp) (before : List Entry) (was : List Stamp) (after : List Entry)
+    (now : List Stamp) :
     Type 0 where
   pub number : ℕ
   pub more : length (outer after) ≡ number + length (outer before)
-  pub stamped : (gave : List Stamp) → stamps before gave ≡ was → stamps after (replicate number given ++ gave) ≡ now
+  pub stamped : (gave : List Stamp) → stamps before gave ≡ was →
+      stamps after (replicate number given ++ gave) ≡ now
 
 -- who watched was told of each entry that the journal has more, and of nothing else
-pub record IsWatched {W : Type 0} (may_follow : W → Watched → W → Type 0) (store : ℕ) (before : List Entry) (watch : W)
+pub record IsWatched {W : Type 0} (may_follow : W → Watched → W → Type 0) (store : ℕ)
+    (before : List Entry) (watch : W)
     (after : List Entry) (watch_after : W) : Type 0 where
   pub grew : IsMore before after
   pub told : Reached may_follow watch (watched_since store (length before) after) watch_after
 
--- It was played to where the lines lead. Where the journal was full, the journal is that before the step that it was
--- full for. Where memory was short, what
--- was played is a front of it.
+-- It was played to where the lines lead. Where the journal was full, the journal is that before the
+-- step that it was full for. Where memory was short, what was played is a front of it.
 abbrev pub IsPlayed : Played → Result (Unit {0}) Stop → Play → Type 0
 IsPlayed p (Ok done) after = (p.is_full ≡ false) × (after ≡ p.play)
 IsPlayed p (Err (stops.Full kept)) after = (p.is_full ≡ true) × (kept ≡ kept_in p.play.journal) ×
@@ -96,29 +99,33 @@ IsPlayed p (Err (stops.Full kept)) after = (p.is_full ≡ true) × (kept ≡ kep
 IsPlayed p (Err stops.NoMemory) after = IsMore after.journal p.play.journal
 
 -- what was found in a piece behind the unread bytes of the peer q, which are others from now on
-pub record IsRead (before : Ongoing) (q : ℕ) (piece : List ℕ) (found : Found) (after : Ongoing) : Type 0 where
+pub record IsRead (before : Ongoing) (q : ℕ) (piece : List ℕ) (found : Found)
+    (after : Ongoing) : Type 0 where
   pub left : List ℕ
   pub finds : Finds q (unread_of before.play q ++ piece) piece found left
   pub unread : after.play.unread ≡ with_unread q left before.play.unread
 
 -- the text is what the transcript has more
 abbrev pub IsWritten : ℕ → Play → Play → String Global → Type 0
-IsWritten store before after text = journal_text store after.journal ≡ journal_text store before.journal ++ string_bytes
+IsWritten store before after text =
+    journal_text store after.journal ≡ journal_text store before.journal ++ string_bytes
     text
 
 -- the text is a front of what the transcript has more
 pub record IsFront (store : ℕ) (before after : Play) (text : String Global) : Type 0 where
   pub rest : List ℕ
-  pub is : journal_text store after.journal ≡ journal_text store before.journal ++ (string_bytes text ++ rest)
+  pub is : journal_text store after.journal
+      ≡ journal_text store before.journal ++ (string_bytes text ++ rest)
 
--- A line met a journal that was full for a step: how much it holds, and what was written before the step. Where memory
--- was short, a front of the line's steps
--- was played, and a front of that is written.
+-- A line met a journal that was full for a step: how much it holds, and what was written before the
+-- step. Where memory was short, a front of the line's steps was played, and a front of that is
+-- written.
 abbrev pub IsStopped : ℕ → Played → Play → Play → PlayEnd → Type 0
 IsStopped store p before after (ends.JournalFull kept text) =
     (p.is_full ≡ true) × (kept ≡ kept_in p.play.journal) × IsWritten store before p.play text ×
     (after.journal ≡ p.play.journal)
-IsStopped store p before after (ends.NoMemory text) = IsMore after.journal p.play.journal × IsFront store before after
+IsStopped store p before after (ends.NoMemory text) =
+    IsMore after.journal p.play.journal × IsFront store before after
     text
 
 -- why nothing more is played

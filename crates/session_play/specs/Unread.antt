@@ -18,7 +18,8 @@ abbrev pub waiting : Unread → Waiting
 waiting u = record { number = u.number; bytes = begun u.cutter }
 
 -- the message that bytes begin with: its step comes first, and its bytes are gone from what is left
-pub record IsFirst (q : ℕ) (bytes piece : List ℕ) (step : PeerStep) (used : ℕ) (left : List ℕ) : Type 0 where
+pub record IsFirst (q : ℕ) (bytes piece : List ℕ) (step : PeerStep) (used : ℕ)
+    (left : List ℕ) : Type 0 where
   pub some : 0 < used
   pub within : used ≤ length piece
   pub valid : IsPeerStep step

@@ -22,7 +22,8 @@ lacks_space line n le nowhere k d lt =
 
 -- a search that goes on where another found no space
 
-passes_behind : (line rest : List ℕ) (n k : ℕ) → rest ≡ drop n line → Passes (is_byte 32) rest k → Passes (is_byte 32) line (n + k)
+passes_behind : (line rest : List ℕ) (n k : ℕ) → rest ≡ drop n line → Passes (is_byte 32) rest k →
+    Passes (is_byte 32) line (n + k)
 passes_behind line rest n k is h = ap (λ b. b == 32) (sym (ap (λ l. get_or l k 0) is ∙ get_or-drop n line k 0)) ∙ h
 
 nowhere_joined : (line rest : List ℕ) (n m : ℕ) → rest ≡ drop n line → Nowhere (Passes (is_byte 32) line) 0 n
@@ -32,12 +33,14 @@ nowhere_joined line rest n m is near far k low high here =
       | inl l ↦ near k low l here
       | inr l ↦
           let split : n + (k - n) ≡ k = omega arith in
-          let there : get_or rest (k - n) 0 ≡ get_or line k 0 = ap (λ l. get_or l (k - n) 0) is ∙ get_or-drop n line (k - n) 0 ∙ ap (λ i. get_or line i 0) split in
+          let there : get_or rest (k - n) 0 ≡ get_or line k 0 =
+          ap (λ l. get_or l (k - n) 0) is ∙ get_or-drop n line (k - n) 0 ∙ ap (λ i. get_or line i 0) split in
           far (k - n) (omega arith) (omega arith) (ap (λ b. b == 32) there ∙ here)
     ]
 
 pub far_space : (line rest : List ℕ) (n k : ℕ) → n ≤ length line → rest ≡ drop n line
-    → Nowhere (Passes (is_byte 32) line) 0 n → NoneBefore (Passes (is_byte 32) rest) 0 (length rest) k × Passes (is_byte 32) rest k
+    → Nowhere (Passes (is_byte 32) line) 0 n →
+    NoneBefore (Passes (is_byte 32) rest) 0 (length rest) k × Passes (is_byte 32) rest k
     → NoneBefore (Passes (is_byte 32) line) 0 (length line) (n + k) × Passes (is_byte 32) line (n + k)
 far_space line rest n k le is near found =
     let behind = ap length is ∙ length-drop n line in
@@ -46,7 +49,8 @@ far_space line rest n k le is near found =
       passes_behind line rest n k is found.1,
     )
 
-pub no_space : (line rest : List ℕ) (n : ℕ) → n ≤ length line → rest ≡ drop n line → Nowhere (Passes (is_byte 32) line) 0 n
+pub no_space : (line rest : List ℕ) (n : ℕ) → n ≤ length line → rest ≡ drop n line →
+    Nowhere (Passes (is_byte 32) line) 0 n
     → Nowhere (Passes (is_byte 32) rest) 0 (length rest) → Nowhere (Passes (is_byte 32) line) 0 (length line)
 no_space line rest n le is near far =
     let behind = ap length is ∙ length-drop n line in
@@ -54,7 +58,8 @@ no_space line rest n le is near far =
     subst (Nowhere (Passes (is_byte 32) line) 0) whole (nowhere_joined line rest n (length rest) is near far)
 
 -- the first word ends at the first space, and the others are those of what stands behind it
-pub cut_at_space : (line : List ℕ) (n : ℕ) → NoneBefore (Passes (is_byte 32) line) 0 (length line) n → Passes (is_byte 32) line n
+pub cut_at_space : (line : List ℕ) (n : ℕ) → NoneBefore (Passes (is_byte 32) line) 0 (length line) n →
+    Passes (is_byte 32) line n
     → slice_split (λ b. b == 32) line ≡ take n line ∷ slice_split (λ b. b == 32) (drop (suc n) line)
 cut_at_space line n none here =
     let high = none.high in
@@ -64,14 +69,16 @@ cut_at_space line n none here =
     ap (λ l. take n line ++ l) (sym (drop-cons line n 0 inside ∙ ap (λ b. b ∷ drop (suc n) line) space))
     ∙ take-append-drop n line in
     ap (slice_split (λ b. b == 32)) (sym parts)
-    ∙ slice_split_at (λ b. b == 32) (take n line) 32 (drop (suc n) line) (lacks_space line n (omega (arith, high)) none.before) refl
+    ∙ slice_split_at (λ b. b == 32) (take n line) 32 (drop (suc n) line)
+    (lacks_space line n (omega (arith, high)) none.before) refl
 
 -- without a space the line is one word
 pub one_word : (line : List ℕ) → Nowhere (Passes (is_byte 32) line) 0 (length line)
     → slice_split (λ b. b == 32) line ≡ line ∷ []
 one_word line nowhere =
     slice_split_none (λ b. b == 32) line
-    (subst (All (λ b. (b == 32) ≡ false)) (take_all (length line) line (omega arith)) (lacks_space line (length line) (omega arith) nowhere))
+    (subst (All (λ b. (b == 32) ≡ false)) (take_all (length line) line (omega arith))
+    (lacks_space line (length line) (omega arith) nowhere))
 
 -- where so many words are cut off, and one more and what stands behind it, there are more than eight
 pub many_cut : (firsts : List (List ℕ)) (left word rest line : List ℕ) (n : ℕ)

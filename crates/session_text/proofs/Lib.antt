@@ -5,14 +5,14 @@ mod FirstSpace
 mod LongLines
 pub mod WrittenNumbers
 pub mod LongNumbers
-pub mod Arms
-pub mod Texts
-pub mod Separators
+pub mod TestsLetThrough
+pub mod WordsAreTexts
+pub mod LinesSplit
 pub mod WordKinds
 mod LowerRead
 mod PieceLines
 mod UsualLines
-pub mod Parts
+pub mod WordsByKind
 pub mod SpelledActs
 pub mod ReadActs
 pub mod SpelledSteps
@@ -20,7 +20,7 @@ pub mod SpelledStamps
 mod StampedPieces
 pub mod ReadSteps
 pub mod ReadStamps
-pub mod Laws
-pub mod Asked
+pub mod LinesReadBack
+pub mod LinesHold
 pub mod NumberWords
 pub mod SeatLines

@@ -20,7 +20,8 @@ none_of : (form : Form) → form ≢ Session2 → (a b c d e f g h : List ℕ) (
 none_of Acts other a b c d e f g h ws = refl
 none_of Session other a b c d e f g h ws = refl
 none_of Session2 other a b c d e f g h ws = absurd (other refl)
-none_of Shell other a b c d e f g h ws = ap (λ (step : Option ShellStep). step >>= (λ s. Some (lines.Shell s))) (no_link a b c d e f g h ws)
+none_of Shell other a b c d e f g h ws =
+    ap (λ (step : Option ShellStep). step >>= (λ s. Some (lines.Shell s))) (no_link a b c d e f g h ws)
 
 pub many_words : (form : Form) → form ≢ Session2 → (ws : List (List ℕ)) → 8 < length ws → line_of_words form ws ≡ None
 many_words form other [] l = absurd (omega arith)

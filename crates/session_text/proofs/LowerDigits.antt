@@ -18,23 +18,35 @@ pub record IsDigit (c : ℕ) : Type 0 where
 pub digit_is : (c : ℕ) → value_of c < 256 → IsDigit c
 digit_is c = by (nat_le 48 c && nat_le c 57) (nat_le 97 c && nat_le c 102) refl refl
   where
-    by : (n m : Bool) → (nat_le 48 c && nat_le c 57) ≡ n → (nat_le 97 c && nat_le c 102) ≡ m → value_of c < 256 → IsDigit c
+    by : (n m : Bool) → (nat_le 48 c && nat_le c 57) ≡ n → (nat_le 97 c && nat_le c 102) ≡ m → value_of c < 256 →
+        IsDigit c
     by true m a b l =
-        let is : value_of c ≡ c - 48 = ap (λ (t : Bool). (if t then c - 48 else (if nat_le 97 c && nat_le c 102 then c - 87 else 256))) a in
+        let is : value_of c ≡ c - 48 =
+        ap (λ (t : Bool). (if t then c - 48 else (if nat_le 97 c && nat_le c 102 then c - 87 else 256))) a in
         let (low, high) = and_parts (nat_le 48 c) (nat_le c 57) a in
         let low : 48 ≤ c = leb-true 48 c low in
         let high : c ≤ 57 = leb-true c 57 high in
-        record { small = omega arith; same = ap (slice_index lower_digits) is ∙ low_digit (c - 48) (omega arith) ∙ omega arith }
+        record {
+          small = omega arith;
+          same = ap (slice_index lower_digits) is ∙ low_digit (c - 48) (omega arith)
+              ∙ omega arith;
+        }
     by false true a b l =
-        let is : value_of c ≡ c - 87 = ap (λ (t : Bool). (if t then c - 48 else (if nat_le 97 c && nat_le c 102 then c - 87 else 256))) a
+        let is : value_of c ≡ c - 87 =
+        ap (λ (t : Bool). (if t then c - 48 else (if nat_le 97 c && nat_le c 102 then c - 87 else 256))) a
         ∙ ap (λ (t : Bool). (if t then c - 87 else 256)) b in
         let (low, high) = and_parts (nat_le 97 c) (nat_le c 102) b in
         let low : 97 ≤ c = leb-true 97 c low in
         let high : c ≤ 102 = leb-true c 102 high in
         let ten : 10 + (c - 97) ≡ value_of c = omega arith in
-        record { small = omega arith; same = ap (slice_index lower_digits) (sym ten) ∙ letter_digit (c - 97) (omega arith) ∙ omega arith }
+        record {
+          small = omega arith;
+          same = ap (slice_index lower_digits) (sym ten)
+              ∙ letter_digit (c - 97) (omega arith) ∙ omega arith;
+        }
     by false false a b l =
-        let is : value_of c ≡ 256 = ap (λ (t : Bool). (if t then c - 48 else (if nat_le 97 c && nat_le c 102 then c - 87 else 256))) a
+        let is : value_of c ≡ 256 =
+        ap (λ (t : Bool). (if t then c - 48 else (if nat_le 97 c && nat_le c 102 then c - 87 else 256))) a
         ∙ ap (λ (t : Bool). (if t then c - 87 else 256)) b in
         absurd (omega arith)
 

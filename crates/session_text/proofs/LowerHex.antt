@@ -33,10 +33,13 @@ letter_digit (suc (suc (suc (suc (suc zero))))) lt = refl
 letter_digit (suc (suc (suc (suc (suc (suc v)))))) lt = absurd (omega arith)
 
 -- a digit's value is printed as the digit, unless that is an upper-case letter
-digit_again : (c v : ℕ) → hex_digit_value c ≡ Some v → (v < 16) × (eqb (slice_index lower_digits v) c ≡ not (is_ascii_uppercase c))
-digit_again c v h = at (nat_le 65 c && nat_le c 70) (nat_le 97 c && nat_le c 102) (nat_le 48 c && nat_le c 57) refl refl refl h
+digit_again : (c v : ℕ) → hex_digit_value c ≡ Some v →
+    (v < 16) × (eqb (slice_index lower_digits v) c ≡ not (is_ascii_uppercase c))
+digit_again c v h =
+    at (nat_le 65 c && nat_le c 70) (nat_le 97 c && nat_le c 102) (nat_le 48 c && nat_le c 57) refl refl refl h
   where
-    at : (l m n : Bool) → (nat_le 65 c && nat_le c 70) ≡ l → (nat_le 97 c && nat_le c 102) ≡ m → (nat_le 48 c && nat_le c 57) ≡ n
+    at : (l m n : Bool) → (nat_le 65 c && nat_le c 70) ≡ l → (nat_le 97 c && nat_le c 102) ≡ m →
+        (nat_le 48 c && nat_le c 57) ≡ n
         → (if l then Some (c - 55) else if m then Some (c - 87) else if n then Some (c - 48) else None) ≡ Some v
         → (v < 16) × (eqb (slice_index lower_digits v) c ≡ not (is_ascii_uppercase c))
     at true m n a b d e =
@@ -45,7 +48,8 @@ digit_again c v h = at (nat_le 65 c && nat_le c 70) (nat_le 97 c && nat_le c 102
         let low : 65 ≤ c = leb-true 65 c low in
         let high : c ≤ 70 = leb-true c 70 high in
         let ten : 10 + (v - 10) ≡ v = omega arith in
-        let digit : slice_index lower_digits v ≡ c + 32 = ap (slice_index lower_digits) (sym ten) ∙ letter_digit (v - 10) (omega arith) ∙ omega arith in
+        let digit : slice_index lower_digits v ≡ c + 32 =
+        ap (slice_index lower_digits) (sym ten) ∙ letter_digit (v - 10) (omega arith) ∙ omega arith in
         (omega arith, rw digit (grind arith))
     at false true n a b d e =
         let is : c - 87 ≡ v = ap (λ o. unwrap_or o 0) e in
@@ -53,7 +57,8 @@ digit_again c v h = at (nat_le 65 c && nat_le c 70) (nat_le 97 c && nat_le c 102
         let low : 97 ≤ c = leb-true 97 c low in
         let high : c ≤ 102 = leb-true c 102 high in
         let ten : 10 + (v - 10) ≡ v = omega arith in
-        let digit : slice_index lower_digits v ≡ c = ap (slice_index lower_digits) (sym ten) ∙ letter_digit (v - 10) (omega arith) ∙ omega arith in
+        let digit : slice_index lower_digits v ≡ c =
+        ap (slice_index lower_digits) (sym ten) ∙ letter_digit (v - 10) (omega arith) ∙ omega arith in
         (omega arith, rw digit (grind arith))
     at false false true a b d e =
         let is : c - 48 ≡ v = ap (λ o. unwrap_or o 0) e in
@@ -97,12 +102,15 @@ pairs_again i (a ∷ b ∷ rest) bytes h =
     let two = digit_again b low.0 (value_read b (i + 1) low.0 (hex_digit_value b) low.1) in
     let upper : pair.0 / 16 ≡ high.0 = omega (arith, byte, one.0, two.0) in
     let lower : pair.0 % 16 ≡ low.0 = omega (arith, byte, one.0, two.0) in
-    rw (← e) (again_by _ _ _ _ _ _ (ap (λ v. eqb (slice_index lower_digits v) a) upper ∙ one.1) (ap (λ v. eqb (slice_index lower_digits v) b) lower ∙ two.1)
+    rw (← e) (again_by _ _ _ _ _ _ (ap (λ v. eqb (slice_index lower_digits v) a) upper ∙ one.1)
+    (ap (λ v. eqb (slice_index lower_digits v) b) lower ∙ two.1)
     (pairs_again (i + 2) rest others.0 others.1))
 
-pub printed_again : (word bytes : List ℕ) → decode_of word ≡ Ok bytes → bytes_eq (encode_lower bytes) word ≡ not (list_any is_ascii_uppercase word)
+pub printed_again : (word bytes : List ℕ) → decode_of word ≡ Ok bytes →
+    bytes_eq (encode_lower bytes) word ≡ not (list_any is_ascii_uppercase word)
 printed_again word bytes h = at (eqb (length word % 2) 1) refl
   where
-    at : (b : Bool) → eqb (length word % 2) 1 ≡ b → bytes_eq (encode_lower bytes) word ≡ not (list_any is_ascii_uppercase word)
+    at : (b : Bool) → eqb (length word % 2) 1 ≡ b →
+        bytes_eq (encode_lower bytes) word ≡ not (list_any is_ascii_uppercase word)
     at true e = let bad : ◌≡◌ {A = Result (List ℕ) FromHexError} (Err OddLength) (Ok bytes) = rw e at h in cc bad
     at false e = pairs_again 0 word bytes (rw e at h)

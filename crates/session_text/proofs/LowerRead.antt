@@ -3,7 +3,7 @@ use Rattle.std.proofs.Common.{◌≡◌, ℕ, ◌≤◌, List, [], ◌∷◌, le
 use Rattle.hex.specs.Hex.{encode_lower}
 use Rattle.wl_wire.specs.Texts.{IsBytes}
 use Rattle.session_text.specs.Words.{bytes_of}
-use Rattle.session_text.proofs.Texts.{bytes_complete}
+use Rattle.session_text.proofs.WordsAreTexts.{bytes_complete}
 
 -- digits in lower case spell bytes
 pub lower_read : (limit : ℕ) (word bytes : List ℕ) → IsBytes bytes → 1 ≤ length bytes → length bytes ≤ limit →

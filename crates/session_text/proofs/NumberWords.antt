@@ -11,7 +11,8 @@ use Rattle.session_text.specs.Reading.{Reads}
 abbrev pub behind : List ℕ → Option (List ℕ) → Option (List ℕ)
 behind ns more = more >>= (λ ms. Some (ns ++ ms))
 
-behind_one : (ns : List ℕ) (n : ℕ) (o : Option (List ℕ)) → behind ns (o >>= (λ ms. Some (n ∷ ms))) ≡ behind (ns ++ n ∷ []) o
+behind_one : (ns : List ℕ) (n : ℕ) (o : Option (List ℕ)) →
+    behind ns (o >>= (λ ms. Some (n ∷ ms))) ≡ behind (ns ++ n ∷ []) o
 behind_one ns n None = refl
 behind_one ns n (Some ms) = ap Some (sym (append_assoc ns (n ∷ []) ms))
 
@@ -22,7 +23,8 @@ unfolding numbers_of
 one_more ns n word words is = rw is (behind_one ns n (numbers_of words))
 
 -- a word that is no number is refused, and so are all
-pub refused : (ns : List ℕ) (word : List ℕ) (words : List (List ℕ)) (why : BadLine) → Reads {X = ℕ} (Err why) (number_of word)
+pub refused : (ns : List ℕ) (word : List ℕ) (words : List (List ℕ)) (why : BadLine) →
+    Reads {X = ℕ} (Err why) (number_of word)
     → Reads {X = List ℕ} (Err why) (behind ns (numbers_of (word ∷ words)))
 unfolding numbers_of
 refused ns word words bad.Grammar read = rw read refl

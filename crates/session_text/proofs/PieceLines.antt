@@ -11,7 +11,7 @@ use Rattle.session_text.specs.declared.line.SessionLine.TheVariants as sessions
 use Rattle.session_text.specs.Reading.{line_limit, line_of}
 use Rattle.session_text.specs.SessionReading.{three_session_words}
 use Rattle.session_text.specs.Words.{hex_word, number_of, bytes_of}
-use Rattle.session_text.proofs.Separators.{lacks_all, split_join}
+use Rattle.session_text.proofs.LinesSplit.{lacks_all, split_join}
 use Rattle.session_text.proofs.WordKinds.{pieces}
 
 -- bytes have no space
@@ -23,7 +23,8 @@ one_word word bytes e =
     rw (known.1) (split_join (hex_word bytes) [] (kind.spaceless bytes known.0) tt)
 
 pub three_words : (line rest digits word bytes : List ℕ) → line ≡ codes "bytes " ++ rest →
-    slice_split (λ b. b == 32) rest ≡ digits ∷ slice_split (λ b. b == 32) word → bytes_of piece_limit word ≡ Some bytes →
+    slice_split (λ b. b == 32) rest ≡ digits ∷ slice_split (λ b. b == 32) word →
+    bytes_of piece_limit word ≡ Some bytes →
     slice_split (λ b. b == 32) line ≡ codes "bytes" ∷ digits ∷ word ∷ []
 three_words line rest digits word bytes l r e =
     ap (slice_split (λ b. b == 32)) l

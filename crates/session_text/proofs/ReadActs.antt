@@ -7,8 +7,8 @@ use Rattle.relay_model.specs.declared.act.EndCause.TheVariants as causes
 use Rattle.session_text.specs.Words.{rect, size, text_limit, cursor_text_limit}
 use Rattle.session_text.specs.Grammar.{act_words, HasLine}
 use Rattle.session_text.specs.Reading.{one_word, two_words, three_words, four_words, five_words, six_words, act_of}
-use Rattle.session_text.proofs.Arms.{arm}
-use Rattle.session_text.proofs.Parts.{IsRead, bound, made, read_alone, read_one, read_two}
+use Rattle.session_text.proofs.TestsLetThrough.{arm}
+use Rattle.session_text.proofs.WordsByKind.{IsRead, bound, made, read_alone, read_one, read_two}
 use Rattle.session_text.proofs.WordKinds.{numbers, signeds, sizes, states, texts}
 
 abbrev pub IsReadAct : List (List ℕ) → Act → Type 0
@@ -57,7 +57,8 @@ four_sound k a b c act e =
     arm k (codes "key") _ _ act e (λ is e. bound numbers a _ act e (λ time h is1 e. bound numbers b _ act e (λ key i is2 e. bound states c _ act e (λ state j is3 e.
     made _ (acts.Key time key state) act e (rw (is, is1, is2, is3) refl) (h, i, j))))) (λ e.
     arm k (codes "keymap") _ _ act e (λ is e. bound numbers a _ act e (λ format h is1 e. bound numbers b _ act e (λ token i is2 e. bound numbers c _ act e (λ size j is3 e.
-    made _ (acts.Keymap (record { format = format; token = token; size = size })) act e (rw (is, is1, is2, is3) refl) (h, i, j))))) (λ e. absurd (cc e)))))
+    made _ (acts.Keymap (record { format = format; token = token; size = size })) act e (rw (is, is1, is2, is3) refl)
+    (h, i, j))))) (λ e. absurd (cc e)))))
 
 five_sound : (k a b c d : List ℕ) (act : Act) → five_words k a b c d ≡ Some act → IsReadAct (k ∷ a ∷ b ∷ c ∷ d ∷ []) act
 unfolding five_words
@@ -67,13 +68,17 @@ five_sound k a b c d act e =
     arm k (codes "mpreedit") _ _ act e (λ is e. bound numbers a _ act e (λ m h is1 e. bound (texts cursor_text_limit) b _ act e (λ text i is2 e. bound signeds c _ act e (λ begin j is3 e. bound signeds d _ act e (λ end l is4 e.
     made _ (acts.MPreedit m text begin end) act e (rw (is, is1, is2, is3, is4) refl) (h, i, j, l)))))) (λ e.
     arm k (codes "mods") _ _ act e (λ is e. bound numbers a _ act e (λ depressed h is1 e. bound numbers b _ act e (λ latched i is2 e. bound numbers c _ act e (λ locked j is3 e. bound numbers d _ act e (λ group l is4 e.
-    made _ (acts.Mods (record { depressed = depressed; latched = latched; locked = locked; group = group })) act e (rw (is, is1, is2, is3, is4) refl) (h, i, j, l)))))) (λ e.
+    made _ (acts.Mods (record { depressed = depressed; latched = latched; locked = locked; group = group })) act e
+    (rw (is, is1, is2, is3, is4) refl) (h, i, j, l)))))) (λ e.
     arm k (codes "vkeymap") _ _ act e (λ is e. bound numbers a _ act e (λ v h is1 e. bound numbers b _ act e (λ format i is2 e. bound numbers c _ act e (λ token j is3 e. bound numbers d _ act e (λ size l is4 e.
-    made _ (acts.VKeymap v (record { format = format; token = token; size = size })) act e (rw (is, is1, is2, is3, is4) refl) (h, i, j, l)))))) (λ e.
+    made _ (acts.VKeymap v (record { format = format; token = token; size = size })) act e
+    (rw (is, is1, is2, is3, is4) refl) (h, i, j, l)))))) (λ e.
     arm k (codes "vkey") _ _ act e (λ is e. bound numbers a _ act e (λ v h is1 e. bound numbers b _ act e (λ time i is2 e. bound numbers c _ act e (λ key j is3 e. bound states d _ act e (λ state l is4 e.
-    made _ (acts.VKey v time key state) act e (rw (is, is1, is2, is3, is4) refl) (h, i, j, l)))))) (λ e. absurd (cc e))))))
+    made _ (acts.VKey v time key state) act e (rw (is, is1, is2, is3, is4) refl) (h, i, j, l))))))
+    (λ e. absurd (cc e))))))
 
-six_sound : (k a b c d f : List ℕ) (act : Act) → six_words k a b c d f ≡ Some act → IsReadAct (k ∷ a ∷ b ∷ c ∷ d ∷ f ∷ []) act
+six_sound : (k a b c d f : List ℕ) (act : Act) → six_words k a b c d f ≡ Some act →
+    IsReadAct (k ∷ a ∷ b ∷ c ∷ d ∷ f ∷ []) act
 unfolding six_words
 six_sound k a b c d f act e =
     arm k (codes "area") _ _ act e (λ is e. bound numbers a _ act e (λ s i is1 e. bound signeds b _ act e (λ x j is2 e. bound signeds c _ act e (λ y l is3 e. bound sizes d _ act e (λ w m is4 e. bound sizes f _ act e (λ h n is5 e.
@@ -81,7 +86,8 @@ six_sound k a b c d f act e =
     arm k (codes "rect") _ _ act e (λ is e. bound numbers a _ act e (λ g i is1 e. bound signeds b _ act e (λ x j is2 e. bound signeds c _ act e (λ y l is3 e. bound signeds d _ act e (λ w m is4 e. bound signeds f _ act e (λ h n is5 e.
     made _ (acts.Cursor g (rect x y w h)) act e (rw (is, is1, is2, is3, is4, is5) refl) (i, (j, l, m, n)))))))) (λ e.
     arm k (codes "vmods") _ _ act e (λ is e. bound numbers a _ act e (λ v h is1 e. bound numbers b _ act e (λ depressed i is2 e. bound numbers c _ act e (λ latched j is3 e. bound numbers d _ act e (λ locked l is4 e. bound numbers f _ act e (λ group m is5 e.
-    made _ (acts.VMods v (record { depressed = depressed; latched = latched; locked = locked; group = group })) act e (rw (is, is1, is2, is3, is4, is5) refl) (h, i, j, l, m))))))) (λ e. absurd (cc e))))
+    made _ (acts.VMods v (record { depressed = depressed; latched = latched; locked = locked; group = group })) act e
+    (rw (is, is1, is2, is3, is4, is5) refl) (h, i, j, l, m))))))) (λ e. absurd (cc e))))
 
 pub act_sound : (ws : List (List ℕ)) (act : Act) → act_of ws ≡ Some act → IsReadAct ws act
 act_sound [] act e = absurd (cc e)

@@ -17,8 +17,8 @@ use Rattle.session_text.specs.SessionGrammar.{shell_words, session_words, HasLin
 use Rattle.session_text.specs.SessionReading.{session_of}
 use Rattle.session_text.specs.StampedReading.{moment_of, link_of, tokens_of, tokens_line_of, plain_line, shell_line, behind_stamp, stamped_of, long_header_of, header_words_of, end_of, session_2_of}
 use Rattle.session_text.specs.Grammar.{line_words, IsLine}
-use Rattle.session_text.proofs.Arms.{arm, kept_some}
-use Rattle.session_text.proofs.Parts.{IsRead, bound, made}
+use Rattle.session_text.proofs.TestsLetThrough.{arm, kept_some}
+use Rattle.session_text.proofs.WordsByKind.{IsRead, bound, made}
 use Rattle.session_text.proofs.WordKinds.{numbers, long_numbers}
 use Rattle.session_text.proofs.SpelledSteps.{old_shell, old_line, store_counts}
 use Rattle.session_text.proofs.SpelledStamps.{entry_counts, weight_counts}
@@ -31,7 +31,8 @@ IsReadLink = IsRead shell_words HasLinkLine
 
 moment_sound : (words : List (List ℕ)) (step : ShellStep) → moment_of words ≡ Some step → IsReadLink (codes "at" ∷ words) step
 moment_sound [] step e = absurd (cc e)
-moment_sound (t ∷ []) step e = bound long_numbers t _ step e (λ moment h is e. made _ (shells.At moment) step e (rw is refl) h)
+moment_sound (t ∷ []) step e =
+    bound long_numbers t _ step e (λ moment h is e. made _ (shells.At moment) step e (rw is refl) h)
 moment_sound (t ∷ u ∷ words) step e = absurd (cc e)
 
 pub link_sound : (ws : List (List ℕ)) (step : ShellStep) → link_of ws ≡ Some step → IsReadLink ws step
@@ -39,7 +40,8 @@ unfolding link_of
 link_sound [] step e = absurd (cc e)
 link_sound (k ∷ words) step e =
     arm k (codes "at") _ _ step e (λ is e. rw is (moment_sound words step e))
-    (λ e. let read = shell_sound (k ∷ words) step e in record { same = read.same; has_line = old_shell step read.has_line })
+    (λ e. let read = shell_sound (k ∷ words) step e in
+    record { same = read.same; has_line = old_shell step read.has_line })
 
 -- ---- tokens
 
@@ -48,22 +50,26 @@ record AreNumbers (words : List (List ℕ)) (ns : List ℕ) : Type 0 where
   small : All (λ n. n < 2 ^ 32) ns
 
 numbers_after : (word : List ℕ) (words : List (List ℕ)) (all : List ℕ) (n : ℕ) → n < 2 ^ 32 → word ≡ decimal n
-    → (o : Option (List ℕ)) → ((ns : List ℕ) → o ≡ Some ns → AreNumbers words ns) → (o >>= (λ ns. Some (n ∷ ns))) ≡ Some all
+    → (o : Option (List ℕ)) → ((ns : List ℕ) → o ≡ Some ns → AreNumbers words ns) →
+    (o >>= (λ ns. Some (n ∷ ns))) ≡ Some all
     → AreNumbers (word ∷ words) all
 numbers_after word words all n small is None later read = absurd (cc read)
 numbers_after word words all n small is (Some ns) later read =
     let known = later ns refl in
     let same : n ∷ ns ≡ all = cc in
-    subst (AreNumbers (word ∷ words)) same (record { same = rw (is, known.same) refl; small = All-cons (λ n. n < 2 ^ 32) n ns small known.small })
+    subst (AreNumbers (word ∷ words)) same
+    (record { same = rw (is, known.same) refl; small = All-cons (λ n. n < 2 ^ 32) n ns small known.small })
 
 numbers_sound : (words : List (List ℕ)) (all : List ℕ) → numbers_of words ≡ Some all → AreNumbers words all
 unfolding numbers_of
-numbers_sound [] all e = let is : [] ≡ all = cc in subst (AreNumbers []) is (record { same = refl; small = All-nil (λ n. n < 2 ^ 32) })
+numbers_sound [] all e = let is : [] ≡ all =
+    cc in subst (AreNumbers []) is (record { same = refl; small = All-nil (λ n. n < 2 ^ 32) })
 numbers_sound (word ∷ words) all e =
     bound numbers word (λ n. numbers_of words >>= (λ ns. Some (n ∷ ns))) all e (λ n small is f.
     numbers_after word words all n small is (numbers_of words) (λ ns. numbers_sound words ns) f)
 
-tokens_sound : (words : List (List ℕ)) (tokens : List ℕ) → tokens_of words ≡ Some tokens → (words ≡ map decimal tokens) × AreTokens tokens
+tokens_sound : (words : List (List ℕ)) (tokens : List ℕ) → tokens_of words ≡ Some tokens →
+    (words ≡ map decimal tokens) × AreTokens tokens
 unfolding tokens_of
 tokens_sound words tokens e =
     let (is, few) = kept_some (λ ts. leb 1 (length ts) && leb (length ts) token_limit) (numbers_of words) tokens e in
@@ -76,7 +82,8 @@ tokens_sound words tokens e =
 abbrev pub IsReadBehind : List (List ℕ) → SessionLine → Type 0
 IsReadBehind = IsRead session_words HasStampedLine
 
-tokens_after : (p : ℕ) (words : List (List ℕ)) (line : SessionLine) → p < 2 ^ 32 → (o : Option (List ℕ)) → tokens_of words ≡ o
+tokens_after : (p : ℕ) (words : List (List ℕ)) (line : SessionLine) → p < 2 ^ 32 → (o : Option (List ℕ)) →
+    tokens_of words ≡ o
     → (o >>= (λ tokens. Some (sessions.Tokens p tokens))) ≡ Some line → IsReadBehind (codes "tokens" ∷ decimal p ∷ words) line
 tokens_after p words line small None is e = absurd (cc e)
 tokens_after p words line small (Some tokens) is e =
@@ -85,14 +92,18 @@ tokens_after p words line small (Some tokens) is e =
 
 tokens_line_sound : (words : List (List ℕ)) (line : SessionLine) → tokens_line_of words ≡ Some line → IsReadBehind (codes "tokens" ∷ words) line
 tokens_line_sound [] line e = absurd (cc e)
-tokens_line_sound (p ∷ words) line e = bound numbers p _ line e (λ peer h is e. rw is (tokens_after peer words line h (tokens_of words) refl e))
+tokens_line_sound (p ∷ words) line e =
+    bound numbers p _ line e (λ peer h is e. rw is (tokens_after peer words line h (tokens_of words) refl e))
 
 shell_behind : (words : List (List ℕ)) (line : SessionLine) (o : Option ShellStep) → moment_of words ≡ o → shell_line o ≡ Some line → IsReadBehind (codes "at" ∷ words) line
 shell_behind words line None is e = absurd (cc e)
-shell_behind words line (Some step) is e = let read = moment_sound words step is in made _ (sessions.Shell step) line e read.same read.has_line
+shell_behind words line (Some step) is e = let read =
+    moment_sound words step is in made _ (sessions.Shell step) line e read.same read.has_line
 
-plain_behind : (ws : List (List ℕ)) (line : SessionLine) (o : Option Line) → session_of ws ≡ o → plain_line o ≡ Some line → IsReadBehind ws line
-plain_behind ws line (Some (lines.Session found)) is e = let read = session_sound ws (lines.Session found) is in made ws found line e read.same (old_line found read.has_line)
+plain_behind : (ws : List (List ℕ)) (line : SessionLine) (o : Option Line) → session_of ws ≡ o →
+    plain_line o ≡ Some line → IsReadBehind ws line
+plain_behind ws line (Some (lines.Session found)) is e = let read =
+    session_sound ws (lines.Session found) is in made ws found line e read.same (old_line found read.has_line)
 plain_behind ws line None is e = absurd (cc e)
 plain_behind ws line (Some (lines.Header limits)) is e = absurd (cc e)
 plain_behind ws line (Some (lines.Act act)) is e = absurd (cc e)
@@ -113,12 +124,15 @@ behind_sound (k ∷ words) line e =
 abbrev pub IsReadSession2 : List (List ℕ) → Line → Type 0
 IsReadSession2 = IsRead (line_words Session2) (IsLine Session2)
 
-stamped_after : (moment author : ℕ) (words : List (List ℕ)) (line : Line) → moment < 2 ^ 64 → author < 2 ^ 64 → (o : Option SessionLine) → behind_stamp words ≡ o
-    → (o >>= (λ found. Some (lines.Stamped (record { moment = moment; author = author }) found))) ≡ Some line → IsReadSession2 (decimal moment ∷ decimal author ∷ words) line
+stamped_after : (moment author : ℕ) (words : List (List ℕ)) (line : Line) → moment < 2 ^ 64 → author < 2 ^ 64 →
+    (o : Option SessionLine) → behind_stamp words ≡ o
+    → (o >>= (λ found. Some (lines.Stamped (record { moment = moment; author = author }) found))) ≡ Some line →
+    IsReadSession2 (decimal moment ∷ decimal author ∷ words) line
 stamped_after moment author words line h i None is e = absurd (cc e)
 stamped_after moment author words line h i (Some found) is e =
     let read = behind_sound words found is in
-    made _ (lines.Stamped (record { moment = moment; author = author }) found) line e (rw read.same refl) ((h, i), read.has_line)
+    made _ (lines.Stamped (record { moment = moment; author = author }) found) line e (rw read.same refl)
+    ((h, i), read.has_line)
 
 stamped_sound : (ws : List (List ℕ)) (line : Line) → stamped_of ws ≡ Some line → IsReadSession2 ws line
 stamped_sound [] line e = absurd (cc e)
@@ -131,7 +145,8 @@ long_header_sound : (form a b c : List ℕ) (line : Line) → long_header_of for
 unfolding long_header_of
 long_header_sound form a b c line e =
     arm form (codes "2") _ _ line e (λ is e. bound entry_counts a _ line e (λ entries h is1 e. bound store_counts b _ line e (λ store i is2 e. bound weight_counts c _ line e (λ weight j is3 e.
-    made _ (lines.Header (record { entries = entries; store = store; weight = weight })) line e (rw (is, is1, is2, is3) refl) (h, i, j))))) (λ e. absurd (cc e))
+    made _ (lines.Header (record { entries = entries; store = store; weight = weight })) line e
+    (rw (is, is1, is2, is3) refl) (h, i, j))))) (λ e. absurd (cc e))
 
 header_sound : (words : List (List ℕ)) (line : Line) → header_words_of words ≡ Some line → IsReadSession2 (codes "session" ∷ words) line
 header_sound [] line e = absurd (cc e)

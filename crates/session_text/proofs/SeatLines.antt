@@ -22,8 +22,8 @@ use Rattle.session_text.specs.SeatLines.{IsSeatsHeader, IsSeatsLine, address_by,
 use Rattle.session_text.specs.Words.{count_of}
 use Rattle.session_text.proofs.WordKinds.{counts}
 use Rattle.session_text.proofs.SpelledSteps.{old_entry_counts, store_counts}
-use Rattle.session_text.proofs.Asked.{line_asked}
-use Rattle.session_text.proofs.Laws.{reads_only}
+use Rattle.session_text.proofs.LinesHold.{line_asked}
+use Rattle.session_text.proofs.LinesReadBack.{reads_only}
 
 -- a header has four words
 pub many_words : (words : List (List ℕ)) → 8 < length words → header_of_words words ≡ None
@@ -38,7 +38,8 @@ many_words (a ∷ b ∷ c ∷ d ∷ e ∷ words) h = refl
 pub many_header : (line : List ℕ) → 8 < length (slice_split (λ b. eqb b 32) line) → seats_header_of line ≡ None
 unfolding seats_header_of
 many_header line h =
-    elim (leb (length line) 8400) as (λ (b : Bool). (if b then header_of_words (slice_split (λ b. eqb b 32) line) else None) ≡ None) [
+    elim (leb (length line) 8400) as
+    (λ (b : Bool). (if b then header_of_words (slice_split (λ b. eqb b 32) line) else None) ≡ None) [
       | true ↦ many_words (slice_split (λ b. eqb b 32) line) h
       | false ↦ refl
     ]
@@ -46,7 +47,8 @@ many_header line h =
 -- the numbers of a header are in their ranges
 pub header_valid : (n a b : List ℕ) (count entries store : ℕ) → count_of seat_limit n ≡ Some count
     → count_of form_1_entry_limit a ≡ Some entries → count_of store_limit b ≡ Some store
-    → IsSeatsHeader (record { count = count; limits = record { entries = entries; store = store; weight = form_1_weight } })
+    → IsSeatsHeader
+    (record { count = count; limits = record { entries = entries; store = store; weight = form_1_weight } })
 header_valid n a b count entries store is1 is2 is3 =
     let g = (counts seat_limit (lit< tt)).sound n count is1 in
     let h = old_entry_counts.sound a entries is2 in
@@ -83,7 +85,8 @@ pub seat_within : (count : ℕ) (line : List ℕ) (found : ℕ × List ℕ) → 
 seat_within count [] found e = absurd (cc e)
 seat_within count (a ∷ []) found e = absurd (cc e)
 seat_within count (digit ∷ space ∷ rest) found e =
-    seat_by count digit rest ((eqb space 32 && leb 49 digit) && leb digit (48 + count)) found (digit_within count digit space) e
+    seat_by count digit rest ((eqb space 32 && leb 49 digit) && leb digit (48 + count)) found
+    (digit_within count digit space) e
 
 there_by : (count : ℕ) (all : Option (List ℕ)) (one : Option (ℕ × List ℕ)) (found : Address × List ℕ)
     → ((seat : ℕ × List ℕ) → one ≡ Some seat → (1 ≤ seat.0) × (seat.0 ≤ count))
@@ -93,7 +96,8 @@ there_by count (Some rest) one found within e = subst (λ (o : Option (Address �
     IsThereIn : Option (Address × List ℕ) → Type 0
     IsThereIn None = Unit {0}
     IsThereIn (Some f) = IsThere count f.0
-there_by count None (Some seat) found within e = subst (λ (o : Option (Address × List ℕ)). IsThereIn o) e (within seat refl)
+there_by count None (Some seat) found within e =
+    subst (λ (o : Option (Address × List ℕ)). IsThereIn o) e (within seat refl)
   where
     IsThereIn : Option (Address × List ℕ) → Type 0
     IsThereIn None = Unit {0}
@@ -101,7 +105,8 @@ there_by count None (Some seat) found within e = subst (λ (o : Option (Address 
 there_by count None None found within e = absurd (cc e)
 
 -- a line is for a seat that there is
-pub is_there : (count : ℕ) (line : List ℕ) (found : Address × List ℕ) → address_of count line ≡ Some found → IsThere count found.0
+pub is_there : (count : ℕ) (line : List ℕ) (found : Address × List ℕ) → address_of count line ≡ Some found →
+    IsThere count found.0
 is_there count line found e = there_by count (behind_all line) (behind_seat count line) found (seat_within count line) e
 
 -- what is said to a seat that there is, or to all
@@ -112,7 +117,8 @@ said_by count (address.One seat) bytes (Some (lines.Session line)) is there x e 
     let same : said.Seat (seats.One seat line) ≡ x = cc e in
     subst (IsSeatsLine count) same (there.0, there.1, valid)
 said_by count address.All bytes (Some (lines.Session (sessions.Shell step))) is there x e =
-    let valid = line_asked (sessions.Shell step) (reads_only Session bytes (lines.Session (sessions.Shell step)) is).1 in
+    let valid = line_asked (sessions.Shell step)
+    (reads_only Session bytes (lines.Session (sessions.Shell step)) is).1 in
     let same : said.Seat (seats.All (sessions.Shell step)) ≡ x = cc e in
     subst (IsSeatsLine count) same valid
 said_by count address.All bytes (Some (lines.Session (sessions.Join role))) is there x e = absurd (cc e)
@@ -139,5 +145,6 @@ said_by count address.All bytes (Some lines.End) is there x e = absurd (cc e)
 -- what is read of a line is said to a seat that there is, or to all
 pub read_valid : (count : ℕ) (line : List ℕ) (found : Address × List ℕ) (r : Result SeatsLine BadLine)
     → address_of count line ≡ Some found → Reads r (line_for found.0 found.1) → IfOk r (IsSeatsLine count)
-read_valid count line found (Ok x) e read = said_by count found.0 found.1 (line_of Session found.1) refl (is_there count line found e) x read
+read_valid count line found (Ok x) e read =
+    said_by count found.0 found.1 (line_of Session found.1) refl (is_there count line found e) x read
 read_valid count line found (Err why) e read = tt

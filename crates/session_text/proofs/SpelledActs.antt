@@ -7,7 +7,7 @@ use Rattle.relay_model.specs.declared.act.EndCause.TheVariants as causes
 use Rattle.session_text.specs.Words.{text_limit, cursor_text_limit}
 use Rattle.session_text.specs.Grammar.{act_words, HasLine}
 use Rattle.session_text.specs.Reading.{one_word, two_words, three_words, four_words, five_words, six_words, act_of, is_end}
-use Rattle.session_text.proofs.Parts.{Parts, none, more, named, with_one, with_two}
+use Rattle.session_text.proofs.WordsByKind.{Parts, none, more, named, with_one, with_two}
 use Rattle.session_text.proofs.WordKinds.{numbers, signeds, sizes, states, texts}
 
 -- ---- the words of an act are words of a line
@@ -60,25 +60,72 @@ act_complete (acts.Grab m) h = (refl, rw (numbers.complete m h) refl)
 act_complete (acts.Drop x) h = (refl, rw (numbers.complete x h) refl)
 act_complete (acts.Focus s) h = (refl, rw (numbers.complete s h) refl)
 act_complete acts.Unfocus h = (refl, refl)
-act_complete (acts.Area s r) h = (refl, rw (numbers.complete s h.0) (rw (signeds.complete r.x h.1.0) (rw (signeds.complete r.y h.1.1) (rw (sizes.complete r.width h.1.2) (rw (sizes.complete r.height h.1.3) refl)))))
+act_complete (acts.Area s r) h = (
+  refl,
+  rw (numbers.complete s h.0)
+      (rw (signeds.complete r.x h.1.0)
+      (rw (signeds.complete r.y h.1.1) (rw (sizes.complete r.width h.1.2) (rw (sizes.complete r.height h.1.3) refl)))),
+)
 act_complete (acts.Screen z) h = (refl, rw (sizes.complete z.width h.0) (rw (sizes.complete z.height h.1) refl))
 act_complete (acts.Enable f) h = (refl, rw (numbers.complete f h) refl)
 act_complete (acts.Disable f) h = (refl, rw (numbers.complete f h) refl)
-act_complete (acts.Surround f text cursor anchor) h = (refl, rw (numbers.complete f h.0, (texts cursor_text_limit).complete text h.1) (rw (signeds.complete cursor h.2) (rw (signeds.complete anchor h.3) refl)))
+act_complete (acts.Surround f text cursor anchor) h = (
+  refl,
+  rw (numbers.complete f h.0, (texts cursor_text_limit).complete text h.1)
+      (rw (signeds.complete cursor h.2) (rw (signeds.complete anchor h.3) refl)),
+)
 act_complete (acts.Cause f cause) h = (refl, rw (numbers.complete f h.0) (rw (numbers.complete cause h.1) refl))
-act_complete (acts.Content f hint purpose) h = (refl, rw (numbers.complete f h.0) (rw (numbers.complete hint h.1) (rw (numbers.complete purpose h.2) refl)))
-act_complete (acts.Cursor f r) h = (refl, rw (numbers.complete f h.0) (rw (signeds.complete r.x h.1.0) (rw (signeds.complete r.y h.1.1) (rw (signeds.complete r.width h.1.2) (rw (signeds.complete r.height h.1.3) refl)))))
+act_complete (acts.Content f hint purpose) h =
+    (refl, rw (numbers.complete f h.0) (rw (numbers.complete hint h.1) (rw (numbers.complete purpose h.2) refl)))
+act_complete (acts.Cursor f r) h = (
+  refl,
+  rw (numbers.complete f h.0)
+      (rw (signeds.complete r.x h.1.0)
+      (rw (signeds.complete r.y h.1.1)
+      (rw (signeds.complete r.width h.1.2) (rw (signeds.complete r.height h.1.3) refl)))),
+)
 act_complete (acts.Commit f) h = (refl, rw (numbers.complete f h) refl)
 act_complete (acts.MString m text) h = (refl, rw (numbers.complete m h.0, (texts text_limit).complete text h.1) refl)
-act_complete (acts.MPreedit m text begin end) h = (refl, rw (numbers.complete m h.0, (texts cursor_text_limit).complete text h.1) (rw (signeds.complete begin h.2) (rw (signeds.complete end h.3) refl)))
-act_complete (acts.MDelete m before after) h = (refl, rw (numbers.complete m h.0) (rw (numbers.complete before h.1) (rw (numbers.complete after h.2) refl)))
+act_complete (acts.MPreedit m text begin end) h = (
+  refl,
+  rw (numbers.complete m h.0, (texts cursor_text_limit).complete text h.1)
+      (rw (signeds.complete begin h.2) (rw (signeds.complete end h.3) refl)),
+)
+act_complete (acts.MDelete m before after) h =
+    (refl, rw (numbers.complete m h.0) (rw (numbers.complete before h.1) (rw (numbers.complete after h.2) refl)))
 act_complete (acts.MCommit m serial) h = (refl, rw (numbers.complete m h.0) (rw (numbers.complete serial h.1) refl))
-act_complete (acts.Key time key state) h = (refl, rw (numbers.complete time h.0) (rw (numbers.complete key h.1) (rw (states.complete state h.2) refl)))
-act_complete (acts.Mods mods) h = (refl, rw (numbers.complete mods.depressed h.0) (rw (numbers.complete mods.latched h.1) (rw (numbers.complete mods.locked h.2) (rw (numbers.complete mods.group h.3) refl))))
-act_complete (acts.Keymap keymap) h = (refl, rw (numbers.complete keymap.format h.0) (rw (numbers.complete keymap.token h.1) (rw (numbers.complete keymap.size h.2) refl)))
-act_complete (acts.Repeat repeat) h = (refl, rw (signeds.complete repeat.rate h.0) (rw (signeds.complete repeat.delay h.1) refl))
+act_complete (acts.Key time key state) h =
+    (refl, rw (numbers.complete time h.0) (rw (numbers.complete key h.1) (rw (states.complete state h.2) refl)))
+act_complete (acts.Mods mods) h = (
+  refl,
+  rw (numbers.complete mods.depressed h.0)
+      (rw (numbers.complete mods.latched h.1)
+      (rw (numbers.complete mods.locked h.2) (rw (numbers.complete mods.group h.3) refl))),
+)
+act_complete (acts.Keymap keymap) h = (
+  refl,
+  rw (numbers.complete keymap.format h.0)
+      (rw (numbers.complete keymap.token h.1) (rw (numbers.complete keymap.size h.2) refl)),
+)
+act_complete (acts.Repeat repeat) h =
+    (refl, rw (signeds.complete repeat.rate h.0) (rw (signeds.complete repeat.delay h.1) refl))
 act_complete (acts.VBoard p) h = (refl, rw (numbers.complete p h) refl)
-act_complete (acts.VKeymap v keymap) h = (refl, rw (numbers.complete v h.0) (rw (numbers.complete keymap.format h.1) (rw (numbers.complete keymap.token h.2) (rw (numbers.complete keymap.size h.3) refl))))
-act_complete (acts.VKey v time key state) h = (refl, rw (numbers.complete v h.0) (rw (numbers.complete time h.1) (rw (numbers.complete key h.2) (rw (states.complete state h.3) refl))))
-act_complete (acts.VMods v mods) h = (refl, rw (numbers.complete v h.0) (rw (numbers.complete mods.depressed h.1) (rw (numbers.complete mods.latched h.2) (rw (numbers.complete mods.locked h.3) (rw (numbers.complete mods.group h.4) refl)))))
+act_complete (acts.VKeymap v keymap) h = (
+  refl,
+  rw (numbers.complete v h.0)
+      (rw (numbers.complete keymap.format h.1)
+      (rw (numbers.complete keymap.token h.2) (rw (numbers.complete keymap.size h.3) refl))),
+)
+act_complete (acts.VKey v time key state) h = (
+  refl,
+  rw (numbers.complete v h.0)
+      (rw (numbers.complete time h.1) (rw (numbers.complete key h.2) (rw (states.complete state h.3) refl))),
+)
+act_complete (acts.VMods v mods) h = (
+  refl,
+  rw (numbers.complete v h.0)
+      (rw (numbers.complete mods.depressed h.1)
+      (rw (numbers.complete mods.latched h.2)
+      (rw (numbers.complete mods.locked h.3) (rw (numbers.complete mods.group h.4) refl)))),
+)
 act_complete _ h = absurd h

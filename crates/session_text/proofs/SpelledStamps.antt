@@ -17,8 +17,8 @@ use Rattle.session_text.specs.declared.line.SessionLine.TheVariants as sessions
 use Rattle.session_text.specs.Words.{count_of, numbers_of}
 use Rattle.session_text.specs.SessionGrammar.{shell_words, session_words, long_header_words, stamped_words, HasLinkLine, HasStampedLine, AreTokens, IsStamp}
 use Rattle.session_text.specs.StampedReading.{link_of, tokens_of, plain_line, behind_stamp, long_header_of, session_2_of}
-use Rattle.session_text.proofs.Separators.{lacks, IsOutside, decimal_lacks}
-use Rattle.session_text.proofs.Parts.{Parts, none, more, named, whole}
+use Rattle.session_text.proofs.LinesSplit.{lacks, IsOutside, decimal_lacks}
+use Rattle.session_text.proofs.WordsByKind.{Parts, none, more, named, whole}
 use Rattle.session_text.proofs.WordKinds.{Kind, numbers, long_numbers, counts}
 use Rattle.session_text.proofs.SpelledSteps.{store_counts, line_fits, shell_complete, session_complete}
 
@@ -30,14 +30,18 @@ weight_counts = counts weight_limit (omega arith)
 
 -- ---- the words of a line
 
-pub stamped_parts : (stamp : Stamp) (line : SessionLine) → IsStamp stamp → HasStampedLine line → Parts (stamped_words stamp (session_words line))
+pub stamped_parts : (stamp : Stamp) (line : SessionLine) → IsStamp stamp → HasStampedLine line →
+    Parts (stamped_words stamp (session_words line))
 stamped_parts stamp line s h =
-    whole (stamped_words stamp (session_words line)) _ (more long_numbers stamp.moment s.0 _ _ (more long_numbers stamp.author s.1 _ _ (line_fits line h)))
+    whole (stamped_words stamp (session_words line)) _
+    (more long_numbers stamp.moment s.0 _ _ (more long_numbers stamp.author s.1 _ _ (line_fits line h)))
     (omega arith) (omega arith)
 
 pub long_header_parts : (limits : Limits) → IsLimits limits → Parts (long_header_words limits)
 long_header_parts limits h =
-    let counted = more entry_counts limits.entries h.0 _ _ (more store_counts limits.store h.1 _ _ (more weight_counts limits.weight h.2 _ _ none)) in
+    let counted =
+    more entry_counts limits.entries h.0 _ _
+    (more store_counts limits.store h.1 _ _ (more weight_counts limits.weight h.2 _ _ none)) in
     named (codes "session") (codes "2" ∷ _) 35 (record { spaceless = (refl, counted.spaceless); zeroless = (refl, counted.zeroless); within = omega (arith, counted.within) }) refl
 
 -- ---- the words of a line are read as that line
@@ -58,11 +62,13 @@ numbers_complete : (ns : List ℕ) → All (λ n. n < 2 ^ 32) ns → numbers_of 
 unfolding numbers_of
 numbers_complete [] h = refl
 numbers_complete (n ∷ ns) h =
-    rw (numbers.complete n (All-head (λ n. n < 2 ^ 32) n ns h)) (rw (numbers_complete ns (All-tail (λ n. n < 2 ^ 32) n ns h)) refl)
+    rw (numbers.complete n (All-head (λ n. n < 2 ^ 32) n ns h))
+    (rw (numbers_complete ns (All-tail (λ n. n < 2 ^ 32) n ns h)) refl)
 
 tokens_complete : (tokens : List ℕ) → AreTokens tokens → tokens_of (map decimal tokens) ≡ Some tokens
 unfolding tokens_of
-tokens_complete tokens h = rw (numbers_complete tokens h.1, le-leb 1 (length tokens) h.0.0, le-leb (length tokens) token_limit h.0.1) refl
+tokens_complete tokens h =
+    rw (numbers_complete tokens h.1, le-leb 1 (length tokens) h.0.0, le-leb (length tokens) token_limit h.0.1) refl
 
 behind_complete : (line : SessionLine) → HasStampedLine line → behind_stamp (session_words line) ≡ Some line
 unfolding behind_stamp
@@ -71,18 +77,26 @@ behind_complete (sessions.Bytes p bytes) h = ap plain_line (session_complete (se
 behind_complete (sessions.Gone p) h = ap plain_line (session_complete (sessions.Gone p) h)
 behind_complete (sessions.Take p n) h = ap plain_line (session_complete (sessions.Take p n) h)
 behind_complete (sessions.Tokens p tokens) h = rw (numbers.complete p h.0) (rw (tokens_complete tokens h.1) refl)
-behind_complete (sessions.Shell (shells.Focus p i)) h = ap plain_line (session_complete (sessions.Shell (shells.Focus p i)) h)
+behind_complete (sessions.Shell (shells.Focus p i)) h =
+    ap plain_line (session_complete (sessions.Shell (shells.Focus p i)) h)
 behind_complete (sessions.Shell shells.Unfocus) h = ap plain_line (session_complete (sessions.Shell shells.Unfocus) h)
-behind_complete (sessions.Shell (shells.Area p i r)) h = ap plain_line (session_complete (sessions.Shell (shells.Area p i r)) h)
-behind_complete (sessions.Shell (shells.Screen z)) h = ap plain_line (session_complete (sessions.Shell (shells.Screen z)) h)
-behind_complete (sessions.Shell (shells.Key time key state)) h = ap plain_line (session_complete (sessions.Shell (shells.Key time key state)) h)
-behind_complete (sessions.Shell (shells.Mods mods)) h = ap plain_line (session_complete (sessions.Shell (shells.Mods mods)) h)
-behind_complete (sessions.Shell (shells.Keymap keymap)) h = ap plain_line (session_complete (sessions.Shell (shells.Keymap keymap)) h)
-behind_complete (sessions.Shell (shells.Repeat repeat)) h = ap plain_line (session_complete (sessions.Shell (shells.Repeat repeat)) h)
+behind_complete (sessions.Shell (shells.Area p i r)) h =
+    ap plain_line (session_complete (sessions.Shell (shells.Area p i r)) h)
+behind_complete (sessions.Shell (shells.Screen z)) h =
+    ap plain_line (session_complete (sessions.Shell (shells.Screen z)) h)
+behind_complete (sessions.Shell (shells.Key time key state)) h =
+    ap plain_line (session_complete (sessions.Shell (shells.Key time key state)) h)
+behind_complete (sessions.Shell (shells.Mods mods)) h =
+    ap plain_line (session_complete (sessions.Shell (shells.Mods mods)) h)
+behind_complete (sessions.Shell (shells.Keymap keymap)) h =
+    ap plain_line (session_complete (sessions.Shell (shells.Keymap keymap)) h)
+behind_complete (sessions.Shell (shells.Repeat repeat)) h =
+    ap plain_line (session_complete (sessions.Shell (shells.Repeat repeat)) h)
 behind_complete (sessions.Shell (shells.At moment)) h = rw (long_numbers.complete moment h) refl
 
 -- a number is none of the names, which have a byte that is in no number
-letter : (b : ℕ) → IsOutside b → (n : ℕ) → n < 2 ^ 64 → (name : List ℕ) → lacks b name ≡ false → bytes_eq (decimal n) name ≡ false
+letter : (b : ℕ) → IsOutside b → (n : ℕ) → n < 2 ^ 64 → (name : List ℕ) → lacks b name ≡ false →
+    bytes_eq (decimal n) name ≡ false
 letter b out n small name has =
     elim (bytes_eq (decimal n) name) as (λ v. bytes_eq (decimal n) name ≡ v → v ≡ false) [
       | true ↦ λ is.
@@ -101,12 +115,16 @@ unfolding session_2_of
 stamped_complete stamp line s h =
     let no_end : bytes_eq (decimal stamp.moment) (codes "end") ≡ false = letter 110 letter_n stamp.moment s.0 (codes "end") refl in
     let no_header : bytes_eq (decimal stamp.moment) (codes "session") ≡ false = letter 110 letter_n stamp.moment s.0 (codes "session") refl in
-    rw (no_end, no_header) (rw (long_numbers.complete stamp.moment s.0) (rw (long_numbers.complete stamp.author s.1) (rw (behind_complete line h) refl)))
+    rw (no_end, no_header)
+    (rw (long_numbers.complete stamp.moment s.0)
+    (rw (long_numbers.complete stamp.author s.1) (rw (behind_complete line h) refl)))
 
-pub long_header_complete : (limits : Limits) → IsLimits limits → session_2_of (long_header_words limits) ≡ Some (lines.Header limits)
+pub long_header_complete : (limits : Limits) → IsLimits limits →
+    session_2_of (long_header_words limits) ≡ Some (lines.Header limits)
 unfolding session_2_of long_header_of
 long_header_complete limits h =
-    rw (entry_counts.complete limits.entries h.0) (rw (store_counts.complete limits.store h.1) (rw (weight_counts.complete limits.weight h.2) refl))
+    rw (entry_counts.complete limits.entries h.0)
+    (rw (store_counts.complete limits.store h.1) (rw (weight_counts.complete limits.weight h.2) refl))
 
 pub end_2_complete : session_2_of (codes "end" ∷ []) ≡ Some lines.End
 unfolding session_2_of

@@ -13,8 +13,8 @@ use Rattle.seat_steps.specs.Ranges.{piece_limit, form_1_entry_limit, store_limit
 use Rattle.session_text.specs.Words.{count_of}
 use Rattle.session_text.specs.SessionGrammar.{shell_words, session_words, header_words, AreOldLimits, HasShellLine, HasLinkLine, HasSessionLine, HasStampedLine, AreTokens}
 use Rattle.session_text.specs.SessionReading.{one_shell_word, three_shell_words, four_shell_words, five_shell_words, seven_shell_words, shell_of, in_session, one_session_word, two_session_words, three_session_words, four_session_words, header_of, session_of}
-use Rattle.session_text.proofs.Separators.{lacks}
-use Rattle.session_text.proofs.Parts.{Parts, Fits, none, more, named, behind_name, whole}
+use Rattle.session_text.proofs.LinesSplit.{lacks}
+use Rattle.session_text.proofs.WordsByKind.{Parts, Fits, none, more, named, behind_name, whole}
 use Rattle.session_text.proofs.WordKinds.{Kind, numbers, long_numbers, signeds, sizes, states, pieces, counts, roles}
 
 -- the kinds of numbers with a limit of their own
@@ -53,14 +53,20 @@ old_line (sessions.Shell step) h = old_shell step h
 abbrev pub behind_limit : ℕ
 behind_limit = 8300
 
-fits_one : {A : Type 0} {read : List ℕ → Option A} {spell : A → List ℕ} {Is : A → Type 0} {most : ℕ} → Kind read spell Is most
-    → (name : List ℕ) (x : A) → Is x → (lacks 32 name && lacks 0 name && nat_le (length name + 1 + (most + 1 + 0)) behind_limit) ≡ true → Fits (name ∷ spell x ∷ []) behind_limit
+fits_one : {A : Type 0} {read : List ℕ → Option A} {spell : A → List ℕ} {Is : A → Type 0} {most : ℕ} →
+    Kind read spell Is most
+    → (name : List ℕ) (x : A) → Is x →
+    (lacks 32 name && lacks 0 name && nat_le (length name + 1 + (most + 1 + 0)) behind_limit) ≡ true →
+    Fits (name ∷ spell x ∷ []) behind_limit
 fits_one kind name x h test = behind_name behind_limit name _ _ (more kind x h _ _ none) test
 
-fits_two : {A B : Type 0} {read : List ℕ → Option A} {spell : A → List ℕ} {Is : A → Type 0} {most : ℕ} {read' : List ℕ → Option B} {spell' : B → List ℕ} {Is' : B → Type 0} {most' : ℕ}
+fits_two : {A B : Type 0} {read : List ℕ → Option A} {spell : A → List ℕ} {Is : A → Type 0} {most : ℕ} {read' : List ℕ →
+    Option B} {spell' : B → List ℕ} {Is' : B → Type 0} {most' : ℕ}
     → Kind read spell Is most → Kind read' spell' Is' most' → (name : List ℕ) (x : A) (y : B) → Is x → Is' y
-    → (lacks 32 name && lacks 0 name && nat_le (length name + 1 + (most + 1 + (most' + 1 + 0))) behind_limit) ≡ true → Fits (name ∷ spell x ∷ spell' y ∷ []) behind_limit
-fits_two kind kind' name x y h h' test = behind_name behind_limit name _ _ (more kind x h _ _ (more kind' y h' _ _ none)) test
+    → (lacks 32 name && lacks 0 name && nat_le (length name + 1 + (most + 1 + (most' + 1 + 0))) behind_limit) ≡ true →
+    Fits (name ∷ spell x ∷ spell' y ∷ []) behind_limit
+fits_two kind kind' name x y h h' test =
+    behind_name behind_limit name _ _ (more kind x h _ _ (more kind' y h' _ _ none)) test
 
 pub shell_fits : (step : ShellStep) → HasLinkLine step → Fits (shell_words step) behind_limit
 shell_fits (shells.Focus p i) h = fits_two numbers numbers (codes "focus") p i h.0 h.1 refl
@@ -76,13 +82,19 @@ shell_fits (shells.At moment) h = fits_one long_numbers (codes "at") moment h re
 tokens_fit : (tokens : List ℕ) → All (λ token. token < 2 ^ 32) tokens → Fits (map decimal tokens) (11 * length tokens)
 tokens_fit [] h = none
 tokens_fit (t ∷ tokens) h =
-    let first = more numbers t (All-head (λ token. token < 2 ^ 32) t tokens h) _ _ (tokens_fit tokens (All-tail (λ token. token < 2 ^ 32) t tokens h)) in
+    let first = more numbers t (All-head (λ token. token < 2 ^ 32) t tokens h) _ _
+    (tokens_fit tokens (All-tail (λ token. token < 2 ^ 32) t tokens h)) in
     record { spaceless = first.spaceless; zeroless = first.zeroless; within = omega (arith, first.within) }
 
-tokens_line_fits : (p : ℕ) (tokens : List ℕ) → p < 2 ^ 32 → AreTokens tokens → Fits (session_words (sessions.Tokens p tokens)) behind_limit
+tokens_line_fits : (p : ℕ) (tokens : List ℕ) → p < 2 ^ 32 → AreTokens tokens →
+    Fits (session_words (sessions.Tokens p tokens)) behind_limit
 tokens_line_fits p tokens small h =
     let behind = more numbers p small _ _ (tokens_fit tokens h.1) in
-    record { spaceless = (refl, behind.spaceless); zeroless = (refl, behind.zeroless); within = omega (arith, behind.within, h.0.1) }
+    record {
+      spaceless = (refl, behind.spaceless);
+      zeroless = (refl, behind.zeroless);
+      within = omega (arith, behind.within, h.0.1);
+    }
 
 pub line_fits : (line : SessionLine) → HasStampedLine line → Fits (session_words line) behind_limit
 line_fits (sessions.Join role) h = fits_one roles (codes "join") role tt refl
@@ -128,15 +140,27 @@ pub shell_complete : (step : ShellStep) → HasShellLine step → shell_of (shel
 unfolding one_shell_word three_shell_words four_shell_words five_shell_words seven_shell_words
 shell_complete (shells.Focus p i) h = rw (numbers.complete p h.0) (rw (numbers.complete i h.1) refl)
 shell_complete shells.Unfocus h = refl
-shell_complete (shells.Area p i r) h = rw (numbers.complete p h.0) (rw (numbers.complete i h.1) (rw (signeds.complete r.x h.2.0) (rw (signeds.complete r.y h.2.1) (rw (sizes.complete r.width h.2.2) (rw (sizes.complete r.height h.2.3) refl)))))
+shell_complete (shells.Area p i r) h =
+    rw (numbers.complete p h.0)
+    (rw (numbers.complete i h.1)
+    (rw (signeds.complete r.x h.2.0)
+    (rw (signeds.complete r.y h.2.1) (rw (sizes.complete r.width h.2.2) (rw (sizes.complete r.height h.2.3) refl)))))
 shell_complete (shells.Screen z) h = rw (sizes.complete z.width h.0) (rw (sizes.complete z.height h.1) refl)
-shell_complete (shells.Key time key state) h = rw (numbers.complete time h.0) (rw (numbers.complete key h.1) (rw (states.complete state h.2) refl))
-shell_complete (shells.Mods mods) h = rw (numbers.complete mods.depressed h.0) (rw (numbers.complete mods.latched h.1) (rw (numbers.complete mods.locked h.2) (rw (numbers.complete mods.group h.3) refl)))
-shell_complete (shells.Keymap keymap) h = rw (numbers.complete keymap.format h.0) (rw (numbers.complete keymap.token h.1) (rw (numbers.complete keymap.size h.2) refl))
-shell_complete (shells.Repeat repeat) h = rw (signeds.complete repeat.rate h.0) (rw (signeds.complete repeat.delay h.1) refl)
+shell_complete (shells.Key time key state) h =
+    rw (numbers.complete time h.0) (rw (numbers.complete key h.1) (rw (states.complete state h.2) refl))
+shell_complete (shells.Mods mods) h =
+    rw (numbers.complete mods.depressed h.0)
+    (rw (numbers.complete mods.latched h.1)
+    (rw (numbers.complete mods.locked h.2) (rw (numbers.complete mods.group h.3) refl)))
+shell_complete (shells.Keymap keymap) h =
+    rw (numbers.complete keymap.format h.0)
+    (rw (numbers.complete keymap.token h.1) (rw (numbers.complete keymap.size h.2) refl))
+shell_complete (shells.Repeat repeat) h =
+    rw (signeds.complete repeat.rate h.0) (rw (signeds.complete repeat.delay h.1) refl)
 shell_complete (shells.At moment) h = absurd h
 
-pub session_complete : (line : SessionLine) → HasSessionLine line → session_of (session_words line) ≡ Some (lines.Session line)
+pub session_complete : (line : SessionLine) → HasSessionLine line →
+    session_of (session_words line) ≡ Some (lines.Session line)
 unfolding one_session_word two_session_words three_session_words four_session_words
 session_complete (sessions.Join role) h = rw (roles.complete role tt) refl
 session_complete (sessions.Bytes p bytes) h = rw (numbers.complete p h.0, (pieces piece_limit).complete bytes h.1) refl
@@ -147,17 +171,20 @@ session_complete (sessions.Shell (shells.Focus p i)) h = ap in_session (shell_co
 session_complete (sessions.Shell shells.Unfocus) h = ap in_session (shell_complete shells.Unfocus h)
 session_complete (sessions.Shell (shells.Area p i r)) h = ap in_session (shell_complete (shells.Area p i r) h)
 session_complete (sessions.Shell (shells.Screen z)) h = ap in_session (shell_complete (shells.Screen z) h)
-session_complete (sessions.Shell (shells.Key time key state)) h = ap in_session (shell_complete (shells.Key time key state) h)
+session_complete (sessions.Shell (shells.Key time key state)) h =
+    ap in_session (shell_complete (shells.Key time key state) h)
 session_complete (sessions.Shell (shells.Mods mods)) h = ap in_session (shell_complete (shells.Mods mods) h)
 session_complete (sessions.Shell (shells.Keymap keymap)) h = ap in_session (shell_complete (shells.Keymap keymap) h)
 session_complete (sessions.Shell (shells.Repeat repeat)) h = ap in_session (shell_complete (shells.Repeat repeat) h)
 session_complete (sessions.Shell (shells.At moment)) h = absurd h
 
-pub header_complete : (limits : Limits) → AreOldLimits limits → session_of (header_words limits) ≡ Some (lines.Header limits)
+pub header_complete : (limits : Limits) → AreOldLimits limits →
+    session_of (header_words limits) ≡ Some (lines.Header limits)
 unfolding four_session_words header_of
 header_complete limits h =
     rw (old_entry_counts.complete limits.entries h.0) (rw (store_counts.complete limits.store h.1)
-    (ap (λ weight. Some (lines.Header (record { entries = limits.entries; store = limits.store; weight = weight }))) (sym h.2)))
+    (ap (λ weight. Some (lines.Header (record { entries = limits.entries; store = limits.store; weight = weight })))
+    (sym h.2)))
 
 pub end_complete : session_of (codes "end" ∷ []) ≡ Some lines.End
 unfolding one_session_word

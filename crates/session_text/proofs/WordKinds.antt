@@ -10,11 +10,11 @@ use Rattle.relay_model.specs.declared.role.Role.TheVariants.{App, Method}
 use Rattle.seat_steps.specs.Ranges.{is_size}
 use Rattle.session_text.specs.Words.{IsTextWithin, IsBytesWithin, fits_i32, hex_word, role_word, number_of, long_number_of, signed_of, size_of, state_of, text_of, bytes_of, count_of, role_of}
 use Rattle.seat_steps.specs.Ranges.{IsWithin}
-use Rattle.session_text.proofs.Arms.{arm, kept_some}
+use Rattle.session_text.proofs.TestsLetThrough.{arm, kept_some}
 use Rattle.session_text.proofs.WrittenNumbers.{number_sound, number_complete, signed_sound, signed_complete, mag_i32}
 use Rattle.session_text.proofs.LongNumbers.{long_sound, long_complete}
-use Rattle.session_text.proofs.Texts.{text_sound, text_complete, bytes_sound, bytes_complete, length-hex_word}
-use Rattle.session_text.proofs.Separators.{lacks, IsOutside, space, zero, decimal_lacks, signed_lacks, hex_lacks}
+use Rattle.session_text.proofs.WordsAreTexts.{text_sound, text_complete, bytes_sound, bytes_complete, length-hex_word}
+use Rattle.session_text.proofs.LinesSplit.{lacks, IsOutside, space, zero, decimal_lacks, signed_lacks, hex_lacks}
 
 pub record Kind {A : Type 0} (read : List ℕ → Option A) (spell : A → List ℕ) (Is : A → Type 0) (most : ℕ) : Type 0 where
   pub sound : (word : List ℕ) (x : A) → read word ≡ Some x → Is x × (word ≡ spell x)
@@ -79,7 +79,8 @@ sizes = record {
 
 state_sound : (word : List ℕ) (n : ℕ) → state_of word ≡ Some n → (n ≤ 1) × (word ≡ decimal n)
 unfolding state_of
-state_sound word n e = let (is, passes) = kept_some (λ n. leb n 1) (number_of word) n e in (leb-true n 1 passes, (number_sound word n is).1)
+state_sound word n e = let (is, passes) =
+    kept_some (λ n. leb n 1) (number_of word) n e in (leb-true n 1 passes, (number_sound word n is).1)
 
 state_complete : (n : ℕ) → n ≤ 1 → state_of (decimal n) ≡ Some n
 unfolding state_of

@@ -31,11 +31,13 @@ printed_sound value test print word x e =
     (ap test (sym same) ∙ passes, sym ((bytes_eq-Decides (print v) word).0 text) ∙ ap print same)
 
 pub printed_one : {X : Type 0} (value : List ℕ → X) (test : X → Bool) (print : X → List ℕ) (word : List ℕ) (x : X)
-    → ((y : X) → test y ≡ true → value (print y) ≡ y) → test x ≡ true → word ≡ print x → printed value test print word ≡ Some x
+    → ((y : X) → test y ≡ true → value (print y) ≡ y) → test x ≡ true → word ≡ print x →
+    printed value test print word ≡ Some x
 printed_one {X} value test print word x back passes text =
     let same : bytes_eq (print x) word ≡ true = (bytes_eq-Decides (print x) word).1 (sym text) in
     let is : value word ≡ x = ap value text ∙ back x passes in
-    subst (λ y. ◌≡◌ {A = Option X} (cond (test y && bytes_eq (print y) word) (Some y) None) (Some x)) (sym is) (rw (passes, same) refl)
+    subst (λ y. ◌≡◌ {A = Option X} (cond (test y && bytes_eq (print y) word) (Some y) None) (Some x)) (sym is)
+    (rw (passes, same) refl)
 
 -- where the word is no print there is no value
 pub printed_none : {X : Type 0} (value : List ℕ → X) (test : X → Bool) (print : X → List ℕ) (word : List ℕ)
@@ -63,7 +65,8 @@ number_sound word n e =
 
 pub number_complete : (n : ℕ) → n < 2 ^ 32 → number_of (decimal n) ≡ Some n
 unfolding number_of
-number_complete n small = printed_one (digits_value 10) (λ n. ltb n (2 ^ 32)) decimal (decimal n) n number_back (lt-ltb n (2 ^ 32) small) refl
+number_complete n small =
+    printed_one (digits_value 10) (λ n. ltb n (2 ^ 32)) decimal (decimal n) n number_back (lt-ltb n (2 ^ 32) small) refl
 
 -- ---- numbers of 32 bits with a sign
 
@@ -96,27 +99,36 @@ signed_sound word z e = printed_sound (signed_digits_value 10) fits_i32 signed_d
 
 pub signed_complete : (z : ℤ) → fits_i32 z ≡ true → signed_of (signed_decimal z) ≡ Some z
 unfolding signed_of
-signed_complete z fits = printed_one (signed_digits_value 10) fits_i32 signed_decimal (signed_decimal z) z signed_back fits refl
+signed_complete z fits =
+    printed_one (signed_digits_value 10) fits_i32 signed_decimal (signed_decimal z) z signed_back fits refl
 
 -- ---- a word of digits reads as their number
 
 plain_is : (word : List ℕ) → IsPlain 10 word → AllDigits 10 word → decimal (digits_value 10 word) ≡ word
-plain_is word p all = decimal-digits_value own word all p.0 p.2 (let small = digits_value_short own word 10 all p.1 in omega (arith, small))
+plain_is word p all =
+    decimal-digits_value own word all p.0 p.2
+    (let small = digits_value_short own word 10 all p.1 in omega (arith, small))
 
-pub plain_value : (word : List ℕ) (n : ℕ) → IsPlain 10 word → AllDigits 10 word → n ≡ digits_value 10 word → word ≡ decimal n
+pub plain_value : (word : List ℕ) (n : ℕ) → IsPlain 10 word → AllDigits 10 word → n ≡ digits_value 10 word →
+    word ≡ decimal n
 plain_value word n p all is = sym (ap decimal is ∙ plain_is word p all)
 
 pub plain_small : (word : List ℕ) (n : ℕ) → IsPlain 10 word → AllDigits 10 word → n ≡ digits_value 10 word → n < 10 ^ 10
 plain_small word n p all is = subst (λ k. k < 10 ^ 10) (sym is) (digits_value_short own word 10 all p.1)
 
 pub decimal_plain : (most n : ℕ) → 1 ≤ most → n < 2 ^ 64 → n < 10 ^ most → IsPlain most (decimal n)
-decimal_plain most zero some small fits = let one : length (decimal 0) ≡ 1 = ap length (decimal_digit 0 (omega arith)) in (omega (arith, one), omega (arith, one), λ e. one)
+decimal_plain most zero some small fits = let one : length (decimal 0) ≡ 1 =
+    ap length (decimal_digit 0 (omega arith)) in (omega (arith, one), omega (arith, one), λ e. one)
 decimal_plain most (suc n) some small fits =
-    let first = first_decimal (suc n) (omega arith) small in
-    (decimal_nonempty (suc n) small, length-decimal-le most (suc n) some fits small, λ e. absurd (omega (arith, first, e)))
+    let first = first_decimal (suc n) (omega arith) small in (
+      decimal_nonempty (suc n) small,
+      length-decimal-le most (suc n) some fits small,
+      λ e. absurd (omega (arith, first, e)),
+    )
 
 pub not_plain : (word : List ℕ) → ¬ (IsPlain 10 word) → (n : ℕ) → n < 2 ^ 32 → ¬ (word ≡ decimal n)
-not_plain word other n small is = other (subst (IsPlain 10) (sym is) (decimal_plain 10 n (omega arith) (omega arith) (omega arith)))
+not_plain word other n small is =
+    other (subst (IsPlain 10) (sym is) (decimal_plain 10 n (omega arith) (omega arith) (omega arith)))
 
 pub not_digits : (word : List ℕ) → ¬ (AllDigits 10 word) → (n : ℕ) → n < 2 ^ 32 → ¬ (word ≡ decimal n)
 not_digits word other n small is = other (subst (AllDigits 10) (sym is) (digits_decimal own n (omega arith)))
@@ -125,11 +137,14 @@ not_digits word other n small is = other (subst (AllDigits 10) (sym is) (digits_
 
 pub number_none : (word : List ℕ) → ((n : ℕ) → n < 2 ^ 32 → ¬ (word ≡ decimal n)) → number_of word ≡ None
 unfolding number_of
-number_none word none = printed_none (digits_value 10) (λ n. ltb n (2 ^ 32)) decimal word (λ n small is. none n (ltb-true n (2 ^ 32) small) is)
+number_none word none =
+    printed_none (digits_value 10) (λ n. ltb n (2 ^ 32)) decimal word
+    (λ n small is. none n (ltb-true n (2 ^ 32) small) is)
 
 -- a number that is printed so is the only one
 one_decimal : (m n : ℕ) → m < 2 ^ 64 → n < 2 ^ 64 → decimal m ≡ decimal n → m ≡ n
-one_decimal m n m-lt n-lt e = sym (digits_value-decimal own m m-lt) ∙ ap (digits_value 10) e ∙ digits_value-decimal own n n-lt
+one_decimal m n m-lt n-lt e =
+    sym (digits_value-decimal own m m-lt) ∙ ap (digits_value 10) e ∙ digits_value-decimal own n n-lt
 
 number_at : (n : ℕ) (b : Bool) → ltb n (2 ^ 32) ≡ b → n < 10 ^ 10 → number_of (decimal n) ≡ (if b then Some n else None)
 number_at n true small many = number_complete n (ltb-true n (2 ^ 32) small)
@@ -143,9 +158,11 @@ number_is word n many is = ap number_of is ∙ number_at n (ltb n (2 ^ 32)) refl
 -- with a sign
 
 no_sign : (n : ℕ) → n < 2 ^ 64 → ¬ (get_or (decimal n) 0 0 ≡ 45)
-no_sign n small e = let other = first_is_digit n 45 small (λ h. omega arith) in let same : eqb (get_or (decimal n) 0 0) 45 ≡ true = rw e refl in cc
+no_sign n small e = let other =
+    first_is_digit n 45 small (λ h. omega arith) in let same : eqb (get_or (decimal n) 0 0) 45 ≡ true = rw e refl in cc
 
-pub signed_none : (word : List ℕ) → ¬ (get_or word 0 0 ≡ 45) → ((n : ℕ) → n < 2 ^ 31 → ¬ (word ≡ decimal n)) → signed_of word ≡ None
+pub signed_none : (word : List ℕ) → ¬ (get_or word 0 0 ≡ 45) → ((n : ℕ) → n < 2 ^ 31 → ¬ (word ≡ decimal n)) →
+    signed_of word ≡ None
 unfolding signed_of
 signed_none word plain none = printed_none (signed_digits_value 10) fits_i32 signed_decimal word at
   where
@@ -159,20 +176,24 @@ minus_behind : (word : List ℕ) → get_or word 0 0 ≡ 45 → word ≡ 45 ∷ 
 minus_behind [] e = absurd (omega (arith, e))
 minus_behind (x ∷ xs) e = ap (λ c. c ∷ xs) e
 
-negative_late : (word : List ℕ) → get_or word 0 0 ≡ 45 → ((n : ℕ) → n < 2 ^ 31 → ¬ (drop 1 word ≡ decimal (suc n))) → signed_of word ≡ None
+negative_late : (word : List ℕ) → get_or word 0 0 ≡ 45 → ((n : ℕ) → n < 2 ^ 31 → ¬ (drop 1 word ≡ decimal (suc n))) →
+    signed_of word ≡ None
 unfolding signed_of
 negative_late word minus none = printed_none (signed_digits_value 10) fits_i32 signed_decimal word at
   where
     at : (z : ℤ) → fits_i32 z ≡ true → word ≡ signed_decimal z → ⊥
-    at (pos n) fits is = let lt = ltb-true n (2 ^ 31) fits in no_sign n (omega (arith, lt)) (sym (ap (λ w. get_or w 0 0) is) ∙ minus)
+    at (pos n) fits is = let lt =
+        ltb-true n (2 ^ 31) fits in no_sign n (omega (arith, lt)) (sym (ap (λ w. get_or w 0 0) is) ∙ minus)
     at (negsuc n) fits is = none n (ltb-true n (2 ^ 31) fits) (ap (drop 1) is)
 
-pub negative_none : (word : List ℕ) → get_or word 0 0 ≡ 45 → ((n : ℕ) → n < 2 ^ 32 → ¬ (drop 1 word ≡ decimal n)) → signed_of word ≡ None
+pub negative_none : (word : List ℕ) → get_or word 0 0 ≡ 45 → ((n : ℕ) → n < 2 ^ 32 → ¬ (drop 1 word ≡ decimal n)) →
+    signed_of word ≡ None
 negative_none word minus none = negative_late word minus (λ n lt. none (suc n) (omega arith))
 
 -- numbers with a sign, by the digits
 
-signed_at : (n : ℕ) (b : Bool) → ltb n (2 ^ 31) ≡ b → n < 10 ^ 10 → signed_of (decimal n) ≡ (if b then Some (pos n) else None)
+signed_at : (n : ℕ) (b : Bool) → ltb n (2 ^ 31) ≡ b → n < 10 ^ 10 →
+    signed_of (decimal n) ≡ (if b then Some (pos n) else None)
 signed_at n true small many = signed_complete (pos n) small
 signed_at n false late many = signed_none (decimal n) (no_sign n (omega arith)) (λ m m-lt e.
     let same : n ≡ m = one_decimal n m (omega arith) (omega arith) e in
@@ -181,7 +202,8 @@ signed_at n false late many = signed_none (decimal n) (no_sign n (omega arith)) 
 pub signed_is : (word : List ℕ) (n : ℕ) → n < 10 ^ 10 → word ≡ decimal n → signed_of word ≡ positive_of n
 signed_is word n many is = ap signed_of is ∙ signed_at n (ltb n (2 ^ 31)) refl many
 
-negative_at : (n : ℕ) (b : Bool) → ltb n (2 ^ 31) ≡ b → suc n < 10 ^ 10 → signed_of (45 ∷ decimal (suc n)) ≡ (if b then Some (negsuc n) else None)
+negative_at : (n : ℕ) (b : Bool) → ltb n (2 ^ 31) ≡ b → suc n < 10 ^ 10 →
+    signed_of (45 ∷ decimal (suc n)) ≡ (if b then Some (negsuc n) else None)
 negative_at n true small many = signed_complete (negsuc n) small
 negative_at n false late many = negative_late (45 ∷ decimal (suc n)) refl (λ m m-lt e.
     let same : suc n ≡ suc m = one_decimal (suc n) (suc m) (omega arith) (omega arith) e in
@@ -192,5 +214,7 @@ negative_of_digits zero many = negative_late (45 ∷ decimal 0) refl (λ m m-lt 
     let same : 0 ≡ suc m = one_decimal 0 (suc m) (omega arith) (omega arith) e in omega (arith, same))
 negative_of_digits (suc n) many = negative_at n (ltb n (2 ^ 31)) refl many
 
-pub negative_is : (word : List ℕ) (n : ℕ) → n < 10 ^ 10 → get_or word 0 0 ≡ 45 → drop 1 word ≡ decimal n → signed_of word ≡ negative_of n
-negative_is word n many minus is = ap signed_of (minus_behind word minus ∙ ap (λ w. 45 ∷ w) is) ∙ negative_of_digits n many
+pub negative_is : (word : List ℕ) (n : ℕ) → n < 10 ^ 10 → get_or word 0 0 ≡ 45 → drop 1 word ≡ decimal n →
+    signed_of word ≡ negative_of n
+negative_is word n many minus is =
+    ap signed_of (minus_behind word minus ∙ ap (λ w. 45 ∷ w) is) ∙ negative_of_digits n many

@@ -1,4 +1,5 @@
--- The grammar of act lists, and of every form: the one spelling of each line, and which lines there are.
+-- The grammar of act lists, and of every form: the one spelling of each line, and which lines there
+-- are.
 use Rattle.std.specs.Prelude.{ℕ, ◌^◌, ◌<◌, ◌≤◌, List, [], ◌∷◌, codes, IsTrue}
 use Rattle.std.specs.List.{join_with_byte}
 use Rattle.std.specs.Fmt.{decimal, signed_decimal}
@@ -73,7 +74,8 @@ line_words form lines.End = codes "end" ∷ []
 abbrev pub spelling : Form → Line → List ℕ
 spelling form line = join_with_byte 32 (line_words form line)
 
--- The act holds only what a line can give: each number is in its range, each text is one within its limit, and a peer that ends is gone.
+-- The act holds only what a line can give: each number is in its range, each text is one within its
+-- limit, and a peer that ends is gone.
 abbrev pub HasLine : Act → Type 0
 HasLine acts.Peer = Unit {0}
 HasLine (acts.Gone p causes.Gone) = p < 2 ^ 32
@@ -90,27 +92,32 @@ HasLine (acts.Screen size) = IsTrue (is_size size.width) × IsTrue (is_size size
 HasLine (acts.Enable f) = f < 2 ^ 32
 HasLine (acts.Disable f) = f < 2 ^ 32
 HasLine (acts.Surround f text cursor anchor) =
-    (f < 2 ^ 32) × IsTextWithin cursor_text_limit text × IsTrue (fits_i32 cursor) × IsTrue (fits_i32 anchor)
+    (f < 2 ^ 32) × IsTextWithin cursor_text_limit text × IsTrue (fits_i32 cursor)
+    × IsTrue (fits_i32 anchor)
 HasLine (acts.Cause f cause) = (f < 2 ^ 32) × (cause < 2 ^ 32)
 HasLine (acts.Content f hint purpose) = (f < 2 ^ 32) × (hint < 2 ^ 32) × (purpose < 2 ^ 32)
 HasLine (acts.Cursor f rect) = (f < 2 ^ 32) × IsRect rect
 HasLine (acts.Commit f) = f < 2 ^ 32
 HasLine (acts.MString m text) = (m < 2 ^ 32) × IsTextWithin text_limit text
 HasLine (acts.MPreedit m text begin end) =
-    (m < 2 ^ 32) × IsTextWithin cursor_text_limit text × IsTrue (fits_i32 begin) × IsTrue (fits_i32 end)
+    (m < 2 ^ 32) × IsTextWithin cursor_text_limit text × IsTrue (fits_i32 begin)
+    × IsTrue (fits_i32 end)
 HasLine (acts.MDelete m before after) = (m < 2 ^ 32) × (before < 2 ^ 32) × (after < 2 ^ 32)
 HasLine (acts.MCommit m serial) = (m < 2 ^ 32) × (serial < 2 ^ 32)
 HasLine (acts.Key time key state) = (time < 2 ^ 32) × (key < 2 ^ 32) × (state ≤ 1)
 HasLine (acts.Mods mods) =
-    (mods.depressed < 2 ^ 32) × (mods.latched < 2 ^ 32) × (mods.locked < 2 ^ 32) × (mods.group < 2 ^ 32)
-HasLine (acts.Keymap keymap) = (keymap.format < 2 ^ 32) × (keymap.token < 2 ^ 32) × (keymap.size < 2 ^ 32)
+    (mods.depressed < 2 ^ 32) × (mods.latched < 2 ^ 32) × (mods.locked < 2 ^ 32)
+    × (mods.group < 2 ^ 32)
+HasLine (acts.Keymap keymap) =
+    (keymap.format < 2 ^ 32) × (keymap.token < 2 ^ 32) × (keymap.size < 2 ^ 32)
 HasLine (acts.Repeat repeat) = IsTrue (fits_i32 repeat.rate) × IsTrue (fits_i32 repeat.delay)
 HasLine (acts.VBoard p) = p < 2 ^ 32
 HasLine (acts.VKeymap v keymap) =
     (v < 2 ^ 32) × (keymap.format < 2 ^ 32) × (keymap.token < 2 ^ 32) × (keymap.size < 2 ^ 32)
 HasLine (acts.VKey v time key state) = (v < 2 ^ 32) × (time < 2 ^ 32) × (key < 2 ^ 32) × (state ≤ 1)
 HasLine (acts.VMods v mods) =
-    (v < 2 ^ 32) × (mods.depressed < 2 ^ 32) × (mods.latched < 2 ^ 32) × (mods.locked < 2 ^ 32) × (mods.group < 2 ^ 32)
+    (v < 2 ^ 32) × (mods.depressed < 2 ^ 32) × (mods.latched < 2 ^ 32) × (mods.locked < 2 ^ 32)
+    × (mods.group < 2 ^ 32)
 HasLine _ = ⊥
 
 -- the line is one of the form

@@ -8,8 +8,10 @@ use Rattle.session_text.specs.Reading.{line_of}
 -- bytes that read as a line are its spelling, and it is a line of the form
 abbrev pub ReadsOnlySpellings : Type 0
 ReadsOnlySpellings =
-    (form : Form) (bytes : List ℕ) (line : Line) → line_of form bytes ≡ Some line → (bytes ≡ spelling form line) × IsLine form line
+    (form : Form) (bytes : List ℕ) (line : Line) → line_of form bytes ≡ Some line →
+    (bytes ≡ spelling form line) × IsLine form line
 
 -- each line's spelling reads as that line, so none is longer than the limit
 abbrev pub ReadsEachSpelling : Type 0
-ReadsEachSpelling = (form : Form) (line : Line) → IsLine form line → line_of form (spelling form line) ≡ Some line
+ReadsEachSpelling =
+    (form : Form) (line : Line) → IsLine form line → line_of form (spelling form line) ≡ Some line

@@ -77,10 +77,14 @@ five_words k a b c d =
     signed_of c >>= (λ begin. signed_of d >>= (λ end.
     Some (acts.MPreedit m text begin end)))))
     else if bytes_eq k (codes "mods") then
-    number_of a >>= (λ depressed. number_of b >>= (λ latched. number_of c >>= (λ locked. number_of d >>= (λ group.
-    Some (acts.Mods (record { depressed = depressed; latched = latched; locked = locked; group = group }))))))
+    number_of a >>=
+    (λ depressed. number_of b >>=
+    (λ latched. number_of c >>= (λ locked. number_of d >>= (λ group.
+    Some (acts.Mods
+    (record { depressed = depressed; latched = latched; locked = locked; group = group }))))))
     else if bytes_eq k (codes "vkeymap") then
-    number_of a >>= (λ v. number_of b >>= (λ format. number_of c >>= (λ token. number_of d >>= (λ size.
+    number_of a >>=
+    (λ v. number_of b >>= (λ format. number_of c >>= (λ token. number_of d >>= (λ size.
     Some (acts.VKeymap v (record { format = format; token = token; size = size }))))))
     else if bytes_eq k (codes "vkey") then
     number_of a >>= (λ v. number_of b >>= (λ time. number_of c >>= (λ key. state_of d >>= (λ state.
@@ -90,14 +94,21 @@ five_words k a b c d =
 unfoldable pub six_words : List ℕ → List ℕ → List ℕ → List ℕ → List ℕ → List ℕ → Option Act
 six_words k a b c d e =
     if bytes_eq k (codes "area") then
-    number_of a >>= (λ s. signed_of b >>= (λ x. signed_of c >>= (λ y. size_of d >>= (λ w. size_of e >>= (λ h.
+    number_of a >>=
+    (λ s. signed_of b >>= (λ x. signed_of c >>= (λ y. size_of d >>= (λ w. size_of e >>= (λ h.
     Some (acts.Area s (rect x y w h)))))))
     else if bytes_eq k (codes "rect") then
-    number_of a >>= (λ f. signed_of b >>= (λ x. signed_of c >>= (λ y. signed_of d >>= (λ w. signed_of e >>= (λ h.
+    number_of a >>=
+    (λ f. signed_of b >>=
+    (λ x. signed_of c >>= (λ y. signed_of d >>= (λ w. signed_of e >>= (λ h.
     Some (acts.Cursor f (rect x y w h)))))))
     else if bytes_eq k (codes "vmods") then
-    number_of a >>= (λ v. number_of b >>= (λ depressed. number_of c >>= (λ latched. number_of d >>= (λ locked. number_of e >>= (λ group.
-    Some (acts.VMods v (record { depressed = depressed; latched = latched; locked = locked; group = group })))))))
+    number_of a >>=
+    (λ v. number_of b >>=
+    (λ depressed. number_of c >>=
+    (λ latched. number_of d >>= (λ locked. number_of e >>= (λ group.
+    Some (acts.VMods v
+    (record { depressed = depressed; latched = latched; locked = locked; group = group })))))))
     else None
 
 -- the act of the words, the first of which names it
@@ -116,14 +127,17 @@ is_end _ = false
 
 -- the line of the words in each form
 abbrev pub line_of_words : Form → List (List ℕ) → Option Line
-line_of_words Acts words = if is_end words then Some lines.End else act_of words >>= (λ act. Some (lines.Act act))
+line_of_words Acts words =
+    if is_end words then Some lines.End else act_of words >>= (λ act. Some (lines.Act act))
 line_of_words Session words = session_of words
 line_of_words Session2 words = session_2_of words
 line_of_words Shell words = link_of words >>= (λ step. Some (lines.Shell step))
 
 -- the line of the bytes, of which there are no more than the limit
 unfoldable pub line_of : Form → List ℕ → Option Line
-line_of form bytes = if nat_le (length bytes) line_limit then line_of_words form (slice_split (λ b. b == 32) bytes) else None
+line_of form bytes =
+    if nat_le (length bytes) line_limit then line_of_words form (slice_split (λ b. b == 32) bytes)
+    else None
 
 -- What was read is what this says, and nothing is refused that it says, unless memory ran out.
 abbrev pub Reads : {X : Type 0} → Result X BadLine → Option X → Type 0

@@ -26,14 +26,20 @@ seat_limit = 8
 unfoldable pub header_of_words : List (List ℕ) → Option SeatsHeader
 header_of_words (k ∷ n ∷ a ∷ b ∷ []) =
     if bytes_eq k (codes "seats") then
-    count_of seat_limit n >>= (λ count. count_of form_1_entry_limit a >>= (λ entries. count_of store_limit b >>= (λ store.
-    Some (record { count = count; limits = record { entries = entries; store = store; weight = form_1_weight } }))))
+    count_of seat_limit n >>=
+    (λ count. count_of form_1_entry_limit a >>= (λ entries. count_of store_limit b >>= (λ store.
+    Some (record {
+      count = count;
+      limits = record { entries = entries; store = store; weight = form_1_weight };
+    }))))
     else None
 header_of_words _ = None
 
 -- the header that the bytes are, of which there are no more than the limit
 unfoldable pub seats_header_of : List ℕ → Option SeatsHeader
-seats_header_of bytes = if nat_le (length bytes) line_limit then header_of_words (slice_split (λ b. b == 32) bytes) else None
+seats_header_of bytes =
+    if nat_le (length bytes) line_limit then header_of_words (slice_split (λ b. b == 32) bytes)
+    else None
 
 -- there are from one to eight seats, and the limits are in their ranges
 abbrev pub IsSeatsHeader : SeatsHeader → Type 0
@@ -41,13 +47,16 @@ IsSeatsHeader header = IsWithin seat_limit header.count × IsLimits header.limit
 
 -- what stands behind `all `
 abbrev pub behind_all : List ℕ → Option (List ℕ)
-behind_all (a ∷ b ∷ c ∷ d ∷ rest) = if a == 97 && b == 108 && c == 108 && d == 32 then Some rest else None
+behind_all (a ∷ b ∷ c ∷ d ∷ rest) =
+    if a == 97 && b == 108 && c == 108 && d == 32 then Some rest else None
 behind_all _ = None
 
--- the seat whose digit and a space the line begins with, where there are so many seats, and what stands behind them
+-- the seat whose digit and a space the line begins with, where there are so many seats, and what
+-- stands behind them
 abbrev pub behind_seat : ℕ → List ℕ → Option (ℕ × List ℕ)
 behind_seat count (digit ∷ space ∷ rest) =
-    if space == 32 && nat_le 49 digit && nat_le digit (48 + count) then Some (digit - 48, rest) else None
+    if space == 32 && nat_le 49 digit && nat_le digit (48 + count) then Some (digit - 48, rest)
+    else None
 behind_seat count _ = None
 
 -- who the line is for, with the line of a session that it gives them
@@ -62,7 +71,8 @@ address_of count line = address_by (behind_all line) (behind_seat count line)
 -- a line of a session for a seat, or one of the shell for all
 abbrev pub said_to : Address → Option Line → Option SeatsLine
 said_to (address.One seat) (Some (lines.Session line)) = Some (said.Seat (seats.One seat line))
-said_to address.All (Some (lines.Session (sessions.Shell step))) = Some (said.Seat (seats.All (sessions.Shell step)))
+said_to address.All (Some (lines.Session (sessions.Shell step))) =
+    Some (said.Seat (seats.All (sessions.Shell step)))
 said_to _ _ = None
 
 abbrev pub line_for : Address → List ℕ → Option SeatsLine
@@ -79,7 +89,8 @@ seats_line_of count bytes =
     then (if bytes_eq bytes (codes "end") then Some said.End else line_found (address_of count bytes))
     else None
 
--- the line is for a seat that there is, or for all, and holds only what a line of a session can give
+-- the line is for a seat that there is, or for all, and holds only what a line of a session can
+-- give
 abbrev pub IsSeatLine : ℕ → SeatLine → Type 0
 IsSeatLine count (seats.One seat line) = (1 ≤ seat) × (seat ≤ count) × IsSessionLine line
 IsSeatLine count (seats.All line) = IsSessionLine line

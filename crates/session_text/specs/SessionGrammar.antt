@@ -1,4 +1,5 @@
--- The grammar of sessions and shell links: the one spelling of each line, and which lines there are.
+-- The grammar of sessions and shell links: the one spelling of each line, and which lines there
+-- are.
 use Rattle.std.specs.Prelude.{ℕ, ◌≡◌, ◌^◌, ◌<◌, ◌≤◌, List, [], ◌∷◌, length, map, All, codes, IsTrue}
 use Rattle.std.specs.Fmt.{decimal, signed_decimal}
 use Rattle.seat_steps.specs.declared.limits.Limits.{Limits}
@@ -51,7 +52,8 @@ AreOldLimits limits =
     × IsWithin store_limit limits.store
     × (limits.weight ≡ form_1_weight)
 
--- The step holds only what a line of form 1 can give: each number is in its range, and it is no moment.
+-- The step holds only what a line of form 1 can give: each number is in its range, and it is no
+-- moment.
 abbrev pub HasShellLine : ShellStep → Type 0
 HasShellLine (shells.Focus p i) = (p < 2 ^ 32) × (i < 2 ^ 32)
 HasShellLine shells.Unfocus = Unit {0}
@@ -59,8 +61,10 @@ HasShellLine (shells.Area p i rect) = (p < 2 ^ 32) × (i < 2 ^ 32) × IsArea rec
 HasShellLine (shells.Screen size) = IsTrue (is_size size.width) × IsTrue (is_size size.height)
 HasShellLine (shells.Key time key state) = (time < 2 ^ 32) × (key < 2 ^ 32) × (state ≤ 1)
 HasShellLine (shells.Mods mods) =
-    (mods.depressed < 2 ^ 32) × (mods.latched < 2 ^ 32) × (mods.locked < 2 ^ 32) × (mods.group < 2 ^ 32)
-HasShellLine (shells.Keymap keymap) = (keymap.format < 2 ^ 32) × (keymap.token < 2 ^ 32) × (keymap.size < 2 ^ 32)
+    (mods.depressed < 2 ^ 32) × (mods.latched < 2 ^ 32) × (mods.locked < 2 ^ 32)
+    × (mods.group < 2 ^ 32)
+HasShellLine (shells.Keymap keymap) =
+    (keymap.format < 2 ^ 32) × (keymap.token < 2 ^ 32) × (keymap.size < 2 ^ 32)
 HasShellLine (shells.Repeat repeat) = IsTrue (fits_i32 repeat.rate) × IsTrue (fits_i32 repeat.delay)
 HasShellLine (shells.At moment) = ⊥
 
@@ -69,8 +73,8 @@ abbrev pub HasLinkLine : ShellStep → Type 0
 HasLinkLine (shells.At moment) = moment < 2 ^ 64
 HasLinkLine step = HasShellLine step
 
--- The line holds only what a line of form 1 can give: each number is in its range, there are from one to 4,096 bytes, and
--- it has neither tokens nor a moment.
+-- The line holds only what a line of form 1 can give: each number is in its range, there are from
+-- one to 4,096 bytes, and it has neither tokens nor a moment.
 abbrev pub HasSessionLine : SessionLine → Type 0
 HasSessionLine (sessions.Join role) = Unit {0}
 HasSessionLine (sessions.Bytes p bytes) = (p < 2 ^ 32) × IsBytesWithin piece_limit bytes

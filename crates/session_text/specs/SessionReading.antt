@@ -32,14 +32,20 @@ four_shell_words k a b c =
 unfoldable pub five_shell_words : List ℕ → List ℕ → List ℕ → List ℕ → List ℕ → Option ShellStep
 five_shell_words k a b c d =
     if bytes_eq k (codes "mods") then
-    number_of a >>= (λ depressed. number_of b >>= (λ latched. number_of c >>= (λ locked. number_of d >>= (λ group.
-    Some (shells.Mods (record { depressed = depressed; latched = latched; locked = locked; group = group }))))))
+    number_of a >>=
+    (λ depressed. number_of b >>=
+    (λ latched. number_of c >>= (λ locked. number_of d >>= (λ group.
+    Some (shells.Mods
+    (record { depressed = depressed; latched = latched; locked = locked; group = group }))))))
     else None
 
-unfoldable pub seven_shell_words : List ℕ → List ℕ → List ℕ → List ℕ → List ℕ → List ℕ → List ℕ → Option ShellStep
+unfoldable pub seven_shell_words : List ℕ → List ℕ → List ℕ → List ℕ → List ℕ → List ℕ → List ℕ →
+    Option ShellStep
 seven_shell_words k a b c d e f =
     if bytes_eq k (codes "area") then
-    number_of a >>= (λ p. number_of b >>= (λ i. signed_of c >>= (λ x. signed_of d >>= (λ y. size_of e >>= (λ w. size_of f >>= (λ h.
+    number_of a >>=
+    (λ p. number_of b >>=
+    (λ i. signed_of c >>= (λ x. signed_of d >>= (λ y. size_of e >>= (λ w. size_of f >>= (λ h.
     Some (shells.Area p i (rect x y w h))))))))
     else None
 
@@ -68,9 +74,11 @@ two_session_words k a =
 unfoldable pub three_session_words : List ℕ → List ℕ → List ℕ → Option Line
 three_session_words k a b =
     if bytes_eq k (codes "bytes") then
-    number_of a >>= (λ p. bytes_of piece_limit b >>= (λ bytes. Some (lines.Session (sessions.Bytes p bytes))))
+    number_of a >>=
+    (λ p. bytes_of piece_limit b >>= (λ bytes. Some (lines.Session (sessions.Bytes p bytes))))
     else if bytes_eq k (codes "take") then
-    number_of a >>= (λ p. count_of piece_limit b >>= (λ n. Some (lines.Session (sessions.Take p n))))
+    number_of a >>=
+    (λ p. count_of piece_limit b >>= (λ n. Some (lines.Session (sessions.Take p n))))
     else in_session (three_shell_words k a b)
 
 -- what follows the name of a header: the form, and the limits

@@ -23,7 +23,9 @@ link_of (k ∷ words) = if bytes_eq k (codes "at") then moment_of words else she
 
 -- from one to 256 tokens
 unfoldable pub tokens_of : List (List ℕ) → Option (List ℕ)
-tokens_of words = kept (λ tokens. nat_le 1 (length tokens) && nat_le (length tokens) token_limit) (numbers_of words)
+tokens_of words =
+    kept (λ tokens. nat_le 1 (length tokens) && nat_le (length tokens) token_limit)
+    (numbers_of words)
 
 -- a peer's tokens, behind the word that names them
 abbrev pub tokens_line_of : List (List ℕ) → Option SessionLine
@@ -58,7 +60,8 @@ stamped_of _ = None
 unfoldable pub long_header_of : List ℕ → List ℕ → List ℕ → List ℕ → Option Line
 long_header_of form a b c =
     if bytes_eq form (codes "2") then
-    count_of entry_limit a >>= (λ entries. count_of store_limit b >>= (λ store. count_of weight_limit c >>= (λ weight.
+    count_of entry_limit a >>=
+    (λ entries. count_of store_limit b >>= (λ store. count_of weight_limit c >>= (λ weight.
     Some (lines.Header (record { entries = entries; store = store; weight = weight })))))
     else None
 

@@ -17,9 +17,11 @@ IsSessionLine (sessions.Tokens p tokens) = IsWithin token_limit (length tokens)
 IsSessionLine (sessions.Shell step) = IsShellStep step
 IsSessionLine _ = Unit {0}
 
--- A whole message: a word with the id of its object, a word with its size in the upper 16 bits and its opcode in the lower, and its body.
+-- A whole message: a word with the id of its object, a word with its size in the upper 16 bits and
+-- its opcode in the lower, and its body.
 abbrev pub message_bytes : ℕ → ℕ → List ℕ → List ℕ
-message_bytes id opcode body = word_bytes id ++ word_bytes (65536 * (8 + length body) + opcode) ++ body
+message_bytes id opcode body =
+    word_bytes id ++ word_bytes (65536 * (8 + length body) + opcode) ++ body
 
 -- the line of a peer's step: what the peer sends, whole, or that it is gone
 abbrev pub peer_line : ℕ → PeerStep → SessionLine

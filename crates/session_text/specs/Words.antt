@@ -16,7 +16,8 @@ use Rattle.relay_model.specs.declared.role.Role.TheVariants.{App, Method}
 abbrev pub text_limit : ℕ
 text_limit = 4083
 
--- the most bytes of a text that two numbers follow in its request (zwp_text_input_v3.set_surrounding_text, zwp_input_method_v2.set_preedit_string)
+-- the most bytes of a text that two numbers follow in its request
+-- (zwp_text_input_v3.set_surrounding_text, zwp_input_method_v2.set_preedit_string)
 abbrev pub cursor_text_limit : ℕ
 cursor_text_limit = 4075
 
@@ -40,15 +41,21 @@ abbrev pub size : ℤ → ℤ → Size
 size w h = record { width = w; height = h }
 
 abbrev pub rect_words : Rect → List (List ℕ)
-rect_words rect = signed_decimal rect.x ∷ signed_decimal rect.y ∷ signed_decimal rect.width ∷ signed_decimal rect.height ∷ []
+rect_words rect =
+    signed_decimal rect.x ∷ signed_decimal rect.y ∷ signed_decimal rect.width
+    ∷ signed_decimal rect.height ∷ []
 
 -- each number of the rectangle has 32 bits and a sign
 abbrev pub IsRect : Rect → Type 0
-IsRect rect = IsTrue (fits_i32 rect.x) × IsTrue (fits_i32 rect.y) × IsTrue (fits_i32 rect.width) × IsTrue (fits_i32 rect.height)
+IsRect rect =
+    IsTrue (fits_i32 rect.x) × IsTrue (fits_i32 rect.y) × IsTrue (fits_i32 rect.width)
+    × IsTrue (fits_i32 rect.height)
 
 -- the same, and the size isn't negative
 abbrev pub IsArea : Rect → Type 0
-IsArea rect = IsTrue (fits_i32 rect.x) × IsTrue (fits_i32 rect.y) × IsTrue (is_size rect.width) × IsTrue (is_size rect.height)
+IsArea rect =
+    IsTrue (fits_i32 rect.x) × IsTrue (fits_i32 rect.y) × IsTrue (is_size rect.width)
+    × IsTrue (is_size rect.height)
 
 abbrev pub role_word : Role → List ℕ
 role_word App = codes "app"
@@ -59,9 +66,11 @@ abbrev pub hex_word : List ℕ → List ℕ
 hex_word [] = codes "-"
 hex_word (b ∷ bytes) = encode_lower (b ∷ bytes)
 
--- the value that the word has, if the test takes it and the word is what is printed of it, with no sign and no zero too many
+-- the value that the word has, if the test takes it and the word is what is printed of it, with no
+-- sign and no zero too many
 abbrev pub printed : {X : Type 0} → (List ℕ → X) → (X → Bool) → (X → List ℕ) → List ℕ → Option X
-printed value test print word = if test (value word) && bytes_eq (print (value word)) word then Some (value word) else None
+printed value test print word =
+    if test (value word) && bytes_eq (print (value word)) word then Some (value word) else None
 
 -- the number below 2 ^ 32 that is written so
 unfoldable pub number_of : List ℕ → Option ℕ
@@ -77,7 +86,8 @@ signed_of word = printed (signed_digits_value 10) fits_i32 signed_decimal word
 
 -- from one to so many bytes, of which the first is no zero in front of others
 abbrev pub IsPlain : ℕ → List ℕ → Type 0
-IsPlain most word = (1 ≤ length word) × (length word ≤ most) × (get_or word 0 0 ≡ 48 → length word ≡ 1)
+IsPlain most word =
+    (1 ≤ length word) × (length word ≤ most) × (get_or word 0 0 ≡ 48 → length word ≡ 1)
 
 -- the number, if it has 64 bits
 abbrev pub long_of : ℕ → Option ℕ
@@ -129,12 +139,15 @@ role_of word = if bytes_eq word (codes "app") then Some App else if bytes_eq wor
 
 abbrev pub decoded : ℕ → List ℕ → Result (List ℕ) FromHexError → Option (List ℕ)
 decoded limit word (Ok bytes) =
-    if nat_lt 0 (length bytes) && nat_le (length bytes) limit && bytes_eq (encode_lower bytes) word then Some bytes else None
+    if nat_lt 0 (length bytes) && nat_le (length bytes) limit && bytes_eq (encode_lower bytes) word
+    then Some bytes else None
 decoded limit word (Err e) = None
 
 -- the value of a digit in lower case; 256 for any other byte
 abbrev pub value_of : ℕ → ℕ
-value_of c = if nat_le 48 c && nat_le c 57 then c - 48 else if nat_le 97 c && nat_le c 102 then c - 87 else 256
+value_of c =
+    if nat_le 48 c && nat_le c 57 then c - 48 else if nat_le 97 c && nat_le c 102 then c - 87
+    else 256
 
 -- the bytes, from one to so many, that are written so
 unfoldable pub bytes_of : ℕ → List ℕ → Option (List ℕ)

@@ -5,7 +5,7 @@ use Rattle.wl_wire.specs.Messages.{id_of, opcode_of, body_of, size_of, is_whole,
 use Rattle.wl_wire.specs.Fronts.{IsFrontMessage}
 use Rattle.wl_wire.specs.declared.assembler.Fed.TheVariants as fed
 use Rattle.wl_wire.specs.Streams.{Assembly, begun, bytes_of, HasTold, Feeds}
-use Rattle.wl_wire.proofs.Sizes.{size_stays}
+use Rattle.wl_wire.proofs.SizeInHeader.{size_stays}
 use Rattle.wl_wire.proofs.FirstMessages.{messages_next, messages_none, behind_next, behind_none, bad_size_next, bad_size_none, whole_is, part_none, bad_none}
 use Rattle.seat_steps.specs.Ranges.{IsBody}
 use Rattle.broker_model.specs.declared.journal.Entry.{Entry}

@@ -8,13 +8,15 @@ use Rattle.step_cutter.specs.declared.cutter.Cut.{Cut}
 use Rattle.step_cutter.specs.declared.cutter.Cut.TheVariants as cut
 use Rattle.step_cutter.specs.Steps.{steps_in}
 
--- the message that bytes begin with, of which so many bytes of the piece are the end: its step comes first, and its
--- bytes are gone from what is left
-pub record IsFirst (id opcode : ℕ) (body bytes piece : List ℕ) (used : ℕ) (left : List ℕ) : Type 0 where
+-- the message that bytes begin with, of which so many bytes of the piece are the end: its step
+-- comes first, and its bytes are gone from what is left
+pub record IsFirst (id opcode : ℕ) (body bytes piece : List ℕ) (used : ℕ)
+    (left : List ℕ) : Type 0 where
   pub some : 0 < used
   pub within : used ≤ length piece
   pub valid : IsBody body
-  pub steps : (q : ℕ) → steps_in q bytes ≡ entries.Message q id opcode body ∷ steps_in q (drop used piece)
+  pub steps : (q : ℕ) →
+      steps_in q bytes ≡ entries.Message q id opcode body ∷ steps_in q (drop used piece)
   pub behind_same : behind bytes ≡ behind (drop used piece)
   pub none_left : left ≡ []
 

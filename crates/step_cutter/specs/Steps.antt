@@ -15,4 +15,5 @@ bad_entries q rest (Some size) = entries.BadSize q (take 8 rest) ∷ []
 
 -- the steps that the peer's bytes give
 abbrev pub steps_in : ℕ → List ℕ → List Entry
-steps_in q bytes = map (message_entry q) (messages bytes) ++ bad_entries q (behind bytes) (bad_size bytes)
+steps_in q bytes =
+    map (message_entry q) (messages bytes) ++ bad_entries q (behind bytes) (bad_size bytes)

@@ -1,4 +1,5 @@
--- The acts of entries can be said: all of them where the entries are held, and those of batches where a method's messages are read so.
+-- The acts of entries can be said: all of them where the entries are held, and those of batches where a method's
+-- messages are read so.
 use Rattle.std.proofs.Common.{◌≡◌, ℕ, zero, suc, ◌+◌, Bool, true, List, [], ◌∷◌, length, Option, Some, None, refl}
 use Rattle.std.specs.Prelude.{◌==◌, Result, Ok, Err, unwrap_or}
 use Rattle.std.specs.List.{slice_get, AllByRecursion}
@@ -25,7 +26,7 @@ use Rattle.broker_model.proofs.EachElement.{either_way}
 use Rattle.told_law.specs.Sayable.{IsWord, IsInt, IsText, IsShellSayable, IsHeld}
 use Rattle.told_law.specs.ToldRead.{ActsAreSayable}
 use Rattle.told_law.proofs.ValuesSound.{AreSound, request_sound}
-use Rattle.told_law.proofs.Says.{When, when, Says, says_all}
+use Rattle.told_law.proofs.ActsCanBeSaid.{When, when, Says, says_all}
 
 -- ---- the act of each request
 
@@ -78,11 +79,27 @@ says_rows all p x role at interface.Registry vs h = (says_bind all p vs, tt)
 says_rows all p x role at interface.Compositor vs h = (tt, tt)
 says_rows all p x role at interface.Surface vs h = (tt, tt)
 says_rows all p x role at interface.TextInputManager vs h = (tt, (tt, tt))
-says_rows all p x role at interface.TextInput vs h =
-    (tt, (tt, (tt, (says_surround all x vs h, (says_cause all x vs h, (says_content all x vs h, (says_cursor all x vs h, (tt, tt))))))))
+says_rows all p x role at interface.TextInput vs h = (
+  tt,
+  (
+    tt,
+    (
+      tt,
+      (
+        says_surround all x vs h,
+        (says_cause all x vs h, (says_content all x vs h, (says_cursor all x vs h, (tt, tt)))),
+      ),
+    ),
+  ),
+)
 says_rows all p x role at interface.InputMethodManager vs h = (tt, (tt, tt))
-says_rows all p x role at interface.InputMethod vs h =
-    (says_string all x vs h, (says_preedit all x vs h, (says_delete all x vs h, (says_commit all x vs, (says_popup all at x vs, (tt, (tt, tt)))))))
+says_rows all p x role at interface.InputMethod vs h = (
+  says_string all x vs h,
+  (
+    says_preedit all x vs h,
+    (says_delete all x vs h, (says_commit all x vs, (says_popup all at x vs, (tt, (tt, tt))))),
+  ),
+)
 says_rows all p x role at interface.InputPopupSurface vs h = (tt, tt)
 says_rows all p x role at interface.KeyboardGrab vs h = (tt, tt)
 says_rows all p x role at _ vs h = tt
@@ -163,7 +180,8 @@ act_says all (entries.Join role) older h = tt
 act_says all (entries.Message q id opcode body) older h =
     says_peer all (peer_at (past_of older) q)
     (λ peer. of_message (past_of older) (length older + 1) peer opcode body (object_at (past_of older) peer.label id))
-    (λ peer joined. says_message all (past_of older) (length older + 1) peer opcode body (object_at (past_of older) peer.label id)
+    (λ peer joined. says_message all (past_of older) (length older + 1) peer opcode body
+    (object_at (past_of older) peer.label id)
     (λ x there. h peer x joined there))
 act_says all (entries.Tokens q tokens) older h = tt
 act_says all (entries.BadSize q head) older h = says_peer all (peer_at (past_of older) q) _ (λ peer joined. tt)

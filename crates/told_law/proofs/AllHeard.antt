@@ -18,8 +18,8 @@ use Rattle.broker_model.specs.Groups.{message_of}
 use Rattle.broker_model.specs.Resolve.{past_of, resolve, means}
 use Rattle.broker_model.specs.Out.{act_at}
 use Rattle.broker_model.proofs.EachElement.{each_weaker}
-use Rattle.broker_model.proofs.Named.{IsIn, made_with}
-use Rattle.broker_model.proofs.Sound.{sound}
+use Rattle.broker_model.proofs.IdsAreNames.{IsIn, made_with}
+use Rattle.broker_model.proofs.MadeObjectsStand.{sound}
 use Rattle.told_law.specs.Sayable.{AreHeld}
 use Rattle.told_law.specs.ToldRead.{IsReadAs, IsToldRead, IsHeard, AllIsHeard}
 use Rattle.told_law.proofs.MessagesTold.{TellsSo, told_each, all_messages}

@@ -1,7 +1,7 @@
 -- The message of an event that can be said can be written.
 use Rattle.std.proofs.Common.{◌≡◌, ℕ, ◌^◌, ◌<◌, ◌≤◌, Bool, true, false, List, [], ◌∷◌, Option, Some, refl, subst, arith}
 use Rattle.std.specs.Prelude.{IfSome}
-use Rattle.wl_wire.proofs.Texts.{is_text-plain}
+use Rattle.wl_wire.proofs.TextsKnown.{is_text-plain}
 use Rattle.wl_proto.specs.declared.interface.Interface.{Interface}
 use Rattle.wl_proto.specs.declared.interface.Interface.TheVariants as interface
 use Rattle.wl_proto.specs.declared.table.Kind.{Kind}
@@ -19,7 +19,7 @@ use Rattle.broker_model.specs.Ids.{Made, made_as}
 use Rattle.broker_model.specs.Groups.{id_of, message_of}
 use Rattle.told_law.specs.Sayable.{IsWord, IsInt, IsText, HasWords, IsKeymap, IsRepeat}
 use Rattle.told_law.specs.ToldRead.{IsWritable}
-use Rattle.told_law.proofs.Says.{When}
+use Rattle.told_law.proofs.ActsCanBeSaid.{When}
 use Rattle.told_law.proofs.ToldSayable.{CanSay}
 use Rattle.told_law.proofs.ToldKinds.{event_kind}
 
@@ -153,7 +153,8 @@ IsFieldKind interface.InputPopupSurface = ⊥
 IsFieldKind interface.KeyboardGrab = ⊥
 IsFieldKind _ = Unit {0}
 
-not_field : (all : Bool) (i j : Interface) → (let o : Option Interface = Some j in o ≡ Some i) → IsFieldKind i → (IsFieldKind j → ⊥) → all ≡ true
+not_field : (all : Bool) (i j : Interface) → (let o : Option Interface = Some j in o ≡ Some i) → IsFieldKind i →
+    (IsFieldKind j → ⊥) → all ≡ true
 not_field all i j e f n = absurd (n (subst IsFieldKind (let s : i ≡ j = cc in s) f))
 
 -- no number is asked of an event of such an interface

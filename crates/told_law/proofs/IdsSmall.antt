@@ -17,16 +17,18 @@ use Rattle.broker_model.specs.Groups.{id_of}
 use Rattle.broker_model.specs.Requests.{Argument, new_of}
 use Rattle.broker_model.specs.Refusals.{request_fault}
 use Rattle.broker_model.specs.Resolve.{Meaning, label_at, made_new, of_request, of_reading, of_message, of_peer, means, past_of}
-use Rattle.broker_model.proofs.Named.{IsIn, made_with}
+use Rattle.broker_model.proofs.IdsAreNames.{IsIn, made_with}
 use Rattle.told_law.specs.Sayable.{IsWord, HasBytes, AreBytes}
 use Rattle.told_law.proofs.ValuesSound.{AreSound, request_sound}
 
-named_small : (i : Interface) (id : ℕ) (new : Argument) → (let o : Option Argument = Some (record { id = id; interface = i }) in o ≡ Some new) →
+named_small : (i : Interface) (id : ℕ) (new : Argument) →
+    (let o : Option Argument = Some (record { id = id; interface = i }) in o ≡ Some new) →
     IsWord id → IsWord new.id
 named_small i id new e h =
     let a : Argument = record { id = id; interface = i } in subst (λ (x : Argument). IsWord x.id) (same_Some a new e) h
 
-chosen_small : (b : Bool) (i : Interface) (id : ℕ) (new : Argument) → (if b then Some (record { id = id; interface = i }) else None) ≡ Some new →
+chosen_small : (b : Bool) (i : Interface) (id : ℕ) (new : Argument) →
+    (if b then Some (record { id = id; interface = i }) else None) ≡ Some new →
     IsWord id → IsWord new.id
 chosen_small true i id new e h = named_small i id new e h
 chosen_small false i id new e h = cc

@@ -23,10 +23,10 @@ use Rattle.broker_model.specs.Refusals.{request_fault}
 use Rattle.broker_model.specs.Resolve.{Meaning, label_at, made_new, of_request, of_reading, of_message, of_peer, means, past_of}
 use Rattle.broker_model.specs.Out.{act_now}
 use Rattle.broker_model.proofs.EachElement.{either_way}
-use Rattle.broker_model.proofs.Named.{IsIn}
-use Rattle.broker_model.proofs.Owners.{remains_some}
-use Rattle.broker_model.proofs.Peers.{length_log}
-use Rattle.broker_model.proofs.Sound.{sound}
+use Rattle.broker_model.proofs.IdsAreNames.{IsIn}
+use Rattle.broker_model.proofs.OwnersLive.{remains_some}
+use Rattle.broker_model.proofs.LivePeersJoined.{length_log}
+use Rattle.broker_model.proofs.MadeObjectsStand.{sound}
 
 -- ---- by acts
 
@@ -72,7 +72,8 @@ interface_of (GrabKind m) = Some interface.KeyboardGrab
 abbrev Agrees : Option Interface → Option Interface → Type 0
 Agrees at o = IfSome o (λ i. at ≡ Some i)
 
-agrees_as : (at : Option Interface) (kind : Kind) (p : ℕ) (o : Object) → (let u : Object = record { kind = kind; peer = p } in Some u ≡ Some o) →
+agrees_as : (at : Option Interface) (kind : Kind) (p : ℕ) (o : Object) →
+    (let u : Object = record { kind = kind; peer = p } in Some u ≡ Some o) →
     Agrees at (interface_of kind) → Agrees at (interface_of o.kind)
 agrees_as at kind p o e h =
     let u : Object = record { kind = kind; peer = p } in
@@ -128,7 +129,8 @@ abbrev Makes : Act → Interface → Type 0
 Makes act i = IfSome (made_by act) (λ j. i ≡ j)
 
 named_by : (act : Act) (i : Interface) (id : ℕ) (new : Argument) →
-    (let o : Option Argument = Some (record { id = id; interface = i }) in o ≡ Some new) → Makes act i → Makes act new.interface
+    (let o : Option Argument = Some (record { id = id; interface = i }) in o ≡ Some new) → Makes act i →
+    Makes act new.interface
 named_by act i id new e h =
     let a : Argument = record { id = id; interface = i } in
     subst (λ (x : Argument). Makes act x.interface) (same_Some a new e) h
@@ -172,7 +174,8 @@ request_makes p x role at interface.InputMethodManager (suc (suc n)) (word seat 
 request_makes p x role at interface.InputMethod opcode (word id ∷ word surface ∷ []) new e =
     chosen (opcode == 4)
     (act_of p x role at interface.InputMethod opcode (word id ∷ word surface ∷ [])) interface.InputPopupSurface id new e
-    (λ q. subst (λ n. Makes (act_of p x role at interface.InputMethod n (word id ∷ word surface ∷ [])) interface.InputPopupSurface)
+    (λ q. subst (λ n. Makes
+    (act_of p x role at interface.InputMethod n (word id ∷ word surface ∷ [])) interface.InputPopupSurface)
     (sym (eqb-true opcode 4 q)) refl)
 request_makes p x role at interface.InputMethod opcode (word id ∷ []) new e =
     chosen (opcode == 5)
@@ -272,4 +275,5 @@ made_as_acts (e ∷ older) m i =
     by (inr j) k =
         let within = (sound older m j).within in
         let long = length_log older in
-        subst (λ (o : Option Interface). IfSome o (λ i. m.interface ≡ i)) (sym (kind_stays (act_now e older) log m.label (omega arith))) (k j)
+        subst (λ (o : Option Interface). IfSome o (λ i. m.interface ≡ i))
+        (sym (kind_stays (act_now e older) log m.label (omega arith))) (k j)

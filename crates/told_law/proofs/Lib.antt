@@ -1,5 +1,5 @@
 pub mod ValuesSound
-pub mod Says
+pub mod ActsCanBeSaid
 pub mod ActsSayable
 pub mod LabelKinds
 pub mod ToldKinds

@@ -30,7 +30,8 @@ more_put : (P : List ℕ → Type 0) (front back : List ℕ) (ms : List (List �
     ArePut P (front ++ back)
 more_put P front back ms is each h = record {
   messages = h.messages ++ ms;
-  is = ap (λ (l : List ℕ). l ++ back) h.is ∙ ap (λ (l : List ℕ). joined h.messages ++ l) is ∙ sym (joined_both h.messages ms);
+  is = ap (λ (l : List ℕ). l ++ back) h.is ∙ ap (λ (l : List ℕ). joined h.messages ++ l) is
+      ∙ sym (joined_both h.messages ms);
   each = each_append P h.messages ms h.each each;
 }
 
@@ -48,7 +49,8 @@ module _ (P : List ℕ → Type 0) (Q : List Entry → Type 0) (p : ℕ)
       out = before_group e older p (out_for capacity older p)
 
       by : (b : Bool) → ArePut P (out_for capacity older p).put.bytes →
-          ArePut P (if b then record out { put = followed_by out.put (group_at e older p) } else record out { choked = true }).put.bytes
+          ArePut P (if b then record out { put = followed_by out.put (group_at e older p) }
+          else record out { choked = true }).put.bytes
       by false k = k
       by true k =
           more_put P (out_for capacity older p).put.bytes (group_at e older p).bytes (entry_messages e older p)

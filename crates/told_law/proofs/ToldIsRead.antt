@@ -12,15 +12,15 @@ use Rattle.broker_model.specs.Groups.{message_of}
 use Rattle.broker_model.specs.Resolve.{past_of, resolve}
 use Rattle.broker_model.specs.Out.{act_at}
 use Rattle.broker_model.proofs.EachElement.{each_weaker}
-use Rattle.broker_model.proofs.Named.{made_with}
-use Rattle.broker_model.proofs.Peers.{length_log}
+use Rattle.broker_model.proofs.IdsAreNames.{made_with}
+use Rattle.broker_model.proofs.LivePeersJoined.{length_log}
 use Rattle.seat_objects.specs.Fits.{FitsMessage}
 use Rattle.seat_audience.specs.Tells.{IsShort}
 use Rattle.broker_core.proofs.ActTextsFit.{IsBodyShort, act_fits}
 use Rattle.broker_core.proofs.ToldMessagesFit.{all_short}
 use Rattle.told_law.specs.Sayable.{IsHeld, AreHeld, HasBytes, AreBytes}
 use Rattle.told_law.specs.ToldRead.{IsWritable, IsForIts, ToldIsWritable, IsReadAs, IsToldRead, ToldIsRead}
-use Rattle.told_law.proofs.Says.{Says}
+use Rattle.told_law.proofs.ActsCanBeSaid.{Says}
 use Rattle.told_law.proofs.ActsSayable.{act_says, held_says}
 use Rattle.told_law.proofs.ToldSayable.{CanSayEvent, told_says}
 use Rattle.told_law.proofs.ToldKinds.{told_to_its_kind}
@@ -60,7 +60,8 @@ told_writable e older h few =
     let ts : List Told = told (act_at e older) (resolve older) in
     let long : length (log_of (past_of older)) ≡ length older = length_log older in
     each_two (CanSayEvent true) IsShort (λ t. IfSome (message_of made t.event) IsWritable) ts
-    (λ t c s. writable true made t.event (λ label. id_small made label (all_small (e ∷ older) (all_bytes (e ∷ older) h))) c (all_asked t.event) (s made))
+    (λ t c s. writable true made t.event
+    (λ label. id_small made label (all_small (e ∷ older) (all_bytes (e ∷ older) h))) c (all_asked t.event) (s made))
     (told_says true (act_at e older) (resolve older) (omega arith) (all_say (e ∷ older) h))
     (all_short (act_at e older) (resolve older) (act_fits e older (held_short e h.0)) (all_fit older h.1))
 

@@ -25,7 +25,7 @@ use Rattle.relay_model.specs.Popups.{cursor, ready_surface, told_where, popup_to
 use Rattle.relay_model.specs.Globals.{offered, global_told}
 use Rattle.relay_model.specs.Idle.{cleaned, history}
 use Rattle.relay_model.specs.Told.{to, leave, enter, each_entered, leaves, around_said, holders_state, notice_said, to_method, enters_new, enters, to_holder, deleted, key_told, keymap_said, repeat_said, mods_said, keyboard_said, to_grab, board_mods_told, own, told_by, told}
-use Rattle.relay_model.proofs.Histories.{IsHistory, live, history_is, cleaned_again}
+use Rattle.relay_model.proofs.ActsOrIdle.{IsHistory, live, history_is, cleaned_again}
 use Rattle.relay_model.proofs.ObjectLaws.{kind_within}
 use Rattle.relay_model.proofs.ActivationLaws.{serving_within}
 use Rattle.relay_model.proofs.FocusLaws.{entered_field}
@@ -35,8 +35,8 @@ use Rattle.broker_model.specs.Ids.{Made, log_of}
 use Rattle.broker_model.specs.Groups.{message_of}
 use Rattle.broker_model.specs.Resolve.{past_of, resolve}
 use Rattle.broker_model.specs.Out.{act_at}
-use Rattle.broker_model.proofs.Named.{IsWith, made_with}
-use Rattle.broker_model.proofs.Owners.{owner_lives}
+use Rattle.broker_model.proofs.IdsAreNames.{IsWith, made_with}
+use Rattle.broker_model.proofs.OwnersLive.{owner_lives}
 use Rattle.broker_model.proofs.EachElement.{either_way, each_of, each_weaker, each_append, each_map, each_flat, each_kept}
 use Rattle.told_law.specs.ToldRead.{IsForIts, ToldToItsKind}
 use Rattle.told_law.proofs.LabelKinds.{kind_at, kind_new, kind_stays, kind_of, interface_of, made_as_acts}
@@ -334,7 +334,8 @@ group_kind b count =
     (either_way (AllByRecursion (IsOf interface.TextInput)) ((b.deletion.before == 0) && (b.deletion.after == 0)) []
     (said.Delete b.deletion.before b.deletion.after ∷ []) tt (refl, tt))
     (each_append (IsOf interface.TextInput) (string_said b.string) _
-    (either_way (AllByRecursion (IsOf interface.TextInput)) (length b.string == 0) [] (said.CommitString b.string ∷ []) tt (refl, tt))
+    (either_way (AllByRecursion (IsOf interface.TextInput)) (length b.string == 0) []
+    (said.CommitString b.string ∷ []) tt (refl, tt))
     (each_append (IsOf interface.TextInput) (preedit_said b.preedit) (said.FieldDone count ∷ [])
     (either_way (AllByRecursion (IsOf interface.TextInput)) (is_no_preedit b.preedit) []
     (said.Preedit b.preedit.text b.preedit.begin b.preedit.end ∷ []) tt (refl, tt)) (refl, tt)))
@@ -345,7 +346,8 @@ batch_right m serial older None i e = tt
 batch_right m serial older (Some h) i e =
     let field : is_field older h ≡ true = entered_field older h (holder_entered older h i e) in
     go_to interface.TextInput (acts.MCommit m serial ∷ older) h (group (batch older m) (commit_count older h))
-    (old_kind (acts.MCommit m serial) older h interface.TextInput (kind_within is_field_kind older h field) (field_kind older h field))
+    (old_kind (acts.MCommit m serial) older h interface.TextInput (kind_within is_field_kind older h field)
+    (field_kind older h field))
     (group_kind (batch older m) (commit_count older h))
 
 keymap_kind : (o : Option keys.Keymap) → AllByRecursion (IsOf interface.KeyboardGrab) (keymap_said o)
@@ -363,7 +365,8 @@ mods_kind n (Some m) = (refl, tt)
 keyboard_kind : (n : ℕ) (log : List Act) → AllByRecursion (IsOf interface.KeyboardGrab) (keyboard_said n log)
 keyboard_kind n log =
     each_append (IsOf interface.KeyboardGrab) (keymap_said (last_keymap log)) _ (keymap_kind (last_keymap log))
-    (each_append (IsOf interface.KeyboardGrab) (repeat_said (last_repeat log)) (mods_said n (last_mods log)) (repeat_kind (last_repeat log))
+    (each_append (IsOf interface.KeyboardGrab) (repeat_said (last_repeat log)) (mods_said n (last_mods log))
+    (repeat_kind (last_repeat log))
     (mods_kind n (last_mods log)))
 
 leaves_right : (act : Act) (older : List Act) → GoRight (act ∷ older) (leaves act older)
@@ -391,7 +394,8 @@ own_right (acts.Popup m s) older i c = popup_right (acts.Popup m s) older (next 
 own_right (acts.Grab m) older i c =
     either_way (AllByRecursion (GoesRight (acts.Grab m ∷ older))) (is_at (standing (acts.Grab m ∷ older)) (next older))
     (map (to (next older)) (keyboard_said (next older) older)) []
-    (go_to interface.KeyboardGrab (acts.Grab m ∷ older) (next older) (keyboard_said (next older) older) (kind_new (acts.Grab m) older)
+    (go_to interface.KeyboardGrab (acts.Grab m ∷ older) (next older) (keyboard_said (next older) older)
+    (kind_new (acts.Grab m) older)
     (keyboard_kind (next older) older)) tt
 own_right (acts.Drop x) older i c = deleted_right (acts.Drop x) older x (peer_of older x) i refl
 own_right (acts.Area s rect) older i c = popups_right (acts.Area s rect) older
@@ -427,16 +431,20 @@ own_right (acts.Sync p) older i c = (
   (peer_right (acts.Sync p) older p (said.DeleteId (next older)) (live (acts.Sync p) older c (λ d. cc)) refl, tt),
 )
 own_right (acts.Seat p) older i c = (kind_new (acts.Seat p) older, tt)
-own_right (acts.Bad p fault x) older i c =
-    (peer_right (acts.Bad p fault x) older p (said.Error x fault) (live (acts.Bad p fault x) older c (λ d. cc)) refl, tt)
+own_right (acts.Bad p fault x) older i c = (
+  peer_right (acts.Bad p fault x) older p (said.Error x fault) (live (acts.Bad p fault x) older c (λ d. cc)) refl,
+  tt,
+)
 own_right _ older i c = tt
 
 by_right : (act : Act) (older : List Act) → IsHistory older → cleaned act older ≡ act →
     GoRight (act ∷ older) (told_by act older)
 by_right act older i c =
     each_append (GoesRight (act ∷ older)) (leaves act older) _ (leaves_right act older)
-    (each_append (GoesRight (act ∷ older)) (to_method act older (serving (act ∷ older))) _ (method_right act older (serving (act ∷ older)) refl)
-    (each_append (GoesRight (act ∷ older)) (enters act older) (own act older) (enters_right act older) (own_right act older i c)))
+    (each_append (GoesRight (act ∷ older)) (to_method act older (serving (act ∷ older))) _
+    (method_right act older (serving (act ∷ older)) refl)
+    (each_append (GoesRight (act ∷ older)) (enters act older) (own act older) (enters_right act older)
+    (own_right act older i c)))
 
 pub told_right : (act : Act) (acts : List Act) → AllByRecursion (GoesRight (history (act ∷ acts))) (told act acts)
 told_right act acts = by_right (cleaned act (history acts)) (history acts) (history_is acts)
@@ -457,7 +465,8 @@ for_its journal t h object is = by (message_of (past_of journal).made t.event)
     by (Some m) k =
         let at : kind_at (log_of (past_of journal)) t.to ≡ Some m.interface =
         subst (λ (o : Option Interface). IfSome o (λ i. kind_at (log_of (past_of journal)) t.to ≡ Some i)) k h in
-        sym (subst (λ (o : Option Interface). IfSome o (λ i. object.interface ≡ i)) (ap (kind_at (log_of (past_of journal))) with.named ∙ at)
+        sym (subst (λ (o : Option Interface). IfSome o (λ i. object.interface ≡ i))
+        (ap (kind_at (log_of (past_of journal))) with.named ∙ at)
         (made_as_acts journal object with.among))
 
 pub told_to_its_kind : ToldToItsKind

@@ -4,7 +4,7 @@ use Rattle.std.specs.Prelude.{◌==◌, is_some, filter, unwrap_or, nat_le, nat_
 use Rattle.std.specs.Int.{w32, saturate_signed}
 use Rattle.std.specs.List.{AllByRecursion}
 use Rattle.std.proofs.Math.Facts.{Fits-nat_abs}
-use Rattle.wl_wire.proofs.Texts.{is_text-nil}
+use Rattle.wl_wire.proofs.TextsKnown.{is_text-nil}
 use Rattle.popup_place.specs.declared.geometry.Rect.{Rect}
 use Rattle.relay_model.specs.declared.act.Act.{Act}
 use Rattle.relay_model.specs.declared.act.Act.TheVariants as acts
@@ -28,7 +28,7 @@ use Rattle.relay_model.specs.Idle.{is_live, cleaned, history}
 use Rattle.relay_model.specs.Told.{to, leave, enter, each_entered, leaves, around_said, state_said, holders_state, notice_said, to_method, enters_new, enters, to_holder, deleted, key_told, keymap_said, repeat_said, mods_said, keyboard_said, to_grab, board_mods_told, own, told_by, told}
 use Rattle.broker_model.proofs.EachElement.{either_way, each_of, each_append, each_map, each_flat}
 use Rattle.told_law.specs.Sayable.{IsWord, IsInt, IsText, HasInts, HasWords, IsKeymap, IsRepeat}
-use Rattle.told_law.proofs.Says.{When, when, when_then, Says, says_if, says_history}
+use Rattle.told_law.proofs.ActsCanBeSaid.{When, when, when_then, Says, says_if, says_history}
 
 -- the event can be said, if all are asked or it is one of a batch or has numbers of our own
 abbrev pub CanSay : Bool → Said → Type 0
@@ -230,7 +230,8 @@ group_says all b count h =
     (either_way (AllByRecursion (CanSay all)) ((b.deletion.before == 0) && (b.deletion.after == 0)) []
     (said.Delete b.deletion.before b.deletion.after ∷ []) tt (h.deletion, tt))
     (each_append (CanSay all) (string_said b.string) _
-    (either_way (AllByRecursion (CanSay all)) (length b.string == 0) [] (said.CommitString b.string ∷ []) tt (h.string, tt))
+    (either_way (AllByRecursion (CanSay all)) (length b.string == 0) [] (said.CommitString b.string ∷ []) tt
+    (h.string, tt))
     (each_append (CanSay all) (preedit_said b.preedit) (said.FieldDone count ∷ [])
     (either_way (AllByRecursion (CanSay all)) (is_no_preedit b.preedit) []
     (said.Preedit b.preedit.text b.preedit.begin b.preedit.end ∷ []) tt (h.preedit, tt)) (h.count-is, tt)))
@@ -344,7 +345,8 @@ keyboard_says : (all : Bool) (n : ℕ) (log : List Act) → WordSays all n → A
 keyboard_says all n log w h =
     each_append (CanSay all) (keymap_said (last_keymap log)) _
     (keymap_says all (last_keymap log) (says_keymap all log h))
-    (each_append (CanSay all) (repeat_said (last_repeat log)) (mods_said n (last_mods log)) (repeat_says all (last_repeat log) (says_repeat all log h))
+    (each_append (CanSay all) (repeat_said (last_repeat log)) (mods_said n (last_mods log))
+    (repeat_says all (last_repeat log) (says_repeat all log h))
     (mods_say all n (last_mods log) w (says_mods all log h)))
 
 key_says : (all : Bool) (n time key state : ℕ) (goes : Goes) → WordSays all n →
@@ -386,7 +388,8 @@ own_says all (acts.Popup m s) log w h = popup_says all (acts.Popup m s ∷ log) 
 own_says all (acts.Grab m) log w h =
     either_way (AllByRecursion (CanSayEvent all)) (is_at (standing (acts.Grab m ∷ log)) (next log))
     (map (to (next log)) (keyboard_said (next log) log)) []
-    (each_map (CanSayEvent all) (to (next log)) (keyboard_said (next log) log) (keyboard_says all (next log) log w h.1)) tt
+    (each_map (CanSayEvent all) (to (next log)) (keyboard_said (next log) log) (keyboard_says all (next log) log w h.1))
+    tt
 own_says all (acts.Drop x) log w h = deleted_says all x (peer_of log x)
 own_says all (acts.Area s rect) log w h = popups_says all (acts.Area s rect ∷ log) h
 own_says all (acts.Screen size) log w h = popups_says all (acts.Screen size ∷ log) h
@@ -416,7 +419,8 @@ by_says : (all : Bool) (act : Act) (log : List Act) → WordSays all (next log) 
     CanSayAll all (told_by act log)
 by_says all act log w h =
     each_append (CanSayEvent all) (leaves act log) _ (leaves_says all act log)
-    (each_append (CanSayEvent all) (to_method act log (serving (act ∷ log))) _ (method_says all act log (serving (act ∷ log)) h)
+    (each_append (CanSayEvent all) (to_method act log (serving (act ∷ log))) _
+    (method_says all act log (serving (act ∷ log)) h)
     (each_append (CanSayEvent all) (enters act log) (own act log) (enters_says all act log) (own_says all act log w h)))
 
 -- each thing that an act tells can be said where the acts can, and the act's number

@@ -9,7 +9,7 @@ use Rattle.wl_proto.specs.Grammar.{Value, word, signed, text, null, token}
 use Rattle.wl_proto.specs.Rows.{Message, message, request_kinds}
 use Rattle.wl_proto.specs.Reading.{values_at, all_read, by_row, request_reading}
 use Rattle.wl_proto.specs.Spelled.{IsSpelled, Spelled}
-use Rattle.wl_proto.proofs.Values.{values_sound}
+use Rattle.wl_proto.proofs.ValuesReadBack.{values_sound}
 use Rattle.told_law.specs.Sayable.{IsWord, IsInt, IsText}
 
 -- the number has 32 bits, the text is one of the protocol
@@ -51,7 +51,8 @@ reads_values P reads i n tokens body m h e = by (reads i n) refl e
     read : (ks : List Kind) (o : Option (List Value)) → reads i n ≡ Some ks → values_at tokens ks body ≡ o →
         all_read i n o ≡ Ok m → P m.values
     read ks None r q k = cc
-    read ks (Some vs) r q k = (let same : message i n vs ≡ m = cc in subst (λ (x : Message). P x.values) same (h ks vs r q))
+    read ks (Some vs) r q k =
+        (let same : message i n vs ≡ m = cc in subst (λ (x : Message). P x.values) same (h ks vs r q))
 
     by : (o : Option (List Kind)) → reads i n ≡ o → by_row i n tokens body o ≡ Ok m → P m.values
     by None r k = cc

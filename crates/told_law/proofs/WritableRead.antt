@@ -8,8 +8,8 @@ use Rattle.wl_proto.specs.Rows.{Message, event_kinds}
 use Rattle.wl_proto.specs.Reading.{all_read, by_row, event_reading}
 use Rattle.wl_proto.specs.Spelling.{spelling, message_bytes}
 use Rattle.wl_proto.specs.Spelled.{AreTokens}
-use Rattle.wl_proto.proofs.Values.{values_complete, spelled_once}
-use Rattle.wl_proto.proofs.Whole.{written_whole}
+use Rattle.wl_proto.proofs.ValuesReadBack.{values_complete, spelled_once}
+use Rattle.wl_proto.proofs.WrittenIsWhole.{written_whole}
 use Rattle.told_law.specs.ToldRead.{IsWritable, WritableIsRead}
 
 -- a message by its parts
@@ -23,7 +23,8 @@ read_parts i m tokens body n e o b w t =
     ∙ ap (λ (l : List ℕ). by_row m.interface m.opcode tokens l (event_kinds m.interface m.opcode)) b
     ∙ ap (λ (k : Option (List Kind)). by_row m.interface m.opcode tokens (spelling m.values) k) w.is
     ∙ ap (λ (vs : Option (List Value)). all_read m.interface m.opcode vs)
-    (values_complete tokens w.row m.values (spelling m.values) (spelled_once w.row m.values w.kinds (let s = w.size in omega arith)) t)
+    (values_complete tokens w.row m.values (spelling m.values)
+    (spelled_once w.row m.values w.kinds (let s = w.size in omega arith)) t)
 
 pub writable_read : WritableIsRead
 writable_read object m small w e =

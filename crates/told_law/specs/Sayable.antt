@@ -36,7 +36,8 @@ IsKeymap keymap = IsWord keymap.format × IsWord keymap.size
 abbrev pub IsRepeat : Repeat → Type 0
 IsRepeat repeat = IsInt repeat.rate × IsInt repeat.delay
 
--- what the act may tell can be said: its numbers have 32 bits, and its texts are texts of the protocol
+-- what the act may tell can be said: its numbers have 32 bits, and its texts are texts of the
+-- protocol
 abbrev pub IsSayable : Act → Type 0
 IsSayable (acts.Surround f text cursor anchor) = IsText text × IsInt cursor × IsInt anchor
 IsSayable (acts.Cause f cause) = IsWord cause
@@ -61,8 +62,8 @@ IsShellSayable (shell.Keymap keymap) = IsKeymap keymap
 IsShellSayable (shell.Repeat repeat) = IsRepeat repeat
 IsShellSayable _ = Unit {0}
 
--- The entry is one that a program can hold: its numbers have 32 bits, and the body of a message is one of bytes, at
--- most as many as a message has beside its header.
+-- The entry is one that a program can hold: its numbers have 32 bits, and the body of a message is
+-- one of bytes, at most as many as a message has beside its header.
 abbrev pub IsHeld : Entry → Type 0
 IsHeld (entries.Message q id opcode body) = IsBytes body × (length body ≤ 4088)
 IsHeld (entries.Shell step) = IsShellSayable step

@@ -25,7 +25,8 @@ ActsAreSayable = (e : Entry) (older : List Entry) → IsHeld e → IsSayable (ac
 
 -- ---- what is told can be written
 
--- the message has a row, its values are of the kinds of the row, its opcode has 16 bits, and it has at most 4096 bytes
+-- the message has a row, its values are of the kinds of the row, its opcode has 16 bits, and it has
+-- at most 4096 bytes
 pub record IsWritable (m : Message) : Type 0 where
   pub row : List Kind
   pub is : event_kinds m.interface m.opcode ≡ Some row
@@ -55,25 +56,29 @@ ToldToItsKind =
 
 -- ---- what is spelled is read
 
--- the bytes are a message to the object, and are read as this event of its interface, where the tokens are its own
+-- the bytes are a message to the object, and are read as this event of its interface, where the
+-- tokens are its own
 pub record IsReadAs (object : Made) (m : Message) : Type 0 where
   pub whole : IsMessage (message_bytes object.id m)
   pub to : id_of (message_bytes object.id m) ≡ object.id
   pub opcode : opcode_of (message_bytes object.id m) ≡ m.opcode
   pub interface : m.interface ≡ object.interface
   pub reads : (tokens : List ℕ) → AreTokens tokens m.values →
-      event_reading object.interface (opcode_of (message_bytes object.id m)) tokens (body_of (message_bytes object.id m))
+      event_reading object.interface (opcode_of (message_bytes object.id m)) tokens
+      (body_of (message_bytes object.id m))
       ≡ Ok m
 
 -- so is each message that can be written
 abbrev pub WritableIsRead : Type 0
 WritableIsRead =
-    (object : Made) (m : Message) → object.id < 2 ^ 32 → IsWritable m → m.interface ≡ object.interface → IsReadAs object m
+    (object : Made) (m : Message) → object.id < 2 ^ 32 → IsWritable m →
+    m.interface ≡ object.interface → IsReadAs object m
 
 -- what is told to an object is read as an event of that object
 abbrev pub IsToldRead : List Made → Told → Type 0
 IsToldRead made t =
-    (object : Made) → made_as made t.to ≡ Some object → IfSome (message_of made t.event) (IsReadAs object)
+    (object : Made) → made_as made t.to ≡ Some object →
+    IfSome (message_of made t.event) (IsReadAs object)
 
 -- so is each thing that an entry tells
 abbrev pub ToldIsRead : Type 0
@@ -83,9 +88,11 @@ ToldIsRead =
 
 -- ---- all that is put for a peer
 
--- a client knows the objects of the peer p: the interface of each under the id under which the peer made it
+-- a client knows the objects of the peer p: the interface of each under the id under which the peer
+-- made it
 abbrev pub AreObjectsOf : (ℕ → Option Interface) → List Made → ℕ → Type 0
-AreObjectsOf objects made p = (m : Made) → made_as made m.label ≡ Some m → m.peer ≡ p → objects m.id ≡ Some m.interface
+AreObjectsOf objects made p =
+    (m : Made) → made_as made m.label ≡ Some m → m.peer ≡ p → objects m.id ≡ Some m.interface
 
 -- the message is read as an event of one of these objects; a keymap, where its token is at hand
 pub record IsHeard (objects : ℕ → Option Interface) (bytes : List ℕ) : Type 0 where
@@ -106,5 +113,7 @@ pub record AreHeard (objects : ℕ → Option Interface) (bytes : List ℕ) : Ty
 -- so is all that a journal puts for a peer
 abbrev pub AllIsHeard : Type 0
 AllIsHeard =
-    (capacity : ℕ) (journal : List Entry) (p : ℕ) (objects : ℕ → Option Interface) → AreHeld journal →
-    length journal < 2 ^ 32 → AreObjectsOf objects (past_of journal).made p → AreHeard objects (out_for capacity journal p).put.bytes
+    (capacity : ℕ) (journal : List Entry) (p : ℕ) (objects : ℕ → Option Interface) →
+    AreHeld journal →
+    length journal < 2 ^ 32 → AreObjectsOf objects (past_of journal).made p →
+    AreHeard objects (out_for capacity journal p).put.bytes

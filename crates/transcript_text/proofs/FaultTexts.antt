@@ -9,7 +9,7 @@ use Rattle.relay_model.specs.declared.fault.Fault.{Fault}
 use Rattle.relay_model.specs.declared.fault.Fault.TheVariants.{Size, Object, Opcode, Malformed, Argument, NewId, TooMany, Bind, Capability, Role}
 use Rattle.relay_model.specs.Faults.{text_of}
 use Rattle.session_text.specs.Words.{hex_word}
-use Rattle.session_text.proofs.Separators.{zero as zero_outside, encoded_lacks}
+use Rattle.session_text.proofs.LinesSplit.{zero as zero_outside, encoded_lacks}
 
 pub fault_word : (fault : Fault) → encode_lower (text_of fault) ≡ hex_word (text_of fault)
 fault_word Size = refl

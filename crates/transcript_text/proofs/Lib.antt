@@ -1,7 +1,7 @@
-pub mod Printed
+pub mod PrintedStepsHold
 pub mod StampedSteps
 pub mod FaultTexts
 pub mod PrintedLines
-pub mod Transcripts
+pub mod NoZeroByte
 mod ShortLines
 pub mod SeatTexts

@@ -37,7 +37,8 @@ last_goes_on seat (b ∷ line) h =
     ap (λ (f : Bool). b ∷ marked seat f line) (first_no_feed b line h)
     ∙ ap (λ (t : List ℕ). b ∷ t) (last_goes_on seat line (rest_no_feed b line h))
 
-pub last_marked : (seat : ℕ) (line : List ℕ) → HasNoFeed line → 0 < length line → seat_lines seat line ≡ seat_mark seat ++ line
+pub last_marked : (seat : ℕ) (line : List ℕ) → HasNoFeed line → 0 < length line →
+    seat_lines seat line ≡ seat_mark seat ++ line
 last_marked seat [] h some = absurd (omega (arith, some))
 last_marked seat (b ∷ line) h some =
     ap (λ (f : Bool). seat_mark seat ++ b ∷ marked seat f line) (first_no_feed b line h)
@@ -52,7 +53,9 @@ next_line seat text added pushed rest line more whole lacks parts grew ends is =
     ap (λ (t : List ℕ). t ++ L) (ends ∙ ap (λ (t : List ℕ). t ++ 10 ∷ []) grew)
     ∙ append_assoc (text ++ (seat_mark seat ++ line)) (10 ∷ []) L
     ∙ append_assoc text (seat_mark seat ++ line) (10 ∷ L)
-    ∙ ap (λ (t : List ℕ). text ++ t) (append_assoc (seat_mark seat) line (10 ∷ L) ∙ sym (line_marked seat line more lacks) ∙ ap (seat_lines seat) (sym parts))
+    ∙ ap (λ (t : List ℕ). text ++ t)
+    (append_assoc (seat_mark seat) line (10 ∷ L) ∙ sym (line_marked seat line more lacks)
+    ∙ ap (seat_lines seat) (sym parts))
     ∙ is
 
 -- what is left without a line feed goes behind the text

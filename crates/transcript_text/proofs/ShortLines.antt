@@ -15,7 +15,7 @@ use Rattle.hex.proofs.HexLemmas.{IsAscii-encode_with}
 use Rattle.wl_wire.specs.Texts.{has_no_zero, IsBytes}
 use Rattle.session_text.specs.Words.{hex_word}
 use Rattle.transcript_text.specs.Told.{spaced}
-use Rattle.session_text.proofs.Separators.{zero, hex_lacks}
+use Rattle.session_text.proofs.LinesSplit.{zero, hex_lacks}
 use Rattle.transcript_text.proofs.PrintedLines.{number_clean, join-spaced}
 
 pub number_short : (n : ℕ) → n < 2 ^ 32 → length (decimal n) ≤ 10
@@ -45,10 +45,12 @@ before_plain word rest w r = record {
 }
 
 pub word_plain : (word rest : List ℕ) → IsPlain word → IsPlain rest → IsPlain (32 ∷ (word ++ rest))
-word_plain word rest w r = let both = before_plain word rest w r in record { ascii = rw (both.ascii) refl; clean = rw (both.clean) refl }
+word_plain word rest w r = let both =
+    before_plain word rest w r in record { ascii = rw (both.ascii) refl; clean = rw (both.clean) refl }
 
 pub number_is_plain : (n : ℕ) → n < 2 ^ 32 → IsPlain (decimal n)
-number_is_plain n small = record { ascii = ascii_from (decimal n) (IsAscii-decimal n (omega arith)); clean = number_clean n small }
+number_is_plain n small =
+    record { ascii = ascii_from (decimal n) (IsAscii-decimal n (omega arith)); clean = number_clean n small }
 
 table_ascii : IsAscii lower_digits
 table_ascii = ascii_is lower_digits refl
@@ -64,28 +66,34 @@ pub none_plain : IsPlain []
 none_plain = record { ascii = refl; clean = refl }
 
 -- a space before what stands
-pub spaced_set : (at : ℕ) (room rest : List ℕ) → 1 ≤ at → at ≤ length room → drop at room ≡ rest → drop (at - 1) (slice_set room (at - 1) 32) ≡ 32 ∷ rest
+pub spaced_set : (at : ℕ) (room rest : List ℕ) → 1 ≤ at → at ≤ length room → drop at room ≡ rest →
+    drop (at - 1) (slice_set room (at - 1) 32) ≡ 32 ∷ rest
 spaced_set at room rest some within stands =
     let on : at - 1 + 1 ≡ at = omega arith in
     drop-set room (at - 1) 32 (omega arith) ∙ ap (λ i. 32 ∷ drop i room) on ∙ ap (λ l. 32 ∷ l) stands
 
 -- one more number before those that stand
 pub numbers_more : (ns : List ℕ) (i : ℕ) (rest before after : List ℕ) → i < length ns
-    → before ≡ spaced (map decimal (drop (i + 1) ns)) ++ rest → after ≡ 32 ∷ (decimal (get_or ns i 0) ++ before) → after ≡ spaced (map decimal (drop i ns)) ++ rest
+    → before ≡ spaced (map decimal (drop (i + 1) ns)) ++ rest → after ≡ 32 ∷ (decimal (get_or ns i 0) ++ before) →
+    after ≡ spaced (map decimal (drop i ns)) ++ rest
 numbers_more ns i rest before after lt held added =
     let word = decimal (get_or ns i 0) in
-    added ∙ ap (λ l. 32 ∷ (word ++ l)) held ∙ ap (λ l. 32 ∷ l) (sym (append_assoc word (spaced (map decimal (drop (i + 1) ns))) rest))
+    added ∙ ap (λ l. 32 ∷ (word ++ l)) held
+    ∙ ap (λ l. 32 ∷ l) (sym (append_assoc word (spaced (map decimal (drop (i + 1) ns))) rest))
     ∙ ap (λ l. spaced (map decimal l) ++ rest) (sym (drop_more ns i 0 lt))
 
 -- a first word, another, and more behind them
 pub two_joined : (first word : List ℕ) (words : List (List ℕ)) (behind all line : List ℕ)
-    → behind ≡ spaced words ++ [] → all ≡ 32 ∷ (word ++ behind) → line ≡ first ++ all → line ≡ join_with_byte 32 (first ∷ word ∷ words)
+    → behind ≡ spaced words ++ [] → all ≡ 32 ∷ (word ++ behind) → line ≡ first ++ all →
+    line ≡ join_with_byte 32 (first ∷ word ∷ words)
 two_joined first word words behind all line b a l =
-    l ∙ ap (λ x. first ++ x) (a ∙ ap (λ x. 32 ∷ (word ++ x)) (b ∙ append-nil (spaced words))) ∙ sym (join-spaced first (word ∷ words))
+    l ∙ ap (λ x. first ++ x) (a ∙ ap (λ x. 32 ∷ (word ++ x)) (b ∙ append-nil (spaced words)))
+    ∙ sym (join-spaced first (word ∷ words))
 
 pub three_joined : (first second word : List ℕ) (words : List (List ℕ)) (behind more all line : List ℕ)
     → behind ≡ spaced words ++ [] → more ≡ 32 ∷ (word ++ behind) → all ≡ 32 ∷ (second ++ more) → line ≡ first ++ all
     → line ≡ join_with_byte 32 (first ∷ second ∷ word ∷ words)
 three_joined first second word words behind more all line b m a l =
-    l ∙ ap (λ x. first ++ x) (a ∙ ap (λ x. 32 ∷ (second ++ x)) (m ∙ ap (λ x. 32 ∷ (word ++ x)) (b ∙ append-nil (spaced words))))
+    l ∙ ap (λ x. first ++ x)
+    (a ∙ ap (λ x. 32 ∷ (second ++ x)) (m ∙ ap (λ x. 32 ∷ (word ++ x)) (b ∙ append-nil (spaced words))))
     ∙ sym (join-spaced first (second ∷ word ∷ words))

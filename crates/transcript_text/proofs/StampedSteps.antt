@@ -16,31 +16,36 @@ use Rattle.session_text.specs.Reading.{line_of}
 use Rattle.session_text.specs.SessionGrammar.{session_words, HasSessionLine, HasStampedLine, IsStamp}
 use Rattle.session_text.specs.Steps.{step_line}
 use Rattle.transcript_text.specs.Printing.{Prints, IsOldStep, IsReadAgain, unstamped}
-use Rattle.session_text.proofs.Laws.{reads_each, reads_only}
+use Rattle.session_text.proofs.LinesReadBack.{reads_each, reads_only}
 use Rattle.session_text.proofs.SpelledSteps.{line_some, old_line}
 
 -- words with one more before them
-join_more : (w : List ℕ) (ws : List (List ℕ)) → 1 ≤ length ws → join_with_byte 32 (w ∷ ws) ≡ w ++ 32 ∷ join_with_byte 32 ws
+join_more : (w : List ℕ) (ws : List (List ℕ)) → 1 ≤ length ws →
+    join_with_byte 32 (w ∷ ws) ≡ w ++ 32 ∷ join_with_byte 32 ws
 join_more w [] some = absurd (omega (arith, some))
 join_more w (v ∷ ws) some = refl
 
 -- a stamp before the bytes of a line
 pub stamped_spelling : (stamp : Stamp) (line : SessionLine) →
-    spelling Session2 (lines.Stamped stamp line) ≡ decimal stamp.moment ++ 32 ∷ (decimal stamp.author ++ 32 ∷ spelling Session (lines.Session line))
+    spelling Session2 (lines.Stamped stamp line)
+    ≡ decimal stamp.moment ++ 32 ∷ (decimal stamp.author ++ 32 ∷ spelling Session (lines.Session line))
 stamped_spelling stamp line =
     ap (λ l. decimal stamp.moment ++ 32 ∷ l) (join_more (decimal stamp.author) (session_words line) (line_some line))
 
 pub stamped_read : (stamp : Stamp) (line : SessionLine) (bytes : List ℕ) → IsStamp stamp → HasStampedLine line
     → bytes ≡ decimal stamp.moment ++ 32 ∷ (decimal stamp.author ++ 32 ∷ spelling Session (lines.Session line))
     → line_of Session2 bytes ≡ Some (lines.Stamped stamp line)
-stamped_read stamp line bytes s h is = ap (line_of Session2) (is ∙ sym (stamped_spelling stamp line)) ∙ reads_each Session2 (lines.Stamped stamp line) (s, h)
+stamped_read stamp line bytes s h is =
+    ap (line_of Session2) (is ∙ sym (stamped_spelling stamp line))
+    ∙ reads_each Session2 (lines.Stamped stamp line) (s, h)
 
 -- the stamp of nothing known
 front_zero : (bytes : List ℕ) → codes "0 0 " ++ bytes ≡ decimal 0 ++ 32 ∷ (decimal 0 ++ 32 ∷ bytes)
 unfolding digits
 front_zero bytes = refl
 
-pub unstamped_read : (line : SessionLine) (bytes : List ℕ) → HasStampedLine line → bytes ≡ spelling Session (lines.Session line)
+pub unstamped_read : (line : SessionLine) (bytes : List ℕ) → HasStampedLine line →
+    bytes ≡ spelling Session (lines.Session line)
     → line_of Session2 (codes "0 0 " ++ bytes) ≡ Some (lines.Stamped unstamped line)
 unstamped_read line bytes h is =
     stamped_read unstamped line (codes "0 0 " ++ bytes) (omega arith, omega arith) h

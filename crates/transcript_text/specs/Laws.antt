@@ -8,4 +8,6 @@ use Rattle.session_text.specs.Steps.{message_bytes}
 abbrev pub MessagesAreWhole : Type 0
 MessagesAreWhole =
     (id opcode : ℕ) (body : List ℕ) → id < 2 ^ 32 → opcode < 2 ^ 16 → IsBody body
-    → IsMessage (message_bytes id opcode body) × (id_of (message_bytes id opcode body) ≡ id) × (opcode_of (message_bytes id opcode body) ≡ opcode) × (body_of (message_bytes id opcode body) ≡ body)
+    → IsMessage (message_bytes id opcode body) × (id_of (message_bytes id opcode body) ≡ id)
+    × (opcode_of (message_bytes id opcode body) ≡ opcode)
+    × (body_of (message_bytes id opcode body) ≡ body)

@@ -9,7 +9,8 @@ seat_mark seat = decimal seat ++ 32 ∷ []
 -- a text with the seat's mark before each line, where its first byte begins one or not
 abbrev pub marked : ℕ → Bool → List ℕ → List ℕ
 marked seat begins [] = []
-marked seat begins (b ∷ text) = (if begins then seat_mark seat else []) ++ b ∷ marked seat (b == 10) text
+marked seat begins (b ∷ text) =
+    (if begins then seat_mark seat else []) ++ b ∷ marked seat (b == 10) text
 
 -- the lines of a seat's transcript, as they stand in that of several seats
 abbrev pub seat_lines : ℕ → List ℕ → List ℕ

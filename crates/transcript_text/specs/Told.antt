@@ -41,7 +41,8 @@ said_words (said.Pass time key state) = codes "pass" ∷ decimal time ∷ decima
 said_words (said.VMods mods) = codes "vmods" ∷ decimal mods.depressed ∷ decimal mods.latched ∷ decimal mods.locked ∷ decimal mods.group ∷ []
 said_words (said.Placed popup x y) = codes "placed" ∷ decimal popup ∷ signed_decimal x ∷ signed_decimal y ∷ []
 
--- the line of an event, without its line feed: the number of the act that tells it, the label that it is told to, the event
+-- the line of an event, without its line feed: the number of the act that tells it, the label that
+-- it is told to, the event
 abbrev pub told_line : ℕ → Told → List ℕ
 told_line number told = join_with_byte 32 (decimal number ∷ decimal told.to ∷ said_words told.event)
 

@@ -1,4 +1,5 @@
--- The lines of a session's transcript, each without its line feed. Each begins with the number of its entry.
+-- The lines of a session's transcript, each without its line feed. Each begins with the number of
+-- its entry.
 use Rattle.std.specs.Prelude.{ℕ, ℤ, List, [], ◌∷◌, ◌++◌, map, codes}
 use Rattle.std.specs.List.{join_with_byte}
 use Rattle.std.specs.Fmt.{decimal, signed_decimal}

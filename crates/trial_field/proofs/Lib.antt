@@ -1,2 +1,2 @@
-pub mod Chars
-pub mod Utf8
+pub mod BoundariesAreChars
+pub mod FirstLastChars

@@ -17,9 +17,12 @@ whole t = t.before ++ t.behind
 abbrev pub IsSamePlace : FieldText → FieldText → Type 0
 IsSamePlace old new = (whole new ≡ whole old) × (length new.before ≡ length old.before)
 
--- the text goes to the cursor, and the cursor behind it; nothing changes where the whole would pass the limit
+-- the text goes to the cursor, and the cursor behind it; nothing changes where the whole would pass
+-- the limit
 abbrev pub insert : List ℕ → FieldText → FieldText
-insert text t = if nat_le (length (whole t) + length text) MAX_TEXT then record t { before = t.before ++ text } else t
+insert text t =
+    if nat_le (length (whole t) + length text) MAX_TEXT then record t { before = t.before ++ text }
+    else t
 
 abbrev pub without_last : List ℕ → List ℕ
 without_last text = take (length text - length (last_char text)) text
@@ -30,7 +33,11 @@ left t = record t { before = without_last t.before; behind = last_char t.before 
 
 -- the cursor goes over the character behind it
 abbrev pub right : FieldText → FieldText
-right t = record t { before = t.before ++ first_char t.behind; behind = drop (length (first_char t.behind)) t.behind }
+right t = record
+    t {
+      before = t.before ++ first_char t.behind;
+      behind = drop (length (first_char t.behind)) t.behind;
+    }
 
 -- the character before the cursor goes
 abbrev pub rub : FieldText → FieldText
@@ -40,20 +47,27 @@ rub t = record t { before = without_last t.before }
 abbrev pub can_delete : ℕ → ℕ → FieldText → Bool
 can_delete before behind t =
     nat_le before (length t.before) && nat_le behind (length t.behind)
-    && is_boundary (whole t) (length t.before - before) && is_boundary (whole t) (length t.before + behind)
+    && is_boundary (whole t) (length t.before - before)
+    && is_boundary (whole t) (length t.before + behind)
 
 -- so many bytes before the cursor and behind it go, or nothing where they can't
 abbrev pub delete : ℕ → ℕ → FieldText → FieldText
 delete before behind t =
     if can_delete before behind t
-    then record t { before = take (length t.before - before) t.before; behind = drop behind t.behind }
+    then record t {
+      before = take (length t.before - before) t.before;
+      behind = drop behind t.behind;
+    }
     else t
 
 -- the old preedit is dropped, the range deleted, the string inserted, the new preedit kept
 abbrev pub edit_by : Batch → FieldText → FieldText
 edit_by batch t =
     let dropped = record t { preedit = [] } in
-    record (insert batch.string (delete batch.before batch.after dropped)) { preedit = batch.preedit }
+    record (insert batch.string (delete batch.before batch.after dropped)) {
+      preedit =
+          batch.preedit;
+    }
 
 -- the text after one more entry
 abbrev pub after : Entry → FieldText → FieldText

@@ -7,7 +7,11 @@ use Rattle.trial_field.specs.declared.batch_view.TheConstants.{MAX_PREEDIT}
 use Rattle.trial_field.specs.declared.field.TrialField.TheInside.{Inside}
 
 abbrev pub seen : Inside → FieldText
-seen f = record { before = take f.cursor (string_bytes f.text); behind = drop f.cursor (string_bytes f.text); preedit = string_bytes f.preedit }
+seen f = record {
+  before = take f.cursor (string_bytes f.text);
+  behind = drop f.cursor (string_bytes f.text);
+  preedit = string_bytes f.preedit;
+}
 
 -- the cursor cuts no character, and what may come has its room
 pub record IsKept (f : Inside) : Type 0 where

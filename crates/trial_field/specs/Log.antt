@@ -33,7 +33,15 @@ entry_of Right = went_right
 entry_of Rub = rubbed
 
 abbrev pub batch_of : BatchView → Batch
-batch_of b = record { before = b.before; after = b.after; string = b.string.now; preedit = b.preedit.now; begin = b.begin; end = b.end }
+batch_of b =
+    record {
+      before = b.before;
+      after = b.after;
+      string = b.string.now;
+      preedit = b.preedit.now;
+      begin = b.begin;
+      end = b.end;
+    }
 
 -- a text of the protocol has no zero byte
 abbrev pub HasNoZero : List ℕ → Type 0

@@ -13,7 +13,8 @@ pub record IsMovedDown (text : List ℕ) (n place : ℕ) : Type 0 where
   pub boundary : IsCharBoundary text place
   pub nearest : (i : ℕ) → place < i → i ≤ n → ¬ (IsCharBoundary text i)
 
--- from 2000 bytes before the cursor, or the text's beginning, moved up; to 4000 bytes later, or the text's end, moved down
+-- from 2000 bytes before the cursor, or the text's beginning, moved up; to 4000 bytes later, or the
+-- text's end, moved down
 pub record IsWindow (text : List ℕ) (cursor begin end : ℕ) : Type 0 where
   pub begins : IsMovedUp text (cursor - 2000) begin
   pub ends : IsMovedDown text (min (begin + 4000) (length text)) end

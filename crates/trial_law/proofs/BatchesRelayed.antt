@@ -20,7 +20,7 @@ use Rattle.relay_model.specs.Hold.{holder}
 use Rattle.relay_model.specs.Activation.{serving, notice, deactivates, fresh}
 use Rattle.relay_model.specs.Batch.{Batch, batch, commit_count, deletion_said, string_said, is_no_preedit, preedit_said, group_of}
 use Rattle.relay_model.specs.Told.{to, to_method, told_by, told}
-use Rattle.relay_model.proofs.Histories.{IsHistory, history_is}
+use Rattle.relay_model.proofs.ActsOrIdle.{IsHistory, history_is}
 use Rattle.relay_model.proofs.FocusLaws.{IsSteady}
 use Rattle.relay_model.proofs.HoldLaws.{kept_same}
 use Rattle.client_side.specs.Happenings.{Happening}
@@ -31,11 +31,11 @@ use Rattle.broker_model.specs.Groups.{message_of, said_piece, message_piece, fol
 use Rattle.broker_model.specs.Out.{act_at, act_now, group_at, fits, before_group, out_for}
 use Rattle.broker_model.specs.Queued.{relays, is_put_for, is_put, queued}
 use Rattle.broker_model.specs.Resolve.{past_of, resolve, means}
-use Rattle.broker_model.proofs.Named.{IsIn, made_with}
-use Rattle.broker_model.proofs.Owners.{maker_stays}
-use Rattle.broker_model.proofs.Peers.{length_log}
-use Rattle.broker_model.proofs.Sound.{sound}
-use Rattle.broker_model.proofs.Whole.{whole_groups}
+use Rattle.broker_model.proofs.IdsAreNames.{IsIn, made_with}
+use Rattle.broker_model.proofs.OwnersLive.{maker_stays}
+use Rattle.broker_model.proofs.LivePeersJoined.{length_log}
+use Rattle.broker_model.proofs.MadeObjectsStand.{sound}
+use Rattle.broker_model.proofs.BatchGroupsWhole.{whole_groups}
 use Rattle.seat_objects.specs.Fits.{FitsMessage}
 use Rattle.seat_audience.specs.Tells.{IsShort}
 use Rattle.broker_core.proofs.ActTextsFit.{IsBodyShort, act_fits}
@@ -222,7 +222,8 @@ each_pair : {A : Type 0} (P Q R : A → Type 0) (xs : List A) → ((x : A) → P
 each_pair P Q R [] f h k = tt
 each_pair P Q R (x ∷ xs) f h k = (f x h.0 k.0, each_pair P Q R xs f h.1 k.1)
 
-entering_opcode : (made : List Made) (s : Said) (x : Message) → is_entering s ≡ true → message_of made s ≡ Some x → x.opcode ≤ 1
+entering_opcode : (made : List Made) (s : Said) (x : Message) → is_entering s ≡ true → message_of made s ≡ Some x →
+    x.opcode ≤ 1
 entering_opcode made (said.Enter surface) x h e =
     (let same = ap (λ (m : Message). m.opcode) (same_Some _ x e) in omega arith)
 entering_opcode made (said.Leave surface) x h e =
@@ -363,7 +364,8 @@ one_told capacity e older p f h short k =
 
     put_is : (b : Bool) → fits capacity (group_at e older p) (before_group e older p (out_for capacity older p)) ≡ b →
         (out_for capacity (e ∷ older) p).put.bytes
-        ≡ (if b then (out_for capacity older p).put.bytes ++ (group_at e older p).bytes else (out_for capacity older p).put.bytes)
+        ≡ (if b then (out_for capacity older p).put.bytes ++ (group_at e older p).bytes
+        else (out_for capacity older p).put.bytes)
     put_is true q = rw q refl
     put_is false q = rw q refl
 

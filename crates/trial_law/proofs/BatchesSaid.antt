@@ -1,4 +1,5 @@
--- The groups that are relayed to a field are read as the batches that are relayed, where the acts of batches can be said.
+-- The groups that are relayed to a field are read as the batches that are relayed, where the acts of batches can be
+-- said.
 use Rattle.std.proofs.Common.{◌≡◌, ℕ, ◌≤◌, Bool, true, false, List, [], ◌∷◌, ◌++◌, length, refl, ap, ◌∙◌, arith}
 use Rattle.std.specs.Prelude.{◌==◌, ◌&&◌, if◌then◌else◌, nat_le, unwrap_or}
 use Rattle.std.specs.List.{AllByRecursion}
@@ -11,7 +12,7 @@ use Rattle.relay_model.specs.Batch.{Preedit, no_preedit, string_by, last_string,
 use Rattle.broker_model.proofs.EachElement.{either_way}
 use Rattle.seat_objects.specs.Fits.{FitsMessage}
 use Rattle.client_side.specs.Happenings.{Happening}
-use Rattle.told_law.proofs.Says.{Says}
+use Rattle.told_law.proofs.ActsCanBeSaid.{Says}
 use Rattle.told_law.proofs.ToldSayable.{BatchSays, says_batch}
 use Rattle.trial_law.specs.RelayedBatches.{group_told, groups_told, IsSayable}
 use Rattle.trial_law.specs.RelayedAsBatches.{batch_by, relayed_batches}

@@ -4,7 +4,7 @@ use Rattle.std.specs.Prelude.{◌==◌, if◌then◌else◌}
 use Rattle.std.specs.List.{AllByRecursion, slice_get}
 use Rattle.wl_wire.specs.Texts.{IsBytes}
 use Rattle.wl_wire.specs.Messages.{body_of, messages}
-use Rattle.wl_wire.proofs.Texts.{is_text-plain}
+use Rattle.wl_wire.proofs.TextsKnown.{is_text-plain}
 use Rattle.wl_proto.specs.declared.interface.Interface.{Interface}
 use Rattle.wl_proto.specs.declared.interface.Interface.TheVariants as interface
 use Rattle.wl_proto.specs.declared.event.Event.{Event}
@@ -60,7 +60,8 @@ settled_bytes capacity (suc n) journal h =
 
 next_field : (m : List ℕ) (ms : List (List ℕ)) (o : Option Event) (s : field_state.State) →
     event_in field_objects m ≡ o →
-    ((u : field_state.State) → AreFieldBytes u → AreFieldBytes (heard field_state.after_event field_objects ms u).state) → AreFieldBytes s →
+    ((u : field_state.State) → AreFieldBytes u →
+    AreFieldBytes (heard field_state.after_event field_objects ms u).state) → AreFieldBytes s →
     AreFieldBytes (heard_next field_state.after_event o s (heard field_state.after_event field_objects ms)).state
 next_field m ms None s e k h = h
 next_field m ms (Some event) s e k h = k (field_state.after_event event s)
@@ -83,10 +84,14 @@ field_received piece c h = by c.is_bad
     by false = field_heard (messages (c.held ++ piece)) c.state h
 
 next_method : (ms : List (List ℕ)) (o : Option Event) (s : method_state.State TrialTypist) →
-    ((u : method_state.State TrialTypist) → AreMethodBytes u → AreMethodBytes (heard (method_state.after_event meanings_of) method_objects ms u).state) → AreMethodBytes s →
-    AreMethodBytes (heard_next (method_state.after_event meanings_of) o s (heard (method_state.after_event meanings_of) method_objects ms)).state
+    ((u : method_state.State TrialTypist) → AreMethodBytes u →
+    AreMethodBytes (heard (method_state.after_event meanings_of) method_objects ms u).state) → AreMethodBytes s →
+    AreMethodBytes
+    (heard_next (method_state.after_event meanings_of) o s
+    (heard (method_state.after_event meanings_of) method_objects ms)).state
 next_method ms None s k h = h
-next_method ms (Some event) s k h = k (method_state.after_event meanings_of event s) (method_happens (came event) s tt h)
+next_method ms (Some event) s k h =
+    k (method_state.after_event meanings_of event s) (method_happens (came event) s tt h)
 
 method_heard : (ms : List (List ℕ)) (s : method_state.State TrialTypist) → AreMethodBytes s →
     AreMethodBytes (heard (method_state.after_event meanings_of) method_objects ms s).state
@@ -100,7 +105,8 @@ method_received piece c h = by c.is_bad
   where
     by : (b : Bool) →
         AreMethodBytes
-        (if b then c else bytes_heard (method_state.after_event meanings_of) method_objects (c.held ++ piece) c.state).state
+        (if b then c
+        else bytes_heard (method_state.after_event meanings_of) method_objects (c.held ++ piece) c.state).state
     by true = h
     by false = method_heard (messages (c.held ++ piece)) c.state h
 
@@ -124,7 +130,8 @@ changed_bytes (suc k) f (x ∷ xs) h all = (all.0, changed_bytes k f xs h all.1)
 field_changed : (k : ℕ) (f : FieldPlay → FieldPlay) (t : TrialPlay) →
     ((x : FieldPlay) → IsByteField x → IsByteField (f x)) → AreTrialBytes t →
     AreTrialBytes (with_field k f t)
-field_changed k f t h a = record { journal = a.journal; method = a.method; fields = changed_bytes k f t.fields h a.fields }
+field_changed k f t h a =
+    record { journal = a.journal; method = a.method; fields = changed_bytes k f t.fields h a.fields }
 
 field_sends : (xs : List FieldPlay) (k : ℕ) → AllByRecursion IsByteField xs → EachByte (sends_in (slice_get xs k))
 field_sends [] k h = tt
@@ -153,7 +160,9 @@ said_bytes : (e : Entry) (t : TrialPlay) → Speaks t e → AreTrialBytes t → 
 said_bytes (entries.Message q id opcode body) t s a =
     subst IsBytes (sym s.body-is)
     (is_bytes (body_of s.message)
-    (drop_bytes 8 s.message (among_bytes (messages (to_send s.who t)) s.message (messages_bytes (to_send s.who t) (sends_bytes s.who t a)) s.among)))
+    (drop_bytes 8 s.message
+    (among_bytes (messages (to_send s.who t)) s.message
+    (messages_bytes (to_send s.who t) (sends_bytes s.who t a)) s.among)))
 said_bytes (entries.Shell step) t s a = tt
 said_bytes _ t s a = absurd s
 
@@ -164,9 +173,11 @@ hears_bytes (whose.Field k) piece t a = field_changed k (field_hears piece) t (�
 
 sent_bytes : (who : Whose) (t : TrialPlay) → AreTrialBytes t → AreTrialBytes (sent who t)
 sent_bytes whose.Method t a =
-    (let m = a.method in record { journal = a.journal; method = record { typist = m.typist; out = tt }; fields = a.fields })
+    (let m = a.method in
+    record { journal = a.journal; method = record { typist = m.typist; out = tt }; fields = a.fields })
 sent_bytes (whose.Field k) t a =
-    field_changed k field_sent t (λ x h. (let f : AreFieldBytes x.client.state = h in record { text = f.text; pending = f.pending; out = tt })) a
+    field_changed k field_sent t
+    (λ x h. (let f : AreFieldBytes x.client.state = h in record { text = f.text; pending = f.pending; out = tt })) a
 
 bytes_kept : IsKept AreTrialBytes
 bytes_kept = record {
@@ -314,6 +325,7 @@ messages_are_bytes limits script texts = (let a = by (script.fields == 0) in a.j
     by true = begins
     by false =
         after AreTrialBytes (method_joined start >>= fields_joined script.fields) (actions_played time script.actions)
-        (after AreTrialBytes (method_joined start) (fields_joined script.fields) (method_keeps AreTrialBytes bytes_seated start begins)
+        (after AreTrialBytes (method_joined start) (fields_joined script.fields)
+        (method_keeps AreTrialBytes bytes_seated start begins)
         (fields_keep AreTrialBytes bytes_seated script.fields))
         (λ now k. actions_bytes time script.actions now texts.actions k)

@@ -11,8 +11,8 @@ use Rattle.broker_model.specs.Resolve.{past_of, with_joined}
 use Rattle.broker_model.specs.Groups.{Piece, followed_by}
 use Rattle.broker_model.specs.Out.{Outgoing, group_at, stored, fits, with_group, is_label, took_at, before_group, out_for}
 use Rattle.broker_model.specs.Settle.{due, cause_of, with_end, settled, settle, number_alive}
-use Rattle.broker_model.proofs.Numbers.{label_within, one_number}
-use Rattle.broker_model.proofs.Peers.{joined_stays}
+use Rattle.broker_model.proofs.LabelsRiseByNumber.{label_within, one_number}
+use Rattle.broker_model.proofs.LivePeersJoined.{joined_stays}
 use Rattle.broker_core.specs.Broker.{Broker}
 use Rattle.trial_run.specs.Steps.{bytes_in, next_bytes}
 use Rattle.trial_law.proofs.PhasesKeep.{IsSpoken}

@@ -16,9 +16,9 @@ use Rattle.broker_model.specs.Requests.{Argument, new_of}
 use Rattle.broker_model.specs.Refusals.{request_fault}
 use Rattle.broker_model.specs.Resolve.{Meaning, label_at, made_new, of_request, of_reading, of_message, of_peer, means, past_of}
 use Rattle.broker_model.specs.Settle.{due, with_end, settled, settle, number_alive}
-use Rattle.broker_model.proofs.Named.{IsIn, found}
-use Rattle.broker_model.proofs.Numbers.{label_within, one_number}
-use Rattle.broker_model.proofs.Tables.{stranger}
+use Rattle.broker_model.proofs.IdsAreNames.{IsIn, found}
+use Rattle.broker_model.proofs.LabelsRiseByNumber.{label_within, one_number}
+use Rattle.broker_model.proofs.TablesNameObjects.{stranger}
 use Rattle.client_side.specs.Events.{object_in, field_objects}
 
 -- ---- a peer's objects

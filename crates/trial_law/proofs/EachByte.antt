@@ -8,8 +8,8 @@ use Rattle.std.proofs.lemmas.Bool.{and_parts, ltb-true}
 use Rattle.wl_wire.specs.Texts.{is_text, IsBytes}
 use Rattle.wl_wire.specs.Messages.{messages, joined}
 use Rattle.wl_wire.specs.Spelling.{word_bytes, text_bytes, zeros}
-use Rattle.wl_wire.proofs.Runs.{longest}
-use Rattle.wl_wire.proofs.Texts.{is_text-utf8}
+use Rattle.wl_wire.proofs.MessagesHoweverCut.{longest}
+use Rattle.wl_wire.proofs.TextsKnown.{is_text-utf8}
 use Rattle.wl_proto.specs.Grammar.{Value, word, signed, text, null, token}
 use Rattle.wl_proto.specs.Spelling.{value_bytes, spelling, values_len, row_bytes, message_bytes}
 use Rattle.wl_proto.specs.Rows.{Message}
@@ -114,7 +114,8 @@ encode_each c l = by (ltb c 128) (ltb c 2048) (ltb c 65536) refl refl refl
         else (240 + c / 262144) ∷ (128 + c / 4096 % 64) ∷ (128 + c / 64 % 64) ∷ (128 + c % 64) ∷ [])))
     by true b d e f g = (let s : c < 128 = ltb-true c 128 e in (omega arith, tt))
     by false true d e f g = (let s : c < 2048 = ltb-true c 2048 f in (omega arith, (omega arith, tt)))
-    by false false true e f g = (let s : c < 65536 = ltb-true c 65536 g in (omega arith, (omega arith, (omega arith, tt))))
+    by false false true e f g =
+        (let s : c < 65536 = ltb-true c 65536 g in (omega arith, (omega arith, (omega arith, tt))))
     by false false false e f g = (omega arith, (omega arith, (omega arith, (omega arith, tt))))
 
 scalar_low : (c : ℕ) → scalar c ≡ true → c < 1114112

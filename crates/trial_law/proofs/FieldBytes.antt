@@ -147,7 +147,9 @@ event_bytes (events.Enter surface) s e k = happens_bytes entered s tt k
 event_bytes (events.Leave surface) s e k = happens_bytes went_out s tt k
 event_bytes (events.PreeditString t begin end) s e k = record { text = k.text; pending = k.pending; out = k.out }
 event_bytes (events.CommitString t) s e k = record { text = k.text; pending = e; out = k.out }
-event_bytes (events.DeleteSurroundingText before behind) s e k = record { text = k.text; pending = k.pending; out = k.out }
+event_bytes (events.DeleteSurroundingText before behind) s e k =
+    record { text = k.text; pending = k.pending; out = k.out }
 event_bytes (events.TextInputDone serial) s e k =
-    (let h = happens_bytes (batch s.pending serial) s k.pending k in record { text = h.text; pending = tt; out = h.out })
+    (let h = happens_bytes (batch s.pending serial) s k.pending k in
+    record { text = h.text; pending = tt; out = h.out })
 event_bytes _ s e k = k

@@ -232,7 +232,8 @@ fields_followed (suc n) most t l h =
   where
     by : (full : Bool) → AreFollowed nobody_edits (most + 1) (field_joined t).now →
         AreFollowed nobody_edits ((most + 1) + n) (fields_joined n (field_joined t).now).now →
-        AreFollowed nobody_edits (most + suc n) (if full then field_joined t else fields_joined n (field_joined t).now).now
+        AreFollowed nobody_edits (most + suc n)
+        (if full then field_joined t else fields_joined n (field_joined t).now).now
     by true one k = more_room nobody_edits (most + 1) (most + suc n) (field_joined t).now (omega arith) one
     by false one k =
         more_room nobody_edits ((most + 1) + n) (most + suc n) (fields_joined n (field_joined t).now).now (omega arith)

@@ -20,7 +20,7 @@ use Rattle.broker_model.specs.Ids.{Made}
 use Rattle.broker_model.specs.Groups.{message_of}
 use Rattle.broker_model.specs.Out.{act_at, out_for}
 use Rattle.broker_model.specs.Resolve.{means, past_of, resolve}
-use Rattle.broker_model.proofs.Named.{IsIn, made_with}
+use Rattle.broker_model.proofs.IdsAreNames.{IsIn, made_with}
 use Rattle.seat_audience.specs.Tells.{IsShort}
 use Rattle.broker_core.proofs.ActTextsFit.{act_fits}
 use Rattle.broker_core.proofs.ToldMessagesFit.{all_short}
@@ -34,7 +34,7 @@ use Rattle.trial_run.proofs.FirstMessages.{found_first}
 use Rattle.told_law.specs.Sayable.{HasBytes, AreBytes}
 use Rattle.told_law.specs.ToldRead.{IsWritable, IsForIts, IsReadAs}
 use Rattle.told_law.proofs.ValuesSound.{request_sound}
-use Rattle.told_law.proofs.Says.{Says}
+use Rattle.told_law.proofs.ActsCanBeSaid.{Says}
 use Rattle.told_law.proofs.ActsSayable.{EntrySays, sound_says, act_says}
 use Rattle.told_law.proofs.ToldSayable.{CanSayEvent, told_says}
 use Rattle.told_law.proofs.ToldKinds.{event_kind, message_kind, told_to_its_kind}
@@ -139,9 +139,11 @@ tells_read journal p h bytes t c s its m is own x q =
     let small : AreSmall made = all_small journal bytes in
     let among : IsIn made m = (made_with made t.to m is).among in
     let known : object_in field_objects m.id ≡ Some m.interface = h.known m among own in
-    let same : x.interface ≡ m.interface = where_some (λ (y : Message). y.interface ≡ m.interface) (message_of made t.event) x q (its m is) in
+    let same : x.interface ≡ m.interface =
+    where_some (λ (y : Message). y.interface ≡ m.interface) (message_of made t.event) x q (its m is) in
     let kind : event_kind t.event ≡ Some x.interface =
-    where_some (λ (y : Message). event_kind t.event ≡ Some y.interface) (message_of made t.event) x q (message_kind made t.event) in
+    where_some (λ (y : Message). event_kind t.event ≡ Some y.interface) (message_of made t.event) x q
+    (message_kind made t.event) in
     let asked : IsAsked false t.event =
     fields_asked false t.event m.interface (kind ∙ ap (λ (i : Interface). Some i) same)
     (known_kind m.id m.interface known) in
@@ -241,7 +243,8 @@ reads_all put n c own r h = by c.is_bad refl
         ∙ ap events_in (found_first r.messages x.0 r.whole) ∙ spelled_on r.messages r.spelled (messages x.0) in
         let longer : length (events_in r.messages ++ events_in (messages x.0)) ≡ length (events_in r.messages) =
         ap length (sym parts ∙ more ∙ sym all ∙ ap events_in found) in
-        let sum : length (events_in r.messages ++ events_in (messages x.0)) ≡ length (events_in r.messages) + length (events_in (messages x.0)) =
+        let sum : length (events_in r.messages ++ events_in (messages x.0))
+        ≡ length (events_in r.messages) + length (events_in (messages x.0)) =
         length-append (events_in r.messages) (events_in (messages x.0)) in
         let some : length (events_in (messages x.0)) ≡ length (x.1 ∷ x.2) = ap length x.3 in
         absurd (omega arith)

@@ -14,7 +14,7 @@ use Rattle.wl_proto.specs.Grammar.{Value}
 use Rattle.wl_proto.specs.Rows.{Message, message, event_kinds, event_message}
 use Rattle.wl_proto.specs.Reading.{values_at, all_read, by_row, event_reading}
 use Rattle.wl_proto.specs.Spelling.{message_bytes, message_len}
-use Rattle.wl_proto.proofs.Whole.{written_whole}
+use Rattle.wl_proto.proofs.WrittenIsWhole.{written_whole}
 use Rattle.relay_model.specs.declared.said.Said.{Said}
 use Rattle.relay_model.specs.declared.said.Said.TheVariants as said
 use Rattle.relay_model.specs.declared.said.Told.{Told}

@@ -16,8 +16,8 @@ use Rattle.wl_proto.specs.Rows.{Message, message, event_kinds}
 use Rattle.wl_proto.specs.Reading.{all_read, by_row, event_reading}
 use Rattle.wl_proto.specs.Spelling.{spelling, values_len, message_bytes}
 use Rattle.wl_proto.specs.Spelled.{AreTokens, AreOfKinds}
-use Rattle.wl_proto.proofs.Values.{values_complete, spelled_once}
-use Rattle.wl_proto.proofs.Whole.{written_whole}
+use Rattle.wl_proto.proofs.ValuesReadBack.{values_complete, spelled_once}
+use Rattle.wl_proto.proofs.WrittenIsWhole.{written_whole}
 use Rattle.relay_model.specs.declared.said.Said.{Said}
 use Rattle.relay_model.specs.declared.said.Said.TheVariants as said
 use Rattle.relay_model.specs.Batch.{Deletion, Preedit, deletion_said, string_said, is_zero, is_no_preedit, preedit_said, group}

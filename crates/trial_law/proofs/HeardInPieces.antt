@@ -5,8 +5,8 @@ use Rattle.std.proofs.lemmas.List.{append-nil, drop_at}
 use Rattle.std.proofs.Math.Seq.{drop-append-add}
 use Rattle.std.proofs.lemmas.Bool.{and_parts, leb-true, le-leb, eq-eqb, true≢false}
 use Rattle.wl_wire.specs.Messages.{IsGoodSize, IsBad, messages, joined, size_of, is_good}
-use Rattle.wl_wire.proofs.Runs.{longest}
-use Rattle.wl_wire.proofs.Sizes.{size_stays}
+use Rattle.wl_wire.proofs.MessagesHoweverCut.{longest}
+use Rattle.wl_wire.proofs.SizeInHeader.{size_stays}
 use Rattle.wl_proto.specs.declared.event.Event.{Event}
 use Rattle.wl_proto.specs.declared.event.Event.TheVariants as events
 use Rattle.trial_field.specs.Log.{Batch, Entry, no_edits}
@@ -204,7 +204,8 @@ bad_on rest more e = bad_none (rest ++ more) (stays (is_bad rest e))
 pub record IsGoing (bytes : List ℕ) (c : Client State) : Type 0 where
   waits : c.state.pending ≡ waiting (events_in (messages bytes)) no_edits
   rest : c.held ≡ behind bytes
-  pub spelled : (more : List (List ℕ)) → events_in (messages bytes ++ more) ≡ events_in (messages bytes) ++ events_in more
+  pub spelled : (more : List (List ℕ)) →
+      events_in (messages bytes ++ more) ≡ events_in (messages bytes) ++ events_in more
 
 pub record HasHeard (bytes : List ℕ) (c : Client State) (own : List Entry) : Type 0 where
   pub log : List Happening
@@ -269,7 +270,11 @@ still_going : (bytes piece : List ℕ) (c : Client State) (h : Heard State) (bad
     HeardAs (told_by c piece) (λ more. events_in (messages (held_with c piece) ++ more)) c.state h → IsGoing bytes c →
     (h.is_bad || bad) ≡ false →
     IsGoing (bytes ++ piece)
-    (record { state = h.state; held = if h.is_bad || bad then held_with c piece else behind (held_with c piece); is_bad = h.is_bad || bad })
+    (record {
+      state = h.state;
+      held = if h.is_bad || bad then held_with c piece else behind (held_with c piece);
+      is_bad = h.is_bad || bad;
+    })
 still_going bytes piece c h bad k g f = record {
   waits =
       ap (λ (s : State). s.pending) k.state ∙ waits_after (told_by c piece) c.state

@@ -4,7 +4,7 @@ use Rattle.seat_steps.specs.declared.limits.Limits.{Limits}
 use Rattle.broker_model.specs.declared.journal.Entry.{Entry}
 use Rattle.broker_model.specs.Limits.{is_full}
 use Rattle.broker_model.specs.Settle.{history, outer}
-use Rattle.broker_model.proofs.Settling.{history_stays}
+use Rattle.broker_model.proofs.SettlingEnds.{history_stays}
 use Rattle.broker_model.specs.Stamps.{no_stamp}
 use Rattle.broker_core.specs.Broker.{Broker, with_step}
 use Rattle.broker_core.proofs.ActTextsFit.{IsBodyShort}

@@ -8,7 +8,7 @@ use Rattle.seat_steps.specs.declared.limits.Limits.{Limits}
 use Rattle.seat_steps.specs.declared.step.ShellStep.{ShellStep}
 use Rattle.seat_steps.specs.declared.step.ShellStep.TheVariants as shell
 use Rattle.wl_wire.specs.Messages.{IsMessage, AreMessages, id_of, body_of, messages}
-use Rattle.wl_wire.proofs.Runs.{longest}
+use Rattle.wl_wire.proofs.MessagesHoweverCut.{longest}
 use Rattle.broker_model.specs.declared.journal.Entry.{Entry}
 use Rattle.broker_model.specs.declared.journal.Entry.TheVariants as entries
 use Rattle.broker_model.specs.Settle.{number_alive, step_of}
@@ -154,7 +154,15 @@ module _ (P : TrialPlay → Type 0) (kept : IsKept P) where
       one : P (record t { broker = (stepped (message_entry (number_of who) m) t.broker).now })
       one =
           spoken_keeps (message_entry (number_of who) m) t
-          (record { who = who; number = refl; message = m; among = among; id-is = refl; body-is = refl; short = body_short m is }) h
+          (record {
+            who = who;
+            number = refl;
+            message = m;
+            among = among;
+            id-is = refl;
+            body-is = refl;
+            short = body_short m is;
+          }) h
 
       by : (full : Bool) → P (record t {
         broker =

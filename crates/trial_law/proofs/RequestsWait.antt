@@ -6,7 +6,7 @@ use Rattle.wl_wire.specs.Messages.{IsMessage, id_of, messages}
 use Rattle.wl_proto.specs.declared.event.Event.{Event}
 use Rattle.wl_proto.specs.declared.event.Event.TheVariants as events
 use Rattle.wl_proto.specs.Spelling.{message_len, message_bytes}
-use Rattle.wl_proto.proofs.Whole.{written_whole}
+use Rattle.wl_proto.proofs.WrittenIsWhole.{written_whole}
 use Rattle.trial_field.specs.Characters.{is_boundary}
 use Rattle.trial_field.specs.FieldText.{FieldText, whole}
 use Rattle.client_side.specs.Messages.{Sent, spelled}
@@ -143,7 +143,10 @@ enable_to t = (
       record { object = refl; short = record { object = omega arith; opcode = omega arith; size = omega arith } },
       (
         record { object = refl; short = record { object = omega arith; opcode = omega arith; size = omega arith } },
-        (record { object = refl; short = record { object = omega arith; opcode = omega arith; size = omega arith } }, tt),
+        (
+          record { object = refl; short = record { object = omega arith; opcode = omega arith; size = omega arith } },
+          tt,
+        ),
       ),
     ),
   ),

@@ -18,7 +18,7 @@ use Rattle.trial_script.specs.Grammar.{IsAction, AreEdits, HasParts}
 use Rattle.trial_script.specs.Lines.{lines_of}
 use Rattle.trial_script.specs.Reading.{line_of}
 use Rattle.trial_script.specs.Scripts.{Rest, found_action, found_of, by_found, actions_of, field_named, refuses_single, refuses_entry, with_entry_of, by_table, by_entry, script_from, by_header, script_of_lines, script_of}
-use Rattle.trial_script.proofs.Laws.{reads_only}
+use Rattle.trial_script.proofs.ScriptsReadBack.{reads_only}
 use Rattle.trial_law.specs.RelayedAsBatches.{HasByteTexts, AreByteKeys, IsOfBytes, ScriptsAreOfBytes}
 
 -- ---- lines

@@ -14,8 +14,8 @@ use Rattle.wl_proto.specs.Rows.{Message, request_kinds}
 use Rattle.wl_proto.specs.Reading.{all_read, by_row, request_reading}
 use Rattle.wl_proto.specs.Spelling.{spelling}
 use Rattle.wl_proto.specs.Spelled.{AreTokens, AreOfKinds}
-use Rattle.wl_proto.proofs.Values.{values_complete, spelled_once}
-use Rattle.wl_proto.proofs.Whole.{written_whole}
+use Rattle.wl_proto.proofs.ValuesReadBack.{values_complete, spelled_once}
+use Rattle.wl_proto.proofs.WrittenIsWhole.{written_whole}
 use Rattle.relay_model.specs.declared.fault.Fault.{Fault}
 use Rattle.broker_model.specs.declared.journal.Entry.{Entry}
 use Rattle.broker_model.specs.declared.journal.Entry.TheVariants as entries
@@ -26,7 +26,7 @@ use Rattle.broker_model.specs.Refusals.{request_fault}
 use Rattle.broker_model.specs.Resolve.{label_at, made_new, of_request, of_reading, of_message, of_peer, means, past_of}
 use Rattle.broker_model.specs.Settle.{settle}
 use Rattle.broker_model.specs.Stamps.{no_stamp}
-use Rattle.broker_model.proofs.Named.{found}
+use Rattle.broker_model.proofs.IdsAreNames.{found}
 use Rattle.broker_core.specs.Broker.{Broker, with_step}
 use Rattle.broker_core.specs.Taking.{lives}
 use Rattle.client_side.specs.Messages.{Sent, field_setup}

@@ -16,7 +16,7 @@ use Rattle.relay_model.specs.declared.role.Role.{Role}
 use Rattle.relay_model.specs.declared.fault.Fault.{Fault}
 use Rattle.relay_model.specs.Objects.{next, is_peer, peer_of}
 use Rattle.relay_model.specs.Idle.{cleaned}
-use Rattle.relay_model.proofs.Histories.{history_is}
+use Rattle.relay_model.proofs.ActsOrIdle.{history_is}
 use Rattle.broker_model.specs.declared.journal.Entry.{Entry}
 use Rattle.broker_model.specs.declared.journal.Entry.TheVariants as entries
 use Rattle.broker_model.specs.Ids.{Made, Joined, Past, log_of, peer_at, object_at}
@@ -24,16 +24,17 @@ use Rattle.broker_model.specs.Law.{field_peer, maker_of}
 use Rattle.broker_model.specs.Requests.{Argument, global_at, new_of, act_of}
 use Rattle.broker_model.specs.Refusals.{request_fault}
 use Rattle.broker_model.specs.Resolve.{Meaning, label_at, made_new, of_request, of_reading, of_message, of_peer, means, past_of, resolve}
-use Rattle.broker_model.proofs.Named.{IsIn, found}
-use Rattle.broker_model.proofs.Owners.{maker_stays, owner_lives}
-use Rattle.broker_model.proofs.Peers.{length_log}
-use Rattle.broker_model.proofs.Sound.{sound}
+use Rattle.broker_model.proofs.IdsAreNames.{IsIn, found}
+use Rattle.broker_model.proofs.OwnersLive.{maker_stays, owner_lives}
+use Rattle.broker_model.proofs.LivePeersJoined.{length_log}
+use Rattle.broker_model.proofs.MadeObjectsStand.{sound}
 use Rattle.trial_law.proofs.ClientIds.{either, reading_interface}
 
 -- ---- which request makes a text input
 
 global_other : (a b c : Bool) →
-    (if a then interface.Compositor else (if b then interface.Seat else (if c then interface.TextInputManager else interface.InputMethodManager)))
+    (if a then interface.Compositor
+    else (if b then interface.Seat else (if c then interface.TextInputManager else interface.InputMethodManager)))
     ≡ interface.TextInput → ⊥
 global_other true b c e = cc
 global_other false true c e = cc
@@ -212,7 +213,8 @@ entry_input : (e : Entry) (older : List Entry) (m : Made) → IsIn (means e (len
     m.interface ≡ interface.TextInput → maker_of (log_of (past_of (e ∷ older))) m.label ≡ Some m.peer
 entry_input (entries.Join role) older m j h = absurd (by j)
   where
-    by : IsIn (record { peer = length older + 1; id = 1; label = length older + 1; interface = interface.Display } ∷ []) m → ⊥
+    by : IsIn (record { peer = length older + 1; id = 1; label = length older + 1; interface = interface.Display } ∷ [])
+        m → ⊥
     by (inl e) = (let s : interface.Display ≡ interface.TextInput = ap (λ (y : Made). y.interface) e ∙ h in cc)
     by (inr i) = absurd i
 entry_input (entries.Message q id opcode body) older m j h = peer_input older (peer_at (past_of older)

@@ -19,16 +19,16 @@ use Rattle.broker_model.specs.Out.{out_for}
 use Rattle.broker_model.specs.Queued.{queued}
 use Rattle.broker_model.specs.Resolve.{past_of, resolve}
 use Rattle.broker_model.specs.Settle.{history, outer}
-use Rattle.broker_model.proofs.Named.{made_with}
-use Rattle.broker_model.proofs.Numbers.{one_number}
-use Rattle.broker_model.proofs.Queues.{relay_law}
-use Rattle.broker_model.proofs.Sound.{sound}
+use Rattle.broker_model.proofs.IdsAreNames.{made_with}
+use Rattle.broker_model.proofs.LabelsRiseByNumber.{one_number}
+use Rattle.broker_model.proofs.QueuedForFields.{relay_law}
+use Rattle.broker_model.proofs.MadeObjectsStand.{sound}
 use Rattle.broker_core.proofs.ToldMessagesFit.{fits_history}
 use Rattle.trial_run.specs.Ran.{Ran, went}
 use Rattle.trial_run.specs.Trial.{trial_played}
 use Rattle.trial_run.specs.Play.{TrialPlay}
 use Rattle.told_law.specs.Sayable.{AreBytes}
-use Rattle.told_law.proofs.Says.{says_history}
+use Rattle.told_law.proofs.ActsCanBeSaid.{says_history}
 use Rattle.trial_law.specs.FieldLogs.{bytes_taken, told_in, own_edits}
 use Rattle.trial_law.specs.RelayedBatches.{batches_in, groups_told, IsFrontOf, IsFieldOf}
 use Rattle.trial_law.specs.TrialLaws.{IsRelayed}
@@ -68,7 +68,8 @@ texts_batched limits script t k field few e is texts =
     record {
       folded = r.folded;
       batches = λ f h.
-          subst (λ (l : List Happening). IsFrontOf (batches_in (told_in r.folded.log)) l) (journal_relays t.broker.journal f bytes short)
+          subst (λ (l : List Happening). IsFrontOf (batches_in (told_in r.folded.log)) l)
+          (journal_relays t.broker.journal f bytes short)
           (r.batches f h);
       none = r.none;
     }
@@ -127,13 +128,16 @@ unpaused_have_all_relayed limits script first more t k field a some few e is tex
     let short : AreShortBodies journal =
     subst (λ (r : Ran TrialPlay). AreShortBodies r.now.broker.journal) e (trial_short limits script) in
     let steps : history limits.store (outer journal) ≡ journal =
-    subst (λ (r : Ran TrialPlay). history limits.store (outer r.now.broker.journal) ≡ r.now.broker.journal) e (trial_history limits script) in
+    subst (λ (r : Ran TrialPlay). history limits.store (outer r.now.broker.journal) ≡ r.now.broker.journal) e
+    (trial_history limits script) in
     let known : IsKnown k t = trial_known limits script t few none e k (within_list t.fields k field is) in
     let peer : known.peer ≡ folded.peer = same_Some known.peer folded.peer (sym known.joined ∙ folded.joined) in
     let input : IsInput journal folded.peer.label f =
-    is_input journal folded.peer.label f (subst (λ (x : Joined). AreOwn (past_of journal).made x.label 7) peer known.own) h in
+    is_input journal folded.peer.label f
+    (subst (λ (x : Joined). AreOwn (past_of journal).made x.label 7) peer known.own) h in
     unpaused_have_all limits script first more t k field a some few e is going good folded f h
     ∙ all_queued limits.store journal k f folded.peer folded.joined
     (field_made journal folded.peer.label f input h) lives
-    (subst (λ (j : List Entry). IsQueued limits.store j f ⊎ IsLeftOut limits.store j f) steps (relay_law limits.store (outer journal) f))
+    (subst (λ (j : List Entry). IsQueued limits.store j f ⊎ IsLeftOut limits.store j f) steps
+    (relay_law limits.store (outer journal) f))
     ∙ journal_relays journal f bytes short

@@ -6,7 +6,7 @@ use Rattle.std.proofs.lemmas.Option.{cond_some}
 use Rattle.wl_wire.specs.Texts.{is_text}
 use Rattle.wl_wire.specs.Messages.{id_of, opcode_of, body_of}
 use Rattle.wl_wire.specs.Reading.{◌>>=◌, padded, word_at, int_at, text_at as text_behind, string_behind, string_at}
-use Rattle.wl_wire.proofs.Fields.{guard, some_is, bound, chosen}
+use Rattle.wl_wire.proofs.ArgumentsReadBack.{guard, some_is, bound, chosen}
 use Rattle.wl_proto.specs.declared.interface.Interface.{Interface}
 use Rattle.wl_proto.specs.declared.table.Kind.{Kind}
 use Rattle.wl_proto.specs.declared.table.Kind.TheVariants.{Uint, Int, Object, NewId, Text, TextOrNull, Descriptor}
@@ -146,8 +146,10 @@ heard_event objects m e h = by (object_in objects (id_of m)) h
     read : (r : Result Message Refuse) → ((x : Message) → r ≡ Ok x → AllByRecursion HasText x.values) →
         event_read r ≡ Some e → IsByteEvent e
     read (Err f) t k = cc
-    read (Ok x) t k = byte_event e (subst (λ (y : Message). AllByRecursion HasText y.values) (sym (event_back x e k)) (t x refl))
+    read (Ok x) t k =
+        byte_event e (subst (λ (y : Message). AllByRecursion HasText y.values) (sym (event_back x e k)) (t x refl))
 
     by : (o : Option Interface) → event_to o m ≡ Some e → IsByteEvent e
     by None k = cc
-    by (Some i) k = read (event_reading i (opcode_of m) [] (body_of m)) (λ x r. event_texts i (opcode_of m) [] (body_of m) x r) k
+    by (Some i) k =
+        read (event_reading i (opcode_of m) [] (body_of m)) (λ x r. event_texts i (opcode_of m) [] (body_of m) x r) k

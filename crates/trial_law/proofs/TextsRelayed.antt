@@ -12,7 +12,7 @@ use Rattle.relay_model.specs.Objects.{is_at}
 use Rattle.relay_model.specs.Hold.{holder}
 use Rattle.relay_model.specs.Activation.{fresh}
 use Rattle.relay_model.specs.Batch.{group_of, relayed}
-use Rattle.relay_model.proofs.Histories.{IsHistory, history_is}
+use Rattle.relay_model.proofs.ActsOrIdle.{IsHistory, history_is}
 use Rattle.relay_model.proofs.FocusLaws.{and_false}
 use Rattle.relay_model.proofs.HoldLaws.{holder_within}
 use Rattle.relay_model.specs.Idle as idle
@@ -24,12 +24,12 @@ use Rattle.broker_model.specs.Ids.{Made, Joined, log_of, made_as}
 use Rattle.broker_model.specs.Law.{maker_of, IsQueued, IsLeftOut}
 use Rattle.broker_model.specs.Out.{act_now, out_for}
 use Rattle.broker_model.specs.Queued.{relays, is_put, queued}
-use Rattle.broker_model.proofs.Peers.{length_log}
+use Rattle.broker_model.proofs.LivePeersJoined.{length_log}
 use Rattle.broker_model.specs.Resolve.{past_of, resolve}
 use Rattle.broker_model.specs.Settle.{due, with_end, settled, number_alive, history, outer}
-use Rattle.broker_model.proofs.Named.{IsWith, made_with}
-use Rattle.broker_model.proofs.Queues.{relay_law}
-use Rattle.broker_model.proofs.Sound.{sound}
+use Rattle.broker_model.proofs.IdsAreNames.{IsWith, made_with}
+use Rattle.broker_model.proofs.QueuedForFields.{relay_law}
+use Rattle.broker_model.proofs.MadeObjectsStand.{sound}
 use Rattle.broker_core.specs.Broker.{Broker}
 use Rattle.trial_run.specs.Ran.{Ran, went, ◌>>=◌}
 use Rattle.trial_run.specs.Play.{TrialPlay}
@@ -73,7 +73,8 @@ trial_short limits script =
     limits script tt
 
 -- the objects of each field's peer are those of its client
-pub trial_known : (limits : Limits) (script : Script) (t : TrialPlay) → script.fields ≤ 16 → (script.fields == 0) ≡ false →
+pub trial_known : (limits : Limits) (script : Script) (t : TrialPlay) → script.fields ≤ 16 →
+    (script.fields == 0) ≡ false →
     trial_played limits script ≡ went t → AllKnown t
 unfolding played_with
 trial_known limits script t few some e k l =

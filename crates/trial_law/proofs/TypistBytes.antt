@@ -13,7 +13,7 @@ use Rattle.compose_method.specs.Typing.{Typing, pressed as typing_pressed}
 use Rattle.compose_method.specs.Typists.{composed}
 use Rattle.compose_method.specs.declared.entries.Entry.{Entry}
 use Rattle.compose_method.specs.declared.singles.Single.{Single}
-use Rattle.compose_method.proofs.Leftmost.{found_at}
+use Rattle.compose_method.proofs.TypedKeysStay.{found_at}
 use Rattle.dict_method.specs.Candidates.{is_candidate, candidates, has_candidate}
 use Rattle.dict_method.specs.Dictionary.{Dictionary, control_of, is_control}
 use Rattle.dict_method.specs.Presses.{Made, made, first_of, is_empty, number_of, erases, made_of_word, chosen, erased, longer, own, press_made}
@@ -32,7 +32,9 @@ own_bytes t key h = by (single_of t.singles key) refl
   where
     by : (o : Option Single) → single_of t.singles key ≡ o → EachByte (text_of_single o)
     by None e = tt
-    by (Some s) e = (let there = found_at (λ x. x.key == key) t.singles s e in each_byte s.text (rw there.2 at (h.singles there.0 s there.1)))
+    by (Some s) e =
+        (let there = found_at (λ x. x.key == key) t.singles s e in
+        each_byte s.text (rw there.2 at (h.singles there.0 s there.1)))
 
 entry_text : (t : Table) (keys : List ℕ) (e : Entry) → AreByteKeys t → begun_by t.entries keys ≡ Some e →
     EachByte e.text
@@ -49,7 +51,8 @@ typed_bytes t (k ∷ ks) zero h =
     by : (o : Option Entry) (g : Bool) → begun_by t.entries (k ∷ ks) ≡ o → going_on t.entries (k ∷ ks) ≡ g →
         ((n : ℕ) → EachByte (segments_from t ks n).typed) → EachByte (segments_from t (k ∷ ks) 0).typed
     by (Some e) g is goes later =
-        rw is (both_bytes e.text (segments_from t ks (length e.keys - 1)).typed (entry_text t (k ∷ ks) e h is) (later (length e.keys - 1)))
+        rw is (both_bytes e.text (segments_from t ks (length e.keys - 1)).typed (entry_text t (k ∷ ks) e h is)
+        (later (length e.keys - 1)))
     by None true is goes later = rw (is, goes) tt
     by None false is goes later = rw (is, goes)
         (both_bytes (own_text t k) (segments_from t ks 0).typed (own_bytes t k h) (later 0))
@@ -72,9 +75,15 @@ composed_bytes key m h = by m.active
     keys = m.rest ++ key ∷ []
 
     then_is : Typing
-    then_is = record m { rest = rest_of m.table keys; string = typed m.table keys; preedit = own_texts m.table (rest_of m.table keys) }
+    then_is = record
+        m {
+          rest = rest_of m.table keys;
+          string = typed m.table keys;
+          preedit = own_texts m.table (rest_of m.table keys);
+        }
 
-    by : (b : Bool) → AreByteGiven (if b then Some ((if b then then_is else m).string, (if b then then_is else m).preedit) else None)
+    by : (b : Bool) →
+        AreByteGiven (if b then Some ((if b then then_is else m).string, (if b then then_is else m).preedit) else None)
     by true = (typed_bytes m.table keys 0 h, own_all_bytes m.table (rest_of m.table keys) h)
     by false = tt
 

@@ -79,5 +79,6 @@ unpaused_have_all limits script first more t k field a some few e is going good 
     ap batches_in folded.told
     ∙ ap (λ (ms : List (List ℕ)). batches_in (happenings (events_in ms) no_edits)) taken
     ∙ all_of told.messages (groups_told (queued limits.store journal f)) told.tells
-    (subst (λ (ms : List (List ℕ)). (more : List (List ℕ)) → events_in (ms ++ more) ≡ events_in ms ++ events_in more) taken
+    (subst (λ (ms : List (List ℕ)). (more : List (List ℕ)) → events_in (ms ++ more) ≡ events_in ms ++ events_in more)
+    taken
     (heard.going good).spelled)

@@ -38,13 +38,15 @@ told_in (left ∷ older) = told_in older ++ left ∷ []
 
 -- the bytes that the peer with the label p took: the front of all that was put for it
 abbrev pub bytes_taken : ℕ → List journals.Entry → ℕ → List ℕ
-bytes_taken capacity journal p = take (out_for capacity journal p).taken (out_for capacity journal p).put.bytes
+bytes_taken capacity journal p =
+    take (out_for capacity journal p).taken (out_for capacity journal p).put.bytes
 
 abbrev pub then_events : Option Event → List Event → List Event
 then_events None more = []
 then_events (Some event) more = event ∷ more
 
--- the events that messages spell to the objects of a field's client, up to the first message that spells none
+-- the events that messages spell to the objects of a field's client, up to the first message that
+-- spells none
 abbrev pub events_in : List (List ℕ) → List Event
 events_in [] = []
 events_in (m ∷ ms) = then_events (event_in field_objects m) (events_in ms)
@@ -56,7 +58,8 @@ waiting_after event waiting = (after_event event (record new_state { pending = w
 -- what events make happen to a field, in order, where such edits wait
 abbrev pub happenings : List Event → Batch → List Happening
 happenings [] waiting = []
-happenings (event ∷ more) waiting = logged event waiting [] ++ happenings more (waiting_after event waiting)
+happenings (event ∷ more) waiting =
+    logged event waiting [] ++ happenings more (waiting_after event waiting)
 
 -- ---- what a script has
 

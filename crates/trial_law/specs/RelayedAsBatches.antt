@@ -1,4 +1,5 @@
--- Trials of scripts whose texts are of bytes: the batches that are relayed to a field, and that its client has them.
+-- Trials of scripts whose texts are of bytes: the batches that are relayed to a field, and that its
+-- client has them.
 use Rattle.std.specs.Prelude.{◌≡◌, ℕ, ◌+◌, ◌≤◌, List, [], ◌∷◌, ◌++◌, false, ◌&&◌, if◌then◌else◌, Some}
 use Rattle.std.specs.Prelude.{All}
 use Rattle.std.specs.List.{slice_get, Contains, AllByRecursion}
@@ -62,54 +63,63 @@ ScriptsAreOfBytes = (bytes : List ℕ) → IsOfBytes (script_of bytes)
 -- in a trial of such a script each message has a body of bytes, wherever the trial stops
 abbrev pub MessagesAreBytes : Type 0
 MessagesAreBytes =
-    (limits : Limits) (script : Script) → IsOfBytes script → AreBytes (trial_played limits script).now.broker.journal
+    (limits : Limits) (script : Script) → IsOfBytes script →
+    AreBytes (trial_played limits script).now.broker.journal
 
 -- ---- batches
 
--- the batch that the act commits, as the field f takes it, with the count of its done; no other act has one
+-- the batch that the act commits, as the field f takes it, with the count of its done; no other act
+-- has one
 abbrev pub batch_by : Act → List Act → ℕ → List Happening
-batch_by (MCommit m serial) older f = batch (edits_of (relay.batch older m)) (relay.commit_count older f) ∷ []
+batch_by (MCommit m serial) older f =
+    batch (edits_of (relay.batch older m)) (relay.commit_count older f) ∷ []
 batch_by _ older f = []
 
 -- the batches that a history relays to the field f, in order
 abbrev pub relayed_batches : List Act → ℕ → List Happening
 relayed_batches [] f = []
 relayed_batches (act ∷ older) f =
-    (if fresh act older && is_at (holder older) f then relayed_batches older f ++ batch_by act older f
+    (if fresh act older && is_at (holder older) f
+    then relayed_batches older f ++ batch_by act older f
     else relayed_batches older f)
 
 -- the same, of a journal
 abbrev pub batches_of : List Entry → ℕ → List Happening
 batches_of journal f = relayed_batches (idle.history (resolve journal)) f
 
--- The text of the field is the fold of a log whose batches are a front of those that the one journal relays to it;
--- there are none where its peer made no field.
-pub record IsBatched (limits : Limits) (script : Script) (journal : List Entry) (k : ℕ) (field : FieldPlay)
+-- The text of the field is the fold of a log whose batches are a front of those that the one
+-- journal relays to it; there are none where its peer made no field.
+pub record IsBatched (limits : Limits) (script : Script) (journal : List Entry) (k : ℕ)
+    (field : FieldPlay)
     : Type 0 where
   pub folded : IsFolded limits script journal k field
   pub batches : (f : ℕ) → IsFieldOf journal folded.peer.label f →
       IsFrontOf (batches_in (told_in folded.log)) (batches_of journal f)
-  pub none : ((f : ℕ) → IsFieldOf journal folded.peer.label f → ⊥) → batches_in (told_in folded.log) ≡ []
+  pub none : ((f : ℕ) → IsFieldOf journal folded.peer.label f → ⊥) →
+      batches_in (told_in folded.log) ≡ []
 
 -- so it is for each field of every script that is played to its end
 abbrev pub TextsAreBatches : Type 0
 TextsAreBatches =
     (limits : Limits) (script : Script) (t : TrialPlay) (k : ℕ) (field : FieldPlay) →
-    script.fields ≤ 16 → trial_played limits script ≡ went t → slice_get t.fields k ≡ Some field → IsOfBytes script →
+    script.fields ≤ 16 → trial_played limits script ≡ went t → slice_get t.fields k ≡ Some field →
+    IsOfBytes script →
     IsBatched limits script t.broker.journal k field
 
 -- to its client nothing came that it couldn't read
 abbrev pub FieldsReadAll : Type 0
 FieldsReadAll =
     (limits : Limits) (script : Script) (t : TrialPlay) (k : ℕ) (field : FieldPlay) →
-    script.fields ≤ 16 → trial_played limits script ≡ went t → slice_get t.fields k ≡ Some field → IsOfBytes script →
+    script.fields ≤ 16 → trial_played limits script ≡ went t → slice_get t.fields k ≡ Some field →
+    IsOfBytes script →
     field.client.is_bad ≡ false
 
--- After an action, a field that isn't paused, and whose peer no group that didn't fit has ended, has all batches that
--- are relayed to it.
+-- After an action, a field that isn't paused, and whose peer no group that didn't fit has ended,
+-- has all batches that are relayed to it.
 abbrev pub UnpausedHaveAllRelayed : Type 0
 UnpausedHaveAllRelayed =
-    (limits : Limits) (script : Script) (first : Action) (more : List Action) (t : TrialPlay) (k : ℕ)
+    (limits : Limits) (script : Script) (first : Action) (more : List Action) (t : TrialPlay)
+    (k : ℕ)
     (field : FieldPlay) → script.actions ≡ first ∷ more → 1 ≤ script.fields → script.fields ≤ 16 →
     trial_played limits script ≡ went t → slice_get t.fields k ≡ Some field → IsOfBytes script →
     field.is_paused ≡ false →

@@ -23,7 +23,8 @@ batches_in (left ∷ more) = batches_in more
 
 -- what a group's events make happen, as their spellings to the text input 7 are read
 abbrev pub group_told : List Said → List Happening
-group_told group = batches_in (happenings (events_in (messages (said_piece [] 7 group).bytes)) no_edits)
+group_told group =
+    batches_in (happenings (events_in (messages (said_piece [] 7 group).bytes)) no_edits)
 
 abbrev pub groups_told : List (List Said) → List Happening
 groups_told [] = []
@@ -34,7 +35,8 @@ pub record IsFrontOf {A : Type 0} (front whole : List A) : Type 0 where
   pub rest : List A
   pub is : front ++ rest ≡ whole
 
--- the field f is the one that the peer with the label p made under the id by which its client knows its text input
+-- the field f is the one that the peer with the label p made under the id by which its client knows
+-- its text input
 pub record IsFieldOf (journal : List Entry) (p f : ℕ) : Type 0 where
   pub made : Made
   pub is : made_as (past_of journal).made f ≡ Some made
@@ -52,7 +54,8 @@ edits_of b = record {
   end = b.preedit.end;
 }
 
--- the numbers of the batch and of its done have 32 bits, and its texts are texts of the protocol and fit a message
+-- the numbers of the batch and of its done have 32 bits, and its texts are texts of the protocol
+-- and fit a message
 pub record IsSayable (b : relay.Batch) (n : ℕ) : Type 0 where
   pub before : b.deletion.before < 2 ^ 32
   pub after : b.deletion.after < 2 ^ 32

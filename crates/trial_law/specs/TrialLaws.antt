@@ -27,32 +27,37 @@ use Rattle.trial_law.specs.RelayedBatches.{batches_in, group_told, groups_told, 
 abbrev pub TrialHistory : Type 0
 TrialHistory =
     (limits : Limits) (script : Script) →
-    let journal = (trial_played limits script).now.broker.journal in history limits.store (outer journal) ≡ journal
+    let journal =
+    (trial_played limits script).now.broker.journal in
+    history limits.store (outer journal) ≡ journal
 
 -- after each action, unless the journal is full, nothing is stored for a client that isn't paused
 abbrev pub RoundsEndQuiet : Type 0
 RoundsEndQuiet =
     (limits : Limits) (script : Script) (first : Action) (more : List Action) (t : TrialPlay) →
-    script.actions ≡ first ∷ more → 1 ≤ script.fields → trial_played limits script ≡ went t → is_quiet t ≡ true
+    script.actions ≡ first ∷ more → 1 ≤ script.fields → trial_played limits script ≡ went t →
+    is_quiet t ≡ true
 
--- What is shown is a line for each `show` in turn: the text that its field has in the trial that the actions before it
--- play.
+-- What is shown is a line for each `show` in turn: the text that its field has in the trial that
+-- the actions before it play.
 abbrev pub ShownInTurn : Type 0
 ShownInTurn =
     (limits : Limits) (script : Script) → 1 ≤ script.fields →
     (trial_played limits script).now.shown ≡ lines_to (length script.actions) limits script
 
--- The text of the field with the index k is the fold of a log. The log's own edits are those of the script for that
--- field, all and in order. The rest of it is what the events make happen that the one journal tells the field's peer,
--- as far as its client took their bytes.
-pub record IsFolded (limits : Limits) (script : Script) (journal : List Entry) (k : ℕ) (field : FieldPlay)
+-- The text of the field with the index k is the fold of a log. The log's own edits are those of the
+-- script for that field, all and in order. The rest of it is what the events make happen that the
+-- one journal tells the field's peer, as far as its client took their bytes.
+pub record IsFolded (limits : Limits) (script : Script) (journal : List Entry) (k : ℕ)
+    (field : FieldPlay)
     : Type 0 where
   pub log : List Happening
   pub text : field.client.state.field.text ≡ text_of log
   pub own : edits_in log ≡ own_edits script.actions k
   pub peer : Joined
   pub joined : peer_at (past_of journal) (k + 2) ≡ Some peer
-  pub told : told_in log ≡ happenings (events_in (messages (bytes_taken limits.store journal peer.label))) no_edits
+  pub told : told_in log
+      ≡ happenings (events_in (messages (bytes_taken limits.store journal peer.label))) no_edits
 
 -- it is so for each field of every script that is played to its end
 abbrev pub TextsAreFolds : Type 0
@@ -61,14 +66,17 @@ TextsAreFolds =
     script.fields ≤ 16 → trial_played limits script ≡ went t → slice_get t.fields k ≡ Some field →
     IsFolded limits script t.broker.journal k field
 
--- So it is, and the batches of the log are a front of those that the one journal relays to the field; there are none
--- where the peer made no field.
-pub record IsRelayed (limits : Limits) (script : Script) (journal : List Entry) (k : ℕ) (field : FieldPlay)
+-- So it is, and the batches of the log are a front of those that the one journal relays to the
+-- field; there are none where the peer made no field.
+pub record IsRelayed (limits : Limits) (script : Script) (journal : List Entry) (k : ℕ)
+    (field : FieldPlay)
     : Type 0 where
   pub folded : IsFolded limits script journal k field
   pub batches : (f : ℕ) → IsFieldOf journal folded.peer.label f →
-      IsFrontOf (batches_in (told_in folded.log)) (groups_told (relayed (idle.history (resolve journal)) f))
-  pub none : ((f : ℕ) → IsFieldOf journal folded.peer.label f → ⊥) → batches_in (told_in folded.log) ≡ []
+      IsFrontOf (batches_in (told_in folded.log))
+      (groups_told (relayed (idle.history (resolve journal)) f))
+  pub none : ((f : ℕ) → IsFieldOf journal folded.peer.label f → ⊥) →
+      batches_in (told_in folded.log) ≡ []
 
 abbrev pub TextsAreRelayed : Type 0
 TextsAreRelayed =
@@ -76,27 +84,35 @@ TextsAreRelayed =
     script.fields ≤ 16 → trial_played limits script ≡ went t → slice_get t.fields k ≡ Some field →
     IsRelayed limits script t.broker.journal k field
 
--- After an action, a field that isn't paused heard all that was put for its peer, so only a paused field is behind.
+-- After an action, a field that isn't paused heard all that was put for its peer, so only a paused
+-- field is behind.
 abbrev pub UnpausedHearAll : Type 0
 UnpausedHearAll =
-    (limits : Limits) (script : Script) (first : Action) (more : List Action) (t : TrialPlay) (k : ℕ)
-    (field : FieldPlay) (peer : Joined) → script.actions ≡ first ∷ more → 1 ≤ script.fields → trial_played limits script ≡ went t →
+    (limits : Limits) (script : Script) (first : Action) (more : List Action) (t : TrialPlay)
+    (k : ℕ)
+    (field : FieldPlay) (peer : Joined) → script.actions ≡ first ∷ more → 1 ≤ script.fields →
+    trial_played limits script ≡ went t →
     slice_get t.fields k ≡ Some field → field.is_paused ≡ false →
     peer_at (past_of t.broker.journal) (k + 2) ≡ Some peer →
-    bytes_taken limits.store t.broker.journal peer.label ≡ (out_for limits.store t.broker.journal peer.label).put.bytes
+    bytes_taken limits.store t.broker.journal peer.label
+    ≡ (out_for limits.store t.broker.journal peer.label).put.bytes
 
--- Such a field, where nothing came that its client couldn't read, has all batches that were queued for it: all that are
--- relayed to it, or all but the last, for which its peer was ended.
+-- Such a field, where nothing came that its client couldn't read, has all batches that were queued
+-- for it: all that are relayed to it, or all but the last, for which its peer was ended.
 abbrev pub UnpausedHaveAll : Type 0
 UnpausedHaveAll =
-    (limits : Limits) (script : Script) (first : Action) (more : List Action) (t : TrialPlay) (k : ℕ)
+    (limits : Limits) (script : Script) (first : Action) (more : List Action) (t : TrialPlay)
+    (k : ℕ)
     (field : FieldPlay) → script.actions ≡ first ∷ more → 1 ≤ script.fields → script.fields ≤ 16 →
-    trial_played limits script ≡ went t → slice_get t.fields k ≡ Some field → field.is_paused ≡ false →
-    field.client.is_bad ≡ false → (folded : IsFolded limits script t.broker.journal k field) (f : ℕ) →
+    trial_played limits script ≡ went t → slice_get t.fields k ≡ Some field →
+    field.is_paused ≡ false →
+    field.client.is_bad ≡ false →
+    (folded : IsFolded limits script t.broker.journal k field) (f : ℕ) →
     IsFieldOf t.broker.journal folded.peer.label f →
     batches_in (told_in folded.log) ≡ groups_told (queued limits.store t.broker.journal f)
 
 -- What a client reads in the spelling of a whole group is the batch, with the serial of its done.
 abbrev pub GroupsAreRead : Type 0
 GroupsAreRead =
-    (b : Batch) (serial : ℕ) → IsSayable b serial → group_told (group b serial) ≡ batch (edits_of b) serial ∷ []
+    (b : Batch) (serial : ℕ) → IsSayable b serial →
+    group_told (group b serial) ≡ batch (edits_of b) serial ∷ []

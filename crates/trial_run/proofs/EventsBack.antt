@@ -13,17 +13,20 @@ same_event x e h = ap event_message (let same : x ≡ e = cc in sym same)
 no_event : {A : Type 0} (e : Event) → (let o : Option Event = None in o ≡ Some e) → A
 no_event e h = cc
 
-display_back : (n : ℕ) (vs : List Value) (e : Event) → display_event n vs ≡ Some e → event_message e ≡ message Display n vs
+display_back : (n : ℕ) (vs : List Value) (e : Event) → display_event n vs ≡ Some e →
+    event_message e ≡ message Display n vs
 display_back zero (word object ∷ word code ∷ text m ∷ []) e h = same_event _ e h
 display_back (suc zero) (word id ∷ []) e h = same_event _ e h
 display_back _ _ e h = no_event e h
 
-registry_back : (n : ℕ) (vs : List Value) (e : Event) → registry_event n vs ≡ Some e → event_message e ≡ message Registry n vs
+registry_back : (n : ℕ) (vs : List Value) (e : Event) → registry_event n vs ≡ Some e →
+    event_message e ≡ message Registry n vs
 registry_back zero (word name ∷ text interface ∷ word version ∷ []) e h = same_event _ e h
 registry_back (suc zero) (word name ∷ []) e h = same_event _ e h
 registry_back _ _ e h = no_event e h
 
-callback_back : (n : ℕ) (vs : List Value) (e : Event) → callback_event n vs ≡ Some e → event_message e ≡ message Callback n vs
+callback_back : (n : ℕ) (vs : List Value) (e : Event) → callback_event n vs ≡ Some e →
+    event_message e ≡ message Callback n vs
 callback_back zero (word value ∷ []) e h = same_event _ e h
 callback_back _ _ e h = no_event e h
 
@@ -31,7 +34,8 @@ seat_back : (n : ℕ) (vs : List Value) (e : Event) → seat_event n vs ≡ Some
 seat_back zero (word value ∷ []) e h = same_event _ e h
 seat_back _ _ e h = no_event e h
 
-input_back : (n : ℕ) (vs : List Value) (e : Event) → input_event n vs ≡ Some e → event_message e ≡ message TextInput n vs
+input_back : (n : ℕ) (vs : List Value) (e : Event) → input_event n vs ≡ Some e →
+    event_message e ≡ message TextInput n vs
 input_back zero (word surface ∷ []) e h = same_event _ e h
 input_back (suc zero) (word surface ∷ []) e h = same_event _ e h
 input_back (suc (suc zero)) (text t ∷ signed begin ∷ signed end ∷ []) e h = same_event _ e h
@@ -42,7 +46,8 @@ input_back (suc (suc (suc (suc zero)))) (word before ∷ word behind ∷ []) e h
 input_back (suc (suc (suc (suc (suc zero))))) (word serial ∷ []) e h = same_event _ e h
 input_back _ _ e h = no_event e h
 
-method_back : (n : ℕ) (vs : List Value) (e : Event) → method_event n vs ≡ Some e → event_message e ≡ message InputMethod n vs
+method_back : (n : ℕ) (vs : List Value) (e : Event) → method_event n vs ≡ Some e →
+    event_message e ≡ message InputMethod n vs
 method_back zero [] e h = same_event _ e h
 method_back (suc zero) [] e h = same_event _ e h
 method_back (suc (suc zero)) (text t ∷ word cursor ∷ word anchor ∷ []) e h = same_event _ e h
@@ -57,7 +62,8 @@ popup_back : (n : ℕ) (vs : List Value) (e : Event) → popup_event n vs ≡ So
 popup_back zero (signed x ∷ signed y ∷ signed width ∷ signed height ∷ []) e h = same_event _ e h
 popup_back _ _ e h = no_event e h
 
-grab_back : (n : ℕ) (vs : List Value) (e : Event) → grab_event n vs ≡ Some e → event_message e ≡ message KeyboardGrab n vs
+grab_back : (n : ℕ) (vs : List Value) (e : Event) → grab_event n vs ≡ Some e →
+    event_message e ≡ message KeyboardGrab n vs
 grab_back zero (word format ∷ token descriptor ∷ word size ∷ []) e h = same_event _ e h
 grab_back (suc zero) (word serial ∷ word time ∷ word key ∷ word state ∷ []) e h = same_event _ e h
 grab_back (suc (suc zero)) (word serial ∷ word depressed ∷ word latched ∷ word locked ∷ word group ∷ []) e h =

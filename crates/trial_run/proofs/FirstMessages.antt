@@ -2,7 +2,7 @@
 use Rattle.std.proofs.Common.{◌≡◌, ℕ, List, [], ◌∷◌, ◌++◌, length, refl, sym, ap, subst, ◌∙◌, arith, append_assoc, length-append}
 use Rattle.std.proofs.lemmas.List.{append_cancel_left, append-nil}
 use Rattle.wl_wire.specs.Messages.{IsMessage, messages, joined, AreMessages}
-use Rattle.wl_wire.proofs.Runs.{longest}
+use Rattle.wl_wire.proofs.MessagesHoweverCut.{longest}
 
 joined-append : (xs ys : List (List ℕ)) → joined (xs ++ ys) ≡ joined xs ++ joined ys
 joined-append [] ys = refl
@@ -16,7 +16,8 @@ are_messages-tail m ms each = each.1
 none_more : {A : Type 0} (xs further more : List A) → xs ≡ (xs ++ further) ++ more → further ≡ []
 none_more xs [] more e = refl
 none_more xs (y ∷ further) more e =
-    absurd (let len = ap length e in omega (arith, length-append (xs ++ y ∷ further) more, length-append xs (y ∷ further)))
+    absurd (let len = ap length e in
+    omega (arith, length-append (xs ++ y ∷ further) more, length-append xs (y ∷ further)))
 
 -- a message at the front comes first
 pub first_is : (m rest : List ℕ) → IsMessage m → messages (m ++ rest) ≡ m ∷ messages rest

@@ -3,7 +3,7 @@ use Rattle.std.proofs.Common.{◌≡◌, ℕ, ◌+◌, ◌%◌, ◌≤◌, Bool,
 use Rattle.std.proofs.lemmas.List.{take-append-drop, length-take}
 use Rattle.std.proofs.lemmas.Bool.{and_parts, leb-true, le-leb, eqb-true, eq-eqb}
 use Rattle.wl_wire.specs.Messages.{size_of, IsGoodSize, IsMessage, IsPartial, IsBad, is_good, messages}
-use Rattle.wl_wire.proofs.Sizes.{size_stays}
+use Rattle.wl_wire.proofs.SizeInHeader.{size_stays}
 use Rattle.trial_run.specs.Hearing.{has_bad_size}
 use Rattle.trial_run.proofs.FirstMessages.{first_is, none_is}
 
@@ -55,7 +55,8 @@ bad_none rest bad = none_is rest (λ m more e is. bad.1 (fronted rest m more e i
 
 pub bad_is : (rest : List ℕ) → IsBad rest → has_bad_size rest ≡ true
 bad_is rest bad =
-    ap (λ (b : Bool). b && not (is_good (size_of rest))) (le-leb 8 (length rest) bad.0) ∙ by (is_good (size_of rest)) refl
+    ap (λ (b : Bool). b && not (is_good (size_of rest))) (le-leb 8 (length rest) bad.0)
+    ∙ by (is_good (size_of rest)) refl
   where
     by : (b : Bool) → is_good (size_of rest) ≡ b → not b ≡ true
     by true e = absurd (bad.1 (good_size (size_of rest) e))

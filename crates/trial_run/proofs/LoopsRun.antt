@@ -23,7 +23,8 @@ less n k h = omega arith
 
 -- ---- the messages of a peer
 
-pub messages_none : (q : ℕ) (ms : List (List ℕ)) (b : Broker) → lives b.journal q ≡ false → messages_sent q ms b ≡ went b
+pub messages_none : (q : ℕ) (ms : List (List ℕ)) (b : Broker) → lives b.journal q ≡ false →
+    messages_sent q ms b ≡ went b
 unfolding messages_sent
 messages_none q [] b e = refl
 messages_none q (m ∷ ms) b e =

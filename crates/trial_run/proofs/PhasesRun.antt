@@ -25,7 +25,8 @@ use Rattle.trial_run.proofs.RunsInTurn.{run_goes, run_halts, broker_runs, shared
 
 pub waiting_runs : (t s after : TrialPlay) (who w : Whose) (n : ℕ) (bytes : List ℕ) (b : Broker)
     (result : Result (Unit {0}) Stop) → t ≡ s → n ≡ number_of who → who ≡ w →
-    bytes ≡ to_send w t → IsStepped (messages_sent n (messages bytes) t.broker) result b → after ≡ record t { broker = b } →
+    bytes ≡ to_send w t → IsStepped (messages_sent n (messages bytes) t.broker) result b →
+    after ≡ record t { broker = b } →
     IsRun (sends_waiting who s) result after
 unfolding sends_waiting
 waiting_runs t s after who w n bytes b result e i k d h a =

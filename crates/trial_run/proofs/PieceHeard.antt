@@ -5,15 +5,15 @@ use Rattle.std.proofs.Common.{inl, inr}
 use Rattle.std.proofs.lemmas.List.{drop_at, append-nil, take_at}
 use Rattle.wl_wire.specs.Texts.{IsBytes}
 use Rattle.wl_wire.specs.Messages.{IsMessage, id_of, opcode_of, body_of, messages, joined, AreMessages}
-use Rattle.wl_wire.proofs.Fields.{IsBytes-drop, IsBytes-take}
+use Rattle.wl_wire.proofs.ArgumentsReadBack.{IsBytes-drop, IsBytes-take}
 use Rattle.wl_proto.specs.declared.interface.Interface.{Interface}
 use Rattle.wl_proto.specs.declared.refuse.Refuse.{Refuse}
 use Rattle.wl_proto.specs.declared.event.Event.{Event}
 use Rattle.wl_proto.specs.Rows.{Message, message, event_kinds, event_message}
 use Rattle.wl_proto.specs.Reading.{by_row, all_read, event_reading}
 use Rattle.wl_proto.specs.Spelled.{IsRead}
-use Rattle.wl_proto.proofs.Values.{values_complete}
-use Rattle.wl_proto.proofs.Messages.{answers}
+use Rattle.wl_proto.proofs.ValuesReadBack.{values_complete}
+use Rattle.wl_proto.proofs.MessagesReadBack.{answers}
 use Rattle.client_side.specs.Events.{object_in, IsEventIn, IsEventOf, AreEvents}
 use Rattle.client_side.specs.Client.{Client, Step, after_all, IsWrong, Accepts, GoesWrong, Refuses}
 use Rattle.trial_run.specs.Events.{event_of}
@@ -207,7 +207,8 @@ module _ {S : Type 0} (step : Step S) (knows : KnowsEvents step) (objects : List
   refused r =
       sym (wrong r.goes_wrong (subst IsBytes r.held r.bytes)
       ∙ ap (λ (x : List ℕ). let c : Client S = record { state = new.state; held = x; is_bad = true } in c) (sym r.held)
-      ∙ ap (λ (b : Bool). let c : Client S = record { state = new.state; held = new.held; is_bad = b } in c) (sym r.bad))
+      ∙ ap (λ (b : Bool). let c : Client S = record { state = new.state; held = new.held; is_bad = b } in c)
+      (sym r.bad))
 
 -- a client that was bad stays as it is
 pub stays_bad : {S : Type 0} (step : Step S) (objects : List Interface) (old : Client S) (piece : List ℕ) →

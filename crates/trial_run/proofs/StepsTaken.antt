@@ -33,7 +33,8 @@ pub stepped_goes : (e : Entry) (b after : Broker) → is_full b.limits b.journal
     after ≡ with_step e no_stamp b → stepped e b ≡ went after
 unfolding stepped
 stepped_goes e b after f a =
-    ap (λ (full : Bool). if full then halted b else went (with_step e no_stamp b)) f ∙ ap (λ (x : Broker). went x) (sym a)
+    ap (λ (full : Bool). if full then halted b else went (with_step e no_stamp b)) f
+    ∙ ap (λ (x : Broker). went x) (sym a)
 
 pub stepped_halts : (e : Entry) (b : Broker) (kept : Kept) → is_full b.limits b.journal e ≡ true →
     kept ≡ kept_in b.journal → IsStop (stepped e b) (stops.Full kept)
@@ -60,7 +61,8 @@ taken_by true kept x s = cc
 taken_by false kept x s = refl
 
 pub step_went : {T : Type 0} (b after : Broker) (step : Step) (x : T) → IsSaid step → IsThere step b.journal →
-    IfSome (refusal b step) (λ w. let r : Result T Refused = Ok x in r ≡ Err w) → after ≡ with_step (entry_of step) no_stamp b →
+    IfSome (refusal b step) (λ w. let r : Result T Refused = Ok x in r ≡ Err w) →
+    after ≡ with_step (entry_of step) no_stamp b →
     stepped (entry_of step) b ≡ went after
 step_went {T} b after step x said there s a =
     stepped_goes (entry_of step) b after
@@ -87,7 +89,8 @@ IsWhy b step why =
 why_by : (T : Type 0) (full : Bool) (b : Broker) (step : Step) (w : Refused) →
     is_full b.limits b.journal (entry_of step) ≡ full →
     IfSome (refusal_by full (kept_in b.journal)) (λ v. let r : Result T Refused = Err w in r ≡ Err v) →
-    IfNone (refusal_by full (kept_in b.journal)) (IsAccepted refused.NoMemory step (let r : Result T Refused = Err w in r)) →
+    IfNone (refusal_by full (kept_in b.journal))
+    (IsAccepted refused.NoMemory step (let r : Result T Refused = Err w in r)) →
     IsWhy b step w
 why_by T true b step w e s n = inl (e, (let same : w ≡ refused.JournalFull (kept_in b.journal) = cc in same))
 why_by T false b step w e s n = inr (short_is T step w n)
@@ -184,17 +187,20 @@ pub join_many : (T : Type 0) (role : Role) (b after : Broker) (why : JoinRefusal
     after ≡ b → joined role b ≡ went after
 join_many T role b after why n e s h a =
     many_joined T role b after n
-    (subst (λ (x : JoinRefusal). IfSome (join_refusal b role) (λ v. let r : Result T JoinRefusal = Err x in r ≡ Err v)) e s)
+    (subst (λ (x : JoinRefusal). IfSome (join_refusal b role) (λ v. let r : Result T JoinRefusal = Err x in r ≡ Err v))
+    e s)
     (subst (λ (x : JoinRefusal).
     IfNone (join_refusal b role) (IsOkUnless (let r : Result T JoinRefusal = Err x in r) join.NoMemory)) e h) a
 
-pub join_full : (T : Type 0) (role : Role) (b : Broker) (why : JoinRefusal) (kept : Kept) → why ≡ join.JournalFull kept →
+pub join_full : (T : Type 0) (role : Role) (b : Broker) (why : JoinRefusal) (kept : Kept) →
+    why ≡ join.JournalFull kept →
     IfSome (join_refusal b role) (λ v. let r : Result T JoinRefusal = Err why in r ≡ Err v) →
     IfNone (join_refusal b role) (IsOkUnless (let r : Result T JoinRefusal = Err why in r) join.NoMemory) →
     IsStop (joined role b) (stops.Full kept)
 join_full T role b why kept e s h =
     full_joined T role b kept
-    (subst (λ (x : JoinRefusal). IfSome (join_refusal b role) (λ v. let r : Result T JoinRefusal = Err x in r ≡ Err v)) e s)
+    (subst (λ (x : JoinRefusal). IfSome (join_refusal b role) (λ v. let r : Result T JoinRefusal = Err x in r ≡ Err v))
+    e s)
     (subst (λ (x : JoinRefusal).
     IfNone (join_refusal b role) (IsOkUnless (let r : Result T JoinRefusal = Err x in r) join.NoMemory)) e h)
 

@@ -1,4 +1,5 @@
--- What a client makes of the bytes that it took: it hears the events that they spell, one after the other.
+-- What a client makes of the bytes that it took: it hears the events that they spell, one after the
+-- other.
 use Rattle.std.specs.Prelude.{ℕ, List, [], ◌∷◌, ◌++◌, length, drop, Bool, true, false, not, ◌&&◌, ◌||◌, nat_le, if◌then◌else◌, Option, Some, None, Result, Ok, Err}
 use Rattle.wl_wire.specs.Messages.{size_of, id_of, opcode_of, body_of, is_good, messages, joined}
 use Rattle.wl_proto.specs.declared.interface.Interface.{Interface}
@@ -60,4 +61,5 @@ bytes_heard step objects bytes s =
 
 -- a client after it received a piece; one to which something bad came hears nothing any more
 unfoldable pub received : {S : Type 0} → Step S → List Interface → List ℕ → Client S → Client S
-received step objects piece c = if c.is_bad then c else bytes_heard step objects (c.held ++ piece) c.state
+received step objects piece c =
+    if c.is_bad then c else bytes_heard step objects (c.held ++ piece) c.state

@@ -55,7 +55,8 @@ show_line f t =
     (codes "show" ∷ decimal f ∷ hex_word (whole t) ∷ decimal (length t.before) ∷ hex_word t.preedit ∷ [])
     ++ 10 ∷ []
 
--- what an action does at a time, which is the number of its line, modulo 2^32; fields are numbered from 1
+-- what an action does at a time, which is the number of its line, modulo 2^32; fields are numbered
+-- from 1
 unfoldable pub acted : ℕ → Action → TrialPlay → Ran TrialPlay
 acted time (actions.Use f) t = shell_says (shell.Focus (f + 1) surface_id) t
 acted time actions.Leave t = shell_says shell.Unfocus t
@@ -64,7 +65,8 @@ acted time (actions.Batch b) t = sends whose.Method (commits (batch_of b) t)
 acted time (actions.Edit f e) t = sends (whose.Field (f - 1)) (edits (f - 1) (edit_of e) t)
 acted time (actions.Pause f) t = went (pauses (f - 1) true t)
 acted time (actions.Resume f) t = went (pauses (f - 1) false t)
-acted time (actions.Show f) t = went (record t { shown = t.shown ++ show_line f (text_at (f - 1) t) })
+acted time (actions.Show f) t =
+    went (record t { shown = t.shown ++ show_line f (text_at (f - 1) t) })
 
 -- and then the rounds
 unfoldable pub line_played : ℕ → Action → TrialPlay → Ran TrialPlay
@@ -73,4 +75,5 @@ line_played time action t = acted time action t >>= (λ now. rounds now.most now
 -- the actions of lines one after the other, from the time of the first
 unfoldable pub actions_played : ℕ → List Action → TrialPlay → Ran TrialPlay
 actions_played time [] t = went t
-actions_played time (action ∷ more) t = line_played time action t >>= actions_played ((time + 1) % 2 ^ 32) more
+actions_played time (action ∷ more) t =
+    line_played time action t >>= actions_played ((time + 1) % 2 ^ 32) more

@@ -22,8 +22,8 @@ pub record FieldPlay : Type 0 where
   pub client : Client field.State
   pub is_paused : Bool
 
--- The most takes of a turn, and rounds after an action, are one more than the entries that a journal can have, so
--- that they never run out.
+-- The most takes of a turn, and rounds after an action, are one more than the entries that a
+-- journal can have, so that they never run out.
 pub record TrialPlay : Type 0 where
   pub most : ℕ
   pub broker : Broker
@@ -34,7 +34,10 @@ pub record TrialPlay : Type 0 where
 -- ---- clients that were just made
 
 abbrev pub new_field : FieldPlay
-new_field = record { client = record { state = field.new_state; held = []; is_bad = false }; is_paused = false }
+new_field = record {
+  client = record { state = field.new_state; held = []; is_bad = false };
+  is_paused = false;
+}
 
 abbrev pub new_method : TrialTypist → Client (method.State TrialTypist)
 new_method typist = record { state = method.new_state typist; held = []; is_bad = false }
@@ -83,17 +86,20 @@ hears whose.Method piece t =
 hears (whose.Field k) piece t = with_field k (field_hears piece) t
 
 abbrev pub field_sent : FieldPlay → FieldPlay
-field_sent f = record f { client = record f.client { state = record f.client.state { to_send = [] } } }
+field_sent f =
+    record f { client = record f.client { state = record f.client.state { to_send = [] } } }
 
 -- what waited was sent, or is dropped where its peer ended
 abbrev pub sent : Whose → TrialPlay → TrialPlay
-sent whose.Method t = record t { method = record t.method { state = record t.method.state { to_send = [] } } }
+sent whose.Method t =
+    record t { method = record t.method { state = record t.method.state { to_send = [] } } }
 sent (whose.Field k) t = with_field k field_sent t
 
 -- ---- what a user does
 
 abbrev pub field_edits : Entry → FieldPlay → FieldPlay
-field_edits edit f = record f { client = record f.client { state = field.happens (edited edit) f.client.state } }
+field_edits edit f =
+    record f { client = record f.client { state = field.happens (edited edit) f.client.state } }
 
 -- the field's own user edits it
 abbrev pub edits : ℕ → Entry → TrialPlay → TrialPlay
@@ -102,7 +108,10 @@ edits k edit t = with_field k (field_edits edit) t
 -- the method's user commits edits
 abbrev pub commits : Batch → TrialPlay → TrialPlay
 commits batch t =
-    record t { method = record t.method { state = method.happens meanings_of (committed batch) t.method.state } }
+    record t {
+      method =
+          record t.method { state = method.happens meanings_of (committed batch) t.method.state };
+    }
 
 -- the field stops reading, or goes on
 abbrev pub pauses : ℕ → Bool → TrialPlay → TrialPlay

@@ -1,4 +1,5 @@
--- Where steps lead, and whether they met a journal that is full for one of them, before which they stopped.
+-- Where steps lead, and whether they met a journal that is full for one of them, before which they
+-- stopped.
 use Rattle.std.specs.Prelude.{Bool, true, false, if◌then◌else◌}
 
 pub record Ran (S : Type 0) : Type 0 where

@@ -1,5 +1,5 @@
--- The rounds after an action: each client that isn't paused takes what is stored for it, and sends what it is asked
--- for, until nothing is stored for such a client.
+-- The rounds after an action: each client that isn't paused takes what is stored for it, and sends
+-- what it is asked for, until nothing is stored for such a client.
 use Rattle.std.specs.Prelude.{ℕ, zero, suc, ◌+◌, length, Bool, true, not, ◌&&◌, if◌then◌else◌}
 use Rattle.wl_wire.specs.Messages.{messages}
 use Rattle.broker_model.specs.declared.journal.Entry.TheVariants as entries
@@ -16,7 +16,8 @@ with_broker t r = record { now = record t { broker = r.now }; is_full = r.is_ful
 
 -- what waits to be sent by the client goes out, one message a step
 unfoldable pub sends_waiting : Whose → TrialPlay → Ran TrialPlay
-sends_waiting who t = with_broker t (messages_sent (number_of who) (messages (to_send who t)) t.broker)
+sends_waiting who t =
+    with_broker t (messages_sent (number_of who) (messages (to_send who t)) t.broker)
 
 -- and then nothing waits
 unfoldable pub sends : Whose → TrialPlay → Ran TrialPlay
@@ -30,12 +31,14 @@ took who t =
 
 -- it takes them, and then sends what they ask for
 unfoldable pub one_take : Whose → TrialPlay → Ran TrialPlay
-one_take who t = took who t >>= (λ now. sends who (hears who (next_bytes (number_of who) t.broker) now))
+one_take who t =
+    took who t >>= (λ now. sends who (hears who (next_bytes (number_of who) t.broker) now))
 
 -- takes until nothing is stored for it
 unfoldable pub takes : ℕ → Whose → TrialPlay → Ran TrialPlay
 takes zero who t = went t
-takes (suc n) who t = if has_stored (number_of who) t.broker then one_take who t >>= takes n who else went t
+takes (suc n) who t =
+    if has_stored (number_of who) t.broker then one_take who t >>= takes n who else went t
 
 -- one client's part of a round
 unfoldable pub turn : Whose → TrialPlay → Ran TrialPlay

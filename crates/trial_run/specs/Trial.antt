@@ -47,7 +47,8 @@ method_joined t = with_broker t (joined Method t.broker) >>= sends whose.Method
 unfoldable pub field_joined : TrialPlay → Ran TrialPlay
 field_joined t =
     with_broker t (joined App t.broker)
-    >>= (λ now. sends (whose.Field (length t.fields)) (record now { fields = now.fields ++ new_field ∷ [] }))
+    >>= (λ now. sends (whose.Field (length t.fields))
+    (record now { fields = now.fields ++ new_field ∷ [] }))
 
 unfoldable pub fields_joined : ℕ → TrialPlay → Ran TrialPlay
 fields_joined zero t = went t
@@ -55,18 +56,19 @@ fields_joined (suc n) t = field_joined t >>= fields_joined n
 
 -- ---- the whole
 
--- The method and so many fields join, and then the actions are played, from the time of the first. A script that ends
--- before it says how many fields there are plays nothing.
+-- The method and so many fields join, and then the actions are played, from the time of the first.
+-- A script that ends before it says how many fields there are plays nothing.
 unfoldable pub played_with : (fields time : ℕ) → List Action → TrialPlay → Ran TrialPlay
 played_with fields time all t =
     if fields == 0 then went t
     else (method_joined t >>= fields_joined fields) >>= actions_played time all
 
 abbrev pub trial_played : Limits → Script → Ran TrialPlay
-trial_played limits s = played_with s.fields (s.first_line % 2 ^ 32) s.actions (unplayed limits (typist_of s))
+trial_played limits s =
+    played_with s.fields (s.first_line % 2 ^ 32) s.actions (unplayed limits (typist_of s))
 
--- a trial ends behind its last line, at a line outside the grammar or one that is missing, or before a step for
--- which the journal is full
+-- a trial ends behind its last line, at a line outside the grammar or one that is missing, or
+-- before a step for which the journal is full
 pub data Ended : Type 0 where
   over : Ended
   bad_line : ℕ → Ended
@@ -104,8 +106,10 @@ trial_of bytes = trial_within trial_limits bytes
 
 abbrev pub IsShown : Shown → Result (String Global) TrialEnd → Type 0
 IsShown s (Ok text) = s ≡ record { lines = string_bytes text; ended = over }
-IsShown s (Err (ends.BadLine number text)) = s ≡ record { lines = string_bytes text; ended = bad_line number }
-IsShown s (Err (ends.JournalFull kept text)) = s ≡ record { lines = string_bytes text; ended = journal_full kept }
+IsShown s (Err (ends.BadLine number text)) =
+    s ≡ record { lines = string_bytes text; ended = bad_line number }
+IsShown s (Err (ends.JournalFull kept text)) =
+    s ≡ record { lines = string_bytes text; ended = journal_full kept }
 IsShown s (Err ends.NoMemory) = Unit {0}
 
 -- it is what the script shows, or want of memory

@@ -2,6 +2,6 @@ pub mod ScriptWords
 pub mod SpelledLines
 pub mod TwoWords
 pub mod ReadLines
-pub mod Laws
+pub mod ScriptsReadBack
 pub mod LinesTaken
 pub mod ScriptsRead

@@ -4,8 +4,8 @@ use Rattle.std.specs.Prelude.{codes}
 use Rattle.std.proofs.lemmas.Bool.{leb-true}
 use Rattle.session_text.specs.Words.{◌>>=◌, kept, text_limit, cursor_text_limit, hex_word}
 use Rattle.session_text.specs.Reading.{line_limit}
-use Rattle.session_text.proofs.Arms.{arm}
-use Rattle.session_text.proofs.Parts.{IsRead, bound, made, read_alone, read_one, read_two}
+use Rattle.session_text.proofs.TestsLetThrough.{arm}
+use Rattle.session_text.proofs.WordsByKind.{IsRead, bound, made, read_alone, read_one, read_two}
 use Rattle.session_text.proofs.WordKinds.{numbers, signeds, texts}
 use Rattle.trial_script.specs.declared.action.Action.TheVariants as actions
 use Rattle.trial_script.specs.declared.action.FieldEdit.TheVariants as edits
@@ -51,7 +51,8 @@ three_sound k a b line e =
     absurd (cc e)))
 
 -- so many keys
-keys_read : (a b c : List ℕ) (words : List (List ℕ)) (text : List ℕ) (keys : Option (List ℕ)) (line : Line) → keys_of (b ∷ c ∷ words) ≡ keys
+keys_read : (a b c : List ℕ) (words : List (List ℕ)) (text : List ℕ) (keys : Option (List ℕ)) (line : Line) →
+    keys_of (b ∷ c ∷ words) ≡ keys
     → IsKeyWord text → a ≡ hex_word text
     → (kept (λ keys. leb (length keys) key_limit) keys >>= (λ keys. Some (lines.Compose text keys))) ≡ Some line
     → IsReadLine (codes "compose" ∷ a ∷ b ∷ c ∷ words) line
@@ -78,12 +79,17 @@ compose_sound a b c words line e =
 batch_sound : (a b c d f g : List ℕ) (line : Line) → batch_of a b c d f g ≡ Some line → IsReadLine (codes "batch" ∷ a ∷ b ∷ c ∷ d ∷ f ∷ g ∷ []) line
 unfolding batch_of
 batch_sound a b c d f g line e =
-    bound numbers a _ line e (λ before h is1 e. bound numbers b _ line e (λ behind i is2 e. bound (texts text_limit) c _ line e (λ string j is3 e.
-    bound (texts cursor_text_limit) d _ line e (λ preedit l is4 e. bound signeds f _ line e (λ begin m is5 e. bound signeds g _ line e (λ end n is6 e.
-    made _ (lines.Act (actions.Batch (edits_of before behind string preedit begin end))) line e (rw (is1, is2, is3, is4, is5, is6) refl)
+    bound numbers a _ line e
+    (λ before h is1 e. bound numbers b _ line e
+    (λ behind i is2 e. bound (texts text_limit) c _ line e (λ string j is3 e.
+    bound (texts cursor_text_limit) d _ line e
+    (λ preedit l is4 e. bound signeds f _ line e (λ begin m is5 e. bound signeds g _ line e (λ end n is6 e.
+    made _ (lines.Act (actions.Batch (edits_of before behind string preedit begin end))) line e
+    (rw (is1, is2, is3, is4, is5, is6) refl)
     (record { before = h; after = i; string = j; preedit = l; begin = m; end = n })))))))
 
-more_sound : (k a : List ℕ) (ws : List (List ℕ)) (line : Line) → seven_words k a ws ≡ Some line → IsReadLine (k ∷ a ∷ ws) line
+more_sound : (k a : List ℕ) (ws : List (List ℕ)) (line : Line) → seven_words k a ws ≡ Some line →
+    IsReadLine (k ∷ a ∷ ws) line
 unfolding seven_words
 more_sound k a [] line e = absurd (cc e)
 more_sound k a (b ∷ []) line e = absurd (cc e)

@@ -10,9 +10,9 @@ use Rattle.session_text.specs.Words.{◌>>=◌, number_of, count_of, text_of, he
 use Rattle.session_text.specs.declared.line.BadLine.{BadLine}
 use Rattle.session_text.specs.declared.line.BadLine.TheVariants as bad
 use Rattle.session_text.specs.Reading.{Reads}
-use Rattle.session_text.proofs.Arms.{kept_some}
-use Rattle.session_text.proofs.Parts.{bound}
-use Rattle.session_text.proofs.Separators.{AllLack}
+use Rattle.session_text.proofs.TestsLetThrough.{kept_some}
+use Rattle.session_text.proofs.WordsByKind.{bound}
+use Rattle.session_text.proofs.LinesSplit.{AllLack}
 use Rattle.session_text.proofs.WordKinds.{Kind, numbers, texts, counts}
 use Rattle.trial_script.specs.Words.{field_limit, key_text_limit, IsKeyWord, field_of, key_text_of, keys_of}
 
@@ -63,13 +63,17 @@ AreSmall keys = All (λ key. key < 2 ^ 32) keys
 
 pub keys_lack : (keys : List ℕ) → AreSmall keys → AllLack 32 (map decimal keys)
 keys_lack [] h = tt
-keys_lack (k ∷ keys) h = (numbers.spaceless k (All-head (λ key. key < 2 ^ 32) k keys h), keys_lack keys (All-tail (λ key. key < 2 ^ 32) k keys h))
+keys_lack (k ∷ keys) h = (
+  numbers.spaceless k (All-head (λ key. key < 2 ^ 32) k keys h),
+  keys_lack keys (All-tail (λ key. key < 2 ^ 32) k keys h),
+)
 
 pub keys_complete : (keys : List ℕ) → AreSmall keys → keys_of (map decimal keys) ≡ Some keys
 unfolding keys_of
 keys_complete [] h = refl
 keys_complete (k ∷ keys) h =
-    rw (numbers.complete k (All-head (λ key. key < 2 ^ 32) k keys h)) (rw (keys_complete keys (All-tail (λ key. key < 2 ^ 32) k keys h)) refl)
+    rw (numbers.complete k (All-head (λ key. key < 2 ^ 32) k keys h))
+    (rw (keys_complete keys (All-tail (λ key. key < 2 ^ 32) k keys h)) refl)
 
 -- as many keys are read as there are words
 pub record AreRead (words : List (List ℕ)) (keys : List ℕ) : Type 0 where
@@ -78,7 +82,8 @@ pub record AreRead (words : List (List ℕ)) (keys : List ℕ) : Type 0 where
   pub count : length keys ≡ length words
 
 keys_after : (word : List ℕ) (words : List (List ℕ)) (keys : List ℕ) (k : ℕ) → k < 2 ^ 32 → word ≡ decimal k
-    → (o : Option (List ℕ)) → ((ks : List ℕ) → o ≡ Some ks → AreRead words ks) → (o >>= (λ ks. Some (k ∷ ks))) ≡ Some keys
+    → (o : Option (List ℕ)) → ((ks : List ℕ) → o ≡ Some ks → AreRead words ks) →
+    (o >>= (λ ks. Some (k ∷ ks))) ≡ Some keys
     → AreRead (word ∷ words) keys
 keys_after word words keys k small is None later read = absurd (cc read)
 keys_after word words keys k small is (Some ks) later read =
@@ -92,7 +97,8 @@ keys_after word words keys k small is (Some ks) later read =
 
 pub keys_sound : (words : List (List ℕ)) (keys : List ℕ) → keys_of words ≡ Some keys → AreRead words keys
 unfolding keys_of
-keys_sound [] keys e = let is : [] ≡ keys = cc in subst (AreRead []) is (record { same = refl; small = All-nil (λ key. key < 2 ^ 32); count = refl })
+keys_sound [] keys e = let is : [] ≡ keys =
+    cc in subst (AreRead []) is (record { same = refl; small = All-nil (λ key. key < 2 ^ 32); count = refl })
 keys_sound (word ∷ words) keys e =
     bound numbers word (λ k. keys_of words >>= (λ ks. Some (k ∷ ks))) keys e (λ k small is f.
     keys_after word words keys k small is (keys_of words) (λ ks. keys_sound words ks) f)
@@ -107,7 +113,8 @@ pub starts : (o : Option (List ℕ)) → behind [] o ≡ o
 starts None = refl
 starts (Some ks) = refl
 
-behind_one : (keys : List ℕ) (k : ℕ) (o : Option (List ℕ)) → behind keys (o >>= (λ ks. Some (k ∷ ks))) ≡ behind (keys ++ k ∷ []) o
+behind_one : (keys : List ℕ) (k : ℕ) (o : Option (List ℕ)) →
+    behind keys (o >>= (λ ks. Some (k ∷ ks))) ≡ behind (keys ++ k ∷ []) o
 behind_one keys k None = refl
 behind_one keys k (Some ks) = ap Some (sym (append_assoc keys (k ∷ []) ks))
 
@@ -118,7 +125,8 @@ unfolding keys_of
 one_more keys k word words is = rw is (behind_one keys k (keys_of words))
 
 -- a word that is no key is refused, and so are all
-pub refused : (keys : List ℕ) (word : List ℕ) (words : List (List ℕ)) (bad : BadLine) → Reads {X = ℕ} (Err bad) (number_of word)
+pub refused : (keys : List ℕ) (word : List ℕ) (words : List (List ℕ)) (bad : BadLine) →
+    Reads {X = ℕ} (Err bad) (number_of word)
     → Reads {X = List ℕ} (Err bad) (behind keys (keys_of (word ∷ words)))
 unfolding keys_of
 refused keys word words bad.Grammar read = rw read refl

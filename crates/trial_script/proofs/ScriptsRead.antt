@@ -17,14 +17,15 @@ use Rattle.trial_script.specs.Grammar.{IsAction, IsLine}
 use Rattle.trial_script.specs.Reading.{line_of}
 use Rattle.trial_script.specs.Lines.{lines_of}
 use Rattle.trial_script.specs.Scripts.{Rest, over, field_named, found_action, found_of, by_found, actions_of, without_actions, with_entry_of, with_line, by_table, by_entry, script_from, by_header, script_of_lines, script_of, IsScript}
-use Rattle.trial_script.proofs.Laws.{reads_only}
+use Rattle.trial_script.proofs.ScriptsReadBack.{reads_only}
 
 -- actions that were read, before those that follow
 abbrev pub behind : List Action → Rest → Rest
 behind actions rest = record rest { actions = actions ++ rest.actions }
 
 -- nothing follows
-pub over_behind : (actions : List Action) (ending : Ending) → behind actions (over ending) ≡ record { actions = actions; ending = ending }
+pub over_behind : (actions : List Action) (ending : Ending) →
+    behind actions (over ending) ≡ record { actions = actions; ending = ending }
 over_behind actions ending = ap (λ (all : List Action). record { actions = all; ending = ending }) (append-nil actions)
 
 -- one action more was read
@@ -33,7 +34,9 @@ pub one_more : (fields number : ℕ) (before : List Action) (action : Action) (r
     behind before (actions_of fields number all) ≡ behind (before ++ action ∷ []) (actions_of fields (number + 1) more)
 unfolding actions_of
 one_more fields number before action raw more all is act =
-    rw (is, sym act) (ap (λ actions. record { actions = actions; ending = (actions_of fields (number + 1) more).ending }) (sym (append_assoc before (action ∷ []) (actions_of fields (number + 1) more).actions)))
+    rw (is, sym act)
+    (ap (λ actions. record { actions = actions; ending = (actions_of fields (number + 1) more).ending })
+    (sym (append_assoc before (action ∷ []) (actions_of fields (number + 1) more).actions)))
 
 -- the actions end at a line, or where no line is left
 pub ends_by : (fields number : ℕ) (before : List Action) (raw : List ℕ) (more all : List (List ℕ)) →
@@ -55,7 +58,8 @@ ends_open fields number before all is = rw is refl
 
 -- ---- the table, line by line
 
-entry_goes : (t with : Table) (number : ℕ) (line : Line) (next : Table → Script) (play : ℕ → Rest) → with_entry_of t line ≡ Some with →
+entry_goes : (t with : Table) (number : ℕ) (line : Line) (next : Table → Script) (play : ℕ → Rest) →
+    with_entry_of t line ≡ Some with →
     by_entry t number (Some line) next play ≡ next with
 entry_goes t with number (lines.Single key text) next play goes = rw goes refl
 entry_goes t with number (lines.Compose text keys) next play goes = rw goes refl
@@ -64,17 +68,20 @@ entry_goes t with number (lines.Fields n) next play goes = absurd (cc goes)
 entry_goes t with number (lines.Act action) next play goes = absurd (cc goes)
 entry_goes t with number lines.End next play goes = absurd (cc goes)
 
-line_goes : (t with : Table) (number : ℕ) (o : Option Line) (next : Table → Script) (play : ℕ → Rest) → with_line t o ≡ Some with →
+line_goes : (t with : Table) (number : ℕ) (o : Option Line) (next : Table → Script) (play : ℕ → Rest) →
+    with_line t o ≡ Some with →
     by_entry t number o next play ≡ next with
 line_goes t with number None next play goes = absurd (cc goes)
 line_goes t with number (Some line) next play goes = entry_goes t with number line next play goes
 
 -- a line that goes into the table
 pub one_entry : (t with : Table) (number : ℕ) (raw : List ℕ) (more all : List (List ℕ)) →
-    all ≡ raw ∷ more → with_line t (line_of raw) ≡ Some with → script_from t number all ≡ script_from with (number + 1) more
+    all ≡ raw ∷ more → with_line t (line_of raw) ≡ Some with →
+    script_from t number all ≡ script_from with (number + 1) more
 unfolding script_from
 one_entry t with number raw more all is goes =
-    rw is (line_goes t with number (line_of raw) (λ with. script_from with (number + 1) more) (λ n. actions_of n (number + 1) more) goes)
+    rw is (line_goes t with number (line_of raw) (λ with. script_from with (number + 1) more)
+    (λ n. actions_of n (number + 1) more) goes)
 
 -- any line
 pub one_line : (t : Table) (number : ℕ) (raw : List ℕ) (more all : List (List ℕ)) → all ≡ raw ∷ more →
@@ -83,13 +90,16 @@ pub one_line : (t : Table) (number : ℕ) (raw : List ℕ) (more all : List (Lis
 unfolding script_from
 one_line t number raw more all is = rw is refl
 
-pub no_fields : (t : Table) (number : ℕ) (all : List (List ℕ)) → all ≡ [] → script_from t number all ≡ without_actions t (endings.Unended number)
+pub no_fields : (t : Table) (number : ℕ) (all : List (List ℕ)) → all ≡ [] →
+    script_from t number all ≡ without_actions t (endings.Unended number)
 unfolding script_from
 no_fields t number all is = rw is refl
 
 -- a line that has no place in the table ends it
-entry_ends : (t : Table) (number : ℕ) (line : Line) (next : Table → Script) (play : ℕ → Rest) → with_entry_of t line ≡ None →
-    ((n : ℕ) → line ≡ lines.Fields n → ⊥) → by_entry t number (Some line) next play ≡ without_actions t (endings.BadLine number)
+entry_ends : (t : Table) (number : ℕ) (line : Line) (next : Table → Script) (play : ℕ → Rest) →
+    with_entry_of t line ≡ None →
+    ((n : ℕ) → line ≡ lines.Fields n → ⊥) →
+    by_entry t number (Some line) next play ≡ without_actions t (endings.BadLine number)
 entry_ends t number (lines.Single key text) next play none other = rw none refl
 entry_ends t number (lines.Compose text keys) next play none other = rw none refl
 entry_ends t number lines.Header next play none other = refl
@@ -102,10 +112,13 @@ entry_ends t number lines.End next play none other = refl
 abbrev IsActionOf : ℕ → Action → Type 0
 IsActionOf fields action = IsAction action × (field_named action ≤ fields)
 
-action_holds : (fields number : ℕ) (action : Action) (rest : Rest) → IsAction action → All (IsActionOf fields) rest.actions →
+action_holds : (fields number : ℕ) (action : Action) (rest : Rest) → IsAction action →
+    All (IsActionOf fields) rest.actions →
     All (IsActionOf fields) (by_found number (found_action fields action) rest).actions
 action_holds fields number action rest is later =
-    elim (leb (field_named action) fields) as (λ b. leb (field_named action) fields ≡ b → All (IsActionOf fields) (by_found number (cond b (found.Act action) found.Bad) rest).actions) [
+    elim (leb (field_named action) fields) as
+    (λ b. leb (field_named action) fields ≡ b →
+    All (IsActionOf fields) (by_found number (cond b (found.Act action) found.Bad) rest).actions) [
       | true ↦ λ e. All-cons (IsActionOf fields) action rest.actions (is, leb-true (field_named action) fields e) later
       | false ↦ λ e. All-nil (IsActionOf fields)
     ] refl
@@ -128,12 +141,14 @@ actions_hold : (fields number : ℕ) (ls : List (List ℕ)) → All (IsActionOf 
 unfolding actions_of
 actions_hold fields number [] = All-nil (IsActionOf fields)
 actions_hold fields number (raw ∷ more) =
-    found_holds fields number (line_of raw) (actions_of fields (number + 1) more) (λ line e. (reads_only raw line e).1) (actions_hold fields (number + 1) more)
+    found_holds fields number (line_of raw) (actions_of fields (number + 1) more) (λ line e. (reads_only raw line e).1)
+    (actions_hold fields (number + 1) more)
 
 no_actions_hold : (t : Table) (ending : Ending) → IsScript (without_actions t ending)
 no_actions_hold t ending = record { fields = omega arith; actions = All-nil (IsActionOf 0) }
 
-table_holds : (t : Table) (number : ℕ) (o : Option Table) (next : Table → Script) → ((with : Table) → IsScript (next with)) →
+table_holds : (t : Table) (number : ℕ) (o : Option Table) (next : Table → Script) →
+    ((with : Table) → IsScript (next with)) →
     IsScript (by_table t number o next)
 table_holds t number None next holds = no_actions_hold t (endings.BadLine number)
 table_holds t number (Some with) next holds = holds with
@@ -154,7 +169,8 @@ body_holds : (ls : List (List ℕ)) (t : Table) (number : ℕ) → IsScript (scr
 unfolding script_from
 body_holds [] t number = no_actions_hold t (endings.Unended number)
 body_holds (raw ∷ more) t number =
-    entry_holds t number (line_of raw) (λ with. script_from with (number + 1) more) more (λ line e. (reads_only raw line e).1)
+    entry_holds t number (line_of raw) (λ with. script_from with (number + 1) more) more
+    (λ line e. (reads_only raw line e).1)
     (λ with. body_holds more with (number + 1))
 
 header_holds : (o : Option Line) (more : List (List ℕ)) → IsScript (by_header o more)
@@ -182,14 +198,17 @@ read_holds bytes (Err why) is = tt
 -- ---- what was answered of a line
 
 -- the table has what the line says
-pub was_put : (o : Option Table) (put : Bool) (new : Table) → put ≡ is_some o → put ≡ true → IfSome o (λ t. new ≡ t) → o ≡ Some new
+pub was_put : (o : Option Table) (put : Bool) (new : Table) → put ≡ is_some o → put ≡ true → IfSome o (λ t. new ≡ t) →
+    o ≡ Some new
 was_put None put new is test with = absurd (cc (is, test))
 was_put (Some t) put new is test with = ap Some (sym with)
 
 -- the table is as it was
-pub was_not_put : (o : Option Table) (put : Bool) (old new : Table) → put ≡ is_some o → put ≡ false → IfNone o (new ≡ old) → new ≡ old
+pub was_not_put : (o : Option Table) (put : Bool) (old new : Table) → put ≡ is_some o → put ≡ false →
+    IfNone o (new ≡ old) → new ≡ old
 was_not_put None put old new is test same = same
 was_not_put (Some t) put old new is test same = absurd (cc (is, test))
 
-pub answers : (r : Result Script NoMemory) (s all : Script) → s ≡ all → IfOk r (λ read. read ≡ s) → IfOk r (λ read. read ≡ all)
+pub answers : (r : Result Script NoMemory) (s all : Script) → s ≡ all → IfOk r (λ read. read ≡ s) →
+    IfOk r (λ read. read ≡ all)
 answers r s all is read = subst (λ x. IfOk r (λ read. read ≡ x)) is read

@@ -3,7 +3,7 @@ use Rattle.std.proofs.Common.{◌≡◌, ℕ, List, [], ◌∷◌, length, Some,
 use Rattle.std.proofs.lemmas.Bool.{le-leb}
 use Rattle.session_text.specs.Words.{text_limit, cursor_text_limit}
 use Rattle.session_text.specs.Reading.{line_limit}
-use Rattle.session_text.proofs.Separators.{AllLack}
+use Rattle.session_text.proofs.LinesSplit.{AllLack}
 use Rattle.session_text.proofs.WordKinds.{numbers, signeds, texts}
 use Rattle.trial_script.specs.declared.action.Action.{Action}
 use Rattle.trial_script.specs.declared.action.Action.TheVariants as actions
@@ -19,7 +19,8 @@ use Rattle.trial_script.proofs.ScriptWords.{fields, key_texts, keys_lack, keys_c
 -- ---- no space
 
 -- the words after the first hold no space
-spaceless_edit : (f : ℕ) (edit : FieldEdit) → IsAction (actions.Edit f edit) → AllLack 32 (action_words (actions.Edit f edit))
+spaceless_edit : (f : ℕ) (edit : FieldEdit) → IsAction (actions.Edit f edit) →
+    AllLack 32 (action_words (actions.Edit f edit))
 spaceless_edit f (edits.Insert text) h = (refl, (fields.spaceless f h.0, ((texts line_limit).spaceless text h.1, tt)))
 spaceless_edit f edits.Left h = (refl, (fields.spaceless f h.0, tt))
 spaceless_edit f edits.Right h = (refl, (fields.spaceless f h.0, tt))
@@ -37,7 +38,10 @@ spaceless_action (actions.Batch b) h = (
       numbers.spaceless b.after h.after,
       (
         (texts text_limit).spaceless b.string h.string,
-        ((texts cursor_text_limit).spaceless b.preedit h.preedit, (signeds.spaceless b.begin h.begin, (signeds.spaceless b.end h.end, tt))),
+        (
+          (texts cursor_text_limit).spaceless b.preedit h.preedit,
+          (signeds.spaceless b.begin h.begin, (signeds.spaceless b.end h.end, tt)),
+        ),
       ),
     ),
   ),
@@ -57,7 +61,8 @@ spaceless lines.End h = (refl, tt)
 
 -- ---- the words are read
 
-edit_read : (f : ℕ) (edit : FieldEdit) → IsAction (actions.Edit f edit) → line_of_words (action_words (actions.Edit f edit)) ≡ Some (lines.Act (actions.Edit f edit))
+edit_read : (f : ℕ) (edit : FieldEdit) → IsAction (actions.Edit f edit) →
+    line_of_words (action_words (actions.Edit f edit)) ≡ Some (lines.Act (actions.Edit f edit))
 unfolding line_of_words two_words three_words
 edit_read f (edits.Insert text) h = rw (fields.complete f h.0, (texts line_limit).complete text h.1) refl
 edit_read f edits.Left h = rw (fields.complete f h.0) refl
@@ -70,20 +75,24 @@ action_read (actions.Use f) h = rw (fields.complete f h) refl
 action_read actions.Leave h = refl
 action_read (actions.Press key) h = rw (numbers.complete key h) refl
 action_read (actions.Batch b) h =
-    rw (numbers.complete b.before h.before) (rw (numbers.complete b.after h.after) (rw ((texts text_limit).complete b.string h.string)
-    (rw ((texts cursor_text_limit).complete b.preedit h.preedit) (rw (signeds.complete b.begin h.begin) (rw (signeds.complete b.end h.end) refl)))))
+    rw (numbers.complete b.before h.before)
+    (rw (numbers.complete b.after h.after) (rw ((texts text_limit).complete b.string h.string)
+    (rw ((texts cursor_text_limit).complete b.preedit h.preedit)
+    (rw (signeds.complete b.begin h.begin) (rw (signeds.complete b.end h.end) refl)))))
 action_read (actions.Edit f edit) h = edit_read f edit h
 action_read (actions.Pause f) h = rw (fields.complete f h) refl
 action_read (actions.Resume f) h = rw (fields.complete f h) refl
 action_read (actions.Show f) h = rw (fields.complete f h) refl
 
 -- two keys or more
-compose_read : (text keys : List ℕ) → HasParts (lines.Compose text keys) → line_of_words (line_words (lines.Compose text keys)) ≡ Some (lines.Compose text keys)
+compose_read : (text keys : List ℕ) → HasParts (lines.Compose text keys) →
+    line_of_words (line_words (lines.Compose text keys)) ≡ Some (lines.Compose text keys)
 unfolding line_of_words more_words compose_of
 compose_read text [] h = absurd (let several = h.1.several in omega (arith, several))
 compose_read text (a ∷ []) h = absurd (let several = h.1.several in omega (arith, several))
 compose_read text (a ∷ b ∷ keys) h =
-    rw (key_texts.complete text h.0) (rw (keys_complete (a ∷ b ∷ keys) h.1.each) (rw (le-leb (length (a ∷ b ∷ keys)) key_limit h.1.few) refl))
+    rw (key_texts.complete text h.0)
+    (rw (keys_complete (a ∷ b ∷ keys) h.1.each) (rw (le-leb (length (a ∷ b ∷ keys)) key_limit h.1.few) refl))
 
 pub words_read : (line : Line) → HasParts line → line_of_words (line_words line) ≡ Some line
 unfolding line_of_words one_word two_words three_words header_of

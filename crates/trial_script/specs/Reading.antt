@@ -13,7 +13,14 @@ use Rattle.trial_script.specs.Words.{key_limit, field_of, key_text_of, keys_of}
 
 abbrev pub edits_of : ℕ → ℕ → List ℕ → List ℕ → ℤ → ℤ → Edits
 edits_of before after string preedit begin end =
-    record { before = before; after = after; string = string; preedit = preedit; begin = begin; end = end }
+    record {
+      before = before;
+      after = after;
+      string = string;
+      preedit = preedit;
+      begin = begin;
+      end = end;
+    }
 
 unfoldable pub one_word : List ℕ → Option Line
 one_word k =
@@ -43,13 +50,16 @@ unfoldable pub three_words : List ℕ → List ℕ → List ℕ → Option Line
 three_words k a b =
     if bytes_eq k (codes "single") then number_of a >>= (λ key. key_text_of b >>= (λ text. Some (lines.Single key text)))
     else if bytes_eq k (codes "insert") then
-    field_of a >>= (λ f. text_of line_limit b >>= (λ text. Some (lines.Act (actions.Edit f (edits.Insert text)))))
+    field_of a >>=
+    (λ f. text_of line_limit b >>=
+    (λ text. Some (lines.Act (actions.Edit f (edits.Insert text)))))
     else None
 
 -- what follows the name of a sequence of keys: its text, and the keys
 unfoldable pub compose_of : List ℕ → List (List ℕ) → Option Line
 compose_of a words =
-    key_text_of a >>= (λ text. kept (λ keys. nat_le (length keys) key_limit) (keys_of words) >>= (λ keys.
+    key_text_of a >>=
+    (λ text. kept (λ keys. nat_le (length keys) key_limit) (keys_of words) >>= (λ keys.
     Some (lines.Compose text keys)))
 
 -- what follows the name of a batch
@@ -78,4 +88,6 @@ line_of_words _ = None
 
 -- the line of the bytes, of which there are no more than the limit
 unfoldable pub line_of : List ℕ → Option Line
-line_of bytes = if nat_le (length bytes) line_limit then line_of_words (slice_split (λ b. b == 32) bytes) else None
+line_of bytes =
+    if nat_le (length bytes) line_limit then line_of_words (slice_split (λ b. b == 32) bytes)
+    else None

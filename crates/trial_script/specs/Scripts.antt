@@ -38,7 +38,8 @@ abbrev pub before_rest : Action → Rest → Rest
 before_rest action rest = record rest { actions = action ∷ rest.actions }
 
 abbrev pub found_action : (fields : ℕ) → Action → Found
-found_action fields action = if nat_le (field_named action) fields then found.Act action else found.Bad
+found_action fields action =
+    if nat_le (field_named action) fields then found.Act action else found.Bad
 
 -- what a line is among the actions of so many fields
 abbrev pub found_of : (fields : ℕ) → Option Line → Found
@@ -62,11 +63,18 @@ actions_of fields number (raw ∷ more) =
 
 -- a script that ends before its actions
 abbrev pub without_actions : Table → Ending → Script
-without_actions t ending = record { table = t; fields = 0; first_line = 0; actions = []; ending = ending }
+without_actions t ending =
+    record { table = t; fields = 0; first_line = 0; actions = []; ending = ending }
 
 abbrev pub with_actions : Table → (fields number : ℕ) → Rest → Script
 with_actions t fields number rest =
-    record { table = t; fields = fields; first_line = number; actions = rest.actions; ending = rest.ending }
+    record {
+      table = t;
+      fields = fields;
+      first_line = number;
+      actions = rest.actions;
+      ending = rest.ending;
+    }
 
 -- the table has no place for the key's text, or for the sequence
 abbrev pub refuses_single : Table → ℕ → Bool
@@ -77,8 +85,10 @@ refuses_entry t keys = clashes t keys || length t.entries == 4096
 
 -- the table with what the line says of keys, where it has a place for it
 abbrev pub with_entry_of : Table → Line → Option Table
-with_entry_of t (lines.Single key text) = if refuses_single t key then None else Some (with_single (single key text) t)
-with_entry_of t (lines.Compose text keys) = if refuses_entry t keys then None else Some (with_entry (entry text keys) t)
+with_entry_of t (lines.Single key text) =
+    if refuses_single t key then None else Some (with_single (single key text) t)
+with_entry_of t (lines.Compose text keys) =
+    if refuses_entry t keys then None else Some (with_entry (entry text keys) t)
 with_entry_of t _ = None
 
 -- the same of bytes that may be no line
@@ -91,7 +101,8 @@ abbrev pub by_table : Table → ℕ → Option Table → (Table → Script) → 
 by_table t number None next = without_actions t (endings.BadLine number)
 by_table t number (Some with) next = next with
 
--- a line with this number before the actions: `next` reads on with a table, `play` reads the actions of so many fields
+-- a line with this number before the actions: `next` reads on with a table, `play` reads the
+-- actions of so many fields
 abbrev pub by_entry : Table → ℕ → Option Line → (Table → Script) → (ℕ → Rest) → Script
 by_entry t number None next play = without_actions t (endings.BadLine number)
 by_entry t number (Some (lines.Fields n)) next play = with_actions t n (number + 1) (play n)
@@ -101,7 +112,8 @@ by_entry t number (Some line) next play = by_table t number (with_entry_of t lin
 unfoldable pub script_from : Table → ℕ → List (List ℕ) → Script
 script_from t number [] = without_actions t (endings.Unended number)
 script_from t number (raw ∷ more) =
-    by_entry t number (line_of raw) (λ with. script_from with (number + 1) more) (λ n. actions_of n (number + 1) more)
+    by_entry t number (line_of raw) (λ with. script_from with (number + 1) more)
+    (λ n. actions_of n (number + 1) more)
 
 -- the lines after the first, which has to be a header
 abbrev pub by_header : Option Line → List (List ℕ) → Script

@@ -1,4 +1,5 @@
--- The rule of the lock's table: word 0 is the lock, word 1 the length of the history, the slot has the story
+-- The rule of the lock's table: word 0 is the lock, word 1 the length of the history, the slot has
+-- the story
 use Rattle.std.specs.Prelude.{◌≡◌, ◌⊎◌, ◌+◌, ◌<◌, ◌≤◌, ℕ, Bool, true, false, List, [], ◌∷◌, length, slice_index, Option, Some}
 use mathlib.Core.Option.{none, some}
 use lib.ListN.{get_elem?}
@@ -14,7 +15,8 @@ abbrev pub bit : Bool → ℕ
 bit true = 1
 bit false = 0
 
--- the longer of the lists that a meeting met has past either no pair with a number that belonged to it
+-- the longer of the lists that a meeting met has past either no pair with a number that belonged to
+-- it
 pub record IsMet {E : Type 0} (m : Meeting E) : Type 0 where
   pub mine : HasSeen (longer m.own m.theirs) 0 m.own
   pub taken : (n : ℕ) → IsIn n m.before → HasSeen (longer m.own m.theirs) n m.own
@@ -34,7 +36,8 @@ module _ {E C : Type 0} where
   live_count (v ∷ vs) = bit v.is_live + live_count vs
 
   -- the number n was taken in by the view v: all its pairs were seen, and no live view has it
-  pub record IsTaken (next : ℕ) (h : List (ℕ × E)) (vs : List (View E C)) (v : View E C) (n : ℕ) : Type 0 where
+  pub record IsTaken (next : ℕ) (h : List (ℕ × E)) (vs : List (View E C)) (v : View E C)
+      (n : ℕ) : Type 0 where
     pub settled : HasSeen h n v.seen
     pub gone : IsLive vs n → ⊥
     pub below : n < next
@@ -55,7 +58,8 @@ module _ {E C : Type 0} where
     pub below : (j : ℕ) (v : View E C) → At vs j v → v.number < next
     pub apart : (i j : ℕ) (v w : View E C) → At vs i v → At vs j w → v.number ≡ w.number → i ≡ j
     pub made : (n : ℕ) → next ≤ n → NoneOf n h
-    pub taken : (j : ℕ) (v : View E C) → At vs j v → (n : ℕ) → IsIn n v.taken → IsTaken next h vs v n
+    pub taken : (j : ℕ) (v : View E C) → At vs j v → (n : ℕ) → IsIn n v.taken →
+        IsTaken next h vs v n
     pub first : (j : ℕ) (v : View E C) → At vs j v → v.number ≡ 0 → IsFirst next vs v
 
   -- one view holds the lock, and has seen all; the story is in its seat's hands

@@ -80,7 +80,8 @@ module _ {S E C : Type 0} where
     pub tallied : Tallied m.0
 
   -- a seat with the lock and the story x, which has played
-  pub record Ready (history : S → List (ℕ × E)) (m : Me (Option S) (View E C)) (x : S) (grew : Bool) : Type 0 where
+  pub record Ready (history : S → List (ℕ × E)) (m : Me (Option S) (View E C)) (x : S)
+      (grew : Bool) : Type 0 where
     pub hands : m.1 ≡ (0, Some x) ∷ []
     pub holds : m.0.holds ≡ true
     pub live : m.0.is_live ≡ true
@@ -88,7 +89,8 @@ module _ {S E C : Type 0} where
     pub grown : GrownIf grew m.0.number m.0.seen (history x)
 
   -- the seat won the lock: the slot is in its hands, and it has seen all of the history
-  pub record Won (constant : S → C) (history : S → List (ℕ × E)) (m n : Me (Option S) (View E C)) : Type 0 where
+  pub record Won (constant : S → C) (history : S → List (ℕ × E))
+      (m n : Me (Option S) (View E C)) : Type 0 where
     pub story : S
     pub hands : n.1 ≡ (0, Some story) ∷ m.1
     pub view : n.0 ≡ hold m.0 true (history story)
@@ -108,17 +110,21 @@ module _ {S E C : Type 0} where
       (x : S) → m.1 ≡ (0, Some x) ∷ [] → (n.1 ≡ m.1) × (n.0 ≡ hold m.0 true (history x))
 
   -- the lock is given up, and the slot is at home
-  abbrev pub Frees : Step (Option S) → Me (Option S) (View E C) → ℕ → Me (Option S) (View E C) → Type 0
+  abbrev pub Frees : Step (Option S) → Me (Option S) (View E C) → ℕ → Me (Option S) (View E C) →
+      Type 0
   Frees step m found n = (n.1 ≡ []) × (n.0 ≡ hold m.0 false m.0.seen) × Tallied n.0
 
   -- what the lists of the last meeting have to do with each other
-  abbrev pub Learns : Step (Option S) → Me (Option S) (View E C) → ℕ → Me (Option S) (View E C) → Type 0
+  abbrev pub Learns : Step (Option S) → Me (Option S) (View E C) → ℕ → Me (Option S) (View E C) →
+      Type 0
   Learns step m found n = (n.0 ≡ m.0) × (n.1 ≡ m.1) × IsMet m.0.met × Tallied m.0
 
   -- a play of a story, and whether its history is longer by it
-  pub record Played {Call Reply : Type 0} (constant : S → C) (history : S → List (ℕ × E)) (number : Call → ℕ)
+  pub record Played {Call Reply : Type 0} (constant : S → C) (history : S → List (ℕ × E))
+      (number : Call → ℕ)
       (plays : C → List (ℕ × E) → Call → List (ℕ × E) → Call → Reply → Type 0)
-      (before : S) (call : Call) (after : S) (call' : Call) (reply : Reply) (grew : Bool) : Type 0 where
+      (before : S) (call : Call) (after : S) (call' : Call) (reply : Reply)
+      (grew : Bool) : Type 0 where
     pub same : constant after ≡ constant before
     pub rule : plays (constant before) (history before) call (history after) call' reply
     pub fits : length (history after) < 2 ^ 64

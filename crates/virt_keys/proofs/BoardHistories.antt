@@ -27,7 +27,8 @@ down_same newer older board e a = subst (λ (calls : List keyboard.Call). AreDow
 
 kept : (newer older : List Call) (label : ℕ) → SameAt newer older label → (o : Option Board)
     → IsAfter older label o → IsAfter newer label o
-kept newer older label same None s = record { peer = same.peer ∙ s.peer; keymap = same.keymap ∙ s.keymap; down = same.own ∙ s.down }
+kept newer older label same None s =
+    record { peer = same.peer ∙ s.peer; keymap = same.keymap ∙ s.keymap; down = same.own ∙ s.down }
 kept newer older label same (Some board) s = record {
   peer = same.peer ∙ s.peer;
   keymap = same.keymap ∙ s.keymap;
@@ -39,7 +40,8 @@ other_made : (calls : List Call) (b peer x : ℕ) → (x == b) ≡ false → Sam
 other_made calls b peer x e = record { peer = cond-false (x == b) _ _ e; keymap = refl; own = refl }
 
 other_dropped : (calls : List Call) (b x : ℕ) → (x == b) ≡ false → SameAt (Drop b ∷ calls) calls x
-other_dropped calls b x e = record { peer = cond-false (x == b) _ _ e; keymap = cond-false (x == b) _ _ e; own = cond-false (x == b) _ _ e }
+other_dropped calls b x e =
+    record { peer = cond-false (x == b) _ _ e; keymap = cond-false (x == b) _ _ e; own = cond-false (x == b) _ _ e }
 
 other_told : (calls : List Call) (b x : ℕ) → (x == b) ≡ false → SameAt (Keymap b ∷ calls) calls x
 other_told calls b x e = record { peer = refl; keymap = ap (λ h. h || had_keymap calls x) e; own = refl }
@@ -54,7 +56,8 @@ put_after : (call : Call) (calls : List Call) (m : Boards) (label : ℕ) (board 
     → ((x : ℕ) → (x == label) ≡ true → IsMade (call ∷ calls) x board)
     → StandsFor (call ∷ calls) (map.insert m label board)
 put_after call calls m label board s others here = record {
-  each = λ x. subst (λ (o : Option Board). IsAfter (call ∷ calls) x o) (sym (after_insert m label board x)) (at x (x == label) refl);
+  each = λ x. subst (λ (o : Option Board). IsAfter (call ∷ calls) x o) (sym (after_insert m label board x))
+      (at x (x == label) refl);
 }
   where
     at : (x : ℕ) (b : Bool) → (x == label) ≡ b → IsAfter (call ∷ calls) x (cond b (Some board) (map.get m x))
@@ -74,7 +77,8 @@ no_keys = record { keys = λ key. map.get-empty nat_cmp key; number = map.len-em
 
 pub none_after : StandsFor [] map.empty
 none_after = record {
-  each = λ x. subst (λ (o : Option Board). IsAfter [] x o) (sym (map.get-empty nat_cmp x)) (record { peer = refl; keymap = refl; down = refl });
+  each = λ x. subst (λ (o : Option Board). IsAfter [] x o) (sym (map.get-empty nat_cmp x))
+      (record { peer = refl; keymap = refl; down = refl });
 }
 
 pub made_after : (calls : List Call) (m : Boards) (label peer : ℕ) → StandsFor calls m → map.get m label ≡ None
@@ -94,42 +98,56 @@ made_after calls m label peer s fresh =
 pub dropped_after : (calls : List Call) (m : Boards) (label : ℕ) → StandsFor calls m
     → StandsFor (Drop label ∷ calls) (map.remove m label)
 dropped_after calls m label s = record {
-  each = λ x. subst (λ (o : Option Board). IsAfter (Drop label ∷ calls) x o) (sym (after_remove m label x)) (at x (x == label) refl);
+  each = λ x. subst (λ (o : Option Board). IsAfter (Drop label ∷ calls) x o) (sym (after_remove m label x))
+      (at x (x == label) refl);
 }
   where
     at : (x : ℕ) (b : Bool) → (x == label) ≡ b → IsAfter (Drop label ∷ calls) x (cond b None (map.get m x))
-    at x true e = record { peer = cond-true (x == label) _ _ e; keymap = cond-true (x == label) _ _ e; down = cond-true (x == label) _ _ e }
+    at x true e =
+        record {
+          peer = cond-true (x == label) _ _ e;
+          keymap = cond-true (x == label) _ _ e;
+          down = cond-true (x == label) _ _ e;
+        }
     at x false e = kept (Drop label ∷ calls) calls x (other_dropped calls label x e) (map.get m x) (s.each x)
 
 pub told_after : (calls : List Call) (m : Boards) (label : ℕ) (board : Board) → StandsFor calls m
     → map.get m label ≡ Some board
     → StandsFor (Keymap label ∷ calls) (map.insert m label (record board { has_keymap = true }))
 told_after calls m label board s there =
-    put_after (Keymap label) calls m label (record board { has_keymap = true }) s (λ x e. other_told calls label x e) here
+    put_after (Keymap label) calls m label (record board { has_keymap = true }) s
+    (λ x e. other_told calls label x e) here
   where
     here : (x : ℕ) → (x == label) ≡ true → IsMade (Keymap label ∷ calls) x (record board { has_keymap = true })
     here x e =
         let made : IsMade calls x board = is_made calls m x board s (ap (map.get m) (eqb-true x label e) ∙ there) in
         record { peer = made.peer; keymap = ap (λ h. h || had_keymap calls x) e; down = made.down }
 
-pub turned_after : (calls : List Call) (m : Boards) (label : ℕ) (board : Board) (key : ℕ) (pressed : Bool) (grab : Option (ℕ × ℕ)) → StandsFor calls m → map.get m label ≡ Some board
+pub turned_after : (calls : List Call) (m : Boards) (label : ℕ) (board : Board) (key : ℕ) (pressed : Bool)
+    (grab : Option (ℕ × ℕ)) → StandsFor calls m → map.get m label ≡ Some board
     → StandsFor (Key label key pressed grab ∷ calls) (map.insert m label (turned board key pressed grab))
 turned_after calls m label board key pressed grab s there =
-    put_after (Key label key pressed grab) calls m label (turned board key pressed grab) s (λ x e. other_turned calls label key pressed grab x e) here
+    put_after (Key label key pressed grab) calls m label (turned board key pressed grab) s
+    (λ x e. other_turned calls label key pressed grab x e) here
   where
     here : (x : ℕ) → (x == label) ≡ true → IsMade (Key label key pressed grab ∷ calls) x (turned board key pressed grab)
     here x e =
         let made : IsMade calls x board = is_made calls m x board s (ap (map.get m) (eqb-true x label e) ∙ there) in
-        let opened : own_calls (Key label key pressed grab ∷ calls) x ≡ keyboard.Call.Key key pressed ∷ standing_call (of_another (Some board.peer) grab) ∷ own_calls calls x =
-        cond-true (x == label) _ _ e ∙ ap (λ (p : Option ℕ). keyboard.Call.Key key pressed ∷ standing_call (of_another p grab) ∷ own_calls calls x) made.peer in
+        let opened : own_calls (Key label key pressed grab ∷ calls) x
+        ≡ keyboard.Call.Key key pressed ∷ standing_call (of_another (Some board.peer) grab) ∷ own_calls calls x =
+        cond-true (x == label) _ _ e
+        ∙ ap (λ (p : Option ℕ). keyboard.Call.Key key pressed ∷ standing_call (of_another p grab)
+        ∷ own_calls calls x) made.peer in
         record {
           peer = made.peer;
           keymap = made.keymap;
-          down = down_same _ _ (turned board key pressed grab) opened (turned_down (own_calls calls x) (of_another (Some board.peer) grab) board.down key pressed made.down);
+          down = down_same _ _ (turned board key pressed grab) opened
+              (turned_down (own_calls calls x) (of_another (Some board.peer) grab) board.down key pressed made.down);
         }
 
 -- whether there is a board that was given a keymap
-pub keymap_is : (calls : List Call) (m : Boards) (label : ℕ) → StandsFor calls m → keymap_at (map.get m label) ≡ had_keymap calls label
+pub keymap_is : (calls : List Call) (m : Boards) (label : ℕ) → StandsFor calls m →
+    keymap_at (map.get m label) ≡ had_keymap calls label
 keymap_is calls m label s = at (map.get m label) (s.each label)
   where
     at : (o : Option Board) → IsAfter calls label o → keymap_at o ≡ had_keymap calls label
@@ -137,15 +155,18 @@ keymap_is calls m label s = at (map.get m label) (s.each label)
     at (Some board) is = sym is.keymap
 
 -- where a key and modifiers of a live board go
-pub route_is : (calls : List Call) (m : Boards) (label : ℕ) (board : Board) (key : ℕ) (pressed : Bool) (grab : Option (ℕ × ℕ)) → StandsFor calls m → map.get m label ≡ Some board
+pub route_is : (calls : List Call) (m : Boards) (label : ℕ) (board : Board) (key : ℕ) (pressed : Bool)
+    (grab : Option (ℕ × ℕ)) → StandsFor calls m → map.get m label ≡ Some board
     → routed board key pressed grab ≡ key_route calls label key pressed grab
 route_is calls m label board key pressed grab s there =
     let made : IsMade calls label board = is_made calls m label board s there in
     ap (λ (p : Option ℕ). routed_by p) (sym made.peer)
-    ∙ route_down (own_calls calls label) board.down (of_another (peer_of calls label) grab) (option_map (λ g. g.0) grab) key pressed made.down
+    ∙ route_down (own_calls calls label) board.down (of_another (peer_of calls label) grab)
+    (option_map (λ g. g.0) grab) key pressed made.down
   where
     routed_by : Option ℕ → Route
-    routed_by p = routed_at (map.get board.down key) (of_another p grab) (option_map (λ g. g.0) grab) (map.len board.down) pressed
+    routed_by p =
+        routed_at (map.get board.down key) (of_another p grab) (option_map (λ g. g.0) grab) (map.len board.down) pressed
 
 pub mods_is : (calls : List Call) (m : Boards) (label : ℕ) (board : Board) (grab : Option (ℕ × ℕ))
     → StandsFor calls m → map.get m label ≡ Some board

@@ -26,7 +26,8 @@ board_at m label = map.get-from_entries nat_cmp_total m.entries label ∙ found 
 -- what a board put in, and one taken out, leave under a label
 pub after_insert : (m : Boards) (k : ℕ) (b : Board) (q : ℕ)
     → map.get (map.insert m k b) q ≡ cond (q == k) (Some b) (map.get m q)
-after_insert m k b q = map.get-insert nat_cmp_total m k b q ∙ ap (λ h. cond h (Some b) (map.get m q)) (unsigned_tied q k)
+after_insert m k b q =
+    map.get-insert nat_cmp_total m k b q ∙ ap (λ h. cond h (Some b) (map.get m q)) (unsigned_tied q k)
 
 pub after_remove : (m : Boards) (k q : ℕ) → map.get (map.remove m k) q ≡ cond (q == k) None (map.get m q)
 after_remove m k q = map.get-remove nat_cmp_total m k q ∙ ap (λ h. cond h None (map.get m q)) (unsigned_tied q k)

@@ -25,12 +25,14 @@ sifted peer (Some board) = at (board.peer == peer)
     at true = refl
     at false = refl
 
-pub peer_left : (m n : BTreeMap ℕ Board) (peer board : ℕ) → IsOrdered nat_cmp m → n.entries ≡ filter (λ e. is_other peer e.1) m.entries →
+pub peer_left : (m n : BTreeMap ℕ Board) (peer board : ℕ) → IsOrdered nat_cmp m →
+    n.entries ≡ filter (λ e. is_other peer e.1) m.entries →
     map.get (boards_of n.entries) board ≡ unless_of peer (map.get (boards_of m.entries) board)
 peer_left m n peer board ordered left =
     board_at n board
     ∙ ap (λ (es : List (ℕ × Board)). lookup (is_at (nat_cmp board)) es) left
-    ∙ lookup-filter-values (eq_by_cmp_equiv nat_cmp_total) (is_other peer) board m.entries (IsDistinct-from_sorted nat_cmp (keys_of m.entries) ordered)
+    ∙ lookup-filter-values (eq_by_cmp_equiv nat_cmp_total) (is_other peer) board m.entries
+    (IsDistinct-from_sorted nat_cmp (keys_of m.entries) ordered)
     ∙ sifted peer (lookup (is_at (nat_cmp board)) m.entries)
     ∙ ap (unless_of peer) (sym (board_at m board))
 

@@ -8,7 +8,7 @@ use Rattle.kbd_grab.specs.declared.keyboard.Route.TheVariants.{ToGrab, Pass, Now
 use Rattle.kbd_grab.specs.Keys.{Call, is_down, first_went, number_down, as_first, to_standing, told_keymap, told_repeat, told_mods}
 use Rattle.kbd_grab.specs.Keys.Call.{Key}
 use Rattle.kbd_grab.specs.Keyboard.{Keyboard, DownKeys, StandsFor, turned_at, routed_at}
-use Rattle.kbd_grab.proofs.Turns.{turned_stands}
+use Rattle.kbd_grab.proofs.KeyTurns.{turned_stands}
 use Rattle.virt_keys.specs.Routes.{standing_call}
 use Rattle.virt_keys.specs.Boards.{AreDown, IsElsewhere}
 
@@ -24,15 +24,18 @@ board_with calls opens down = record {
 
 stands_with : (calls : List Call) (opens : Option ℕ) (down : DownKeys) → AreDown calls down
     → StandsFor (standing_call opens ∷ calls) (board_with calls opens down)
-stands_with calls None down a = record { grab = refl; keys = a.keys; number = a.number; last_keymap = refl; last_repeat = refl; last_mods = refl }
-stands_with calls (Some label) down a = record { grab = refl; keys = a.keys; number = a.number; last_keymap = refl; last_repeat = refl; last_mods = refl }
+stands_with calls None down a =
+    record { grab = refl; keys = a.keys; number = a.number; last_keymap = refl; last_repeat = refl; last_mods = refl }
+stands_with calls (Some label) down a =
+    record { grab = refl; keys = a.keys; number = a.number; last_keymap = refl; last_repeat = refl; last_mods = refl }
 
 -- the keys that are down after it
 pub turned_down : (calls : List Call) (opens : Option ℕ) (down : DownKeys) (key : ℕ) (pressed : Bool)
     → AreDown calls down
     → AreDown (Key key pressed ∷ standing_call opens ∷ calls) (turned_at (map.get down key) opens down key pressed)
 turned_down calls opens down key pressed a =
-    let s = turned_stands (standing_call opens ∷ calls) (board_with calls opens down) key pressed (stands_with calls opens down a) in
+    let s = turned_stands (standing_call opens ∷ calls) (board_with calls opens down) key pressed
+    (stands_with calls opens down a) in
     record { keys = s.keys; number = s.number }
 
 -- where it goes
@@ -44,7 +47,8 @@ pub route_down : (calls : List Call) (down : DownKeys) (opens standing : Option 
     else (if nat_lt (number_down calls) 64 then to_standing opens else TooMany)))
 route_down calls down opens standing key pressed a =
     ap (λ here. routed_at here opens standing (map.len down) pressed) (a.keys key)
-    ∙ ap (λ n. routed_at (if is_down calls key then Some (first_went calls key) else None) opens standing n pressed) a.number
+    ∙ ap (λ n. routed_at (if is_down calls key then Some (first_went calls key) else None) opens standing n pressed)
+    a.number
     ∙ at (is_down calls key) pressed
   where
     at : (there pressed : Bool)

@@ -13,7 +13,8 @@ use Rattle.virt_keys.specs.Routes.{Call, peer_of, had_keymap, of_another, own_ca
 pub record Board : Type 0 where
   pub peer : ℕ
   pub has_keymap : Bool
-  -- the keys that are down, each with the grab that its first press went to, none where it passed to the shell
+  -- the keys that are down, each with the grab that its first press went to, none where it passed
+  -- to the shell
   pub down : DownKeys
 
 -- the live boards by their labels
@@ -41,14 +42,16 @@ keymap_at (Some board) = board.has_keymap
 -- where a press (true) or a release goes, while a grab with its peer stands or none
 abbrev pub routed : Board → (key : ℕ) (pressed : Bool) (grab : Option (ℕ × ℕ)) → Route
 routed board key pressed grab =
-    routed_at (map.get board.down key) (of_another (Some board.peer) grab) (option_map (λ g. g.0) grab)
+    routed_at (map.get board.down key) (of_another (Some board.peer) grab)
+    (option_map (λ g. g.0) grab)
     (map.len board.down) pressed
 
 -- the board after it
 abbrev pub turned : Board → (key : ℕ) (pressed : Bool) (grab : Option (ℕ × ℕ)) → Board
 turned board key pressed grab =
     record board {
-      down = turned_at (map.get board.down key) (of_another (Some board.peer) grab) board.down key pressed;
+      down = turned_at (map.get board.down key)
+          (of_another (Some board.peer) grab) board.down key pressed;
     }
 
 -- where modifiers go

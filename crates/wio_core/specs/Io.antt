@@ -1,4 +1,5 @@
--- What a read and a write do to the bytes that a source or a sink tells, and to its count of faults.
+-- What a read and a write do to the bytes that a source or a sink tells, and to its count of
+-- faults.
 use Rattle.std.specs.Prelude.{◌≡◌, ℕ, ◌+◌, ◌-◌, ◌^◌, ◌≤◌, min, List, length, take, Option, None}
 use Rattle.std.specs.Io.KnownBytes.{Appends, Consumes, IsAtEnd}
 
@@ -14,8 +15,10 @@ Rose before after = raised before ≤ after
 abbrev pub StaysQuiet : Option (List ℕ) → Option (List ℕ) → Type 0
 StaysQuiet before after = before ≡ None → after ≡ None
 
--- a read moved the first n bytes that were left into the front of the buffer and to the end of what was given, none only at the end
-pub record Reads (given_before given_after left_before left_after : Option (List ℕ)) (n : ℕ) (buf : List ℕ) : Type 0 where
+-- a read moved the first n bytes that were left into the front of the buffer and to the end of what
+-- was given, none only at the end
+pub record Reads (given_before given_after left_before left_after : Option (List ℕ)) (n : ℕ)
+    (buf : List ℕ) : Type 0 where
   pub within : n ≤ length buf
   pub given : Appends given_before given_after (take n buf)
   pub left : Consumes left_before left_after (take n buf)

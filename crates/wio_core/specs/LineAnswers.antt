@@ -7,8 +7,8 @@ use Rattle.wio_core.specs.declared.line_reader.LineStop.TheVariants as stop
 use Rattle.wio_core.specs.declared.line_reader.NextLine.{NextLine}
 use Rattle.wio_core.specs.declared.line_reader.NextLine.TheVariants as answer
 
--- what a reader of lines holds, how many bytes it may still take, where that has a limit, and what it answers
--- from now on, where that is settled
+-- what a reader of lines holds, how many bytes it may still take, where that has a limit, and what
+-- it answers from now on, where that is settled
 pub record LinesAhead : Type 0 where
   pub held : List ℕ
   pub room : Option ℕ
@@ -20,7 +20,8 @@ pub record WholeLine (bytes line : List ℕ) (after : LinesAhead) : Type 0 where
   pub goes_on : after.settled ≡ None
 
 -- the source ended, and its last bytes are a line without a line feed
-pub record LastLine (bytes line : List ℕ) (after : LinesAhead) (left : Option (List ℕ)) : Type 0 where
+pub record LastLine (bytes line : List ℕ) (after : LinesAhead)
+    (left : Option (List ℕ)) : Type 0 where
   pub all : bytes ≡ line
   pub some : 0 < length line
   pub cause : HasCause stop.End bytes after.room left
@@ -28,14 +29,16 @@ pub record LastLine (bytes line : List ℕ) (after : LinesAhead) (left : Option 
   pub settled : after.settled ≡ Some stop.End
 
 -- no line comes, and the cause stays
-pub record StopsBy (why : LineStop) (bytes : List ℕ) (after : LinesAhead) (left : Option (List ℕ)) : Type 0 where
+pub record StopsBy (why : LineStop) (bytes : List ℕ) (after : LinesAhead)
+    (left : Option (List ℕ)) : Type 0 where
   pub cause : HasCause why bytes after.room left
   pub held : after.held ≡ bytes
   pub settled : after.settled ≡ Some why
 
 -- the answer for bytes that were held and then read
 abbrev pub Tells : NextLine → List ℕ → LinesAhead → Option (List ℕ) → Type 0
-Tells (answer.Line line) bytes after left = WholeLine bytes line.now after ⊎ LastLine bytes line.now after left
+Tells (answer.Line line) bytes after left =
+    WholeLine bytes line.now after ⊎ LastLine bytes line.now after left
 Tells answer.End bytes after left = StopsBy stop.End bytes after left × (bytes ≡ [])
 Tells answer.Long bytes after left = StopsBy stop.Long bytes after left
 Tells answer.Limit bytes after left = StopsBy stop.Limit bytes after left
@@ -49,7 +52,8 @@ stop_of answer.Long = Some stop.Long
 stop_of answer.Limit = Some stop.Limit
 stop_of answer.ReadFault = Some stop.ReadFault
 
--- a reader that goes on took these bytes, at most 16,384 with those that it held, and answered for them
+-- a reader that goes on took these bytes, at most 16,384 with those that it held, and answered for
+-- them
 pub record GoesOn
     (before after : LinesAhead)
     (given_before given_after left_before left_after : Option (List ℕ))
@@ -61,11 +65,13 @@ pub record GoesOn
   pub tells : Tells result (before.held ++ read) after left_after
 
 -- one call: a reader whose answer is settled stays as it was and gives it again
-abbrev pub Answers : (before after : LinesAhead) (given_before given_after left_before left_after : Option (List ℕ))
+abbrev pub Answers : (before after : LinesAhead)
+    (given_before given_after left_before left_after : Option (List ℕ))
     → NextLine → Type 0
 Answers before after given_before given_after left_before left_after result =
     MatchOption before.settled
-    ((read : List ℕ) × GoesOn before after given_before given_after left_before left_after result read)
+    ((read : List ℕ)
+    × GoesOn before after given_before given_after left_before left_after result read)
     (λ why. (stop_of result ≡ Some why) × (after ≡ before))
 
 -- a failed read is counted by the source

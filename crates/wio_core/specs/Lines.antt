@@ -1,4 +1,5 @@
--- Lines among bytes: where one ends, and what a reader of lines gathers from a source. This file names no struct.
+-- Lines among bytes: where one ends, and what a reader of lines gathers from a source. This file
+-- names no struct.
 use Rattle.std.specs.Prelude.{ℕ, ◌≡◌, ◌≢◌, ◌+◌, ◌-◌, ◌<◌, ◌≤◌, List, ◌∷◌, ◌++◌, length, take, drop, Option, Some, IfSome}
 use Rattle.std.specs.List.{All}
 use Rattle.std.specs.Option.{option_map}
@@ -40,17 +41,21 @@ IsFront front.Long bytes = IsTooLong bytes
 IsFront front.Open bytes = IsOpen bytes
 
 -- reads of a source gave these bytes
-pub record TookFrom (given_before given_after left_before left_after : Option (List ℕ)) (bytes : List ℕ) : Type 0 where
+pub record TookFrom (given_before given_after left_before left_after : Option (List ℕ))
+    (bytes : List ℕ) : Type 0 where
   pub given : Appends given_before given_after bytes
   pub left : Consumes left_before left_after bytes
 
--- the bytes that were read stand behind those held, and leave as many fewer that may be taken, where that has a limit
-pub record Gathers (held_before held_after : List ℕ) (room_before room_after : Option ℕ) (bytes : List ℕ) : Type 0 where
+-- the bytes that were read stand behind those held, and leave as many fewer that may be taken,
+-- where that has a limit
+pub record Gathers (held_before held_after : List ℕ) (room_before room_after : Option ℕ)
+    (bytes : List ℕ) : Type 0 where
   pub held : held_after ≡ held_before ++ bytes
   pub room : room_after ≡ option_map (λ n. n - length bytes) room_before
   pub within : IfSome room_before (λ n. length bytes ≤ n)
 
--- why no line comes of the bytes held: the source ended where a read gave nothing, so that more might have been taken
+-- why no line comes of the bytes held: the source ended where a read gave nothing, so that more
+-- might have been taken
 abbrev pub HasCause : LineStop → List ℕ → Option ℕ → Option (List ℕ) → Type 0
 HasCause stop.End held room left = IsOpen held × IsAtEnd left × (room ≢ Some 0)
 HasCause stop.Long held room left = IsTooLong held

@@ -1,7 +1,8 @@
 -- What a contract sees of a source and of a sink in memory.
 use Rattle.std.specs.Prelude.{ℕ, List}
 
--- a source: what it gave, what is left, the most bytes of a read, the numbers of the calls that fail, and how many calls and faults it had
+-- a source: what it gave, what is left, the most bytes of a read, the numbers of the calls that
+-- fail, and how many calls and faults it had
 pub record SourceInMemory : Type 0 where
   pub given : List ℕ
   pub left : List ℕ
@@ -10,7 +11,8 @@ pub record SourceInMemory : Type 0 where
   pub calls : ℕ
   pub faults : ℕ
 
--- a sink: what it holds, how many bytes it has room for, the numbers of the calls that fail, and how many calls and faults it had
+-- a sink: what it holds, how many bytes it has room for, the numbers of the calls that fail, and
+-- how many calls and faults it had
 pub record SinkInMemory : Type 0 where
   pub held : List ℕ
   pub room : ℕ

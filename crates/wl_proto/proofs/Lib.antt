@@ -1,6 +1,6 @@
 pub mod TableLemmas
-pub mod Writes
-pub mod Values
-pub mod Messages
+pub mod WrittenIsSpelled
+pub mod ValuesReadBack
+pub mod MessagesReadBack
 pub mod EachRow
-pub mod Whole
+pub mod WrittenIsWhole

@@ -20,7 +20,9 @@ values_of (v ∷ vs) = value_of v ∷ values_of vs
 
 -- the buffer after the writer put a message into it, part by part
 unfoldable pub out_after : ℕ → ℕ → List Value → List ℕ → List ℕ
-out_after receiver opcode vs out = ((([] ++ word_bytes receiver) ++ word_bytes (65536 * (8 + values_len vs) + opcode)) ++ spelling vs) ++ drop (values_len vs) (drop 4 (drop 4 out))
+out_after receiver opcode vs out =
+    ((([] ++ word_bytes receiver) ++ word_bytes (65536 * (8 + values_len vs) + opcode))
+    ++ spelling vs) ++ drop (values_len vs) (drop 4 (drop 4 out))
 
 -- how many bytes a message may have that is written into the buffer
 unfoldable pub most : List ℕ → ℕ
@@ -28,7 +30,8 @@ most out = min 4096 (length out)
 
 -- what the writer says, and the buffer, after it wrote a message
 unfoldable pub put_result : ℕ → ℕ → List Value → List ℕ → ℕ × List ℕ
-put_result receiver opcode vs out = (8 + values_len vs, row_bytes receiver opcode vs ++ drop (8 + values_len vs) out)
+put_result receiver opcode vs out =
+    (8 + values_len vs, row_bytes receiver opcode vs ++ drop (8 + values_len vs) out)
 
 -- the same of a message, put to an object of this id
 abbrev pub message_put : ℕ → Message → List ℕ → ℕ × List ℕ

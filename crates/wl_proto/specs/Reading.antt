@@ -11,7 +11,8 @@ use Rattle.wl_proto.specs.Grammar.{Value, word, signed, text, token, string_valu
 use Rattle.wl_proto.specs.Rows.{Message, message, request_kinds, event_kinds}
 
 -- what one reading gave is this
-abbrev pub Takes : {X Y : Type 0} → (X → Y) → Result X Malformed → List ℕ → Option (Y × List ℕ) → Type 0
+abbrev pub Takes : {X Y : Type 0} → (X → Y) → Result X Malformed → List ℕ → Option (Y × List ℕ) →
+    Type 0
 Takes view (Ok x) new read = read ≡ Some (view x, new)
 Takes view (Err e) new read = read ≡ None
 
@@ -42,7 +43,8 @@ value_at tokens Descriptor bytes = first_of tokens >>= (λ t. Some (token t, byt
 -- arguments of these kinds, and nothing after them
 abbrev pub values_at : List ℕ → List Kind → List ℕ → Option (List Value)
 values_at tokens [] bytes = if length bytes == 0 then Some [] else None
-values_at tokens (k ∷ ks) bytes = value_at tokens k bytes >>= (λ v. values_at tokens ks v.1 >>= (λ vs. Some (v.0 ∷ vs)))
+values_at tokens (k ∷ ks) bytes =
+    value_at tokens k bytes >>= (λ v. values_at tokens ks v.1 >>= (λ vs. Some (v.0 ∷ vs)))
 
 -- a message of the row, or none of it
 abbrev pub all_read : Interface → ℕ → Option (List Value) → Result Message Refuse

@@ -27,7 +27,9 @@ IsSpelled _ _ bytes = ⊥
 -- the body is a spelling of these values of these kinds
 abbrev pub Spelled : List Kind → List Value → List ℕ → Type 0
 Spelled [] [] bytes = bytes ≡ []
-Spelled (k ∷ ks) (v ∷ vs) bytes = (front : List ℕ) × (rest : List ℕ) × IsSpelled k v front × (bytes ≡ front ++ rest) × Spelled ks vs rest
+Spelled (k ∷ ks) (v ∷ vs) bytes =
+    (front : List ℕ) × (rest : List ℕ) × IsSpelled k v front × (bytes ≡ front ++ rest)
+    × Spelled ks vs rest
 Spelled _ _ bytes = ⊥
 
 -- each descriptor is the first token
@@ -83,7 +85,8 @@ HaveKinds (k ∷ ks) (v ∷ vs) = HasKind k v × HaveKinds ks vs
 HaveKinds _ _ = ⊥
 
 -- the message is of this row, and the body is a spelling of its values
-pub record IsRead (kinds : Option (List Kind)) (i : Interface) (opcode : ℕ) (tokens body : List ℕ) (m : Message) : Type 0 where
+pub record IsRead (kinds : Option (List Kind)) (i : Interface) (opcode : ℕ) (tokens body : List ℕ)
+    (m : Message) : Type 0 where
   pub interface-is : m.interface ≡ i
   pub opcode-is : m.opcode ≡ opcode
   pub row : List Kind
@@ -98,7 +101,8 @@ pub record IsMalformed (kinds : Option (List Kind)) (tokens body : List ℕ) : T
   pub none : (vs : List Value) → Spelled row vs body → AreTokens tokens vs → ⊥
 
 -- what a reader answers
-abbrev pub Answers : {X : Type 0} → (X → Message) → Option (List Kind) → Interface → ℕ → List ℕ → List ℕ → Result X Refuse → Type 0
+abbrev pub Answers : {X : Type 0} → (X → Message) → Option (List Kind) → Interface → ℕ → List ℕ →
+    List ℕ → Result X Refuse → Type 0
 Answers view kinds i opcode tokens body (Ok x) = IsRead kinds i opcode tokens body (view x)
 Answers view kinds i opcode tokens body (Err refuse.Opcode) = kinds ≡ None
 Answers view kinds i opcode tokens body (Err refuse.Malformed) = IsMalformed kinds tokens body

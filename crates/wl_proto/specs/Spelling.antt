@@ -34,7 +34,8 @@ message_len m = 8 + values_len m.values
 
 -- a message to an object: its id, size and opcode, and the body
 unfoldable pub row_bytes : ℕ → ℕ → List Value → List ℕ
-row_bytes id opcode vs = (word_bytes id ++ word_bytes (65536 * (8 + values_len vs) + opcode)) ++ spelling vs
+row_bytes id opcode vs =
+    (word_bytes id ++ word_bytes (65536 * (8 + values_len vs) + opcode)) ++ spelling vs
 
 abbrev pub message_bytes : ℕ → Message → List ℕ
 message_bytes id m = row_bytes id m.opcode m.values

@@ -3,7 +3,7 @@ use Rattle.std.proofs.Common.{◌≡◌, ℕ, zero, suc, ◌+◌, ◌≤◌, Boo
 use Rattle.std.proofs.lemmas.List.{length-take-le, drop-drop}
 use Rattle.std.proofs.lemmas.Bool.{and_parts, leb-true, le-leb, lt-leb}
 use Rattle.wl_wire.specs.Messages.{size_of, is_good, is_whole, messages_within, messages, joined, behind, bad_size_at, bad_size, IsGoodSize, IsPartial, IsBad}
-use Rattle.wl_wire.proofs.Runs.{good_is, not_good}
+use Rattle.wl_wire.proofs.MessagesHoweverCut.{good_is, not_good}
 
 -- a whole message has a header
 

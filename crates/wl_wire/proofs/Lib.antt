@@ -1,6 +1,6 @@
-pub mod Texts
-pub mod Sizes
-pub mod Gathering
-pub mod Runs
+pub mod TextsKnown
+pub mod SizeInHeader
+pub mod PiecesGathered
+pub mod MessagesHoweverCut
 pub mod FirstMessages
-pub mod Fields
+pub mod ArgumentsReadBack

@@ -7,9 +7,11 @@ use Rattle.wl_wire.specs.declared.assembler.Phase.TheVariants.{Open, Whole, Bad}
 use Rattle.wl_wire.specs.Messages.{size_of, IsMessage, IsPartial, IsBad}
 
 abbrev pub Gathers : List ℕ → List ℕ → Fed → List ℕ → Type 0
-Gathers old piece (fed.Whole used) new = (used ≤ length piece) × (new ≡ old ++ take used piece) × IsMessage new
+Gathers old piece (fed.Whole used) new =
+    (used ≤ length piece) × (new ≡ old ++ take used piece) × IsMessage new
 Gathers old piece fed.Need new = (new ≡ old ++ piece) × IsPartial new
-Gathers old piece (fed.BadSize n) new = (n ≡ size_of new) × (new ≡ take 8 (old ++ piece)) × IsBad new
+Gathers old piece (fed.BadSize n) new =
+    (n ≡ size_of new) × (new ≡ take 8 (old ++ piece)) × IsBad new
 
 abbrev pub taken_of : Fed → ℕ
 taken_of (fed.Whole used) = used

@@ -38,11 +38,14 @@ is_good n = nat_le 8 n && nat_le n 4096 && (n % 4 == 0)
 
 -- the bytes begin with a whole message of a good size
 abbrev pub is_whole : List ℕ → Bool
-is_whole bytes = nat_le 8 (length bytes) && is_good (size_of bytes) && nat_le (size_of bytes) (length bytes)
+is_whole bytes =
+    nat_le 8 (length bytes) && is_good (size_of bytes) && nat_le (size_of bytes) (length bytes)
 
 abbrev pub messages_within : ℕ → List ℕ → List (List ℕ)
 messages_within zero bytes = []
-messages_within (suc n) bytes = if is_whole bytes then take (size_of bytes) bytes ∷ messages_within n (drop (size_of bytes) bytes) else []
+messages_within (suc n) bytes =
+    if is_whole bytes
+    then take (size_of bytes) bytes ∷ messages_within n (drop (size_of bytes) bytes) else []
 
 -- the longest list of whole messages with good sizes that the bytes begin with
 unfoldable pub messages : List ℕ → List (List ℕ)
@@ -59,7 +62,8 @@ behind bytes = drop (length (joined (messages bytes))) bytes
 
 -- the bad size that the bytes begin with, where they begin with one
 abbrev pub bad_size_at : List ℕ → Option ℕ
-bad_size_at bytes = if nat_le 8 (length bytes) && not (is_good (size_of bytes)) then Some (size_of bytes) else None
+bad_size_at bytes =
+    if nat_le 8 (length bytes) && not (is_good (size_of bytes)) then Some (size_of bytes) else None
 
 -- the bad size that stands behind the whole messages, where one does
 unfoldable pub bad_size : List ℕ → Option ℕ
@@ -69,10 +73,11 @@ abbrev pub AreMessages : List (List ℕ) → Type 0
 AreMessages [] = Unit {0}
 AreMessages (m ∷ ms) = IsMessage m × AreMessages ms
 
--- `messages` in other words: the bytes begin with them, each is a message, and no list of messages that the bytes
--- begin with is longer
+-- `messages` in other words: the bytes begin with them, each is a message, and no list of messages
+-- that the bytes begin with is longer
 pub record IsLongest (bytes : List ℕ) (ms : List (List ℕ)) : Type 0 where
   pub each : AreMessages ms
   pub rest : List ℕ
   pub front : bytes ≡ joined ms ++ rest
-  pub longest : (others : List (List ℕ)) (more : List ℕ) → AreMessages others → bytes ≡ joined others ++ more → (further : List (List ℕ)) × (ms ≡ others ++ further)
+  pub longest : (others : List (List ℕ)) (more : List ℕ) → AreMessages others →
+      bytes ≡ joined others ++ more → (further : List (List ℕ)) × (ms ≡ others ++ further)

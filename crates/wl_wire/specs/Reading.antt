@@ -10,8 +10,10 @@ abbrev pub ◌>>=◌ : {A B : Type 0} → Option A → (A → Option B) → Opti
 None >>= f = None
 (Some x) >>= f = f x
 
--- what was read is what this says, and what is left is the rest; where nothing can be read all is left
-abbrev pub Reads : {X Y : Type 0} → (X → Y) → Result X Malformed → List ℕ → List ℕ → Option (Y × List ℕ) → Type 0
+-- what was read is what this says, and what is left is the rest; where nothing can be read all is
+-- left
+abbrev pub Reads : {X Y : Type 0} → (X → Y) → Result X Malformed → List ℕ → List ℕ →
+    Option (Y × List ℕ) → Type 0
 Reads view (Ok x) old new read = read ≡ Some (view x, new)
 Reads view (Err e) old new read = (read ≡ None) × (new ≡ old)
 
@@ -22,7 +24,8 @@ Gives view (Err e) read = read ≡ None
 
 -- a uint
 unfoldable pub word_at : List ℕ → Option (ℕ × List ℕ)
-word_at bytes = if nat_lt (length bytes) 4 then None else Some (from_le_bytes w32 (take 4 bytes), drop 4 bytes)
+word_at bytes =
+    if nat_lt (length bytes) 4 then None else Some (from_le_bytes w32 (take 4 bytes), drop 4 bytes)
 
 -- an int
 unfoldable pub int_at : List ℕ → Option (ℤ × List ℕ)
@@ -36,12 +39,14 @@ padded n = (n + 3) / 4 * 4
 unfoldable pub text_at : ℕ → List ℕ → Option (List ℕ × List ℕ)
 text_at len bytes =
     if nat_lt (length bytes) (padded len) then None
-    else if slice_index bytes (len - 1) == 0 && is_text (take (len - 1) bytes) then Some (take (len - 1) bytes, drop (padded len) bytes)
+    else if slice_index bytes (len - 1) == 0 && is_text (take (len - 1) bytes)
+    then Some (take (len - 1) bytes, drop (padded len) bytes)
     else None
 
 -- the string behind a word that is its length
 unfoldable pub string_behind : ℕ → List ℕ → Option (Option (List ℕ) × List ℕ)
-string_behind len bytes = if len == 0 then Some (None, bytes) else text_at len bytes >>= (λ t. Some (Some t.0, t.1))
+string_behind len bytes =
+    if len == 0 then Some (None, bytes) else text_at len bytes >>= (λ t. Some (Some t.0, t.1))
 
 -- a string
 unfoldable pub string_at : List ℕ → Option (Option (List ℕ) × List ℕ)

@@ -6,7 +6,8 @@ use Rattle.wl_wire.specs.declared.assembler.Phase.{Phase}
 use Rattle.wl_wire.specs.declared.assembler.Phase.TheVariants as phase
 use Rattle.wl_wire.specs.Messages.{size_of, IsMessage, IsPartial, IsBad, messages, bad_size, joined}
 
--- what an assembler holds: the bytes of a message that isn't whole, a whole message, or the header of a bad size
+-- what an assembler holds: the bytes of a message that isn't whole, a whole message, or the header
+-- of a bad size
 pub data Assembly : Type 0 where
   Begun : List ℕ → Assembly
   Whole : List ℕ → Assembly
@@ -72,11 +73,13 @@ pub record HasFed (stream : List ℕ) (a : Assembly) : Type 0 where
   pub whole : stream ≡ joined (messages stream) ++ rest
   pub holds : Holds a rest
 
--- a feed told exactly what all bytes fed so far have: one more message, or no more, or a bad size behind them
+-- a feed told exactly what all bytes fed so far have: one more message, or no more, or a bad size
+-- behind them
 abbrev pub FedOn : List ℕ → List ℕ → Fed → Assembly → Type 0
 FedOn stream piece (fed.Whole used) new =
     let taken = stream ++ take used piece in
-    HasFed taken new × (messages taken ≡ messages stream ++ (bytes_of new ∷ [])) × (bad_size taken ≡ None)
+    HasFed taken new × (messages taken ≡ messages stream ++ (bytes_of new ∷ []))
+    × (bad_size taken ≡ None)
 FedOn stream piece fed.Need new =
     let taken = stream ++ piece in
     HasFed taken new × (messages taken ≡ messages stream) × (bad_size taken ≡ None)

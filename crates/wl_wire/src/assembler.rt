@@ -71,7 +71,7 @@ fn fill(held: &mut Vec<u8>, target: usize, piece: &[u8]) -> usize
 }
 
 // The body of a message whose header is held.
-#[tactic(auto, using(crate::proofs::Sizes::size_stays))]
+#[tactic(auto, using(crate::proofs::SizeInHeader::size_stays))]
 fn gather_body(held: &mut Vec<u8>, piece: &[u8]) -> Fed
     requires header { 8 ≤ length held.old.items }
     requires good { IsGoodSize (size_of held.old.items) }
@@ -103,7 +103,7 @@ fn behind(used: usize, fed: Fed) -> Fed
 }
 
 // A message that isn't whole goes on: first its header, and then its body.
-#[tactic(auto, using(crate::proofs::Gathering::head_is))]
+#[tactic(auto, using(crate::proofs::PiecesGathered::head_is))]
 fn gather(held: &mut Vec<u8>, piece: &[u8]) -> Fed
     requires partial { IsPartial held.old.items }
     requires room { 4096 ≤ vec_capacity held.old }

@@ -1,6 +1,6 @@
 use Rattle.std.proofs.Common.{arith, rules, length-drop}
 use Rattle.std.proofs.lemmas.List.{take_rest}
-use Rattle.wio_core.proofs.Pieces.{Appends-take}
+use Rattle.wio_core.proofs.PiecesMove.{Appends-take}
 use Rattle.wio_core.proofs.write_all.Goals as goal
 
 pub loop-at-preserved : goal.loop-at-preserved

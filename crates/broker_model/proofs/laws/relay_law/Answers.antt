@@ -1,8 +1,8 @@
 use Rattle.broker_model.specs.Settle.{history}
-use Rattle.broker_model.proofs.Settling.{IsSettled, history_settled}
-use Rattle.broker_model.proofs.Queues.{relay_law}
-use Rattle.broker_model.proofs.Quiet.{stores_hold}
-use Rattle.broker_model.proofs.Whole.{whole_groups}
+use Rattle.broker_model.proofs.SettlingEnds.{IsSettled, history_settled}
+use Rattle.broker_model.proofs.QueuedForFields.{relay_law}
+use Rattle.broker_model.proofs.QuietStoresStay.{stores_hold}
+use Rattle.broker_model.proofs.BatchGroupsWhole.{whole_groups}
 use Rattle.broker_model.proofs.ToldToFields.{told_entering}
 use Rattle.broker_model.specs.Resolve.{resolve}
 use Rattle.broker_model.specs.Out.{act_at}

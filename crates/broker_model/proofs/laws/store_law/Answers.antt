@@ -1,7 +1,7 @@
 use Rattle.broker_model.proofs.laws.store_law.Goals as goal
-use Rattle.broker_model.proofs.Spaced.{spaced_group}
-use Rattle.broker_model.proofs.Stored.{cells_are_put, cells_are_taken}
-use Rattle.broker_model.proofs.Taken.{bytes_are_out, tokens_are_out}
+use Rattle.broker_model.proofs.TokensAreSpaced.{spaced_group}
+use Rattle.broker_model.proofs.StoresAreOut.{cells_are_put, cells_are_taken}
+use Rattle.broker_model.proofs.TakenCells.{bytes_are_out, tokens_are_out}
 
 pub returns-clause-spaced : goal.returns-clause-spaced
 returns-clause-spaced c = spaced_group

@@ -1,7 +1,7 @@
 use Rattle.broker_model.proofs.laws.table_law.Goals as goal
-use Rattle.broker_model.proofs.Tables.{found_by_id}
-use Rattle.broker_model.proofs.Labels.{found_by_label}
-use Rattle.broker_model.proofs.Counts.{counted_live}
+use Rattle.broker_model.proofs.TablesNameObjects.{found_by_id}
+use Rattle.broker_model.proofs.LabelsAreIds.{found_by_label}
+use Rattle.broker_model.proofs.TableCountsLive.{counted_live}
 
 pub returns-clause-by_id : goal.returns-clause-by_id
 returns-clause-by_id c = found_by_id

@@ -23,5 +23,6 @@ pub returns-clause-moments_are_said : goal.returns-clause-moments_are_said
 returns-clause-moments_are_said c = refl
 
 pub returns-clause-ends_have_no_author : goal.returns-clause-ends_have_no_author
-unfolding request_reading word_at int_at text_at text_behind string_behind string_at is_utf8 chars encode row_bytes text_bytes
+unfolding request_reading word_at int_at text_at text_behind string_behind string_at is_utf8 chars encode row_bytes
+    text_bytes
 returns-clause-ends_have_no_author c = refl

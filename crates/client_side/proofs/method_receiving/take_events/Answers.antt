@@ -5,7 +5,8 @@ use Rattle.client_side.proofs.EventsInTurn.{none_taken, next_front, front_wrong,
 use Rattle.client_side.proofs.method_receiving.take_events.Goals as goal
 
 pub events-init : goal.events-init
-events-init g c = (omega arith, omega (arith, c.requires), none_taken method_objects (after_event g.T.Typist.meanings) _ _)
+events-init g c =
+    (omega arith, omega (arith, c.requires), none_taken method_objects (after_event g.T.Typist.meanings) _ _)
 
 pub take_message-requires-clause-short : goal.take_message-requires-clause-short
 take_message-requires-clause-short g c = front_short _ _ _ _ _ c.in-Whole.ensures.front
@@ -13,7 +14,8 @@ take_message-requires-clause-short g c = front_short _ _ _ _ _ c.in-Whole.ensure
 pub returns-then-not-take_message-clause-wrong : goal.returns-then-not-take_message-clause-wrong
 returns-then-not-take_message-clause-wrong g c =
     let told = c.if-not-take_message.ensures in
-    front_wrong method_objects (after_event g.T.Typist.meanings) _ _ _ c.args.bytes.now _ c.events.at c.in-Whole.size _ _ _
+    front_wrong method_objects
+    (after_event g.T.Typist.meanings) _ _ _ c.args.bytes.now _ c.events.at c.in-Whole.size _ _ _
     c.events.invariant.2 c.split_at.ensures.back c.in-Whole.ensures.front told.refused told.unchanged
 
 pub events-preserved : goal.events-preserved
@@ -22,7 +24,8 @@ events-preserved g c =
     let told = c.if-not-take_message.ensures in
     let room = c.take_message.ensures.room in
     let taken =
-    next_front method_objects (after_event g.T.Typist.meanings) _ _ _ c.args.bytes.now _ c.events.at c.in-Whole.size _ _ _ _
+    next_front method_objects
+    (after_event g.T.Typist.meanings) _ _ _ c.args.bytes.now _ c.events.at c.in-Whole.size _ _ _ _
     c.events.invariant.2 c.split_at.ensures.back front told.taken.1 told.taken.2 in (
       omega (arith, front.within, c.events.invariant.0, c.split_at.ensures.back_len),
       omega (arith, front.good.0, front.within, room, c.events.invariant.1, c.split_at.ensures.back_len),

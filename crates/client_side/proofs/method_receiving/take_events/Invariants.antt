@@ -8,7 +8,8 @@ abbrev pub invariant-events : goal.invariant-events
 invariant-events g l =
     (l.at ≤ length l.bytes)
     × (1029 * (length l.bytes - l.at) ≤ l.state.room)
-    × Takes method_objects (after_event g.T.Typist.meanings) l.initial.state.state l.state.state l.bytes (drop l.at l.bytes)
+    × Takes method_objects (after_event g.T.Typist.meanings) l.initial.state.state l.state.state l.bytes
+    (drop l.at l.bytes)
 
 abbrev pub decreases-events : goal.decreases-events
 decreases-events g l = length l.initial.bytes - l.at

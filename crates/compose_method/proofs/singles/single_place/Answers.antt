@@ -2,7 +2,7 @@ use Rattle.std.proofs.Common.{arith, rules, ltb-true}
 use Rattle.std.specs.Prelude.{nat_lt}
 use Rattle.std.proofs.lemmas.Bool.{ltb-false}
 use Rattle.std.proofs.lemmas.List.Sorted.{IsPartitionPoint-from_clause}
-use Rattle.compose_method.proofs.Places.{parted_singles}
+use Rattle.compose_method.proofs.PlacesOfKeys.{parted_singles}
 use Rattle.compose_method.proofs.singles.single_place.Goals as goal
 
 pub returns-clause-before : goal.returns-clause-before

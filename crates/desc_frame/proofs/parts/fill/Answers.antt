@@ -1,6 +1,6 @@
 use Rattle.std.proofs.Common.{arith, length, ◌-◌}
 use Rattle.std.proofs.Math.Facts.{Fits-lt-pow}
-use Rattle.desc_frame.proofs.Pieces.{Gave-trans, take-filled, length-filled}
+use Rattle.desc_frame.proofs.FrameParts.{Gave-trans, take-filled, length-filled}
 use Rattle.desc_frame.proofs.parts.fill.Goals as goal
 
 pub loop-at-preserved : goal.loop-at-preserved
@@ -10,7 +10,11 @@ loop-at-preserved g c =
     let part = c.loop-at.part in
     let more = c.read_some.new.part in
     let same = c.read_some.auto.part in record {
-      within = omega (arith, told.within.1, length-filled at (length part - at) part more (omega arith) (omega arith) (omega arith));
+      within = omega (
+        arith,
+        told.within.1,
+        length-filled at (length part - at) part more (omega arith) (omega arith) (omega arith),
+      );
       gave = rw (take-filled at c.in_ok-at.field-0 (length part - at) part more (omega arith) told.within.1)
           (Gave-trans _ _ _ _ _ _ _ _ c.loop-at.invariant.gave told.moved);
       bytes = λ i. Fits-lt-pow (c.type_inv.part i);

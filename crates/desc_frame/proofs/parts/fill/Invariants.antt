@@ -8,7 +8,8 @@ use Rattle.desc_frame.proofs.parts.fill.Given as goal
 abbrev pub invariant-loop-at : goal.invariant-loop-at
 invariant-loop-at g l = record {
   within : l.at ≤ length l.part;
-  gave : Gave (g.S.Source.given l.initial.source) (g.S.Source.given l.source) (g.S.Source.left l.initial.source) (g.S.Source.left l.source) (take l.at l.part);
+  gave : Gave (g.S.Source.given l.initial.source) (g.S.Source.given l.source) (g.S.Source.left l.initial.source)
+      (g.S.Source.left l.source) (take l.at l.part);
   bytes : AreBytes l.part;
   given_quiet : StaysQuiet (g.S.Source.given l.initial.source) (g.S.Source.given l.source);
   left_quiet : StaysQuiet (g.S.Source.left l.initial.source) (g.S.Source.left l.source);

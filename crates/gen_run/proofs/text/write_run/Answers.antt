@@ -38,7 +38,8 @@ returns-in_err-page-clause-front g c =
 pub returns-in_err-write_step-clause-front : goal.returns-in_err-write_step-clause-front
 returns-in_err-write_step-clause-front g c =
     err_any c.from_residual-in_err-write_step.result _
-    (of_number c.args.number c.steps.run _ _ c.steps.invariant.run (c.in_err-write_step.ensures.front _ c.steps.invariant.writes))
+    (of_number c.args.number c.steps.run _ _ c.steps.invariant.run
+    (c.in_err-write_step.ensures.front _ c.steps.invariant.writes))
 
 pub returns-in_err-push_str-clause-front : goal.returns-in_err-push_str-clause-front
 returns-in_err-push_str-clause-front g c =

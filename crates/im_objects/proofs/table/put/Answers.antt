@@ -1,4 +1,4 @@
-use Rattle.im_objects.proofs.Trees.{inserted, put_back}
+use Rattle.im_objects.proofs.TreeIsMap.{inserted, put_back}
 use Rattle.im_objects.proofs.table.put.Goals as goal
 
 pub returns-in-Err-clause-err : goal.returns-in-Err-clause-err
@@ -8,7 +8,8 @@ returns-in-Err-clause-err c =
 
 pub returns-in-Ok-clause-under : goal.returns-in-Ok-clause-under
 returns-in-Ok-clause-under c =
-    inserted c.args.objects.now c.insert.new.self c.args.id (c.args.interface, c.args.label) c.in_ok-insert.ensures.updates
+    inserted c.args.objects.now c.insert.new.self c.args.id
+    (c.args.interface, c.args.label) c.in_ok-insert.ensures.updates
 
 pub returns-in-Ok-clause-labelled : goal.returns-in-Ok-clause-labelled
 returns-in-Ok-clause-labelled c =

@@ -9,5 +9,6 @@ use Rattle.kbd_grab.proofs.down.find_down.Goals as goal
 pub returns : goal.returns
 returns c =
     let found : option_map (λ x. x.now) c.find.result ≡ find (λ d. d.key == c.args.key) c.args.down.now =
-    find_from_yields_List (λ d. d.key == c.args.key) _ _ c.find.result c.find.ensures.ran (YieldsList-from_slice c.args.down.now (cc)) (λ x b q k. search (rules, tests)) in
+    find_from_yields_List (λ d. d.key == c.args.key) _ _ c.find.result c.find.ensures.ran
+    (YieldsList-from_slice c.args.down.now (cc)) (λ x b q k. search (rules, tests)) in
     ap (option_map (λ d. d.went)) (c.copied.ensures ∙ found) ∙ sym (get-keys_of c.args.down.now c.args.key)

@@ -7,7 +7,8 @@ use Rattle.kbd_grab.proofs.DownLists.{keys_of-push, each_once-push}
 use Rattle.kbd_grab.proofs.down.press.Goals as goal
 
 -- the push has room, so it pushes
-pushed : (c : goal.After-to_standing) → c.push.new.self.items ≡ c.args.down.now.items ++ record { key = c.args.key; went = c.args.opens } ∷ []
+pushed : (c : goal.After-to_standing) →
+    c.push.new.self.items ≡ c.args.down.now.items ++ record { key = c.args.key; went = c.args.opens } ∷ []
 pushed c =
     let room : vec_len c.args.down.now < vec_capacity c.args.down.now = omega arith in
     c.push.ensures.items ∙ cond-true (is_ok c.push.result) _ _ (c.push.ensures.succeeds room)
@@ -25,10 +26,12 @@ returns-then-len-lt-KEYS_DOWN-clause-keys c =
 
 pub returns-then-len-lt-KEYS_DOWN-clause-tidy : goal.returns-then-len-lt-KEYS_DOWN-clause-tidy
 returns-then-len-lt-KEYS_DOWN-clause-tidy c =
-    let one_more : length c.push.new.self.items ≡ length c.args.down.now.items + 1 = ap length (pushed c) ∙ simp length-append (omega arith) in
+    let one_more : length c.push.new.self.items ≡ length c.args.down.now.items + 1 =
+    ap length (pushed c) ∙ simp length-append (omega arith) in
     record {
       each_once = ap (λ items. map.len (keys_of items)) (pushed c)
-          ∙ each_once-push c.args.down.now.items (record { key = c.args.key; went = c.args.opens }) c.requires.up c.requires.tidy.each_once
+          ∙ each_once-push c.args.down.now.items
+          (record { key = c.args.key; went = c.args.opens }) c.requires.up c.requires.tidy.each_once
           ∙ sym one_more;
       few = omega (arith, few c);
       room = omega arith;

@@ -7,7 +7,8 @@ use Rattle.kbd_grab.specs.DownList.{keys_of}
 use Rattle.kbd_grab.proofs.DownLists.{keys_of-filter, each_once-filter}
 use Rattle.kbd_grab.proofs.down.release.Goals as goal
 
-others : (c : goal.After-retain) → c.retain.new.self.items ≡ filter (λ d. not (d.key == c.args.key)) c.args.down.now.items
+others : (c : goal.After-retain) →
+    c.retain.new.self.items ≡ filter (λ d. not (d.key == c.args.key)) c.args.down.now.items
 others c = filter_same _ _ _ (λ x b f' k. search rules) _ _ c.retain.ensures.filtered
 
 pub returns-clause-keys : goal.returns-clause-keys

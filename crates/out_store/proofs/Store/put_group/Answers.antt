@@ -11,7 +11,9 @@ returns-then-group-capacity-clause-fits c =
 
 pub add_begins-requires : goal.add_begins-requires
 add_begins-requires c = record {
-  room = tokens-fit c.self.inside.front (length c.self.inside.bytes.items) (length c.args.group.now) c.self.inside.bytes.capacity c.self.inside.begins.capacity c.self.inside.begins.items c.args.tokens.now
+  room = tokens-fit c.self.inside.front (length c.self.inside.bytes.items)
+      (length c.args.group.now) c.self.inside.bytes.capacity c.self.inside.begins.capacity c.self.inside.begins.items
+      c.args.tokens.now
       c.self.invariant.0 c.requires (omega arith) c.self.invariant.1;
 }
 
@@ -19,7 +21,9 @@ pub invariant_of-self : goal.invariant_of-self
 invariant_of-self c =
     let whole : take c.fill_from_slice.result c.args.group.now ≡ c.args.group.now = grind (arith, common_steps) in
     rw (c.add_begins.ensures.added, c.fill_from_slice.ensures.items, whole) (
-      IsSpaced-put c.self.inside.front c.len-stored.result c.self.inside.bytes.items c.args.group.now c.self.inside.begins.items c.args.tokens.now (search rules) c.len-stored.ensures.len (omega arith) c.self.invariant.0 c.requires,
+      IsSpaced-put c.self.inside.front c.len-stored.result c.self.inside.bytes.items c.args.group.now
+          c.self.inside.begins.items c.args.tokens.now (search rules) c.len-stored.ensures.len
+          (omega arith) c.self.invariant.0 c.requires,
       c.self.invariant.1,
     )
 
@@ -31,4 +35,6 @@ returns-clause-put c =
     let whole : take c.fill_from_slice.result c.args.group.now ≡ c.args.group.now = grind (arith, common_steps) in
     rw (c.add_begins.ensures.added, c.fill_from_slice.ensures.items, whole, ← c.self.view_is)
     (ap (λ (l : List Cell). queue l c.self.inside.bytes.capacity)
-    (cells_of-put c.self.inside.front c.len-stored.result c.self.inside.bytes.items c.args.group.now c.self.inside.begins.items c.args.tokens.now (search rules) c.len-stored.ensures.len (omega arith) c.self.invariant.0 c.requires))
+    (cells_of-put c.self.inside.front c.len-stored.result c.self.inside.bytes.items c.args.group.now
+    c.self.inside.begins.items c.args.tokens.now (search rules) c.len-stored.ensures.len
+    (omega arith) c.self.invariant.0 c.requires))

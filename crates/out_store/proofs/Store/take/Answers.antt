@@ -13,8 +13,11 @@ take_begun-count-requires c = record {
 
 pub invariant_of-self : goal.invariant_of-self
 invariant_of-self c =
-    rw (c.take_begun-count.ensures.rest, c.read_into-n.ensures.items, c.take_begun-count.ensures.count, length-drop)
-    (IsSpaced-taken c.self.inside.front c.read_into-n.result (length c.self.inside.bytes.items) c.self.inside.begins.items (search rules) c.self.invariant.0 (omega arith), c.self.invariant.1)
+    rw (c.take_begun-count.ensures.rest, c.read_into-n.ensures.items, c.take_begun-count.ensures.count, length-drop) (
+      IsSpaced-taken c.self.inside.front c.read_into-n.result
+          (length c.self.inside.bytes.items) c.self.inside.begins.items (search rules) c.self.invariant.0 (omega arith),
+      c.self.invariant.1,
+    )
 
 pub returns-clause-count : goal.returns-clause-count
 returns-clause-count c = rw (← c.self.view_is, length-cells_from) c.read_into-n.ensures.count
@@ -24,13 +27,28 @@ returns-clause-bytes c = rw (← c.self.view_is, bytes_of-take) c.read_into-n.en
 
 pub returns-clause-token_count : goal.returns-clause-token_count
 returns-clause-token_count c =
-    rw (← c.self.view_is) (c.take_begun-count.ensures.count ∙ length-tokens_of-taken c.self.inside.front c.read_into-n.result c.self.inside.bytes.items c.self.inside.begins.items c.self.invariant.0)
+    rw (← c.self.view_is)
+    (c.take_begun-count.ensures.count
+    ∙ length-tokens_of-taken c.self.inside.front c.read_into-n.result c.self.inside.bytes.items
+    c.self.inside.begins.items c.self.invariant.0)
 
 pub returns-clause-tokens : goal.returns-clause-tokens
-returns-clause-tokens c = rw (← c.self.view_is, ← tokens_of-taken c.self.inside.front c.read_into-n.result c.self.inside.bytes.items c.self.inside.begins.items c.self.invariant.0, ← c.take_begun-count.ensures.count) c.take_begun-count.ensures.tokens
+returns-clause-tokens c =
+    rw (
+      ← c.self.view_is,
+      ← tokens_of-taken c.self.inside.front c.read_into-n.result c.self.inside.bytes.items c.self.inside.begins.items
+          c.self.invariant.0,
+      ← c.take_begun-count.ensures.count,
+    ) c.take_begun-count.ensures.tokens
 
 pub returns-clause-rest : goal.returns-clause-rest
 returns-clause-rest c =
-    rw (c.take_begun-count.ensures.rest, c.read_into-n.ensures.items, c.take_begun-count.ensures.count, ← c.self.view_is)
+    rw (
+      c.take_begun-count.ensures.rest,
+      c.read_into-n.ensures.items,
+      c.take_begun-count.ensures.count,
+      ← c.self.view_is,
+    )
     (ap (λ (l : List Cell). queue l c.self.inside.bytes.capacity)
-    (cells_of-taken c.self.inside.front c.read_into-n.result c.self.inside.bytes.items c.self.inside.begins.items (search rules) c.self.invariant.0 (omega arith)))
+    (cells_of-taken c.self.inside.front c.read_into-n.result c.self.inside.bytes.items c.self.inside.begins.items
+    (search rules) c.self.invariant.0 (omega arith)))

@@ -5,4 +5,5 @@ use Rattle.out_store.proofs.begins.add_begins.Given as goal
 
 -- the first tokens are added
 abbrev pub invariant-loop-at : goal.invariant-loop-at
-invariant-loop-at l = l.ring ≡ buffer (l.initial.ring.items ++ placed l.start (take l.at-index l.tokens)) l.initial.ring.capacity
+invariant-loop-at l =
+    l.ring ≡ buffer (l.initial.ring.items ++ placed l.start (take l.at-index l.tokens)) l.initial.ring.capacity

@@ -7,7 +7,8 @@ use Rattle.out_store.proofs.begins.take_begun.Given as goal
 -- the first tokens are moved out
 abbrev pub invariant-loop-begin : goal.invariant-loop-begin
 invariant-loop-begin l = record {
-  left : l.count + begun_count l.n (offsets l.front l.ring.items) ≡ begun_count l.n (offsets l.front l.initial.ring.items);
+  left : l.count + begun_count l.n (offsets l.front l.ring.items)
+      ≡ begun_count l.n (offsets l.front l.initial.ring.items);
   ring : l.ring ≡ buffer (drop l.count l.initial.ring.items) l.initial.ring.capacity;
   out : l.out ≡ map (λ (begin : Begin). begin.token) (take l.count l.initial.ring.items) ++ drop l.count l.initial.out;
 }

@@ -21,4 +21,5 @@ returns-in-Err-clause-makes g c = inl c.in-Err.ensures.made
 
 pub returns-in-Err-clause-unread : goal.returns-in-Err-clause-unread
 returns-in-Err-clause-unread g c = λ e.
-    made-not-fault c.args.hub.now.limits c.args.pass.now c.submit_frame.new.pass _ c.in-Err.end c.in-Err.ensures.made (cc)
+    made-not-fault c.args.hub.now.limits c.args.pass.now c.submit_frame.new.pass _ c.in-Err.end c.in-Err.ensures.made
+    (cc)

@@ -9,4 +9,5 @@ pub returns-in_default-clause-made : goal.returns-in_default-clause-made
 returns-in_default-clause-made g c =
     subst (λ (es : _). MadeFirst c.args.hub.now.limits c.args.pass.now c.args.pass.now es ends.NoMemory)
     (sym (tokens-some c.args.pass.now.peer c.args.tokens.now (sym c.is_empty.ensures ∙ c.if-is_empty.false)))
-    (made-none c.args.hub.now.limits c.args.pass.now c.args.pass.now (entries.Tokens c.args.pass.now.peer c.args.tokens.now) refl)
+    (made-none c.args.hub.now.limits c.args.pass.now c.args.pass.now
+    (entries.Tokens c.args.pass.now.peer c.args.tokens.now) refl)

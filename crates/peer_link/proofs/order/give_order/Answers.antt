@@ -5,7 +5,8 @@ use Rattle.peer_link.proofs.order.give_order.Goals as goal
 
 pub returns-in-Ok-clause-ordered : goal.returns-in-Ok-clause-ordered
 returns-in-Ok-clause-ordered g c =
-    ordered c.args.hub.now.limits c.args.pass.now c.order.new.pass c.args.step.now c.in-Ok.applied c.in-Ok.ensures.pass c.in-Ok.ensures.legal
+    ordered c.args.hub.now.limits c.args.pass.now c.order.new.pass c.args.step.now c.in-Ok.applied c.in-Ok.ensures.pass
+    c.in-Ok.ensures.legal
 
 pub returns-in-Err-JournalFull-clause-refused : goal.returns-in-Err-JournalFull-clause-refused
 returns-in-Err-JournalFull-clause-refused g c =

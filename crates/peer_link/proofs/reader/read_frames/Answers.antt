@@ -1,5 +1,5 @@
 use Rattle.std.proofs.Common.{◌++◌, [], refl, sym, ap, subst, arith}
-use Rattle.wio_core.proofs.Gathered.{TookFrom-both}
+use Rattle.wio_core.proofs.ReadsTogether.{TookFrom-both}
 use Rattle.wl_wire.specs.Messages.{bad_size_at}
 use Rattle.wl_wire.specs.Streams.{Assembly, begun}
 use Rattle.hub_lock.specs.Passes.{IsOf, PeerPass}
@@ -13,7 +13,8 @@ pub returns-in-Err-clause-reads : goal.returns-in-Err-clause-reads
 returns-in-Err-clause-reads g c = (
   [],
   took-none (g.S.Source.given c.args.source.now) (g.S.Source.left c.args.source.now),
-  nothing-read c.args.hub.now.limits c.args.pass.now (g.S.Source.left c.args.source.now) (entries-none c.args.pass.now.seat c.requires.fresh),
+  nothing-read c.args.hub.now.limits c.args.pass.now (g.S.Source.left c.args.source.now)
+      (entries-none c.args.pass.now.seat c.requires.fresh),
 )
 
 pub loop-init : goal.loop-init
@@ -38,13 +39,17 @@ loop-preserved g c =
     let e = c.in_default.ensures in
     let r = e.reads in record {
       pass = pass-both c.args.pass.now c.loop.pass c.read_frame.new.pass i.pass e.pass;
-      saw = saw-both c.args.hub.now.limits c.args.pass.now.seat.seen c.loop.pass.seat.seen c.read_frame.new.pass.seat.seen i.saw e.saw;
+      saw = saw-both c.args.hub.now.limits c.args.pass.now.seat.seen c.loop.pass.seat.seen
+          c.read_frame.new.pass.seat.seen i.saw e.saw;
       reads = (
         i.reads.0 ++ r.0,
-        TookFrom-both (g.S.Source.given c.args.source.now) (g.S.Source.given c.loop.source) (g.S.Source.given c.read_frame.new.source)
-            (g.S.Source.left c.args.source.now) (g.S.Source.left c.loop.source) (g.S.Source.left c.read_frame.new.source) i.reads.0 r.0 i.reads.1 r.1,
+        TookFrom-both (g.S.Source.given c.args.source.now) (g.S.Source.given c.loop.source)
+            (g.S.Source.given c.read_frame.new.source)
+            (g.S.Source.left c.args.source.now) (g.S.Source.left c.loop.source)
+            (g.S.Source.left c.read_frame.new.source) i.reads.0 r.0 i.reads.1 r.1,
         reading-goes c.args.pass.now.peer c.loop.pass c.read_frame.new.pass i.reads.0 (begun c.loop.cutter)
-            (begun c.read_frame.new.cutter) r.0 r.2.0 (same-peer c.args.pass.now c.loop.pass i.pass) i.reads.2 r.2.1 r.2.2 r.2.3,
+            (begun c.read_frame.new.cutter) r.0 r.2.0
+            (same-peer c.args.pass.now c.loop.pass i.pass) i.reads.2 r.2.1 r.2.2 r.2.3,
       );
       good = r.2.4;
       given_quiet = λ n. e.given_quiet (i.given_quiet n);
@@ -57,15 +62,19 @@ returns-in-Err-read_frame-clause-reads g c =
     let i = c.loop.invariant in
     let r = c.in-Err-read_frame.ensures.reads in (
       i.reads.0 ++ r.0,
-      TookFrom-both (g.S.Source.given c.args.source.now) (g.S.Source.given c.loop.source) (g.S.Source.given c.read_frame.new.source)
-          (g.S.Source.left c.args.source.now) (g.S.Source.left c.loop.source) (g.S.Source.left c.read_frame.new.source) i.reads.0 r.0 i.reads.1 r.1,
-      reading-ends c.args.hub.now.limits c.args.pass.now.peer c.loop.pass c.read_frame.new.pass i.reads.0 (begun c.loop.cutter)
+      TookFrom-both (g.S.Source.given c.args.source.now) (g.S.Source.given c.loop.source)
+          (g.S.Source.given c.read_frame.new.source)
+          (g.S.Source.left c.args.source.now) (g.S.Source.left c.loop.source)
+          (g.S.Source.left c.read_frame.new.source) i.reads.0 r.0 i.reads.1 r.1,
+      reading-ends c.args.hub.now.limits c.args.pass.now.peer c.loop.pass c.read_frame.new.pass i.reads.0
+          (begun c.loop.cutter)
           (begun c.read_frame.new.cutter) r.0 (g.S.Source.left c.read_frame.new.source) c.in-Err-read_frame.end
           (same-peer c.args.pass.now c.loop.pass i.pass) c.in-Err-read_frame.ensures.pass i.reads.2 r.2,
     )
 
 pub read_frame-requires-clause-own : goal.read_frame-requires-clause-own
-read_frame-requires-clause-own g c = subst (λ (p : PeerPass). IsOf c.args.hub.now p.seat) (sym c.loop.invariant.pass) c.requires.own
+read_frame-requires-clause-own g c =
+    subst (λ (p : PeerPass). IsOf c.args.hub.now p.seat) (sym c.loop.invariant.pass) c.requires.own
 
 pub returns-in-Err-read_frame-clause-pass : goal.returns-in-Err-read_frame-clause-pass
 returns-in-Err-read_frame-clause-pass g c =

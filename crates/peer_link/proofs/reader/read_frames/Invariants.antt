@@ -14,7 +14,8 @@ invariant-loop g l = record {
   pass : l.pass ≡ pass_having_seen l.initial.pass l.pass.seat.seen;
   saw : SawMore l.hub.limits l.initial.pass.seat.seen l.pass.seat.seen;
   reads : (read : List ℕ)
-      × TookFrom (g.S.Source.given l.initial.source) (g.S.Source.given l.source) (g.S.Source.left l.initial.source) (g.S.Source.left l.source) read
+      × TookFrom (g.S.Source.given l.initial.source) (g.S.Source.given l.source) (g.S.Source.left l.initial.source)
+      (g.S.Source.left l.source) read
       × Reading l.initial.pass.peer l.pass read (begun l.cutter);
   good : bad_size_at (begun l.cutter) ≡ None;
   given_quiet : StaysQuiet (g.S.Source.given l.initial.source) (g.S.Source.given l.source);

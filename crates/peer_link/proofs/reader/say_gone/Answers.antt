@@ -16,7 +16,8 @@ returns-in-Ended-clause-reads g c = λ read left r.
 
 pub returns-in-Ok-clause-reads : goal.returns-in-Ok-clause-reads
 returns-in-Ok-clause-reads g c = λ read left r.
-    gone-said c.args.hub.now.limits c.args.pass.now c.submit_step.new.pass read left c.args.end c.submit_step.ensures.pass
+    gone-said c.args.hub.now.limits c.args.pass.now c.submit_step.new.pass read left c.args.end
+    c.submit_step.ensures.pass
     c.submit_step.ensures.saw (λ cause e. c.in_default.not-Ended cause e) c.in-Ok.ensures.made r
 
 pub returns-in-Err-clause-reads : goal.returns-in-Err-clause-reads

@@ -8,7 +8,8 @@ pub returns-in-Err-clause-law : goal.returns-in-Err-clause-law
 returns-in-Err-clause-law g c = (
   [],
   took-none (g.S.Source.given c.args.source.now) (g.S.Source.left c.args.source.now),
-  nothing-read c.args.hub.now.limits c.args.pass.now (g.S.Source.left c.args.source.now) (g.K.Sink.held c.args.sink.now) c.requires.fresh,
+  nothing-read c.args.hub.now.limits c.args.pass.now (g.S.Source.left c.args.source.now)
+      (g.K.Sink.held c.args.sink.now) c.requires.fresh,
 )
 
 pub loop-init : goal.loop-init
@@ -34,7 +35,8 @@ pub loop-preserved : goal.loop-preserved
 loop-preserved g c =
     let i = c.loop.invariant in
     let e = c.in_default.ensures in
-    let s = e.serves (g.S.Source.given c.args.source.now) (g.S.Source.left c.args.source.now) (g.K.Sink.held c.args.sink.now)
+    let s = e.serves (g.S.Source.given c.args.source.now) (g.S.Source.left c.args.source.now)
+    (g.K.Sink.held c.args.sink.now)
     i.serves.0 i.serves.1 i.serves.2 in record {
       pass = seat-both c.args.pass.now c.loop.pass c.serve_line.new.pass i.pass e.pass;
       saw = saw-both c.args.hub.now.limits c.args.pass.now.seen c.loop.pass.seen c.serve_line.new.pass.seen i.saw e.saw;
@@ -55,7 +57,8 @@ returns-in-Err-serve_line-clause-law g c =
     (g.K.Sink.held c.args.sink.now) i.serves.0 i.serves.1 i.serves.2 in (s.0, s.1, s.2)
 
 pub serve_line-requires-clause-own : goal.serve_line-requires-clause-own
-serve_line-requires-clause-own g c = subst (λ (p : PassSeat). IsOf c.args.hub.now p) (sym c.loop.invariant.pass) c.requires.own
+serve_line-requires-clause-own g c =
+    subst (λ (p : PassSeat). IsOf c.args.hub.now p) (sym c.loop.invariant.pass) c.requires.own
 
 pub returns-in-Err-serve_line-clause-pass : goal.returns-in-Err-serve_line-clause-pass
 returns-in-Err-serve_line-clause-pass g c =

@@ -13,8 +13,10 @@ invariant-loop g l = record {
   pass : l.pass ≡ having_seen l.initial.pass l.pass.seen;
   saw : SawMore l.hub.limits l.initial.pass.seen l.pass.seen;
   serves : (read : List ℕ)
-      × TookFrom (g.S.Source.given l.initial.source) (g.S.Source.given l.source) (g.S.Source.left l.initial.source) (g.S.Source.left l.source) read
-      × Serving l.hub.limits l.pass l.reader read (g.S.Source.left l.source) (g.K.Sink.held l.initial.sink) (g.K.Sink.held l.sink);
+      × TookFrom (g.S.Source.given l.initial.source) (g.S.Source.given l.source) (g.S.Source.left l.initial.source)
+      (g.S.Source.left l.source) read
+      × Serving l.hub.limits l.pass l.reader read (g.S.Source.left l.source) (g.K.Sink.held l.initial.sink)
+      (g.K.Sink.held l.sink);
   ahead : CanGoOn l.reader;
   few : steps_of l.pass < 2 ^ 32;
   given_quiet : StaysQuiet (g.S.Source.given l.initial.source) (g.S.Source.given l.source);

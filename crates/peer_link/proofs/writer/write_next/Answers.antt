@@ -5,39 +5,53 @@ use Rattle.peer_link.proofs.writer.write_next.Goals as goal
 
 pub returns-in-Ok-clause-writes_on : goal.returns-in-Ok-clause-writes_on
 returns-in-Ok-clause-writes_on g c = λ held s.
-    let m = one-more c.args.hub.now.limits c.args.pass.now c.wait_take.new.pass held (g.K.Sink.held c.args.sink.now) c.args.bytes.now c.args.tokens.now
-    c.wait_take.new.buf c.wait_take.new.tokens c.wait_take.result c.wait_take.ensures.pass c.requires.writes c.wait_take.ensures.legal
+    let m = one-more c.args.hub.now.limits c.args.pass.now c.wait_take.new.pass held
+    (g.K.Sink.held c.args.sink.now) c.args.bytes.now c.args.tokens.now
+    c.wait_take.new.buf c.wait_take.new.tokens c.wait_take.result c.wait_take.ensures.pass c.requires.writes
+    c.wait_take.ensures.legal
     c.in-Bytes.n c.in-Bytes.t c.in-Bytes.is (search rules) s in
-    wrote c.args.hub.now.limits c.args.pass.now c.wait_take.new.pass held (g.K.Sink.held c.args.sink.now) c.args.bytes.now c.args.tokens.now
-    c.wait_take.new.buf c.wait_take.new.tokens c.wait_take.result c.wait_take.ensures.pass c.requires.writes c.wait_take.ensures.legal
+    wrote c.args.hub.now.limits c.args.pass.now c.wait_take.new.pass held
+    (g.K.Sink.held c.args.sink.now) c.args.bytes.now c.args.tokens.now
+    c.wait_take.new.buf c.wait_take.new.tokens c.wait_take.result c.wait_take.ensures.pass c.requires.writes
+    c.wait_take.ensures.legal
     c.in-Bytes.n c.in-Bytes.t (g.K.Sink.held c.put.new.sink) m c.in-Ok.ensures.whole
 
 pub returns-in-Err-clause-writes_on : goal.returns-in-Err-clause-writes_on
 returns-in-Err-clause-writes_on g c = λ held s.
-    let m = one-more c.args.hub.now.limits c.args.pass.now c.wait_take.new.pass held (g.K.Sink.held c.args.sink.now) c.args.bytes.now c.args.tokens.now
-    c.wait_take.new.buf c.wait_take.new.tokens c.wait_take.result c.wait_take.ensures.pass c.requires.writes c.wait_take.ensures.legal
+    let m = one-more c.args.hub.now.limits c.args.pass.now c.wait_take.new.pass held
+    (g.K.Sink.held c.args.sink.now) c.args.bytes.now c.args.tokens.now
+    c.wait_take.new.buf c.wait_take.new.tokens c.wait_take.result c.wait_take.ensures.pass c.requires.writes
+    c.wait_take.ensures.legal
     c.in-Bytes.n c.in-Bytes.t c.in-Bytes.is (search rules) s in
-    wrote-part c.args.hub.now.limits c.args.pass.now c.wait_take.new.pass held (g.K.Sink.held c.args.sink.now) c.args.bytes.now c.args.tokens.now
-    c.wait_take.new.buf c.wait_take.new.tokens c.wait_take.result c.wait_take.ensures.pass c.requires.writes c.wait_take.ensures.legal
+    wrote-part c.args.hub.now.limits c.args.pass.now c.wait_take.new.pass held
+    (g.K.Sink.held c.args.sink.now) c.args.bytes.now c.args.tokens.now
+    c.wait_take.new.buf c.wait_take.new.tokens c.wait_take.result c.wait_take.ensures.pass c.requires.writes
+    c.wait_take.ensures.legal
     c.in-Bytes.n c.in-Bytes.t (g.K.Sink.held c.put.new.sink) c.in-Err.ensures.prefix.0 m c.in-Err.ensures.prefix.1
     c.in-Err.ensures.prefix.2
 
 pub returns-in-Closed-clause-writes_on : goal.returns-in-Closed-clause-writes_on
 returns-in-Closed-clause-writes_on g c = λ held s.
-    closes c.args.hub.now.limits c.args.pass.now c.wait_take.new.pass held (g.K.Sink.held c.args.sink.now) c.args.bytes.now c.args.tokens.now
-    c.wait_take.new.buf c.wait_take.new.tokens c.wait_take.result c.wait_take.ensures.pass c.requires.writes c.wait_take.ensures.legal
+    closes c.args.hub.now.limits c.args.pass.now c.wait_take.new.pass held
+    (g.K.Sink.held c.args.sink.now) c.args.bytes.now c.args.tokens.now
+    c.wait_take.new.buf c.wait_take.new.tokens c.wait_take.result c.wait_take.ensures.pass c.requires.writes
+    c.wait_take.ensures.legal
     c.in-Closed.is s
 
 pub returns-in-JournalFull-clause-writes_on : goal.returns-in-JournalFull-clause-writes_on
 returns-in-JournalFull-clause-writes_on g c = λ held s.
-    fills c.args.hub.now.limits c.args.pass.now c.wait_take.new.pass held (g.K.Sink.held c.args.sink.now) c.args.bytes.now c.args.tokens.now
-    c.wait_take.new.buf c.wait_take.new.tokens c.wait_take.result c.wait_take.ensures.pass c.requires.writes c.wait_take.ensures.legal
+    fills c.args.hub.now.limits c.args.pass.now c.wait_take.new.pass held
+    (g.K.Sink.held c.args.sink.now) c.args.bytes.now c.args.tokens.now
+    c.wait_take.new.buf c.wait_take.new.tokens c.wait_take.result c.wait_take.ensures.pass c.requires.writes
+    c.wait_take.ensures.legal
     c.in-JournalFull.kept c.in-JournalFull.is s
 
 pub returns-in-NoMemory-clause-writes_on : goal.returns-in-NoMemory-clause-writes_on
 returns-in-NoMemory-clause-writes_on g c = λ held s.
-    lacks c.args.hub.now.limits c.args.pass.now c.wait_take.new.pass held (g.K.Sink.held c.args.sink.now) c.args.bytes.now c.args.tokens.now
-    c.wait_take.new.buf c.wait_take.new.tokens c.wait_take.result c.wait_take.ensures.pass c.requires.writes c.wait_take.ensures.legal
+    lacks c.args.hub.now.limits c.args.pass.now c.wait_take.new.pass held
+    (g.K.Sink.held c.args.sink.now) c.args.bytes.now c.args.tokens.now
+    c.wait_take.new.buf c.wait_take.new.tokens c.wait_take.result c.wait_take.ensures.pass c.requires.writes
+    c.wait_take.ensures.legal
     c.in-NoMemory.is s
 
 pub returns-in-Ok-clause-saw : goal.returns-in-Ok-clause-saw

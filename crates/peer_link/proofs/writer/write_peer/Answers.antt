@@ -16,7 +16,8 @@ loop-init g c = record {
 }
 
 pub write_next-requires-clause-own : goal.write_next-requires-clause-own
-write_next-requires-clause-own g c = subst (λ (p : PeerPass). IsOf c.args.hub.now p.seat) (sym c.loop.invariant.pass) c.requires.own
+write_next-requires-clause-own g c =
+    subst (λ (p : PeerPass). IsOf c.args.hub.now p.seat) (sym c.loop.invariant.pass) c.requires.own
 
 pub write_next-requires-clause-writes : goal.write_next-requires-clause-writes
 write_next-requires-clause-writes g c =
@@ -28,7 +29,8 @@ loop-preserved g c =
     let i = c.loop.invariant in
     let e = c.in_default.ensures in record {
       pass = pass-both c.args.pass.now c.loop.pass c.write_next.new.pass i.pass e.pass;
-      saw = saw-both c.args.hub.now.limits c.args.pass.now.seat.seen c.loop.pass.seat.seen c.write_next.new.pass.seat.seen i.saw e.saw;
+      saw = saw-both c.args.hub.now.limits c.args.pass.now.seat.seen c.loop.pass.seat.seen
+          c.write_next.new.pass.seat.seen i.saw e.saw;
       writes = e.writes_on (g.K.Sink.held c.args.sink.now) i.writes;
       quiet = λ n. e.quiet (i.quiet n);
       faults = (let a = i.faults in let b = e.never_falls in omega (arith, a, b));
@@ -40,5 +42,6 @@ returns-in-Err-clause-pass g c =
 
 pub returns-in-Err-clause-saw : goal.returns-in-Err-clause-saw
 returns-in-Err-clause-saw g c =
-    saw-both c.args.hub.now.limits c.args.pass.now.seat.seen c.loop.pass.seat.seen c.write_next.new.pass.seat.seen c.loop.invariant.saw
+    saw-both c.args.hub.now.limits c.args.pass.now.seat.seen c.loop.pass.seat.seen c.write_next.new.pass.seat.seen
+    c.loop.invariant.saw
     c.in-Err.ensures.saw

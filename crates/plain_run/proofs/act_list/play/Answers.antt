@@ -1,7 +1,7 @@
 use Rattle.std.proofs.Common.{◌≡◌, ◌+◌, ◌++◌, length, ap, ◌∙◌, string_bytes}
 use Rattle.relay_model.specs.Told.{told}
 use Rattle.plain_run.specs.Transcript.{act_text}
-use Rattle.plain_run.proofs.Printed.{reached_text}
+use Rattle.plain_run.proofs.PrintedTells.{reached_text}
 use Rattle.plain_run.proofs.act_list.play.Goals as goal
 
 pub returns-clause-printed : goal.returns-clause-printed

@@ -9,7 +9,8 @@ returns-in-Err-clause-ran g c = none_ran _ g.P.Script.answer _ _ _ _ _ _
 
 pub lines-init : goal.lines-init
 lines-init g c = record {
-  going = at_first g.P.Script.answer _ _ _ _ _ c.in-Ok.reader (first_read _ _ c.in-Ok.reader c.requires.small c.in-Ok.ensures)
+  going = at_first g.P.Script.answer _ _ _ _ _ c.in-Ok.reader
+      (first_read _ _ c.in-Ok.reader c.requires.small c.in-Ok.ensures)
       c.requires.stands c.requires.holds c.requires.follows;
   reads_grow = omega arith;
   writes_grow = omega arith;

@@ -1,6 +1,6 @@
 use Rattle.std.proofs.Common.{ap, refl, inl, string_bytes, arith}
 use Rattle.plain_run.specs.declared.status.Status.TheVariants as status
-use Rattle.plain_run.proofs.Runs.{ran_all, ran_part, for_any}
+use Rattle.plain_run.proofs.RunsWrite.{ran_all, ran_part, for_any}
 use Rattle.plain_run.proofs.generated.write_counts.Goals as goal
 
 pub returns-in-Ok-write_all-clause-ran : goal.returns-in-Ok-write_all-clause-ran

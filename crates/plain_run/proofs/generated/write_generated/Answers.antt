@@ -1,7 +1,7 @@
 use Rattle.std.proofs.Common.{refl, inl, inr, Err, ap}
 use Rattle.gen_run.specs.Texts.{text_of}
 use Rattle.plain_run.specs.declared.status.Status.TheVariants as status
-use Rattle.plain_run.proofs.Runs.{ran_all, ran_part, for_any}
+use Rattle.plain_run.proofs.RunsWrite.{ran_all, ran_part, for_any}
 use Rattle.plain_run.proofs.generated.write_generated.Goals as goal
 
 pub returns-in-Ok-clause-ran : goal.returns-in-Ok-clause-ran
@@ -11,7 +11,8 @@ returns-in-Ok-clause-ran g c = λ left reads.
 pub returns-in-Err-WriteFault-clause-ran : goal.returns-in-Err-WriteFault-clause-ran
 returns-in-Err-WriteFault-clause-ran g c = λ left reads.
     ran_part _ left reads reads _ _ _ _ (text_of c.args.number) status.Ok _ (for_any left _ refl)
-    c.in-Err-WriteFault.ensures.front (λ e. c.in-Err-WriteFault.ensures.cause (ap (λ x. Err x) c.in-Err-WriteFault.field-0-is)) (inl refl)
+    c.in-Err-WriteFault.ensures.front
+    (λ e. c.in-Err-WriteFault.ensures.cause (ap (λ x. Err x) c.in-Err-WriteFault.field-0-is)) (inl refl)
 
 pub returns-in-Err-NoMemory-clause-ran : goal.returns-in-Err-NoMemory-clause-ran
 returns-in-Err-NoMemory-clause-ran g c = λ left reads.

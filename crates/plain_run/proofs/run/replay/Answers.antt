@@ -1,4 +1,4 @@
-use Rattle.plain_run.proofs.Runs.{acts_ran, session_ran, migrated_ran, acts_law, session_law, migrated_law}
+use Rattle.plain_run.proofs.RunsWrite.{acts_ran, session_ran, migrated_ran, acts_law, session_law, migrated_law}
 use Rattle.plain_run.proofs.MigratedLines.{migration_begins}
 use Rattle.plain_run.proofs.ActsPlayed.{acts_begin}
 use Rattle.plain_run.proofs.SessionsPlayed.{session_begins}
@@ -32,7 +32,8 @@ returns-in-Ok-clause-line_by_line g c = λ other.
     (l.0, l.1, acts_law c.args.command _ _ _ _ c.play_input-in-Ok.result l.0 c.in-ReplayActs.is l.2)
 
 pub returns-in-Migrate-clause-ran : goal.returns-in-Migrate-clause-ran
-returns-in-Migrate-clause-ran g c = migrated_ran c.args.command _ _ _ _ _ _ _ c.play_input-in-Migrate.result c.in-Migrate.is
+returns-in-Migrate-clause-ran g c =
+    migrated_ran c.args.command _ _ _ _ _ _ _ c.play_input-in-Migrate.result c.in-Migrate.is
     c.play_input-in-Migrate.ensures.ran
 
 pub returns-in-Migrate-clause-line_by_line : goal.returns-in-Migrate-clause-line_by_line

@@ -1,18 +1,20 @@
 use Rattle.std.proofs.Common.{◌≡◌, true, sym, subst, rules}
 use Rattle.plain_run.specs.Run.{reads_nothing}
 use Rattle.plain_run.proofs.MigrationReplays.{migrates}
-use Rattle.plain_run.proofs.Runs.{front_of, decided_of, decides, other_words, law_of, law_of_none}
+use Rattle.plain_run.proofs.RunsWrite.{front_of, decided_of, decides, other_words, law_of, law_of_none}
 use Rattle.plain_run.proofs.run.run_plain.Goals as goal
 
 pub returns-in-Some-clause-exact : goal.returns-in-Some-clause-exact
 returns-in-Some-clause-exact g c = λ r w m.
-    decided_of _ _ _ _ _ _ _ _ _ _ (sym c.in-Some.ensures) c.run_task.ensures.ran (decides _ _ _ _ _ _ _ _ _ c.run_task.ensures.ran r w m)
+    decided_of _ _ _ _ _ _ _ _ _ _ (sym c.in-Some.ensures) c.run_task.ensures.ran
+    (decides _ _ _ _ _ _ _ _ _ c.run_task.ensures.ran r w m)
 
 pub returns-in-Some-clause-front : goal.returns-in-Some-clause-front
 returns-in-Some-clause-front g c = front_of _ _ _ _ _ _ _ _ _ _ (sym c.in-Some.ensures) c.run_task.ensures.ran
 
 pub returns-in-Some-clause-decided : goal.returns-in-Some-clause-decided
-returns-in-Some-clause-decided g c = λ h. decided_of _ _ _ _ _ _ _ _ _ _ (sym c.in-Some.ensures) c.run_task.ensures.ran h
+returns-in-Some-clause-decided g c =
+    λ h. decided_of _ _ _ _ _ _ _ _ _ _ (sym c.in-Some.ensures) c.run_task.ensures.ran h
 
 pub returns-in-Some-clause-unread : goal.returns-in-Some-clause-unread
 returns-in-Some-clause-unread g c = λ nothing.

@@ -1,6 +1,6 @@
 use Rattle.std.proofs.Common.{refl}
 use Rattle.plain_run.specs.declared.command.Task.TheVariants as tasks
-use Rattle.plain_run.proofs.Runs.{task_ran, task_law, no_law, must_read}
+use Rattle.plain_run.proofs.RunsWrite.{task_ran, task_law, no_law, must_read}
 use Rattle.plain_run.proofs.run.run_task.Goals as goal
 
 pub returns-in-Lines-clause-ran : goal.returns-in-Lines-clause-ran
@@ -38,4 +38,5 @@ returns-in-GenText-clause-ran g c =
     (c.write_generated.ensures.ran _ _)
 
 pub returns-in-GenText-clause-line_by_line : goal.returns-in-GenText-clause-line_by_line
-returns-in-GenText-clause-line_by_line g c = no_law c.args.task (tasks.GenText c.in-GenText.number) _ c.in-GenText.is refl
+returns-in-GenText-clause-line_by_line g c =
+    no_law c.args.task (tasks.GenText c.in-GenText.number) _ c.in-GenText.is refl

@@ -6,16 +6,22 @@ use Rattle.plain_run.specs.Session.{closed, session_of_lines}
 use Rattle.plain_run.specs.declared.session_line.Stage.{Stage}
 use Rattle.plain_run.specs.Scripts.{Played}
 use Rattle.plain_run.specs.PlayerScript.{PlayerStands, PlayerHolds}
-use Rattle.plain_run.proofs.Sessions.{asked}
+use Rattle.plain_run.proofs.SessionLines.{asked}
 use Rattle.plain_run.proofs.SessionsPlayed.{line_told_if, ended, settles}
 use Rattle.plain_run.proofs.session.play_any.Goals as goal
 
 pub play-requires : goal.play-requires
-play-requires c = record { valid = asked c.args.stage.now c.args.raw.now c.in-Play.stamp c.in-Play.line (sym c.in-Play.is ∙ c.in_ok-stamp.ensures) }
+play-requires c =
+    record {
+      valid =
+          asked c.args.stage.now c.args.raw.now c.in-Play.stamp c.in-Play.line
+          (sym c.in-Play.is ∙ c.in_ok-stamp.ensures);
+    }
 
 pub returns-in-Play : goal.returns-in-Play
 returns-in-Play c = λ done output gathered few s h.
-    subst (λ (t : Stage). IfOk c.play.result (Played session_of_lines (PlayerStands t c.play.new.player (c.args.before + 1))
+    subst (λ (t : Stage). IfOk c.play.result
+    (Played session_of_lines (PlayerStands t c.play.new.player (c.args.before + 1))
     (PlayerHolds c.play.new.player c.play.new.printer) done c.args.raw.now output gathered)) (sym c.after.ensures)
     (line_told_if c.args.stage.now c.args.player.now c.play.new.player c.args.printer.now c.play.new.printer
     c.in-Play.stamp c.in-Play.line c.args.before done c.args.raw.now output gathered c.play.result s h
@@ -23,9 +29,11 @@ returns-in-Play c = λ done output gathered few s h.
 
 pub returns-in-End : goal.returns-in-End
 returns-in-End c = λ done output gathered few s h.
-    ended (PlayerStands c.args.stage.now c.args.player.now (c.args.before + 1)) c.args.player.now c.args.printer.now done c.args.raw.now
+    ended (PlayerStands c.args.stage.now c.args.player.now (c.args.before + 1)) c.args.player.now c.args.printer.now
+    done c.args.raw.now
     output gathered (last.End c.entries.result) h
-    (settles c.args.stage.now c.args.player.now c.args.before done output c.args.raw.now meaning.End (last.End c.entries.result) s
+    (settles c.args.stage.now c.args.player.now c.args.before done output c.args.raw.now meaning.End
+    (last.End c.entries.result) s
     (sym c.in-End.is ∙ c.in_ok-stamp.ensures)
     (λ rest. ap (λ n. closed c.args.player.now.limits c.args.player.now.play (ending (last.End n)))
     (sym c.entries.ensures.number)) refl)
@@ -33,7 +41,8 @@ returns-in-End c = λ done output gathered few s h.
 pub returns-in-Bad : goal.returns-in-Bad
 returns-in-Bad c = λ done output gathered few s h.
     let next : c.args.before + 1 ≡ c.saturating_add.result = omega (arith, s.count, c.saturating_add.ensures) in
-    ended (PlayerStands c.args.stage.now c.args.player.now (c.args.before + 1)) c.args.player.now c.args.printer.now done c.args.raw.now
+    ended (PlayerStands c.args.stage.now c.args.player.now (c.args.before + 1)) c.args.player.now c.args.printer.now
+    done c.args.raw.now
     output gathered (last.Bad c.saturating_add.result) h
     (settles c.args.stage.now c.args.player.now c.args.before done output c.args.raw.now meaning.Bad
     (last.Bad c.saturating_add.result) s (sym c.in-Bad.is ∙ c.in_ok-stamp.ensures)

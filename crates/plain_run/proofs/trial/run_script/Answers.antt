@@ -2,14 +2,15 @@ use Rattle.std.proofs.Common.{◌∙◌, ap, ◌≡◌, eqb, length, string_byte
 use Rattle.plain_run.specs.declared.reading.TheConstants.{INPUT_LIMIT}
 use Rattle.plain_run.specs.Lines.{lines_of}
 use Rattle.plain_run.specs.Trials.{trial_lines}
-use Rattle.plain_run.proofs.Runs.{script_is, ran_all, ran_part}
+use Rattle.plain_run.proofs.RunsWrite.{script_is, ran_all, ran_part}
 use Rattle.plain_run.proofs.trial.run_script.Goals as goal
 
 pub returns-in-Ok-write_all-clause-ran : goal.returns-in-Ok-write_all-clause-ran
 returns-in-Ok-write_all-clause-ran g c =
     let size : c.len.result ≡ length c.in-Ok.bytes.items = omega (arith, c.in-Ok.bytes.ok.0, c.len.ensures) in
     let told = c.in-Ok-trial_output.ensures.answer
-    ∙ ap (λ b. trial_lines (eqb c.len.result INPUT_LIMIT) (lines_of (eqb c.len.result INPUT_LIMIT) b)) c.deref.ensures.value in
+    ∙ ap (λ b. trial_lines (eqb c.len.result INPUT_LIMIT) (lines_of (eqb c.len.result INPUT_LIMIT) b))
+    c.deref.ensures.value in
     let is = script_is (g.S.Source.left c.args.input.now) c.in-Ok.bytes.items
     (string_bytes c.in-Ok-trial_output.answer.0, c.in-Ok-trial_output.answer.1) (eqb c.len.result INPUT_LIMIT)
     (ap (λ n. eqb n INPUT_LIMIT) size) c.in-Ok.ensures.all told in
@@ -20,7 +21,8 @@ pub returns-clause-ran : goal.returns-clause-ran
 returns-clause-ran g c =
     let size : c.len.result ≡ length c.in-Ok.bytes.items = omega (arith, c.in-Ok.bytes.ok.0, c.len.ensures) in
     let told = c.in-Ok-trial_output.ensures.answer
-    ∙ ap (λ b. trial_lines (eqb c.len.result INPUT_LIMIT) (lines_of (eqb c.len.result INPUT_LIMIT) b)) c.deref.ensures.value in
+    ∙ ap (λ b. trial_lines (eqb c.len.result INPUT_LIMIT) (lines_of (eqb c.len.result INPUT_LIMIT) b))
+    c.deref.ensures.value in
     let is = script_is (g.S.Source.left c.args.input.now) c.in-Ok.bytes.items
     (string_bytes c.in-Ok-trial_output.answer.0, c.in-Ok-trial_output.answer.1) (eqb c.len.result INPUT_LIMIT)
     (ap (λ n. eqb n INPUT_LIMIT) size) c.in-Ok.ensures.all told in

@@ -17,5 +17,6 @@ returns-in_ok-last-in-Err-BadLine c =
 pub returns-in-Err-JournalFull : goal.returns-in-Err-JournalFull
 returns-in-Err-JournalFull c =
     let h = rw c.in-Err-JournalFull.field-0-is at c.in-Err-JournalFull.ensures in
-    shown_is c.args.cut c.args.script.now (string_bytes c.in-Err-JournalFull.text) (journal_full c.in-Err-JournalFull.kept)
+    shown_is c.args.cut c.args.script.now (string_bytes c.in-Err-JournalFull.text)
+    (journal_full c.in-Err-JournalFull.kept)
     (last.Full c.in-Err-JournalFull.kept.entries) h refl

@@ -1,15 +1,25 @@
 use Rattle.std.proofs.Common.{arith, ◌≤◌, ◌≡◌, length}
 use Rattle.plain_run.specs.declared.reading.TheConstants.{INPUT_LIMIT}
-use Rattle.plain_run.proofs.Inputs.{read_to_end, read_to_limit}
+use Rattle.plain_run.proofs.InputReadToEnd.{read_to_end, read_to_limit}
 use Rattle.plain_run.proofs.whole.read_all.Goals as goal
 
 pub returns-then-n-eq0-clause-all : goal.returns-then-n-eq0-clause-all
 returns-then-n-eq0-clause-all g c =
     let told = c.in_ok-n.ensures in
-    let short : length c.read_some.new.bytes.items ≤ INPUT_LIMIT = omega (arith, c.read_some.new.bytes.ok.0, told.len, told.within, c.pieces-test.true, c.len.ensures, c.len-in-pieces.ensures) in
+    let short : length c.read_some.new.bytes.items ≤ INPUT_LIMIT =
+    omega (
+      arith,
+      c.read_some.new.bytes.ok.0,
+      told.len,
+      told.within,
+      c.pieces-test.true,
+      c.len.ensures,
+      c.len-in-pieces.ensures,
+    ) in
     read_to_end _ _ _ (told.kept _ c.pieces.invariant.read) (told.end c.if-n-eq0.true) short
 
 pub returns-clause-all : goal.returns-clause-all
 returns-clause-all g c =
-    let full : length c.pieces.input.items ≡ INPUT_LIMIT = omega (arith, c.pieces.input.ok.0, c.pieces.invariant.short, c.pieces-test.false, c.len.ensures) in
+    let full : length c.pieces.input.items ≡ INPUT_LIMIT =
+    omega (arith, c.pieces.input.ok.0, c.pieces.invariant.short, c.pieces-test.false, c.len.ensures) in
     read_to_limit _ _ _ c.pieces.invariant.read full

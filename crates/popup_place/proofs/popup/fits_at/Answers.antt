@@ -1,5 +1,5 @@
 use Rattle.std.proofs.Common.{rules}
-use Rattle.popup_place.proofs.Sums.{fits_is}
+use Rattle.popup_place.proofs.SumsFit.{fits_is}
 use Rattle.popup_place.proofs.popup.fits_at.Goals as goal
 
 pub returns-then-y-ge0 : goal.returns-then-y-ge0

@@ -1,8 +1,8 @@
 use Rattle.std.proofs.Common.{rules, ◌≡◌, ◌∙◌, ap, sym, ◌+ℤ◌, ◌-ℤ◌, FitsSigned, w64}
 use Rattle.std.specs.Int.{w32}
 use Rattle.popup_place.specs.Popup.{x_of, y_of, left, top, under, above}
-use Rattle.popup_place.proofs.Sums.{made, made_is, wide, sum_is, seen_left_fits, seen_top_fits, three_sum_is, three_difference_is}
-use Rattle.popup_place.proofs.Placing.{kept_is, seen_is, y_of_sums, placed_same, within_same, fitting_same}
+use Rattle.popup_place.proofs.SumsFit.{made, made_is, wide, sum_is, seen_left_fits, seen_top_fits, three_sum_is, three_difference_is}
+use Rattle.popup_place.proofs.PlacedByRule.{kept_is, seen_is, y_of_sums, placed_same, within_same, fitting_same}
 use Rattle.popup_place.proofs.popup.place.Goals as goal
 
 pub overflow_sub-left : goal.overflow_sub-left
@@ -32,8 +32,11 @@ returns-clause-rule c =
     sum_is c.args.origin.1 c.args.rect.y origin_y rect_y in
     let x_is : c.left_edge-x.result ≡ x_of c.args.screen c.args.size (left c.args.origin c.args.rect) =
     c.left_edge-x.ensures.rule ∙ ap (x_of c.args.screen c.args.size) left_is in
-    let y_is : c.upper_edge-y.result ≡ y_of c.args.screen c.args.size (under c.args.origin c.args.rect) (above c.args.origin c.args.rect c.args.size) =
-    y_of_sums c.args.screen c.args.size c.args.origin.1 c.args.rect.y c.args.rect.height c.args.size.height c.upper_edge-y.result
+    let y_is : c.upper_edge-y.result
+    ≡ y_of c.args.screen c.args.size (under c.args.origin c.args.rect)
+    (above c.args.origin c.args.rect c.args.size) =
+    y_of_sums c.args.screen c.args.size c.args.origin.1 c.args.rect.y c.args.rect.height c.args.size.height
+    c.upper_edge-y.result
     origin_y rect_y rect_height popup_height c.upper_edge-y.ensures.rule in
     placed_same _ _ _ _ _ _ _ _ _ _ _ _
     (made_is c.left_edge-x.result x_fits ∙ x_is)
@@ -58,9 +61,12 @@ pub returns-clause-inside_in_height : goal.returns-clause-inside_in_height
 returns-clause-inside_in_height c fitting =
     let origin_y : FitsSigned w32 c.args.origin.1 = search rules in
     let rect_y : FitsSigned w32 c.args.rect.y = search rules in
-    let under_is : made (made (wide c.args.origin.1 +ℤ wide c.args.rect.y) +ℤ wide c.args.rect.height) ≡ under c.args.origin c.args.rect =
+    let under_is : made (made (wide c.args.origin.1 +ℤ wide c.args.rect.y) +ℤ wide c.args.rect.height)
+    ≡ under c.args.origin c.args.rect =
     three_sum_is c.args.origin.1 c.args.rect.y c.args.rect.height origin_y rect_y (search rules) in
-    let above_is : made (made (wide c.args.origin.1 +ℤ wide c.args.rect.y) -ℤ wide c.args.size.height) ≡ above c.args.origin c.args.rect c.args.size =
+    let above_is : made (made (wide c.args.origin.1 +ℤ wide c.args.rect.y) -ℤ wide c.args.size.height)
+    ≡ above c.args.origin c.args.rect c.args.size =
     three_difference_is c.args.origin.1 c.args.rect.y c.args.size.height origin_y rect_y (search rules) in
     within_same _ _ c.args.size.height c.args.screen.height (made_is c.upper_edge-y.result (search rules))
-    (c.upper_edge-y.ensures.inside (fitting_same c.args.screen c.args.size _ _ _ _ (sym under_is) (sym above_is) fitting))
+    (c.upper_edge-y.ensures.inside
+    (fitting_same c.args.screen c.args.size _ _ _ _ (sym under_is) (sym above_is) fitting))

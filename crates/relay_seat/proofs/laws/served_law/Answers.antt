@@ -15,13 +15,19 @@ returns-clause-taken c = λ old new log handed act number takes s. record {
 }
 
 pub returns-clause-idle : goal.returns-clause-idle
-returns-clause-idle c = λ old new log handed act takes s. record { waits = s.waits; seated = (takes s.waits s.seated).1; whole = s.whole }
+returns-clause-idle c =
+    λ old new log handed act takes s. record { waits = s.waits; seated = (takes s.waits s.seated).1; whole = s.whole }
 
-seated_still : (new : Seat) (log : List Act) (waits : List Heard) (act : Act) (refusal : Refusal) → Takes new log waits act (Err refusal) → Seated new log waits
+seated_still : (new : Seat) (log : List Act) (waits : List Heard) (act : Act) (refusal : Refusal) →
+    Takes new log waits act (Err refusal) → Seated new log waits
 seated_still new log waits act NoMemory h = h
 seated_still new log waits act Full h = h.1
 seated_still new log waits act Long h = h.1
 
 pub returns-clause-refused : goal.returns-clause-refused
 returns-clause-refused c = λ old new log handed act refusal takes s.
-    record { waits = s.waits; seated = seated_still new log s.waits act refusal (takes s.waits s.seated); whole = s.whole }
+    record {
+      waits = s.waits;
+      seated = seated_still new log s.waits act refusal (takes s.waits s.seated);
+      whole = s.whole;
+    }

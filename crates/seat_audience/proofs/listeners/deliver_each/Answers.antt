@@ -2,8 +2,8 @@ use Rattle.std.proofs.Common.{ℕ, List, length, get_or, take, refl, ap, ◌∙�
 use Rattle.std.proofs.lemmas.List.{take_all}
 use Rattle.seat_audience.specs.Lives.{delivered}
 use Rattle.seat_audience.specs.Visits.{map_at, at_marked, changed_at}
-use Rattle.seat_audience.proofs.Marking.{below}
-use Rattle.seat_audience.proofs.Visiting.{map_at_length, none_visited, visited_more}
+use Rattle.seat_audience.proofs.MarkedPlaces.{below}
+use Rattle.seat_audience.proofs.VisitIsPass.{map_at_length, none_visited, visited_more}
 use Rattle.seat_audience.proofs.listeners.deliver_each.Goals as goal
 
 pub loop-place-init : goal.loop-place-init
@@ -11,15 +11,20 @@ loop-place-init c = record { items = none_visited delivered 0 c.args.peers.now.i
 
 pub deliver-requires : goal.deliver-requires
 deliver-requires c =
-    let same = map_at_length (at_marked (take c.loop-place.place-index c.args.told.now) delivered) 0 c.args.peers.now.items in
-    let within = below c.args.told.now 0 (length c.args.peers.now.items) c.loop-place.place-index 0 c.requires.within c.loop-place-test.true in
+    let same = map_at_length
+    (at_marked (take c.loop-place.place-index c.args.told.now) delivered) 0 c.args.peers.now.items in
+    let within =
+    below c.args.told.now 0
+    (length c.args.peers.now.items) c.loop-place.place-index 0 c.requires.within c.loop-place-test.true in
     record { place = rw (c.loop-place.invariant.items, same) within }
 
 pub loop-place-preserved : goal.loop-place-preserved
 loop-place-preserved c =
     record {
-      items = c.deliver.ensures.items ∙ ap (changed_at (get_or c.args.told.now c.loop-place.place-index 0) delivered) c.loop-place.invariant.items
-          ∙ visited_more delivered c.args.told.now c.args.peers.now.items c.loop-place.place-index 0 c.requires.within c.loop-place-test.true;
+      items = c.deliver.ensures.items
+          ∙ ap (changed_at (get_or c.args.told.now c.loop-place.place-index 0) delivered) c.loop-place.invariant.items
+          ∙ visited_more delivered c.args.told.now c.args.peers.now.items c.loop-place.place-index 0 c.requires.within
+          c.loop-place-test.true;
       room = c.deliver.ensures.room ∙ c.loop-place.invariant.room;
     }
 
@@ -27,6 +32,7 @@ pub returns : goal.returns
 returns c =
     record {
       items = c.loop-place.invariant.items
-          ∙ ap (λ (ms : List ℕ). map_at (at_marked ms delivered) 0 c.args.peers.now.items) (take_all c.loop-place.place-index c.args.told.now c.loop-place-test.false);
+          ∙ ap (λ (ms : List ℕ). map_at (at_marked ms delivered) 0 c.args.peers.now.items)
+          (take_all c.loop-place.place-index c.args.told.now c.loop-place-test.false);
       room = c.loop-place.invariant.room;
     }

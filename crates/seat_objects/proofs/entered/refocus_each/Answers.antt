@@ -11,6 +11,10 @@ pub loop-field-preserved : goal.loop-field-preserved
 loop-field-preserved c =
     let none : LiveField = record { peer = 0; label = 0 } in
     record {
-      items = rw (take_more c.args.fields.now c.loop-field.field-index none (omega arith), c.change.ensures.items, c.loop-field.invariant.items) (visit_more _ _ c.args.peer c.args.shelf.now.items);
+      items = rw (
+        take_more c.args.fields.now c.loop-field.field-index none (omega arith),
+        c.change.ensures.items,
+        c.loop-field.invariant.items,
+      ) (visit_more _ _ c.args.peer c.args.shelf.now.items);
       room = c.change.ensures.room ∙ c.loop-field.invariant.room;
     }

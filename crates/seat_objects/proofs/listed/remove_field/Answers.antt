@@ -14,10 +14,13 @@ returns-in-Ok-clause-items c =
     let stop = c.part_of-start.result.1 in
     let list = c.args.fields.now.items in
     let own = take (stop - start) (drop start list) in
-    let rise : LabelsRise own = subst LabelsRise (sym (part_is list c.args.field.peer start stop part)) c.requires.part in
+    let rise : LabelsRise own =
+    subst LabelsRise (sym (part_is list c.args.field.peer start stop part)) c.requires.part in
     let facts = rw c.deref-2.ensures.value at c.in-Ok.ensures in
-    let at = (searched field_label own c.args.field rise c.args.field.label (Ok c.in-Ok.at) facts.bound (facts.position (λ w. w.label) (answers_always _ _ _ (λ f a r g called. search rules)))).found in
-    let label : (d : LiveField) → (get_or own c.in-Ok.at d).label ≡ c.args.field.label = λ d. ap field_label (get_or_default own c.in-Ok.at d c.args.field at.0) ∙ at.1 in
+    let at = (searched field_label own c.args.field rise c.args.field.label (Ok c.in-Ok.at) facts.bound
+    (facts.position (λ w. w.label) (answers_always _ _ _ (λ f a r g called. search rules)))).found in
+    let label : (d : LiveField) → (get_or own c.in-Ok.at d).label ≡ c.args.field.label =
+    λ d. ap field_label (get_or_default own c.in-Ok.at d c.args.field at.0) ∙ at.1 in
     rw c.remove.ensures.items (field_removed list c.args.field start stop part c.in-Ok.at at.0 rise label)
 
 pub returns-in_default-clause-items : goal.returns-in_default-clause-items
@@ -27,7 +30,10 @@ returns-in_default-clause-items c =
     let stop = c.part_of-start.result.1 in
     let list = c.args.fields.now.items in
     let own = take (stop - start) (drop start list) in
-    let rise : LabelsRise own = subst LabelsRise (sym (part_is list c.args.field.peer start stop part)) c.requires.part in
+    let rise : LabelsRise own =
+    subst LabelsRise (sym (part_is list c.args.field.peer start stop part)) c.requires.part in
     let facts = rw c.deref-2.ensures.value at c.in_default.ensures in
-    let none = (searched field_label own c.args.field rise c.args.field.label (Err c.in_default.field-0) facts.bound (facts.position (λ w. w.label) (answers_always _ _ _ (λ f a r g called. search rules)))).absent in
-    field_absent list c.args.field start stop part (λ j d lt same. none j lt (ap field_label (get_or_default own j c.args.field d lt) ∙ same))
+    let none = (searched field_label own c.args.field rise c.args.field.label (Err c.in_default.field-0) facts.bound
+    (facts.position (λ w. w.label) (answers_always _ _ _ (λ f a r g called. search rules)))).absent in
+    field_absent list c.args.field start stop part
+    (λ j d lt same. none j lt (ap field_label (get_or_default own j c.args.field d lt) ∙ same))

@@ -5,6 +5,8 @@ use Rattle.seat_objects.proofs.listed.unlist_popup.Goals as goal
 
 pub returns-then-is_popup-clause-items : goal.returns-then-is_popup-clause-items
 returns-then-is_popup-clause-items c =
-    let left : c.retain.new.self.items ≡ filter (λ w. not (eqb w.label c.args.object.now.label)) c.args.popups.now.items = filter_same _ _ _ (λ x b f' k. search rules) _ _ c.retain.ensures.filtered in
+    let left : c.retain.new.self.items
+    ≡ filter (λ w. not (eqb w.label c.args.object.now.label)) c.args.popups.now.items =
+    filter_same _ _ _ (λ x b f' k. search rules) _ _ c.retain.ensures.filtered in
     let popup : is_popup_kind c.args.object.now.kind ≡ true = sym c.is_popup.ensures ∙ c.if-is_popup.true in
     rw popup left

@@ -5,7 +5,8 @@ use Rattle.seat_set.proofs.seat_set.play_all.Given as goal
 
 abbrev pub invariant-loop-place : goal.invariant-loop-place
 invariant-loop-place l =
-    (take l.place l.seats ++ seats_after (All l.line) (l.place + 1) (drop l.place l.seats) ≡ seats_after (All l.line) 1 l.fn.seats)
+    (take l.place l.seats ++ seats_after (All l.line) (l.place + 1) (drop l.place l.seats)
+    ≡ seats_after (All l.line) 1 l.fn.seats)
     × (string_bytes l.text ++ seats_said (All l.line) (l.place + 1) (drop l.place l.seats)
     ≡ string_bytes l.fn.text ++ seats_said (All l.line) 1 l.fn.seats)
 

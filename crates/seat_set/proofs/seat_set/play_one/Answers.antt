@@ -9,11 +9,15 @@ use Rattle.seat_set.proofs.seat_set.play_one.Goals as goal
 pub returns-clause-seats : goal.returns-clause-seats
 returns-clause-seats c =
     let n : ℕ = c.args.number - 1 in
-    elim c.play_seat.result as (λ r. OnOk r (c.play_seat.new.seat ≡ seat_after c.args.line.now (get_or c.args.seats.now n c.index-seats-number.result))
-    → OnOk r (slice_set c.args.seats.now n c.play_seat.new.seat ≡ seats_after (One c.args.number c.args.line.now) 1 c.args.seats.now)) [
+    elim c.play_seat.result as
+    (λ r. OnOk r
+    (c.play_seat.new.seat ≡ seat_after c.args.line.now (get_or c.args.seats.now n c.index-seats-number.result))
+    → OnOk r (slice_set c.args.seats.now n c.play_seat.new.seat
+    ≡ seats_after (One c.args.number c.args.line.now) 1 c.args.seats.now)) [
       | Ok x ↦ λ is.
           ap (λ (y : Seat). slice_set c.args.seats.now n y) is
-          ∙ sym (one_after c.args.number 1 n c.args.line.now c.args.seats.now _ c.index-seats-number.result (omega arith) (omega arith) refl)
+          ∙ sym (one_after c.args.number 1 n c.args.line.now c.args.seats.now _ c.index-seats-number.result
+          (omega arith) (omega arith) refl)
       | Err e ↦ λ _. tt
     ] c.play_seat.ensures.seat
 
@@ -21,11 +25,13 @@ pub returns-clause-text : goal.returns-clause-text
 returns-clause-text c =
     let n : ℕ = c.args.number - 1 in
     elim c.play_seat.result as (λ r. OnOk r (string_bytes c.play_seat.new.text
-    ≡ string_bytes c.args.text.now ++ seat_lines c.args.number (seat_said c.args.line.now (get_or c.args.seats.now n c.index-seats-number.result)))
+    ≡ string_bytes c.args.text.now
+    ++ seat_lines c.args.number (seat_said c.args.line.now (get_or c.args.seats.now n c.index-seats-number.result)))
     → OnOk r (string_bytes c.play_seat.new.text
     ≡ string_bytes c.args.text.now ++ seats_said (One c.args.number c.args.line.now) 1 c.args.seats.now)) [
       | Ok x ↦ λ is.
           is ∙ ap (λ (t : List ℕ). string_bytes c.args.text.now ++ t)
-          (sym (one_said c.args.number 1 n c.args.line.now c.args.seats.now _ c.index-seats-number.result (omega arith) (omega arith) refl))
+          (sym (one_said c.args.number 1 n c.args.line.now c.args.seats.now _ c.index-seats-number.result (omega arith)
+          (omega arith) refl))
       | Err e ↦ λ _. tt
     ] c.play_seat.ensures.text

@@ -8,4 +8,5 @@ pub returns-then-is_some-clause-text : goal.returns-then-is_some-clause-text
 returns-then-is_some-clause-text c =
     let full : is_some c.args.seat.now.full ≡ true = grind (arith, common_steps) in
     let text : List ℕ = string_bytes c.args.text.now in
-    sym (ap (λ (t : List ℕ). text ++ t) (says_nothing c.args.number c.args.line.now c.args.seat.now full) ∙ append-nil text)
+    sym (ap (λ (t : List ℕ). text ++ t) (says_nothing c.args.number c.args.line.now c.args.seat.now full)
+    ∙ append-nil text)

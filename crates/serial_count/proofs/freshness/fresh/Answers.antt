@@ -1,5 +1,5 @@
 use Rattle.std.proofs.Common.{refl, ◌∙◌}
-use Rattle.serial_count.proofs.Distances.{fresh_by_distance}
+use Rattle.serial_count.proofs.DonesAgo.{fresh_by_distance}
 use Rattle.serial_count.proofs.freshness.fresh.Goals as goal
 
 pub returns-clause-search : goal.returns-clause-search

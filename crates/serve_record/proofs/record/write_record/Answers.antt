@@ -27,7 +27,9 @@ loop-before-preserved g c =
     let before = c.loop-before.before in
     let one = c.loop-before.invariant.never_falls in
     let two = c.write_entry.ensures.never_falls in record {
-      holds = subst (Holds (g.K.Sink.held c.args.output.now) (g.K.Sink.held c.write_entry.new.output) c.write_entry.new.text.items)
+      holds = subst
+          (Holds (g.K.Sink.held c.args.output.now)
+          (g.K.Sink.held c.write_entry.new.output) c.write_entry.new.text.items)
           (text_grows session.limits journal stamps before (search rules) c.requires)
           (holds_more _ _ _ _ _ _ _ c.loop-before.invariant.holds c.in_ok-write_entry.ensures.whole);
       never_falls = omega arith;
@@ -37,7 +39,8 @@ pub returns-in_err-map_err-clause-front : goal.returns-in_err-map_err-clause-fro
 returns-in_err-map_err-clause-front g c =
     let session = c.args.session.now in
     let journal = session.journal.entries in
-    let is = text_is_front session.limits journal session.stamps.stamps (length journal - c.loop-before.before) c.requires in
+    let is = text_is_front session.limits journal session.stamps.stamps
+    (length journal - c.loop-before.before) c.requires in
     on_err _ _ (front_of _ _ _ is.0 _ (holds_front _ _ _ _ c.loop-before.invariant.holds) is.1)
 
 pub returns-in_err-write_all-clause-front : goal.returns-in_err-write_all-clause-front

@@ -40,7 +40,8 @@ returns-in-Err-start_link-clause-accepted g c =
       c.loop-letter.letter-index + 1,
       omega arith,
       doors_more (g.N.Net.links c.args.net.now) (g.N.Net.links c.loop-letter.net) (g.N.Net.links c.accept.new.self)
-          (doors_of letters) c.loop-letter.letter-index c.door_of-door.result (omega arith) is i.links c.in-Ok.ensures.link,
+          (doors_of letters) c.loop-letter.letter-index c.door_of-door.result
+          (omega arith) is i.links c.in-Ok.ensures.link,
       last_came (arc_value c.args.hub.now) c.args.root.now c.loop-letter.root c.start_link.new.root
           (g.W.Spawner.started c.args.spawner.now) (g.W.Spawner.started c.loop-letter.spawner)
           (g.W.Spawner.started c.start_link.new.spawner) (doors_of letters) c.loop-letter.letter-index
@@ -68,9 +69,12 @@ loop-letter-preserved g c =
           (g.W.Spawner.started c.args.spawner.now) (g.W.Spawner.started c.loop-letter.spawner)
           (g.W.Spawner.started c.start_link.new.spawner) (doors_of letters) c.loop-letter.letter-index
           c.door_of-door.result (omega arith) is i.started c.in_default.ensures.started;
-      links = doors_more (g.N.Net.links c.args.net.now) (g.N.Net.links c.loop-letter.net) (g.N.Net.links c.accept.new.self)
-          (doors_of letters) c.loop-letter.letter-index c.door_of-door.result (omega arith) is i.links c.in-Ok.ensures.link;
-      last = ⊎_elim (λ l. ⊎_elim (λ m. inl (l ∙ m)) (λ m. inr (l ∙ m)) i.last) (λ r. inr (r ∙ ap length i.reports)) e.last;
+      links = doors_more (g.N.Net.links c.args.net.now) (g.N.Net.links c.loop-letter.net)
+          (g.N.Net.links c.accept.new.self)
+          (doors_of letters) c.loop-letter.letter-index c.door_of-door.result
+          (omega arith) is i.links c.in-Ok.ensures.link;
+      last = ⊎_elim (λ l. ⊎_elim (λ m. inl (l ∙ m)) (λ m. inr (l ∙ m)) i.last)
+          (λ r. inr (r ∙ ap length i.reports)) e.last;
       reports = e.reports ∙ i.reports;
       opened = λ d. c.accept.ensures.stays d (i.opened d);
       never_falls = (let a = i.never_falls in let b = c.accept.ensures.never_falls in omega arith);

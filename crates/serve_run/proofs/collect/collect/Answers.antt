@@ -26,12 +26,14 @@ left g c = before_end (g.W.Spawner.started c.loop-done.spawner) (length (g.W.Spa
     c.in-Some.ensures.next
 
 next_is : (g : _) (c : After-take_result g) → slice_get (g.W.Spawner.started c.args.spawner.now)
-    (length (g.W.Spawner.reports c.args.spawner.now) + length c.loop-done.invariant.given.0) ≡ Some (done_tag c.in-Some.done)
+    (length (g.W.Spawner.reports c.args.spawner.now) + length c.loop-done.invariant.given.0)
+    ≡ Some (done_tag c.in-Some.done)
 next_is g c =
     let i = c.loop-done.invariant in
     let many = ap length i.given.1 ∙ length-append (g.W.Spawner.reports c.args.spawner.now) i.given.0 in
     ap (slice_get (g.W.Spawner.started c.args.spawner.now)) (sym many)
-    ∙ (ap (λ tags. slice_get tags (length (g.W.Spawner.reports c.loop-done.spawner))) (sym i.started) ∙ c.in-Some.ensures.next)
+    ∙ (ap (λ tags. slice_get tags (length (g.W.Spawner.reports c.loop-done.spawner))) (sym i.started)
+    ∙ c.in-Some.ensures.next)
 
 pub loop-done-init : goal.loop-done-init
 loop-done-init g c = record {
@@ -52,7 +54,8 @@ take_result-requires g c =
     let many = ap length i.given.1 ∙ length-append (g.W.Spawner.reports c.args.spawner.now) i.given.0 in record {
       root = i.root_is;
       own = c.requires.ours (length (g.W.Spawner.reports c.loop-done.spawner)) (done_tag c.in-Some.done) (omega arith)
-          (ap (λ tags. slice_get tags (length (g.W.Spawner.reports c.loop-done.spawner))) (sym i.started) ∙ c.in-Some.ensures.next);
+          (ap (λ tags. slice_get tags (length (g.W.Spawner.reports c.loop-done.spawner))) (sym i.started)
+          ∙ c.in-Some.ensures.next);
     }
 
 pub loop-done-smaller : goal.loop-done-smaller
@@ -84,12 +87,14 @@ loop-done-preserved g c =
         i.given.0 ++ report ∷ [],
         s.given ∙ (ap (λ rs. rs ++ report ∷ []) i.given.1 ∙ append_assoc before i.given.0 (report ∷ [])),
         laws_more _ _ i.given.0 report
-            (laws_kept _ c.loop-done.root.seen _ c.loop-done.root.taken i.given.0 e.back.settled i.given.3 i.given.2) e.law,
+            (laws_kept _ c.loop-done.root.seen _ c.loop-done.root.taken i.given.0 e.back.settled i.given.3 i.given.2)
+            e.law,
         subst (λ taken. AreTaken taken (i.given.0 ++ report ∷ [])) (sym e.back.taken)
             (taken_more c.loop-done.root.taken i.given.0 report i.given.3),
         c.and-trouble.ensures ∙ (ap (λ t. worse t c.trouble_of.result) i.given.4
             ∙ (ap (worse (worst i.given.0)) c.trouble_of.ensures ∙ sym (worst_more troubles.None i.given.0 report))),
-        reported_more (g.W.Spawner.started c.args.spawner.now) (length before) i.given.0 report (done_tag c.in-Some.done)
+        reported_more (g.W.Spawner.started c.args.spawner.now) (length before) i.given.0 report
+            (done_tag c.in-Some.done)
             i.given.5 (next_is g (at.loop-done-preserved g c).After-take_result) s.report,
         e.back.taken ∙ (ap (λ taken. report.number ∷ taken) i.given.6
             ∙ (sym (pushed_more (map job_reported i.given.0) (job_reported report) c.args.root.now.taken)

@@ -6,7 +6,9 @@ use Rattle.serve_run.proofs.collect.take_shell.Goals as goal
 pub returns-clause-law : goal.returns-clause-law
 returns-clause-law g c =
     let done = c.args.done in
-    ∥∥₁_map done.law (λ (law : HasOrdered done.pass (g.S.Source.given done.source) (g.S.Source.left done.source) (g.K.Sink.held done.sink) done.end). record {
+    ∥∥₁_map done.law
+    (λ (law : HasOrdered done.pass (g.S.Source.given done.source) (g.S.Source.left done.source)
+    (g.K.Sink.held done.sink) done.end). record {
       shell = done.pass;
       seat = record { number = refl; constant = c.requires.own.1; seen = c.finish.ensures.both.theirs };
       law = law;

@@ -54,7 +54,8 @@ collect-trouble-requires-clause-balance g c =
 law : (g : _) (c : After-session g) (status : ServeStatus) (held : Option (List ℕ)) (faults : ℕ)
     → (¬ (status ≡ statuses.NoMemory) → total (0 ∷ c.collect-trouble.new.root.taken) c.session.new.root.seen
     ≡ length c.session.new.root.seen)
-    → IsWritten status (g.K.Sink.held c.args.output.now) held (text_of (asked' c.args.asked.now) c.session.new.root.seen)
+    → IsWritten status (g.K.Sink.held c.args.output.now) held
+    (text_of (asked' c.args.asked.now) c.session.new.root.seen)
     → (status ≡ statuses.WriteFault → Rose (g.K.Sink.fault_count c.args.output.now) faults)
     → (status ≡ status_by c.serve_links-accepted.result (worst c.collect-trouble.ensures.given.0))
     ⊎ ((status ≡ statuses.WriteFault) ⊎ (status ≡ statuses.NoMemory))
@@ -71,7 +72,9 @@ law g c status held faults owned written write status_is =
     let hub = arc_value c.args.hub.now in
     let e = c.serve_links-accepted.ensures in
     let f = c.collect-trouble.ensures in
-    let legal = subst (λ (h : HubId). LegalCopy h.limits c.collect-trouble.new.root c.session.new.root.seen c.session.result) c.deref-2.ensures
+    let legal = subst
+    (λ (h : HubId). LegalCopy h.limits c.collect-trouble.new.root c.session.new.root.seen c.session.result)
+    c.deref-2.ensures
     c.session.ensures.legal in
     let started = f.started in
     law_of (asked' c.args.asked.now) _ _ status (record {
@@ -85,7 +88,9 @@ law g c status held faults owned written write status_is =
       within = (let many = doors_counted c.args.asked.now.order.now in let few = e.accepted.1 in omega arith);
       doors = e.accepted.2;
       accepted = c.serve_links-accepted.result;
-      links = subst (λ tags. LinksStarted hub c.args.root.now c.serve_links-accepted.new.root (g.W.Spawner.started c.args.spawner.now) tags
+      links = subst
+          (λ tags. LinksStarted hub c.args.root.now c.serve_links-accepted.new.root
+          (g.W.Spawner.started c.args.spawner.now) tags
           (doors_of c.args.asked.now.order.now) e.accepted.0 c.serve_links-accepted.result) (sym started) e.accepted.3;
       all = ok_since c.serve_links-accepted.result _ _ _ (sym (doors_counted c.args.asked.now.order.now)) e.accepted.4;
       doors_open = e.open;
@@ -97,17 +102,21 @@ law g c status held faults owned written write status_is =
       kept = f.settled;
       given = f.given.0;
       reports = f.given.1 ∙ ap (λ rs. rs ++ f.given.0) e.reports;
-      laws = subst (λ (h : HubId). HaveLaws h.limits c.collect-trouble.new.root.seen f.given.0) c.deref.ensures f.given.2;
+      laws = subst
+          (λ (h : HubId). HaveLaws h.limits c.collect-trouble.new.root.seen f.given.0) c.deref.ensures f.given.2;
       in_taken = f.given.3;
       taken = f.given.6;
       keyed = f.given.5
-          ∙ (ap (λ rs. map job_tagged (take (length f.given.0) (drop (length rs) (g.W.Spawner.started c.serve_links-accepted.new.spawner))))
+          ∙ (ap (λ rs. map job_tagged
+          (take (length f.given.0) (drop (length rs) (g.W.Spawner.started c.serve_links-accepted.new.spawner))))
           e.reports
-          ∙ ap (λ tags. map job_tagged (take (length f.given.0) (drop (length (g.W.Spawner.reports c.args.spawner.now)) tags)))
+          ∙ ap (λ tags. map job_tagged
+          (take (length f.given.0) (drop (length (g.W.Spawner.reports c.args.spawner.now)) tags)))
           (sym started));
       all_given = f.all ∙ ap length (sym started);
       history = c.session.new.root.seen;
-      copied = copied_seen hub.limits c.collect-trouble.new.root c.session.new.root.seen c.session.result f.root.zero legal;
+      copied = copied_seen hub.limits c.collect-trouble.new.root c.session.new.root.seen c.session.result f.root.zero
+          legal;
       settled = c.session.ensures.settled;
       lawful = legal.lawful_after;
       owned = owned;
@@ -130,7 +139,8 @@ returns-in-Ok g c =
     let after = c.session.new.root in record {
       law = law g (at.returns-in-Ok g c).After-session status (g.K.Sink.held c.write_session.new.output)
           (g.K.Sink.fault_count c.write_session.new.output)
-          (λ some. copied_owned _ root after c.in-Ok.session c.session.ensures.root c.in-Ok.ensures.legal (c.in-Ok.ensures.steps f.out))
+          (λ some. copied_owned _ root after c.in-Ok.session c.session.ensures.root c.in-Ok.ensures.legal
+          (c.in-Ok.ensures.steps f.out))
           (subst (IsWritten status (g.K.Sink.held c.args.output.now) (g.K.Sink.held c.write_session.new.output))
           (copied_text (asked' c.args.asked.now) _ root after.seen c.in-Ok.session
           (ap (λ (h : HubId). h.limits) c.deref-2.ensures ∙ c.requires.limits) c.in-Ok.ensures.legal) told.written)

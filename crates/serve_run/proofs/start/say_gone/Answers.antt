@@ -9,4 +9,6 @@ returns-clause-says g c =
     c.submit.ensures.pass c.submit.ensures.joined c.submit.ensures.legal
 
 pub returns-clause-reads : goal.returns-clause-reads
-returns-clause-reads g c = subst (λ q. reader_of c.submit.new.pass.seat.seen q ≡ Some c.submit.new.pass.seat.number) c.peer.ensures.peer c.peer.ensures.reads
+returns-clause-reads g c =
+    subst (λ q. reader_of c.submit.new.pass.seat.seen q ≡ Some c.submit.new.pass.seat.number) c.peer.ensures.peer
+    c.peer.ensures.reads

@@ -12,9 +12,11 @@ returns-in-Err-clause-started g c =
     let before = g.W.Spawner.started c.args.spawner.now in
     let reads = c.args.reader.pass.seat.number in
     let writes = c.args.writer.pass.seat.number in
-    subst (λ tags. BothStarted c.args.hub.now c.args.root.now c.take_back.new.root before tags reads writes (Err c.in-Err.stop))
+    subst (λ tags. BothStarted c.args.hub.now c.args.root.now c.take_back.new.root before tags reads writes
+    (Err c.in-Err.stop))
     (sym c.in-Err.ensures.none)
-    (none_of_two c.args.hub.now c.args.root.now before reads writes c.start_job.new.root c.take_back.new.root c.in-Err.stop
+    (none_of_two c.args.hub.now c.args.root.now before reads writes c.start_job.new.root c.take_back.new.root
+    c.in-Err.stop
     c.requires.out (may_lack c.in-Err.stop c.in-Err.ensures.why) c.in-Err.ensures.back c.in-Err.ensures.made
     c.take_back.ensures.back
     (made_nothing c.take_back.new.root.seen c.args.writer.pass.seat c.args.writer.fresh c.take_back.ensures.theirs))

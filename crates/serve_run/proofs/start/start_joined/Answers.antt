@@ -20,5 +20,6 @@ returns-in-Err-clause-started g c =
     (may_lack_memory c.in-Err.stop c.in-Err.ensures.why)
     (subst (λ (h : HubId). IsGivenBack h root middle reads) c.deref.ensures c.take_reader_back.ensures.back)
     (subst (λ (h : HubId). IsGoneAlone h.limits middle.seen reads) c.deref.ensures c.take_reader_back.ensures.gone)
-    (subst (λ (h : HubId). IsGivenBack h middle after c.args.writer.seat.number) c.deref-in-Err.ensures c.take_back.ensures.back)
+    (subst (λ (h : HubId). IsGivenBack h middle after c.args.writer.seat.number) c.deref-in-Err.ensures
+    c.take_back.ensures.back)
     (made_nothing c.take_back.new.root.seen c.args.writer.seat c.requires.fresh_writer c.take_back.ensures.theirs)

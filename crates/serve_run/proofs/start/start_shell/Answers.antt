@@ -39,6 +39,7 @@ returns-clause-started g c =
     (subst (λ (h : HubId). IsRootOf h split) c.deref.ensures made.root) made.left
     (ap (λ n. job n shell) made.number) (record { turn = own.0; limits = own.1 }) run.same run.started
     (subst (λ n. OnErr c.start_job.result (IsGivenBack hub split after n)) made.number
-    (subst (λ (h : HubId). OnErr c.start_job.result (IsGivenBack h split after pass.number)) c.deref-2.ensures run.back))
+    (subst (λ (h : HubId). OnErr c.start_job.result (IsGivenBack h split after pass.number)) c.deref-2.ensures
+    run.back))
     (subst (λ n. OnErr c.start_job.result (NoneOf n after.seen)) made.number run.made)
     run.none (lacks_thread c.start_job.result run.why)

@@ -4,7 +4,8 @@ use Rattle.serve_run.proofs.start.take_back.Goals as goal
 
 pub returns-clause-back : goal.returns-clause-back
 returns-clause-back c =
-    given_back c.args.hub.now c.args.root.now c.finish.new.root (seat_of c.args.pass) c.requires.root c.finish.ensures.met
+    given_back c.args.hub.now c.args.root.now c.finish.new.root
+    (seat_of c.args.pass) c.requires.root c.finish.ensures.met
     c.finish.ensures.both
 
 pub returns-clause-theirs : goal.returns-clause-theirs

@@ -9,7 +9,8 @@ returns-clause-gone g c =
     let number = ap (λ (p : PeerPass). p.seat.number) said.pass in record {
       pass = c.say_gone.new.pass;
       number = number;
-      seen = subst (λ n. HasSeen c.take_back.new.root.seen n c.say_gone.new.pass.seat.seen) number c.take_back.ensures.theirs;
+      seen = subst
+          (λ n. HasSeen c.take_back.new.root.seen n c.say_gone.new.pass.seat.seen) number c.take_back.ensures.theirs;
       reads = said.reads ∙ ap (λ n. Some n) number;
       says = said.says;
     }

@@ -10,8 +10,11 @@ loop-at-preserved c =
     let more = c.loop-at-test.true in
     let step = uses_more c.args.name.now (map string_bytes c.args.words.now) c.loop-at.at _ (omega arith)
     (word_is string_bytes c.args.words.now c.loop-at.at c.index-words-at.result c.index-words-at.is) in
-    let one : (if bytes_eq (string_bytes c.index-words-at.result) c.args.name.now then 1 else 0) ≤ 1 = at_most_one (bytes_eq (string_bytes c.index-words-at.result) c.args.name.now) in
-    let now : c.counted-found.result ≡ c.loop-at.found + (if bytes_eq (string_bytes c.index-words-at.result) c.args.name.now then 1 else 0) = search rules in
+    let one : (if bytes_eq (string_bytes c.index-words-at.result) c.args.name.now then 1 else 0) ≤ 1 =
+    at_most_one (bytes_eq (string_bytes c.index-words-at.result) c.args.name.now) in
+    let now : c.counted-found.result
+    ≡ c.loop-at.found + (if bytes_eq (string_bytes c.index-words-at.result) c.args.name.now then 1 else 0) =
+    search rules in
     let before = c.loop-at.invariant.same in
     let few = c.loop-at.invariant.few in
     record { within = omega arith; few = omega arith; same = omega arith }

@@ -9,7 +9,8 @@ pub returns-then-ne-clause-told : goal.returns-then-ne-clause-told
 returns-then-ne-clause-told c = elim c.then-ne.branch [
   | then-ne-via-then-ne w ↦
       let differs : bytes_eq (string_bytes c.first-item.result) (codes "serve") ≡ false = search rules in
-      refused string_bytes c.args.words.now (drop 1 c.args.words.now) c.first-item.result c.in-len1-up.len_at_least c.first-item.is refl
+      refused string_bytes c.args.words.now
+      (drop 1 c.args.words.now) c.first-item.result c.in-len1-up.len_at_least c.first-item.is refl
       (ap (λ b. b && has_shape (map string_bytes (drop 1 c.args.words.now))) differs)
   | then-ne-via-else-ne+then-not-has_shape w ↦
       let rest = take (length c.args.words.now - 1) (drop 1 c.args.words.now) in

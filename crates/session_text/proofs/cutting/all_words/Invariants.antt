@@ -4,7 +4,8 @@ use Rattle.session_text.proofs.cutting.all_words.Given as goal
 
 -- the words so far, and those of what is left
 abbrev pub invariant-loop-word : goal.invariant-loop-word
-invariant-loop-word l = map (λ w. w.now) l.words.items ++ slice_split (λ b. b == 32) l.left ≡ slice_split (λ b. b == 32) l.line
+invariant-loop-word l =
+    map (λ w. w.now) l.words.items ++ slice_split (λ b. b == 32) l.left ≡ slice_split (λ b. b == 32) l.line
 
 abbrev pub decreases-loop-word : goal.decreases-loop-word
 decreases-loop-word l = length l.left

@@ -13,7 +13,8 @@ returns-in-Some-clause-cut c =
     let space = c.in-Some.space in
     let (none, here) = c.in-Some.ensures in
     let behind : take (length c.split_at.result.1.now - 1) (drop 1 c.split_at.result.1.now) ≡ drop (suc space) line =
-    take_rest c.split_at.result.1.now 1 ∙ ap (drop 1) c.split_at.ensures.back ∙ (rw add-one at (drop-drop 1 space line)) in
+    take_rest c.split_at.result.1.now 1 ∙ ap (drop 1) c.split_at.ensures.back
+    ∙ (rw add-one at (drop-drop 1 space line)) in
     cut_at_space line space none here
     ∙ ap (λ w. w ∷ slice_split (λ b. b == 32) (drop (suc space) line)) (sym c.split_at.ensures.front)
     ∙ ap (λ l. c.split_at.result.0.now ∷ slice_split (λ b. b == 32) l) (sym behind)

@@ -5,4 +5,5 @@ use Rattle.session_text.proofs.hex_digits.decode_lower.Goals as goal
 
 pub fours-init : goal.fours-init
 unfolding encode_with
-fours-init c = record { long = refl; within = omega arith; bytes = λ i. Fits-lt-pow (c.type_inv.bytes i); read = λ small. refl }
+fours-init c =
+    record { long = refl; within = omega arith; bytes = λ i. Fits-lt-pow (c.type_inv.bytes i); read = λ small. refl }

@@ -10,4 +10,5 @@ table : HIGH_VALUES ≡ map (λ c. 16 * value_of c) (range_with_len 0 256)
 table = refl
 
 pub returns : goal.returns
-returns c = ap (λ t. get_or t c.args.digit 0) table ∙ get_or-map-range_with_len (λ c. 16 * value_of c) 0 256 c.args.digit c.args.digit 0 (omega arith) (omega arith)
+returns c = ap (λ t. get_or t c.args.digit 0) table
+    ∙ get_or-map-range_with_len (λ c. 16 * value_of c) 0 256 c.args.digit c.args.digit 0 (omega arith) (omega arith)

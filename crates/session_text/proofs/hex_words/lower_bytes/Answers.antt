@@ -9,6 +9,8 @@ returns-then-decode_lower-clause-read c =
     let made = c.in_ok-bytes.ensures in
     let long : length bytes ≡ c.in_ok-bytes.bytes.len = c.decode_lower.auto.bytes ∙ c.deref_mut.ensures.len in
     let rest = drop (length bytes) c.in_ok-bytes.bytes.items in
-    let front : take c.in_ok-bytes.bytes.len (bytes ++ rest) ≡ bytes = take_at bytes rest c.in_ok-bytes.bytes.len long in
-    lower_read c.args.limit c.args.word.now bytes c.if-decode_lower.ensures.bytes (omega (arith, made.len)) (omega (arith, made.len))
+    let front : take c.in_ok-bytes.bytes.len (bytes ++ rest) ≡ bytes =
+    take_at bytes rest c.in_ok-bytes.bytes.len long in
+    lower_read c.args.limit c.args.word.now bytes c.if-decode_lower.ensures.bytes (omega (arith, made.len))
+    (omega (arith, made.len))
     (c.if-decode_lower.ensures.read refl) ∙ ap Some (sym front)

@@ -1,4 +1,4 @@
-use Rattle.session_text.proofs.Laws.{reads_only, reads_each}
+use Rattle.session_text.proofs.LinesReadBack.{reads_only, reads_each}
 use Rattle.session_text.proofs.line.one_spelling.Goals as goal
 
 pub returns : goal.returns

@@ -1,7 +1,7 @@
 use Rattle.std.proofs.Common.{arith}
 use Rattle.std.proofs.lemmas.Grind.{common_steps}
 use Rattle.session_text.specs.Reading.{line_of, Reads}
-use Rattle.session_text.proofs.Laws.{read_is_line}
+use Rattle.session_text.proofs.LinesReadBack.{read_is_line}
 use Rattle.session_text.proofs.line.read_line.Goals as goal
 
 pub returns-clause-valid : goal.returns-clause-valid

@@ -8,7 +8,9 @@ pub returns-then-decode_lower-clause-read : goal.returns-then-decode_lower-claus
 returns-then-decode_lower-clause-read c =
     let n = length c.args.word.now / 2 in
     let bytes = c.decode_lower.new.bytes in
-    let long : length bytes ≡ n = c.decode_lower.auto.bytes ∙ length-take-le n c.args.piece.now c.if-length-piece.false in
+    let long : length bytes ≡ n =
+    c.decode_lower.auto.bytes ∙ length-take-le n c.args.piece.now c.if-length-piece.false in
     let front : take n (bytes ++ drop n c.args.piece.now) ≡ bytes = take_at bytes (drop n c.args.piece.now) n long in
-    lower_read piece_limit c.args.word.now bytes c.if-decode_lower.ensures.bytes (omega arith) (omega (arith, c.requires.few)) (c.if-decode_lower.ensures.read refl)
+    lower_read piece_limit c.args.word.now bytes c.if-decode_lower.ensures.bytes (omega arith)
+    (omega (arith, c.requires.few)) (c.if-decode_lower.ensures.read refl)
     ∙ ap Some (sym front)

@@ -11,9 +11,12 @@ pub loop-word-preserved : goal.loop-word-preserved
 loop-word-preserved c =
     let i = c.loop-word.word-index in
     let words = first_from c.args.words.now i nobody c.loop-word-test.true in
-    let read : number_of (get_or c.args.words.now i nobody).now ≡ Some c.in-Ok.token = rw c.in-Ok.is at c.number.ensures in
-    let here = ap (λ ws. behind c.loop-word.tokens (numbers_of ws)) words ∙ one_more c.loop-word.tokens c.in-Ok.token _ _ read in
-    ap (λ ns. behind ns (numbers_of (words_from c.args.words.now (i + 1)))) (c.in_ok-push-in-Ok.ensures.pushed) ∙ sym here ∙ c.loop-word.invariant
+    let read : number_of (get_or c.args.words.now i nobody).now ≡ Some c.in-Ok.token =
+    rw c.in-Ok.is at c.number.ensures in
+    let here = ap (λ ws. behind c.loop-word.tokens (numbers_of ws)) words
+    ∙ one_more c.loop-word.tokens c.in-Ok.token _ _ read in
+    ap (λ ns. behind ns (numbers_of (words_from c.args.words.now (i + 1)))) (c.in_ok-push-in-Ok.ensures.pushed)
+    ∙ sym here ∙ c.loop-word.invariant
 
 pub returns-in-Err : goal.returns-in-Err
 returns-in-Err c =
@@ -25,4 +28,6 @@ returns-in-Err c =
 pub returns : goal.returns
 returns c =
     let i = c.loop-word.word-index in
-    sym c.loop-word.invariant ∙ ap (λ ws. behind c.loop-word.tokens (numbers_of ws)) (none_from c.args.words.now i c.loop-word-test.false) ∙ all_read c.loop-word.tokens
+    sym c.loop-word.invariant
+    ∙ ap (λ ws. behind c.loop-word.tokens (numbers_of ws)) (none_from c.args.words.now i c.loop-word-test.false)
+    ∙ all_read c.loop-word.tokens

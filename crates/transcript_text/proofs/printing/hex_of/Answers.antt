@@ -1,5 +1,5 @@
 use Rattle.std.proofs.Common.{rules}
-use Rattle.session_text.proofs.Separators.{zero, encoded_lacks}
+use Rattle.session_text.proofs.LinesSplit.{zero, encoded_lacks}
 use Rattle.transcript_text.proofs.printing.hex_of.Goals as goal
 
 pub returns-in_ok-encode-clause-clean : goal.returns-in_ok-encode-clause-clean

@@ -10,7 +10,8 @@ pub loop-line-preserved : goal.loop-line-preserved
 loop-line-preserved c =
     let parts = split_parts 10 c.loop-line.rest.now c.split_once.result c.split_once.ensures.cases (lit< tt) in
     let p = rw c.in-Some.is at parts in
-    let pushed : string_bytes c.push.new.self ≡ string_bytes c.add_line.new.text ++ 10 ∷ [] = grind (arith, common_steps) in (
+    let pushed : string_bytes c.push.new.self ≡ string_bytes c.add_line.new.text ++ 10 ∷ [] =
+    grind (arith, common_steps) in (
       search rules,
       next_line c.args.seat (string_bytes c.loop-line.text) (string_bytes c.add_line.new.text)
           (string_bytes c.push.new.self) c.loop-line.rest.now c.in-Some.line.now c.in-Some.more.now _
@@ -24,9 +25,11 @@ returns c =
     let some : 0 < length c.loop-line.rest.now = grind (arith, common_steps) in
     elim c.add_line-2.result as (λ r. OnOk r (string_bytes c.add_line-2.new.text
     ≡ string_bytes c.loop-line.text ++ (seat_mark c.args.seat ++ c.loop-line.rest.now))
-    → OnOk r (string_bytes c.add_line-2.new.text ≡ string_bytes c.args.text.now ++ seat_lines c.args.seat c.args.lines.now)) [
+    → OnOk r (string_bytes c.add_line-2.new.text
+    ≡ string_bytes c.args.text.now ++ seat_lines c.args.seat c.args.lines.now)) [
       | Ok x ↦ λ grew.
-          last_line c.args.seat (string_bytes c.loop-line.text) (string_bytes c.add_line-2.new.text) c.loop-line.rest.now _
+          last_line c.args.seat (string_bytes c.loop-line.text)
+          (string_bytes c.add_line-2.new.text) c.loop-line.rest.now _
           lacks some grew c.loop-line.invariant.1
       | Err e ↦ λ _. tt
     ] c.add_line-2.ensures

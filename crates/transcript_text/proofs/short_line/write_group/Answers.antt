@@ -8,10 +8,12 @@ use Rattle.transcript_text.proofs.short_line.write_group.Goals as goal
 
 pub number_before-at-requires-clause-ascii : goal.number_before-at-requires-clause-ascii
 number_before-at-requires-clause-ascii c =
-    let plain = word_plain (hex_word c.args.group.now) _ (hex_plain c.args.group.now c.requires.some (search rules)) none_plain in
+    let plain = word_plain (hex_word c.args.group.now) _
+    (hex_plain c.args.group.now c.requires.some (search rules)) none_plain in
     ap (list_all is_ascii) c.hex_before-at.ensures.written ∙ plain.ascii
 
 pub number_before-at-requires-clause-clean : goal.number_before-at-requires-clause-clean
 number_before-at-requires-clause-clean c =
-    let plain = word_plain (hex_word c.args.group.now) _ (hex_plain c.args.group.now c.requires.some (search rules)) none_plain in
+    let plain = word_plain (hex_word c.args.group.now) _
+    (hex_plain c.args.group.now c.requires.some (search rules)) none_plain in
     ap has_no_zero c.hex_before-at.ensures.written ∙ plain.clean

@@ -15,13 +15,24 @@ write_digits-begin-requires c =
 
 pub from_utf8_unchecked-requires : goal.from_utf8_unchecked-requires
 from_utf8_unchecked-requires c =
-    let plain = before_plain (decimal c.args.number) (drop c.args.at c.args.room.now) (number_is_plain c.args.number (search rules)) (record { ascii = c.requires.ascii; clean = c.requires.clean }) in
-    let stands = c.write_digits-begin.ensures.written ∙ ap (λ n. decimal n ++ drop c.args.at c.args.room.now) c.from.ensures in
+    let plain = before_plain (decimal c.args.number) (drop c.args.at c.args.room.now)
+    (number_is_plain c.args.number (search rules))
+    (record { ascii = c.requires.ascii; clean = c.requires.clean }) in
+    let stands =
+    c.write_digits-begin.ensures.written ∙ ap (λ n. decimal n ++ drop c.args.at c.args.room.now) c.from.ensures in
     let w = c.write_digits-begin in
-    IsUtf8-from_ascii _ (rw (take_all (length w.new.buf - w.result) (drop w.result w.new.buf) (omega (arith, length-drop w.result w.new.buf)), stands) (ascii_is _ plain.ascii))
+    IsUtf8-from_ascii _
+    (rw (
+      take_all (length w.new.buf - w.result) (drop w.result w.new.buf)
+          (omega (arith, length-drop w.result w.new.buf)),
+      stands,
+    ) (ascii_is _ plain.ascii))
 
 pub returns-clause-clean : goal.returns-clause-clean
 returns-clause-clean c =
-    let plain = before_plain (decimal c.args.number) (drop c.args.at c.args.room.now) (number_is_plain c.args.number (search rules)) (record { ascii = c.requires.ascii; clean = c.requires.clean }) in
-    let is : string_bytes c.push_str.new.self ≡ decimal c.args.number ++ drop c.args.at c.args.room.now = grind (arith, common_steps) in
+    let plain = before_plain (decimal c.args.number) (drop c.args.at c.args.room.now)
+    (number_is_plain c.args.number (search rules))
+    (record { ascii = c.requires.ascii; clean = c.requires.clean }) in
+    let is : string_bytes c.push_str.new.self ≡ decimal c.args.number ++ drop c.args.at c.args.room.now =
+    grind (arith, common_steps) in
     subst (λ b. IsTrue (has_no_zero b)) (sym is) plain.clean

@@ -6,5 +6,7 @@ use Rattle.transcript_text.proofs.short_line.write_numbers.Goals as goal
 
 pub returns-clause-value : goal.returns-clause-value
 returns-clause-value c =
-    on_ok_weaker c.write_line.result (two_joined (decimal c.args.number) c.args.word.now (map decimal c.args.numbers.now) _ _ _ c.numbers_before-at.ensures.written c.word_before-at.ensures.written)
+    on_ok_weaker c.write_line.result
+    (two_joined (decimal c.args.number) c.args.word.now
+    (map decimal c.args.numbers.now) _ _ _ c.numbers_before-at.ensures.written c.word_before-at.ensures.written)
     c.write_line.ensures.value

@@ -11,5 +11,6 @@ returns-in_ok-bytes-in-Message c =
     let opcode = c.in-Message.opcode in
     let bytes : c.deref.result.now ≡ message_bytes id opcode c.in-Message.body =
     c.deref.ensures.value ∙ c.in_ok-bytes-in-Message.ensures ∙ ap (message_bytes id opcode) c.as_slice.ensures.value in
-    let Printed : List ℕ → Type 0 = λ b. IfOk c.bytes_line.result (λ s. Prints (string_bytes s) (sessions.Bytes c.args.peer b)) in
+    let Printed : List ℕ → Type 0 =
+    λ b. IfOk c.bytes_line.result (λ s. Prints (string_bytes s) (sessions.Bytes c.args.peer b)) in
     rw c.in-Message.is (subst Printed bytes c.bytes_line.ensures)

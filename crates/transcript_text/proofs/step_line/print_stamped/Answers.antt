@@ -14,9 +14,11 @@ pub finished-requires : goal.finished-requires
 finished-requires c =
     let stamp = c.args.stamp in
     let line = step_line c.args.step.now in
-    let is : string_bytes c.in_ok-stamped.stamped ≡ decimal stamp.moment ++ 32 ∷ (decimal stamp.author ++ 32 ∷ string_bytes c.in_ok-line.line) = search rules in
+    let is : string_bytes c.in_ok-stamped.stamped
+    ≡ decimal stamp.moment ++ 32 ∷ (decimal stamp.author ++ 32 ∷ string_bytes c.in_ok-line.line) = search rules in
     let text : string_bytes c.in_ok-stamped.stamped ≡ spelling Session2 (lines.Stamped stamp line) =
-    is ∙ ap (λ l. decimal stamp.moment ++ 32 ∷ (decimal stamp.author ++ 32 ∷ l)) c.in_ok-line.ensures.0 ∙ sym (stamped_spelling stamp line) in
+    is ∙ ap (λ l. decimal stamp.moment ++ 32 ∷ (decimal stamp.author ++ 32 ∷ l)) c.in_ok-line.ensures.0
+    ∙ sym (stamped_spelling stamp line) in
     let parts = stamped_parts stamp line (search rules, search rules) c.in_ok-line.ensures.1 in
     rw text parts.clean
 
@@ -24,14 +26,19 @@ pub returns-clause-value : goal.returns-clause-value
 returns-clause-value c =
     let stamp = c.args.stamp in
     let line = step_line c.args.step.now in
-    let is : string_bytes c.in_ok-stamped.stamped ≡ decimal stamp.moment ++ 32 ∷ (decimal stamp.author ++ 32 ∷ string_bytes c.in_ok-line.line) = search rules in
-    c.finished.ensures ∙ is ∙ ap (λ l. decimal stamp.moment ++ 32 ∷ (decimal stamp.author ++ 32 ∷ l)) c.in_ok-line.ensures.0 ∙ sym (stamped_spelling stamp line)
+    let is : string_bytes c.in_ok-stamped.stamped
+    ≡ decimal stamp.moment ++ 32 ∷ (decimal stamp.author ++ 32 ∷ string_bytes c.in_ok-line.line) = search rules in
+    c.finished.ensures ∙ is
+    ∙ ap (λ l. decimal stamp.moment ++ 32 ∷ (decimal stamp.author ++ 32 ∷ l)) c.in_ok-line.ensures.0
+    ∙ sym (stamped_spelling stamp line)
 
 pub returns-clause-read : goal.returns-clause-read
 returns-clause-read c =
     let stamp = c.args.stamp in
     let line = step_line c.args.step.now in
-    let is : string_bytes c.in_ok-stamped.stamped ≡ decimal stamp.moment ++ 32 ∷ (decimal stamp.author ++ 32 ∷ string_bytes c.in_ok-line.line) = search rules in
+    let is : string_bytes c.in_ok-stamped.stamped
+    ≡ decimal stamp.moment ++ 32 ∷ (decimal stamp.author ++ 32 ∷ string_bytes c.in_ok-line.line) = search rules in
     let s : IsStamp stamp = (search rules, search rules) in
     stamped_read stamp line c.finished.result s c.in_ok-line.ensures.1
-    (c.finished.ensures ∙ is ∙ ap (λ l. decimal stamp.moment ++ 32 ∷ (decimal stamp.author ++ 32 ∷ l)) c.in_ok-line.ensures.0)
+    (c.finished.ensures ∙ is
+    ∙ ap (λ l. decimal stamp.moment ++ 32 ∷ (decimal stamp.author ++ 32 ∷ l)) c.in_ok-line.ensures.0)

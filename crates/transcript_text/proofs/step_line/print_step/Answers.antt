@@ -1,6 +1,6 @@
 use Rattle.std.proofs.Common.{sym, subst}
 use Rattle.transcript_text.specs.Printing.{IsReadAgain}
-use Rattle.transcript_text.proofs.Printed.{printed_clean}
+use Rattle.transcript_text.proofs.PrintedStepsHold.{printed_clean}
 use Rattle.transcript_text.proofs.StampedSteps.{printed_again}
 use Rattle.session_text.specs.Steps.{step_line}
 use Rattle.transcript_text.proofs.step_line.print_step.Goals as goal

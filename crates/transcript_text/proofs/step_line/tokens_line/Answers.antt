@@ -17,7 +17,8 @@ pub returns : goal.returns
 returns c =
     let word : c.format.result.now ≡ decimal c.args.peer = search rules in
     let name : string_bytes c.in_ok-line.line ≡ codes "tokens" = search rules in
-    let small : All (λ token. token < 2 ^ 32) c.args.tokens.now = All-from_get_or (λ token. token < 2 ^ 32) c.args.tokens.now 0 (λ i within. Fits-lt-pow (c.type_inv.tokens i)) in (
+    let small : All (λ token. token < 2 ^ 32) c.args.tokens.now =
+    All-from_get_or (λ token. token < 2 ^ 32) c.args.tokens.now 0 (λ i within. Fits-lt-pow (c.type_inv.tokens i)) in (
       c.in_ok-add_numbers.ensures.added
           ∙ ap (λ l. l ++ spaced (c.format.result.now ∷ map decimal c.args.tokens.now)) name
           ∙ ap (λ w. codes "tokens" ++ spaced (w ∷ map decimal c.args.tokens.now)) word

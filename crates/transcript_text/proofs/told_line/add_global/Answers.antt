@@ -18,10 +18,12 @@ returns c =
     let line = string_bytes c.args.line.now in
     let interface : c.name.result.now ≡ name_of c.args.interface = c.name.ensures.name in
     let version : c.format.result.now ≡ decimal c.args.version = search rules in
-    let first = spaced_last front (name_of c.args.interface) line _ _ c.in_ok-add_numbers.ensures.added (rw interface at c.in_ok-add_word.ensures.added) in
+    let first = spaced_last front (name_of c.args.interface) line _ _ c.in_ok-add_numbers.ensures.added
+    (rw interface at c.in_ok-add_word.ensures.added) in
     record {
       added = on_ok_weaker c.add_word-2.result
-          (λ (added : string_bytes c.add_word-2.new.line ≡ string_bytes c.add_word.new.line ++ 32 ∷ c.format.result.now).
+          (λ (added : string_bytes c.add_word-2.new.line
+          ≡ string_bytes c.add_word.new.line ++ 32 ∷ c.format.result.now).
           spaced_last (codes "global" ∷ decimal c.args.name ∷ name_of c.args.interface ∷ []) (decimal c.args.version) line _ _ first (rw version at added))
           c.add_word-2.ensures.added;
       clean = c.add_word-2.ensures.clean;

@@ -7,6 +7,7 @@ use Rattle.transcript_text.proofs.told_line.add_signed.Given as goal
 
 abbrev pub invariant-loop-number : goal.invariant-loop-number
 invariant-loop-number l = record {
-  added : string_bytes l.line ≡ string_bytes l.initial.line ++ spaced (map signed_decimal (take l.number-index l.numbers));
+  added : string_bytes l.line
+      ≡ string_bytes l.initial.line ++ spaced (map signed_decimal (take l.number-index l.numbers));
   clean : IsTrue (has_no_zero (string_bytes l.line));
 }

@@ -18,5 +18,6 @@ returns-clause-value c =
     on_ok_weaker c.add_said.result
     (λ (added : string_bytes c.add_said.new.line ≡ string_bytes c.add_word.new.line ++ spaced words).
     line_joined (decimal c.args.number) [] (decimal c.args.told.now.to ∷ words) _ _ c.in_ok-begin.ensures.value
-    (spaced_first (decimal c.args.told.now.to) words (string_bytes c.begin.new.line) _ _ (rw word at c.in_ok-add_word.ensures.added) added))
+    (spaced_first (decimal c.args.told.now.to) words (string_bytes c.begin.new.line) _ _
+    (rw word at c.in_ok-add_word.ensures.added) added))
     c.add_said.ensures.added

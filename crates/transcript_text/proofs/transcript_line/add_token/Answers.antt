@@ -5,7 +5,7 @@ use Rattle.std.specs.String.{string_bytes}
 use Rattle.wl_wire.specs.Texts.{has_no_zero}
 use Rattle.std.proofs.lemmas.List.Folds.{list_all-append}
 use Rattle.std.proofs.lemmas.Grind.{common_steps}
-use Rattle.session_text.proofs.Separators.{zero, decimal_lacks}
+use Rattle.session_text.proofs.LinesSplit.{zero, decimal_lacks}
 use Rattle.transcript_text.proofs.PrintedLines.{number_clean}
 use Rattle.transcript_text.proofs.transcript_line.add_token.Goals as goal
 
@@ -16,5 +16,7 @@ add_word-requires-clause-word_clean c =
 
 pub returns-clause-clean : goal.returns-clause-clean
 returns-clause-clean c =
-    let is : string_bytes c.push_str.new.self ≡ string_bytes c.add_word.new.line ++ 58 ∷ decimal c.args.token = grind (arith, common_steps) in
-    subst (λ b. IsTrue (has_no_zero b)) (sym is) (rw (list_all-append, c.in_ok-add_word.ensures.clean, number_clean c.args.token (search rules)) refl)
+    let is : string_bytes c.push_str.new.self ≡ string_bytes c.add_word.new.line ++ 58 ∷ decimal c.args.token =
+    grind (arith, common_steps) in
+    subst (λ b. IsTrue (has_no_zero b)) (sym is)
+    (rw (list_all-append, c.in_ok-add_word.ensures.clean, number_clean c.args.token (search rules)) refl)

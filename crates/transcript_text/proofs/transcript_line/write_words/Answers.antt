@@ -12,8 +12,10 @@ use Rattle.transcript_text.proofs.transcript_line.write_words.Goals as goal
 pub loop-offset-preserved : goal.loop-offset-preserved
 loop-offset-preserved c =
     record {
-      added = spaced_more token_word c.args.tokens.now c.loop-offset.offset-index (0, 0) (string_bytes c.add_word.new.line) (string_bytes c.loop-offset.line)
-          (string_bytes c.add_token.new.line) c.loop-offset-test.true c.loop-offset.invariant.added c.in_ok-add_token.ensures.added;
+      added = spaced_more token_word c.args.tokens.now c.loop-offset.offset-index (0, 0)
+          (string_bytes c.add_word.new.line) (string_bytes c.loop-offset.line)
+          (string_bytes c.add_token.new.line) c.loop-offset-test.true c.loop-offset.invariant.added
+          c.in_ok-add_token.ensures.added;
       clean = c.in_ok-add_token.ensures.clean;
     }
 
@@ -25,6 +27,8 @@ returns-clause-value c =
     spaced_last (codes "out" ∷ decimal c.args.peer ∷ []) (hex_word c.args.group.now) (string_bytes c.begin.new.line) _ _ c.in_ok-add_numbers.ensures.added
     (rw word at c.in_ok-add_word.ensures.added) in
     let all = take_all c.loop-offset.offset-index c.args.tokens.now c.loop-offset-test.false in
-    let rest : string_bytes c.loop-offset.line ≡ string_bytes c.add_word.new.line ++ spaced (map token_word c.args.tokens.now) = rw all at c.loop-offset.invariant.added in
+    let rest : string_bytes c.loop-offset.line
+    ≡ string_bytes c.add_word.new.line ++ spaced (map token_word c.args.tokens.now) =
+    rw all at c.loop-offset.invariant.added in
     line_joined (decimal c.args.number) words (map token_word c.args.tokens.now) _ _
     (line_joined (decimal c.args.number) [] words _ _ c.in_ok-begin.ensures.value front) rest

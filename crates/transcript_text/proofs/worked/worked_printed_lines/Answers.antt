@@ -5,7 +5,8 @@ use Rattle.transcript_text.proofs.worked.worked_printed_lines.Goals as goal
 
 pub returns-clause-steps : goal.returns-clause-steps
 unfolding digits encode_with
-returns-clause-steps c = record { commit_string = refl; commit = refl; bad_size = refl; join = refl; tokens = refl; at = refl }
+returns-clause-steps c =
+    record { commit_string = refl; commit = refl; bad_size = refl; join = refl; tokens = refl; at = refl }
 
 pub returns-clause-events : goal.returns-clause-events
 unfolding digits encode_with

@@ -1,4 +1,4 @@
-use Rattle.trial_field.proofs.Utf8.{first_of-encode, last_of-encode}
+use Rattle.trial_field.proofs.FirstLastChars.{first_of-encode, last_of-encode}
 use Rattle.trial_field.proofs.laws.character_laws.Goals as goal
 
 pub returns-clause-first : goal.returns-clause-first

@@ -1,5 +1,5 @@
 use Rattle.std.proofs.Common.{arith}
-use Rattle.trial_field.proofs.Chars.{last_char_before}
+use Rattle.trial_field.proofs.BoundariesAreChars.{last_char_before}
 use Rattle.trial_field.proofs.places.character_before.Goals as goal
 
 pub returns-clause-value : goal.returns-clause-value

@@ -20,7 +20,8 @@ returns-then-size-lt-HEADER-clause-message c =
       | then-size-lt-HEADER-via-then-size-lt-HEADER w ↦ absurd (omega arith)
       | then-size-lt-HEADER-via-else-size-lt-HEADER+then-size-gt4096 w ↦ absurd (omega arith)
       | then-size-lt-HEADER-via-else-size-lt-HEADER+else-size-gt4096+then-size-ne0 w ↦ absurd (omega arith)
-      | then-size-lt-HEADER-via-else-size-lt-HEADER+else-size-gt4096+else-size-ne0+then-size-bytes w ↦ absurd (omega arith)
+      | then-size-lt-HEADER-via-else-size-lt-HEADER+else-size-gt4096+else-size-ne0+then-size-bytes w ↦ absurd
+          (omega arith)
     ])
 
 pub returns-clause-message : goal.returns-clause-message

@@ -13,9 +13,11 @@ loop-word-preserved c =
     let i = c.loop-word.word-index in
     let keys = c.loop-word.keys.items in
     let words = first_from c.args.words.now i nobody c.loop-word-test.true in
-    let read : number_of (get_or c.args.words.now i nobody).now ≡ Some c.in-Ok.key = rw c.in-Ok.is at c.number.ensures in
+    let read : number_of (get_or c.args.words.now i nobody).now ≡ Some c.in-Ok.key =
+    rw c.in-Ok.is at c.number.ensures in
     let here = ap (λ ws. behind keys (keys_of ws)) words ∙ one_more keys c.in-Ok.key _ _ read in
-    ap (λ ks. behind ks (keys_of (words_from c.args.words.now (i + 1)))) (c.in_ok-push_key-in-Ok.ensures {u = tt}) ∙ sym here ∙ c.loop-word.invariant
+    ap (λ ks. behind ks (keys_of (words_from c.args.words.now (i + 1)))) (c.in_ok-push_key-in-Ok.ensures {u = tt})
+    ∙ sym here ∙ c.loop-word.invariant
 
 pub returns-in-Err : goal.returns-in-Err
 returns-in-Err c =
@@ -29,4 +31,5 @@ pub returns : goal.returns
 returns c =
     let i = c.loop-word.word-index in
     let keys = c.loop-word.keys.items in
-    sym c.loop-word.invariant ∙ ap (λ ws. behind keys (keys_of ws)) (none_from c.args.words.now i c.loop-word-test.false) ∙ all_read keys
+    sym c.loop-word.invariant
+    ∙ ap (λ ws. behind keys (keys_of ws)) (none_from c.args.words.now i c.loop-word-test.false) ∙ all_read keys

@@ -1,4 +1,4 @@
-use Rattle.trial_script.proofs.Laws.{reads_only, reads_each}
+use Rattle.trial_script.proofs.ScriptsReadBack.{reads_only, reads_each}
 use Rattle.trial_script.proofs.line.one_spelling.Goals as goal
 
 pub returns : goal.returns

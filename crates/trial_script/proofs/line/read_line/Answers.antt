@@ -2,7 +2,7 @@ use Rattle.std.proofs.Common.{arith}
 use Rattle.std.proofs.lemmas.Grind.{common_steps}
 use Rattle.session_text.specs.Reading.{Reads}
 use Rattle.trial_script.specs.Reading.{line_of}
-use Rattle.trial_script.proofs.Laws.{read_is_line}
+use Rattle.trial_script.proofs.ScriptsReadBack.{read_is_line}
 use Rattle.trial_script.proofs.line.read_line.Goals as goal
 
 pub returns-clause-valid : goal.returns-clause-valid

@@ -8,7 +8,8 @@ use Rattle.trial_script.proofs.script.read_actions.Given as goal
 abbrev pub invariant-loop-raw : goal.invariant-loop-raw
 invariant-loop-raw l = record {
   few : l.number + length l.rest < 2 ^ 64;
-  all : behind l.actions (actions_of l.fields l.number (lines_of l.rest)) ≡ actions_of l.fields l.first (lines_of l.bytes);
+  all : behind l.actions (actions_of l.fields l.number (lines_of l.rest))
+      ≡ actions_of l.fields l.first (lines_of l.bytes);
 }
 
 abbrev pub decreases-loop-raw : goal.decreases-loop-raw

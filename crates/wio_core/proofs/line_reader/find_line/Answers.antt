@@ -1,5 +1,5 @@
 use Rattle.std.proofs.Common.{◌++◌}
-use Rattle.wio_core.proofs.Gathered.{TookFrom-both, Gathers-both}
+use Rattle.wio_core.proofs.ReadsTogether.{TookFrom-both, Gathers-both}
 use Rattle.wio_core.proofs.line_reader.find_line.Goals as goal
 
 pub returns-in_err-read_more-clause-took : goal.returns-in_err-read_more-clause-took

@@ -1,5 +1,5 @@
 use Rattle.std.proofs.Common.{arith}
-use Rattle.wl_proto.proofs.Values.{one_list, spelled_once}
+use Rattle.wl_proto.proofs.ValuesReadBack.{one_list, spelled_once}
 use Rattle.wl_proto.proofs.laws.row_laws.Goals as goal
 
 pub returns : goal.returns

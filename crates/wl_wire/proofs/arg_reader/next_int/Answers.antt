@@ -1,5 +1,5 @@
 use Rattle.std.proofs.Math.Facts.{Fits-lt-pow}
-use Rattle.wl_wire.proofs.Fields.{int_spelled}
+use Rattle.wl_wire.proofs.ArgumentsReadBack.{int_spelled}
 use Rattle.wl_wire.proofs.arg_reader.next_int.Goals as goal
 
 pub returns-clause-spelled : goal.returns-clause-spelled

@@ -1,5 +1,5 @@
 use Rattle.std.proofs.Math.Facts.{Fits-lt-pow}
-use Rattle.wl_wire.proofs.Fields.{string_spelled}
+use Rattle.wl_wire.proofs.ArgumentsReadBack.{string_spelled}
 use Rattle.wl_wire.proofs.arg_reader.next_string.Goals as goal
 
 pub returns-clause-spelled : goal.returns-clause-spelled

@@ -1,5 +1,5 @@
 use Rattle.std.proofs.Math.Facts.{Fits-lt-pow}
-use Rattle.wl_wire.proofs.Fields.{uint_spelled}
+use Rattle.wl_wire.proofs.ArgumentsReadBack.{uint_spelled}
 use Rattle.wl_wire.proofs.arg_reader.next_uint.Goals as goal
 
 pub returns-clause-spelled : goal.returns-clause-spelled

@@ -1,4 +1,4 @@
-use Rattle.wl_wire.proofs.Runs.{longest}
+use Rattle.wl_wire.proofs.MessagesHoweverCut.{longest}
 use Rattle.wl_wire.proofs.laws.messages_are_longest.Goals as goal
 
 pub returns : goal.returns

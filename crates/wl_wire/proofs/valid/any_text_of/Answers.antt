@@ -1,5 +1,5 @@
 use Rattle.std.proofs.Common.{sym}
-use Rattle.wl_wire.proofs.Texts.{is_text-of, is_text-not_utf8}
+use Rattle.wl_wire.proofs.TextsKnown.{is_text-of, is_text-not_utf8}
 use Rattle.wl_wire.proofs.valid.any_text_of.Goals as goal
 
 pub returns-in-Ok-clause-some : goal.returns-in-Ok-clause-some

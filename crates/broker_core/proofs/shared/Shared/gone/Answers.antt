@@ -11,7 +11,8 @@ use Rattle.broker_core.proofs.shared.Shared.gone.Goals as goal
 
 pub end-requires-clause-live : goal.end-requires-clause-live
 end-requires-clause-live g c =
-    alive_there c.self.inside.state c.args.number c.self.invariant.stands (ap (λ (b : Broker). standing_of b.journal c.args.number) c.self.view_is ∙ c.requires)
+    alive_there c.self.inside.state c.args.number c.self.invariant.stands
+    (ap (λ (b : Broker). standing_of b.journal c.args.number) c.self.view_is ∙ c.requires)
 
 pub invariant_of-self : goal.invariant_of-self
 invariant_of-self g c =
@@ -19,11 +20,13 @@ invariant_of-self g c =
     stays c.self.inside.limits e c.args.stamp c.self.inside.state c.settle.new.self c.self.invariant
     (within_gone c.self.inside.limits c.args.number c.self.inside.state c.self.invariant
     (ap (λ (b : Broker). standing_of b.journal c.args.number) c.self.view_is ∙ c.requires))
-    (stepped e c.args.stamp c.self.inside.state c.end.new.self c.settle.new.self refl c.end.ensures.capacity c.end.ensures.ended c.end.ensures.stamped c.settle.ensures.stands c.settle.ensures.capacity
+    (stepped e c.args.stamp c.self.inside.state c.end.new.self c.settle.new.self refl c.end.ensures.capacity
+    c.end.ensures.ended c.end.ensures.stamped c.settle.ensures.stands c.settle.ensures.capacity
     c.settle.ensures.settled c.settle.ensures.stamped)
 
 pub returns-clause-watched : goal.returns-clause-watched
 returns-clause-watched g c =
     call_watched g.W.Watch.may_follow c.self.inside.limits (entries.End c.args.number Gone) c.args.self.now
     c.self.inside.state c.end.new.self c.settle.new.self c.args.watch.now c.end.new.watch c.settle.new.watch
-    c.self.view_is c.self.invariant c.end.ensures.capacity c.end.ensures.ended c.end.ensures.watched c.settle.ensures.watched
+    c.self.view_is c.self.invariant c.end.ensures.capacity c.end.ensures.ended c.end.ensures.watched
+    c.settle.ensures.watched

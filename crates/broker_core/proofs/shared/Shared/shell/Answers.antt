@@ -7,7 +7,8 @@ use Rattle.broker_core.proofs.shared.Shared.shell.Goals as goal
 
 pub invariant_of-self : goal.invariant_of-self
 invariant_of-self g c =
-    stays_as c.self.inside.limits c.self.inside.state c.shell.new.self c.self.invariant c.in_err-route.ensures.stands c.in_err-route.ensures.capacity c.in_err-route.ensures.err c.in_err-route.ensures.unstamped
+    stays_as c.self.inside.limits c.self.inside.state c.shell.new.self c.self.invariant c.in_err-route.ensures.stands
+    c.in_err-route.ensures.capacity c.in_err-route.ensures.err c.in_err-route.ensures.unstamped
 
 pub invariant_of-self-2 : goal.invariant_of-self-2
 invariant_of-self-2 g c =
@@ -16,23 +17,28 @@ invariant_of-self-2 g c =
     has_place c.self.inside.limits e c.args.self.now c.self.inside.state c.self.view_is refl c.requires.place in
     stays c.self.inside.limits e c.args.stamp c.self.inside.state c.settle.new.self c.self.invariant
     (within_plain c.self.inside.limits e c.self.inside.state tt refl c.self.invariant place)
-    (stepped e c.args.stamp c.self.inside.state c.shell.new.self c.settle.new.self refl c.in_ok-route.ensures.capacity c.in_ok-route.ensures.ok c.in_ok-route.ensures.stamped c.settle.ensures.stands c.settle.ensures.capacity
+    (stepped e c.args.stamp c.self.inside.state c.shell.new.self c.settle.new.self refl c.in_ok-route.ensures.capacity
+    c.in_ok-route.ensures.ok c.in_ok-route.ensures.stamped c.settle.ensures.stands c.settle.ensures.capacity
     c.settle.ensures.settled c.settle.ensures.stamped)
 
 pub returns-clause-ok : goal.returns-clause-ok
 returns-clause-ok g c =
     let e : Entry = entries.Shell c.args.step.now in
-    becomes c.self.inside.limits e c.args.stamp c.args.self.now c.self.inside.state c.settle.new.self c.self.view_is c.self.invariant
-    (stepped e c.args.stamp c.self.inside.state c.shell.new.self c.settle.new.self refl c.in_ok-route.ensures.capacity c.in_ok-route.ensures.ok c.in_ok-route.ensures.stamped c.settle.ensures.stands c.settle.ensures.capacity
+    becomes c.self.inside.limits e c.args.stamp c.args.self.now c.self.inside.state c.settle.new.self c.self.view_is
+    c.self.invariant
+    (stepped e c.args.stamp c.self.inside.state c.shell.new.self c.settle.new.self refl c.in_ok-route.ensures.capacity
+    c.in_ok-route.ensures.ok c.in_ok-route.ensures.stamped c.settle.ensures.stands c.settle.ensures.capacity
     c.settle.ensures.settled c.settle.ensures.stamped)
 
 pub returns-in_err-route-clause-watched : goal.returns-in_err-route-clause-watched
 returns-in_err-route-clause-watched g c =
-    refused_watched g.W.Watch.may_follow c.self.inside.limits c.args.self.now c.self.inside.state c.shell.new.self c.args.watch.now c.shell.new.watch
+    refused_watched g.W.Watch.may_follow c.self.inside.limits c.args.self.now c.self.inside.state c.shell.new.self
+    c.args.watch.now c.shell.new.watch
     c.self.view_is c.in_err-route.ensures.err c.in_err-route.ensures.unstamped c.in_err-route.ensures.unwatched
 
 pub returns-clause-watched : goal.returns-clause-watched
 returns-clause-watched g c =
     call_watched g.W.Watch.may_follow c.self.inside.limits (entries.Shell c.args.step.now) c.args.self.now
     c.self.inside.state c.shell.new.self c.settle.new.self c.args.watch.now c.shell.new.watch c.settle.new.watch
-    c.self.view_is c.self.invariant c.in_ok-route.ensures.capacity c.in_ok-route.ensures.ok c.in_ok-route.ensures.watched c.settle.ensures.watched
+    c.self.view_is c.self.invariant c.in_ok-route.ensures.capacity c.in_ok-route.ensures.ok
+    c.in_ok-route.ensures.watched c.settle.ensures.watched

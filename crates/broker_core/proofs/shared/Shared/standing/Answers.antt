@@ -12,4 +12,5 @@ returns-clause-lives c = λ is.
 pub returns-clause-others : goal.returns-clause-others
 returns-clause-others c = λ is_not.
     subst (λ (b : Broker). lives b.journal c.args.number ≡ false) c.self.view_is
-    (others_gone c.self.inside.state c.args.number c.self.invariant.stands (λ is. is_not (c.standing.ensures.value ∙ is)))
+    (others_gone c.self.inside.state c.args.number c.self.invariant.stands
+    (λ is. is_not (c.standing.ensures.value ∙ is)))

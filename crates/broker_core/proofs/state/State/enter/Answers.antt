@@ -34,14 +34,16 @@ returns-clause-stands g c =
       relayed = subst (λ (a : Act). relay.StandsFor c.play-route.new.self.relay (a ∷ resolve s.journal.entries)) act
           (c.play-route.ensures.relay (resolve s.journal.entries) here);
       live = c.play-route.ensures.live (resolve s.journal.entries) here shorts
-          ∙ ap (λ (a : Act). map (told_all s.audience.directory.made (told a (resolve s.journal.entries))) s.audience.live.items) act;
+          ∙ ap (λ (a : Act). map
+          (told_all s.audience.directory.made (told a (resolve s.journal.entries))) s.audience.live.items) act;
       directory = c.play-route.ensures.directory (resolve s.journal.entries) here shorts;
       labels = c.play-route.ensures.labels;
       ended = c.play-route.ensures.ended;
       capacity = c.play-route.ensures.capacity;
       room = subst (λ j. j.room ≤ c.push-2.new.self.room + 1) c.play-route.ensures.journal c.push-2.ensures.room_left;
       stamp_room = subst (λ l. l.room ≤ c.push.new.self.room + 1) c.play-route.ensures.stamps c.push.ensures.room_left;
-      stamped = more_by_one _ _ (ap length c.push.ensures.put) ∙ ap (λ l. length l.stamps + 1) c.play-route.ensures.stamps;
+      stamped = more_by_one _ _ (ap length c.push.ensures.put)
+          ∙ ap (λ l. length l.stamps + 1) c.play-route.ensures.stamps;
     })
 
 pub returns-clause-watched : goal.returns-clause-watched
@@ -57,7 +59,8 @@ returns-clause-watched g c =
     let act : c.args.act.now ≡ act_at e s.journal.entries = c.requires.act in
     let shorts = subst (λ (a : Act). AllByRecursion IsShort (told a log)) (sym act) (short_told e s c.requires.ready) in
     let number = c.len-number.ensures.number in
-    let by_number : Reached R mid (told_live (length s.journal.entries + 1) made live (told (act_at e s.journal.entries) log)) after =
+    let by_number : Reached R mid
+    (told_live (length s.journal.entries + 1) made live (told (act_at e s.journal.entries) log)) after =
     subst (λ (m : ℕ). Reached R mid (told_live (m + 1) made live (told (act_at e s.journal.entries) log)) after) number
     (subst (λ (a : Act). Reached R mid (told_live (c.len-number.result + 1) made live (told a log)) after) act
     (c.play-route.ensures.watched log c.requires.ready.relayed shorts)) in (

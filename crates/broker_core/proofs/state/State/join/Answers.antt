@@ -18,7 +18,8 @@ use Rattle.broker_core.proofs.state.State.join.Goals as goal
 pub push-requires-clause-newest : goal.push-requires-clause-newest
 push-requires-clause-newest g c =
     let s : State = c.make_room.new.self in
-    let number : length s.journal.entries ≡ c.len-label.result = ap length c.make_room.ensures.journal ∙ sym c.len-label.ensures.number in
+    let number : length s.journal.entries ≡ c.len-label.result =
+    ap length c.make_room.ensures.journal ∙ sym c.len-label.ensures.number in
     subst (λ (n : ℕ). IsNewest (n + 1) s.audience.directory.made) number
     (subst (IsNewest (length s.journal.entries + 1)) (sym c.make_room.ensures.stands.made) (newest s.journal.entries))
 
@@ -31,11 +32,14 @@ push-requires-2-clause-above g c =
     let joined : length s.labels.items ≡ length (past_of J).joined =
     ap length c.make_room.ensures.stands.labels ∙ length-map (past_of J).joined (λ (peer : Joined). peer.label) in
     let was : s.labels ≡ c.args.self.now.labels = c.make_room.ensures.labels in
-    let number : c.len.result + 1 ≡ length (past_of J).joined + 1 = grind (arith, common_steps, c.len.ensures, was, joined) in
+    let number : c.len.result + 1 ≡ length (past_of J).joined + 1 =
+    grind (arith, common_steps, c.len.ensures, was, joined) in
     subst (IsAboveAll c.in_ok-live.live) (sym c.reserve.ensures.same)
     (above_all J s.audience.live.items c.make_room.ensures.stands.who c.in_ok-live.live
-    (newcomer_number s.capacity (c.len.result + 1) (c.len-label.result + 1) c.args.role c.in_ok-live.live c.in_ok-live.ensures.new ∙ number)
-    (newcomer_label s.capacity (c.len.result + 1) (c.len-label.result + 1) c.args.role c.in_ok-live.live c.in_ok-live.ensures.new ∙ label))
+    (newcomer_number s.capacity (c.len.result + 1)
+    (c.len-label.result + 1) c.args.role c.in_ok-live.live c.in_ok-live.ensures.new ∙ number)
+    (newcomer_label s.capacity (c.len.result + 1)
+    (c.len-label.result + 1) c.args.role c.in_ok-live.live c.in_ok-live.ensures.new ∙ label))
 
 pub enter-requires-clause-ready : goal.enter-requires-clause-ready
 enter-requires-clause-ready g c =
@@ -46,7 +50,8 @@ enter-requires-clause-ready g c =
     let joined : length s.labels.items ≡ length (past_of J).joined =
     ap length c.make_room.ensures.stands.labels ∙ length-map (past_of J).joined (λ (peer : Joined). peer.label) in
     let was : s.labels ≡ c.args.self.now.labels = c.make_room.ensures.labels in
-    let number : c.len.result + 1 ≡ length (past_of J).joined + 1 = grind (arith, common_steps, c.len.ensures, was, joined) in
+    let number : c.len.result + 1 ≡ length (past_of J).joined + 1 =
+    grind (arith, common_steps, c.len.ensures, was, joined) in
     let live : c.push-2.new.self.items ≡ s.audience.live.items ++ c.in_ok-live.live ∷ [] =
     c.push-2.ensures.put ∙ ap (λ ls. ls ++ c.in_ok-live.live ∷ []) c.reserve.ensures.same in
     let labels : c.push-3.new.self.items ≡ s.labels.items ++ (c.len-label.result + 1) ∷ [] =
@@ -62,14 +67,20 @@ enter-requires-clause-ready g c =
     (subst (CanTake (entries.Join c.args.role)) (sym c.make_room.ensures.journal) c.requires.place)
     (record {
       new = subst (λ (q : ℕ). IsNewcomer s.capacity q (length J + 1) c.args.role c.in_ok-live.live) number
-          (subst (λ (n : ℕ). IsNewcomer s.capacity (c.len.result + 1) n c.args.role c.in_ok-live.live) label c.in_ok-live.ensures.new);
+          (subst (λ (n : ℕ). IsNewcomer s.capacity (c.len.result + 1) n c.args.role c.in_ok-live.live) label
+          c.in_ok-live.ensures.new);
       live = live;
-      made = c.push.ensures.put ∙ ap (λ (n : ℕ). record { peer = n; id = 1; label = n; interface = Display } ∷ s.audience.directory.made) label;
+      made = c.push.ensures.put
+          ∙ ap (λ (n : ℕ). record { peer = n; id = 1; label = n; interface = Display } ∷ s.audience.directory.made)
+          label;
       relayed = c.make_room.ensures.stands.relayed;
       reserved = c.in_ok-make_room.ensures.reserved;
       recorded = refl;
-      room = subst (λ l. length l.items + 2 ≤ s.journal.room) (sym c.make_room.ensures.live) c.in_ok-make_room.ensures.room;
-      stamp_room = subst (λ l. length l.items + 2 ≤ s.stamps.room) (sym c.make_room.ensures.live) c.in_ok-make_room.ensures.stamp_room;
+      room = subst (λ l. length l.items + 2 ≤ s.journal.room)
+          (sym c.make_room.ensures.live) c.in_ok-make_room.ensures.room;
+      stamp_room =
+          subst (λ l. length l.items + 2 ≤ s.stamps.room)
+          (sym c.make_room.ensures.live) c.in_ok-make_room.ensures.stamp_room;
       stamps = refl;
       labels = labels ∙ ap (λ (n : ℕ). s.labels.items ++ n ∷ []) label;
       ended = ended;
@@ -77,13 +88,21 @@ enter-requires-clause-ready g c =
     })
 
 pub returns-in_err-reserve-clause-stands : goal.returns-in_err-reserve-clause-stands
-returns-in_err-reserve-clause-stands g c = still_stands c.make_room.new.self _ c.make_room.ensures.stands refl refl refl refl refl c.reserve.ensures.same refl refl
+returns-in_err-reserve-clause-stands g c =
+    still_stands c.make_room.new.self _ c.make_room.ensures.stands refl refl refl refl refl c.reserve.ensures.same refl
+    refl
 
 pub returns-in_err-reserve-2-clause-stands : goal.returns-in_err-reserve-2-clause-stands
-returns-in_err-reserve-2-clause-stands g c = still_stands c.make_room.new.self _ c.make_room.ensures.stands refl refl refl refl refl c.reserve.ensures.same c.reserve-2.ensures.items refl
+returns-in_err-reserve-2-clause-stands g c =
+    still_stands c.make_room.new.self _ c.make_room.ensures.stands refl refl refl refl refl c.reserve.ensures.same
+    c.reserve-2.ensures.items refl
 
 pub returns-in_err-reserve-3-clause-stands : goal.returns-in_err-reserve-3-clause-stands
-returns-in_err-reserve-3-clause-stands g c = still_stands c.make_room.new.self _ c.make_room.ensures.stands refl refl refl refl refl c.reserve.ensures.same c.reserve-2.ensures.items c.reserve-3.ensures.items
+returns-in_err-reserve-3-clause-stands g c =
+    still_stands c.make_room.new.self _ c.make_room.ensures.stands refl refl refl refl refl c.reserve.ensures.same
+    c.reserve-2.ensures.items c.reserve-3.ensures.items
 
 pub returns-in_err-live-clause-stands : goal.returns-in_err-live-clause-stands
-returns-in_err-live-clause-stands g c = still_stands c.make_room.new.self _ c.make_room.ensures.stands refl refl refl refl refl c.reserve.ensures.same c.reserve-2.ensures.items c.reserve-3.ensures.items
+returns-in_err-live-clause-stands g c =
+    still_stands c.make_room.new.self _ c.make_room.ensures.stands refl refl refl refl refl c.reserve.ensures.same
+    c.reserve-2.ensures.items c.reserve-3.ensures.items

@@ -21,7 +21,8 @@ loop-number-init g c = record {
 }
 
 -- the first that is due, as the loop found it
-found : (g : Over) (c : goal.After-end-arg-in-Some-1 g) → first_due c.loop-number.self.audience.live.items ≡ Some (c.in-Some.number, c.in-Some.cause)
+found : (g : Over) (c : goal.After-end-arg-in-Some-1 g) →
+    first_due c.loop-number.self.audience.live.items ≡ Some (c.in-Some.number, c.in-Some.cause)
 found g c = sym c.due.ensures ∙ c.in-Some.is
 
 pub end-requires-clause-stands : goal.end-requires-clause-stands
@@ -38,13 +39,15 @@ end-requires-clause-few g c = let few = c.loop-number.invariant.few in omega ari
 pub loop-number-smaller : goal.loop-number-smaller
 loop-number-smaller g c =
     let first = sym c.due.ensures ∙ c.in-Some.is in
-    (next_end c.loop-number.self c.end.new.self c.in-Some.number c.in-Some.cause c.loop-number.invariant.stands c.end.ensures.stands c.end.ensures.capacity
+    (next_end c.loop-number.self c.end.new.self c.in-Some.number c.in-Some.cause c.loop-number.invariant.stands
+    c.end.ensures.stands c.end.ensures.capacity
     c.end.ensures.ended first).fewer
 
 pub loop-number-preserved : goal.loop-number-preserved
 loop-number-preserved g c =
     let first = sym c.due.ensures ∙ c.in-Some.is in
-    let near = next_end c.loop-number.self c.end.new.self c.in-Some.number c.in-Some.cause c.loop-number.invariant.stands c.end.ensures.stands
+    let near = next_end c.loop-number.self c.end.new.self c.in-Some.number c.in-Some.cause
+    c.loop-number.invariant.stands c.end.ensures.stands
     c.end.ensures.capacity c.end.ensures.ended first in
     record {
       stands = c.end.ensures.stands;
@@ -58,11 +61,15 @@ loop-number-preserved g c =
           let e : Entry = entries.End c.in-Some.number c.in-Some.cause in
           let longer = c.loop-number.invariant.longer in
           let ended : Reached R c.loop-number.watch (watched capacity e here) c.end.new.watch =
-          subst (λ (n : ℕ). Reached R c.loop-number.watch (watched n e here) c.end.new.watch) c.loop-number.invariant.capacity c.end.ensures.watched in
-          subst (λ (j : List Entry). Reached R from (watched_since capacity k j) c.end.new.watch) (sym c.end.ensures.ended)
-          (reached_more R capacity k e here from c.loop-number.watch c.end.new.watch (omega arith) (c.loop-number.invariant.watched k from h r) ended);
+          subst (λ (n : ℕ). Reached R c.loop-number.watch (watched n e here) c.end.new.watch)
+          c.loop-number.invariant.capacity c.end.ensures.watched in
+          subst (λ (j : List Entry). Reached R from (watched_since capacity k j) c.end.new.watch)
+          (sym c.end.ensures.ended)
+          (reached_more R capacity k e here from c.loop-number.watch c.end.new.watch (omega arith)
+          (c.loop-number.invariant.watched k from h r) ended);
       stamped = λ given h.
-          end_stamps c.loop-number.self c.end.new.self c.in-Some.number c.in-Some.cause _ given near.follows c.end.ensures.ended c.end.ensures.stamped
+          end_stamps c.loop-number.self c.end.new.self c.in-Some.number c.in-Some.cause _ given near.follows
+          c.end.ensures.ended c.end.ensures.stamped
           (c.loop-number.invariant.stamped given h);
       rest = near.rest ∙ c.loop-number.invariant.rest;
     }

@@ -1,5 +1,5 @@
 use Rattle.std.proofs.Common.{rules, arith}
-use Rattle.broker_model.proofs.Recorded.{entry_got, entry_none}
+use Rattle.broker_model.proofs.NumberedEntries.{entry_got, entry_none}
 use Rattle.broker_model.proofs.journal.Journal.entry.Goals as goal
 
 pub returns-in_err-before : goal.returns-in_err-before

@@ -11,5 +11,6 @@ returns-clause-log g c first log sent has =
     let h = committed (batch_of c.args.batch.now) in
     let was : c.reserve.new.self.state ≡ c.args.self.now.state =
     c.reserve.ensures.state ∙ ap (λ (k : Client (State _)). k.state) c.self.view_is in
-    subst (λ s. HasLog g.T.Typist.meanings first (h ∷ log) sent s) (sym (c.batch.ensures.state ∙ ap (happens g.T.Typist.meanings h) was))
+    subst (λ s. HasLog g.T.Typist.meanings first (h ∷ log) sent s)
+    (sym (c.batch.ensures.state ∙ ap (happens g.T.Typist.meanings h) was))
     (method_happened g.T.Typist.meanings h first log sent c.args.self.now.state has)

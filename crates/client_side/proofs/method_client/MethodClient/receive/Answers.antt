@@ -11,14 +11,16 @@ returns-then-not-take_held-clause-log g c first log sent has =
     let was : c.hold.new.state.state ≡ c.args.self.now.state =
     c.hold.ensures.state ∙ ap (λ (k : Client (State _)). k.state) c.self.view_is in
     let takes = c.if-not-take_held.ensures.wrong.takes in
-    method_goes_on g.T.Typist.meanings _ _ takes.events first log sent (takes.state-is ∙ ap (after_all (after_event g.T.Typist.meanings) takes.events) was) has
+    method_goes_on g.T.Typist.meanings _ _ takes.events first log sent
+    (takes.state-is ∙ ap (after_all (after_event g.T.Typist.meanings) takes.events) was) has
 
 pub returns-clause-log : goal.returns-clause-log
 returns-clause-log g c first log sent has =
     let was : c.hold.new.state.state ≡ c.args.self.now.state =
     c.hold.ensures.state ∙ ap (λ (k : Client (State _)). k.state) c.self.view_is in
     let takes = c.if-not-take_held.ensures.taken in
-    method_goes_on g.T.Typist.meanings _ _ takes.events first log sent (takes.state-is ∙ ap (after_all (after_event g.T.Typist.meanings) takes.events) was) has
+    method_goes_on g.T.Typist.meanings _ _ takes.events first log sent
+    (takes.state-is ∙ ap (after_all (after_event g.T.Typist.meanings) takes.events) was) has
 
 pub returns-then-not-take_held-clause-bad : goal.returns-then-not-take_held-clause-bad
 returns-then-not-take_held-clause-bad g c e good =
@@ -27,4 +29,5 @@ returns-then-not-take_held-clause-bad g c e good =
     let held : c.hold.new.held.items ≡ c.args.self.now.held ++ c.args.piece.now =
     c.in_ok-hold.ensures.held ∙ ap (λ (k : Client (State _)). k.held ++ c.args.piece.now) c.self.view_is in
     let told = c.if-not-take_held.ensures in
-    piece_refused method_objects (after_event g.T.Typist.meanings) _ _ _ _ _ good was held told.kept told.fits told.wrong refl
+    piece_refused method_objects
+    (after_event g.T.Typist.meanings) _ _ _ _ _ good was held told.kept told.fits told.wrong refl

@@ -1,7 +1,7 @@
 use Rattle.std.proofs.Common.{◌≡◌, false, arith, rules}
 use Rattle.compose_method.specs.Table.{has_single}
 use Rattle.compose_method.specs.Kept.{seen}
-use Rattle.compose_method.proofs.Made.{with_single-table}
+use Rattle.compose_method.proofs.TableGrows.{with_single-table}
 use Rattle.compose_method.proofs.table.ComposeTable.single.Goals as goal
 
 pub invariant_of-self-2 : goal.invariant_of-self-2

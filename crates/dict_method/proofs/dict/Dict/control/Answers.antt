@@ -7,4 +7,5 @@ use Rattle.dict_method.proofs.dict.Dict.control.Goals as goal
 pub invariant_of-self-2 : goal.invariant_of-self-2
 invariant_of-self-2 c =
     let free : is_spelling (seen c.self.inside).words c.args.key ≡ false = search rules in
-    rw c.in_ok-put_control.ensures.ok (with_control-dictionary (seen c.self.inside) c.args.key c.args.what c.self.invariant free)
+    rw c.in_ok-put_control.ensures.ok
+    (with_control-dictionary (seen c.self.inside) c.args.key c.args.what c.self.invariant free)

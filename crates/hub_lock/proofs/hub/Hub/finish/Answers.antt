@@ -50,7 +50,8 @@ module _ (c : After-meet) where
   bytes =
       let m = ap total_bytes met ∙ met-bytes limits root pass c.root.invariant.0 of of' k mine theirs in
       let a = c.root.invariant.2 in
-      let b : c.into_parts-member.result.1 ≡ bytes_of pass = c.into_parts-member.ensures.bytes ∙ sym (ap bytes_of back) in omega arith
+      let b : c.into_parts-member.result.1 ≡ bytes_of pass =
+      c.into_parts-member.ensures.bytes ∙ sym (ap bytes_of back) in omega arith
 
 pub overflow_add-root : goal.overflow_add-root
 overflow_add-root c =
@@ -75,5 +76,6 @@ invariant_of-root c =
           ∙ ap (max (length (journal_seen (root a)))) c.member.invariant.1
           ∙ met-entries (limits a) (root a) (pass a) c.root.invariant.0 (of a) (of' a) (k a) (mine a) (theirs a)
           ∙ sym (ap (λ (s : PassSeat). length (journal_seen s)) (met a)),
-      subst HasSeenLawful (sym (met a)) (seen-lawful (limits a) (root a) (pass a) c.root.invariant.0 (of a) (of' a) (k a) (mine a) (theirs a)),
+      subst HasSeenLawful (sym (met a))
+          (seen-lawful (limits a) (root a) (pass a) c.root.invariant.0 (of a) (of' a) (k a) (mine a) (theirs a)),
     )

@@ -15,7 +15,9 @@ module _ (g : _) (c : After-play-answer g) where
   was = c.args.member.now
 
   k : IsLegal Plays was c.args.call.now c.play-answer.new.seat.seen c.play-answer.new.call c.play-answer.result
-  k = subst (λ (s : PassSeat). IsLegal Plays s c.args.call.now c.play-answer.new.seat.seen c.play-answer.new.call c.play-answer.result)
+  k = subst (λ
+      (s : PassSeat). IsLegal Plays s c.args.call.now c.play-answer.new.seat.seen c.play-answer.new.call
+      c.play-answer.result)
       c.member.view_is c.play-answer.ensures.legal
 
   is : c.play-answer.new.seat ≡ having_seen was c.play-answer.new.seat.seen

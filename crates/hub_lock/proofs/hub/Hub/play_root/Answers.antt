@@ -16,7 +16,9 @@ module _ (g : _) (c : After-play-answer g) where
   was = c.args.root.now
 
   k : IsLegal Plays was c.args.call.now c.play-answer.new.seat.seen c.play-answer.new.call c.play-answer.result
-  k = subst (λ (s : PassSeat). IsLegal Plays s c.args.call.now c.play-answer.new.seat.seen c.play-answer.new.call c.play-answer.result)
+  k = subst (λ
+      (s : PassSeat). IsLegal Plays s c.args.call.now c.play-answer.new.seat.seen c.play-answer.new.call
+      c.play-answer.result)
       c.root.view_is c.play-answer.ensures.legal
 
   is : c.play-answer.new.seat ≡ having_seen was c.play-answer.new.seat.seen
@@ -41,8 +43,10 @@ module _ (g : _) (c : After-play-answer g) where
       let b : c.root.inside.steps ≡ total_steps was = c.root.invariant.1 ∙ ap total_steps c.root.view_is in omega arith
 
   bytes : c.root.inside.bytes ≡ total_bytes c.play-answer.new.seat
-  bytes = c.root.invariant.2 ∙ ap total_bytes c.root.view_is ∙ sym (total-bytes-after c.args.self.now.limits was c.args.call.now
-      c.play-answer.new.seat.seen c.play-answer.new.call c.play-answer.result k c.requires.own.1 number may c.play-answer.new.seat is zero tallied)
+  bytes = c.root.invariant.2 ∙ ap total_bytes c.root.view_is
+      ∙ sym (total-bytes-after c.args.self.now.limits was c.args.call.now
+      c.play-answer.new.seat.seen c.play-answer.new.call c.play-answer.result k c.requires.own.1 number may
+      c.play-answer.new.seat is zero tallied)
 
   entries : c.play-answer.result.entries ≡ length (journal_seen c.play-answer.new.seat)
   entries = entries-after c.args.self.now.limits was c.args.call.now c.play-answer.new.seat.seen c.play-answer.new.call
@@ -55,7 +59,8 @@ module _ (g : _) (c : After-play-answer g) where
   first : c.play-answer.new.seat.number ≡ 0
   first = ap (λ (s : PassSeat). s.number) is ∙ zero
 
-  told : LegalAsk c.args.self.now.limits was c.play-answer.new.seat.seen 0 c.args.call.now.ask c.play-answer.new.call.ask
+  told : LegalAsk c.args.self.now.limits was c.play-answer.new.seat.seen 0 c.args.call.now.ask
+      c.play-answer.new.call.ask
       c.play-answer.result.answer
   told = subst (λ n. LegalAsk c.args.self.now.limits was c.play-answer.new.seat.seen n c.args.call.now.ask
       c.play-answer.new.call.ask c.play-answer.result.answer) zero

@@ -5,10 +5,12 @@ use Rattle.hub_lock.proofs.hub.Hub.session.Goals as goal
 
 pub returns-clause-steps : goal.returns-clause-steps
 returns-clause-steps g c none =
-    session-steps c.args.self.now.limits c.args.root.now c.play_root.new.root c.in-Copied.copied c.in-Copied.ensures.legal
+    session-steps c.args.self.now.limits c.args.root.now c.play_root.new.root c.in-Copied.copied
+    c.in-Copied.ensures.legal
     c.play_root.ensures.tallied (ap (λ (s : PassSeat). s.out) c.play_root.ensures.root ∙ none)
 
 pub returns-clause-bytes : goal.returns-clause-bytes
 returns-clause-bytes g c none =
-    session-bytes c.args.self.now.limits c.args.root.now c.play_root.new.root c.in-Copied.copied c.in-Copied.ensures.legal
+    session-bytes c.args.self.now.limits c.args.root.now c.play_root.new.root c.in-Copied.copied
+    c.in-Copied.ensures.legal
     c.play_root.ensures.tallied (ap (λ (s : PassSeat). s.out) c.play_root.ensures.root ∙ none)

@@ -21,8 +21,12 @@ invariant_of-pass g c =
 pub returns-clause-joined : goal.returns-clause-joined
 returns-clause-joined g c nobody =
     let same : c.pass-inside.inside.0.1.0 ≡ c.pass.inside.peer = search rules in
-    let k = subst (λ s. LegalAsk c.args.self.now.limits c.pass.inside.member c.play_by.new.member.seen c.pass.inside.member.number
-    (asks.Apply s) c.play_by.new.call.ask (answers.Applied c.in-Applied.applied)) (c.new.ensures ∙ ap (λ q. steps.Peer q c.in-Some.step) same) c.in-Applied.ensures.legal in
-    step-finds c.args.self.now.limits _ c.pass.inside.member.number c.pass.inside.peer c.in-Some.step c.play_by.new.member.seen
-    c.in-Applied.applied k.lawful (reader-stays c.pass.inside.member.seen k.rest c.pass.inside.peer c.pass.inside.member.number
+    let k = subst
+    (λ s. LegalAsk c.args.self.now.limits c.pass.inside.member c.play_by.new.member.seen c.pass.inside.member.number
+    (asks.Apply s) c.play_by.new.call.ask (answers.Applied c.in-Applied.applied))
+    (c.new.ensures ∙ ap (λ q. steps.Peer q c.in-Some.step) same) c.in-Applied.ensures.legal in
+    step-finds c.args.self.now.limits _ c.pass.inside.member.number c.pass.inside.peer c.in-Some.step
+    c.play_by.new.member.seen
+    c.in-Applied.applied k.lawful
+    (reader-stays c.pass.inside.member.seen k.rest c.pass.inside.peer c.pass.inside.member.number
     c.pass.invariant.0) k.answer nobody

@@ -14,7 +14,8 @@ use Rattle.hub_lock.proofs.hub.Hub.take.Goals as goal
 pub invariant_of-pass : goal.invariant_of-pass
 invariant_of-pass g c =
     let number = ap (λ (s : PassSeat). s.number) c.play_by.ensures.member in
-    let none : bytes_made (answers.Took c.in-Took.took) ≡ 0 = no-bytes-made c.in-Took.took c.in_default-took.not-Bytes in
+    let none : bytes_made (answers.Took c.in-Took.took) ≡ 0 =
+    no-bytes-made c.in-Took.took c.in_default-took.not-Bytes in
     let b = c.in-Took.ensures.bytes in
     let was = c.pass.invariant.1 in (
       writer-after c.args.self.now.limits c.pass.inside.member c.play_by.new.member.seen _ c.play_by.ensures.legal
@@ -30,29 +31,35 @@ returns-in_default-took g c =
     record {
       pass = ap (λ (s : PassSeat). record { seat = s; peer = c.pass.inside.peer }) c.play_by.ensures.member
           ∙ ap (λ (p : PeerPass). pass_having_seen p c.play_by.new.member.seen) c.pass.view_is;
-      legal = subst (λ (p : PeerPass). IsTake c.args.self.now.limits p pass' c.args.buf.now c.args.tokens.now c.args.buf.now
+      legal = subst
+          (λ (p : PeerPass). IsTake c.args.self.now.limits p pass' c.args.buf.now c.args.tokens.now c.args.buf.now
           c.args.tokens.now c.in-Took.took) c.pass.view_is
-          (take-legal c.args.self.now.limits c.pass.inside.member c.pass.inside.peer pass' asked c.play_by.new.call.ask c.in-Took.took c.args.buf.now
+          (take-legal c.args.self.now.limits c.pass.inside.member c.pass.inside.peer pass' asked c.play_by.new.call.ask
+          c.in-Took.took c.args.buf.now
           c.args.tokens.now c.args.buf.now c.args.tokens.now c.in-Took.ensures.legal same (search rules)
           (λ u e. without-bytes _ c.in-Took.took c.in_default-took.not-Bytes) (also-without _ c.in-Took.took refl)
           (also-without _ c.in-Took.took refl));
-      joined = take-asked-finds c.args.self.now.limits c.pass.inside.member c.play_by.new.member.seen asked c.play_by.new.call.ask c.in-Took.took
+      joined = take-asked-finds c.args.self.now.limits c.pass.inside.member c.play_by.new.member.seen asked
+          c.play_by.new.call.ask c.in-Took.took
           c.in-Took.ensures.legal (ap (writer_of c.pass.inside.member.seen) same ∙ c.pass.invariant.0);
     }
 
 pub overflow_add-pass : goal.overflow_add-pass
 overflow_add-pass g c =
     let number = ap (λ (s : PassSeat). s.number) c.play_by.ensures.member in
-    let made : bytes_made (answers.Took c.in-Took.took) ≡ c.in-Bytes.count = ap (λ (r : Took). bytes_made (answers.Took r)) c.in-Bytes.is in
+    let made : bytes_made (answers.Took c.in-Took.took) ≡ c.in-Bytes.count =
+    ap (λ (r : Took). bytes_made (answers.Took r)) c.in-Bytes.is in
     let b = c.in-Took.ensures.bytes in
     let was = c.pass.invariant.1 in
-    let few = own-few-bytes c.args.self.now.limits c.play_by.new.member.number c.play_by.new.member.seen c.play_by.ensures.legal.lawful_after in
+    let few = own-few-bytes c.args.self.now.limits c.play_by.new.member.number c.play_by.new.member.seen
+    c.play_by.ensures.legal.lawful_after in
     omega arith
 
 pub invariant_of-pass-2 : goal.invariant_of-pass-2
 invariant_of-pass-2 g c =
     let number = ap (λ (s : PassSeat). s.number) c.play_by.ensures.member in
-    let made : bytes_made (answers.Took c.in-Took.took) ≡ c.in-Bytes.count = ap (λ (r : Took). bytes_made (answers.Took r)) c.in-Bytes.is in
+    let made : bytes_made (answers.Took c.in-Took.took) ≡ c.in-Bytes.count =
+    ap (λ (r : Took). bytes_made (answers.Took r)) c.in-Bytes.is in
     let b = c.in-Took.ensures.bytes in
     let was = c.pass.invariant.1 in (
       writer-after c.args.self.now.limits c.pass.inside.member c.play_by.new.member.seen _ c.play_by.ensures.legal

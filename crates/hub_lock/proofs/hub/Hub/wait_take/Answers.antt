@@ -26,8 +26,10 @@ returns-in_default g c =
     let was : c.loop.pass ≡ pass_having_seen c.args.pass.now (c.args.pass.now.seat.seen ++ i.waited.0) =
     i.pass ∙ ap (pass_having_seen c.args.pass.now) i.waited.1 in record {
       pass = e.pass ∙ ap (λ (p : PeerPass). pass_having_seen p c.take-took.new.pass.seat.seen) i.pass;
-      legal = wait-legal c.args.self.now.limits c.args.pass.now c.loop.pass c.take-took.new.pass i.waited.0 c.loop.buf c.loop.tokens
-          c.args.buf.now c.args.tokens.now c.take-took.new.buf c.take-took.new.tokens c.take-took.result was i.waited.2 i.buf i.tokens e.legal;
+      legal = wait-legal c.args.self.now.limits c.args.pass.now c.loop.pass c.take-took.new.pass i.waited.0 c.loop.buf
+          c.loop.tokens
+          c.args.buf.now c.args.tokens.now c.take-took.new.buf c.take-took.new.tokens c.take-took.result was i.waited.2
+          i.buf i.tokens e.legal;
       joined = e.joined;
       waited = search rules;
     }

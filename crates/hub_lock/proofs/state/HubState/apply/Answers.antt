@@ -21,7 +21,8 @@ overflow_add-self c =
     let l = c.self.invariant.2 in
     let n = c.entries-entries.ensures.number in omega arith
 
-own : (c : After-apply_watched) → IsOwn (history_of c.self.inside.shared c.self.inside.readers.items) c.args.number c.args.step.now
+own : (c : After-apply_watched) →
+    IsOwn (history_of c.self.inside.shared c.self.inside.readers.items) c.args.number c.args.step.now
 own c = subst (λ (h : Held). IsOwn (history_of h.broker h.readers) c.args.number c.args.step.now) (sym c.self.view_is)
     (c.is_own.ensures.0 (search rules))
 
@@ -36,10 +37,12 @@ invariant_of-self-2 c =
     let readers = c.self.inside.readers.items in
     let s = c.entries-entries.ensures.shared.stamped in
     let o = outer (at.invariant_of-self-2 c).After-apply_watched in (
-      kept-by b readers c.args.number c.self.invariant.0 s (entry_of c.args.step.now) c.apply_watched.new.self o (search rules),
+      kept-by b readers c.args.number c.self.invariant.0 s (entry_of c.args.step.now) c.apply_watched.new.self o
+          (search rules),
       search rules,
       ap (λ n. n + 1) c.self.invariant.2 ∙ sym (longer-length _ _ _ _
-          (longer-by b readers c.args.number c.self.invariant.0 s (entry_of c.args.step.now) c.apply_watched.new.self o (search rules))),
+          (longer-by b readers c.args.number c.self.invariant.0 s (entry_of c.args.step.now) c.apply_watched.new.self o
+          (search rules))),
     )
 
 pub returns-clause-applies : goal.returns-clause-applies

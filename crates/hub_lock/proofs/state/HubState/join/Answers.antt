@@ -15,13 +15,16 @@ returns-in-Some-clause-joins c =
     c.self.inside.readers.items (search rules) (search rules) tt tt (refl, refl))
 
 pub returns-in-Some-clause-watched : goal.returns-in-Some-clause-watched
-returns-in-Some-clause-watched c = nothing-watched IsRungBy c.args.self.now.broker c.args.self.now.broker c.args.rings.now refl
+returns-in-Some-clause-watched c =
+    nothing-watched IsRungBy c.args.self.now.broker c.args.self.now.broker c.args.rings.now refl
 
 pub returns-then-is_err-clause-watched : goal.returns-then-is_err-clause-watched
 returns-then-is_err-clause-watched c =
-    nothing-watched IsRungBy c.args.self.now.broker c.self.inside.shared c.args.rings.now (ap (λ (h : Held). h.broker) c.self.view_is)
+    nothing-watched IsRungBy c.args.self.now.broker c.self.inside.shared c.args.rings.now
+    (ap (λ (h : Held). h.broker) c.self.view_is)
 
-after : (c : After-push) → IsAfterJoin c.self.inside.shared c.self.inside.readers.items c.args.number c.args.role c.args.reader
+after : (c : After-push) →
+    IsAfterJoin c.self.inside.shared c.self.inside.readers.items c.args.number c.args.role c.args.reader
     c.join_watched.new.self c.push.new.self.items
 after c = (search rules, search rules)
 
@@ -40,11 +43,13 @@ invariant_of-self-2 c =
       join-kept b readers c.args.number c.self.invariant.0 s c.args.role c.args.reader _ _ a,
       search rules,
       ap (λ n. n + 1) c.self.invariant.2 ∙ sym (longer-length _ _ _ _
-          (join-longer b readers c.args.number c.self.invariant.0 s c.args.role c.args.reader c.join_watched.new.self c.push.new.self.items a)),
+          (join-longer b readers c.args.number c.self.invariant.0 s c.args.role c.args.reader c.join_watched.new.self
+          c.push.new.self.items a)),
     )
 
 pub returns-clause-joins : goal.returns-clause-joins
 returns-clause-joins c =
     rw (← c.self.view_is) (joins-by c.self.inside.shared c.self.inside.readers.items c.args.number c.self.invariant.0
     c.entries-entries.ensures.shared.stamped c.args.role c.args.reader (Ok c.in_ok-peer.peer) c.join_watched.new.self
-    c.push.new.self.items (search rules) (search rules) (after (at.returns-clause-joins c).After-push) (search rules) tt)
+    c.push.new.self.items (search rules) (search rules) (after (at.returns-clause-joins c).After-push)
+    (search rules) tt)

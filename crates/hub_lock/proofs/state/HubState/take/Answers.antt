@@ -24,21 +24,28 @@ overflow_add-self c =
     let l = c.self.invariant.2 in
     let n = c.entries-entries.ensures.number in omega arith
 
-own : (c : In-Bytes) → writer_of (history_of c.self.inside.shared c.self.inside.readers.items) c.args.room.now.peer ≡ Some c.args.number
-own c = subst (λ (h : Held). writer_of (history_of h.broker h.readers) c.args.room.now.peer ≡ Some c.args.number) (sym c.self.view_is)
+own : (c : In-Bytes) →
+    writer_of (history_of c.self.inside.shared c.self.inside.readers.items) c.args.room.now.peer ≡ Some c.args.number
+own c = subst (λ (h : Held). writer_of (history_of h.broker h.readers) c.args.room.now.peer ≡ Some c.args.number)
+    (sym c.self.view_is)
     (c.is_writer.ensures.0 (search rules))
 
-into : (c : In-Bytes) → IfSome (out_at c.self.inside.shared.limits.store c.self.inside.shared.journal c.args.room.now.peer)
+into : (c : In-Bytes) →
+    IfSome (out_at c.self.inside.shared.limits.store c.self.inside.shared.journal c.args.room.now.peer)
     (λ out. IfBytes c.take_watched-took.result (λ counts. IsTakenInto out c.bytes-most.result
-    (put_mid 0 c.bytes-most.result c.args.room.now.bytes c.take_watched-took.new.buf) c.take_watched-took.new.tokens counts))
-into c = into-by c.self.inside.shared c.self.inside.readers.items c.args.number c.self.invariant.0 c.entries-entries.ensures.shared.stamped
+    (put_mid 0 c.bytes-most.result c.args.room.now.bytes c.take_watched-took.new.buf) c.take_watched-took.new.tokens
+    counts))
+into c = into-by c.self.inside.shared c.self.inside.readers.items c.args.number c.self.invariant.0
+    c.entries-entries.ensures.shared.stamped
     _ c.args.room.now.peer c.bytes-most.result c.args.room.now.bytes (take c.bytes-most.result c.args.room.now.bytes)
     c.take_watched-took.new.buf _ c.take_watched-took.new.tokens c.take_watched-took.result
     refl (search rules) (search rules) (search rules) (search rules) c.take_watched-took.ensures.bytes
 
 few : (c : In-Bytes) → IfBytes c.take_watched-took.result (λ counts. counts.0 ≤ 4096)
-few c = few-by c.self.inside.shared c.self.inside.readers.items c.args.number c.self.invariant.0 c.entries-entries.ensures.shared.stamped
-    _ c.args.room.now.peer c.bytes-most.result _ _ c.take_watched-took.result (search rules) c.take_watched-took.ensures.refused (into c)
+few c = few-by c.self.inside.shared c.self.inside.readers.items c.args.number c.self.invariant.0
+    c.entries-entries.ensures.shared.stamped
+    _ c.args.room.now.peer c.bytes-most.result _ _ c.take_watched-took.result
+    (search rules) c.take_watched-took.ensures.refused (into c)
 
 outer : (c : In-Bytes) → IsOuter c.self.inside.shared c.self.inside.readers.items c.args.number c.self.invariant.0
     c.entries-entries.ensures.shared.stamped (entries.Took c.args.room.now.peer c.in-Bytes.field-0)
@@ -62,9 +69,11 @@ invariant_of-self c =
 pub returns-in-Bytes-clause-takes : goal.returns-in-Bytes-clause-takes
 returns-in-Bytes-clause-takes c mine =
     let a = (at.returns-in-Bytes-clause-takes c).In-Bytes in
-    rw (← c.self.view_is, ← c.bytes-most.ensures.same) (takes-by c.self.inside.shared c.self.inside.readers.items c.args.number c.self.invariant.0
+    rw (← c.self.view_is, ← c.bytes-most.ensures.same)
+    (takes-by c.self.inside.shared c.self.inside.readers.items c.args.number c.self.invariant.0
     c.entries-entries.ensures.shared.stamped c.args.room.now.peer c.bytes-most.result _ _ c.take_watched-took.result
-    c.take_watched-took.new.self (own a) c.take_watched-took.ensures.refused c.take_watched-took.ensures.accepted (into a)
+    c.take_watched-took.new.self (own a) c.take_watched-took.ensures.refused c.take_watched-took.ensures.accepted
+    (into a)
     (few a) (search rules) c.take_watched-took.ensures.same)
 
 pub returns-in-Bytes-clause-grows : goal.returns-in-Bytes-clause-grows
@@ -74,5 +83,6 @@ returns-in-Bytes-clause-grows c =
     rw (← c.self.view_is) (inr (
       only e,
       longer-by c.self.inside.shared c.self.inside.readers.items
-          c.args.number c.self.invariant.0 c.entries-entries.ensures.shared.stamped e c.take_watched-took.new.self o (search rules),
+          c.args.number c.self.invariant.0 c.entries-entries.ensures.shared.stamped e c.take_watched-took.new.self o
+          (search rules),
     ))

@@ -3,7 +3,7 @@ use Rattle.std.proofs.lemmas.Bool.{ltb-true}
 use Rattle.std.proofs.lemmas.List.{get_or_read}
 use Rattle.std.specs.FinMap as map
 use Rattle.im_objects.specs.Objects.{Objects}
-use Rattle.im_objects.proofs.Trees.{get_tree}
+use Rattle.im_objects.proofs.TreeIsMap.{get_tree}
 use Rattle.im_objects.proofs.table.Table.find.Goals as goal
 
 pub returns-in-Some-clause-now : goal.returns-in-Some-clause-now

@@ -3,8 +3,8 @@ use Rattle.std.specs.Prelude.{◌↔◌}
 use Rattle.std.specs.FinMap as map
 use Rattle.im_objects.specs.Objects.{Objects, IsLabelled}
 use Rattle.im_objects.specs.contracts.table.Table.{the_view}
-use Rattle.im_objects.proofs.Trees.{get_tree}
-use Rattle.im_objects.proofs.Wholes.{inverse_of}
+use Rattle.im_objects.proofs.TreeIsMap.{get_tree}
+use Rattle.im_objects.proofs.MapsAreInverse.{inverse_of}
 use Rattle.im_objects.proofs.table.Table.find_label.Goals as goal
 
 found : (c : goal.After-copied) → c.copied.result ≡ map.get (the_view c.self.inside).ids c.args.label
@@ -16,7 +16,8 @@ returns-clause-now c = found c ∙ ap (λ (o : Objects). map.get o.ids c.args.la
 pub returns-clause-inverse : goal.returns-clause-inverse
 returns-clause-inverse c id =
     let Labelled : Objects → Type 0 = λ o. (c.copied.result ≡ Some id) ↔ IsLabelled c.args.label (map.get o.under id) in
-    let both = inverse_of (the_view c.self.inside).under (the_view c.self.inside).ids c.args.label id c.self.invariant.0 in
+    let both = inverse_of (the_view c.self.inside).under
+    (the_view c.self.inside).ids c.args.label id c.self.invariant.0 in
     subst Labelled c.self.view_is ((λ e. both.0 (sym (found c) ∙ e)), (λ h. found c ∙ both.1 h))
 
 pub returns-clause-history : goal.returns-clause-history

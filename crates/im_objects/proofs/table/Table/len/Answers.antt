@@ -1,7 +1,7 @@
 use Rattle.std.proofs.Common.{◌≡◌, sym, ◌∙◌, subst}
 use Rattle.std.specs.FinMap as map
 use Rattle.im_objects.specs.Objects.{Objects}
-use Rattle.im_objects.proofs.Trees.{len_tree}
+use Rattle.im_objects.proofs.TreeIsMap.{len_tree}
 use Rattle.im_objects.proofs.table.Table.len.Goals as goal
 
 pub returns : goal.returns

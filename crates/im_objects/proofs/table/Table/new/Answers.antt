@@ -5,20 +5,22 @@ use Rattle.wl_proto.specs.declared.interface.Interface.{Interface}
 use Rattle.wl_proto.specs.declared.interface.Interface.TheVariants.{Display}
 use Rattle.im_objects.specs.Calls.Call.{Make}
 use Rattle.im_objects.specs.Objects.{AreNear, under_of, ids_of}
-use Rattle.im_objects.proofs.Wholes.{whole_empty, whole_inserted, whole_same}
+use Rattle.im_objects.proofs.MapsAreInverse.{whole_empty, whole_inserted, whole_same}
 use Rattle.im_objects.proofs.NearIds.{near_inserted, near_same}
-use Rattle.im_objects.proofs.Histories.{none_stand, made_stands, stands_same}
+use Rattle.im_objects.proofs.ObjectsAfterCalls.{none_stand, made_stands, stands_same}
 use Rattle.im_objects.proofs.table.Table.new.Goals as goal
 
 pub put-requires : goal.put-requires
 put-requires c = record {
-  free = ap (λ (es : List (ℕ × (Interface × ℕ))). map.get (under_of es) 1) c.new-objects.ensures.empty ∙ map.get-empty nat_cmp 1;
+  free = ap (λ (es : List (ℕ × (Interface × ℕ))). map.get (under_of es) 1) c.new-objects.ensures.empty
+      ∙ map.get-empty nat_cmp 1;
 }
 
 under_is : (c : goal.After-note) → under_of c.put.new.objects.entries ≡ map.insert map.empty 1 (Display, c.args.peer)
 under_is c =
     c.in_ok-put.ensures.under
-    ∙ ap (λ (es : List (ℕ × (Interface × ℕ))). map.insert (under_of es) 1 (Display, c.args.peer)) c.new-objects.ensures.empty
+    ∙ ap (λ (es : List (ℕ × (Interface × ℕ))). map.insert (under_of es) 1 (Display, c.args.peer))
+    c.new-objects.ensures.empty
 
 ids_are : (c : goal.After-note) → ids_of c.put.new.ids.entries ≡ map.insert map.empty c.args.peer 1
 ids_are c =
@@ -33,7 +35,8 @@ invariant_of-result c = (
       (map.get-empty nat_cmp 1)
       (map.get-empty nat_cmp c.args.peer)),
   subst (λ near. AreNear near (under_of c.put.new.objects.entries)) (sym c.note.ensures)
-      (near_same _ _ _ (under_is c) (near_inserted c.in_ok-near.near.items map.empty 1 (Display, c.args.peer) c.in_ok-near.ensures)),
+      (near_same _ _ _ (under_is c)
+      (near_inserted c.in_ok-near.near.items map.empty 1 (Display, c.args.peer) c.in_ok-near.ensures)),
 )
 
 pub returns-clause-history : goal.returns-clause-history

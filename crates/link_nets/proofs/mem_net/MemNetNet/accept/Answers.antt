@@ -5,7 +5,8 @@ use Rattle.link_nets.proofs.mem_net.MemNetNet.accept.Goals as goal
 pub returns-clause-fails : goal.returns-clause-fails
 returns-clause-fails c = (
   λ never. absurd (search rules),
-  λ either. ⊎_elim (λ told. search rules) (λ lacks. absurd (first_is_there _ _ _ c.in-Some.link c.in-Some.ensures.first (search rules))) either,
+  λ either. ⊎_elim (λ told. search rules)
+      (λ lacks. absurd (first_is_there _ _ _ c.in-Some.link c.in-Some.ensures.first (search rules))) either,
 )
 
 pub returns-clause-ok : goal.returns-clause-ok

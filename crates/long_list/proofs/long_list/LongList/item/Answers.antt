@@ -1,7 +1,7 @@
 use Rattle.std.proofs.Common.{◌≡◌, ◌+◌, rules, arith, subst}
 use Rattle.std.specs.Option.{option_copied}
 use Rattle.long_list.specs.Long.{kept_at}
-use Rattle.long_list.proofs.Numbers.{kept_got}
+use Rattle.long_list.proofs.NumberedItems.{kept_got}
 use Rattle.long_list.proofs.long_list.LongList.item.Goals as goal
 
 pub returns : goal.returns

@@ -1,6 +1,6 @@
 use Rattle.std.proofs.Common.{◌≡◌, ◌+◌, ℕ, [], None, rules, arith, ap, subst, ◌∙◌}
 use Rattle.long_list.specs.Long.{item_at}
-use Rattle.long_list.proofs.Numbers.{front_at, no_front}
+use Rattle.long_list.proofs.NumberedItems.{front_at, no_front}
 use Rattle.long_list.proofs.long_list.LongList.pop_oldest.Goals as goal
 
 pub returns-in_err-item-clause-value : goal.returns-in_err-item-clause-value
@@ -13,4 +13,8 @@ returns-in_err-item-clause-value g c =
 
 pub returns-clause-value : goal.returns-clause-value
 returns-clause-value g c =
-    grind (arith, rules, front_at c.in_ok-item.item c.pop_front.new.self.items c.self.inside.past (c.args.self.now.kept_from + 1))
+    grind (
+      arith,
+      rules,
+      front_at c.in_ok-item.item c.pop_front.new.self.items c.self.inside.past (c.args.self.now.kept_from + 1),
+    )

@@ -3,7 +3,7 @@ use Rattle.plain_run.specs.declared.act_list.Verdict.TheVariants as verdict
 use Rattle.plain_run.specs.declared.last_line.LastLine.TheVariants as last
 use Rattle.plain_run.specs.Endings.{ending}
 use Rattle.plain_run.specs.ActScript.{ActsStand}
-use Rattle.plain_run.proofs.Answering.{played}
+use Rattle.plain_run.proofs.ActListAnswers.{played}
 use Rattle.plain_run.proofs.ActsPlayed.{settles, ended, played_act}
 use Rattle.plain_run.proofs.act_list.ActListScript.line.Goals as goal
 

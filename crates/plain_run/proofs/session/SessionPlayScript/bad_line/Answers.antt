@@ -4,7 +4,8 @@ use Rattle.plain_run.proofs.session.SessionPlayScript.bad_line.Goals as goal
 
 pub returns : goal.returns
 returns c = λ done output few stood.
-    names_by c.args.self.now.stage c.args.self.now.player c.args.self.now.before c.saturating_add.result done output stood
+    names_by c.args.self.now.stage c.args.self.now.player c.args.self.now.before c.saturating_add.result done output
+    stood
     (omega (
       arith,
       few,

@@ -6,4 +6,5 @@ use Rattle.relay_core.proofs.boards.Boards.drop_label.Goals as goal
 pub returns-then-lives : goal.returns-then-lives
 returns-then-lives c =
     taken_at (kept c.args.self.now) c.drop_board.new.self c.args.label
-    (lives_there (kept c.args.self.now) c.args.label (sym c.lives.ensures ∙ c.if-lives.true)).0 c.drop_board.ensures.left
+    (lives_there (kept c.args.self.now) c.args.label (sym c.lives.ensures ∙ c.if-lives.true)).0
+    c.drop_board.ensures.left

@@ -8,5 +8,6 @@ use Rattle.relay_core.proofs.machine.Machine.tell_each.Given as goal
 -- what is left to tell leads from here to where all leads from the start
 abbrev pub invariant-loop-popup : goal.invariant-loop-popup
 invariant-loop-popup g l =
-    (z : _) → Reached g.P.Post.may_follow l.post (flat_map (live_told (state l.self) l.rect) (drop l.popup-index l.popups)) z
+    (z : _) → Reached g.P.Post.may_follow l.post
+    (flat_map (live_told (state l.self) l.rect) (drop l.popup-index l.popups)) z
     → Reached g.P.Post.may_follow l.fn.post (flat_map (live_told (state l.self) l.rect) l.popups) z

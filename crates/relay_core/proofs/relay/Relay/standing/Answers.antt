@@ -1,7 +1,7 @@
 use Rattle.std.proofs.Common.{ap, ◌∙◌}
 use Rattle.relay_model.specs.Idle.{history}
 use Rattle.relay_core.specs.Kept.{Shown}
-use Rattle.relay_core.proofs.Board.{standing_is}
+use Rattle.relay_core.proofs.KeyboardAfterActs.{standing_is}
 use Rattle.relay_core.proofs.relay.Relay.standing.Goals as goal
 
 pub returns : goal.returns

@@ -2,8 +2,8 @@ use Rattle.std.proofs.Common.{◌≡◌, ℕ, List, map, ap, ◌∙◌, arith}
 use Rattle.seat_audience.specs.Visits.{Peers, map_at, at_marked}
 use Rattle.std.proofs.lemmas.List.{length-map}
 use Rattle.seat_audience.specs.Lives.{cleared}
-use Rattle.seat_audience.proofs.Visiting.{all_visited}
-use Rattle.seat_audience.proofs.Listening.{listening_cleared, unmarked_cleared}
+use Rattle.seat_audience.proofs.VisitIsPass.{all_visited}
+use Rattle.seat_audience.proofs.UnmarkedAreQuiet.{listening_cleared, unmarked_cleared}
 use Rattle.seat_audience.proofs.listeners.Listeners.clear.Goals as goal
 
 all : (c : goal.After-clear) → c.clear_each.new.peers.items ≡ map cleared c.self.inside.peers.items
@@ -11,14 +11,18 @@ all c =
     let live = c.self.inside.peers.items in
     c.clear_each.ensures.items
     ∙ ap (λ (ms : List ℕ). map_at (at_marked ms cleared) 0 live) c.places.ensures.places
-    ∙ all_visited cleared c.self.inside.told.places live (unmarked_cleared live c.self.inside.told.places c.self.inside.due.places c.self.invariant.0)
+    ∙ all_visited cleared c.self.inside.told.places live
+    (unmarked_cleared live c.self.inside.told.places c.self.inside.due.places c.self.invariant.0)
 
 pub invariant_of-self : goal.invariant_of-self
 invariant_of-self c =
     let live = c.self.inside.peers.items in
     let same = length-map live cleared in
-    rw (all c, c.clear.ensures.none, same)
-    (listening_cleared live c.self.inside.told.places c.self.inside.due.places c.self.invariant.0, omega (arith, c.self.invariant.1, c.clear.ensures.bound), c.self.invariant.2)
+    rw (all c, c.clear.ensures.none, same) (
+      listening_cleared live c.self.inside.told.places c.self.inside.due.places c.self.invariant.0,
+      omega (arith, c.self.invariant.1, c.clear.ensures.bound),
+      c.self.invariant.2,
+    )
 
 pub returns : goal.returns
 returns c = record { items = all c ∙ ap (λ (v : Peers). map cleared v.items) c.self.view_is }

@@ -4,12 +4,13 @@ use Rattle.std.proofs.lemmas.List.{length-map}
 use Rattle.seat_audience.specs.declared.live.Live.{Live}
 use Rattle.seat_audience.specs.Lives.{delivered}
 use Rattle.seat_audience.specs.Marks.{is_marked, AreWithin}
-use Rattle.seat_audience.proofs.Visiting.{map_at_length, all_visited}
-use Rattle.seat_audience.proofs.Listening.{listening_delivered, unmarked_stays}
+use Rattle.seat_audience.proofs.VisitIsPass.{map_at_length, all_visited}
+use Rattle.seat_audience.proofs.UnmarkedAreQuiet.{listening_delivered, unmarked_stays}
 use Rattle.seat_audience.proofs.listeners.Listeners.deliver.Goals as goal
 
 long : (c : goal.After-note_choked-arg-2-1) → length c.deliver_each.new.peers.items ≡ length c.self.inside.peers.items
-long c = ap length c.deliver_each.ensures.items ∙ map_at_length (at_marked c.places.result.now delivered) 0 c.self.inside.peers.items
+long c = ap length c.deliver_each.ensures.items
+    ∙ map_at_length (at_marked c.places.result.now delivered) 0 c.self.inside.peers.items
 
 pub note_choked-requires-clause-within : goal.note_choked-requires-clause-within
 note_choked-requires-clause-within c = rw (long c, c.places-2.ensures.places) c.self.invariant.0.told_within
@@ -22,7 +23,8 @@ all c =
     let live = c.self.inside.peers.items in
     c.deliver_each.ensures.items
     ∙ ap (λ (ms : List ℕ). map_at (at_marked ms delivered) 0 live) c.places.ensures.places
-    ∙ all_visited delivered c.self.inside.told.places live (unmarked_stays live c.self.inside.told.places c.self.inside.due.places c.self.invariant.0)
+    ∙ all_visited delivered c.self.inside.told.places live
+    (unmarked_stays live c.self.inside.told.places c.self.inside.due.places c.self.invariant.0)
 
 pub invariant_of-self : goal.invariant_of-self
 invariant_of-self c =
@@ -34,7 +36,8 @@ invariant_of-self c =
     let listening : AreListening (map delivered live) told c.note_choked.new.due.places =
     listening_delivered live told c.self.inside.due.places c.note_choked.new.due.places c.self.invariant.0
     (subst (λ n. AreWithin 0 n c.note_choked.new.due.places) there
-    (c.note_choked.ensures.within (subst (λ n. AreWithin 0 n c.self.inside.due.places) (sym there) c.self.invariant.0.due_within)))
+    (c.note_choked.ensures.within
+    (subst (λ n. AreWithin 0 n c.self.inside.due.places) (sym there) c.self.invariant.0.due_within)))
     c.note_choked.ensures.kept
     (λ k d on off. subst (λ (ls : List Live). (get_or ls k d).is_choked ≡ false) items
     (c.note_choked.ensures.choked k d (ap (is_marked k) c.places-2.ensures.places ∙ on) off)) in

@@ -1,18 +1,20 @@
 use Rattle.std.proofs.Common.{◌<◌, length, sym, subst}
 use Rattle.seat_audience.specs.Visits.{Peers, changed_at, waits, AreListening}
-use Rattle.seat_audience.proofs.Visiting.{changed_length}
-use Rattle.seat_audience.proofs.Listening.{listening_changed}
+use Rattle.seat_audience.proofs.VisitIsPass.{changed_length}
+use Rattle.seat_audience.proofs.UnmarkedAreQuiet.{listening_changed}
 use Rattle.seat_audience.proofs.listeners.Listeners.wait.Goals as goal
 
 pub invariant_of-self : goal.invariant_of-self
 invariant_of-self c =
     let live = c.self.inside.peers.items in
     let l = c.self.invariant.0 in
-    let within : c.args.place < length live = subst (λ (v : Peers). c.args.place < length v.items) (sym c.self.view_is) c.requires.place in
+    let within : c.args.place < length live =
+    subst (λ (v : Peers). c.args.place < length v.items) (sym c.self.view_is) c.requires.place in
     let f = waits c.args.tokens in
     let same = changed_length f c.args.place live in
     let listening : AreListening (changed_at c.args.place f live) c.self.inside.told.places c.self.inside.due.places =
-    listening_changed f c.args.place live c.self.inside.told.places c.self.inside.due.places c.self.inside.told.places c.self.inside.due.places within l
+    listening_changed f c.args.place live c.self.inside.told.places c.self.inside.due.places c.self.inside.told.places
+    c.self.inside.due.places within l
     (record {
       told_within = l.told_within;
       due_within = l.due_within;

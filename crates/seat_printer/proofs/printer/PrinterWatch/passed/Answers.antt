@@ -12,7 +12,11 @@ pub returns : goal.returns
 returns c =
     let event : Watched = Passed c.args.number c.args.time c.args.key c.args.state in
     let line : List ℕ = pass_line c.args.number c.args.time c.args.key c.args.state in
-    subst (λ (p : Printing). MayPrint p event (printing (string_bytes c.self.inside.text) (string_bytes c.add_line.new.text) c.is_err-self-inside.result)) c.self.view_is
-    (shell_printed event (with_feed line) (string_bytes c.self.inside.text) (string_bytes c.self.inside.shell) (string_bytes c.add_line.new.text)
-    c.self.inside.is_short c.is_err-self-inside.result c.add_line.result c.if-self.false c.is_err-self-inside.ensures.value refl
+    subst (λ (p : Printing). MayPrint p event
+    (printing (string_bytes c.self.inside.text) (string_bytes c.add_line.new.text) c.is_err-self-inside.result))
+    c.self.view_is
+    (shell_printed event (with_feed line) (string_bytes c.self.inside.text) (string_bytes c.self.inside.shell)
+    (string_bytes c.add_line.new.text)
+    c.self.inside.is_short c.is_err-self-inside.result c.add_line.result c.if-self.false
+    c.is_err-self-inside.ensures.value refl
     (c.add_line.ensures.ok line (rw (sym c.as_str.ensures.value) at c.write_pass-written.ensures.value)))

@@ -10,14 +10,16 @@ pub invariant_of-self : goal.invariant_of-self
 invariant_of-self g c = (
   step_waits c.args.stamp c.args.self.now c.self.inside.shared c.message_watched.new.self c.self.inside.unread.items
       c.forget_ended.new.unread.items (steps.Peer c.args.number (peers.Message c.args.id c.args.opcode c.args.body.now))
-      c.self.view_is tt (c.requires.alive, c.requires.live) c.in-Ok.ensures.ok c.forget_ended.ensures c.self.invariant.0,
+      c.self.view_is tt
+      (c.requires.alive, c.requires.live) c.in-Ok.ensures.ok c.forget_ended.ensures c.self.invariant.0,
   left_live c.message_watched.new.self.journal c.self.inside.unread.items c.forget_ended.new.unread.items
       c.forget_ended.ensures,
 )
 
 pub forget_ended-requires : goal.forget_ended-requires
 forget_ended-requires g c =
-    said_live c.args.stamp c.self.inside.shared c.message_watched.new.self c.self.inside.unread.items (steps.Peer c.args.number (peers.Message c.args.id c.args.opcode c.args.body.now)) tt
+    said_live c.args.stamp c.self.inside.shared c.message_watched.new.self c.self.inside.unread.items
+    (steps.Peer c.args.number (peers.Message c.args.id c.args.opcode c.args.body.now)) tt
     c.in-Ok.ensures.ok c.self.invariant.1
 
 pub returns-in-Ok-clause-played : goal.returns-in-Ok-clause-played
@@ -41,7 +43,8 @@ returns-in-Err-NoMemory-clause-played g c =
 
 pub returns-in-Ok-clause-stamped : goal.returns-in-Ok-clause-stamped
 returns-in-Ok-clause-stamped g c =
-    said_given c.args.self.now c.self.inside.shared c.message_watched.new.self c.self.inside.unread.items (steps.Peer c.args.number (peers.Message c.args.id c.args.opcode c.args.body.now))
+    said_given c.args.self.now c.self.inside.shared c.message_watched.new.self c.self.inside.unread.items
+    (steps.Peer c.args.number (peers.Message c.args.id c.args.opcode c.args.body.now))
     c.args.stamp c.self.view_is tt c.in-Ok.ensures.ok
 
 pub returns-in-Err-JournalFull-clause-stamped : goal.returns-in-Err-JournalFull-clause-stamped

@@ -39,12 +39,14 @@ returns-in_err-step-in-Message-clause-played g c =
 
 pub returns-in_err-step-clause-stamped : goal.returns-in_err-step-clause-stamped
 returns-in_err-step-clause-stamped g c =
-    stamped_read c.args.stamp c.args.self.now c.loop-rest.self c.read.new.self c.read.ensures.journal c.read.ensures.stamps
+    stamped_read c.args.stamp c.args.self.now c.loop-rest.self c.read.new.self c.read.ensures.journal
+    c.read.ensures.stamps
     c.loop-rest.invariant.stamped
 
 pub returns-in_err-step-in-Message-clause-stamped : goal.returns-in_err-step-in-Message-clause-stamped
 returns-in_err-step-in-Message-clause-stamped g c =
-    stamped_on c.args.stamp c.args.self.now c.loop-rest.self c.read.new.self c.step.new.self c.read.ensures.journal c.read.ensures.stamps
+    stamped_on c.args.stamp c.args.self.now c.loop-rest.self c.read.new.self c.step.new.self c.read.ensures.journal
+    c.read.ensures.stamps
     c.loop-rest.invariant.stamped c.step.ensures.stamped
 
 pub returns-in_err-step-in-Message-clause-watched : goal.returns-in_err-step-in-Message-clause-watched
@@ -71,7 +73,8 @@ returns-then-is_empty-clause-played g c =
 
 pub returns-then-is_empty-clause-stamped : goal.returns-then-is_empty-clause-stamped
 returns-then-is_empty-clause-stamped g c =
-    stamped_on c.args.stamp c.args.self.now c.loop-rest.self c.read.new.self c.step.new.self c.read.ensures.journal c.read.ensures.stamps
+    stamped_on c.args.stamp c.args.self.now c.loop-rest.self c.read.new.self c.step.new.self c.read.ensures.journal
+    c.read.ensures.stamps
     c.loop-rest.invariant.stamped c.step.ensures.stamped
 
 pub returns-then-is_empty-clause-watched : goal.returns-then-is_empty-clause-watched
@@ -94,7 +97,8 @@ loop-rest-preserved g c = record {
       c.in-Message.is c.in_ok-step.ensures.read) c.read.ensures.journal c.split_at.ensures.back
       c.in_ok-step-in-Message.ensures.played;
   stamped =
-      stamped_on c.args.stamp c.args.self.now c.loop-rest.self c.read.new.self c.step.new.self c.read.ensures.journal c.read.ensures.stamps
+      stamped_on c.args.stamp c.args.self.now c.loop-rest.self c.read.new.self c.step.new.self c.read.ensures.journal
+      c.read.ensures.stamps
       c.loop-rest.invariant.stamped c.step.ensures.stamped;
   watched =
       step_more_watched g.W.Watch.may_follow c.args.self.now c.loop-rest.self c.read.new.self
@@ -116,7 +120,8 @@ returns-in-BadSize-clause-played g c =
 
 pub returns-in-BadSize-clause-stamped : goal.returns-in-BadSize-clause-stamped
 returns-in-BadSize-clause-stamped g c =
-    stamped_on c.args.stamp c.args.self.now c.loop-rest.self c.read.new.self c.step-in-BadSize.new.self c.read.ensures.journal
+    stamped_on c.args.stamp c.args.self.now c.loop-rest.self c.read.new.self c.step-in-BadSize.new.self
+    c.read.ensures.journal
     c.read.ensures.stamps c.loop-rest.invariant.stamped c.step-in-BadSize.ensures.stamped
 
 pub returns-in-BadSize-clause-watched : goal.returns-in-BadSize-clause-watched

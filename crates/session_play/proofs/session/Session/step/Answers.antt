@@ -15,7 +15,8 @@ invariant_of-self g c = (
 
 pub forget_ended-requires : goal.forget_ended-requires
 forget_ended-requires g c =
-    said_live c.args.stamp c.self.inside.shared c.apply_watched.new.self c.self.inside.unread.items c.args.step.now c.requires.said
+    said_live c.args.stamp c.self.inside.shared c.apply_watched.new.self c.self.inside.unread.items c.args.step.now
+    c.requires.said
     c.in-Ok.ensures.ok c.self.invariant.1
 
 pub returns-in-Ok-clause-played : goal.returns-in-Ok-clause-played

@@ -7,7 +7,8 @@ use Rattle.session_play.proofs.session.Session.take_into.Goals as goal
 
 pub invariant_of-self : goal.invariant_of-self
 invariant_of-self g c = (
-  take_waits c.args.stamp c.self.inside.shared c.take_watched.new.self c.self.inside.unread.items c.forget_ended.new.unread.items
+  take_waits c.args.stamp c.self.inside.shared c.take_watched.new.self c.self.inside.unread.items
+      c.forget_ended.new.unread.items
       c.args.number
       c.in-Bytes.field-0
       c.in-Bytes.ensures.settled c.forget_ended.ensures c.self.invariant.0,
@@ -17,7 +18,8 @@ invariant_of-self g c = (
 
 pub forget_ended-requires : goal.forget_ended-requires
 forget_ended-requires g c =
-    took_live c.args.stamp c.self.inside.shared c.take_watched.new.self c.self.inside.unread.items c.args.number c.in-Bytes.field-0
+    took_live c.args.stamp c.self.inside.shared c.take_watched.new.self c.self.inside.unread.items c.args.number
+    c.in-Bytes.field-0
     c.in-Bytes.ensures.settled c.self.invariant.1
 
 pub returns-in-Bytes-clause-played : goal.returns-in-Bytes-clause-played

@@ -18,7 +18,8 @@ returns-in-Use-clause-run c =
 pub returns-in-Leave-clause-run : goal.returns-in-Leave-clause-run
 unfolding acted
 returns-in-Leave-clause-run c =
-    subst (λ (a : Action). IsRun (acted c.args.time a c.args.self.now) c.shell-in-Leave.result c.shell-in-Leave.new.self)
+    subst (λ (a : Action). IsRun
+    (acted c.args.time a c.args.self.now) c.shell-in-Leave.result c.shell-in-Leave.new.self)
     (sym c.in-Leave.is) c.shell-in-Leave.ensures.run
 
 pub returns-in-Press-clause-run : goal.returns-in-Press-clause-run

@@ -16,14 +16,16 @@ returns-in_err-line c =
     let i = c.loop-action.action-index in
     let all = c.args.actions.now in
     let next =
-    at_drop_more (λ (l : List Action). actions_played c.loop-action.time l c.loop-action.self) all i c.action-item.result
+    at_drop_more
+    (λ (l : List Action). actions_played c.loop-action.time l c.loop-action.self) all i c.action-item.result
     c.loop-action-test.true
     ∙ ap (λ (x : Action). actions_played c.loop-action.time (x ∷ drop (i + 1) all) c.loop-action.self)
     (sym c.action-item.is) in
     record {
       run =
           rw (p.1, p.2)
-          (subst (λ (r : Ran TrialPlay). IsHalt r c.in_err-line.field-0.0 c.line.new.self) (sym next ∙ c.loop-action.invariant.left)
+          (subst (λ (r : Ran TrialPlay). IsHalt r c.in_err-line.field-0.0 c.line.new.self)
+          (sym next ∙ c.loop-action.invariant.left)
           (actions_stop c.loop-action.time c.action-item.result (drop (i + 1) all) c.loop-action.self _ _
           c.in_err-line.ensures.run));
     }
@@ -33,7 +35,8 @@ loop-action-preserved c =
     let i = c.loop-action.action-index in
     let all = c.args.actions.now in
     let next =
-    at_drop_more (λ (l : List Action). actions_played c.loop-action.time l c.loop-action.self) all i c.action-item.result
+    at_drop_more
+    (λ (l : List Action). actions_played c.loop-action.time l c.loop-action.self) all i c.action-item.result
     c.loop-action-test.true
     ∙ ap (λ (x : Action). actions_played c.loop-action.time (x ∷ drop (i + 1) all) c.loop-action.self)
     (sym c.action-item.is) in

@@ -10,5 +10,6 @@ pub returns-clause-ok : goal.returns-clause-ok
 returns-clause-ok c =
     let edit = entry_of c.args.edit.now in
     field_changed _ _ c.args.index (field_edits edit) _ _ c.self.view_is c.requires.there c.index_mut.ensures.value
-    (ap (λ (x : Client State). let f : FieldPlay = record { client = x; is_paused = c.behind-self.inside.is_paused } in f)
+    (ap (λ (x : Client State). let f : FieldPlay = record { client = x; is_paused = c.behind-self.inside.is_paused } in
+    f)
     c.in_ok-edit.ensures.step ∙ ap (field_edits edit) c.behind-self.view_is)

@@ -18,6 +18,7 @@ returns-in-Field-clause-ok c =
     on_ok c.field_hears.result _ _
     (λ e. field_changed _ _ c.in-Field.index (field_hears c.args.piece.now) _ _ c.self.view_is there.0
     c.index_mut.ensures.value
-    (ap (λ (x : Client State). let f : FieldPlay = record { client = x; is_paused = c.behind-self.inside.is_paused } in f)
+    (ap (λ (x : Client State). let f : FieldPlay = record { client = x; is_paused = c.behind-self.inside.is_paused } in
+    f)
     e ∙ ap (field_hears c.args.piece.now) c.behind-self.view_is)
     ∙ ap (λ (w : Whose). hears w c.args.piece.now c.args.self.now) (sym c.in-Field.is)) c.field_hears.ensures

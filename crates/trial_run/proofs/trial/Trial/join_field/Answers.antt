@@ -21,5 +21,6 @@ returns-in_err-join-clause-run c =
 
 pub returns-clause-run : goal.returns-clause-run
 returns-clause-run c =
-    join_runs _ _ _ _ _ _ _ c.sends.result c.self.view_is c.in_ok-join.ensures (c.len-index.ensures ∙ c.self.inside.fields.ok.0)
+    join_runs _ _ _ _ _ _ _ c.sends.result c.self.view_is c.in_ok-join.ensures
+    (c.len-index.ensures ∙ c.self.inside.fields.ok.0)
     c.in_ok-field.ensures c.in_ok-push.ensures.items c.sends.ensures.run

@@ -10,7 +10,8 @@ pub returns-in_err-join_field-clause-run : goal.returns-in_err-join_field-clause
 returns-in_err-join_field-clause-run c =
     let p = err_from_is_err_and c.from_residual.result c.from_residual.ensures.1 in
     rw (p.1, p.2)
-    (subst (λ (r : Ran TrialPlay). IsHalt r c.in_err-join_field.field-0.0 c.join_field.new.self) c.loop-joined.invariant.left
+    (subst (λ (r : Ran TrialPlay). IsHalt r c.in_err-join_field.field-0.0 c.join_field.new.self)
+    c.loop-joined.invariant.left
     (joins_stop c.args.count c.loop-joined.joined c.loop-joined.self _ _ c.loop-joined-test.true
     c.in_err-join_field.ensures.run))
 
@@ -20,7 +21,8 @@ loop-joined-preserved c =
     let so-far = c.loop-joined.invariant.fields in
     record {
       left =
-          sym (joins_go c.args.count c.loop-joined.joined c.loop-joined.self c.join_field.new.self c.loop-joined-test.true
+          sym (joins_go c.args.count c.loop-joined.joined c.loop-joined.self c.join_field.new.self
+          c.loop-joined-test.true
           c.in_ok-join_field.ensures.run)
           ∙ c.loop-joined.invariant.left;
       fields = omega arith;

@@ -38,15 +38,18 @@ pub returns-in_err-turn-2-clause-run : goal.returns-in_err-turn-2-clause-run
 returns-in_err-turn-2-clause-run c =
     let p = err_from_is_err_and c.from_residual-in_err-turn-2.result c.from_residual-in_err-turn-2.ensures.1 in
     let n = length c.args.self.now.fields in
-    let lt : c.loop-index.index < n = subst (λ m. c.loop-index.index < m) c.loop-index.invariant.count c.loop-index-test.true in
+    let lt : c.loop-index.index < n =
+    subst (λ m. c.loop-index.index < m) c.loop-index.invariant.count c.loop-index-test.true in
     rw (p.1, p.2)
-    (subst (λ (r : Ran TrialPlay). IsHalt r c.in_err-turn-2.field-0.0 c.turn-in-loop-index.new.self) c.loop-index.invariant.left
+    (subst (λ (r : Ran TrialPlay). IsHalt r c.in_err-turn-2.field-0.0 c.turn-in-loop-index.new.self)
+    c.loop-index.invariant.left
     (turns_stop n c.loop-index.index c.loop-index.self _ _ lt c.in_err-turn-2.ensures.run))
 
 pub loop-index-preserved : goal.loop-index-preserved
 loop-index-preserved c =
     let n = length c.args.self.now.fields in
-    let lt : c.loop-index.index < n = subst (λ m. c.loop-index.index < m) c.loop-index.invariant.count c.loop-index-test.true in
+    let lt : c.loop-index.index < n =
+    subst (λ m. c.loop-index.index < m) c.loop-index.invariant.count c.loop-index-test.true in
     record {
       left =
           sym (turns_go n c.loop-index.index c.loop-index.self c.turn-in-loop-index.new.self lt
@@ -59,5 +62,6 @@ loop-index-preserved c =
 pub returns-clause-run : goal.returns-clause-run
 returns-clause-run c =
     let n = length c.args.self.now.fields in
-    let le : n ≤ c.loop-index.index = subst (λ m. m ≤ c.loop-index.index) c.loop-index.invariant.count c.loop-index-test.false in
+    let le : n ≤ c.loop-index.index =
+    subst (λ m. m ≤ c.loop-index.index) c.loop-index.invariant.count c.loop-index-test.false in
     sym c.loop-index.invariant.left ∙ turns_end n c.loop-index.index c.loop-index.self le

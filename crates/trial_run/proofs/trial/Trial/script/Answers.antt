@@ -20,7 +20,8 @@ some_fields : (fields first : ℕ) (all : List Action) (t : TrialPlay) → (fiel
     ((method_joined t >>= fields_joined fields) >>= actions_played first all) ≡ played_with fields first all t
 unfolding played_with
 some_fields fields first all t h =
-    ap (λ (none : Bool). if none then went t else (method_joined t >>= fields_joined fields) >>= actions_played first all)
+    ap (λ (none : Bool). if none then went t
+    else (method_joined t >>= fields_joined fields) >>= actions_played first all)
     (sym (ne_eqb fields 0 h))
 
 pub returns-in_err-join_method : goal.returns-in_err-join_method

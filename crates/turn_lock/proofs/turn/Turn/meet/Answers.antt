@@ -35,7 +35,8 @@ invariant_of-seat g c =
 pub returns-clause-both : goal.returns-clause-both
 returns-clause-both g c =
     let k = c.load.ensures.2 in let e = c.join_seat.ensures.2 in
-    let both = meeting c.seat.inside.inner.me c.other.inside.inner.me c.load.new.seat.me c.seat.inside.inner.table_id c.other.inside.inner.table_id
+    let both = meeting c.seat.inside.inner.me c.other.inside.inner.me c.load.new.seat.me c.seat.inside.inner.table_id
+    c.other.inside.inner.table_id
     (ap (λ s. s.number) c.seat.view_is ∙ c.requires.first) (k.0 ∙ ap (λ m. m.0) e)
     (subst (λ v. IsMet v.met) (sym k.0) k.2) in
     subst (λ s. IsMeeting s c.args.other c.load.new.seat.me.0.seen) c.seat.view_is

@@ -9,7 +9,8 @@ use Rattle.virt_keys.proofs.boards.VKeys.has_keymap.Goals as goal
 pub returns-in-Some-clause-now : goal.returns-in-Some-clause-now
 returns-in-Some-clause-now c =
     c.has_keymap.ensures ∙ ap (λ (o : Option Board). keymap_at o)
-    (sym (ap (option_map (λ b. b.now)) c.in-Some.is) ∙ c.get.ensures.value ∙ sym (board_at c.self.inside.boards c.args.board)
+    (sym (ap (option_map (λ b. b.now)) c.in-Some.is) ∙ c.get.ensures.value
+    ∙ sym (board_at c.self.inside.boards c.args.board)
     ∙ ap (λ (m : Boards). map.get m c.args.board) c.self.view_is)
 
 pub returns-in-Some-clause-history : goal.returns-in-Some-clause-history
@@ -17,7 +18,8 @@ returns-in-Some-clause-history c calls s = returns-in-Some-clause-now c ∙ keym
 
 pub returns-in-None-clause-now : goal.returns-in-None-clause-now
 returns-in-None-clause-now c = ap (λ (o : Option Board). keymap_at o)
-    (sym (ap (option_map (λ b. b.now)) c.in-None.is) ∙ c.get.ensures.value ∙ sym (board_at c.self.inside.boards c.args.board)
+    (sym (ap (option_map (λ b. b.now)) c.in-None.is) ∙ c.get.ensures.value
+    ∙ sym (board_at c.self.inside.boards c.args.board)
     ∙ ap (λ (m : Boards). map.get m c.args.board) c.self.view_is)
 
 pub returns-in-None-clause-history : goal.returns-in-None-clause-history

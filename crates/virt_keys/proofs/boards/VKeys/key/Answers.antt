@@ -16,51 +16,66 @@ live : (c : goal.After-get_mut) → IsSome (map.get (boards_of c.self.inside.boa
 live c = subst (λ (m : Boards). IsSome (map.get m c.args.board)) (sym c.self.view_is) c.requires.live
 
 pub unwrap-requires : goal.unwrap-requires
-unwrap-requires c = finds (λ x. x.now) c.self.inside.boards c.args.board c.get_mut.result c.get_mut.ensures.value (live c)
+unwrap-requires c =
+    finds (λ x. x.now) c.self.inside.boards c.args.board c.get_mut.result c.get_mut.ensures.value (live c)
 
 there : (c : goal.After-self-1) → map.get c.args.self.now c.args.board ≡ Some c.unwrap.result.now
 there c =
     sym (ap (λ (m : Boards). map.get m c.args.board) c.self.view_is)
-    ∙ found_board (λ x. x.now) c.self.inside.boards c.args.board c.get_mut.result c.unwrap.result c.get_mut.ensures.value c.unwrap.ensures
+    ∙ found_board
+    (λ x. x.now) c.self.inside.boards c.args.board c.get_mut.result c.unwrap.result c.get_mut.ensures.value
+    c.unwrap.ensures
 
 -- the boards with this one after the call
 written : (c : goal.After-self-1)
-    → boards_of (c.get_mut.follows.lender c.key.new.self).entries ≡ map.insert c.args.self.now c.args.board c.key.new.self
+    → boards_of (c.get_mut.follows.lender c.key.new.self).entries
+    ≡ map.insert c.args.self.now c.args.board c.key.new.self
 written c =
-    board_written c.self.inside.boards (c.get_mut.follows.lender c.key.new.self) c.args.board c.unwrap.result.now c.key.new.self
+    board_written c.self.inside.boards
+    (c.get_mut.follows.lender c.key.new.self) c.args.board c.unwrap.result.now c.key.new.self
     (c.get_mut.follows.holds c.key.new.self)
     (ap (λ (m : Boards). map.get m c.args.board) c.self.view_is ∙ there c)
     ∙ ap (λ (m : Boards). map.insert m c.args.board c.key.new.self) c.self.view_is
 
 is_turned : (c : goal.After-self-1)
-    → boards_of (c.get_mut.follows.lender c.key.new.self).entries ≡ map.insert c.args.self.now c.args.board (turned c.unwrap.result.now c.args.key c.args.pressed c.args.grab)
+    → boards_of (c.get_mut.follows.lender c.key.new.self).entries
+    ≡ map.insert c.args.self.now c.args.board (turned c.unwrap.result.now c.args.key c.args.pressed c.args.grab)
 is_turned c = written c ∙ ap (λ (b : Board). map.insert c.args.self.now c.args.board b) c.key.ensures.board
 
 pub returns-clause-now : goal.returns-clause-now
 returns-clause-now c =
-    of_found (λ (b : Board). c.key.result ≡ routed b c.args.key c.args.pressed c.args.grab) _ c.unwrap.result.now (there c) c.key.ensures.route
+    of_found (λ (b : Board). c.key.result ≡ routed b c.args.key c.args.pressed c.args.grab) _ c.unwrap.result.now
+    (there c) c.key.ensures.route
 
 pub returns-clause-route : goal.returns-clause-route
 returns-clause-route c calls s =
-    c.key.ensures.route ∙ route_is calls c.args.self.now c.args.board c.unwrap.result.now c.args.key c.args.pressed c.args.grab s (there c)
+    c.key.ensures.route
+    ∙ route_is calls c.args.self.now c.args.board c.unwrap.result.now c.args.key c.args.pressed c.args.grab s (there c)
 
 pub returns-clause-history : goal.returns-clause-history
 returns-clause-history c calls s =
-    subst (λ (m : Boards). StandsFor (Key c.args.board c.args.key c.args.pressed c.args.grab ∷ calls) m) (sym (is_turned c))
-    (turned_after calls c.args.self.now c.args.board c.unwrap.result.now c.args.key c.args.pressed c.args.grab s (there c))
+    subst (λ (m : Boards). StandsFor (Key c.args.board c.args.key c.args.pressed c.args.grab ∷ calls) m)
+    (sym (is_turned c))
+    (turned_after calls c.args.self.now c.args.board c.unwrap.result.now c.args.key c.args.pressed c.args.grab s
+    (there c))
 
 pub returns-clause-too_many : goal.returns-clause-too_many
 returns-clause-too_many c =
-    of_found (λ (b : Board). (c.key.result ≡ TooMany) ↔ (IsTrue c.args.pressed × (map.len b.down ≡ 64) × (map.get b.down c.args.key ≡ None)))
+    of_found (λ (b : Board). (c.key.result ≡ TooMany)
+    ↔ (IsTrue c.args.pressed × (map.len b.down ≡ 64) × (map.get b.down c.args.key ≡ None)))
     _ c.unwrap.result.now (there c) c.key.ensures.too_many
 
 pub returns-clause-nowhere : goal.returns-clause-nowhere
 returns-clause-nowhere c =
-    let IsAnswer : Route → Type 0 = λ r. (r ≡ Nowhere) ↔ IsElsewhere (map.get c.unwrap.result.now.down c.args.key) (option_map (λ g. g.0) c.args.grab) in
-    of_found (λ (b : Board). (c.key.result ≡ Nowhere) ↔ IsElsewhere (map.get b.down c.args.key) (option_map (λ g. g.0) c.args.grab))
+    let IsAnswer : Route → Type 0 =
+    λ r. (r ≡ Nowhere)
+    ↔ IsElsewhere (map.get c.unwrap.result.now.down c.args.key) (option_map (λ g. g.0) c.args.grab) in
+    of_found (λ (b : Board). (c.key.result ≡ Nowhere)
+    ↔ IsElsewhere (map.get b.down c.args.key) (option_map (λ g. g.0) c.args.grab))
     _ c.unwrap.result.now (there c)
     (subst IsAnswer (sym c.key.ensures.route)
-    (nowhere_where (map.get c.unwrap.result.now.down c.args.key) (of_another (Some c.unwrap.result.now.peer) c.args.grab)
+    (nowhere_where (map.get c.unwrap.result.now.down c.args.key)
+    (of_another (Some c.unwrap.result.now.peer) c.args.grab)
     (option_map (λ g. g.0) c.args.grab) (map.len c.unwrap.result.now.down) c.args.pressed))
 
 pub returns-clause-refused : goal.returns-clause-refused
@@ -70,5 +85,6 @@ returns-clause-refused c many =
 
 pub returns-clause-keys : goal.returns-clause-keys
 returns-clause-keys c =
-    of_found (λ (b : Board). boards_of (c.get_mut.follows.lender c.key.new.self).entries ≡ map.insert c.args.self.now c.args.board (turned b c.args.key c.args.pressed c.args.grab))
+    of_found (λ (b : Board). boards_of (c.get_mut.follows.lender c.key.new.self).entries
+    ≡ map.insert c.args.self.now c.args.board (turned b c.args.key c.args.pressed c.args.grab))
     _ c.unwrap.result.now (there c) (is_turned c)

@@ -14,10 +14,12 @@ unwrap-requires c = finds (λ x. x.now) c.self.inside.boards c.args.board c.get.
 there : (c : goal.After-mods) → map.get c.args.self.now c.args.board ≡ Some c.unwrap.result.now
 there c =
     sym (ap (λ (m : Boards). map.get m c.args.board) c.self.view_is)
-    ∙ found_board (λ x. x.now) c.self.inside.boards c.args.board c.get.result c.unwrap.result c.get.ensures.value c.unwrap.ensures
+    ∙ found_board
+    (λ x. x.now) c.self.inside.boards c.args.board c.get.result c.unwrap.result c.get.ensures.value c.unwrap.ensures
 
 pub returns-clause-now : goal.returns-clause-now
-returns-clause-now c = of_found (λ (b : Board). c.mods.result ≡ mods_routed b c.args.grab) _ c.unwrap.result.now (there c) c.mods.ensures
+returns-clause-now c =
+    of_found (λ (b : Board). c.mods.result ≡ mods_routed b c.args.grab) _ c.unwrap.result.now (there c) c.mods.ensures
 
 pub returns-clause-route : goal.returns-clause-route
 returns-clause-route c calls s =

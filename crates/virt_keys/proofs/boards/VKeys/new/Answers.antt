@@ -5,4 +5,5 @@ use Rattle.virt_keys.specs.Boards.{Board, StandsFor}
 use Rattle.virt_keys.proofs.boards.VKeys.new.Goals as goal
 
 pub returns-clause-history : goal.returns-clause-history
-returns-clause-history c = subst (λ (es : List (ℕ × Board)). StandsFor [] (boards_of es)) (sym c.new.ensures.empty) none_after
+returns-clause-history c =
+    subst (λ (es : List (ℕ × Board)). StandsFor [] (boards_of es)) (sym c.new.ensures.empty) none_after

@@ -1,5 +1,5 @@
 use Rattle.std.proofs.Common.{rules, ap}
-use Rattle.wio_core.proofs.Turned.{answered, never_settled}
+use Rattle.wio_core.proofs.ReadersAnswer.{answered, never_settled}
 use Rattle.wio_core.proofs.line_reader.LineReader.next.Goals as goal
 
 pub returns-in-Err : goal.returns-in-Err

@@ -1,5 +1,5 @@
-use Rattle.wl_wire.proofs.Runs.{fed_on}
-use Rattle.wl_wire.proofs.Gathering.{told_is_there}
+use Rattle.wl_wire.proofs.MessagesHoweverCut.{fed_on}
+use Rattle.wl_wire.proofs.PiecesGathered.{told_is_there}
 use Rattle.wl_wire.proofs.assembler.Assembler.feed.Goals as goal
 
 pub returns-clause-all : goal.returns-clause-all

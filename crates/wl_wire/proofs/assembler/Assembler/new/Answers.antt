@@ -1,4 +1,4 @@
-use Rattle.wl_wire.proofs.Runs.{fed_nothing}
+use Rattle.wl_wire.proofs.MessagesHoweverCut.{fed_nothing}
 use Rattle.wl_wire.proofs.assembler.Assembler.new.Goals as goal
 
 pub returns-clause-fed : goal.returns-clause-fed

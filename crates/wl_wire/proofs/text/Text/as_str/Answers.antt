@@ -1,4 +1,4 @@
-use Rattle.wl_wire.proofs.Texts.{is_text-utf8}
+use Rattle.wl_wire.proofs.TextsKnown.{is_text-utf8}
 use Rattle.wl_wire.proofs.text.Text.as_str.Goals as goal
 
 pub from_utf8_unchecked-requires : goal.from_utf8_unchecked-requires

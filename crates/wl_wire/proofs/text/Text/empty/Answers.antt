@@ -1,5 +1,5 @@
 use Rattle.std.proofs.Common.{lit<}
-use Rattle.wl_wire.proofs.Texts.{is_text-nil}
+use Rattle.wl_wire.proofs.TextsKnown.{is_text-nil}
 use Rattle.wl_wire.proofs.text.Text.empty.Goals as goal
 
 pub invariant_of-result : goal.invariant_of-result

@@ -1,7 +1,7 @@
 use Rattle.std.proofs.Common.{◌≡◌, ◌∙◌}
 use Rattle.std.proofs.Math.Facts.{Fits-lt-pow}
 use Rattle.wl_wire.specs.Texts.{IsText}
-use Rattle.wl_wire.proofs.Texts.{is_text-of}
+use Rattle.wl_wire.proofs.TextsKnown.{is_text-of}
 use Rattle.wl_wire.proofs.text.Text.of.Goals as goal
 
 pub invariant_of-result : goal.invariant_of-result
