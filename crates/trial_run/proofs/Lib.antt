@@ -1,5 +1,6 @@
 pub mod FirstMessages
 pub mod FrontOfBytes
+mod FrontIsSent
 pub mod EventsBack
 pub mod EventsKnown
 pub mod PieceHeard

@@ -2,6 +2,10 @@
 use Rattle.std.proofs.Common.{◌≡◌, ℕ, zero, suc, ◌+◌, ◌-◌, ◌%◌, ◌^◌, ◌<◌, ◌≤◌, Bool, true, false, not, ◌&&◌, List, [], ◌∷◌, length, refl, sym, ap, subst, ◌∙◌, arith}
 use Rattle.std.specs.Prelude.{if◌then◌else◌}
 use Rattle.wl_wire.specs.Messages.{messages}
+use Rattle.wl_wire.specs.declared.raw.Raw.{Raw}
+use Rattle.wl_wire.specs.declared.front.Front.{Front}
+use Rattle.wl_wire.specs.declared.front.Front.TheVariants as front
+use Rattle.wl_wire.specs.Fronts.{HasMessages}
 use Rattle.broker_model.specs.declared.journal.Entry.{Entry}
 use Rattle.broker_core.specs.Broker.{Broker}
 use Rattle.broker_core.specs.Taking.{lives}
@@ -52,6 +56,12 @@ unfolding messages_sent
 messages_end q b = refl
 
 -- as the loop finds them in bytes
+
+pub front_none : (bytes : List ℕ) (f : Front) → ((raw : Raw) (used : ℕ) → f ≡ front.Whole raw used → ⊥) →
+    HasMessages bytes f → messages bytes ≡ []
+front_none bytes (front.Whole raw used) other h = absurd (other raw used refl)
+front_none bytes front.Part other h = h.0
+front_none bytes front.BadSize other h = h.0
 
 pub sends_go : (q : ℕ) (bytes rest m more : List ℕ) (b0 b after : Broker) (e : Entry) →
     messages_sent q (messages rest) b ≡ messages_sent q (messages bytes) b0 → messages rest ≡ m ∷ messages more →

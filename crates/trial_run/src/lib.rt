@@ -5,7 +5,6 @@
 mod clients;
 mod joining;
 mod lines;
-mod messages;
 mod rounds;
 mod run;
 mod showing;

@@ -1,24 +1,23 @@
 //! The steps of a trial, each through the shared state.
 ghost use Rattle.std.specs.Prelude.{◌≡◌, ℕ, ◌≤◌, true, length, take, IfOk, IfErr, OnOk};
-ghost use Rattle.wl_wire.specs.Messages.{messages, IsMessage};
-ghost use Rattle.seat_steps.specs.Ranges.{IsStep, IsPeerStep};
+ghost use Rattle.wl_wire.specs.Messages.{messages};
+ghost use Rattle.seat_steps.specs.Ranges.{IsStep, IsPeerStep, IsBody};
 ghost use Rattle.broker_model.specs.declared.journal.Entry.TheVariants as entries;
 ghost use Rattle.broker_core.specs.Broker.{entry_of, peer_entry, IsSaid};
 ghost use Rattle.broker_core.specs.Taking.{lives, standing_of};
 ghost use Rattle.broker_core.specs.declared.taking.Standing.TheVariants.{Alive};
 ghost use Rattle.trial_run.specs.Ran.{went};
-ghost use Rattle.trial_run.specs.Steps.{stepped, joined, message_entry, messages_sent};
+ghost use Rattle.trial_run.specs.Steps.{stepped, joined, messages_sent};
 ghost use Rattle.trial_run.specs.Steps.{has_stored, next_bytes};
 ghost use Rattle.trial_run.specs.Working.{IsThere, IsStop, IsStepped};
 
-use crate::messages::{raw_of, take_message};
 use crate::stop::Stop;
 use broker_core::{JoinRefusal, Refused, Shared, Standing, Took};
 use relay_model::Role;
 use seat_steps::{PeerStep, Stamp, Step};
 use std::alloc::Global;
 use wio_core::NoMemory;
-use wl_wire::Bytes;
+use wl_wire::{Bytes, Front, Raw, front_of};
 
 // Of a step of a trial neither moment nor author is known.
 const NO_STAMP: Stamp = Stamp {
@@ -98,13 +97,12 @@ fn lives(shared: &Shared, number: u32) -> bool
 }
 
 // The step of a whole message.
-fn message_step(alloc: Global, message: &[u8]) -> Result<PeerStep, NoMemory>
-    requires { IsMessage message.now }
+fn message_step(alloc: Global, raw: &Raw<'_>) -> Result<PeerStep, NoMemory>
+    requires size { IsBody raw.now.body.now }
     ensures entry { IfOk result (λ step. (q : ℕ) →
-        peer_entry q step ≡ message_entry q message.now) }
+        peer_entry q step ≡ entries.Message q raw.now.id raw.now.opcode raw.now.body.now) }
     ensures valid { IfOk result IsPeerStep }
 {
-    let raw = raw_of(message);
     Ok(PeerStep::Message {
         id: raw.id,
         opcode: raw.opcode,
@@ -123,11 +121,12 @@ pub(crate) fn send_all(
         result shared.new }
 {
     let mut rest = bytes;
-    while let Some((message, more)) = take_message(rest) {
+    'messages: while let Front::Whole(raw, used) = front_of(rest) {
+        let (_, more) = rest.split_at(used);
         if !lives(shared, number) {
             return Ok(());
         }
-        let sent = message_step(alloc, message)?;
+        let sent = message_step(alloc, &raw)?;
         step(shared, &Step::Peer(number, sent))?;
         rest = more;
     }
