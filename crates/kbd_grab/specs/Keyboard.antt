@@ -1,5 +1,5 @@
 -- what a `Grab` shows: one value, and the lists of calls that it stands for
-use Rattle.std.specs.Prelude.{refl, ◌≡◌, ℕ, ℤ, List, Bool, true, false, nat_lt, if◌then◌else◌, Option, Some, None}
+use Rattle.std.specs.Prelude.{refl, ◌≡◌, ℕ, ℤ, List, Bool, true, false, not, ◌&&◌, nat_lt, is_none, if◌then◌else◌, Option, Some, None}
 use Rattle.std.specs.Ordering.{nat_cmp}
 use Rattle.std.specs.FinMap as map
 use Rattle.std.specs.Coded.{Coded, code_by, coded×, coded_option, coded_ℕ, coded_ℤ}
@@ -103,3 +103,7 @@ routed_at (Some went) opens standing number pressed = as_first standing went
 routed_at None opens standing number true =
     (if nat_lt number 64 then to_standing opens else TooMany)
 routed_at None opens standing number false = Pass
+
+-- whether a press is refused, with so many keys down
+abbrev pub refused_at : (here : Option (Option ℕ)) (number : ℕ) (pressed : Bool) → Bool
+refused_at here number pressed = (pressed && is_none here) && not (nat_lt number 64)

@@ -72,6 +72,11 @@ key_route calls key pressed =
     else (if not pressed then Pass
     else (if nat_lt (number_down calls) 64 then to_standing (grab_standing calls) else TooMany)))
 
+-- the press is refused: 64 keys are down, and this is another
+abbrev pub is_refused : List Call → (key : ℕ) (pressed : Bool) → Bool
+is_refused calls key pressed =
+    (pressed && not (is_down calls key)) && not (nat_lt (number_down calls) 64)
+
 -- what the shell told last, if it did
 abbrev pub told_keymap : List Call → Option Keymap
 told_keymap [] = None

@@ -4,7 +4,7 @@ ghost use Rattle.std.specs.Option.{option_map};
 ghost use Rattle.std.specs.Vec.{vec_len, vec_capacity};
 ghost use Rattle.std.specs.FinMap as map;
 ghost use Rattle.kbd_grab.specs.Keys.{to_standing, as_first};
-ghost use Rattle.kbd_grab.specs.Keyboard.{turned_at, routed_at};
+ghost use Rattle.kbd_grab.specs.Keyboard.{turned_at, routed_at, refused_at};
 ghost use Rattle.kbd_grab.specs.DownList.{keys_of, IsTidy};
 
 use crate::keyboard::{Label, Route};
@@ -44,6 +44,15 @@ pub fn turn(
         (None, true) => press(down, opens, key),
         (None, false) => Route::Pass,
     }
+}
+
+// A press of a key that is up, while as many are down as may be.
+pub fn refuses(down: &Vec<Down>, key: u32, pressed: bool) -> bool
+    requires { IsTidy down.now.items (vec_capacity down.now) }
+    ensures { let keys = keys_of down.now.items in
+        result ≡ refused_at (map.get keys key) (map.len keys) pressed }
+{
+    pressed && find_down(down, key).is_none() && down.len() >= KEYS_DOWN
 }
 
 // A press of a key that is up.

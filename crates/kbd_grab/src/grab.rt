@@ -1,11 +1,11 @@
 //! The grab that stands, and the keys that are down.
 ghost use Rattle.std.specs.Prelude.{◌≡◌, ◌∷◌, [], List, None, Some, IfOk, ◌↔◌, IsTrue, true};
 ghost use Rattle.std.specs.FinMap as map;
-ghost use Rattle.kbd_grab.specs.Keys.{Call, key_route, is_down, first_went, fell_since};
+ghost use Rattle.kbd_grab.specs.Keys.{Call, key_route, is_down, is_refused, first_went, fell_since};
 ghost use Rattle.kbd_grab.specs.Keys.{unless_fell, EachStandsOnce, told_keymap, told_repeat};
 ghost use Rattle.kbd_grab.specs.Keys.{told_mods, grab_standing};
 ghost use Rattle.kbd_grab.specs.Keys.Call.{Stand, Fall, Key, TellKeymap, TellRepeat, TellMods};
-ghost use Rattle.kbd_grab.specs.Keyboard.{StandsFor, turned, answer_at};
+ghost use Rattle.kbd_grab.specs.Keyboard.{StandsFor, turned, answer_at, refused_at};
 
 use crate::held::HeldKeys;
 use crate::keyboard::{Keymap, Label, Mods, Repeat, Route};
@@ -103,6 +103,15 @@ impl Grab {
         ensures keys { self.new ≡ record self.old { down = turned self.old key pressed } }
     {
         self.down.turn(self.standing, self.standing, key, pressed)
+    }
+
+    /// Whether `key` would refuse this press (`pressed`) or release: 64 keys are down, and it is a press of another.
+    pub fn refuses(&self, key: u32, pressed: bool) -> bool
+        ensures now { result ≡ refused_at (map.get self.now.down key) (map.len self.now.down) pressed }
+        ensures history { (calls : List Call) → StandsFor calls self.now →
+            result ≡ is_refused calls key pressed }
+    {
+        self.down.refuses(key, pressed)
     }
 
     /// The shell told this keymap.

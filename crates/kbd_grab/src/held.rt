@@ -1,9 +1,9 @@
 //! The keys that are down, and where each one's first press went.
 ghost use Rattle.std.specs.Prelude.{◌≡◌, ◌≤◌, ◌↔◌, IfOk, IsTrue, None};
 ghost use Rattle.std.specs.FinMap as map;
-ghost use Rattle.kbd_grab.specs.Keyboard.{turned_at, routed_at};
+ghost use Rattle.kbd_grab.specs.Keyboard.{turned_at, routed_at, refused_at};
 
-use crate::down::{Down, KEYS_DOWN, turn};
+use crate::down::{Down, KEYS_DOWN, refuses, turn};
 use crate::keyboard::{Label, Route};
 use std::alloc::Global;
 use std::marker::Model;
@@ -67,5 +67,12 @@ impl HeldKeys {
         ensures keys { self.new ≡ turned_at (map.get self.old key) opens self.old key pressed }
     {
         turn(&mut self.down, opens, standing, key, pressed)
+    }
+
+    /// Whether `turn` would refuse this press (`pressed`) or release: 64 keys are down, and it is a press of another.
+    pub fn refuses(&self, key: u32, pressed: bool) -> bool
+        ensures { result ≡ refused_at (map.get self.now key) (map.len self.now) pressed }
+    {
+        refuses(&self.down, key, pressed)
     }
 }

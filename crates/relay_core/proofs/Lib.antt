@@ -29,6 +29,7 @@ pub mod EveryActStands
 pub mod BoardCalls
 pub mod BoardsKept
 pub mod BoardsTold
+pub mod LiveActs
 pub mod LiveBoards
 pub mod ToldBounds
 pub mod ToldRooms

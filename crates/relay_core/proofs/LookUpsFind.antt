@@ -18,7 +18,6 @@ use Rattle.relay_model.proofs.HoldLaws.{holder_entered}
 use Rattle.seat_objects.specs.Objects.{find, is_peer_in, is_surface_in, is_field_in, is_method_in, is_peer_kind, is_surface_kind, is_field_kind, is_method_kind, owner_in, field_of_kind, field_in, field_at, count_of_field, count_in, surface_of_kind, has_popup_in}
 use Rattle.relay_core.specs.Machine.{State, owner_at, focused_in, entered_in, is_thing_in, is_live_in, current_of, holder_state}
 use Rattle.seat_objects.specs.declared.object.Object.{Object as Kept}
-pub use Rattle.relay_core.specs.Bounds.{is_key}
 use Rattle.relay_core.specs.Stands.{Stands, state_kept, current_where, field_kept, kind_of, entry_of, entry}
 use Rattle.relay_core.proofs.HistoryEntries.{map_if, found, found_of}
 
@@ -209,7 +208,15 @@ finds_popup s log t h =
     (labels log)
     (λ x. popup_entry log t x (object log x))
 
--- the relay knows which acts do something, but for a press that is refused, and for what boards say
+-- the act is a press or a release of a key, or what a board says
+abbrev pub is_key : Act → Bool
+is_key (acts.Key time key state) = true
+is_key (acts.VKeymap v keymap) = true
+is_key (acts.VKey v time key state) = true
+is_key (acts.VMods v mods) = true
+is_key _ = false
+
+-- the machine knows which acts do something, but for a press that is refused, and for what boards say
 pub live_is : (s : State) (log : List Act) (act : Act) → Stands s log → is_key act ≡ false →
     is_live_in act s ≡ is_live act log
 live_is s log acts.Peer h b = refl

@@ -1,6 +1,6 @@
 -- The room that is made for an act has what it tells.
 use Rattle.std.proofs.Common.{◌≡◌, ℕ, ◌+◌, ◌≤◌, List, [], ◌++◌, append-nil, length, Bool, true, false, Option, Some, None, ap, refl, sym, subst, arith}
-use Rattle.std.specs.Prelude.{IfSome, ◌||◌}
+use Rattle.std.specs.Prelude.{IfSome}
 use Rattle.std.proofs.lemmas.Bool.{true≢false}
 use Rattle.relay_model.specs.declared.act.Act.{Act}
 use Rattle.relay_model.specs.declared.act.Act.TheVariants as acts
@@ -11,9 +11,9 @@ use Rattle.relay_model.proofs.ActsOrIdle.{history_is}
 use Rattle.kbd_grab.specs.declared.keyboard.Route.{Route}
 use Rattle.kbd_grab.specs.declared.keyboard.Route.TheVariants.{ToGrab, Pass, Nowhere, TooMany}
 use Rattle.seat_objects.specs.declared.spare.Spare.{Spare}
-use Rattle.relay_core.specs.Machine.{State, tells, is_live_in}
+use Rattle.relay_core.specs.Machine.{State, tells}
 use Rattle.relay_core.specs.BoardKeys.{Boards, sent_by, sent_told}
-use Rattle.relay_core.specs.Bounds.{text_bytes, most_told, is_from_board, is_key}
+use Rattle.relay_core.specs.Bounds.{text_bytes, most_told}
 use Rattle.relay_core.specs.Kept.{Shown, HasSpare}
 use Rattle.relay_core.specs.Stands.{StandsFor}
 use Rattle.relay_core.proofs.ToldBounds.{Weighs, Bound, tells_weigh, some_spare}
@@ -80,13 +80,3 @@ told_short shown log act n h k e =
       ap text_bytes (all_told shown.state shown.boards (history log) act (history_is log) h.state h.boards),
       e,
     )
-
--- which acts are answered for in front
-
-pub is_other : (act : Act) → is_key act ≡ false → is_from_board act ≡ false
-is_other (acts.Key time key state) e = refl
-is_other act e = e
-
-pub key_is_live : (act : Act) (s : State) → is_key act ≡ true → (is_from_board act || is_live_in act s) ≡ true
-key_is_live (acts.Key time key state) s e = refl
-key_is_live act s e = ap (λ b. b || is_live_in act s) e

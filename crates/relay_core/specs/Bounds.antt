@@ -1,5 +1,5 @@
--- How much an act can tell, and which acts are answered for in front.
-use Rattle.std.specs.Prelude.{ℕ, ◌+◌, List, [], ◌∷◌, length, Bool, true, false, Option, Some, None}
+-- How much an act can tell.
+use Rattle.std.specs.Prelude.{ℕ, ◌+◌, List, [], ◌∷◌, length, Option, Some, None}
 use Rattle.relay_model.specs.declared.act.Act.{Act}
 use Rattle.relay_model.specs.declared.act.Act.TheVariants as acts
 use Rattle.relay_model.specs.declared.said.Told.{Told}
@@ -43,15 +43,3 @@ most_told (acts.Commit f) s = popups_count s + popups_count s + 5
 most_told (acts.Area t rect) s = popups_count s + popups_count s + 5
 most_told (acts.Screen size) s = popups_count s + popups_count s + 5
 most_told _ s = 0 + 0 + 5
-
--- the act is what a board says: its keymap, a key, or modifiers
-abbrev pub is_from_board : Act → Bool
-is_from_board (acts.VKeymap v keymap) = true
-is_from_board (acts.VKey v time key state) = true
-is_from_board (acts.VMods v mods) = true
-is_from_board _ = false
-
--- the act is a press or a release of a key, or what a board says
-abbrev pub is_key : Act → Bool
-is_key (acts.Key time key state) = true
-is_key act = is_from_board act

@@ -1,5 +1,5 @@
 //! What a caller asks of a relay beside what it is told.
-ghost use Rattle.std.specs.Prelude.{◌≡◌, ◌≤◌, List, true, false, length, IfSome};
+ghost use Rattle.std.specs.Prelude.{◌≡◌, ◌≤◌, List, length, IfSome};
 ghost use Rattle.relay_model.specs.declared.act.Act.{Act};
 ghost use Rattle.relay_model.specs.Focus.{focus};
 ghost use Rattle.relay_model.specs.Hold.{holder};
@@ -7,32 +7,31 @@ ghost use Rattle.relay_model.specs.Activation.{serving};
 ghost use Rattle.relay_model.specs.Keys.{standing};
 ghost use Rattle.relay_model.specs.Idle.{history, is_live};
 ghost use Rattle.relay_model.specs.Told.{told};
-ghost use Rattle.relay_core.specs.Bounds.{is_from_board, is_key, text_bytes};
+ghost use Rattle.relay_core.specs.Bounds.{text_bytes};
 ghost use Rattle.relay_core.specs.Kept.{IsReserved};
 ghost use Rattle.relay_core.specs.Stands.{StandsFor};
 
 use crate::relay::Relay;
 use relay_model::{Act, Label};
 
-// What a board says is looked at where it is taken.
-fn is_from_board(act: &Act) -> bool
-    ensures { result ≡ is_from_board act.now }
-{
-    matches!(
-        act,
-        Act::VKeymap { .. } | Act::VKey { .. } | Act::VMods { .. }
-    )
-}
-
 impl Relay {
-    /// Whether the act would do something. A press or a release of a key always may, and what a board
-    /// says; of any other act the answer is exact.
+    /// Whether the act would do something.
     pub fn is_live(&self, act: &Act) -> bool
-        ensures exact { (log : List Act) → StandsFor self.now log → is_key act.now ≡ false →
+        ensures { (log : List Act) → StandsFor self.now log →
             result ≡ is_live act.now (history log) }
-        ensures keys { is_key act.now ≡ true → result ≡ true }
     {
-        is_from_board(act) || self.machine.is_live(act)
+        match act {
+            Act::Key { key, state, .. } => !self.machine.keys.refuses(*key, *state == 1),
+            Act::VKeymap { board, .. } => self.boards.lives(*board),
+            Act::VKey {
+                board,
+                key,
+                state,
+                ..
+            } => self.boards.takes(*board, *key, *state == 1),
+            Act::VMods { board, .. } => self.boards.has_keymap(*board),
+            _ => self.machine.is_live(act),
+        }
     }
 
     /// No more events than this are told of the act, whatever came before; none where there is no

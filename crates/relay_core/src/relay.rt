@@ -18,7 +18,7 @@ use wio_core::NoMemory;
 #[derive(Drop)]
 pub struct Relay {
     pub(crate) machine: Machine,
-    boards: Boards,
+    pub(crate) boards: Boards,
 }
 
 impl Model for Relay {

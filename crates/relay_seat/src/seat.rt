@@ -110,9 +110,8 @@ impl RelaySeat {
 
     /// Takes one act, and answers its number, which is the label of what it made. What it tells
     /// waits behind what waited before. An act that does nothing, as one on an object that isn't
-    /// alive, costs no number: the answer is none, and the seat is as before. So is it after a
-    /// refusal. A press or a release of a key always has a number, and what a board says: its
-    /// keymap, its keys and its modifiers.
+    /// alive, a key of a board that had no keymap, or a press while 64 keys are down, costs no
+    /// number: the answer is none, and the seat is as before. So is it after a refusal.
     pub fn take(&mut self, act: &Act) -> Result<Option<Label>, Refusal>
         ensures { (log : List Act) → (waits : List Heard) → Seated self.old log waits →
             Takes self.new log waits act.now result }

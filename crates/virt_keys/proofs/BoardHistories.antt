@@ -1,19 +1,20 @@
 -- the boards after one more call
-use Rattle.std.proofs.Common.{◌≡◌, ℕ, List, [], ◌∷◌, Bool, true, false, cond, ◌||◌, Option, Some, None, refl, sym, ◌∙◌, ap, subst}
-use Rattle.std.specs.Prelude.{◌==◌}
+use Rattle.std.proofs.Common.{◌≡◌, ℕ, List, [], ◌∷◌, Bool, true, false, cond, not, ◌||◌, Option, Some, None, refl, sym, ◌∙◌, ap, subst}
+use Rattle.std.specs.Prelude.{◌==◌, ◌&&◌, if◌then◌else◌}
 use Rattle.std.specs.Option.{option_map}
 use Rattle.std.specs.Ordering.{nat_cmp}
 use Rattle.std.specs.FinMap as map
 use Rattle.std.proofs.lemmas.Bool.{eqb-true, cond-true, cond-false}
 use Rattle.kbd_grab.specs.declared.keyboard.Route.{Route}
-use Rattle.kbd_grab.specs.Keyboard.{routed_at}
+use Rattle.kbd_grab.specs.Keyboard.{routed_at, refused_at}
 use Rattle.kbd_grab.specs.Keys as keyboard
 use Rattle.kbd_grab.specs.Keys.{to_standing}
-use Rattle.virt_keys.specs.Routes.{Call, peer_of, had_keymap, of_another, own_calls, key_route, mods_route, standing_call}
-use Rattle.virt_keys.specs.Routes.Call.{Make, Drop, Keymap, Key}
-use Rattle.virt_keys.specs.Boards.{Board, Boards, StandsFor, IsAfter, IsMade, IsNone, AreDown, keymap_at, new_board, routed, turned, mods_routed}
+use Rattle.virt_keys.specs.Routes.{Call, peer_of, had_keymap, is_of, of_another, own_calls, key_route, mods_route, standing_call, is_refused}
+use Rattle.virt_keys.specs.Routes.Call.{Make, Drop, Keymap, Key, Gone}
+use Rattle.virt_keys.specs.Boards.{Board, Boards, StandsFor, IsAfter, IsMade, IsNone, AreDown, keymap_at, takes_at, new_board, routed, turned, mods_routed}
+use Rattle.virt_keys.specs.PeerBoards.{unless_of}
 use Rattle.virt_keys.proofs.BoardTree.{after_insert, after_remove}
-use Rattle.virt_keys.proofs.TurnedKeys.{turned_down, route_down}
+use Rattle.virt_keys.proofs.TurnedKeys.{turned_down, route_down, refused_down}
 
 -- of the board with this label both histories say the same
 record SameAt (newer older : List Call) (label : ℕ) : Type 0 where
@@ -111,6 +112,39 @@ dropped_after calls m label s = record {
         }
     at x false e = kept (Drop label ∷ calls) calls x (other_dropped calls label x e) (map.get m x) (s.each x)
 
+-- a peer ends
+
+gone_none : (calls : List Call) (peer x : ℕ) → IsNone calls x → IsNone (Gone peer ∷ calls) x
+gone_none calls peer x none = record {
+  peer = ap (λ p. if is_of p peer then None else p) none.peer;
+  keymap = ap (λ p. if is_of p peer then false else had_keymap calls x) none.peer ∙ none.keymap;
+  down = ap (λ p. if is_of p peer then [] else own_calls calls x) none.peer ∙ none.down;
+}
+
+gone_made : (calls : List Call) (peer x : ℕ) (board : Board) (b : Bool) → (board.peer == peer) ≡ b →
+    IsMade calls x board
+    → IsAfter (Gone peer ∷ calls) x (if b then None else Some board)
+gone_made calls peer x board b e made = at b (ap (λ p. is_of p peer) made.peer ∙ e)
+  where
+    at : (b : Bool) → is_of (peer_of calls x) peer ≡ b → IsAfter (Gone peer ∷ calls) x (if b then None else Some board)
+    at true e = record { peer = cond-true _ _ _ e; keymap = cond-true _ _ _ e; down = cond-true _ _ _ e }
+    at false e = record {
+      peer = cond-false _ _ _ e ∙ made.peer;
+      keymap = cond-false _ _ _ e ∙ made.keymap;
+      down = down_same _ _ board (cond-false _ _ _ e) made.down;
+    }
+
+pub gone_after : (calls : List Call) (m after : Boards) (peer : ℕ) → StandsFor calls m
+    → ((x : ℕ) → map.get after x ≡ unless_of peer (map.get m x)) → StandsFor (Gone peer ∷ calls) after
+gone_after calls m after peer s left = record {
+  each = λ x. subst (λ (o : Option Board). IsAfter (Gone peer ∷ calls) x o) (sym (left x))
+      (at x (map.get m x) (s.each x));
+}
+  where
+    at : (x : ℕ) (o : Option Board) → IsAfter calls x o → IsAfter (Gone peer ∷ calls) x (unless_of peer o)
+    at x None none = gone_none calls peer x none
+    at x (Some board) made = gone_made calls peer x board (board.peer == peer) refl made
+
 pub told_after : (calls : List Call) (m : Boards) (label : ℕ) (board : Board) → StandsFor calls m
     → map.get m label ≡ Some board
     → StandsFor (Keymap label ∷ calls) (map.insert m label (record board { has_keymap = true }))
@@ -173,3 +207,16 @@ pub mods_is : (calls : List Call) (m : Boards) (label : ℕ) (board : Board) (gr
     → mods_routed board grab ≡ mods_route calls label grab
 mods_is calls m label board grab s there =
     ap (λ (p : Option ℕ). to_standing (of_another p grab)) (sym (is_made calls m label board s there).peer)
+
+-- whether a live board takes a press or a release
+pub takes_is : (calls : List Call) (m : Boards) (label key : ℕ) (pressed : Bool) → StandsFor calls m
+    → takes_at (map.get m label) key pressed ≡ (had_keymap calls label && not (is_refused calls label key pressed))
+takes_is calls m label key pressed s = at (map.get m label) (s.each label)
+  where
+    at : (o : Option Board) → IsAfter calls label o →
+        takes_at o key pressed ≡ (had_keymap calls label && not (is_refused calls label key pressed))
+    at None is = sym (ap (λ b. b && not (is_refused calls label key pressed)) is.keymap)
+    at (Some board) is =
+        ap (λ b. b && not (refused_at (map.get board.down key) (map.len board.down) pressed)) (sym is.keymap)
+        ∙ ap (λ r. had_keymap calls label && not r)
+        (refused_down (own_calls calls label) board.down key pressed is.down)

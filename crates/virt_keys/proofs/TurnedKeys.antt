@@ -1,13 +1,13 @@
 -- a press or a release on one board, as a call on a keyboard
 use Rattle.std.proofs.Common.{◌≡◌, ℕ, List, ◌∷◌, Bool, true, false, not, rules, Option, Some, None, refl, ◌∙◌, ap}
-use Rattle.std.specs.Prelude.{nat_lt, ◌==◌, ◌↔◌, ◌≢◌, if◌then◌else◌}
+use Rattle.std.specs.Prelude.{nat_lt, ◌==◌, ◌&&◌, ◌↔◌, ◌≢◌, if◌then◌else◌}
 use Rattle.std.specs.FinMap as map
 use Rattle.std.proofs.lemmas.Bool.{eqb-true, eqb-false}
 use Rattle.std.proofs.lemmas.Option.{same_Some}
 use Rattle.kbd_grab.specs.declared.keyboard.Route.TheVariants.{ToGrab, Pass, Nowhere, TooMany}
-use Rattle.kbd_grab.specs.Keys.{Call, is_down, first_went, number_down, as_first, to_standing, told_keymap, told_repeat, told_mods}
+use Rattle.kbd_grab.specs.Keys.{Call, is_refused, is_down, first_went, number_down, as_first, to_standing, told_keymap, told_repeat, told_mods}
 use Rattle.kbd_grab.specs.Keys.Call.{Key}
-use Rattle.kbd_grab.specs.Keyboard.{Keyboard, DownKeys, StandsFor, turned_at, routed_at}
+use Rattle.kbd_grab.specs.Keyboard.{Keyboard, DownKeys, StandsFor, turned_at, routed_at, refused_at}
 use Rattle.kbd_grab.proofs.KeyTurns.{turned_stands}
 use Rattle.virt_keys.specs.Routes.{standing_call}
 use Rattle.virt_keys.specs.Boards.{AreDown, IsElsewhere}
@@ -59,6 +59,19 @@ route_down calls down opens standing key pressed a =
     at true pressed = refl
     at false true = refl
     at false false = refl
+
+-- whether it is refused
+pub refused_down : (calls : List Call) (down : DownKeys) (key : ℕ) (pressed : Bool) → AreDown calls down
+    → refused_at (map.get down key) (map.len down) pressed ≡ is_refused calls key pressed
+refused_down calls down key pressed a =
+    ap (λ here. refused_at here (map.len down) pressed) (a.keys key)
+    ∙ ap (λ n. refused_at (if is_down calls key then Some (first_went calls key) else None) n pressed) a.number
+    ∙ at (is_down calls key)
+  where
+    at : (there : Bool) → refused_at (if there then Some (first_went calls key) else None) (number_down calls) pressed
+        ≡ ((pressed && not there) && not (nat_lt (number_down calls) 64))
+    at true = refl
+    at false = refl
 
 -- it goes nowhere exactly where its first press went to a grab that doesn't stand
 pub nowhere_where : (here : Option (Option ℕ)) (opens standing : Option ℕ) (number : ℕ) (pressed : Bool)

@@ -1,5 +1,5 @@
 -- what a `VKeys` shows: the live boards, and the lists of calls that they stand for
-use Rattle.std.specs.Prelude.{refl, ◌≡◌, ℕ, List, [], Bool, false, Option, Some, None, IsSomeAnd, if◌then◌else◌, ◌≢◌}
+use Rattle.std.specs.Prelude.{refl, ◌≡◌, ℕ, List, [], Bool, false, not, ◌&&◌, Option, Some, None, IsSomeAnd, if◌then◌else◌, ◌≢◌}
 use Rattle.std.specs.Option.{option_map}
 use Rattle.std.specs.Ordering.{nat_cmp}
 use Rattle.std.specs.FinMap as map
@@ -7,7 +7,7 @@ use Rattle.std.specs.Coded.{Coded, code_by, coded×, coded_option, coded_bool, c
 use Rattle.kbd_grab.specs.declared.keyboard.Route.{Route}
 use Rattle.kbd_grab.specs.Keys as keyboard
 use Rattle.kbd_grab.specs.Keys.{to_standing}
-use Rattle.kbd_grab.specs.Keyboard.{DownKeys, routed_at, turned_at}
+use Rattle.kbd_grab.specs.Keyboard.{DownKeys, routed_at, turned_at, refused_at}
 use Rattle.virt_keys.specs.Routes.{Call, peer_of, had_keymap, of_another, own_calls}
 
 pub record Board : Type 0 where
@@ -53,6 +53,12 @@ turned board key pressed grab =
       down = turned_at (map.get board.down key)
           (of_another (Some board.peer) grab) board.down key pressed;
     }
+
+-- there is a board that was given a keymap, and it doesn't refuse the press or release
+abbrev pub takes_at : Option Board → (key : ℕ) (pressed : Bool) → Bool
+takes_at None key pressed = false
+takes_at (Some board) key pressed =
+    board.has_keymap && not (refused_at (map.get board.down key) (map.len board.down) pressed)
 
 -- where modifiers go
 abbrev pub mods_routed : Board → (grab : Option (ℕ × ℕ)) → Route

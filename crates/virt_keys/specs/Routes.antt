@@ -8,18 +8,26 @@ use Rattle.kbd_grab.specs.Keys as keyboard
 use Rattle.kbd_grab.specs.Keys.{to_standing, as_first}
 
 -- a board is made for a peer or ends; it is given a keymap; a key of it is pressed (true) or
--- released, while a grab with its peer stands or none
+-- released, while a grab with its peer stands or none; a peer ends, with its boards
 pub data Call : Type 0 where
   Make : (board peer : ℕ) → Call
   Drop : (board : ℕ) → Call
   Keymap : (board : ℕ) → Call
   Key : (board key : ℕ) (pressed : Bool) (grab : Option (ℕ × ℕ)) → Call
+  Gone : (peer : ℕ) → Call
+
+-- a board of this peer, if it is there, is of that one
+abbrev pub is_of : Option ℕ → (peer : ℕ) → Bool
+is_of None peer = false
+is_of (Some p) peer = p == peer
 
 -- the peer of a live board
 abbrev pub peer_of : List Call → (board : ℕ) → Option ℕ
 peer_of [] board = None
 peer_of (Make b peer ∷ older) board = (if board == b then Some peer else peer_of older board)
 peer_of (Drop b ∷ older) board = (if board == b then None else peer_of older board)
+peer_of (Gone peer ∷ older) board =
+    (if is_of (peer_of older board) peer then None else peer_of older board)
 peer_of (_ ∷ older) board = peer_of older board
 
 -- the live board was given a keymap
@@ -27,6 +35,8 @@ abbrev pub had_keymap : List Call → (board : ℕ) → Bool
 had_keymap [] board = false
 had_keymap (Drop b ∷ older) board = (if board == b then false else had_keymap older board)
 had_keymap (Keymap b ∷ older) board = board == b || had_keymap older board
+had_keymap (Gone peer ∷ older) board =
+    (if is_of (peer_of older board) peer then false else had_keymap older board)
 had_keymap (_ ∷ older) board = had_keymap older board
 
 -- of the standing grab and its peer: the grab, where its peer isn't the board's
@@ -46,6 +56,8 @@ standing_call (Some label) = keyboard.Call.Stand label
 abbrev pub own_calls : List Call → (board : ℕ) → List keyboard.Call
 own_calls [] board = []
 own_calls (Drop b ∷ older) board = (if board == b then [] else own_calls older board)
+own_calls (Gone peer ∷ older) board =
+    (if is_of (peer_of older board) peer then [] else own_calls older board)
 own_calls (Key b key pressed grab ∷ older) board =
     (if board == b
     then keyboard.Call.Key key pressed ∷ standing_call (of_another (peer_of older board) grab)
@@ -77,6 +89,10 @@ key_route calls board key pressed grab =
     else (if not pressed then Pass
     else (if nat_lt (number_down calls board) 64
     then to_standing (of_another (peer_of calls board) grab) else TooMany)))
+
+-- the press is refused: 64 keys are down on the board, and this is another
+abbrev pub is_refused : List Call → (board key : ℕ) (pressed : Bool) → Bool
+is_refused calls board key pressed = keyboard.is_refused (own_calls calls board) key pressed
 
 -- where modifiers go: to the standing grab where its peer isn't the board's, else to the shell
 abbrev pub mods_route : List Call → (board : ℕ) (grab : Option (ℕ × ℕ)) → Route

@@ -3,7 +3,7 @@ ghost use Rattle.std.specs.Prelude.{◌≡◌, ◌==◌, ◌≤◌, ◌↔◌, I
 ghost use Rattle.std.specs.Option.{option_map};
 ghost use Rattle.std.specs.FinMap as map;
 ghost use Rattle.virt_keys.specs.Routes.{of_another};
-ghost use Rattle.virt_keys.specs.Boards.{new_board, routed, turned, mods_routed};
+ghost use Rattle.virt_keys.specs.Boards.{new_board, routed, turned, takes_at, mods_routed};
 
 use kbd_grab::{HeldKeys, Label, Route};
 use std::alloc::Global;
@@ -97,6 +97,13 @@ impl Board {
     {
         self.held
             .turn(of_another(self.peer, grab), label_of(grab), key, pressed)
+    }
+
+    /// Whether it was given a keymap, and `key` wouldn't refuse this press or release.
+    pub fn takes(&self, key: u32, pressed: bool) -> bool
+        ensures { result ≡ takes_at (Some self.now) key pressed }
+    {
+        self.has_keymap && !self.held.refuses(key, pressed)
     }
 
     /// Where modifiers go, while `grab` stands, with its peer.

@@ -1,11 +1,11 @@
 //! The live boards by their labels.
 ghost use Rattle.std.specs.Prelude.{◌≡◌, ◌↔◌, ◌∷◌, [], List, IfOk, IfSome, IsTrue, IsSome};
-ghost use Rattle.std.specs.Prelude.{OnOk, OnErr, Some, None, true};
+ghost use Rattle.std.specs.Prelude.{OnOk, OnErr, Some, None, true, not, ◌&&◌};
 ghost use Rattle.std.specs.Option.{option_map};
 ghost use Rattle.std.specs.FinMap as map;
-ghost use Rattle.virt_keys.specs.Routes.{Call, key_route, mods_route, had_keymap, peer_of};
+ghost use Rattle.virt_keys.specs.Routes.{Call, key_route, mods_route, had_keymap, is_refused};
 ghost use Rattle.virt_keys.specs.Routes.Call.{Make, Drop, Keymap, Key};
-ghost use Rattle.virt_keys.specs.Boards.{StandsFor, IsElsewhere, keymap_at};
+ghost use Rattle.virt_keys.specs.Boards.{StandsFor, IsElsewhere, keymap_at, takes_at};
 ghost use Rattle.virt_keys.specs.Boards.{new_board, routed, turned, mods_routed};
 
 mod peers;
@@ -97,6 +97,19 @@ impl VKeys {
     {
         match self.boards.get(&board) {
             Some(board) => board.has_keymap(),
+            None => false,
+        }
+    }
+
+    /// Whether a live board has the label, was given a keymap, and `key` wouldn't refuse this press (`pressed`) or
+    /// release with `TooMany`.
+    pub fn takes(&self, board: Label, key: u32, pressed: bool) -> bool
+        ensures now { result ≡ takes_at (map.get self.now board) key pressed }
+        ensures history { (calls : List Call) → StandsFor calls self.now →
+            result ≡ (had_keymap calls board && not (is_refused calls board key pressed)) }
+    {
+        match self.boards.get(&board) {
+            Some(board) => board.takes(key, pressed),
             None => false,
         }
     }

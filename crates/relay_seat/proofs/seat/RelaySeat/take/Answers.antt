@@ -20,7 +20,8 @@ returns c = λ log waits s.
           let number : w.acts-in-Ok.result ≡ length log + 1 = omega (arith, counted) in
           subst (λ r. Takes new log waits act r) (sym w.result-is) (
             number,
-            (λ k. sym (c.is_live.ensures.exact log before k) ∙ c.if-not-is_live.false),
+            sym (c.is_live.ensures log before)
+                ∙ c.if-not-is_live.false,
             record { relay = stands; queue = w.in-Ok.ensures.told log before ∙ ap (λ h. h ++ heard act log) wait },
           )
       | in-Err w ↦
