@@ -63,7 +63,7 @@ module _ (past : Past) (p : ℕ) (table : Objects) (its : IsTableOf past p table
       (accepted_id new.id (no_fault _ _ both.0) (no_fault _ _ both.1), tt)
 
   accepted_request : (n x : ℕ) (peer : Joined) (m : Message) (o : Option Fault) → peer.label ≡ p →
-      request_fault past peer.label peer.role (label_at past peer.label) m ≡ o →
+      request_fault past peer.label x peer.role (label_at past peer.label) m ≡ o →
       Accepts table (of_request past n peer x m o).made
   accepted_request n x peer m (Some f) is e = tt
   accepted_request n x peer m None is e =
@@ -78,7 +78,7 @@ module _ (past : Past) (p : ℕ) (table : Objects) (its : IsTableOf past p table
       Accepts table (of_reading past n peer x r).made
   accepted_reading n x peer (Err r) is = tt
   accepted_reading n x peer (Ok m) is =
-      accepted_request n x peer m (request_fault past peer.label peer.role (label_at past peer.label) m) is refl
+      accepted_request n x peer m (request_fault past peer.label x peer.role (label_at past peer.label) m) is refl
 
   accepted_message : (n opcode : ℕ) (body : List ℕ) (peer : Joined) (o : Option Made) → peer.label ≡ p →
       Accepts table (of_message past n peer opcode body o).made

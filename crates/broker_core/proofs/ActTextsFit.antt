@@ -5,7 +5,7 @@ use Rattle.std.specs.List.{slice_get, AllByRecursion}
 use Rattle.wl_proto.specs.declared.interface.Interface.{Interface}
 use Rattle.wl_proto.specs.declared.interface.Interface.TheVariants as interface
 use Rattle.wl_proto.specs.declared.refuse.Refuse.{Refuse}
-use Rattle.wl_proto.specs.Grammar.{Value, word, signed, text}
+use Rattle.wl_proto.specs.Grammar.{Value, word, signed, text, token}
 use Rattle.wl_proto.specs.Reading.{request_reading}
 use Rattle.wl_proto.specs.Rows.{Message}
 use Rattle.wl_proto.specs.Spelling.{values_len}
@@ -19,7 +19,7 @@ use Rattle.seat_steps.specs.declared.step.ShellStep.TheVariants as shell
 use Rattle.broker_model.specs.declared.journal.Entry.{Entry}
 use Rattle.broker_model.specs.declared.journal.Entry.TheVariants as entries
 use Rattle.broker_model.specs.Ids.{Made, Joined, Past, peer_at, object_at}
-use Rattle.broker_model.specs.Requests.{surround, cause, content, cursor, string, preedit, delete, commit, popup, bind, rows}
+use Rattle.broker_model.specs.Requests.{surround, cause, content, cursor, string, preedit, delete, commit, keymap, key, modifiers, popup, bind, rows}
 use Rattle.broker_model.specs.Refusals.{request_fault}
 use Rattle.broker_model.specs.Resolve.{Meaning, label_at, of_request, of_reading, of_message, of_peer, surface_at, on_surface, shell_act, past_of}
 use Rattle.broker_model.specs.Out.{act_at}
@@ -65,6 +65,18 @@ fits_commit : (x : ℕ) (vs : List Value) → FitsMessage (commit x vs)
 fits_commit x (word n ∷ []) = tt
 fits_commit x _ = tt
 
+fits_keymap : (x : ℕ) (vs : List Value) → FitsMessage (keymap x vs)
+fits_keymap x (word a ∷ token t ∷ word b ∷ []) = tt
+fits_keymap x _ = tt
+
+fits_key : (x : ℕ) (vs : List Value) → FitsMessage (key x vs)
+fits_key x (word a ∷ word b ∷ word c ∷ []) = tt
+fits_key x _ = tt
+
+fits_modifiers : (x : ℕ) (vs : List Value) → FitsMessage (modifiers x vs)
+fits_modifiers x (word a ∷ word b ∷ word c ∷ word d ∷ []) = tt
+fits_modifiers x _ = tt
+
 fits_popup : (at : ℕ → ℕ) (x : ℕ) (vs : List Value) → FitsMessage (popup at x vs)
 fits_popup at x (word a ∷ word b ∷ []) = tt
 fits_popup at x _ = tt
@@ -89,6 +101,9 @@ fits_rows p x role at interface.InputMethod vs h = (
 )
 fits_rows p x role at interface.InputPopupSurface vs h = (tt, tt)
 fits_rows p x role at interface.KeyboardGrab vs h = (tt, tt)
+fits_rows p x role at interface.VirtualKeyboardManager vs h = (tt, tt)
+fits_rows p x role at interface.VirtualKeyboard vs h =
+    (fits_keymap x vs, (fits_key x vs, (fits_modifiers x vs, (tt, tt))))
 fits_rows p x role at _ vs h = tt
 
 fits_row : (xs : List Act) (n : ℕ) → AllByRecursion FitsMessage xs → FitsMessage (unwrap_or (slice_get xs n) acts.Idle)
@@ -111,7 +126,7 @@ fits_reading : (past : Past) (n : ℕ) (peer : Joined) (x size : ℕ) (r : Resul
     FitsMessage (of_reading past n peer x r).act
 fits_reading past n peer x size (Err e) h k = tt
 fits_reading past n peer x size (Ok m) h k =
-    fits_request past n peer x m (request_fault past peer.label peer.role (label_at past peer.label) m) (omega arith)
+    fits_request past n peer x m (request_fault past peer.label x peer.role (label_at past peer.label) m) (omega arith)
 
 fits_message : (past : Past) (n : ℕ) (peer : Joined) (opcode : ℕ) (body : List ℕ) (o : Option Made) →
     length body ≤ 4088 →

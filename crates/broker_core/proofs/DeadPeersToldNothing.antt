@@ -99,7 +99,7 @@ new_reading : (past : Past) (p n : ℕ) (peer : Joined) (x : ℕ) (r : Result Me
     AllByRecursion (IsOther p) (of_reading past n peer x r).made
 new_reading past p n peer x (Err r) h = tt
 new_reading past p n peer x (Ok m) h =
-    new_request past p n peer x m (request_fault past peer.label peer.role (label_at past peer.label) m) h
+    new_request past p n peer x m (request_fault past peer.label x peer.role (label_at past peer.label) m) h
 
 new_message : (older : List Entry) (p n : ℕ) (peer : Joined) (id opcode : ℕ) (body : List ℕ) (o : Option Made) →
     is_peer (log_of (past_of older)) p ≡ false → object_at (past_of older) peer.label id ≡ o →

@@ -72,15 +72,17 @@ none_if : (b : Bool) (f : Fault) → fault_if b f ≡ None → b ≡ false
 none_if true f h = cc
 none_if false f h = refl
 
-own_none : (past : Past) (p : ℕ) (role : Role) (at : ℕ → ℕ) (m : Message) → request_fault past p role at m ≡ None →
-    own_fault past role at m.interface m.opcode m.values ≡ None
-own_none past p role at m h =
+own_none : (past : Past) (p x : ℕ) (role : Role) (at : ℕ → ℕ) (m : Message) → request_fault past p x role at m ≡ None →
+    own_fault past x role at m.interface m.opcode m.values ≡ None
+own_none past p x role at m h =
     (or_none (new_fault past p (new_of m.interface m.opcode m.values)) _
     (or_none (argument_fault past p (arguments_of m.interface m.opcode m.values)) _ h).1).1
 
-argument_none : (past : Past) (p : ℕ) (role : Role) (at : ℕ → ℕ) (m : Message) → request_fault past p role at m ≡ None →
+argument_none : (past : Past) (p x : ℕ) (role : Role) (at : ℕ → ℕ) (m : Message) →
+    request_fault past p x role at m ≡ None →
     argument_fault past p (arguments_of m.interface m.opcode m.values) ≡ None
-argument_none past p role at m h = (or_none (argument_fault past p (arguments_of m.interface m.opcode m.values)) _ h).0
+argument_none past p x role at m h =
+    (or_none (argument_fault past p (arguments_of m.interface m.opcode m.values)) _ h).0
 
 -- a popup's surface is one, and has no popup
 
@@ -117,16 +119,16 @@ owned_there kind (Some o) l = refl
 
 new_popup : (past : Past) (p id n : ℕ) (x : Made) (role : Role) (vs : List Value) (new : Argument) →
     IsAddressed past p id n x → x.interface ≡ interface.InputMethod →
-    request_fault past p role (label_at past p) (message interface.InputMethod 4 vs) ≡ None →
+    request_fault past p x.label role (label_at past p) (message interface.InputMethod 4 vs) ≡ None →
     new_of interface.InputMethod 4 vs ≡ Some new →
     Comes past p id n (act_of p x.label role (label_at past p) interface.InputMethod 4 vs) (Some new)
 new_popup past p id n x role (word made ∷ word surface ∷ []) new a s f e =
     let log = log_of past in
     let m : Message = message interface.InputMethod 4 (word made ∷ word surface ∷ []) in
     let wrong : is_of interface.Surface (object_at past p surface) ≡ true =
-    not_wrong _ (none_if _ _ (argument_none past p role (label_at past p) m f)) in
+    not_wrong _ (none_if _ _ (argument_none past p x.label role (label_at past p) m f)) in
     let free : has_popup log (label_at past p surface) ≡ false =
-    none_if _ _ (own_none past p role (label_at past p) m f) in
+    none_if _ _ (own_none past p x.label role (label_at past p) m f) in
     comes_created past p id n (acts.Popup x.label (label_at past p surface)) (Some new) a.next refl
     (all_live (is_method log x.label) (is_surface log (label_at past p surface))
     (has_popup log (label_at past p surface)) (method_is past p id n x a s)
@@ -143,7 +145,7 @@ no_new opcode _ a b = refl
 new_method : (past : Past) (p id n : ℕ) (x : Made) (role : Role) (opcode : ℕ) (vs : List Value) (new : Argument) →
     IsAddressed past p id n x →
     x.interface ≡ interface.InputMethod →
-    request_fault past p role (label_at past p) (message interface.InputMethod opcode vs) ≡ None →
+    request_fault past p x.label role (label_at past p) (message interface.InputMethod opcode vs) ≡ None →
     new_of interface.InputMethod opcode vs ≡ Some new → (b c : Bool) → (opcode == 4) ≡ b → (opcode == 5) ≡ c →
     Comes past p id n (act_of p x.label role (label_at past p) interface.InputMethod opcode vs) (Some new)
 new_method past p id n x role opcode vs new a s f e true c q r =
@@ -151,7 +153,8 @@ new_method past p id n x role opcode vs new a s f e true c q r =
     subst (λ (k : ℕ). Comes past p id n (act_of p x.label role (label_at past p) interface.InputMethod k vs) (Some new))
     (sym d)
     (new_popup past p id n x role vs new a s
-    (subst (λ (k : ℕ). request_fault past p role (label_at past p) (message interface.InputMethod k vs) ≡ None) d f)
+    (subst (λ (k : ℕ). request_fault past p x.label role (label_at past p) (message interface.InputMethod k vs) ≡ None)
+    d f)
     (subst (λ (k : ℕ). new_of interface.InputMethod k vs ≡ Some new) d e))
 new_method past p id n x role opcode vs new a s f e false true q r =
     let d : opcode ≡ 5 = eqb-true opcode 5 r in
@@ -189,11 +192,14 @@ no_fields opcode l = rw (other 0 opcode (omega arith), other 1 opcode l) refl
 no_methods : (opcode : ℕ) → 1 < opcode → request_kinds interface.InputMethodManager opcode ≡ None
 no_methods opcode l = rw (other 0 opcode (omega arith), other 1 opcode l) refl
 
+no_boards : (opcode : ℕ) → 0 < opcode → request_kinds interface.VirtualKeyboardManager opcode ≡ None
+no_boards opcode l = rw (other 0 opcode l) refl
+
 -- where something is new
 comes_new : (past : Past) (p id n : ℕ) (x : Made) (role : Role) (i : Interface) (opcode : ℕ) (vs : List Value)
     (new : Argument) (kinds : List Kind) →
     IsAddressed past p id n x → x.interface ≡ i → request_kinds i opcode ≡ Some kinds →
-    request_fault past p role (label_at past p) (message i opcode vs) ≡ None →
+    request_fault past p x.label role (label_at past p) (message i opcode vs) ≡ None →
     new_of i opcode vs ≡ Some new → Comes past p id n (act_of p x.label role (label_at past p) i opcode vs) (Some new)
 comes_new past p id n x role interface.Display zero vs new kinds a s r f e = comes_sync past p id n p (Some new) a.next
 comes_new past p id n x role interface.Display (suc zero) vs new kinds a s r f e =
@@ -209,7 +215,7 @@ comes_new past p id n x role interface.Compositor zero vs new kinds a s r f e =
 comes_new past p id n x role interface.Compositor (suc k) vs new kinds a s r f e =
     absurd (some_none (sym r ∙ no_compositor (suc k) (omega arith)))
 comes_new past p id n x role interface.Seat opcode vs new kinds a s r f e =
-    absurd (some_none (own_none past p role (label_at past p) (message interface.Seat opcode vs) f))
+    absurd (some_none (own_none past p x.label role (label_at past p) (message interface.Seat opcode vs) f))
 comes_new past p id n x role interface.TextInputManager zero vs new kinds a s r f e =
     comes_drop past p id n x x.label (Some new) a
     (not_peer past p id n x role interface.TextInputManager zero vs x.label a s refl) refl
@@ -224,6 +230,10 @@ comes_new past p id n x role interface.InputMethodManager (suc zero) vs new kind
     (not_peer past p id n x role interface.InputMethodManager (suc zero) vs x.label a s refl) refl
 comes_new past p id n x role interface.InputMethodManager (suc (suc k)) vs new kinds a s r f e =
     absurd (some_none (sym r ∙ no_methods (suc (suc k)) (omega arith)))
+comes_new past p id n x role interface.VirtualKeyboardManager zero vs new kinds a s r f e =
+    comes_created past p id n (acts.VBoard p) (Some new) a.next refl a.peer refl
+comes_new past p id n x role interface.VirtualKeyboardManager (suc k) vs new kinds a s r f e =
+    absurd (some_none (sym r ∙ no_boards (suc k) (omega arith)))
 comes_new past p id n x role interface.InputMethod opcode vs new kinds a s r f e =
     new_method past p id n x role opcode vs new a s f e (opcode == 4) (opcode == 5) refl refl
 comes_new past p id n x role i opcode vs new kinds a s r f e = absurd (some_none (sym e))
@@ -232,7 +242,7 @@ comes_new past p id n x role i opcode vs new kinds a s r f e = absurd (some_none
 comes_by : (past : Past) (p id n : ℕ) (x : Made) (role : Role) (i : Interface) (opcode : ℕ) (vs : List Value)
     (o : Option Argument) (kinds : List Kind) →
     IsAddressed past p id n x → x.interface ≡ i → request_kinds i opcode ≡ Some kinds →
-    request_fault past p role (label_at past p) (message i opcode vs) ≡ None →
+    request_fault past p x.label role (label_at past p) (message i opcode vs) ≡ None →
     new_of i opcode vs ≡ o → Comes past p id n (act_of p x.label role (label_at past p) i opcode vs) o
 comes_by past p id n x role i opcode vs None kinds a s r f e =
     comes_none past p id n x (act_of p x.label role (label_at past p) i opcode vs) a
@@ -298,7 +308,7 @@ own_refused past p id n y f =
 
 own_request : (past : Past) (n id : ℕ) (peer : Joined) (x : Made) (m : Message) (o : Option Fault) →
     IsAddressed past peer.label id n x → IsRow x.interface m →
-    request_fault past peer.label peer.role (label_at past peer.label) m ≡ o →
+    request_fault past peer.label x.label peer.role (label_at past peer.label) m ≡ o →
     IsOwn past peer.label id n (of_request past n peer x.label m o)
 own_request past n id peer x m (Some f) a r e = own_refused past peer.label id n x.label f
 own_request past n id peer x m None a r e =
@@ -311,7 +321,7 @@ own_reading : (past : Past) (n id : ℕ) (peer : Joined) (x : Made) (r : Result 
     ((m : Message) → r ≡ Ok m → IsRow x.interface m) → IsOwn past peer.label id n (of_reading past n peer x.label r)
 own_reading past n id peer x (Err r) a h = own_refused past peer.label id n x.label (refuse_fault r)
 own_reading past n id peer x (Ok m) a h =
-    own_request past n id peer x m (request_fault past peer.label peer.role (label_at past peer.label) m) a
+    own_request past n id peer x m (request_fault past peer.label x.label peer.role (label_at past peer.label) m) a
     (h m refl) refl
 
 own_message : (past : Past) (n id : ℕ) (peer : Joined) (opcode : ℕ) (body : List ℕ) (o : Option Made) →

@@ -5,7 +5,7 @@ use Rattle.std.specs.List.{slice_get, AllByRecursion}
 use Rattle.wl_proto.specs.declared.interface.Interface.{Interface}
 use Rattle.wl_proto.specs.declared.interface.Interface.TheVariants as interface
 use Rattle.wl_proto.specs.declared.refuse.Refuse.{Refuse}
-use Rattle.wl_proto.specs.Grammar.{Value, word, signed, text}
+use Rattle.wl_proto.specs.Grammar.{Value, word, signed, text, token}
 use Rattle.wl_proto.specs.Reading.{request_reading}
 use Rattle.wl_proto.specs.Rows.{Message}
 use Rattle.relay_model.specs.declared.act.Act.{Act}
@@ -17,7 +17,7 @@ use Rattle.seat_steps.specs.declared.step.PeerStep.{PeerStep}
 use Rattle.seat_steps.specs.declared.step.PeerStep.TheVariants as peers
 use Rattle.broker_model.specs.declared.journal.Entry.{Entry}
 use Rattle.broker_model.specs.Ids.{Made, Joined, Past, peer_at, object_at}
-use Rattle.broker_model.specs.Requests.{rows, surround, cause, content, cursor, string, preedit, delete, commit, popup, bind}
+use Rattle.broker_model.specs.Requests.{rows, surround, cause, content, cursor, string, preedit, delete, commit, keymap, key, modifiers, popup, bind}
 use Rattle.broker_model.specs.Refusals.{request_fault}
 use Rattle.broker_model.specs.Resolve.{Meaning, label_at, of_request, of_reading, of_message, of_peer, past_of}
 use Rattle.broker_model.specs.Out.{act_at}
@@ -67,6 +67,18 @@ other_commit : (x : ℕ) (vs : List Value) → IsOther (commit x vs)
 other_commit x (word n ∷ []) = tt
 other_commit x _ = tt
 
+other_keymap : (x : ℕ) (vs : List Value) → IsOther (keymap x vs)
+other_keymap x (word a ∷ token t ∷ word b ∷ []) = tt
+other_keymap x _ = tt
+
+other_key : (x : ℕ) (vs : List Value) → IsOther (key x vs)
+other_key x (word a ∷ word b ∷ word c ∷ []) = tt
+other_key x _ = tt
+
+other_modifiers : (x : ℕ) (vs : List Value) → IsOther (modifiers x vs)
+other_modifiers x (word a ∷ word b ∷ word c ∷ word d ∷ []) = tt
+other_modifiers x _ = tt
+
 other_popup : (at : ℕ → ℕ) (x : ℕ) (vs : List Value) → IsOther (popup at x vs)
 other_popup at x (word a ∷ word b ∷ []) = tt
 other_popup at x _ = tt
@@ -91,6 +103,9 @@ other_rows p x role at interface.InputMethod vs = (
 )
 other_rows p x role at interface.InputPopupSurface vs = (tt, tt)
 other_rows p x role at interface.KeyboardGrab vs = (tt, tt)
+other_rows p x role at interface.VirtualKeyboardManager vs = (tt, tt)
+other_rows p x role at interface.VirtualKeyboard vs =
+    (other_keymap x vs, (other_key x vs, (other_modifiers x vs, (tt, tt))))
 other_rows p x role at _ vs = tt
 
 other_row : (xs : List Act) (n : ℕ) → AllByRecursion IsOther xs → IsOther (unwrap_or (slice_get xs n) acts.Idle)
@@ -111,7 +126,7 @@ other_reading : (past : Past) (n : ℕ) (peer : Joined) (x : ℕ) (r : Result Me
     IsOther (of_reading past n peer x r).act
 other_reading past n peer x (Err e) = tt
 other_reading past n peer x (Ok m) =
-    other_request past n peer x m (request_fault past peer.label peer.role (label_at past peer.label) m)
+    other_request past n peer x m (request_fault past peer.label x peer.role (label_at past peer.label) m)
 
 other_message : (past : Past) (n : ℕ) (peer : Joined) (opcode : ℕ) (body : List ℕ) (o : Option Made) →
     IsOther (of_message past n peer opcode body o).act

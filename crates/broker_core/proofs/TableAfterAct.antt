@@ -122,7 +122,7 @@ quiet_reading : (past : Past) (n p : ℕ) (peer : Joined) (x : Made) (r : Result
     (peer.label == p) ≡ false → IsQuiet past p (of_reading past n peer x.label r)
 quiet_reading past n p peer x (Err r) k h g = quiet_refused past p peer.label x.label (refuse_fault r)
 quiet_reading past n p peer x (Ok m) k h g =
-    quiet_request past n p peer x m (request_fault past peer.label peer.role (label_at past peer.label) m) k h g
+    quiet_request past n p peer x m (request_fault past peer.label x.label peer.role (label_at past peer.label) m) k h g
 
 quiet_message : (past : Past) (n bound p : ℕ) (peer : Joined) (opcode : ℕ) (body : List ℕ) (id : ℕ) (o : Option Made) →
     AreSound (log_of past) past.made bound → object_at past peer.label id ≡ o → (peer.label == p) ≡ false →
@@ -235,6 +235,7 @@ creates (acts.Grab m) = true
 creates (acts.Registry p role) = true
 creates (acts.Seat p) = true
 creates (acts.Thing p) = true
+creates (acts.VBoard p) = true
 creates _ = false
 
 own_created : (id n : ℕ) (act : Act) (new : Option Argument) → creates act ≡ true →

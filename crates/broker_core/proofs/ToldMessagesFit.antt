@@ -67,6 +67,7 @@ fault_short faults.TooMany = omega arith
 fault_short faults.Bind = omega arith
 fault_short faults.Capability = omega arith
 fault_short faults.Role = omega arith
+fault_short faults.NoKeymap = omega arith
 
 -- such an event's message has at most 4096 bytes
 pub short_said : (event : Said) → HasShort event → (made : List Made) →

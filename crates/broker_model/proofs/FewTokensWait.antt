@@ -14,7 +14,7 @@ use Rattle.wl_proto.specs.Tables.{row, kinds_in}
 use Rattle.wl_proto.specs.Rows.{request_rows, request_kinds}
 use Rattle.broker_model.specs.declared.journal.Entry.{Entry}
 use Rattle.broker_model.specs.declared.journal.Entry.TheVariants as entries
-use Rattle.broker_model.specs.Ids.{Made, Joined, Past, peer_at, object_at}
+use Rattle.broker_model.specs.Ids.{Joined, Past, peer_at, object_at}
 use Rattle.broker_model.specs.Resolve.{past_of}
 use Rattle.broker_model.specs.Waiting.{is_descriptor, has_descriptor, is_board_keymap, takes_token, without_taken, with_tokens, changed_for, waiting_with}
 

@@ -155,7 +155,7 @@ field_of_reading : (past : Past) (n : ℕ) (peer : Joined) (x : ℕ) (r : Result
     field_peer (of_reading past n peer x r).act ≡ Some p → IsMade ((of_reading past n peer x r).made ++ rest) n p
 field_of_reading past n peer x (Err r) p rest a e = cc
 field_of_reading past n peer x (Ok m) p rest a e =
-    field_of_request past n peer x m (request_fault past peer.label peer.role (label_at past peer.label) m) p rest
+    field_of_request past n peer x m (request_fault past peer.label x peer.role (label_at past peer.label) m) p rest
     (a m refl) e
 
 field_of_message : (past : Past) (n : ℕ) (peer : Joined) (opcode : ℕ) (body : List ℕ) (o : Option Made) (p : ℕ)
@@ -216,7 +216,7 @@ other_reading : (past : Past) (n : ℕ) (peer : Joined) (y : ℕ) (r : Result Me
     made_as ((of_reading past n peer y r).made ++ rest) x ≡ made_as rest x
 other_reading past n peer y (Err r) rest x h = refl
 other_reading past n peer y (Ok m) rest x h =
-    other_request past n peer y m (request_fault past peer.label peer.role (label_at past peer.label) m) rest x h
+    other_request past n peer y m (request_fault past peer.label y peer.role (label_at past peer.label) m) rest x h
 
 other_message : (past : Past) (n : ℕ) (peer : Joined) (opcode : ℕ) (body : List ℕ) (o : Option Made) (rest : List Made)
     (x : ℕ) → (n == x) ≡ false →

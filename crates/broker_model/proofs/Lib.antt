@@ -20,3 +20,4 @@ pub mod StoresAreOut
 pub mod TakenCells
 pub mod StampsAgain
 pub mod FewTokensWait
+pub mod BoardsMaySay

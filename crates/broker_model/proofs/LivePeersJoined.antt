@@ -6,7 +6,7 @@ use Rattle.std.proofs.lemmas.Bool.{eqb-true, true≢false}
 use Rattle.wl_proto.specs.declared.interface.Interface.{Interface}
 use Rattle.wl_proto.specs.declared.interface.Interface.TheVariants as interface
 use Rattle.wl_proto.specs.declared.refuse.Refuse.{Refuse}
-use Rattle.wl_proto.specs.Grammar.{Value, word, signed, text}
+use Rattle.wl_proto.specs.Grammar.{Value, word, signed, text, token}
 use Rattle.wl_proto.specs.Reading.{request_reading}
 use Rattle.wl_proto.specs.Rows.{Message}
 use Rattle.relay_model.specs.declared.act.Act.{Act}
@@ -21,7 +21,7 @@ use Rattle.seat_steps.specs.declared.step.ShellStep.TheVariants as shell
 use Rattle.broker_model.specs.declared.journal.Entry.{Entry}
 use Rattle.broker_model.specs.declared.journal.Entry.TheVariants as entries
 use Rattle.broker_model.specs.Ids.{Made, Joined, Past, log_of, peer_in, peer_at, object_at}
-use Rattle.broker_model.specs.Requests.{act_of, surround, cause, content, cursor, string, preedit, delete, commit, popup, bind, rows}
+use Rattle.broker_model.specs.Requests.{act_of, surround, cause, content, cursor, string, preedit, delete, commit, keymap, key, modifiers, popup, bind, rows}
 use Rattle.broker_model.specs.Refusals.{request_fault}
 use Rattle.broker_model.specs.Resolve.{Meaning, label_at, of_request, of_reading, of_message, of_peer, surface_at, on_surface, shell_act, means, with_joined, past_of, resolve}
 use Rattle.broker_model.proofs.OwnersLive.{IsThere, there, remains_some}
@@ -73,6 +73,18 @@ plain_commit : (x : ℕ) (vs : List Value) → makes (commit x vs) ≡ false
 plain_commit x (word n ∷ []) = refl
 plain_commit x _ = refl
 
+plain_keymap : (x : ℕ) (vs : List Value) → makes (keymap x vs) ≡ false
+plain_keymap x (word a ∷ token t ∷ word b ∷ []) = refl
+plain_keymap x _ = refl
+
+plain_key : (x : ℕ) (vs : List Value) → makes (key x vs) ≡ false
+plain_key x (word a ∷ word b ∷ word c ∷ []) = refl
+plain_key x _ = refl
+
+plain_modifiers : (x : ℕ) (vs : List Value) → makes (modifiers x vs) ≡ false
+plain_modifiers x (word a ∷ word b ∷ word c ∷ word d ∷ []) = refl
+plain_modifiers x _ = refl
+
 plain_popup : (at : ℕ → ℕ) (x : ℕ) (vs : List Value) → makes (popup at x vs) ≡ false
 plain_popup at x (word a ∷ word b ∷ []) = refl
 plain_popup at x _ = refl
@@ -97,6 +109,7 @@ makes_rows p x role at interface.TextInput vs =
     rw (plain_surround x vs, plain_cause x vs, plain_content x vs, plain_cursor x vs) refl
 makes_rows p x role at interface.InputMethod vs =
     rw (plain_string x vs, plain_preedit x vs, plain_delete x vs, plain_commit x vs, plain_popup at x vs) refl
+makes_rows p x role at interface.VirtualKeyboard vs = rw (plain_keymap x vs, plain_key x vs, plain_modifiers x vs) refl
 makes_rows p x role at _ vs = refl
 
 plain_first : (a b : Bool) → (a || b) ≡ false → (a ≡ false) × (b ≡ false)
@@ -127,7 +140,7 @@ plain_reading : (past : Past) (n : ℕ) (peer : Joined) (x : ℕ) (r : Result Me
     is_join (of_reading past n peer x r).act ≡ false
 plain_reading past n peer x (Err e) = refl
 plain_reading past n peer x (Ok m) =
-    plain_request past n peer x m (request_fault past peer.label peer.role (label_at past peer.label) m)
+    plain_request past n peer x m (request_fault past peer.label x peer.role (label_at past peer.label) m)
 
 plain_message : (past : Past) (n : ℕ) (peer : Joined) (opcode : ℕ) (body : List ℕ) (o : Option Made) →
     is_join (of_message past n peer opcode body o).act ≡ false

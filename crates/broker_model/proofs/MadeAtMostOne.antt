@@ -7,7 +7,7 @@ use Rattle.std.proofs.lemmas.Bool.{ne_eqb}
 use Rattle.wl_proto.specs.declared.interface.Interface.{Interface}
 use Rattle.wl_proto.specs.declared.interface.Interface.TheVariants as interface
 use Rattle.wl_proto.specs.declared.refuse.Refuse.{Refuse}
-use Rattle.wl_proto.specs.Grammar.{Value, word, signed, text}
+use Rattle.wl_proto.specs.Grammar.{Value, word, signed, text, token}
 use Rattle.wl_proto.specs.Reading.{request_reading}
 use Rattle.wl_proto.specs.Rows.{Message}
 use Rattle.relay_model.specs.declared.act.Act.{Act}
@@ -21,7 +21,7 @@ use Rattle.relay_model.proofs.ObjectLaws.{object_new}
 use Rattle.broker_model.specs.declared.journal.Entry.{Entry}
 use Rattle.broker_model.specs.declared.journal.Entry.TheVariants as entries
 use Rattle.broker_model.specs.Ids.{Made, Joined, Past, log_of, peer_at, named, object_at, made_as}
-use Rattle.broker_model.specs.Requests.{Argument, arguments_of, new_of, act_of, rows, surround, cause, content, cursor, string, preedit, delete, commit, popup, bind}
+use Rattle.broker_model.specs.Requests.{Argument, arguments_of, new_of, act_of, rows, surround, cause, content, cursor, string, preedit, delete, commit, keymap, key, modifiers, popup, bind}
 use Rattle.broker_model.specs.Refusals.{is_bad_id, fault_if, argument_fault, new_fault, request_fault}
 use Rattle.broker_model.specs.Resolve.{Meaning, label_at, made_new, of_request, of_reading, of_message, of_peer, means, past_of}
 use Rattle.broker_model.proofs.LivePeersJoined.{length_log}
@@ -74,6 +74,18 @@ for_commit : (p x : ℕ) (vs : List Value) → IsFor p x (commit x vs)
 for_commit p x (word n ∷ []) = tt
 for_commit p x _ = tt
 
+for_keymap : (p x : ℕ) (vs : List Value) → IsFor p x (keymap x vs)
+for_keymap p x (word a ∷ token t ∷ word b ∷ []) = tt
+for_keymap p x _ = tt
+
+for_key : (p x : ℕ) (vs : List Value) → IsFor p x (key x vs)
+for_key p x (word a ∷ word b ∷ word c ∷ []) = tt
+for_key p x _ = tt
+
+for_modifiers : (p x : ℕ) (vs : List Value) → IsFor p x (modifiers x vs)
+for_modifiers p x (word a ∷ word b ∷ word c ∷ word d ∷ []) = tt
+for_modifiers p x _ = tt
+
 for_popup : (p : ℕ) (at : ℕ → ℕ) (x : ℕ) (vs : List Value) → IsFor p x (popup at x vs)
 for_popup p at x (word a ∷ word b ∷ []) = refl
 for_popup p at x _ = tt
@@ -105,6 +117,9 @@ for_rows p x role at interface.InputMethod vs = (
 )
 for_rows p x role at interface.InputPopupSurface vs = (tt, tt)
 for_rows p x role at interface.KeyboardGrab vs = (tt, tt)
+for_rows p x role at interface.VirtualKeyboardManager vs = (refl, tt)
+for_rows p x role at interface.VirtualKeyboard vs =
+    (for_keymap p x vs, (for_key p x vs, (for_modifiers p x vs, (tt, tt))))
 for_rows p x role at _ vs = tt
 
 for_row : (p x : ℕ) (xs : List Act) (n : ℕ) → AreFor p x xs → IsFor p x (unwrap_or (slice_get xs n) acts.Idle)
@@ -172,7 +187,7 @@ abbrev IsFree : Past → ℕ → Option Argument → Type 0
 IsFree past p None = Unit {0}
 IsFree past p (Some new) = object_at past p new.id ≡ None
 
-or_none : {A : Type 0} (a b : Option A) → option_or a b ≡ None → (a ≡ None) × (b ≡ None)
+pub or_none : {A : Type 0} (a b : Option A) → option_or a b ≡ None → (a ≡ None) × (b ≡ None)
 or_none None b h = (refl, h)
 or_none (Some x) b h = cc
 
@@ -187,9 +202,10 @@ free_new past p (Some new) h =
     (third (new.id == 0) (nat_lt 4278190079 new.id) (is_some (object_at past p new.id))
     (free_by (is_bad_id past p new.id) _ None h))
 
-free_request : (past : Past) (p : ℕ) (role : Role) (at : ℕ → ℕ) (m : Message) → request_fault past p role at m ≡ None →
+free_request : (past : Past) (p x : ℕ) (role : Role) (at : ℕ → ℕ) (m : Message) →
+    request_fault past p x role at m ≡ None →
     IsFree past p (new_of m.interface m.opcode m.values)
-free_request past p role at m h =
+free_request past p x role at m h =
     free_new past p (new_of m.interface m.opcode m.values)
     (or_none (new_fault past p (new_of m.interface m.opcode m.values)) _
     (or_none (argument_fault past p (arguments_of m.interface m.opcode m.values)) _ h).1).0
@@ -210,13 +226,13 @@ one_new past n p x act (Some new) f w g k =
     })
 
 one_request : (past : Past) (n : ℕ) (peer : Joined) (x : ℕ) (m : Message) (o : Option Fault) →
-    request_fault past peer.label peer.role (label_at past peer.label) m ≡ o → peer.label ≤ n →
+    request_fault past peer.label x peer.role (label_at past peer.label) m ≡ o → peer.label ≤ n →
     peer_of (log_of past) x ≡ Some peer.label →
     AtMostOne (log_of past) past.made n (of_request past n peer x m o)
 one_request past n peer x m (Some f) e w k = inl refl
 one_request past n peer x m None e w k =
     one_new past n peer.label x (act_of peer.label x peer.role (label_at past peer.label) m.interface m.opcode m.values)
-    (new_of m.interface m.opcode m.values) (free_request past peer.label peer.role (label_at past peer.label) m e) w
+    (new_of m.interface m.opcode m.values) (free_request past peer.label x peer.role (label_at past peer.label) m e) w
     (for_row peer.label x (rows peer.label x peer.role (label_at past peer.label) m.interface m.values) m.opcode
     (for_rows peer.label x peer.role (label_at past peer.label) m.interface m.values)) k
 
@@ -225,7 +241,7 @@ one_reading : (past : Past) (n : ℕ) (peer : Joined) (x : ℕ) (r : Result Mess
     AtMostOne (log_of past) past.made n (of_reading past n peer x r)
 one_reading past n peer x (Err r) w k = inl refl
 one_reading past n peer x (Ok m) w k =
-    one_request past n peer x m (request_fault past peer.label peer.role (label_at past peer.label) m) refl w k
+    one_request past n peer x m (request_fault past peer.label x peer.role (label_at past peer.label) m) refl w k
 
 -- what stands of each object that was made, after a journal of a length
 pub record IsSound (log : List Act) (made : List Made) (bound : ℕ) (m : Made) : Type 0 where

@@ -2,11 +2,12 @@
 use Rattle.std.specs.Prelude.{◌≡◌, ℕ, ◌≤◌, length, List, [], ◌∷◌, ◌++◌, ◌==◌, Bool, true, false, if◌then◌else◌, Option, Some, None, ◌⊎◌}
 use Rattle.std.specs.List.{Contains, AllByRecursion}
 use Rattle.relay_model.specs.declared.act.Act.{Act}
-use Rattle.relay_model.specs.declared.act.Act.TheVariants.{Field}
+use Rattle.relay_model.specs.declared.act.Act.TheVariants.{Field, VKey, VMods}
 use Rattle.relay_model.specs.declared.act.EndCause.TheVariants.{Full}
 use Rattle.relay_model.specs.declared.said.Said.{Said}
 use Rattle.relay_model.specs.declared.said.Said.TheVariants as said
 use Rattle.relay_model.specs.Objects.{next, peer_of}
+use Rattle.relay_model.specs.Boards.{sends}
 use Rattle.relay_model.specs.Batch.{group_of, relayed}
 use Rattle.relay_model.specs.Idle as idle
 use Rattle.relay_model.specs.Told.{told}
@@ -107,6 +108,17 @@ abbrev pub KeymapsTake : Type 0
 KeymapsTake =
     (i : Interface) (opcode : ℕ) →
     has_descriptor (request_kinds i opcode) ≡ is_board_keymap i opcode
+
+-- what a board says, it may say: it has had a keymap, and a key's state is 0, released, or 1,
+-- pressed
+abbrev pub MaySay : List Act → Act → Type 0
+MaySay log (VKey v time key state) = (sends log v ≡ true) × (state ≤ 1)
+MaySay log (VMods v mods) = sends log v ≡ true
+MaySay log _ = Unit {0}
+
+-- so it is with each entry, for what else a board says is refused
+abbrev pub BoardsMaySay : Type 0
+BoardsMaySay = (e : Entry) (older : List Entry) → MaySay (log_of (past_of older)) (act_at e older)
 
 -- a journal has as many stamps as entries, whatever was given
 abbrev pub StampEach : Type 0

@@ -15,4 +15,5 @@ pub mod Law
 pub mod Rows
 pub mod BaseRows
 pub mod TokenRows
+pub mod BoardRows
 pub mod Stored

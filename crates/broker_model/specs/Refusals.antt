@@ -14,6 +14,7 @@ use Rattle.relay_model.specs.declared.role.Role.{Role}
 use Rattle.relay_model.specs.declared.fault.Fault.{Fault}
 use Rattle.relay_model.specs.declared.fault.Fault.TheVariants as fault
 use Rattle.relay_model.specs.Objects.{has_popup}
+use Rattle.relay_model.specs.Boards.{sends}
 use Rattle.relay_model.specs.Globals.{offered}
 use Rattle.broker_model.specs.Ids.{Made, Past, log_of, object_at, number_live}
 use Rattle.broker_model.specs.Requests.{Argument, arguments_of, new_of}
@@ -55,23 +56,35 @@ new_fault past p (Some new) =
 abbrev pub is_offered : Role → ℕ → List ℕ → Bool
 is_offered role name t = list_any (λ g. (g.0 == name) && bytes_eq (name_of g.1) t) (offered role)
 
--- the fault of one request: a bind of what isn't offered, what the seat lacks, a surface that has a
--- popup
-abbrev pub own_fault : Past → Role → (ℕ → ℕ) → Interface → ℕ → List Value → Option Fault
-own_fault past role at interface.Registry opcode
+-- a board sends keys and modifiers once it has had a keymap
+abbrev pub keymap_fault : Past → (x : ℕ) → Option Fault
+keymap_fault past x = fault_if (not (sends (log_of past) x)) fault.NoKeymap
+
+-- a key's state is 0, released, or 1, pressed (wl_keyboard.key_state)
+abbrev pub state_fault : (state : ℕ) → Option Fault
+state_fault state = fault_if (nat_lt 1 state) fault.Malformed
+
+-- the fault of one request to the object x: a bind of what isn't offered, what the seat lacks, a
+-- surface that has a popup, a key's state, and a board without a keymap
+abbrev pub own_fault : Past → (x : ℕ) → Role → (ℕ → ℕ) → Interface → ℕ → List Value → Option Fault
+own_fault past x role at interface.Registry opcode
     (word name ∷ text t ∷ word version ∷ word id ∷ []) =
     fault_if (not (is_offered role name t && (version == 1))) fault.Bind
-own_fault past role at interface.Seat opcode vs = Some fault.Capability
-own_fault past role at interface.InputMethod opcode (word id ∷ word surface ∷ []) =
+own_fault past x role at interface.Seat opcode vs = Some fault.Capability
+own_fault past x role at interface.InputMethod opcode (word id ∷ word surface ∷ []) =
     (if opcode == 4 then fault_if (has_popup (log_of past) (at surface)) fault.Role else None)
-own_fault _ _ _ _ _ _ = None
+own_fault past x role at interface.VirtualKeyboard opcode (word time ∷ word key ∷ word state ∷ []) =
+    option_or (state_fault state) (keymap_fault past x)
+own_fault past x role at interface.VirtualKeyboard opcode
+    (word depressed ∷ word latched ∷ word locked ∷ word group ∷ []) = keymap_fault past x
+own_fault _ _ _ _ _ _ _ = None
 
 -- the first fault of a request that was read: its object arguments, its new id, and what is its own
-abbrev pub request_fault : Past → ℕ → Role → (ℕ → ℕ) → Message → Option Fault
-request_fault past p role at m =
+abbrev pub request_fault : Past → (p x : ℕ) → Role → (ℕ → ℕ) → Message → Option Fault
+request_fault past p x role at m =
     option_or (argument_fault past p (arguments_of m.interface m.opcode m.values))
     (option_or (new_fault past p (new_of m.interface m.opcode m.values))
-    (own_fault past role at m.interface m.opcode m.values))
+    (own_fault past x role at m.interface m.opcode m.values))
 
 -- no row has the opcode, or the body spells no arguments of the row
 abbrev pub refuse_fault : Refuse → Fault
@@ -82,4 +95,5 @@ refuse_fault refuse.Malformed = fault.Malformed
 abbrev pub is_of_addressed : Fault → Bool
 is_of_addressed fault.Capability = true
 is_of_addressed fault.Role = true
+is_of_addressed fault.NoKeymap = true
 is_of_addressed _ = false

@@ -3,7 +3,7 @@ use Rattle.std.specs.Prelude.{ℕ, List, [], ◌∷◌, ◌==◌, if◌then◌el
 use Rattle.std.specs.List.{slice_get}
 use Rattle.wl_proto.specs.declared.interface.Interface.{Interface}
 use Rattle.wl_proto.specs.declared.interface.Interface.TheVariants as interface
-use Rattle.wl_proto.specs.Grammar.{Value, word, signed, text}
+use Rattle.wl_proto.specs.Grammar.{Value, word, signed, text, token}
 use Rattle.relay_model.specs.declared.act.Act.{Act}
 use Rattle.relay_model.specs.declared.act.Act.TheVariants as acts
 use Rattle.relay_model.specs.declared.role.Role.{Role}
@@ -23,6 +23,8 @@ arguments_of interface.TextInputManager opcode (word id ∷ word seat ∷ []) =
     argument interface.Seat seat ∷ []
 arguments_of interface.InputMethodManager opcode (word seat ∷ word id ∷ []) =
     argument interface.Seat seat ∷ []
+arguments_of interface.VirtualKeyboardManager opcode (word seat ∷ word id ∷ []) =
+    argument interface.Seat seat ∷ []
 arguments_of interface.InputMethod opcode (word id ∷ word surface ∷ []) =
     (if opcode == 4 then argument interface.Surface surface ∷ [] else [])
 arguments_of _ _ _ = []
@@ -32,7 +34,8 @@ abbrev pub global_at : ℕ → Interface
 global_at name =
     (if name == 1 then interface.Compositor
     else (if name == 2 then interface.Seat
-    else (if name == 3 then interface.TextInputManager else interface.InputMethodManager)))
+    else (if name == 3 then interface.TextInputManager
+    else (if name == 4 then interface.InputMethodManager else interface.VirtualKeyboardManager))))
 
 -- the new id of a request, with the interface of what is made; a pointer, a keyboard or a touch is
 -- never made
@@ -51,9 +54,11 @@ new_of interface.InputMethod opcode (word id ∷ word surface ∷ []) =
     (if opcode == 4 then Some (argument interface.InputPopupSurface id) else None)
 new_of interface.InputMethod opcode (word id ∷ []) =
     (if opcode == 5 then Some (argument interface.KeyboardGrab id) else None)
+new_of interface.VirtualKeyboardManager opcode (word seat ∷ word id ∷ []) =
+    Some (argument interface.VirtualKeyboard id)
 new_of _ _ _ = None
 
--- the acts of requests with arguments, of the field or the method x
+-- the acts of requests with arguments, of the field, the method or the board x
 
 abbrev pub surround : ℕ → List Value → Act
 surround x (text t ∷ signed cursor ∷ signed anchor ∷ []) = acts.Surround x t cursor anchor
@@ -88,6 +93,21 @@ abbrev pub commit : ℕ → List Value → Act
 commit x (word serial ∷ []) = acts.MCommit x serial
 commit x _ = acts.Idle
 
+abbrev pub keymap : ℕ → List Value → Act
+keymap x (word format ∷ token t ∷ word size ∷ []) =
+    acts.VKeymap x (record { format = format; token = t; size = size })
+keymap x _ = acts.Idle
+
+abbrev pub key : ℕ → List Value → Act
+key x (word time ∷ word code ∷ word state ∷ []) = acts.VKey x time code state
+key x _ = acts.Idle
+
+abbrev pub modifiers : ℕ → List Value → Act
+modifiers x (word depressed ∷ word latched ∷ word locked ∷ word group ∷ []) =
+    acts.VMods x
+    (record { depressed = depressed; latched = latched; locked = locked; group = group })
+modifiers x _ = acts.Idle
+
 -- `at` gives the label of an id
 abbrev pub popup : (ℕ → ℕ) → ℕ → List Value → Act
 popup at x (word id ∷ word surface ∷ []) = acts.Popup x (at surface)
@@ -115,6 +135,9 @@ rows p x role at interface.InputMethod vs =
     ∷ acts.Drop x ∷ []
 rows p x role at interface.InputPopupSurface vs = acts.Drop x ∷ []
 rows p x role at interface.KeyboardGrab vs = acts.Drop x ∷ []
+rows p x role at interface.VirtualKeyboardManager vs = acts.VBoard p ∷ []
+rows p x role at interface.VirtualKeyboard vs =
+    keymap x vs ∷ key x vs ∷ modifiers x vs ∷ acts.Drop x ∷ []
 rows p x role at _ vs = []
 
 -- the act of a request that isn't refused

@@ -58,7 +58,7 @@ abbrev pub of_reading : Past → ℕ → Joined → ℕ → Result Message Refus
 of_reading past n peer x (Err r) = refused_for peer.label x (refuse_fault r)
 of_reading past n peer x (Ok m) =
     of_request past n peer x m
-    (request_fault past peer.label peer.role (label_at past peer.label) m)
+    (request_fault past peer.label x peer.role (label_at past peer.label) m)
 
 -- a message to an object, if the id names one; where its row has a descriptor, that is the first
 -- token that waits for the peer

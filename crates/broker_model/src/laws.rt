@@ -3,7 +3,7 @@ ghost use Rattle.broker_model.specs.Law.{RelayLaw, WholeGroups, NothingElse, Nob
 ghost use Rattle.broker_model.specs.Tables.{FoundById, FoundByLabel, CountedLive};
 ghost use Rattle.broker_model.specs.Stored.{GroupsAreSpaced, CellsArePut, CellsAreTaken};
 ghost use Rattle.broker_model.specs.Stored.{BytesAreOut, TokensAreOut};
-ghost use Rattle.broker_model.specs.Law.{FewWait, KeymapsTake, StampEach, MomentsRise, StampsAgain};
+ghost use Rattle.broker_model.specs.Law.{BoardsMaySay, FewWait, KeymapsTake, StampEach, MomentsRise, StampsAgain};
 
 /// After any outer steps, what is queued for each field is what is relayed to it, in order and once
 /// each; or all of that but the last group, which did not fit the store of the field's peer, and
@@ -47,6 +47,12 @@ pub fn store_law()
 pub fn token_law()
     ensures few { FewWait }
     ensures keymaps_take { KeymapsTake }
+{}
+
+/// What an entry says of a board's keys and modifiers, the board may say: it has had a keymap, and a
+/// key's state is 0 or 1. Any other such message is refused.
+pub fn board_law()
+    ensures { BoardsMaySay }
 {}
 
 /// After any entries, whatever their calls gave: each has one stamp, no moment falls, and the

@@ -7,6 +7,6 @@ mod rows;
 mod stamps;
 
 pub use journal::{Entry, Journal, Kept};
-pub use laws::{relay_law, stamp_law, store_law, table_law, token_law};
-pub use rows::{base_session, small_sessions, tokens_and_stamps};
+pub use laws::{board_law, relay_law, stamp_law, store_law, table_law, token_law};
+pub use rows::{base_session, board_sessions, small_sessions, tokens_and_stamps};
 pub use stamps::StampList;

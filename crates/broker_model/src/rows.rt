@@ -10,6 +10,9 @@ ghost use Rattle.broker_model.specs.BaseRows.{TakenMakesRoom, EndsFollow, BatchI
 ghost use Rattle.broker_model.specs.BaseRows.{TokenIsPlaced, SurfaceHasARole};
 ghost use Rattle.broker_model.specs.TokenRows.{TokensWait, TokensWeigh, LastTokenIsDropped};
 ghost use Rattle.broker_model.specs.TokenRows.{FirstIsTaken, MomentsAreSaid, EndsHaveNoAuthor};
+ghost use Rattle.broker_model.specs.BoardRows.{BoardIsMade, ManagerIsNotOffered, KeymapTakesToken};
+ghost use Rattle.broker_model.specs.BoardRows.{KeymapLacksToken, BoardSpeaks, KeymapIsMissing};
+ghost use Rattle.broker_model.specs.BoardRows.{StateIsBad, BoardIsDropped};
 
 /// What the definitions make of small sessions is what was worked out by hand.
 pub fn small_sessions()
@@ -56,4 +59,16 @@ pub fn tokens_and_stamps()
     ensures first_is_taken { FirstIsTaken }
     ensures moments_are_said { MomentsAreSaid }
     ensures ends_have_no_author { EndsHaveNoAuthor }
+{}
+
+/// The same of virtual keyboards, and of what is refused of them.
+pub fn board_sessions()
+    ensures board_is_made { BoardIsMade }
+    ensures manager_is_not_offered { ManagerIsNotOffered }
+    ensures keymap_takes_token { KeymapTakesToken }
+    ensures keymap_lacks_token { KeymapLacksToken }
+    ensures board_speaks { BoardSpeaks }
+    ensures keymap_is_missing { KeymapIsMissing }
+    ensures state_is_bad { StateIsBad }
+    ensures board_is_dropped { BoardIsDropped }
 {}

@@ -351,6 +351,7 @@ enter_weighs s p f (Some t) m =
 globals_weigh : (n : ℕ) (r : Role) (m : ℕ) → Weighs (globals_told n r) 5 m
 globals_weigh n role.App m = record { events = omega arith; bytes = omega arith }
 globals_weigh n role.Method m = record { events = omega arith; bytes = omega arith }
+globals_weigh n role.Keyed m = record { events = omega arith; bytes = omega arith }
 
 method_weighs : (s : State) (m : ℕ) → length (text_around (holder_state s).surrounding) ≤ m → Weighs (method_told s) 5 m
 method_weighs s m p =

@@ -1,7 +1,7 @@
 //! The relay's part on what a peer does beside its surfaces, fields and methods: registries, syncs,
 //! bound globals and refused messages.
-ghost use Rattle.std.specs.Prelude.{◌≡◌, ◌<◌, ◌≤◌, [], ◌∷◌};
-ghost use Rattle.relay_model.specs.Globals.{globals_told};
+ghost use Rattle.std.specs.Prelude.{◌≡◌, ◌<◌, ◌≤◌, [], ◌∷◌, map};
+ghost use Rattle.relay_model.specs.Globals.{global_told, globals_told};
 ghost use Rattle.relay_model.specs.Told.{to, synced};
 ghost use Rattle.seat_objects.specs.Reached.{Reached};
 ghost use Rattle.relay_core.specs.Kept.{state};
@@ -35,15 +35,25 @@ fn tell_global<P: Post>(registry: Label, name: u32, interface: Interface, post: 
     );
 }
 
-// Tells a new registry the globals that are offered to the role.
+// Tells a registry each of these globals.
 #[tactic(auto, using(seat_objects::proofs::TellsAppend::reached_append))]
+fn tell_offers<P: Post>(registry: Label, offers: &[(u32, Interface)], post: &mut P)
+    ensures { Reached P.may_follow post.old (map (global_told registry) offers.now) post.new }
+{
+    match offers {
+        [] => {}
+        [(name, interface), rest @ ..] => {
+            tell_global(registry, *name, *interface, post);
+            tell_offers(registry, rest, post);
+        }
+    }
+}
+
+// Tells a new registry the globals that are offered to the role.
 fn tell_globals<P: Post>(registry: Label, role: Role, post: &mut P)
     ensures { Reached P.may_follow post.old (globals_told registry role) post.new }
 {
-    let [(first, compositor), (second, seat), (third, manager)] = role.globals();
-    tell_global(registry, first, compositor, post);
-    tell_global(registry, second, seat, post);
-    tell_global(registry, third, manager, post);
+    tell_offers(registry, role.globals(), post);
 }
 
 /// Tells the callback of a sync its value, and the peer that its id is free again.

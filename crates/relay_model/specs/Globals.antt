@@ -1,9 +1,9 @@
 -- The globals that a peer is offered.
 use Rattle.std.specs.Prelude.{ℕ, List, [], ◌∷◌, map}
 use Rattle.wl_proto.specs.declared.interface.Interface.{Interface}
-use Rattle.wl_proto.specs.declared.interface.Interface.TheVariants.{Compositor, Seat, TextInputManager, InputMethodManager}
+use Rattle.wl_proto.specs.declared.interface.Interface.TheVariants.{Compositor, Seat, TextInputManager, InputMethodManager, VirtualKeyboardManager}
 use Rattle.relay_model.specs.declared.role.Role.{Role}
-use Rattle.relay_model.specs.declared.role.Role.TheVariants.{App, Method}
+use Rattle.relay_model.specs.declared.role.Role.TheVariants.{App, Method, Keyed}
 use Rattle.relay_model.specs.declared.said.Told.{Told}
 use Rattle.relay_model.specs.declared.said.Said.TheVariants as said
 use Rattle.relay_model.specs.Events.{to}
@@ -12,6 +12,8 @@ use Rattle.relay_model.specs.Events.{to}
 abbrev pub offered : Role → List (ℕ × Interface)
 offered App = (1, Compositor) ∷ (2, Seat) ∷ (3, TextInputManager) ∷ []
 offered Method = (1, Compositor) ∷ (2, Seat) ∷ (4, InputMethodManager) ∷ []
+offered Keyed =
+    (1, Compositor) ∷ (2, Seat) ∷ (4, InputMethodManager) ∷ (5, VirtualKeyboardManager) ∷ []
 
 -- a registry is told a global, all of which have version 1
 abbrev pub global_told : ℕ → ℕ × Interface → Told

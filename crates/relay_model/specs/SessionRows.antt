@@ -31,6 +31,18 @@ GlobalsOfAMethod =
     ∷ [])
     ∷ [])
 
+-- the registry of an input method that has virtual keyboards
+abbrev pub GlobalsOfAKeyed : Type 0
+GlobalsOfAKeyed =
+    told_each [] (acts.Peer ∷ acts.Registry 1 roles.Keyed ∷ [])
+    ≡ ([]
+    ∷ (to 2 (said.Global 1 interfaces.Compositor 1)
+    ∷ to 2 (said.Global 2 interfaces.Seat 1)
+    ∷ to 2 (said.Global 4 interfaces.InputMethodManager 1)
+    ∷ to 2 (said.Global 5 interfaces.VirtualKeyboardManager 1)
+    ∷ [])
+    ∷ [])
+
 -- a sync, whose callback can't be dropped any more
 abbrev pub AnsweredSync : Type 0
 AnsweredSync =

@@ -3,8 +3,8 @@ ghost use Rattle.std.specs.Prelude.{◌≡◌};
 ghost use Rattle.relay_model.specs.Faults.{code_of, text_of};
 
 /// Why a message of a peer is refused. The tests are made in this order, and the first that fails
-/// decides. Each but the last two is told as an error of the peer's `wl_display`; those two as an
-/// error of the object that the message went to.
+/// decides. Each but the last three is told as an error of the peer's `wl_display`; those three as
+/// an error of the object that the message went to.
 #[derive(Clone, Copy, Debug, PartialEq, Eq)]
 pub enum Fault {
     /// The header's size is under 8, above 4096, or no multiple of 4.
@@ -28,6 +28,8 @@ pub enum Fault {
     Capability,
     /// A popup is asked on the surface of a live popup.
     Role,
+    /// A virtual keyboard that has had no keymap sends a key or modifiers.
+    NoKeymap,
 }
 
 impl Fault {
@@ -44,6 +46,8 @@ impl Fault {
             Fault::Capability => 0,
             // `zwp_input_method_v2`: role.
             Fault::Role => 0,
+            // `zwp_virtual_keyboard_v1`: no_keymap.
+            Fault::NoKeymap => 0,
         }
     }
 
@@ -62,6 +66,7 @@ impl Fault {
             Fault::Bind => "no such global",
             Fault::Capability => "missing capability",
             Fault::Role => "surface has a role",
+            Fault::NoKeymap => "no keymap",
         }
     }
 }

@@ -11,6 +11,7 @@ ghost use Rattle.relay_model.specs.KeyRows.{TwoPopups, PopupWithoutSurface, Rect
 ghost use Rattle.relay_model.specs.KeyRows.{PopupBesidePopup, TooManyKeys};
 ghost use Rattle.relay_model.specs.BoardRows.{OwnKeysPass, NoKeymap, ReleasesFollow};
 ghost use Rattle.relay_model.specs.SessionRows.{GlobalsOfAnApp, GlobalsOfAMethod, AnsweredSync};
+ghost use Rattle.relay_model.specs.SessionRows.{GlobalsOfAKeyed};
 ghost use Rattle.relay_model.specs.SessionRows.{BoundSeat, RefusedMessages, DroppedThing};
 ghost use Rattle.relay_model.specs.SessionRows.{EndedPeer};
 
@@ -62,6 +63,7 @@ pub fn board_rows()
 pub fn session_rows()
     ensures globals_of_an_app { GlobalsOfAnApp }
     ensures globals_of_a_method { GlobalsOfAMethod }
+    ensures globals_of_a_keyed { GlobalsOfAKeyed }
     ensures answered_sync { AnsweredSync }
     ensures bound_seat { BoundSeat }
     ensures refused_messages { RefusedMessages }

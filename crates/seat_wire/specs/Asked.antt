@@ -5,6 +5,7 @@ use Rattle.wl_wire.specs.Texts.{has_no_zero}
 use Rattle.wl_proto.specs.declared.request.Request.{Request}
 use Rattle.wl_proto.specs.declared.request.Request.TheVariants as request
 use Rattle.relay_model.specs.Objects.{has_popup}
+use Rattle.relay_model.specs.Boards.{sends}
 use Rattle.seat_steps.specs.declared.step.ShellStep.{ShellStep}
 use Rattle.seat_steps.specs.declared.step.ShellStep.TheVariants as shell
 use Rattle.seat_wire.specs.declared.requests.Argument as declared
@@ -21,6 +22,13 @@ abbrev pub SaysPopup : Past → (ℕ → ℕ) → Request → Bool → Type 0
 SaysPopup past at (request.GetInputPopupSurface id surface) taken =
     taken ≡ has_popup (log_of past) (at surface)
 SaysPopup past at _ taken = Unit {0}
+
+-- where a board sends a key or modifiers, it says whether the board x has had a keymap
+abbrev pub SaysKeymap : Past → (x : ℕ) → Request → Bool → Type 0
+SaysKeymap past x (request.Key time key state) has = has ≡ sends (log_of past) x
+SaysKeymap past x (request.Modifiers depressed latched locked group) has =
+    has ≡ sends (log_of past) x
+SaysKeymap past x _ has = Unit {0}
 
 -- where a popup is asked for, it is the label of the surface
 abbrev pub IsSurface : (ℕ → ℕ) → Request → ℕ → Type 0

@@ -8,7 +8,7 @@ ghost use Rattle.broker_model.specs.Resolve.{on_surface};
 ghost use Rattle.broker_model.specs.Resolve as resolve;
 ghost use Rattle.seat_wire.specs.Asked.{HasText, IsSurface, IsNamed};
 
-use relay_model::{Act, Label, Rect, Role};
+use relay_model::{Act, Keymap, Label, Mods, Rect, Role};
 use seat_steps::ShellStep;
 use std::alloc::Global;
 use wio_core::NoMemory;
@@ -56,17 +56,13 @@ pub(crate) fn act_of(
         | Request::InputMethodManagerDestroy
         | Request::InputMethodDestroy
         | Request::InputPopupSurfaceDestroy
-        | Request::KeyboardGrabRelease => Act::Drop { label: object },
+        | Request::KeyboardGrabRelease
+        | Request::VirtualKeyboardDestroy => Act::Drop { label: object },
         Request::Damage { .. }
         | Request::SurfaceCommit
         | Request::GetPointer { .. }
         | Request::GetKeyboard { .. }
-        | Request::GetTouch { .. }
-        | Request::CreateVirtualKeyboard { .. }
-        | Request::Keymap { .. }
-        | Request::Key { .. }
-        | Request::Modifiers { .. }
-        | Request::VirtualKeyboardDestroy => Act::Idle,
+        | Request::GetTouch { .. } => Act::Idle,
         Request::Enable => Act::Enable { field: object },
         Request::Disable => Act::Disable { field: object },
         Request::SetSurroundingText {
@@ -127,6 +123,39 @@ pub(crate) fn act_of(
             surface,
         },
         Request::GrabKeyboard { .. } => Act::Grab { method: object },
+        Request::CreateVirtualKeyboard { .. } => Act::VBoard { peer },
+        Request::Keymap {
+            format,
+            token,
+            size,
+        } => Act::VKeymap {
+            board: object,
+            keymap: Keymap {
+                format,
+                token,
+                size,
+            },
+        },
+        Request::Key { time, key, state } => Act::VKey {
+            board: object,
+            time,
+            key,
+            state,
+        },
+        Request::Modifiers {
+            depressed,
+            latched,
+            locked,
+            group,
+        } => Act::VMods {
+            board: object,
+            mods: Mods {
+                depressed,
+                latched,
+                locked,
+                group,
+            },
+        },
     })
 }
 

@@ -12,7 +12,7 @@ ghost use Rattle.seat_wire.specs.Asked.{asked, HasText, IsSurface};
 ghost use Rattle.seat_wire.specs.Meant.{IsTableOf, meant};
 
 use crate::acts::act_of;
-use crate::requests::{Argument, new_object, object_argument, own_fault};
+use crate::requests::{Argument, Beside, new_object, object_argument, own_fault};
 use crate::tokens::takes_token;
 use im_objects::{LAST_ID, MOST_LIVE, Table};
 use relay_core::Relay;
@@ -142,7 +142,7 @@ fn refused_for(peer: Label, object: Label, fault: Fault) -> Meaning
     ensures { (n : ℕ) → meant peer n result ≡ resolve.refused_for peer object fault }
 {
     let object = match fault {
-        Fault::Capability | Fault::Role => object,
+        Fault::Capability | Fault::Role | Fault::NoKeymap => object,
         Fault::Size
         | Fault::Object
         | Fault::Opcode
@@ -185,17 +185,28 @@ fn read<'a>(
 
 // The first fault of a request: its object argument, its new id, and what is its own. `surface` is
 // what `surface_of` gives.
-fn request_fault(relay: &Relay, sender: &Sender, request: &Request, surface: Label) -> Option<Fault>
+fn request_fault(
+    relay: &Relay,
+    sender: &Sender,
+    object: Label,
+    request: &Request,
+    surface: Label,
+) -> Option<Fault>
     ensures { (past : Past) →
         let p = sender.now.label in
         let at = resolve.label_at past p in
         IsTableOf past p sender.now.table.now → StandsFor relay.now past.acts →
         IsSurface at request.now surface →
-        result ≡ refusals.request_fault past p sender.now.role at (request_message request.now) }
+        result ≡ refusals.request_fault past p object sender.now.role at
+        (request_message request.now) }
 {
     let argument = argument_fault(sender.table, request);
     let new = new_fault(sender.table, new_object(request));
-    let own = own_fault(request, sender.role, relay.has_popup(surface));
+    let beside = Beside {
+        has_popup: relay.has_popup(surface),
+        has_keymap: relay.has_keymap(object),
+    };
+    let own = own_fault(request, sender.role, beside);
     argument.or(new.or(own))
 }
 
@@ -212,13 +223,13 @@ fn request_meaning(
         let p = sender.now.label in
         let role = sender.now.role in
         let m = request_message request.now in
-        let fault = refusals.request_fault past p role (resolve.label_at past p) m in
+        let fault = refusals.request_fault past p object role (resolve.label_at past p) m in
         IsTableOf past p sender.now.table.now → StandsFor relay.now past.acts →
         IfOk result (λ meaning. meant p n meaning
         ≡ resolve.of_request past n (record { label = p; role = role }) object m fault) }
 {
     let surface = surface_of(sender.table, request);
-    match request_fault(relay, sender, request, surface) {
+    match request_fault(relay, sender, object, request, surface) {
         Some(fault) => Ok(refused_for(sender.label, object, fault)),
         None => Ok(Meaning {
             act: act_of(alloc, request, sender.label, object, sender.role, surface)?,

@@ -1,11 +1,12 @@
 //! What a request asks: its object argument, its new id, and the fault of its own.
-ghost use Rattle.std.specs.Prelude.{◌≡◌, ℕ, option_map, option_to_list};
+ghost use Rattle.std.specs.Prelude.{◌≡◌, ℕ, not, option_map, option_to_list};
 ghost use Rattle.wl_proto.specs.Rows.{request_message};
 ghost use Rattle.broker_model.specs.Ids.{Past};
 ghost use Rattle.broker_model.specs.Requests.{arguments_of, global_at, new_of};
 ghost use Rattle.broker_model.specs.Refusals.{is_offered};
 ghost use Rattle.broker_model.specs.Refusals as refusals;
-ghost use Rattle.seat_wire.specs.Asked.{asked, SaysPopup};
+ghost use Rattle.relay_model.specs.declared.fault.Fault.TheVariants as fault;
+ghost use Rattle.seat_wire.specs.Asked.{asked, SaysPopup, SaysKeymap};
 
 use relay_model::{Fault, Role};
 use wl_proto::{Interface, Request};
@@ -25,12 +26,12 @@ pub(crate) fn object_argument(request: &Request) -> Option<Argument>
         option_to_list (option_map asked result) ≡ arguments_of m.interface m.opcode m.values }
 {
     match request {
-        Request::GetTextInput { seat, .. } | Request::GetInputMethod { seat, .. } => Some(
-            Argument {
-                id: *seat,
-                interface: Interface::Seat,
-            },
-        ),
+        Request::GetTextInput { seat, .. }
+        | Request::GetInputMethod { seat, .. }
+        | Request::CreateVirtualKeyboard { seat, .. } => Some(Argument {
+            id: *seat,
+            interface: Interface::Seat,
+        }),
         Request::GetInputPopupSurface { surface, .. } => Some(Argument {
             id: *surface,
             interface: Interface::Surface,
@@ -47,7 +48,8 @@ fn global_at(name: u32) -> Interface
         1 => Interface::Compositor,
         2 => Interface::Seat,
         3 => Interface::TextInputManager,
-        _ => Interface::InputMethodManager,
+        4 => Interface::InputMethodManager,
+        _ => Interface::VirtualKeyboardManager,
     }
 }
 
@@ -69,6 +71,7 @@ pub(crate) fn new_object(request: &Request) -> Option<Argument>
         Request::GetInputMethod { input_method, .. } => (*input_method, Interface::InputMethod),
         Request::GetInputPopupSurface { id, .. } => (*id, Interface::InputPopupSurface),
         Request::GrabKeyboard { keyboard } => (*keyboard, Interface::KeyboardGrab),
+        Request::CreateVirtualKeyboard { id, .. } => (*id, Interface::VirtualKeyboard),
         Request::SurfaceDestroy
         | Request::Damage { .. }
         | Request::SurfaceCommit
@@ -89,7 +92,6 @@ pub(crate) fn new_object(request: &Request) -> Option<Argument>
         | Request::InputMethodDestroy
         | Request::InputPopupSurfaceDestroy
         | Request::KeyboardGrabRelease
-        | Request::CreateVirtualKeyboard { .. }
         | Request::Keymap { .. }
         | Request::Key { .. }
         | Request::Modifiers { .. }
@@ -105,13 +107,35 @@ fn is_offered(role: Role, name: u32, text: &str) -> bool
     role.globals().iter().any(|(offered, interface)| *offered == name && interface.name() == text)
 }
 
-/// The fault of the request alone: a bind of what isn't offered, what the seat lacks, or a popup on
-/// a surface that has one. Where a popup is asked for, `has_popup` says whether a live popup has
-/// the surface; else it says nothing.
-pub(crate) fn own_fault(request: &Request, role: Role, has_popup: bool) -> Option<Fault>
-    ensures { (past : Past) (at : ℕ → ℕ) → SaysPopup past at request.now has_popup →
+// A board sends keys and modifiers once it has had a keymap.
+fn keymap_fault(has_keymap: bool) -> Option<Fault>
+    ensures { result ≡ refusals.fault_if (not has_keymap) fault.NoKeymap }
+{
+    if has_keymap {
+        None
+    } else {
+        Some(Fault::NoKeymap)
+    }
+}
+
+// What else a message goes by than its sender's table: whether a live popup has the surface of a
+// popup that is asked for, and whether the board that it goes to has had a keymap. It says nothing
+// where the message asks for neither.
+#[derive(Clone, Copy)]
+pub(crate) struct Beside {
+    pub has_popup: bool,
+    pub has_keymap: bool,
+}
+
+/// The fault of the request alone: a bind of what isn't offered, what the seat lacks, a popup on a
+/// surface that has one, a key's state that is neither 0 nor 1, or a key or modifiers of a board
+/// that has had no keymap.
+pub(crate) fn own_fault(request: &Request, role: Role, beside: Beside) -> Option<Fault>
+    ensures { (past : Past) (x : ℕ) (at : ℕ → ℕ) →
+        SaysPopup past at request.now beside.has_popup →
+        SaysKeymap past x request.now beside.has_keymap →
         let m = request_message request.now in
-        result ≡ refusals.own_fault past role at m.interface m.opcode m.values }
+        result ≡ refusals.own_fault past x role at m.interface m.opcode m.values }
 {
     match request {
         Request::Bind {
@@ -129,7 +153,15 @@ pub(crate) fn own_fault(request: &Request, role: Role, has_popup: bool) -> Optio
         Request::GetPointer { .. } | Request::GetKeyboard { .. } | Request::GetTouch { .. } => Some(
             Fault::Capability,
         ),
-        Request::GetInputPopupSurface { .. } => { if has_popup { Some(Fault::Role) } else { None } }
+        Request::GetInputPopupSurface { .. } => {
+            if beside.has_popup {
+                Some(Fault::Role)
+            } else {
+                None
+            }
+        }
+        Request::Key { state, .. } if *state > 1 => Some(Fault::Malformed),
+        Request::Key { .. } | Request::Modifiers { .. } => keymap_fault(beside.has_keymap),
         _ => None,
     }
 }

@@ -6,7 +6,7 @@ use Rattle.std.specs.List.{slice_get, AllByRecursion}
 use Rattle.wl_proto.specs.declared.interface.Interface.{Interface}
 use Rattle.wl_proto.specs.declared.interface.Interface.TheVariants as interface
 use Rattle.wl_proto.specs.declared.refuse.Refuse.{Refuse}
-use Rattle.wl_proto.specs.Grammar.{Value, word, signed, text}
+use Rattle.wl_proto.specs.Grammar.{Value, word, signed, text, token}
 use Rattle.wl_proto.specs.Reading.{request_reading}
 use Rattle.wl_proto.specs.Rows.{Message}
 use Rattle.relay_model.specs.declared.act.Act.{Act}
@@ -18,7 +18,7 @@ use Rattle.seat_steps.specs.declared.step.ShellStep.TheVariants as shell
 use Rattle.broker_model.specs.declared.journal.Entry.{Entry}
 use Rattle.broker_model.specs.declared.journal.Entry.TheVariants as entries
 use Rattle.broker_model.specs.Ids.{Made, Joined, Past, peer_at, object_at}
-use Rattle.broker_model.specs.Requests.{surround, cause, content, cursor, string, preedit, delete, commit, popup, bind, rows, act_of}
+use Rattle.broker_model.specs.Requests.{surround, cause, content, cursor, string, preedit, delete, commit, keymap, key, modifiers, popup, bind, rows, act_of}
 use Rattle.broker_model.specs.Refusals.{request_fault}
 use Rattle.broker_model.specs.Resolve.{Meaning, label_at, of_request, of_reading, of_message, of_peer, surface_at, on_surface, shell_act, past_of}
 use Rattle.broker_model.specs.Out.{act_at}
@@ -64,6 +64,19 @@ says_commit : (all : Bool) (x : ℕ) (vs : List Value) → Says all (commit x vs
 says_commit all x (word n ∷ []) = tt
 says_commit all x _ = tt
 
+says_keymap : (all : Bool) (x : ℕ) (vs : List Value) → Says all (keymap x vs)
+says_keymap all x (word a ∷ token t ∷ word b ∷ []) = tt
+says_keymap all x _ = tt
+
+says_key : (all : Bool) (x : ℕ) (vs : List Value) → AreSound vs → Says all (key x vs)
+says_key all x (word a ∷ word b ∷ word c ∷ []) h = when all (IsWord a × IsWord b × IsWord c) (h.0, h.1.0, h.1.1.0)
+says_key all x _ h = tt
+
+says_modifiers : (all : Bool) (x : ℕ) (vs : List Value) → AreSound vs → Says all (modifiers x vs)
+says_modifiers all x (word a ∷ word b ∷ word c ∷ word d ∷ []) h =
+    when all (IsWord a × IsWord b × IsWord c × IsWord d) (h.0, h.1.0, h.1.1.0, h.1.1.1.0)
+says_modifiers all x _ h = tt
+
 says_popup : (all : Bool) (at : ℕ → ℕ) (x : ℕ) (vs : List Value) → Says all (popup at x vs)
 says_popup all at x (word a ∷ word b ∷ []) = tt
 says_popup all at x _ = tt
@@ -102,6 +115,9 @@ says_rows all p x role at interface.InputMethod vs h = (
 )
 says_rows all p x role at interface.InputPopupSurface vs h = (tt, tt)
 says_rows all p x role at interface.KeyboardGrab vs h = (tt, tt)
+says_rows all p x role at interface.VirtualKeyboardManager vs h = (tt, tt)
+says_rows all p x role at interface.VirtualKeyboard vs h =
+    (says_keymap all x vs, (says_key all x vs h, (says_modifiers all x vs h, (tt, tt))))
 says_rows all p x role at _ vs h = tt
 
 says_row : (all : Bool) (xs : List Act) (n : ℕ) → AllByRecursion (Says all) xs →
@@ -130,7 +146,7 @@ says_reading : (all : Bool) (past : Past) (n : ℕ) (peer : Joined) (x : ℕ) (r
     ((m : Message) → r ≡ Ok m → SaysSo all m) → Says all (of_reading past n peer x r).act
 says_reading all past n peer x (Err e) h = tt
 says_reading all past n peer x (Ok m) h =
-    says_request all past n peer x m (request_fault past peer.label peer.role (label_at past peer.label) m) (h m refl)
+    says_request all past n peer x m (request_fault past peer.label x peer.role (label_at past peer.label) m) (h m refl)
 
 -- what a message to the object is read as can be said
 abbrev pub ReadsSo : Bool → Past → Joined → ℕ → List ℕ → Made → Type 0

@@ -50,6 +50,7 @@ fault_text faults.TooMany = is_text-plain (text_of faults.TooMany) refl
 fault_text faults.Bind = is_text-plain (text_of faults.Bind) refl
 fault_text faults.Capability = is_text-plain (text_of faults.Capability) refl
 fault_text faults.Role = is_text-plain (text_of faults.Role) refl
+fault_text faults.NoKeymap = is_text-plain (text_of faults.NoKeymap) refl
 
 fault_word : (fault : Fault) → IsWord (code_of fault)
 fault_word faults.Size = omega arith
@@ -62,6 +63,7 @@ fault_word faults.TooMany = omega arith
 fault_word faults.Bind = omega arith
 fault_word faults.Capability = omega arith
 fault_word faults.Role = omega arith
+fault_word faults.NoKeymap = omega arith
 
 -- the event is one whose numbers are asked only where all acts are
 abbrev pub IsAsked : Bool → Said → Type 0

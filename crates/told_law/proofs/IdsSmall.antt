@@ -43,6 +43,7 @@ new_small interface.Compositor opcode (word id ∷ []) new e h = named_small _ i
 new_small interface.Seat opcode (word id ∷ []) new e h = named_small _ id new e h.0
 new_small interface.TextInputManager opcode (word id ∷ word seat ∷ []) new e h = named_small _ id new e h.0
 new_small interface.InputMethodManager opcode (word seat ∷ word id ∷ []) new e h = named_small _ id new e h.1.0
+new_small interface.VirtualKeyboardManager opcode (word seat ∷ word id ∷ []) new e h = named_small _ id new e h.1.0
 new_small interface.InputMethod opcode (word id ∷ word surface ∷ []) new e h = chosen_small (opcode == 4) _ id new e h.0
 new_small interface.InputMethod opcode (word id ∷ []) new e h = chosen_small (opcode == 5) _ id new e h.0
 new_small _ opcode vs new e h = cc
@@ -69,7 +70,8 @@ reading_small : (past : Past) (n : ℕ) (peer : Joined) (x : ℕ) (r : Result Me
     AreSmall (of_reading past n peer x r).made
 reading_small past n peer x (Err f) h m i = absurd i
 reading_small past n peer x (Ok r) h m i =
-    request_small past n peer x r (request_fault past peer.label peer.role (label_at past peer.label) r) (h r refl) m i
+    request_small past n peer x r (request_fault past peer.label x peer.role (label_at past peer.label) r)
+    (h r refl) m i
 
 message_small : (past : Past) (n : ℕ) (peer : Joined) (opcode : ℕ) (body : List ℕ) (o : Option Made) → IsBytes body →
     AreSmall (of_message past n peer opcode body o).made

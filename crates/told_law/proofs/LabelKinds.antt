@@ -171,6 +171,9 @@ request_makes p x role at interface.InputMethodManager zero (word seat ∷ word 
     named_by (acts.Method p) interface.InputMethod id new e refl
 request_makes p x role at interface.InputMethodManager (suc zero) (word seat ∷ word id ∷ []) new e = tt
 request_makes p x role at interface.InputMethodManager (suc (suc n)) (word seat ∷ word id ∷ []) new e = tt
+request_makes p x role at interface.VirtualKeyboardManager zero (word seat ∷ word id ∷ []) new e =
+    named_by (acts.VBoard p) interface.VirtualKeyboard id new e refl
+request_makes p x role at interface.VirtualKeyboardManager (suc n) (word seat ∷ word id ∷ []) new e = tt
 request_makes p x role at interface.InputMethod opcode (word id ∷ word surface ∷ []) new e =
     chosen (opcode == 4)
     (act_of p x role at interface.InputMethod opcode (word id ∷ word surface ∷ [])) interface.InputPopupSurface id new e
@@ -212,7 +215,7 @@ reading_well : (past : Past) (n : ℕ) (peer : Joined) (x : ℕ) (r : Result Mes
     AreWell (of_reading past n peer x r) n
 reading_well past n peer x (Err f) m i = absurd i
 reading_well past n peer x (Ok r) m i =
-    request_well past n peer x r (request_fault past peer.label peer.role (label_at past peer.label) r) m i
+    request_well past n peer x r (request_fault past peer.label x peer.role (label_at past peer.label) r) m i
 
 message_well : (past : Past) (n : ℕ) (peer : Joined) (opcode : ℕ) (body : List ℕ) (o : Option Made) →
     AreWell (of_message past n peer opcode body o) n

@@ -378,6 +378,10 @@ globals_say all registry roles.App =
     ((omega arith, omega arith), ((omega arith, omega arith), ((omega arith, omega arith), tt)))
 globals_say all registry roles.Method =
     ((omega arith, omega arith), ((omega arith, omega arith), ((omega arith, omega arith), tt)))
+globals_say all registry roles.Keyed = (
+  (omega arith, omega arith),
+  ((omega arith, omega arith), ((omega arith, omega arith), ((omega arith, omega arith), tt))),
+)
 
 own_says : (all : Bool) (act : Act) (log : List Act) → WordSays all (next log) → AllSay all (act ∷ log) →
     CanSayAll all (own act log)

@@ -7,6 +7,9 @@ returns-clause-globals_of_an_app c = refl
 pub returns-clause-globals_of_a_method : goal.returns-clause-globals_of_a_method
 returns-clause-globals_of_a_method c = refl
 
+pub returns-clause-globals_of_a_keyed : goal.returns-clause-globals_of_a_keyed
+returns-clause-globals_of_a_keyed c = refl
+
 pub returns-clause-answered_sync : goal.returns-clause-answered_sync
 returns-clause-answered_sync c = refl
 
