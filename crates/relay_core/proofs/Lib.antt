@@ -30,6 +30,7 @@ pub mod BoardCalls
 pub mod BoardsKept
 pub mod BoardsTold
 pub mod LiveActs
+pub mod NotOfBoards
 pub mod LiveBoards
 pub mod ToldBounds
 pub mod ToldRooms

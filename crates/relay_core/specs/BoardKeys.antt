@@ -98,6 +98,16 @@ sent_told (acts.VKey x time key state) n (Some route) = key_told n time key stat
 sent_told (acts.VMods x mods) n (Some route) = board_mods_told n mods route
 sent_told _ n _ = []
 
+-- the act changes boards, or tells where goes what they send; no other act has to do with them
+abbrev pub is_for_boards : Act → Bool
+is_for_boards (acts.VBoard p) = true
+is_for_boards (acts.VKeymap v keymap) = true
+is_for_boards (acts.VKey v time key state) = true
+is_for_boards (acts.VMods v mods) = true
+is_for_boards (acts.Drop x) = true
+is_for_boards (acts.Gone p cause) = true
+is_for_boards _ = false
+
 -- a board of the peer was made ahead, under the label of the act that comes next
 pub record IsAhead (peer : ℕ) (s : State) (b : Boards) : Type 0 where
   pub label : b.ahead ≡ Some (s.acts + 1)

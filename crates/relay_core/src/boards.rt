@@ -5,7 +5,7 @@ ghost use Rattle.virt_keys.specs.Boards.{new_board, takes_at};
 ghost use Rattle.relay_core.specs.Kept.{state, kept};
 ghost use Rattle.relay_core.specs.BoardKeys.{live_board, may_send, with_keymap, key_turned};
 ghost use Rattle.relay_core.specs.BoardKeys.{key_sent, mods_sent, unless_of, board_after, sent_by};
-ghost use Rattle.relay_core.specs.BoardKeys.{sent_told, HasBoard};
+ghost use Rattle.relay_core.specs.BoardKeys.{sent_told, is_for_boards, HasBoard};
 ghost use Rattle.seat_objects.specs.Reached.{Reached};
 
 use crate::machine::Machine;
@@ -68,7 +68,6 @@ impl Boards {
     }
 
     /// A board of the peer is made ahead. Those that live stay, but one with the label.
-    #[inline(never)]
     pub fn make_ahead(&mut self, board: Label, peer: Label) -> Result<(), NoMemory>
         ensures same { (v : ℕ) → live_board (kept self.new) v
             ≡ (if board == v then None else live_board (kept self.old) v) }
@@ -83,7 +82,6 @@ impl Boards {
     }
 
     // The board is given a keymap, if it lives.
-    #[inline(never)]
     fn give_keymap(&mut self, board: Label)
         ensures { (v : ℕ) → live_board (kept self.new) v
             ≡ (if board == v then with_keymap (live_board (kept self.old) v) else live_board (kept self.old) v) }
@@ -94,7 +92,6 @@ impl Boards {
     }
 
     // A press or a release on the board, if it may send it: where it goes.
-    #[inline(never)]
     fn turn_key(
         &mut self,
         board: Label,
@@ -115,7 +112,6 @@ impl Boards {
     }
 
     // Where the board's modifiers go, if it may send them.
-    #[inline(never)]
     fn route_mods(&self, board: Label, grab: Option<(Label, Label)>) -> Option<Route>
         ensures { result ≡ mods_sent grab (live_board (kept self.now) board) }
     {
@@ -127,7 +123,6 @@ impl Boards {
     }
 
     // The label's board ends, if it is one.
-    #[inline(never)]
     fn drop_label(&mut self, label: Label)
         ensures { (v : ℕ) → live_board (kept self.new) v
             ≡ (if label == v then None else live_board (kept self.old) v) }
@@ -138,7 +133,6 @@ impl Boards {
     }
 
     // The boards of the peer end.
-    #[inline(never)]
     fn drop_peer(&mut self, peer: Label)
         ensures { (v : ℕ) → live_board (kept self.new) v ≡ unless_of peer (live_board (kept self.old) v) }
     {
@@ -146,7 +140,6 @@ impl Boards {
     }
 
     // The board that was made ahead lives, if its peer does.
-    #[inline(never)]
     fn begin(&mut self, peer: Label, machine: &Machine)
         requires made { HasBoard (Act.VBoard peer) (state machine.now) (kept self.old) }
         requires number { machine.now.acts < 4294967295 }
@@ -158,9 +151,7 @@ impl Boards {
         }
     }
 
-    /// What the act makes of the boards, before the machine takes it: where goes what it sends. Most acts
-    /// are none of a board, and pass by the calls above, which stand apart for that.
-    #[inline(always)]
+    /// What the act makes of the boards, before the machine takes it: where goes what it sends.
     pub fn turn(&mut self, act: &Act, machine: &Machine) -> Option<Route>
         requires made { HasBoard act.now (state machine.now) (kept self.old) }
         requires number { machine.now.acts < 4294967295 }
@@ -190,11 +181,29 @@ impl Boards {
     }
 }
 
-// Tells what a board sends where it goes.
-#[inline(never)]
-fn tell_route<P: Post>(act: &Act, number: u32, route: Route, post: &mut P)
-    ensures { Reached P.may_follow post.old (sent_told act.now number (Some route)) post.new }
+/// The act is one that boards have to do with.
+#[inline(always)]
+pub fn is_for_boards(act: &Act) -> bool
+    ensures { result ≡ is_for_boards act.now }
 {
+    matches!(
+        act,
+        Act::VBoard { .. }
+            | Act::VKeymap { .. }
+            | Act::VKey { .. }
+            | Act::VMods { .. }
+            | Act::Drop { .. }
+            | Act::Gone { .. }
+    )
+}
+
+/// Tells what a board sends, by the number of the act, where it goes.
+pub fn tell_sent<P: Post>(act: &Act, number: u32, route: Option<Route>, post: &mut P)
+    ensures { Reached P.may_follow post.old (sent_told act.now number route) post.new }
+{
+    let Some(route) = route else {
+        return;
+    };
     match act {
         Act::VKey {
             time,
@@ -204,15 +213,5 @@ fn tell_route<P: Post>(act: &Act, number: u32, route: Route, post: &mut P)
         } => tell_key(route, number, *time, *key, *state, post),
         Act::VMods { mods, .. } => tell_board_mods(route, number, *mods, post),
         _ => {}
-    }
-}
-
-/// Tells what a board sends, by the number of the act, where it goes, if it goes somewhere.
-#[inline(always)]
-pub fn tell_sent<P: Post>(act: &Act, number: u32, route: Option<Route>, post: &mut P)
-    ensures { Reached P.may_follow post.old (sent_told act.now number route) post.new }
-{
-    if let Some(route) = route {
-        tell_route(act, number, route, post);
     }
 }

@@ -1,5 +1,5 @@
 //! The relay as its callers see it.
-use crate::boards::{Boards, tell_sent};
+use crate::boards::{Boards, is_for_boards, tell_sent};
 use crate::machine::Machine;
 use edit_batch::Pending;
 use kbd_grab::{Grab, Route};
@@ -111,6 +111,25 @@ impl Relay {
     /// can't fail. At most 4,294,967,295 acts are taken. The answer is where a key act went, and
     /// none for any other act; a press that is refused is idle, and its route says so.
     pub fn step<P: Post>(&mut self, act: &Act, post: &mut P) -> Option<Route>
+        requires reserved { IsReserved self.old act.now }
+        requires number { self.old.state.acts < 4294967295 }
+        ensures stands { (log : List Act) → StandsFor self.old log →
+            StandsFor self.new (act.now ∷ log) }
+        ensures told { (log : List Act) → StandsFor self.old log →
+            Reached P.may_follow post.old (told act.now log) post.new }
+        ensures route { (log : List Act) → StandsFor self.old log → result ≡ route_told act.now
+            log }
+    {
+        if is_for_boards(act) {
+            return self.step_boards(act, post);
+        }
+        self.machine.turn(act, post)
+    }
+
+    // Takes an act that boards may have to do with. Stands apart, so that any other act doesn't carry
+    // where it would go what a board sends.
+    #[inline(never)]
+    fn step_boards<P: Post>(&mut self, act: &Act, post: &mut P) -> Option<Route>
         requires reserved { IsReserved self.old act.now }
         requires number { self.old.state.acts < 4294967295 }
         ensures stands { (log : List Act) → StandsFor self.old log →

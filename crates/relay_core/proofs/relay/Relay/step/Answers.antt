@@ -1,19 +1,16 @@
-use Rattle.std.proofs.Common.{◌≡◌, ◌+◌, arith, length, List, Some, ap, refl, sym, subst, ◌∷◌, ◌∙◌}
+use Rattle.std.proofs.Common.{◌≡◌, false, ap, sym, subst, ◌∷◌, ◌∙◌}
 use Rattle.relay_model.specs.Idle.{cleaned, history}
 use Rattle.relay_model.proofs.ActsOrIdle.{history_is}
 use Rattle.relay_model.specs.declared.act.Act.{Act}
-use Rattle.relay_model.specs.declared.act.Act.TheVariants as acts
 use Rattle.relay_core.specs.Kept.{Shown, state, kept}
-use Rattle.relay_core.specs.Machine.{State, tells, route_of}
-use Rattle.relay_core.specs.Machine.{after as machine_after}
-use Rattle.relay_core.specs.BoardKeys.{Boards, sent_by, sent_told}
+use Rattle.relay_core.specs.Machine.{State}
+use Rattle.relay_core.specs.BoardKeys.{Boards, is_for_boards}
 use Rattle.seat_objects.specs.Reached.{Reached}
-use Rattle.seat_objects.proofs.TellsAppend.{reached_append}
 use Rattle.relay_core.specs.BoardsStand.{BoardsStand}
-use Rattle.relay_core.specs.Stands.{Stands, route_told}
-use Rattle.relay_core.proofs.KeyboardAfterActs.{route_is}
+use Rattle.relay_core.specs.Stands.{Stands}
 use Rattle.relay_core.proofs.BoardsKept.{boards_after}
 use Rattle.relay_core.proofs.BoardsTold.{all_told}
+use Rattle.relay_core.proofs.NotOfBoards.{boards_stay, machine_tells, route_is_told}
 use Rattle.relay_core.proofs.EveryActStands.{stands_after}
 use Rattle.relay_core.proofs.relay.Relay.step.Goals as goal
 
@@ -26,22 +23,14 @@ returns-clause-stands g c = λ log h.
     let had : BoardsStand boards (history log) =
     subst (λ (b : Boards). BoardsStand b (history log))
     (sym (ap (λ (k : Shown). k.boards) c.self.view_is)) h.boards in
+    let other : is_for_boards c.args.act.now ≡ false = sym c.is_for_boards.ensures ∙ c.if-is_for_boards.false in
     record {
       state = subst (λ (s : State). Stands s (cleaned c.args.act.now (history log) ∷ history log))
-          (sym c.turn-route.ensures.state)
+          (sym c.turn.ensures.state)
           (stands_after now (history log) c.args.act.now (history_is log) before);
-      boards = boards_after now boards (kept c.turn-sent.new.self) (history log) c.args.act.now
-          (history_is log) before had c.turn-sent.ensures.after;
+      boards = boards_after now boards boards (history log) c.args.act.now (history_is log) before had
+          (λ v. boards_stay c.args.act.now now boards v other);
     }
-
--- the number of the act
-number_is : (now after : State) (log : List Act) (act : Act) → Stands now log → after ≡ machine_after act now →
-    Stands (machine_after act now) (cleaned act log ∷ log) → after.acts ≡ now.acts + 1
-number_is now after log act h e k =
-    let same : after.acts ≡ (machine_after act now).acts = ap (λ (s : State). s.acts) e in
-    let more : (machine_after act now).acts ≡ length (cleaned act log ∷ log) = k.acts_now in
-    let before : now.acts ≡ length log = h.acts_now in
-    omega arith
 
 pub returns-clause-told : goal.returns-clause-told
 returns-clause-told g c = λ log h.
@@ -53,64 +42,14 @@ returns-clause-told g c = λ log h.
     let had : BoardsStand boards (history log) =
     subst (λ (b : Boards). BoardsStand b (history log))
     (sym (ap (λ (k : Shown). k.boards) c.self.view_is)) h.boards in
-    let number : (state c.turn-route.new.self).acts ≡ now.acts + 1 =
-    number_is now (state c.turn-route.new.self) (history log) act before c.turn-route.ensures.state
-    (stands_after now (history log) act (history_is log) before) in
-    let sent : sent_told act (state c.turn-route.new.self).acts c.turn-sent.result
-    ≡ sent_told act (now.acts + 1) (sent_by act now boards) =
-    ap (λ n. sent_told act n c.turn-sent.result) number ∙ ap (sent_told act (now.acts + 1)) c.turn-sent.ensures.sent in
-    subst (λ list. Reached g.P.Post.may_follow c.args.post.now list c.tell_sent.new.post)
-    (all_told now boards (history log) act (history_is log) before had)
-    (reached_append g.P.Post.may_follow (tells act now)
-    (sent_told act (now.acts + 1) (sent_by act now boards)) c.args.post.now c.turn-route.new.post c.tell_sent.new.post
-    c.turn-route.ensures.told
-    (subst (λ list. Reached g.P.Post.may_follow c.turn-route.new.post list c.tell_sent.new.post) sent
-    c.tell_sent.ensures))
-
-route_is_told : (s : State) (log : List Act) (act : Act) → Stands s (history log) → route_of act s ≡ route_told act log
-route_is_told s log (acts.Key time key state) h =
-    ap (λ r. Some r) (route_is s (history log) key state (history_is log) h)
-route_is_told s log acts.Peer h = refl
-route_is_told s log (acts.Gone p cause) h = refl
-route_is_told s log (acts.Surface p) h = refl
-route_is_told s log (acts.Field p) h = refl
-route_is_told s log (acts.Method p) h = refl
-route_is_told s log (acts.Popup m t) h = refl
-route_is_told s log (acts.Grab m) h = refl
-route_is_told s log (acts.Drop x) h = refl
-route_is_told s log (acts.Focus t) h = refl
-route_is_told s log acts.Unfocus h = refl
-route_is_told s log (acts.Area t rect) h = refl
-route_is_told s log (acts.Screen size) h = refl
-route_is_told s log (acts.Enable f) h = refl
-route_is_told s log (acts.Disable f) h = refl
-route_is_told s log (acts.Surround f text cursor anchor) h = refl
-route_is_told s log (acts.Cause f cause) h = refl
-route_is_told s log (acts.Content f hint purpose) h = refl
-route_is_told s log (acts.Cursor f rect) h = refl
-route_is_told s log (acts.Commit f) h = refl
-route_is_told s log (acts.MString m text) h = refl
-route_is_told s log (acts.MPreedit m text begin end) h = refl
-route_is_told s log (acts.MDelete m before after) h = refl
-route_is_told s log (acts.MCommit m serial) h = refl
-route_is_told s log (acts.Mods mods) h = refl
-route_is_told s log (acts.Keymap keymap) h = refl
-route_is_told s log (acts.Repeat repeat) h = refl
-route_is_told s log (acts.Registry p role) h = refl
-route_is_told s log (acts.Sync p) h = refl
-route_is_told s log (acts.Seat p) h = refl
-route_is_told s log (acts.Thing p) h = refl
-route_is_told s log (acts.Bad p fault x) h = refl
-route_is_told s log (acts.VBoard p) h = refl
-route_is_told s log (acts.VKeymap v keymap) h = refl
-route_is_told s log (acts.VKey v time key state) h = refl
-route_is_told s log (acts.VMods v mods) h = refl
-route_is_told s log (acts.Took p bytes) h = refl
-route_is_told s log acts.Idle h = refl
+    let other : is_for_boards act ≡ false = sym c.is_for_boards.ensures ∙ c.if-is_for_boards.false in
+    subst (λ list. Reached g.P.Post.may_follow c.args.post.now list c.turn.new.post)
+    (machine_tells act now boards _ other (all_told now boards (history log) act (history_is log) before had))
+    c.turn.ensures.told
 
 pub returns-clause-route : goal.returns-clause-route
 returns-clause-route g c = λ log h.
     let kept_state : state c.self.inside.machine ≡ c.args.self.now.state = ap (λ (k : Shown). k.state) c.self.view_is in
     let before : Stands (state c.self.inside.machine) (history log) =
     subst (λ (s : State). Stands s (history log)) (sym kept_state) h.state in
-    c.turn-route.ensures.route ∙ route_is_told (state c.self.inside.machine) log c.args.act.now before
+    c.turn.ensures.route ∙ route_is_told (state c.self.inside.machine) log c.args.act.now before
