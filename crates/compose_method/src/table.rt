@@ -1,6 +1,6 @@
 //! The table that its user makes, single by single and entry by entry.
-ghost use Rattle.std.specs.Prelude.{◌≡◌, ◌<◌, ◌≤◌, ◌↔◌, true, false, length, IfOk, IfSome, OnOk};
-ghost use Rattle.std.specs.Prelude.{OnErr, Err, IsTrue, option_copied};
+ghost use Rattle.std.specs.Prelude.{◌≡◌, ◌<◌, ◌≤◌, ◌↔◌, ◌==◌, not, true, false, length, IfOk};
+ghost use Rattle.std.specs.Prelude.{IfSome, OnOk, OnErr, Err, IsTrue, option_copied};
 ghost use Rattle.wl_wire.specs.Texts.{has_no_zero};
 ghost use Rattle.compose_method.specs.Table.{Table, IsTable, IsKeyText, AreKeys, has_single};
 ghost use Rattle.compose_method.specs.Table.{begun_by, going_on, own_text, clashes, single, entry};
@@ -127,6 +127,13 @@ impl ComposeTable {
         };
         put_entry(&mut self.entries, entry)?;
         Ok(())
+    }
+
+    /// Whether the table has an entry.
+    pub fn has_entries(&self) -> bool
+        ensures { result ≡ not (length self.now.entries == 0) }
+    {
+        !self.entries.is_empty()
     }
 
     // The entry with which the keys begin.

@@ -1,7 +1,7 @@
 //! The dictionary that its user makes, word by word and control key by control key.
 ghost use Rattle.std.specs.Prelude.{◌≡◌, ◌≢◌, ◌≤◌, ◌↔◌, ◌++◌, ◌∷◌, [], true, false, length};
 ghost use Rattle.std.specs.Prelude.{IfOk, IfSome, OnOk, OnErr, Err, IsTrue, option_copied};
-ghost use Rattle.std.specs.Prelude.{option_map};
+ghost use Rattle.std.specs.Prelude.{◌==◌, not, option_map};
 ghost use Rattle.std.specs.List.{list_any, slice_get};
 ghost use Rattle.wl_wire.specs.Texts.{has_no_zero};
 ghost use Rattle.compose_method.specs.Table.{IsKeyText};
@@ -195,6 +195,13 @@ impl Dict {
         }
         put_control(&mut self.controls, ControlKey { key, what })?;
         Ok(())
+    }
+
+    /// Whether the dictionary has a word.
+    pub fn has_words(&self) -> bool
+        ensures { result ≡ not (length self.now.words == 0) }
+    {
+        !self.words.is_empty()
     }
 
     // What the key does, if it is a control key.

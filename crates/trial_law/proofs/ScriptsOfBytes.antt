@@ -1,31 +1,38 @@
 -- Every script that is read has texts of bytes.
 use Rattle.std.proofs.Common.{◌≡◌, ℕ, ◌+◌, Bool, true, false, List, [], ◌∷◌, take, drop, Option, Some, None, refl, sym, subst, arith}
-use Rattle.std.specs.Prelude.{if◌then◌else◌, nat_le, All, nat_lt, insert}
+use Rattle.std.specs.Prelude.{nat_le, All, nat_lt, insert}
 use Rattle.std.specs.List.{AllByRecursion, prefix_len}
-use Rattle.std.proofs.lemmas.List.Elements.{All-append, All-cons, All-take, All-drop}
+use Rattle.std.proofs.lemmas.List.Elements.{All-append, All-cons, All-nil, All-take, All-drop}
 use Rattle.wl_wire.specs.Texts.{IsBytes}
 use Rattle.compose_method.specs.Order.{up_to}
 use Rattle.compose_method.specs.declared.entries.Entry.{Entry}
 use Rattle.compose_method.specs.declared.singles.Single.{Single}
-use Rattle.compose_method.specs.Table.{Table, empty_table, single, entry, with_single, with_entry}
+use Rattle.compose_method.specs.Table.{Table, single, entry, with_single, with_entry}
+use Rattle.dict_method.specs.Dictionary.{word, clashes_control}
+use Rattle.dict_method.specs.declared.control.Control.TheVariants as controls
+use Rattle.dict_method.specs.declared.word.Word.{Word}
 use Rattle.trial_script.specs.declared.action.Action.{Action}
 use Rattle.trial_script.specs.declared.action.Action.TheVariants as actions
 use Rattle.trial_script.specs.declared.action.FieldEdit.TheVariants as edits
 use Rattle.trial_script.specs.declared.line.Line.{Line}
 use Rattle.trial_script.specs.declared.line.Line.TheVariants as lines
+use Rattle.trial_script.specs.declared.rules.KeyRules.{KeyRules}
 use Rattle.trial_script.specs.declared.script.Script.{Script}
 use Rattle.trial_script.specs.Grammar.{IsAction, AreEdits, HasParts}
 use Rattle.trial_script.specs.Lines.{lines_of}
 use Rattle.trial_script.specs.Reading.{line_of}
-use Rattle.trial_script.specs.Scripts.{Rest, found_action, found_of, by_found, actions_of, field_named, refuses_single, refuses_entry, with_entry_of, by_table, by_entry, script_from, by_header, script_of_lines, script_of}
+use Rattle.trial_script.specs.Rules.{no_rules, has_words, refuses_single, refuses_sequence, refuses_word, plus_word, unless, with_entry_of}
+use Rattle.trial_script.specs.Scripts.{Rest, found_action, found_of, by_found, actions_of, field_named, by_rules, by_entry, script_from, by_header, script_of_lines, script_of}
 use Rattle.trial_script.proofs.ScriptsReadBack.{reads_only}
-use Rattle.trial_law.specs.RelayedAsBatches.{HasByteTexts, AreByteKeys, IsOfBytes, ScriptsAreOfBytes}
+use Rattle.trial_run.specs.Trial.{typist_by}
+use Rattle.trial_law.specs.RelayedAsBatches.{HasByteTexts, AreByteKeys, TypesBytes, IsOfBytes, ScriptsAreOfBytes}
 
 -- ---- lines
 
 abbrev IsByteLine : Line → Type 0
 IsByteLine (lines.Single key text) = IsBytes text
 IsByteLine (lines.Compose text keys) = IsBytes text
+IsByteLine (lines.Word text keys) = IsBytes text
 IsByteLine (lines.Act action) = HasByteTexts action
 IsByteLine _ = Unit {0}
 
@@ -37,6 +44,7 @@ action_bytes _ h = tt
 parts_bytes : (line : Line) → HasParts line → IsByteLine line
 parts_bytes (lines.Single key text) h = h.1.0.0.1
 parts_bytes (lines.Compose text keys) h = h.0.0.0.1
+parts_bytes (lines.Word text keys) h = h.0.0.0.1
 parts_bytes (lines.Act action) h = action_bytes action h
 parts_bytes _ h = tt
 
@@ -92,67 +100,101 @@ entry_in text keys t h k =
       entries = inserted (λ (e : Entry). IsBytes e.text) t.entries n (entry text keys) k.entries h;
     }
 
-abbrev WhereBytes : Option Table → Type 0
+-- ---- the rules of keys
+
+record AreByteRules (r : KeyRules) : Type 0 where
+  pub keys : AreByteKeys r.table
+  pub words : All (λ w. IsBytes w.text) r.dict.words
+
+word_in : (text keys : List ℕ) (r : KeyRules) → IsBytes text → AreByteRules r → AreByteRules (plus_word r text keys)
+word_in text keys r h k = record {
+  keys = k.keys;
+  words = All-append (λ (w : Word). IsBytes w.text) r.dict.words (word text keys ∷ []) k.words
+      (All-cons (λ (w : Word). IsBytes w.text) (word text keys) [] h (All-nil (λ (w : Word). IsBytes w.text)));
+}
+
+-- by its rules a method types bytes
+typist_types : (r : KeyRules) → AreByteRules r → TypesBytes (typist_by r)
+typist_types r h = by (has_words r) refl
+  where
+    by : (b : Bool) → has_words r ≡ b → TypesBytes (typist_by r)
+    by true e = rw e (h.keys, h.words)
+    by false e = rw e h.keys
+
+abbrev WhereBytes : Option KeyRules → Type 0
 WhereBytes None = Unit {0}
-WhereBytes (Some t) = AreByteKeys t
+WhereBytes (Some r) = AreByteRules r
 
-where_bytes : (b : Bool) (t : Table) → AreByteKeys t → WhereBytes (if b then None else Some t)
-where_bytes true t h = tt
-where_bytes false t h = h
+where_bytes : (b : Bool) (r : KeyRules) → AreByteRules r → WhereBytes (unless b r)
+where_bytes true r h = tt
+where_bytes false r h = h
 
-entry_bytes : (t : Table) (line : Line) → IsByteLine line → AreByteKeys t → WhereBytes (with_entry_of t line)
-entry_bytes t (lines.Single key text) h k = where_bytes (refuses_single t key) _ (single_in key text t h k)
-entry_bytes t (lines.Compose text keys) h k = where_bytes (refuses_entry t keys) _ (entry_in text keys t h k)
-entry_bytes t _ h k = tt
+entry_bytes : (r : KeyRules) (line : Line) → IsByteLine line → AreByteRules r → WhereBytes (with_entry_of r line)
+entry_bytes r (lines.Single key text) h k =
+    where_bytes (refuses_single r key) _ (record { keys = single_in key text r.table h k.keys; words = k.words })
+entry_bytes r (lines.Compose text keys) h k =
+    where_bytes (refuses_sequence r keys) _ (record { keys = entry_in text keys r.table h k.keys; words = k.words })
+entry_bytes r (lines.Word text keys) h k = where_bytes (refuses_word r keys) _ (word_in text keys r h k)
+entry_bytes r (lines.Choose key n) h k =
+    where_bytes (clashes_control r.dict key (controls.Choose n)) _ (record { keys = k.keys; words = k.words })
+entry_bytes r (lines.Erase key) h k =
+    where_bytes (clashes_control r.dict key controls.Erase) _ (record { keys = k.keys; words = k.words })
+entry_bytes r _ h k = tt
 
 -- ---- the whole
 
-ended : (t : Table) (actions : List Action) (s : Script) → s.table ≡ t → s.actions ≡ actions → AreByteKeys t →
+ended : (r : KeyRules) (actions : List Action) (s : Script) → s.rules ≡ r → s.actions ≡ actions → AreByteRules r →
     AllByRecursion HasByteTexts actions → IsOfBytes s
-ended t all s e f h k = record { typist = subst AreByteKeys (sym e) h; actions = rw f k }
+ended r all s e f h k =
+    record { typist = subst (λ q. TypesBytes (typist_by q)) (sym e) (typist_types r h); actions = rw f k }
 
-by_bytes : (t : Table) (number : ℕ) (o : Option Table) (next : Table → Script) → AreByteKeys t → WhereBytes o →
-    ((with : Table) → AreByteKeys with → IsOfBytes (next with)) → IsOfBytes (by_table t number o next)
-by_bytes t number None next h k f = ended t [] _ refl refl h tt
-by_bytes t number (Some with) next h k f = f with k
+by_bytes : (r : KeyRules) (number : ℕ) (o : Option KeyRules) (next : KeyRules → Script) → AreByteRules r →
+    WhereBytes o →
+    ((with : KeyRules) → AreByteRules with → IsOfBytes (next with)) → IsOfBytes (by_rules r number o next)
+by_bytes r number None next h k f = ended r [] _ refl refl h tt
+by_bytes r number (Some with) next h k f = f with k
 
-begun_bytes : (t : Table) (number : ℕ) (o : Option Line) (next : Table → Script) (play : ℕ → Rest) → AreByteKeys t →
-    ((line : Line) → o ≡ Some line → IsByteLine line) → ((with : Table) → AreByteKeys with → IsOfBytes (next with)) →
-    ((n : ℕ) → HasByteActions (play n)) → IsOfBytes (by_entry t number o next play)
-begun_bytes t number None next play h l f g = ended t [] _ refl refl h tt
-begun_bytes t number (Some (lines.Fields n)) next play h l f g = ended t (play n).actions _ refl refl h (g n)
-begun_bytes t number (Some lines.Header) next play h l f g = by_bytes t number (with_entry_of t lines.Header) next h
-    (entry_bytes t lines.Header tt h) f
-begun_bytes t number (Some (lines.Single key text)) next play h l f g =
-    by_bytes t number (with_entry_of t (lines.Single key text)) next h
-    (entry_bytes t (lines.Single key text) (l (lines.Single key text) refl) h) f
-begun_bytes t number (Some (lines.Compose text keys)) next play h l f g =
-    by_bytes t number (with_entry_of t (lines.Compose text keys)) next h
-    (entry_bytes t (lines.Compose text keys) (l (lines.Compose text keys) refl) h) f
-begun_bytes t number (Some (lines.Act action)) next play h l f g =
-    by_bytes t number (with_entry_of t (lines.Act action)) next h
-    (entry_bytes t (lines.Act action) (l (lines.Act action) refl) h) f
-begun_bytes t number (Some lines.End) next play h l f g = by_bytes t number (with_entry_of t lines.End) next h
-    (entry_bytes t lines.End tt h) f
+begun_bytes : (r : KeyRules) (number : ℕ) (o : Option Line) (next : KeyRules → Script) (play : ℕ → Rest) →
+    AreByteRules r → ((line : Line) → o ≡ Some line → IsByteLine line) →
+    ((with : KeyRules) → AreByteRules with → IsOfBytes (next with)) →
+    ((n : ℕ) → HasByteActions (play n)) → IsOfBytes (by_entry r number o next play)
+begun_bytes r number None next play h l f g = ended r [] _ refl refl h tt
+begun_bytes r number (Some (lines.Fields n)) next play h l f g = ended r (play n).actions _ refl refl h (g n)
+begun_bytes r number (Some (lines.Single key text)) next play h l f g =
+    by_bytes r number _ next h (entry_bytes r (lines.Single key text) (l (lines.Single key text) refl) h) f
+begun_bytes r number (Some (lines.Compose text keys)) next play h l f g =
+    by_bytes r number _ next h (entry_bytes r (lines.Compose text keys) (l (lines.Compose text keys) refl) h) f
+begun_bytes r number (Some (lines.Word text keys)) next play h l f g =
+    by_bytes r number _ next h (entry_bytes r (lines.Word text keys) (l (lines.Word text keys) refl) h) f
+begun_bytes r number (Some (lines.Choose key n)) next play h l f g =
+    by_bytes r number _ next h (entry_bytes r (lines.Choose key n) tt h) f
+begun_bytes r number (Some (lines.Erase key)) next play h l f g =
+    by_bytes r number _ next h (entry_bytes r (lines.Erase key) tt h) f
+begun_bytes r number (Some lines.Header) next play h l f g = by_bytes r number None next h tt f
+begun_bytes r number (Some (lines.Act action)) next play h l f g = by_bytes r number None next h tt f
+begun_bytes r number (Some lines.End) next play h l f g = by_bytes r number None next h tt f
 
-from_bytes : (t : Table) (number : ℕ) (raws : List (List ℕ)) → AreByteKeys t → IsOfBytes (script_from t number raws)
+from_bytes : (r : KeyRules) (number : ℕ) (raws : List (List ℕ)) → AreByteRules r → IsOfBytes (script_from r number raws)
 unfolding script_from
-from_bytes t number [] h = ended t [] _ refl refl h tt
-from_bytes t number (raw ∷ more) h =
-    begun_bytes t number (line_of raw) (λ with. script_from with (number + 1) more)
+from_bytes r number [] h = ended r [] _ refl refl h tt
+from_bytes r number (raw ∷ more) h =
+    begun_bytes r number (line_of raw) (λ with. script_from with (number + 1) more)
     (λ n. actions_of n (number + 1) more) h (line_bytes raw)
     (λ with k. from_bytes with (number + 1) more k) (λ n. actions_bytes n (number + 1) more)
 
-no_keys : AreByteKeys empty_table
-no_keys = record { singles = λ k d l. absurd (omega arith); entries = λ k d l. absurd (omega arith) }
+no_rules_yet : AreByteRules no_rules
+no_rules_yet = record {
+  keys = record { singles = λ k d l. absurd (omega arith); entries = λ k d l. absurd (omega arith) };
+  words = λ k d l. absurd (omega arith);
+}
 
 header_bytes : (o : Option Line) (more : List (List ℕ)) → IsOfBytes (by_header o more)
-header_bytes (Some lines.Header) more = from_bytes empty_table 2 more no_keys
-header_bytes None more = ended empty_table [] _ refl refl no_keys tt
-header_bytes (Some line) more = ended empty_table [] _ refl refl no_keys tt
+header_bytes (Some lines.Header) more = from_bytes no_rules 2 more no_rules_yet
+header_bytes None more = ended no_rules [] _ refl refl no_rules_yet tt
+header_bytes (Some line) more = ended no_rules [] _ refl refl no_rules_yet tt
 
 lines_bytes : (raws : List (List ℕ)) → IsOfBytes (script_of_lines raws)
-lines_bytes [] = ended empty_table [] _ refl refl no_keys tt
+lines_bytes [] = ended no_rules [] _ refl refl no_rules_yet tt
 lines_bytes (raw ∷ more) = header_bytes (line_of raw) more
 
 pub scripts_of_bytes : ScriptsAreOfBytes

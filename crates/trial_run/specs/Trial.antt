@@ -5,17 +5,20 @@ use Rattle.relay_model.specs.declared.role.Role.TheVariants.{App, Method}
 use Rattle.seat_steps.specs.declared.limits.Limits.{Limits}
 use Rattle.seat_steps.specs.Ranges.{form_1_weight}
 use Rattle.compose_method.specs.Typing as typing
+use Rattle.dict_method.specs.Spelling as spelling
 use Rattle.trial_script.specs.declared.action.Action.{Action}
+use Rattle.trial_script.specs.declared.rules.KeyRules.{KeyRules}
 use Rattle.trial_script.specs.declared.script.Script.{Script}
 use Rattle.trial_script.specs.declared.script.Ending.{Ending}
 use Rattle.trial_script.specs.declared.script.Ending.TheVariants as endings
+use Rattle.trial_script.specs.Rules.{has_words}
 use Rattle.trial_script.specs.Scripts.{script_of}
 use Rattle.broker_model.specs.declared.journal.Kept.{Kept}
 use Rattle.broker_core.specs.Broker.{kept_in}
 use Rattle.trial_run.specs.declared.run.TrialEnd.{TrialEnd}
 use Rattle.trial_run.specs.declared.run.TrialEnd.TheVariants as ends
 use Rattle.trial_run.specs.declared.typist.TrialTypist.{TrialTypist}
-use Rattle.trial_run.specs.declared.typist.TrialTypist.TheVariants.{Compose}
+use Rattle.trial_run.specs.declared.typist.TrialTypist.TheVariants.{Compose, Dict}
 use Rattle.trial_run.specs.declared.whose.Whose.TheVariants as whose
 use Rattle.trial_run.specs.Ran.{Ran, went, ◌>>=◌}
 use Rattle.trial_run.specs.Steps.{joined}
@@ -25,9 +28,14 @@ use Rattle.trial_run.specs.Lines.{actions_played}
 
 -- ---- how it begins
 
--- the method of the script, not active
+-- the method by the rules of keys, not active: one with a dictionary where there is a word
+abbrev pub typist_by : KeyRules → TrialTypist
+typist_by r =
+    if has_words r then Dict (spelling.idle r.table r.dict) else Compose (typing.idle r.table)
+
+-- the method of the script
 abbrev pub typist_of : Script → TrialTypist
-typist_of s = Compose (typing.idle s.table)
+typist_of s = typist_by s.rules
 
 -- nobody joined yet
 abbrev pub unplayed : Limits → TrialTypist → TrialPlay

@@ -1,13 +1,11 @@
 //! A whole script.
 ghost use Rattle.std.specs.Prelude.{◌≡◌, ◌≤◌, [], All, IfOk, string_bytes};
-ghost use Rattle.compose_method.specs.Typing.{idle};
-ghost use Rattle.trial_run.specs.declared.typist.TrialTypist.TheVariants.{Compose};
 ghost use Rattle.seat_steps.specs.Ranges.{IsLimits};
 ghost use Rattle.trial_script.specs.Grammar.{IsAction};
 ghost use Rattle.trial_script.specs.Scripts.{field_named};
 ghost use Rattle.trial_run.specs.Ran.{Ran};
 ghost use Rattle.trial_run.specs.Play.{TrialPlay};
-ghost use Rattle.trial_run.specs.Trial.{trial_limits, trial_within, played_with};
+ghost use Rattle.trial_run.specs.Trial.{trial_limits, typist_by, trial_within, played_with};
 ghost use Rattle.trial_run.specs.Trial.{shown_by, IsShown, IsTrialOf};
 ghost use Rattle.trial_run.specs.Working.{IsRun};
 
@@ -15,11 +13,12 @@ use crate::stop::Stop;
 use crate::trial::Trial;
 use crate::typist::TrialTypist;
 use broker_core::Kept;
-use compose_method::{ComposeTable, Method};
+use compose_method::Method;
+use dict_method::DictMethod;
 use seat_steps::{FORM_1_WEIGHT, Limits};
 use std::alloc::Global;
 use thiserror::Error;
-use trial_script::{Actions, Ending, Script, read_script};
+use trial_script::{Actions, Ending, KeyRules, Script, read_script};
 use wio_core::NoMemory;
 
 /// Why a script wasn't played to its end. The text is what was shown before: a line for each `show`.
@@ -94,10 +93,14 @@ fn ended(ending: Ending, played: Result<(), Stop>, text: String) -> Result<Strin
     }
 }
 
-// A method that composes, not active.
-fn composing(alloc: Global, table: ComposeTable) -> Result<TrialTypist, NoMemory>
-    ensures { IfOk result (λ typist. typist ≡ Compose (idle table)) }
+// The method by the rules of keys, not active: one with a dictionary where there is a word.
+fn typist_by(alloc: Global, rules: KeyRules) -> Result<TrialTypist, NoMemory>
+    ensures { IfOk result (λ typist. typist ≡ typist_by rules) }
 {
+    let KeyRules { table, dict } = rules;
+    if dict.has_words() {
+        return Ok(TrialTypist::Dict(DictMethod::new(alloc, table, dict)?));
+    }
     Ok(TrialTypist::Compose(Method::new(alloc, table)?))
 }
 
@@ -107,13 +110,13 @@ pub(crate) fn run_within(alloc: Global, limits: Limits, script: &[u8]) -> Result
     ensures { IsShown (trial_within limits script.now) result }
 {
     let Script {
-        table,
+        rules,
         fields,
         first_line,
         actions,
         ending,
     } = read_script(alloc, script)?;
-    let typist = composing(alloc, table)?;
+    let typist = typist_by(alloc, rules)?;
     let mut trial = Trial::new(alloc, limits, typist)?;
     let first = (first_line % (1 << 32)) as u32;
     let played = trial.script(fields, first, &actions);

@@ -1,8 +1,8 @@
 -- Words that are read as a line are that line's.
-use Rattle.std.proofs.Common.{◌≡◌, ℕ, true, false, leb, cond, List, [], ◌∷◌, length, Option, Some, None, refl, arith}
+use Rattle.std.proofs.Common.{◌≡◌, ℕ, true, false, leb, cond, List, [], ◌∷◌, length, Option, Some, None, refl, subst, ◌≤◌, arith}
 use Rattle.std.specs.Prelude.{codes}
 use Rattle.std.proofs.lemmas.Bool.{leb-true}
-use Rattle.session_text.specs.Words.{◌>>=◌, kept, text_limit, cursor_text_limit, hex_word}
+use Rattle.session_text.specs.Words.{◌>>=◌, kept, text_limit, cursor_text_limit}
 use Rattle.session_text.specs.Reading.{line_limit}
 use Rattle.session_text.proofs.TestsLetThrough.{arm}
 use Rattle.session_text.proofs.WordsByKind.{IsRead, bound, made, read_alone, read_one, read_two}
@@ -11,10 +11,10 @@ use Rattle.trial_script.specs.declared.action.Action.TheVariants as actions
 use Rattle.trial_script.specs.declared.action.FieldEdit.TheVariants as edits
 use Rattle.trial_script.specs.declared.line.Line.{Line}
 use Rattle.trial_script.specs.declared.line.Line.TheVariants as lines
-use Rattle.trial_script.specs.Words.{key_limit, IsKeyWord, keys_of}
+use Rattle.trial_script.specs.Words.{key_limit, word_key_limit, keys_of}
 use Rattle.trial_script.specs.Grammar.{line_words, HasParts}
-use Rattle.trial_script.specs.Reading.{edits_of, one_word, header_of, two_words, three_words, compose_of, batch_of, seven_words, more_words, line_of_words}
-use Rattle.trial_script.proofs.ScriptWords.{fields, key_texts, keys_sound}
+use Rattle.trial_script.specs.Reading.{edits_of, one_word, header_of, two_words, three_words, compose_of, word_of, batch_of, seven_words, more_words, line_of_words}
+use Rattle.trial_script.proofs.ScriptWords.{AreRead, fields, choices, key_texts, keys_sound}
 
 abbrev pub IsReadLine : List (List ℕ) → Line → Type 0
 IsReadLine = IsRead line_words HasParts
@@ -36,45 +36,60 @@ two_sound k a line e =
     read_one fields (codes "fields") lines.Fields k a _ line (λ n. refl) (λ n h. h) e (λ e.
     read_one fields (codes "use") (λ f. lines.Act (actions.Use f)) k a _ line (λ n. refl) (λ n h. h) e (λ e.
     read_one numbers (codes "press") (λ key. lines.Act (actions.Press key)) k a _ line (λ n. refl) (λ n h. h) e (λ e.
+    read_one numbers (codes "erase") lines.Erase k a _ line (λ n. refl) (λ n h. h) e (λ e.
     read_one fields (codes "left") (λ f. lines.Act (actions.Edit f edits.Left)) k a _ line (λ n. refl) (λ n h. (h, tt)) e (λ e.
     read_one fields (codes "right") (λ f. lines.Act (actions.Edit f edits.Right)) k a _ line (λ n. refl) (λ n h. (h, tt)) e (λ e.
     read_one fields (codes "rub") (λ f. lines.Act (actions.Edit f edits.Rub)) k a _ line (λ n. refl) (λ n h. (h, tt)) e (λ e.
     read_one fields (codes "pause") (λ f. lines.Act (actions.Pause f)) k a _ line (λ n. refl) (λ n h. h) e (λ e.
     read_one fields (codes "resume") (λ f. lines.Act (actions.Resume f)) k a _ line (λ n. refl) (λ n h. h) e (λ e.
-    read_one fields (codes "show") (λ f. lines.Act (actions.Show f)) k a _ line (λ n. refl) (λ n h. h) e (λ e. absurd (cc e)))))))))))
+    read_one fields (codes "show") (λ f. lines.Act (actions.Show f)) k a _ line (λ n. refl) (λ n h. h) e (λ e. absurd (cc e))))))))))))
 
-three_sound : (k a b : List ℕ) (line : Line) → three_words k a b ≡ Some line → IsReadLine (k ∷ a ∷ b ∷ []) line
-unfolding three_words
-three_sound k a b line e =
-    read_two numbers key_texts (codes "single") lines.Single k a b _ line (λ key t. refl) (λ key t h i. (h, i)) e (λ e.
-    read_two fields (texts line_limit) (codes "insert") (λ f t. lines.Act (actions.Edit f (edits.Insert t))) k a b _ line (λ f t. refl) (λ f t h i. (h, i)) e (λ e.
-    absurd (cc e)))
-
--- so many keys
-keys_read : (a b c : List ℕ) (words : List (List ℕ)) (text : List ℕ) (keys : Option (List ℕ)) (line : Line) →
-    keys_of (b ∷ c ∷ words) ≡ keys
-    → IsKeyWord text → a ≡ hex_word text
-    → (kept (λ keys. leb (length keys) key_limit) keys >>= (λ keys. Some (lines.Compose text keys))) ≡ Some line
-    → IsReadLine (codes "compose" ∷ a ∷ b ∷ c ∷ words) line
-keys_read a b c words text None line read h is e = absurd (cc e)
-keys_read a b c words text (Some keys) line read h is e =
-    let known = keys_sound (b ∷ c ∷ words) keys read in
-    elim (leb (length keys) key_limit) as (λ t. leb (length keys) key_limit ≡ t → (cond t (Some keys) None >>= (λ keys. Some (lines.Compose text keys))) ≡ Some line → IsReadLine (codes "compose" ∷ a ∷ b ∷ c ∷ words) line) [
-      | true ↦ λ few f. made _ (lines.Compose text keys) line f (rw (is, known.same) refl) (
-        h,
-        record {
-          several = let count = known.count in omega (arith, count);
-          few = leb-true (length keys) key_limit few;
-          each = known.small;
-        },
-      )
+-- the keys behind a text, of which a line has so many
+keys_read : (most : ℕ) (make : List ℕ → Line) (name a : List ℕ) (words : List (List ℕ)) (keys : Option (List ℕ))
+    (line : Line) → keys_of words ≡ keys
+    → ((ks : List ℕ) → AreRead words ks → length ks ≤ most → IsReadLine (name ∷ a ∷ words) (make ks))
+    → (kept (λ keys. leb (length keys) most) keys >>= (λ keys. Some (make keys))) ≡ Some line →
+    IsReadLine (name ∷ a ∷ words) line
+keys_read most make name a words None line read is e = absurd (cc e)
+keys_read most make name a words (Some keys) line read is e =
+    elim (leb (length keys) most) as
+    (λ t. leb (length keys) most ≡ t → (cond t (Some keys) None >>= (λ keys. Some (make keys))) ≡ Some line →
+    IsReadLine (name ∷ a ∷ words) line) [
+      | true ↦ λ few f. let same : make keys ≡ line = cc in
+          subst (IsReadLine (name ∷ a ∷ words)) same
+          (is keys (keys_sound words keys read) (leb-true (length keys) most few))
       | false ↦ λ few f. absurd (cc f)
     ] refl e
 
 compose_sound : (a b c : List ℕ) (words : List (List ℕ)) (line : Line) → compose_of a (b ∷ c ∷ words) ≡ Some line → IsReadLine (codes "compose" ∷ a ∷ b ∷ c ∷ words) line
 unfolding compose_of
 compose_sound a b c words line e =
-    bound key_texts a _ line e (λ text h is f. keys_read a b c words text (keys_of (b ∷ c ∷ words)) line refl h is f)
+    bound key_texts a _ line e (λ text h is f.
+    keys_read key_limit (lines.Compose text) (codes "compose") a (b ∷ c ∷ words) (keys_of (b ∷ c ∷ words)) line refl (λ ks known few. record {
+      same = rw (is, known.same) refl;
+      has_line = (
+        h,
+        record { several = let count = known.count in omega (arith, count); few = few; each = known.small },
+      );
+    }) f)
+
+word_sound : (a b : List ℕ) (words : List (List ℕ)) (line : Line) → word_of a (b ∷ words) ≡ Some line → IsReadLine (codes "word" ∷ a ∷ b ∷ words) line
+unfolding word_of
+word_sound a b words line e =
+    bound key_texts a _ line e (λ text h is f.
+    keys_read word_key_limit (lines.Word text) (codes "word") a (b ∷ words) (keys_of (b ∷ words)) line refl (λ ks known few. record {
+      same = rw (is, known.same) refl;
+      has_line = (h, record { some = let count = known.count in omega (arith, count); few = few; each = known.small });
+    }) f)
+
+three_sound : (k a b : List ℕ) (line : Line) → three_words k a b ≡ Some line → IsReadLine (k ∷ a ∷ b ∷ []) line
+unfolding three_words
+three_sound k a b line e =
+    read_two numbers key_texts (codes "single") lines.Single k a b _ line (λ key t. refl) (λ key t h i. (h, i)) e (λ e.
+    read_two numbers choices (codes "choose") lines.Choose k a b _ line (λ key n. refl) (λ key n h i. (h, i)) e (λ e.
+    arm k (codes "word") (word_of a (b ∷ [])) _ line e (λ is e. rw is (word_sound a b [] line e)) (λ e.
+    read_two fields (texts line_limit) (codes "insert") (λ f t. lines.Act (actions.Edit f (edits.Insert t))) k a b _ line (λ f t. refl) (λ f t h i. (h, i)) e (λ e.
+    absurd (cc e)))))
 
 batch_sound : (a b c d f g : List ℕ) (line : Line) → batch_of a b c d f g ≡ Some line → IsReadLine (codes "batch" ∷ a ∷ b ∷ c ∷ d ∷ f ∷ g ∷ []) line
 unfolding batch_of
@@ -107,4 +122,5 @@ words_sound (k ∷ []) line e = one_sound k line e
 words_sound (k ∷ a ∷ []) line e = two_sound k a line e
 words_sound (k ∷ a ∷ b ∷ []) line e = three_sound k a b line e
 words_sound (k ∷ a ∷ b ∷ c ∷ ws) line e =
-    arm k (codes "compose") _ _ line e (λ is e. rw is (compose_sound a b c ws line e)) (λ e. more_sound k a (b ∷ c ∷ ws) line e)
+    arm k (codes "compose") _ _ line e (λ is e. rw is (compose_sound a b c ws line e)) (λ e.
+    arm k (codes "word") _ _ line e (λ is e. rw is (word_sound a b (c ∷ ws) line e)) (λ e. more_sound k a (b ∷ c ∷ ws) line e))

@@ -14,7 +14,7 @@ use Rattle.session_text.proofs.TestsLetThrough.{kept_some}
 use Rattle.session_text.proofs.WordsByKind.{bound}
 use Rattle.session_text.proofs.LinesSplit.{AllLack}
 use Rattle.session_text.proofs.WordKinds.{Kind, numbers, texts, counts}
-use Rattle.trial_script.specs.Words.{field_limit, key_text_limit, IsKeyWord, field_of, key_text_of, keys_of}
+use Rattle.trial_script.specs.Words.{field_limit, choice_limit, key_text_limit, IsKeyWord, field_of, key_text_of, keys_of}
 
 field_counts : Kind (count_of field_limit) decimal (IsWithin field_limit) 10
 field_counts = counts field_limit (omega arith)
@@ -35,6 +35,10 @@ fields = record {
   zeroless = field_counts.zeroless;
   short = field_counts.short;
 }
+
+-- the number that a key chooses
+pub choices : Kind (count_of choice_limit) decimal (IsWithin choice_limit) 10
+choices = counts choice_limit (omega arith)
 
 text_sound : (word text : List ℕ) → key_text_of word ≡ Some text → IsKeyWord text × (word ≡ hex_word text)
 unfolding key_text_of

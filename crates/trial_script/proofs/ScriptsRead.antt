@@ -1,14 +1,14 @@
 -- Lines that are read one after the other come to the actions and to the script of all of them.
 use Rattle.std.proofs.Common.{◌≡◌, ℕ, ◌+◌, ◌≤◌, Bool, true, false, leb, cond, List, [], ◌∷◌, ◌++◌, Option, Some, None, Result, Ok, Err, refl, sym, ap, subst, append_assoc, arith}
-use Rattle.std.specs.Prelude.{All, IfOk, IfSome, IfNone, is_some}
+use Rattle.std.specs.Prelude.{All, IfOk}
 use Rattle.std.proofs.lemmas.Bool.{leb-true}
 use Rattle.std.proofs.lemmas.List.{append-nil}
 use Rattle.std.proofs.lemmas.List.Elements.{All-nil, All-cons}
 use Rattle.wio_core.specs.declared.NoMemory.{NoMemory}
-use Rattle.compose_method.specs.Table.{Table, empty_table}
 use Rattle.trial_script.specs.declared.action.Action.{Action}
 use Rattle.trial_script.specs.declared.line.Line.{Line}
 use Rattle.trial_script.specs.declared.line.Line.TheVariants as lines
+use Rattle.trial_script.specs.declared.rules.KeyRules.{KeyRules}
 use Rattle.trial_script.specs.declared.script.Ending.{Ending}
 use Rattle.trial_script.specs.declared.script.Ending.TheVariants as endings
 use Rattle.trial_script.specs.declared.script.Found.TheVariants as found
@@ -16,7 +16,8 @@ use Rattle.trial_script.specs.declared.script.Script.{Script}
 use Rattle.trial_script.specs.Grammar.{IsAction, IsLine}
 use Rattle.trial_script.specs.Reading.{line_of}
 use Rattle.trial_script.specs.Lines.{lines_of}
-use Rattle.trial_script.specs.Scripts.{Rest, over, field_named, found_action, found_of, by_found, actions_of, without_actions, with_entry_of, with_line, by_table, by_entry, script_from, by_header, script_of_lines, script_of, IsScript}
+use Rattle.trial_script.specs.Rules.{no_rules, with_entry_of, with_line, ArePut}
+use Rattle.trial_script.specs.Scripts.{Rest, over, field_named, found_action, found_of, by_found, actions_of, without_actions, by_rules, by_entry, script_from, by_header, script_of_lines, script_of, IsScript}
 use Rattle.trial_script.proofs.ScriptsReadBack.{reads_only}
 
 -- actions that were read, before those that follow
@@ -56,26 +57,29 @@ pub ends_open : (fields number : ℕ) (before : List Action) (all : List (List �
 unfolding actions_of
 ends_open fields number before all is = rw is refl
 
--- ---- the table, line by line
+-- ---- the rules of keys, line by line
 
-entry_goes : (t with : Table) (number : ℕ) (line : Line) (next : Table → Script) (play : ℕ → Rest) →
+entry_goes : (t with : KeyRules) (number : ℕ) (line : Line) (next : KeyRules → Script) (play : ℕ → Rest) →
     with_entry_of t line ≡ Some with →
     by_entry t number (Some line) next play ≡ next with
 entry_goes t with number (lines.Single key text) next play goes = rw goes refl
 entry_goes t with number (lines.Compose text keys) next play goes = rw goes refl
+entry_goes t with number (lines.Word text keys) next play goes = rw goes refl
+entry_goes t with number (lines.Choose key n) next play goes = rw goes refl
+entry_goes t with number (lines.Erase key) next play goes = rw goes refl
 entry_goes t with number lines.Header next play goes = absurd (cc goes)
 entry_goes t with number (lines.Fields n) next play goes = absurd (cc goes)
 entry_goes t with number (lines.Act action) next play goes = absurd (cc goes)
 entry_goes t with number lines.End next play goes = absurd (cc goes)
 
-line_goes : (t with : Table) (number : ℕ) (o : Option Line) (next : Table → Script) (play : ℕ → Rest) →
+line_goes : (t with : KeyRules) (number : ℕ) (o : Option Line) (next : KeyRules → Script) (play : ℕ → Rest) →
     with_line t o ≡ Some with →
     by_entry t number o next play ≡ next with
 line_goes t with number None next play goes = absurd (cc goes)
 line_goes t with number (Some line) next play goes = entry_goes t with number line next play goes
 
--- a line that goes into the table
-pub one_entry : (t with : Table) (number : ℕ) (raw : List ℕ) (more all : List (List ℕ)) →
+-- a line that goes into the rules
+pub one_entry : (t with : KeyRules) (number : ℕ) (raw : List ℕ) (more all : List (List ℕ)) →
     all ≡ raw ∷ more → with_line t (line_of raw) ≡ Some with →
     script_from t number all ≡ script_from with (number + 1) more
 unfolding script_from
@@ -84,24 +88,27 @@ one_entry t with number raw more all is goes =
     (λ n. actions_of n (number + 1) more) goes)
 
 -- any line
-pub one_line : (t : Table) (number : ℕ) (raw : List ℕ) (more all : List (List ℕ)) → all ≡ raw ∷ more →
+pub one_line : (t : KeyRules) (number : ℕ) (raw : List ℕ) (more all : List (List ℕ)) → all ≡ raw ∷ more →
     script_from t number all
     ≡ by_entry t number (line_of raw) (λ with. script_from with (number + 1) more) (λ n. actions_of n (number + 1) more)
 unfolding script_from
 one_line t number raw more all is = rw is refl
 
-pub no_fields : (t : Table) (number : ℕ) (all : List (List ℕ)) → all ≡ [] →
+pub no_fields : (t : KeyRules) (number : ℕ) (all : List (List ℕ)) → all ≡ [] →
     script_from t number all ≡ without_actions t (endings.Unended number)
 unfolding script_from
 no_fields t number all is = rw is refl
 
--- a line that has no place in the table ends it
-entry_ends : (t : Table) (number : ℕ) (line : Line) (next : Table → Script) (play : ℕ → Rest) →
+-- a line that has no place ends them
+entry_ends : (t : KeyRules) (number : ℕ) (line : Line) (next : KeyRules → Script) (play : ℕ → Rest) →
     with_entry_of t line ≡ None →
     ((n : ℕ) → line ≡ lines.Fields n → ⊥) →
     by_entry t number (Some line) next play ≡ without_actions t (endings.BadLine number)
 entry_ends t number (lines.Single key text) next play none other = rw none refl
 entry_ends t number (lines.Compose text keys) next play none other = rw none refl
+entry_ends t number (lines.Word text keys) next play none other = rw none refl
+entry_ends t number (lines.Choose key n) next play none other = rw none refl
+entry_ends t number (lines.Erase key) next play none other = rw none refl
 entry_ends t number lines.Header next play none other = refl
 entry_ends t number (lines.Fields n) next play none other = absurd (other n refl)
 entry_ends t number (lines.Act action) next play none other = refl
@@ -129,6 +136,9 @@ line_holds fields number (lines.Act action) rest is later = action_holds fields 
 line_holds fields number lines.Header rest is later = All-nil (IsActionOf fields)
 line_holds fields number (lines.Single key text) rest is later = All-nil (IsActionOf fields)
 line_holds fields number (lines.Compose text keys) rest is later = All-nil (IsActionOf fields)
+line_holds fields number (lines.Word text keys) rest is later = All-nil (IsActionOf fields)
+line_holds fields number (lines.Choose key n) rest is later = All-nil (IsActionOf fields)
+line_holds fields number (lines.Erase key) rest is later = All-nil (IsActionOf fields)
 line_holds fields number (lines.Fields n) rest is later = All-nil (IsActionOf fields)
 line_holds fields number lines.End rest is later = All-nil (IsActionOf fields)
 
@@ -144,28 +154,31 @@ actions_hold fields number (raw ∷ more) =
     found_holds fields number (line_of raw) (actions_of fields (number + 1) more) (λ line e. (reads_only raw line e).1)
     (actions_hold fields (number + 1) more)
 
-no_actions_hold : (t : Table) (ending : Ending) → IsScript (without_actions t ending)
+no_actions_hold : (t : KeyRules) (ending : Ending) → IsScript (without_actions t ending)
 no_actions_hold t ending = record { fields = omega arith; actions = All-nil (IsActionOf 0) }
 
-table_holds : (t : Table) (number : ℕ) (o : Option Table) (next : Table → Script) →
-    ((with : Table) → IsScript (next with)) →
-    IsScript (by_table t number o next)
-table_holds t number None next holds = no_actions_hold t (endings.BadLine number)
-table_holds t number (Some with) next holds = holds with
+rules_hold : (t : KeyRules) (number : ℕ) (o : Option KeyRules) (next : KeyRules → Script) →
+    ((with : KeyRules) → IsScript (next with)) →
+    IsScript (by_rules t number o next)
+rules_hold t number None next holds = no_actions_hold t (endings.BadLine number)
+rules_hold t number (Some with) next holds = holds with
 
-entry_holds : (t : Table) (number : ℕ) (o : Option Line) (next : Table → Script) (more : List (List ℕ)) →
-    ((line : Line) → o ≡ Some line → IsLine line) → ((with : Table) → IsScript (next with)) →
+entry_holds : (t : KeyRules) (number : ℕ) (o : Option Line) (next : KeyRules → Script) (more : List (List ℕ)) →
+    ((line : Line) → o ≡ Some line → IsLine line) → ((with : KeyRules) → IsScript (next with)) →
     IsScript (by_entry t number o next (λ n. actions_of n (number + 1) more))
 entry_holds t number None next more is holds = no_actions_hold t (endings.BadLine number)
 entry_holds t number (Some (lines.Fields n)) next more is holds =
     record { fields = (is (lines.Fields n) refl).0.1; actions = actions_hold n (number + 1) more }
-entry_holds t number (Some (lines.Single key text)) next more is holds = table_holds t number _ next holds
-entry_holds t number (Some (lines.Compose text keys)) next more is holds = table_holds t number _ next holds
-entry_holds t number (Some lines.Header) next more is holds = table_holds t number None next holds
-entry_holds t number (Some (lines.Act action)) next more is holds = table_holds t number None next holds
-entry_holds t number (Some lines.End) next more is holds = table_holds t number None next holds
+entry_holds t number (Some (lines.Single key text)) next more is holds = rules_hold t number _ next holds
+entry_holds t number (Some (lines.Compose text keys)) next more is holds = rules_hold t number _ next holds
+entry_holds t number (Some (lines.Word text keys)) next more is holds = rules_hold t number _ next holds
+entry_holds t number (Some (lines.Choose key n)) next more is holds = rules_hold t number _ next holds
+entry_holds t number (Some (lines.Erase key)) next more is holds = rules_hold t number _ next holds
+entry_holds t number (Some lines.Header) next more is holds = rules_hold t number None next holds
+entry_holds t number (Some (lines.Act action)) next more is holds = rules_hold t number None next holds
+entry_holds t number (Some lines.End) next more is holds = rules_hold t number None next holds
 
-body_holds : (ls : List (List ℕ)) (t : Table) (number : ℕ) → IsScript (script_from t number ls)
+body_holds : (ls : List (List ℕ)) (t : KeyRules) (number : ℕ) → IsScript (script_from t number ls)
 unfolding script_from
 body_holds [] t number = no_actions_hold t (endings.Unended number)
 body_holds (raw ∷ more) t number =
@@ -174,16 +187,19 @@ body_holds (raw ∷ more) t number =
     (λ with. body_holds more with (number + 1))
 
 header_holds : (o : Option Line) (more : List (List ℕ)) → IsScript (by_header o more)
-header_holds None more = no_actions_hold empty_table (endings.BadLine 1)
-header_holds (Some lines.Header) more = body_holds more empty_table 2
-header_holds (Some (lines.Single key text)) more = no_actions_hold empty_table (endings.BadLine 1)
-header_holds (Some (lines.Compose text keys)) more = no_actions_hold empty_table (endings.BadLine 1)
-header_holds (Some (lines.Fields n)) more = no_actions_hold empty_table (endings.BadLine 1)
-header_holds (Some (lines.Act action)) more = no_actions_hold empty_table (endings.BadLine 1)
-header_holds (Some lines.End) more = no_actions_hold empty_table (endings.BadLine 1)
+header_holds None more = no_actions_hold no_rules (endings.BadLine 1)
+header_holds (Some lines.Header) more = body_holds more no_rules 2
+header_holds (Some (lines.Single key text)) more = no_actions_hold no_rules (endings.BadLine 1)
+header_holds (Some (lines.Compose text keys)) more = no_actions_hold no_rules (endings.BadLine 1)
+header_holds (Some (lines.Word text keys)) more = no_actions_hold no_rules (endings.BadLine 1)
+header_holds (Some (lines.Choose key n)) more = no_actions_hold no_rules (endings.BadLine 1)
+header_holds (Some (lines.Erase key)) more = no_actions_hold no_rules (endings.BadLine 1)
+header_holds (Some (lines.Fields n)) more = no_actions_hold no_rules (endings.BadLine 1)
+header_holds (Some (lines.Act action)) more = no_actions_hold no_rules (endings.BadLine 1)
+header_holds (Some lines.End) more = no_actions_hold no_rules (endings.BadLine 1)
 
 lines_hold : (ls : List (List ℕ)) → IsScript (script_of_lines ls)
-lines_hold [] = no_actions_hold empty_table (endings.Unended 1)
+lines_hold [] = no_actions_hold no_rules (endings.Unended 1)
 lines_hold (raw ∷ more) = header_holds (line_of raw) more
 
 pub script_holds : (bytes : List ℕ) → IsScript (script_of bytes)
@@ -197,17 +213,17 @@ read_holds bytes (Err why) is = tt
 
 -- ---- what was answered of a line
 
--- the table has what the line says
-pub was_put : (o : Option Table) (put : Bool) (new : Table) → put ≡ is_some o → put ≡ true → IfSome o (λ t. new ≡ t) →
+-- the rules have what the line says
+pub was_put : (o : Option KeyRules) (put : Bool) (old new : KeyRules) → ArePut o (Ok put) old new → put ≡ true →
     o ≡ Some new
-was_put None put new is test with = absurd (cc (is, test))
-was_put (Some t) put new is test with = ap Some (sym with)
+was_put None put old new is test = absurd (let answer = is.answer in cc)
+was_put (Some r) put old new is test = ap Some (sym is.with)
 
--- the table is as it was
-pub was_not_put : (o : Option Table) (put : Bool) (old new : Table) → put ≡ is_some o → put ≡ false →
-    IfNone o (new ≡ old) → new ≡ old
-was_not_put None put old new is test same = same
-was_not_put (Some t) put old new is test same = absurd (cc (is, test))
+-- the rules are as they were
+pub was_not_put : (o : Option KeyRules) (put : Bool) (old new : KeyRules) → ArePut o (Ok put) old new → put ≡ false →
+    new ≡ old
+was_not_put None put old new is test = is.same
+was_not_put (Some r) put old new is test = absurd (let answer = is.answer in cc)
 
 pub answers : (r : Result Script NoMemory) (s all : Script) → s ≡ all → IfOk r (λ read. read ≡ s) →
     IfOk r (λ read. read ≡ all)

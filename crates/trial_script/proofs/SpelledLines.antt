@@ -11,10 +11,10 @@ use Rattle.trial_script.specs.declared.action.FieldEdit.{FieldEdit}
 use Rattle.trial_script.specs.declared.action.FieldEdit.TheVariants as edits
 use Rattle.trial_script.specs.declared.line.Line.{Line}
 use Rattle.trial_script.specs.declared.line.Line.TheVariants as lines
-use Rattle.trial_script.specs.Words.{key_limit}
+use Rattle.trial_script.specs.Words.{key_limit, word_key_limit}
 use Rattle.trial_script.specs.Grammar.{line_words, action_words, IsAction, HasParts}
-use Rattle.trial_script.specs.Reading.{one_word, header_of, two_words, three_words, compose_of, batch_of, seven_words, more_words, line_of_words}
-use Rattle.trial_script.proofs.ScriptWords.{fields, key_texts, keys_lack, keys_complete}
+use Rattle.trial_script.specs.Reading.{one_word, header_of, two_words, three_words, compose_of, word_of, batch_of, seven_words, more_words, line_of_words}
+use Rattle.trial_script.proofs.ScriptWords.{fields, choices, key_texts, keys_lack, keys_complete}
 
 -- ---- no space
 
@@ -55,6 +55,9 @@ pub spaceless : (line : Line) → HasParts line → AllLack 32 (line_words line)
 spaceless lines.Header h = (refl, (refl, tt))
 spaceless (lines.Single key text) h = (refl, (numbers.spaceless key h.0, (key_texts.spaceless text h.1, tt)))
 spaceless (lines.Compose text keys) h = (refl, (key_texts.spaceless text h.0, keys_lack keys h.1.each))
+spaceless (lines.Word text keys) h = (refl, (key_texts.spaceless text h.0, keys_lack keys h.1.each))
+spaceless (lines.Choose key n) h = (refl, (numbers.spaceless key h.0, (choices.spaceless n h.1, tt)))
+spaceless (lines.Erase key) h = (refl, (numbers.spaceless key h, tt))
 spaceless (lines.Fields n) h = (refl, (fields.spaceless n h, tt))
 spaceless (lines.Act action) h = spaceless_action action h
 spaceless lines.End h = (refl, tt)
@@ -94,11 +97,24 @@ compose_read text (a ∷ b ∷ keys) h =
     rw (key_texts.complete text h.0)
     (rw (keys_complete (a ∷ b ∷ keys) h.1.each) (rw (le-leb (length (a ∷ b ∷ keys)) key_limit h.1.few) refl))
 
+-- a key or more
+word_read : (text keys : List ℕ) → HasParts (lines.Word text keys) →
+    line_of_words (line_words (lines.Word text keys)) ≡ Some (lines.Word text keys)
+unfolding line_of_words three_words more_words word_of
+word_read text [] h = absurd (let some = h.1.some in omega (arith, some))
+word_read text (a ∷ []) h = rw (key_texts.complete text h.0) (rw (keys_complete (a ∷ []) h.1.each) refl)
+word_read text (a ∷ b ∷ keys) h =
+    rw (key_texts.complete text h.0)
+    (rw (keys_complete (a ∷ b ∷ keys) h.1.each) (rw (le-leb (length (a ∷ b ∷ keys)) word_key_limit h.1.few) refl))
+
 pub words_read : (line : Line) → HasParts line → line_of_words (line_words line) ≡ Some line
 unfolding line_of_words one_word two_words three_words header_of
 words_read lines.Header h = refl
 words_read (lines.Single key text) h = rw (numbers.complete key h.0) (rw (key_texts.complete text h.1) refl)
 words_read (lines.Compose text keys) h = compose_read text keys h
+words_read (lines.Word text keys) h = word_read text keys h
+words_read (lines.Choose key n) h = rw (numbers.complete key h.0) (rw (choices.complete n h.1) refl)
+words_read (lines.Erase key) h = rw (numbers.complete key h) refl
 words_read (lines.Fields n) h = rw (fields.complete n h) refl
 words_read (lines.Act action) h = action_read action h
 words_read lines.End h = refl

@@ -15,16 +15,22 @@ same true o = refl
 same false o = refl
 
 -- a line about a field needs its number
-pub field_refused : (key a : List ℕ) → bytes_eq key (codes "trial") ≡ false → bytes_eq key (codes "press") ≡ false → field_of a ≡ None →
-    two_words key a ≡ None
+pub field_refused : (key a : List ℕ) → bytes_eq key (codes "trial") ≡ false → bytes_eq key (codes "press") ≡ false →
+    bytes_eq key (codes "erase") ≡ false → field_of a ≡ None → two_words key a ≡ None
 unfolding two_words
-field_refused key a header press none = rw (header, press, none) (simp same)
+field_refused key a header press erase none = rw (header, press, erase, none) (simp same)
 
 -- what stands behind `press` is a number
 pub pressed : (key a : List ℕ) → bytes_eq key (codes "press") ≡ true →
     two_words key a ≡ (number_of a >>= (λ n. Some (lines.Act (actions.Press n))))
 unfolding two_words
 pressed key a is = rw ((bytes_eq-Decides key (codes "press")).0 is) refl
+
+-- what stands behind `erase` too
+pub erasing : (key a : List ℕ) → bytes_eq key (codes "erase") ≡ true →
+    two_words key a ≡ (number_of a >>= (λ n. Some (lines.Erase n)))
+unfolding two_words
+erasing key a is = rw ((bytes_eq-Decides key (codes "erase")).0 is) refl
 
 -- what stands behind `trial`
 pub header : (key a : List ℕ) → bytes_eq key (codes "trial") ≡ true → two_words key a ≡ header_of a

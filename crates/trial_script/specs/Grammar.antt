@@ -12,7 +12,7 @@ use Rattle.trial_script.specs.declared.action.FieldEdit.TheVariants as edits
 use Rattle.trial_script.specs.declared.action.Edits.{Edits}
 use Rattle.trial_script.specs.declared.line.Line.{Line}
 use Rattle.trial_script.specs.declared.line.Line.TheVariants as lines
-use Rattle.trial_script.specs.Words.{field_limit, key_limit, IsKeyWord}
+use Rattle.trial_script.specs.Words.{field_limit, key_limit, word_key_limit, choice_limit, IsKeyWord}
 
 abbrev pub edit_words : ℕ → FieldEdit → List (List ℕ)
 edit_words f (edits.Insert text) = codes "insert" ∷ decimal f ∷ hex_word text ∷ []
@@ -39,6 +39,9 @@ abbrev pub line_words : Line → List (List ℕ)
 line_words lines.Header = codes "trial" ∷ codes "1" ∷ []
 line_words (lines.Single key text) = codes "single" ∷ decimal key ∷ hex_word text ∷ []
 line_words (lines.Compose text keys) = codes "compose" ∷ hex_word text ∷ map decimal keys
+line_words (lines.Word text keys) = codes "word" ∷ hex_word text ∷ map decimal keys
+line_words (lines.Choose key n) = codes "choose" ∷ decimal key ∷ decimal n ∷ []
+line_words (lines.Erase key) = codes "erase" ∷ decimal key ∷ []
 line_words (lines.Fields n) = codes "fields" ∷ decimal n ∷ []
 line_words (lines.Act action) = action_words action
 line_words lines.End = codes "end" ∷ []
@@ -83,11 +86,20 @@ pub record AreKeys (keys : List ℕ) : Type 0 where
   pub few : length keys ≤ key_limit
   pub each : All (λ key. key < 2 ^ 32) keys
 
+-- from 1 to 16 keys
+pub record AreWordKeys (keys : List ℕ) : Type 0 where
+  pub some : 1 ≤ length keys
+  pub few : length keys ≤ word_key_limit
+  pub each : All (λ key. key < 2 ^ 32) keys
+
 -- the parts of the line are in their ranges
 abbrev pub HasParts : Line → Type 0
 HasParts lines.Header = Unit {0}
 HasParts (lines.Single key text) = (key < 2 ^ 32) × IsKeyWord text
 HasParts (lines.Compose text keys) = IsKeyWord text × AreKeys keys
+HasParts (lines.Word text keys) = IsKeyWord text × AreWordKeys keys
+HasParts (lines.Choose key n) = (key < 2 ^ 32) × IsWithin choice_limit n
+HasParts (lines.Erase key) = key < 2 ^ 32
 HasParts (lines.Fields n) = IsField n
 HasParts (lines.Act action) = IsAction action
 HasParts lines.End = Unit {0}

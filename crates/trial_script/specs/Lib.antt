@@ -3,4 +3,5 @@ pub mod Grammar
 pub mod Reading
 pub mod Laws
 pub mod Lines
+pub mod Rules
 pub mod Scripts

@@ -2,14 +2,14 @@
 use Rattle.std.specs.Prelude.{ℕ, ℤ, ◌==◌, nat_le, if◌then◌else◌, List, [], ◌∷◌, length, codes, Option, Some, None}
 use Rattle.std.specs.List.{slice_split}
 use Rattle.std.specs.Str.{bytes_eq}
-use Rattle.session_text.specs.Words.{◌>>=◌, kept, text_limit, cursor_text_limit, number_of, signed_of, text_of}
+use Rattle.session_text.specs.Words.{◌>>=◌, kept, text_limit, cursor_text_limit, number_of, count_of, signed_of, text_of}
 use Rattle.session_text.specs.Reading.{line_limit}
 use Rattle.trial_script.specs.declared.action.Action.TheVariants as actions
 use Rattle.trial_script.specs.declared.action.FieldEdit.TheVariants as edits
 use Rattle.trial_script.specs.declared.action.Edits.{Edits}
 use Rattle.trial_script.specs.declared.line.Line.{Line}
 use Rattle.trial_script.specs.declared.line.Line.TheVariants as lines
-use Rattle.trial_script.specs.Words.{key_limit, field_of, key_text_of, keys_of}
+use Rattle.trial_script.specs.Words.{key_limit, word_key_limit, choice_limit, field_of, key_text_of, keys_of}
 
 abbrev pub edits_of : ℕ → ℕ → List ℕ → List ℕ → ℤ → ℤ → Edits
 edits_of before after string preedit begin end =
@@ -38,6 +38,7 @@ two_words k a =
     else if bytes_eq k (codes "fields") then field_of a >>= (λ n. Some (lines.Fields n))
     else if bytes_eq k (codes "use") then field_of a >>= (λ f. Some (lines.Act (actions.Use f)))
     else if bytes_eq k (codes "press") then number_of a >>= (λ key. Some (lines.Act (actions.Press key)))
+    else if bytes_eq k (codes "erase") then number_of a >>= (λ key. Some (lines.Erase key))
     else if bytes_eq k (codes "left") then field_of a >>= (λ f. Some (lines.Act (actions.Edit f edits.Left)))
     else if bytes_eq k (codes "right") then field_of a >>= (λ f. Some (lines.Act (actions.Edit f edits.Right)))
     else if bytes_eq k (codes "rub") then field_of a >>= (λ f. Some (lines.Act (actions.Edit f edits.Rub)))
@@ -46,9 +47,23 @@ two_words k a =
     else if bytes_eq k (codes "show") then field_of a >>= (λ f. Some (lines.Act (actions.Show f)))
     else None
 
+-- what follows the name of a word: its text, and the keys
+unfoldable pub word_of : List ℕ → List (List ℕ) → Option Line
+word_of a words =
+    key_text_of a >>=
+    (λ text. kept (λ keys. nat_le (length keys) word_key_limit) (keys_of words) >>= (λ keys.
+    Some (lines.Word text keys)))
+
+-- a key that chooses, and its number
+abbrev pub choose_of : List ℕ → List ℕ → Option Line
+choose_of a b =
+    number_of a >>= (λ key. count_of choice_limit b >>= (λ n. Some (lines.Choose key n)))
+
 unfoldable pub three_words : List ℕ → List ℕ → List ℕ → Option Line
 three_words k a b =
     if bytes_eq k (codes "single") then number_of a >>= (λ key. key_text_of b >>= (λ text. Some (lines.Single key text)))
+    else if bytes_eq k (codes "choose") then choose_of a b
+    else if bytes_eq k (codes "word") then word_of a (b ∷ [])
     else if bytes_eq k (codes "insert") then
     field_of a >>=
     (λ f. text_of line_limit b >>=
@@ -76,7 +91,10 @@ seven_words k a _ = None
 
 -- four words or more, of which all but the first two are apart
 unfoldable pub more_words : List ℕ → List ℕ → List (List ℕ) → Option Line
-more_words k a words = if bytes_eq k (codes "compose") then compose_of a words else seven_words k a words
+more_words k a words =
+    if bytes_eq k (codes "compose") then compose_of a words
+    else if bytes_eq k (codes "word") then word_of a words
+    else seven_words k a words
 
 -- the line of the words, the first of which names it
 unfoldable pub line_of_words : List (List ℕ) → Option Line

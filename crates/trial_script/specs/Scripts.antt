@@ -1,10 +1,10 @@
--- What the lines of a script come to: its table, its fields, its actions, and how it ends.
-use Rattle.std.specs.Prelude.{ℕ, ◌+◌, ◌==◌, ◌||◌, Bool, nat_le, if◌then◌else◌, List, [], ◌∷◌, length, Option, Some, None, All, ◌≤◌}
-use Rattle.compose_method.specs.Table.{Table, empty_table, has_single, clashes, single, entry, with_single, with_entry}
+-- What the lines of a script come to: its rules of keys, its fields, its actions, and how it ends.
+use Rattle.std.specs.Prelude.{ℕ, ◌+◌, nat_le, if◌then◌else◌, List, [], ◌∷◌, Option, Some, None, All, ◌≤◌}
 use Rattle.trial_script.specs.declared.action.Action.{Action}
 use Rattle.trial_script.specs.declared.action.Action.TheVariants as actions
 use Rattle.trial_script.specs.declared.line.Line.{Line}
 use Rattle.trial_script.specs.declared.line.Line.TheVariants as lines
+use Rattle.trial_script.specs.declared.rules.KeyRules.{KeyRules}
 use Rattle.trial_script.specs.declared.script.Ending.{Ending}
 use Rattle.trial_script.specs.declared.script.Ending.TheVariants as endings
 use Rattle.trial_script.specs.declared.script.Script.{Script}
@@ -14,6 +14,7 @@ use Rattle.trial_script.specs.Words.{field_limit}
 use Rattle.trial_script.specs.Grammar.{IsAction}
 use Rattle.trial_script.specs.Reading.{line_of}
 use Rattle.trial_script.specs.Lines.{lines_of}
+use Rattle.trial_script.specs.Rules.{no_rules, with_entry_of}
 
 -- ---- the actions
 
@@ -59,69 +60,49 @@ actions_of fields number [] = over (endings.Unended number)
 actions_of fields number (raw ∷ more) =
     by_found number (found_of fields (line_of raw)) (actions_of fields (number + 1) more)
 
--- ---- the table, and the whole
+-- ---- the rules of keys, and the whole
 
 -- a script that ends before its actions
-abbrev pub without_actions : Table → Ending → Script
-without_actions t ending =
-    record { table = t; fields = 0; first_line = 0; actions = []; ending = ending }
+abbrev pub without_actions : KeyRules → Ending → Script
+without_actions r ending =
+    record { rules = r; fields = 0; first_line = 0; actions = []; ending = ending }
 
-abbrev pub with_actions : Table → (fields number : ℕ) → Rest → Script
-with_actions t fields number rest =
+abbrev pub with_actions : KeyRules → (fields number : ℕ) → Rest → Script
+with_actions r fields number rest =
     record {
-      table = t;
+      rules = r;
       fields = fields;
       first_line = number;
       actions = rest.actions;
       ending = rest.ending;
     }
 
--- the table has no place for the key's text, or for the sequence
-abbrev pub refuses_single : Table → ℕ → Bool
-refuses_single t key = has_single t key || length t.singles == 1024
+-- reading goes on with rules, or ends at the line with this number
+abbrev pub by_rules : KeyRules → ℕ → Option KeyRules → (KeyRules → Script) → Script
+by_rules r number None next = without_actions r (endings.BadLine number)
+by_rules r number (Some with) next = next with
 
-abbrev pub refuses_entry : Table → List ℕ → Bool
-refuses_entry t keys = clashes t keys || length t.entries == 4096
+-- a line with this number before the actions: `next` reads on with rules, `play` reads the actions
+-- of so many fields
+abbrev pub by_entry : KeyRules → ℕ → Option Line → (KeyRules → Script) → (ℕ → Rest) → Script
+by_entry r number None next play = without_actions r (endings.BadLine number)
+by_entry r number (Some (lines.Fields n)) next play = with_actions r n (number + 1) (play n)
+by_entry r number (Some line) next play = by_rules r number (with_entry_of r line) next
 
--- the table with what the line says of keys, where it has a place for it
-abbrev pub with_entry_of : Table → Line → Option Table
-with_entry_of t (lines.Single key text) =
-    if refuses_single t key then None else Some (with_single (single key text) t)
-with_entry_of t (lines.Compose text keys) =
-    if refuses_entry t keys then None else Some (with_entry (entry text keys) t)
-with_entry_of t _ = None
-
--- the same of bytes that may be no line
-abbrev pub with_line : Table → Option Line → Option Table
-with_line t None = None
-with_line t (Some line) = with_entry_of t line
-
--- reading goes on with a table, or ends at the line with this number
-abbrev pub by_table : Table → ℕ → Option Table → (Table → Script) → Script
-by_table t number None next = without_actions t (endings.BadLine number)
-by_table t number (Some with) next = next with
-
--- a line with this number before the actions: `next` reads on with a table, `play` reads the
--- actions of so many fields
-abbrev pub by_entry : Table → ℕ → Option Line → (Table → Script) → (ℕ → Rest) → Script
-by_entry t number None next play = without_actions t (endings.BadLine number)
-by_entry t number (Some (lines.Fields n)) next play = with_actions t n (number + 1) (play n)
-by_entry t number (Some line) next play = by_table t number (with_entry_of t line) next
-
--- the script of the lines from the one with this number on, by the table so far
-unfoldable pub script_from : Table → ℕ → List (List ℕ) → Script
-script_from t number [] = without_actions t (endings.Unended number)
-script_from t number (raw ∷ more) =
-    by_entry t number (line_of raw) (λ with. script_from with (number + 1) more)
+-- the script of the lines from the one with this number on, by the rules so far
+unfoldable pub script_from : KeyRules → ℕ → List (List ℕ) → Script
+script_from r number [] = without_actions r (endings.Unended number)
+script_from r number (raw ∷ more) =
+    by_entry r number (line_of raw) (λ with. script_from with (number + 1) more)
     (λ n. actions_of n (number + 1) more)
 
 -- the lines after the first, which has to be a header
 abbrev pub by_header : Option Line → List (List ℕ) → Script
-by_header (Some lines.Header) more = script_from empty_table 2 more
-by_header _ more = without_actions empty_table (endings.BadLine 1)
+by_header (Some lines.Header) more = script_from no_rules 2 more
+by_header _ more = without_actions no_rules (endings.BadLine 1)
 
 abbrev pub script_of_lines : List (List ℕ) → Script
-script_of_lines [] = without_actions empty_table (endings.Unended 1)
+script_of_lines [] = without_actions no_rules (endings.Unended 1)
 script_of_lines (raw ∷ more) = by_header (line_of raw) more
 
 -- the script of the bytes

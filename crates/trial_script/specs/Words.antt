@@ -14,6 +14,14 @@ key_text_limit = 64
 abbrev pub key_limit : ℕ
 key_limit = 8
 
+-- the most keys of a word
+abbrev pub word_key_limit : ℕ
+word_key_limit = 16
+
+-- the highest number that a key chooses
+abbrev pub choice_limit : ℕ
+choice_limit = 9
+
 -- a text of 1 to 64 bytes
 abbrev pub IsKeyWord : List ℕ → Type 0
 IsKeyWord text = IsTextWithin key_text_limit text × (1 ≤ length text)

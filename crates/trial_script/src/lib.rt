@@ -7,9 +7,11 @@ mod keys;
 mod line;
 mod line_words;
 mod lines;
+mod rules;
 mod script;
 
 pub use action::{Action, Actions, Edits, FieldEdit};
 pub use keys::KeyList;
 pub use line::{Line, one_spelling, read_line};
+pub use rules::KeyRules;
 pub use script::{Ending, Script, read_script};

@@ -22,6 +22,12 @@ pub enum Line {
     Single(u32, Text),
     /// What 2 to 8 keys pressed one after the other give: 1 to 64 bytes.
     Compose(Text, KeyList),
+    /// A word of the dictionary, of 1 to 64 bytes, and the 1 to 16 keys that spell it.
+    Word(Text, KeyList),
+    /// A key that chooses the candidate with the number, from 1 to 9.
+    Choose(u32, u32),
+    /// A key that takes the last key of the code back.
+    Erase(u32),
     /// How many fields there are: 1 to 16.
     Fields(u32),
     /// What is done.

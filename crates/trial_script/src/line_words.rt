@@ -4,7 +4,8 @@ ghost use Rattle.std.specs.Str.{bytes_eq};
 ghost use Rattle.session_text.specs.Reading.{Reads};
 ghost use Rattle.trial_script.specs.Words.{field_of, key_text_of};
 ghost use Rattle.trial_script.specs.Reading.{one_word, header_of, two_words, three_words};
-ghost use Rattle.trial_script.specs.Reading.{compose_of, batch_of, seven_words, more_words};
+ghost use Rattle.trial_script.specs.Reading.{compose_of, word_of, choose_of, batch_of, seven_words};
+ghost use Rattle.trial_script.specs.Reading.{more_words};
 ghost use Rattle.trial_script.specs.Reading.{line_of_words};
 
 use crate::action::{Action, Edits, FieldEdit};
@@ -23,6 +24,12 @@ const KEY_TEXT_LIMIT: usize = 64;
 
 // The most keys of a sequence.
 const KEY_LIMIT: usize = 8;
+
+// The most keys of a word.
+const WORD_KEY_LIMIT: usize = 16;
+
+// The highest number that a key chooses.
+const CHOICE_LIMIT: u32 = 9;
 
 #[tactic(auto, unfolding(crate::specs::Words::field_of))]
 fn field(word: &[u8]) -> Result<u32, BadLine>
@@ -73,6 +80,7 @@ fn read_header(form: &[u8]) -> Result<Line, BadLine>
 fn line_of_field(key: &[u8], n: u32) -> Option<Line>
     requires header { bytes_eq key.now (codes "trial") ≡ false }
     requires press { bytes_eq key.now (codes "press") ≡ false }
+    requires erase { bytes_eq key.now (codes "erase") ≡ false }
     ensures { (a : List ℕ) → field_of a ≡ Some n → result ≡ two_words key.now a }
 {
     if key == b"fields".as_slice() {
@@ -106,6 +114,16 @@ fn read_press(key: &[u8], a: &[u8]) -> Result<Line, BadLine>
     Ok(Line::Act(Action::Press(number(a)?)))
 }
 
+// What stands behind `erase`.
+#[inline(always)]
+#[tactic(auto, using(crate::proofs::TwoWords::erasing))]
+fn read_erase(key: &[u8], a: &[u8]) -> Result<Line, BadLine>
+    requires { bytes_eq key.now (codes "erase") ≡ true }
+    ensures { Reads result (two_words key.now a.now) }
+{
+    Ok(Line::Erase(number(a)?))
+}
+
 #[tactic(auto, using(crate::proofs::TwoWords::by_name))]
 fn read_two(key: &[u8], a: &[u8]) -> Result<Line, BadLine>
     ensures { Reads result (two_words key.now a.now) }
@@ -116,11 +134,36 @@ fn read_two(key: &[u8], a: &[u8]) -> Result<Line, BadLine>
     if key == b"press".as_slice() {
         return read_press(key, a);
     }
+    if key == b"erase".as_slice() {
+        return read_erase(key, a);
+    }
     let n = field(a)?;
     match line_of_field(key, n) {
         Some(line) => Ok(line),
         None => Err(BadLine::Grammar),
     }
+}
+
+// What follows the name of a word: its text, and the keys.
+#[tactic(auto, unfolding(crate::specs::Reading::word_of))]
+fn read_word(alloc: Global, a: &[u8], words: &[&[u8]]) -> Result<Line, BadLine>
+    ensures { Reads result (word_of a.now (map (λ w. w.now) words.now)) }
+{
+    let text = key_text(alloc, a)?;
+    let keys = read_keys(alloc, words)?;
+    if keys.as_slice().len() > WORD_KEY_LIMIT {
+        return Err(BadLine::Grammar);
+    }
+    Ok(Line::Word(text, keys))
+}
+
+// A key that chooses, and its number.
+fn read_choose(a: &[u8], b: &[u8]) -> Result<Line, BadLine>
+    ensures { Reads result (choose_of a.now b.now) }
+{
+    let key = number(a)?;
+    let n = count(CHOICE_LIMIT, b)?;
+    Ok(Line::Choose(key, n))
 }
 
 #[tactic(auto, unfolding(crate::specs::Reading::three_words))]
@@ -131,6 +174,10 @@ fn read_three(alloc: Global, key: &[u8], a: &[u8], b: &[u8]) -> Result<Line, Bad
         let key = number(a)?;
         let text = key_text(alloc, b)?;
         Ok(Line::Single(key, text))
+    } else if key == b"choose".as_slice() {
+        read_choose(a, b)
+    } else if key == b"word".as_slice() {
+        read_word(alloc, a, &[b])
     } else if key == b"insert".as_slice() {
         let field = field(a)?;
         let text = text_within(alloc, LINE_LIMIT, b)?;
@@ -200,6 +247,8 @@ fn read_more(alloc: Global, key: &[u8], a: &[u8], words: &[&[u8]]) -> Result<Lin
 {
     if key == b"compose".as_slice() {
         read_compose(alloc, a, words)
+    } else if key == b"word".as_slice() {
+        read_word(alloc, a, words)
     } else {
         read_seven(alloc, key, a, words)
     }

@@ -1,18 +1,18 @@
 //! A whole script.
-ghost use Rattle.std.specs.Prelude.{◌≡◌, ◌<◌, ◌≤◌, ◌+◌, ◌^◌, [], length, is_some};
-ghost use Rattle.std.specs.Prelude.{IfOk, IfSome, IfNone, OnOk};
-ghost use Rattle.compose_method.specs.Table.{Table, empty_table};
+ghost use Rattle.std.specs.Prelude.{◌≡◌, ◌<◌, ◌≤◌, ◌+◌, ◌^◌, [], length, None};
+ghost use Rattle.std.specs.Prelude.{IfOk, IfSome};
 ghost use Rattle.trial_script.specs.Lines.{lines_of};
 ghost use Rattle.trial_script.specs.Grammar.{IsLine};
+ghost use Rattle.trial_script.specs.Rules.{no_rules, with_line};
 ghost use Rattle.trial_script.specs.Reading.{line_of};
 ghost use Rattle.trial_script.specs.Scripts.{field_named, found_action, found_of, actions_of};
-ghost use Rattle.trial_script.specs.Scripts.{with_entry_of, with_line, without_actions, by_entry};
+ghost use Rattle.trial_script.specs.Scripts.{without_actions, by_entry};
 ghost use Rattle.trial_script.specs.Scripts.{script_from, script_of, IsScript};
 
 use crate::action::{Action, Actions};
 use crate::line::{Line, read_line};
 use crate::lines::take_line;
-use compose_method::{ComposeTable, TableRefusal};
+use crate::rules::KeyRules;
 use session_text::BadLine;
 use std::alloc::Global;
 use wio_core::NoMemory;
@@ -33,7 +33,7 @@ pub enum Ending {
 #[derive(Debug, Drop)]
 pub struct Script {
     /// What the method's keys mean.
-    pub table: ComposeTable,
+    pub rules: KeyRules,
     /// How many fields there are: 1 to 16.
     pub fields: u32,
     /// The number of the first action's line.
@@ -95,7 +95,7 @@ fn find(alloc: Global, fields: u32, raw: &[u8]) -> Result<Found, NoMemory>
     match read_line(alloc, raw) {
         Ok(Line::Act(action)) => Ok(found_action(fields, action)),
         Ok(Line::End) => Ok(Found::End),
-        Ok(Line::Header | Line::Single(..) | Line::Compose(..) | Line::Fields(_)) => Ok(Found::Bad),
+        Ok(_) => Ok(Found::Bad),
         Err(BadLine::Grammar) => Ok(Found::Bad),
         Err(BadLine::NoMemory) => Err(NoMemory),
     }
@@ -128,11 +128,11 @@ fn read_actions(
 }
 
 // A script that ends before its actions.
-fn without_actions(alloc: Global, table: ComposeTable, ending: Ending) -> Script
-    ensures { result ≡ without_actions table ending }
+fn without_actions(alloc: Global, rules: KeyRules, ending: Ending) -> Script
+    ensures { result ≡ without_actions rules ending }
 {
     Script {
-        table,
+        rules,
         fields: 0,
         first_line: 0,
         actions: Actions::new(alloc),
@@ -140,87 +140,53 @@ fn without_actions(alloc: Global, table: ComposeTable, ending: Ending) -> Script
     }
 }
 
-// Puts what a line says of keys into the table; false where the table has no place for it, or the
-// line says nothing of keys.
-fn put_entry(table: &mut ComposeTable, line: &Line) -> Result<bool, NoMemory>
-    requires { IsLine line.now }
-    ensures put { IfOk result (λ put. put ≡ is_some (with_entry_of table.old line.now)) }
-    ensures with { OnOk result (IfSome (with_entry_of table.old line.now) (λ t. table.new ≡ t)) }
-    ensures same { OnOk result (IfNone (with_entry_of table.old line.now)
-        (table.new ≡ table.old)) }
-{
-    let put = match line {
-        Line::Single(key, text) => table.single(*key, text.as_str()),
-        Line::Compose(text, keys) => table.entry(text.as_str(), keys.as_slice()),
-        Line::Header | Line::Fields(_) | Line::Act(_) | Line::End => return Ok(false),
-    };
-    match put {
-        Ok(()) => Ok(true),
-        Err(TableRefusal::Clash | TableRefusal::TooMany) => Ok(false),
-        Err(TableRefusal::NoMemory) => Err(NoMemory),
-    }
-}
-
-// The same of bytes that may be no line.
-fn put_line(table: &mut ComposeTable, line: &Option<Line>) -> Result<bool, NoMemory>
-    requires { IfSome line.now IsLine }
-    ensures put { IfOk result (λ put. put ≡ is_some (with_line table.old line.now)) }
-    ensures with { OnOk result (IfSome (with_line table.old line.now) (λ t. table.new ≡ t)) }
-    ensures same { OnOk result (IfNone (with_line table.old line.now) (table.new ≡ table.old)) }
-{
-    match line {
-        Some(line) => put_entry(table, line),
-        None => Ok(false),
-    }
-}
-
-// A line with this number that says nothing of keys, or for which the table has no place: the
+// A line with this number that says nothing of keys, or for which there is no place: the
 // actions begin behind it, or the script ends at it.
-fn end_table(
+fn end_rules(
     alloc: Global,
-    table: ComposeTable,
+    rules: KeyRules,
     number: u64,
     line: Option<Line>,
     more: &[u8],
 ) -> Result<Script, NoMemory>
     requires few { number + 1 + length more.now < 2 ^ 64 }
-    requires end { with_line table line ≡ None }
-    ensures { (next : Table → Script) → IfOk result (λ script. script
-        ≡ by_entry table number line next (λ n. actions_of n (number + 1) (lines_of more.now))) }
+    requires end { with_line rules line ≡ None }
+    ensures { (next : KeyRules → Script) → IfOk result (λ script. script
+        ≡ by_entry rules number line next (λ n. actions_of n (number + 1) (lines_of more.now))) }
 {
     match line {
         Some(Line::Fields(fields)) => {
             let (actions, ending) = read_actions(alloc, fields, number + 1, more)?;
             Ok(Script {
-                table,
+                rules,
                 fields,
                 first_line: number + 1,
                 actions,
                 ending,
             })
         }
-        Some(Line::Header | Line::Single(..) | Line::Compose(..) | Line::Act(_) | Line::End)
-        | None => Ok(without_actions(alloc, table, Ending::BadLine(number))),
+        _ => Ok(without_actions(alloc, rules, Ending::BadLine(number))),
     }
 }
 
 // The script of the lines after the header.
 fn read_body(alloc: Global, bytes: &[u8]) -> Result<Script, NoMemory>
     requires few { 2 + length bytes.now < 2 ^ 64 }
-    ensures { IfOk result (λ script. script ≡ script_from empty_table 2 (lines_of bytes.now)) }
+    ensures { IfOk result (λ script. script ≡ script_from no_rules 2 (lines_of bytes.now)) }
 {
-    let mut table = ComposeTable::new(alloc)?;
+    let mut rules = KeyRules::new(alloc)?;
     let mut number = 2;
     let mut rest = bytes;
     while let Some((raw, more)) = take_line(rest) {
         let line = line(alloc, raw)?;
-        if !put_line(&mut table, &line)? {
-            return end_table(alloc, table, number, line, more);
+        if !rules.put_line(&line)? {
+            return end_rules(alloc, rules, number, line, more);
         }
+        drop(line);
         number += 1;
         rest = more;
     }
-    Ok(without_actions(alloc, table, Ending::Unended(number)))
+    Ok(without_actions(alloc, rules, Ending::Unended(number)))
 }
 
 // The script of the bytes.
@@ -229,23 +195,24 @@ fn read_whole(alloc: Global, script: &[u8]) -> Result<Script, NoMemory>
     ensures { IfOk result (λ read. read ≡ script_of script.now) }
 {
     let Some((raw, more)) = take_line(script) else {
-        let table = ComposeTable::new(alloc)?;
-        return Ok(without_actions(alloc, table, Ending::Unended(1)));
+        let rules = KeyRules::new(alloc)?;
+        return Ok(without_actions(alloc, rules, Ending::Unended(1)));
     };
     match line(alloc, raw)? {
         Some(Line::Header) => read_body(alloc, more),
         _ => {
-            let table = ComposeTable::new(alloc)?;
-            Ok(without_actions(alloc, table, Ending::BadLine(1)))
+            let rules = KeyRules::new(alloc)?;
+            Ok(without_actions(alloc, rules, Ending::BadLine(1)))
         }
     }
 }
 
 /// Reads a script up to its end, or to the first line that is outside the grammar. Its form: the
-/// header, then any number of texts of keys and of sequences, then how many fields there are, then
-/// actions, then the end. A key that has a text already, a sequence that clashes with an earlier
-/// one, an entry for which the table has no place, and a field above the number of fields are
-/// outside the grammar too. What stands behind the line `end` isn't read.
+/// header, then any number of lines that say what keys mean, then how many fields there are, then
+/// actions, then the end. A key that has a text already, a sequence or a word that clashes with what
+/// was said before, a control key that is one already or stands in a word, what the table or the
+/// dictionary has no place for, a sequence and a word in one script, and a field above the number
+/// of fields are outside the grammar too. What stands behind the line `end` isn't read.
 pub fn read_script(alloc: Global, script: &[u8]) -> Result<Script, NoMemory>
     ensures exact { IfOk result (λ read. read ≡ script_of script.now) }
     ensures valid { IfOk result IsScript }

@@ -61,6 +61,7 @@ fn take(rt: &impl Abort, method: &mut DictMethod, step: Step) {
 // Keys 18 and 19 with the texts "e" and "f", and key 14 with one that it never types.
 fn texts(rt: &impl Abort, alloc: Global) -> Result<ComposeTable, Fail> {
     let mut table = ComposeTable::new(alloc)?;
+    equal_at(rt, &0, table.has_entries(), false);
     equal_at(rt, &18, table.single(18, "e"), Ok(()));
     equal_at(rt, &19, table.single(19, "f"), Ok(()));
     equal_at(rt, &14, table.single(14, "x"), Ok(()));
@@ -89,10 +90,12 @@ fn put_controls(rt: &impl Abort, dict: &mut Dict) {
 
 fn words(rt: &impl Abort, alloc: Global) -> Result<Dict, Fail> {
     let mut dict = Dict::new(alloc)?;
+    equal_at(rt, &0, dict.has_words(), false);
     put(rt, &mut dict, "é", &[18, 19]);
     put(rt, &mut dict, "z", &[18, 18]);
     put(rt, &mut dict, "longer", &[18, 19, 18]);
     put(rt, &mut dict, "é", &[18, 19]);
+    equal_at(rt, &4, dict.has_words(), true);
     put_controls(rt, &mut dict);
     Ok(dict)
 }

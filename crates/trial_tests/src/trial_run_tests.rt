@@ -67,7 +67,7 @@ fn is_bad(
     }
 }
 
-const SHOWN: [(&str, &str); 9] = [
+const SHOWN: [(&str, &str); 16] = [
     // A character that is cut isn't deleted.
     (
         "trial 1;fields 1;use 1;insert 1 c3a9;batch 1 0 78 - 0 0;show 1;end",
@@ -109,6 +109,40 @@ const SHOWN: [(&str, &str); 9] = [
         "show 1 617879 3 7a;",
     ),
     ("trial 1;fields 1;end", ""),
+    // A dictionary: keys narrow the candidates, and a key chooses one of them.
+    (
+        "trial 1;single 18 65;single 19 66;word c3a9 18 19;word 7a 18 18;choose 2 1;choose 3 2;fields 1;use 1;press 18;show 1;press 3;show 1;end",
+        "show 1 - 0 65;show 1 7a 1 -;",
+    ),
+    (
+        "trial 1;single 18 65;single 19 66;word c3a9 18 19;word 7a 18 18;choose 2 1;choose 3 2;fields 1;use 1;press 18;press 19;press 3;show 1;end",
+        "show 1 - 0 6566;",
+    ),
+    // A candidate is chosen whose keys go on, and the next key begins a new code.
+    (
+        "trial 1;single 18 65;word 61 18;word 6162 18 19;choose 3 2;fields 1;use 1;press 18;press 3;press 18;show 1;end",
+        "show 1 6162 2 65;",
+    ),
+    // A code of 16 keys, and no key more.
+    (
+        "trial 1;single 5 65;word 7a 5 5 5 5 5 5 5 5 5 5 5 5 5 5 5 5;choose 2 1;fields 1;use 1;press 5;press 5;press 5;press 5;press 5;press 5;press 5;press 5;press 5;press 5;press 5;press 5;press 5;press 5;press 5;press 5;press 5;show 1;press 2;show 1;end",
+        "show 1 - 0 65656565656565656565656565656565;show 1 7a 1 -;",
+    ),
+    // An activation in the middle of a code empties it.
+    (
+        "trial 1;single 18 65;single 19 66;word 7a 18 19;fields 2;use 1;press 18;use 2;press 19;show 1;show 2;end",
+        "show 1 - 0 -;show 2 66 1 -;",
+    ),
+    // A key that erases takes the last key back, and without a code it does nothing.
+    (
+        "trial 1;single 18 65;single 19 66;word 7a 18 19 18;erase 14;fields 1;use 1;press 14;press 18;press 19;show 1;press 14;show 1;press 14;press 19;show 1;end",
+        "show 1 - 0 6566;show 1 - 0 65;show 1 66 1 -;",
+    ),
+    // Without a word the method composes, whatever lines of control keys there are.
+    (
+        "trial 1;single 2 61;single 40 27;compose c3a9 40 14;choose 2 1;erase 14;fields 1;use 1;press 2;press 40;press 14;show 1;end",
+        "show 1 61c3a9 3 -;",
+    ),
 ];
 
 #[test]
@@ -119,7 +153,7 @@ fn scripts_show_what_is_typed(rt: HostRuntime) -> Result<(), Fail> {
     Ok(())
 }
 
-const BAD: [(&str, u64, &str); 8] = [
+const BAD: [(&str, u64, &str); 10] = [
     ("", 1, ""),
     ("trial 2", 1, ""),
     ("trial 1;show 1;end", 2, ""),
@@ -136,6 +170,13 @@ const BAD: [(&str, u64, &str); 8] = [
         "",
     ),
     ("trial 1;fields 17;end", 2, ""),
+    // A script has sequences or words.
+    (
+        "trial 1;word 61 1;single 2 62;compose c3a9 40 18;fields 1;end",
+        4,
+        "",
+    ),
+    ("trial 1;compose c3a9 40 18;word 61 1;fields 1;end", 3, ""),
 ];
 
 #[test]
@@ -214,6 +255,28 @@ fn a_method_whose_peer_ended_types_nothing_more(rt: HostRuntime) -> Result<(), F
     let wanted = [("show 1 62", 1), ("61", 2000), ("64 2002 -;", 1)];
     equal(&rt, shows_all(alloc, script.as_str(), &wanted)?, true);
     Ok(())
+}
+
+// As many words as a dictionary has, and so many more.
+fn many_words(more: usize) -> [(&'static str, usize); 4] {
+    [
+        ("trial 1;single 18 65;choose 2 1;", 1),
+        ("word 61 18 19;", 16_384),
+        ("word 62 18;", more),
+        ("fields 1;use 1;press 18;press 2;show 1;end;", 1),
+    ]
+}
+
+#[test]
+fn a_dictionary_has_as_many_words_as_it_may(rt: HostRuntime) -> Result<(), Fail> {
+    let alloc = rt.alloc();
+    let (most, over) = (lines(alloc, &many_words(0))?, lines(alloc, &many_words(1))?);
+    equal(
+        &rt,
+        shows_at_last(alloc, most.as_str(), "show 1 61 1 -\n"),
+        true,
+    );
+    is_bad(&rt, alloc, over.as_str(), 16_388, "")
 }
 
 // A text that is filled by batches, and a letter more.

@@ -4,7 +4,7 @@ use std::test::Fail;
 use trial_script::{Ending, read_script};
 
 /// A script, how many fields and actions it has, and where it ends.
-static SCRIPTS: [(&str, u32, usize, Ending); 9] = [
+static SCRIPTS: [(&str, u32, usize, Ending); 19] = [
     ("", 0, 0, Ending::Unended(1)),
     ("trial 2\n", 0, 0, Ending::BadLine(1)),
     ("trial 1\nfields 1\nuse 1\nend\nrest", 1, 1, Ending::End),
@@ -33,6 +33,38 @@ static SCRIPTS: [(&str, u32, usize, Ending); 9] = [
         2,
         8,
         Ending::BadLine(11),
+    ),
+    // A dictionary: words of 1 and of 16 keys, equal ones, and several keys that erase.
+    (
+        "trial 1\nword 7a 18\nword 7a 18\nword 61 1 2 3 4 5 6 7 8 9 10 11 12 13 14 15 16\nchoose 20 1\nchoose 21 9\nerase 22\nerase 23\nfields 1\nend\n",
+        1,
+        0,
+        Ending::End,
+    ),
+    (
+        "trial 1\nword 61 1 2 3 4 5 6 7 8 9 10 11 12 13 14 15 16 17\n",
+        0,
+        0,
+        Ending::BadLine(2),
+    ),
+    ("trial 1\nword 61\n", 0, 0, Ending::BadLine(2)),
+    ("trial 1\nword - 1\n", 0, 0, Ending::BadLine(2)),
+    ("trial 1\nchoose 2 10\n", 0, 0, Ending::BadLine(2)),
+    ("trial 1\nchoose 2 0\n", 0, 0, Ending::BadLine(2)),
+    // A control key has one meaning and stands in no word, and a number has one key.
+    ("trial 1\nchoose 2 1\nerase 2\n", 0, 0, Ending::BadLine(3)),
+    (
+        "trial 1\nchoose 2 1\nchoose 3 1\n",
+        0,
+        0,
+        Ending::BadLine(3),
+    ),
+    ("trial 1\nerase 2\nword 61 1 2\n", 0, 0, Ending::BadLine(3)),
+    (
+        "trial 1\nword 61 1 2\nchoose 2 1\n",
+        0,
+        0,
+        Ending::BadLine(3),
     ),
 ];
 

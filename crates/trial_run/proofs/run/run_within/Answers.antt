@@ -8,7 +8,7 @@ use Rattle.trial_run.proofs.run.run_within.Goals as goal
 
 pub returns : goal.returns
 returns c =
-    let read = c.in_ok-table in
+    let read = c.in_ok-rules in
     let s : Script = read.field-0 in
     let start = c.in_ok-trial.ensures ∙ ap (unplayed c.args.limits) c.in_ok-typist.ensures in
     let run : IsRun (trial_played c.args.limits s) c.script-played.result c.script-played.new.self =
