@@ -1,12 +1,12 @@
 -- The kinds of words after a line's first: each is read as the value that it spells, and as no other.
-use Rattle.std.proofs.Common.{◌≡◌, ℕ, ◌*◌, ◌+◌, ◌^◌, ◌<◌, ◌≤◌, true, leb, ◌&&◌, List, length, Option, Some, None, refl, subst, arith}
+use Rattle.std.proofs.Common.{◌≡◌, ℕ, ◌*◌, ◌+◌, ◌^◌, ◌<◌, ◌≤◌, Bool, true, leb, ◌&&◌, List, length, Option, Some, None, refl, subst, arith}
 use Rattle.std.specs.Prelude.{codes, IsTrue}
 use Rattle.std.specs.Fmt.{decimal, signed_decimal}
 use Rattle.std.proofs.lemmas.Bool.{and_parts, leb-true, le-leb}
 use Rattle.std.proofs.lemmas.Fmt.{length-decimal-le, length_signed_le}
 use lib.IntN.{ℤ, pos, negsuc}
 use Rattle.relay_model.specs.declared.role.Role.{Role}
-use Rattle.relay_model.specs.declared.role.Role.TheVariants.{App, Method}
+use Rattle.relay_model.specs.declared.role.Role.TheVariants.{App, Method, Keyed}
 use Rattle.seat_steps.specs.Ranges.{is_size}
 use Rattle.session_text.specs.Words.{IsTextWithin, IsBytesWithin, fits_i32, hex_word, role_word, number_of, long_number_of, signed_of, size_of, state_of, text_of, bytes_of, count_of, role_of}
 use Rattle.seat_steps.specs.Ranges.{IsWithin}
@@ -137,20 +137,31 @@ role_sound : (word : List ℕ) (role : Role) → role_of word ≡ Some role → 
 unfolding role_of
 role_sound word role e =
     arm word (codes "app") (Some App) _ role e (λ is one. let same : App ≡ role = cc in subst (λ r. Unit {0} × (word ≡ role_word r)) same (tt, is)) (λ e.
-    arm word (codes "method") (Some Method) None role e (λ is one. let same : Method ≡ role = cc in subst (λ r. Unit {0} × (word ≡ role_word r)) same (tt, is)) (λ e. absurd (cc e)))
+    arm word (codes "method") (Some Method) _ role e (λ is one. let same : Method ≡ role = cc in subst (λ r. Unit {0} × (word ≡ role_word r)) same (tt, is)) (λ e.
+    arm word (codes "keyed") (Some Keyed) None role e (λ is one. let same : Keyed ≡ role = cc in subst (λ r. Unit {0} × (word ≡ role_word r)) same (tt, is)) (λ e. absurd (cc e))))
 
 role_complete : (role : Role) → Unit {0} → role_of (role_word role) ≡ Some role
 unfolding role_of
 role_complete App h = refl
 role_complete Method h = refl
+role_complete Keyed h = refl
 
-role_clean : (b : ℕ) → (lacks b (codes "app") && lacks b (codes "method")) ≡ true → (role : Role) → Unit {0} → lacks b (role_word role) ≡ true
-role_clean b test App h = (and_parts (lacks b (codes "app")) (lacks b (codes "method")) test).0
-role_clean b test Method h = (and_parts (lacks b (codes "app")) (lacks b (codes "method")) test).1
+-- no name of a role has the byte
+abbrev all_lack : ℕ → Bool
+all_lack b = lacks b (codes "app") && (lacks b (codes "method") && lacks b (codes "keyed"))
+
+role_clean : (b : ℕ) → all_lack b ≡ true → (role : Role) → Unit {0} → lacks b (role_word role) ≡ true
+role_clean b test role h = by role (and_parts (lacks b (codes "app")) _ test)
+  where
+    by : (r : Role) → (lacks b (codes "app") ≡ true) × ((lacks b (codes "method") && lacks b (codes "keyed")) ≡ true) → lacks b (role_word r) ≡ true
+    by App each = each.0
+    by Method each = (and_parts (lacks b (codes "method")) (lacks b (codes "keyed")) each.1).0
+    by Keyed each = (and_parts (lacks b (codes "method")) (lacks b (codes "keyed")) each.1).1
 
 role_short : (role : Role) → Unit {0} → length (role_word role) ≤ 6
 role_short App h = omega arith
 role_short Method h = omega arith
+role_short Keyed h = omega arith
 
 pub roles : Kind role_of role_word (λ role. Unit {0}) 6
 roles = record {

@@ -10,7 +10,7 @@ use Rattle.popup_place.specs.declared.geometry.Size.{Size}
 use Rattle.wl_wire.specs.Texts.{IsBytes, IsText, is_text}
 use Rattle.seat_steps.specs.Ranges.{is_size}
 use Rattle.relay_model.specs.declared.role.Role.{Role}
-use Rattle.relay_model.specs.declared.role.Role.TheVariants.{App, Method}
+use Rattle.relay_model.specs.declared.role.Role.TheVariants.{App, Method, Keyed}
 
 -- the most bytes of a text that stands alone in its request (zwp_input_method_v2.commit_string)
 abbrev pub text_limit : ℕ
@@ -60,6 +60,7 @@ IsArea rect =
 abbrev pub role_word : Role → List ℕ
 role_word App = codes "app"
 role_word Method = codes "method"
+role_word Keyed = codes "keyed"
 
 -- a text or bytes as a word: pairs of lower-case hex digits, or a dash where there are none
 abbrev pub hex_word : List ℕ → List ℕ
@@ -135,7 +136,10 @@ numbers_of (word ∷ words) = number_of word >>= (λ n. numbers_of words >>= (λ
 
 -- the role that is written so
 unfoldable pub role_of : List ℕ → Option Role
-role_of word = if bytes_eq word (codes "app") then Some App else if bytes_eq word (codes "method") then Some Method else None
+role_of word =
+    if bytes_eq word (codes "app") then Some App
+    else if bytes_eq word (codes "method") then Some Method
+    else if bytes_eq word (codes "keyed") then Some Keyed else None
 
 abbrev pub decoded : ℕ → List ℕ → Result (List ℕ) FromHexError → Option (List ℕ)
 decoded limit word (Ok bytes) =

@@ -5,7 +5,7 @@ use Rattle.session_text.specs.declared.line.Form.TheVariants.{Session, Session2,
 use Rattle.session_text.specs.declared.line.Line.{Line}
 use Rattle.session_text.specs.declared.line.Line.TheVariants as lines
 use Rattle.session_text.specs.declared.line.SessionLine.TheVariants as sessions
-use Rattle.relay_model.specs.declared.role.Role.TheVariants.{App, Method}
+use Rattle.relay_model.specs.declared.role.Role.TheVariants.{App, Method, Keyed}
 use Rattle.seat_steps.specs.declared.stamp.Stamp.{Stamp}
 use Rattle.seat_steps.specs.declared.step.ShellStep.TheVariants as shells
 use Rattle.session_text.specs.Words.{rect}
@@ -25,6 +25,7 @@ pub record WorkedLines : Type 0 where
   pub header :
       Says Session (codes "session 1 1000000 65536") (lines.Header (record { entries = 1000000; store = 65536; weight = 134217728 }))
   pub join : Says Session (codes "join method") (lines.Session (sessions.Join Method))
+  pub keyed : Says Session (codes "join keyed") (lines.Session (sessions.Join Keyed))
   pub enable :
       Says Session (codes "bytes 1 0700000001000800")
       (lines.Session (sessions.Bytes 1 (7 ∷ 0 ∷ 0 ∷ 0 ∷ 1 ∷ 0 ∷ 8 ∷ 0 ∷ [])))

@@ -87,6 +87,8 @@ pub fn role(word: &[u8]) -> Result<Role, BadLine>
         Ok(Role::App)
     } else if is(word, b"method".as_slice()) {
         Ok(Role::Method)
+    } else if is(word, b"keyed".as_slice()) {
+        Ok(Role::Keyed)
     } else {
         Err(BadLine::Grammar)
     }

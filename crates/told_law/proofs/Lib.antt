@@ -11,3 +11,4 @@ pub mod ToldIsRead
 pub mod MessagesTold
 pub mod MessagesPut
 pub mod AllHeard
+pub mod BoardsTold

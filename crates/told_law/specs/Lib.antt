@@ -1,2 +1,3 @@
 pub mod Sayable
 pub mod ToldRead
+pub mod BoardsApart

@@ -1,7 +1,8 @@
 //! What is told is read: the laws of a journal's messages, over the definitions alone. The bodies
-//! are empty: the laws are the contracts.
+//! do nothing: the laws are the contracts.
 #![tactic(auto)]
 
+ghost use Rattle.told_law.specs.BoardsApart.{BoardsAreApart};
 ghost use Rattle.told_law.specs.ToldRead.{ActsAreSayable, ToldIsWritable, ToldToItsKind};
 ghost use Rattle.told_law.specs.ToldRead.{WritableIsRead, ToldIsRead, AllIsHeard};
 
@@ -34,6 +35,17 @@ pub fn told_is_writable()
 pub fn told_is_read()
     ensures { ToldIsRead }
 {}
+
+/// The board law, for every journal: a key of a virtual keyboard is told where its route leads, its
+/// modifiers where its grab is, and nothing else of boards is told; and what is relayed to each
+/// field is the same with `Idle` in the place of each act of boards.
+pub fn boards_are_apart()
+    ensures { BoardsAreApart }
+{
+    relay_core::board_law();
+    broker_model::board_law();
+    relay_model::boards_relay_nothing();
+}
 
 /// All that a journal of entries that a program can hold puts for a peer are messages one behind
 /// the other, and each is read by a client whose objects are that peer's; a keymap, where the token

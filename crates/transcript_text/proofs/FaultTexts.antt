@@ -6,7 +6,7 @@ use Rattle.std.proofs.lemmas.Bool.{and_parts, ltb-true}
 use Rattle.hex.specs.Hex.{encode_lower, IsBytes}
 use Rattle.wl_wire.specs.Texts.{has_no_zero}
 use Rattle.relay_model.specs.declared.fault.Fault.{Fault}
-use Rattle.relay_model.specs.declared.fault.Fault.TheVariants.{Size, Object, Opcode, Malformed, Argument, NewId, TooMany, Bind, Capability, Role}
+use Rattle.relay_model.specs.declared.fault.Fault.TheVariants.{Size, Object, Opcode, Malformed, Argument, NewId, TooMany, Bind, Capability, Role, NoKeymap}
 use Rattle.relay_model.specs.Faults.{text_of}
 use Rattle.session_text.specs.Words.{hex_word}
 use Rattle.session_text.proofs.LinesSplit.{zero as zero_outside, encoded_lacks}
@@ -22,6 +22,7 @@ fault_word TooMany = refl
 fault_word Bind = refl
 fault_word Capability = refl
 fault_word Role = refl
+fault_word NoKeymap = refl
 
 below : (bs : List ℕ) → list_all (λ x. nat_lt x 256) bs ≡ true → IsBytes bs
 below [] h i = omega arith
@@ -39,6 +40,7 @@ fault_below TooMany = refl
 fault_below Bind = refl
 fault_below Capability = refl
 fault_below Role = refl
+fault_below NoKeymap = refl
 
 pub fault_clean : (fault : Fault) → has_no_zero (encode_lower (text_of fault)) ≡ true
 fault_clean fault = encoded_lacks 0 zero_outside (text_of fault) (below (text_of fault) (fault_below fault))

@@ -26,6 +26,7 @@ fn join_line(alloc: Global, role: Role) -> Result<String, NoMemory>
     match role {
         Role::App => Ok(String::from_str(alloc, "join app")?),
         Role::Method => Ok(String::from_str(alloc, "join method")?),
+        Role::Keyed => Ok(String::from_str(alloc, "join keyed")?),
     }
 }
 

@@ -15,6 +15,7 @@ returns-clause-lines c =
     record {
       header = refl;
       join = refl;
+      keyed = refl;
       enable = refl;
       gone = refl;
       take = refl;
