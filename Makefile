@@ -2,7 +2,9 @@
 # compares what it makes of all examples, and `make cost` counts the instructions of a step (by valgrind): both want the
 # program built. `make test` is the gate; `make gate-cost` runs it from nothing, on a machine that does nothing else, and
 # prints what each crate costs; `make claims` checks that each README names calls and clauses that are there.
-.PHONY: demo build examples test gate-cost cost claims
+# `make libwlim` proves and makes the library for C, in out/libwlim, and holds its header against it; `make embed` also
+# plays act lists through it, beside the program.
+.PHONY: demo build examples test gate-cost cost claims libwlim embed
 demo:
 	cd crates/wlim && rt try -- replay-acts < ../../examples/one_string.acts
 
@@ -24,3 +26,10 @@ cost:
 
 claims:
 	python3 tools/claims.py
+
+libwlim:
+	cd crates/wlim_c && rt lib
+	tools/libwlim.sh
+
+embed: libwlim
+	tests/embed.sh crates/wlim/out/wlim

@@ -1,0 +1,4 @@
+pub mod Held
+pub mod Took
+pub mod Gave
+pub mod Shown

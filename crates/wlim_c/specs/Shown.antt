@@ -1,0 +1,36 @@
+-- What C is shown of a seat.
+use Rattle.std.specs.Prelude.{◌≡◌, ℕ, List, length, Bool, true, false, Option, Some, None}
+use Rattle.relay_model.specs.declared.act.Act.{Act}
+use Rattle.relay_model.specs.Focus.{focus}
+use Rattle.relay_model.specs.Hold.{holder}
+use Rattle.relay_model.specs.Activation.{serving}
+use Rattle.relay_model.specs.Keys.{standing}
+use Rattle.relay_model.specs.Idle.{history}
+use Rattle.relay_seat.specs.Events.{Heard}
+use Rattle.relay_seat.specs.Seated.{Seat, Seated}
+use Rattle.wlim_c.specs.declared.readers.Shown.{Shown}
+
+-- the label, or 0 where there is none
+abbrev pub label_or_0 : Option ℕ → ℕ
+label_or_0 None = 0
+label_or_0 (Some label) = label
+
+-- what is shown after the acts, the newest first
+abbrev pub shown_of : List Act → Shown
+shown_of log = record {
+  acts = length log;
+  focus = label_or_0 (focus (history log));
+  holder = label_or_0 (holder (history log));
+  serving = label_or_0 (serving (history log));
+  standing = label_or_0 (standing (history log));
+}
+
+-- What C had was asked: none, which is answered by false, with nothing written. Or a seat, which
+-- stands for the same acts, and the same events wait.
+abbrev pub IsShown : (old new : Option Seat) → (before after : Shown) → Bool → Type 0
+IsShown None new before after result = (new ≡ None) × (result ≡ false) × (after ≡ before)
+IsShown (Some old) None before after result = ⊥
+IsShown (Some old) (Some new) before after result =
+    (result ≡ true)
+    × ((log : List Act) → (waits : List Heard) → Seated old log waits →
+    Seated new log waits × (after ≡ shown_of log))

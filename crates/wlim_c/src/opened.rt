@@ -1,0 +1,159 @@
+//! A seat as a program in C has it: opened and closed, given acts, and asked for events.
+ghost use Rattle.std.specs.Prelude.{◌≡◌, ◌<◌, None, Some, is_some, option_map, length, OnOk};
+ghost use Rattle.wlim_c.specs.Took.{Took, TextRead, IsNewOr, answer_of};
+ghost use Rattle.wlim_c.specs.Gave.{Gave, GaveOf};
+
+use crate::answer;
+use crate::held::Held;
+use relay_model::{Act, Label, Text};
+use relay_seat::{Event, Refusal, RelaySeat};
+use std::alloc::Global;
+use std::mem::replace;
+
+/// A seat, or none. All zero is none.
+#[repr(C)]
+#[derive(Drop)]
+pub struct Wlim {
+    pub live: bool,
+    pub held: Held,
+    ghost holds: { live ≡ is_some held.seat },
+}
+
+/// How many bytes a text may have that a message carries alone.
+pub(crate) const ALONE: usize = 4083;
+
+/// How many beside two numbers.
+pub(crate) const BESIDE_NUMBERS: usize = 4075;
+
+// Takes the seat out.
+pub(crate) fn taken(w: &mut Wlim, alloc: Global) -> Option<Box<RelaySeat>>
+    ensures value { option_map (λ boxed. boxed.value) result ≡ w.old.held.seat }
+    ensures none { w.new.held.seat ≡ None }
+{
+    let Wlim { live, held } = replace(
+        w,
+        Wlim {
+            live: false,
+            held: Held::nothing(alloc),
+        },
+    );
+    if live { Some(held.into_box()) } else { None }
+}
+
+// Puts a seat in.
+pub(crate) fn put(w: &mut Wlim, seat: Box<RelaySeat>)
+    ensures { w.new.held.seat ≡ Some seat.value }
+{
+    let _ = replace(
+        w,
+        Wlim {
+            live: true,
+            held: Held::of_box(seat),
+        },
+    );
+}
+
+// What C is answered.
+fn answer_of(answer: Result<Option<Label>, Refusal>) -> i64
+    ensures { result ≡ answer_of answer }
+{
+    match answer {
+        Ok(Some(number)) => i64::from(number),
+        Ok(None) => answer::NOTHING,
+        Err(Refusal::NoMemory) => answer::NO_MEMORY,
+        Err(Refusal::Full) => answer::FULL,
+        Err(Refusal::Long) => answer::LONG,
+    }
+}
+
+// A copy of the bytes as a text, of so many at most, or what C is answered.
+pub(crate) fn text_in(alloc: Global, bytes: &[u8], most: usize) -> Result<Text, i64>
+    ensures { TextRead most bytes.now result }
+{
+    if bytes.len() > most {
+        return Err(answer::LONG);
+    }
+    let Ok(copy) = Vec::from_slice(alloc, bytes) else {
+        return Err(answer::NO_MEMORY);
+    };
+    match Text::from_bytes(copy) {
+        Ok(text) => Ok(text),
+        Err(_) => Err(answer::NO_TEXT),
+    }
+}
+
+// Has the seat take an act.
+pub(crate) fn take(w: &mut Wlim, alloc: Global, act: Act) -> i64
+    ensures { Took w.old.held.seat w.new.held.seat act result }
+{
+    let Some(mut seat) = taken(w, alloc) else {
+        return answer::CLOSED;
+    };
+    let answer = seat.take(&act);
+    put(w, seat);
+    answer_of(answer)
+}
+
+/// Opens a seat that took no act. One that is open is closed before. False where there is no memory: nothing is open
+/// then.
+#[unsafe(no_mangle)]
+pub extern "C" fn wlim_open(seat: &mut Wlim, alloc: Global) -> bool
+    ensures { IsNewOr result seat.new.held.seat }
+{
+    wlim_close(seat, alloc);
+    let Ok(made) = RelaySeat::new(alloc) else {
+        return false;
+    };
+    let Ok(boxed) = Box::new(alloc, made) else {
+        return false;
+    };
+    put(seat, boxed);
+    true
+}
+
+/// Closes the seat, and gives back all its memory. What isn't open stays so.
+#[unsafe(no_mangle)]
+pub extern "C" fn wlim_close(seat: &mut Wlim, alloc: Global)
+    ensures { seat.new.held.seat ≡ None }
+{
+    drop(taken(seat, alloc));
+}
+
+// Hands out the event that waits longest, and writes its text with a zero behind it.
+fn give(seat: &mut RelaySeat, event: &mut Event, text: &mut [u8]) -> i64
+    ensures { Gave seat.old seat.new event.old event.new text.old text.new result }
+{
+    let Some(first) = seat.first() else {
+        return answer::NOTHING;
+    };
+    if text.len() <= first.length {
+        return answer::SHORT;
+    }
+    let Ok(Some(handed)) = seat.pull(text) else {
+        return answer::NOTHING;
+    };
+    text[handed.length] = 0;
+    *event = handed;
+    answer::GIVEN
+}
+
+/// Hands out the event that waits longest: writes it to `event`, and to `text` its text with a zero behind it. 1 with
+/// an event, 0 where none waits. Where `text` has no room for the text and the zero, the event waits on, and nothing is
+/// written; with 4,084 bytes there is room always.
+#[unsafe(no_mangle)]
+pub extern "C" fn wlim_next(
+    seat: &mut Wlim,
+    alloc: Global,
+    event: &mut Event,
+    text: &mut [u8],
+) -> i64
+    ensures { GaveOf seat.old.held.seat seat.new.held.seat event.old event.new text.old text.new
+        result }
+{
+    let Some(mut boxed) = taken(seat, alloc) else {
+        return answer::CLOSED;
+    };
+    let answer = give(&mut boxed, event, text);
+    put(seat, boxed);
+    answer
+}

@@ -1,0 +1,22 @@
+#!/usr/bin/env bash
+# Builds the act player in C over out/libwlim, and holds what it prints against the program, over the worked rows and lists
+# made from numbers; again with the address sanitizer and under valgrind. `make build` and `make libwlim` come before.
+#
+#   tests/embed.sh PROGRAM [LISTS]
+set -e
+cd "$(dirname "$0")/.."
+program=$1
+lists=${2:-1000}
+export PKG_CONFIG_PATH=out/libwlim/lib/pkgconfig
+made=out/embed
+mkdir -p "$made"
+flags="-std=c11 -D_POSIX_C_SOURCE=200809L -Wall -Wextra -Werror -g $(pkg-config --cflags wlim)"
+player=examples/embed/play_acts.c
+library=out/libwlim/lib/libwlim.a
+${CC:-cc} $flags -o "$made/play_acts" "$player" "$library"
+${CC:-cc} $flags -fsanitize=address,undefined -o "$made/play_acts_checked" "$player" "$library"
+${CC:-cc} $flags -o "$made/play_acts_shared" "$player" $(pkg-config --libs wlim) -Wl,-rpath,"$PWD/out/libwlim/lib"
+tests/embed.py "$program" "$made/play_acts" "$lists"
+tests/embed.py "$program" "$made/play_acts_checked" 100
+tests/embed.py "$program" "$made/play_acts_shared" 20
+tests/embed.py "$program" "valgrind -q --leak-check=full --error-exitcode=9 $made/play_acts" 20
