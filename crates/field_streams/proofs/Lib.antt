@@ -1,0 +1,4 @@
+pub mod MessagesPassed
+pub mod StreamsCompared
+pub mod PiecesHeard
+pub mod EventsRead

@@ -1,0 +1,4 @@
+pub mod Heard
+pub mod Values
+pub mod Passing
+pub mod Comparing
