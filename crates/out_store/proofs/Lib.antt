@@ -1,4 +1,4 @@
-pub mod Cells
-pub mod Places
-pub mod Runs
-pub mod Stored
+pub mod CellsMove
+pub mod PlacesWrap
+pub mod StoreCalls
+pub mod StoreStandsFor

@@ -5,7 +5,7 @@ use Rattle.std.proofs.lemmas.Bool.Decides.{nat_tests}
 use Rattle.out_store.specs.declared.begins.Begin.{Begin}
 use Rattle.out_store.specs.Ring.{distance, offsets, placed, begun_count}
 use Rattle.out_store.specs.Spacing.{IsSpaced}
-use Rattle.out_store.proofs.Cells.{raise, IsSpaced-room}
+use Rattle.out_store.proofs.CellsMove.{raise, IsSpaced-room}
 
 -- as the front moves on by n, a place that is at least n past it is n nearer
 pub distance-moves : (front place n : ℕ) → front < 2 ^ 64 → n ≤ distance front place →

@@ -7,8 +7,8 @@ use Rattle.out_store.specs.declared.begins.Begin.{Begin}
 use Rattle.out_store.specs.Queue.{Cell, cells_from, cells_of, tokens_of}
 use Rattle.out_store.specs.Ring.{offsets, placed, begun_count}
 use Rattle.out_store.specs.Spacing.{IsSpaced}
-use Rattle.out_store.proofs.Cells.{raise, IsSpaced-room, IsSpaced-append, IsSpaced-begun, IsSpaced-lower, cells_of-append, cells_from-begun, cells_from-raise, drop-cells_from, tokens_of-take}
-use Rattle.out_store.proofs.Places.{offsets-append, offsets-placed, offsets-moves}
+use Rattle.out_store.proofs.CellsMove.{raise, IsSpaced-room, IsSpaced-append, IsSpaced-begun, IsSpaced-lower, cells_of-append, cells_from-begun, cells_from-raise, drop-cells_from, tokens_of-take}
+use Rattle.out_store.proofs.PlacesWrap.{offsets-append, offsets-placed, offsets-moves}
 
 pub length-offsets : (front : ℕ) (begins : List Begin) → length (offsets front begins) ≡ length begins
 length-offsets front [] = refl

@@ -1,6 +1,6 @@
 use Rattle.std.proofs.Common.{ap}
 use Rattle.out_store.specs.Queue.{Queue}
-use Rattle.out_store.proofs.Stored.{is_empty-cells}
+use Rattle.out_store.proofs.StoreStandsFor.{is_empty-cells}
 use Rattle.out_store.proofs.Store.is_empty.Goals as goal
 
 pub returns : goal.returns

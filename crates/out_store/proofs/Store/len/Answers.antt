@@ -1,6 +1,6 @@
 use Rattle.std.proofs.Common.{sym, ap, ◌∙◌, length}
 use Rattle.out_store.specs.Queue.{Queue}
-use Rattle.out_store.proofs.Cells.{length-cells_from}
+use Rattle.out_store.proofs.CellsMove.{length-cells_from}
 use Rattle.out_store.proofs.Store.len.Goals as goal
 
 pub returns-clause-count : goal.returns-clause-count

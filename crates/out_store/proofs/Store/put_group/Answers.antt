@@ -1,8 +1,8 @@
 use Rattle.std.proofs.Common.{◌≡◌, length, List, take, ap, arith, rules}
 use Rattle.std.proofs.lemmas.Grind.{common_steps}
 use Rattle.out_store.specs.Queue.{Cell, queue}
-use Rattle.out_store.proofs.Cells.{length-cells_from}
-use Rattle.out_store.proofs.Stored.{tokens-fit, IsSpaced-put, cells_of-put}
+use Rattle.out_store.proofs.CellsMove.{length-cells_from}
+use Rattle.out_store.proofs.StoreStandsFor.{tokens-fit, IsSpaced-put, cells_of-put}
 use Rattle.out_store.proofs.Store.put_group.Goals as goal
 
 pub returns-then-group-capacity-clause-fits : goal.returns-then-group-capacity-clause-fits

@@ -1,7 +1,7 @@
 use Rattle.std.proofs.Common.{length, length-drop, List, ap, ◌∙◌, arith, rules}
 use Rattle.out_store.specs.Queue.{Cell, queue}
-use Rattle.out_store.proofs.Cells.{length-cells_from, begun_count-room, bytes_of-take}
-use Rattle.out_store.proofs.Stored.{IsSpaced-taken, cells_of-taken, tokens_of-taken, length-tokens_of-taken}
+use Rattle.out_store.proofs.CellsMove.{length-cells_from, begun_count-room, bytes_of-take}
+use Rattle.out_store.proofs.StoreStandsFor.{IsSpaced-taken, cells_of-taken, tokens_of-taken, length-tokens_of-taken}
 use Rattle.out_store.proofs.Store.take.Goals as goal
 
 pub take_begun-count-requires : goal.take_begun-count-requires

@@ -1,6 +1,6 @@
 use Rattle.std.proofs.Common.{ap, arith, add-one, drop-drop}
 use Rattle.circular_buffer.specs.Buffer.{Buffer}
-use Rattle.out_store.proofs.Places.{begun_count-front, begun_count-beyond, begun_count-none, moved-more}
+use Rattle.out_store.proofs.PlacesWrap.{begun_count-front, begun_count-beyond, begun_count-none, moved-more}
 use Rattle.out_store.specs.declared.begins.Begin.{Begin}
 use Rattle.out_store.proofs.begins.take_begun.Goals as goal
 
