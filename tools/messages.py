@@ -45,6 +45,20 @@ def input_method():
     ]
 
 
+def keyed_method():
+    """What an input method sends first that has a virtual keyboard: its method is 5 as before, and its board 7."""
+    return input_method() + [bind(2, 5, "zwp_virtual_keyboard_manager_v1", 6), message(6, 0, word(3), word(7))]
+
+
+def board_keymap(form, size, board=7):
+    """zwp_virtual_keyboard_v1.keymap, whose descriptor is the first token that waits."""
+    return message(board, 0, word(form), word(size))
+
+
+def board_key(time, key, state, board=7):
+    return message(board, 1, word(time), word(key), word(state))
+
+
 def enable(field=7):
     return message(field, 1)
 

@@ -10,33 +10,35 @@ replays each of them.
 import os
 import sys
 
-from messages import (application, commit, commit_batch, commit_string, cursor_rectangle, delete, disable, enable,
-                      input_method, message, preedit, surrounding, text, word)
+from messages import (application, board_key, board_keymap, commit, commit_batch, commit_string, cursor_rectangle, delete,
+                      disable, enable, input_method, keyed_method, message, preedit, surrounding, text, word)
 
 FOLDER = os.path.join(os.path.dirname(os.path.abspath(__file__)), "..", "examples")
 
 
 class Session:
-    """The lines of a session. Peers are numbered from 1 as they join."""
+    """The lines of a session. Peers are numbered from 1 as they join. Where tokens come it has form 2."""
 
-    def __init__(self, entries=1000, store=4096):
-        self.lines = [f"session 1 {entries} {store}"]
+    def __init__(self, entries=1000, store=4096, form=1):
+        self.header = f"session {form} {entries} {store}" + (" 134217728" if form == 2 else "")
+        self.stamp = "0 0 " if form == 2 else ""
+        self.lines = []
         self.peers = 0
 
     def join(self, role, *messages):
-        self.lines.append(f"join {role}")
+        self.say(f"join {role}")
         self.peers += 1
         self.send(self.peers, *messages)
         return self.peers
 
     def send(self, peer, *messages):
-        self.lines += [f"bytes {peer} {sent.hex()}" for sent in messages]
+        self.say(*[f"bytes {peer} {sent.hex()}" for sent in messages])
 
     def say(self, *lines):
-        self.lines += lines
+        self.lines += [self.stamp + line for line in lines]
 
     def text(self):
-        return "\n".join(self.lines + ["end"]) + "\n"
+        return "\n".join([self.header] + self.lines + ["end"]) + "\n"
 
 
 def typing(session):
@@ -111,6 +113,25 @@ def keys_through_a_grab():
     return session
 
 
+def key_given_back():
+    """A method gives back the key that it doesn't compose: that passes by its own grab, behind its commit."""
+    session = Session(form=2)
+    app = session.join("app", *application())
+    method = session.join("keyed", *keyed_method())
+    session.say(f"focus {app} 6", "keymap 1 9 100")
+    session.send(app, enable(), commit())
+    session.send(method, message(5, 5, word(8)))
+    session.say(f"tokens {method} 9")
+    session.send(method, board_keymap(1, 100))
+    session.say("key 10 30 1", "key 20 30 0")
+    session.send(method, preedit("a", 1, 1), commit_batch(1))
+    session.say("key 30 28 1")
+    session.send(method, commit_string("a"), commit_batch(1), board_key(30, 28, 1))
+    session.say("key 40 28 0")
+    session.send(method, board_key(40, 28, 0))
+    return session
+
+
 def popup_at_the_edge():
     """A method's popup follows the cursor; where it would leave the screen it goes above, and is moved in."""
     session = Session()
@@ -151,7 +172,7 @@ def disable_in_time():
 
 
 STORIES = [stale_serial, field_loses_the_seat, peer_that_stops_reading, preedit_and_deletion, keys_through_a_grab,
-           popup_at_the_edge, hostile_peer, disable_in_time]
+           key_given_back, popup_at_the_edge, hostile_peer, disable_in_time]
 
 
 def main():

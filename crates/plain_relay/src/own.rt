@@ -218,8 +218,7 @@ fn tell_offers(
 fn tell_globals(registry: Label, role: Role, told: &mut Vec<Told>) -> Result<(), NoMemory>
     ensures { Tells result told.old told.new (globals_told registry role) }
 {
-    let offers = role.globals();
-    tell_offers(registry, &offers, told)
+    tell_offers(registry, role.globals(), told)
 }
 
 // Tells the callback of a sync its value, and its peer that the id is free again.

@@ -103,7 +103,7 @@ reading_peer : (past : Past) (n : ℕ) (peer : Joined) (x : ℕ) (r : Result Mes
     IsIn (of_reading past n peer x r).made m → m.peer ≡ peer.label
 reading_peer past n peer x (Err e) m i = absurd i
 reading_peer past n peer x (Ok r) m i =
-    request_peer past n peer x r (request_fault past peer.label peer.role (label_at past peer.label) r) m i
+    request_peer past n peer x r (request_fault past peer.label x peer.role (label_at past peer.label) r) m i
 
 message_peer : (past : Past) (n : ℕ) (peer : Joined) (opcode : ℕ) (body : List ℕ) (o : Option Made) (m : Made) →
     IsIn (of_message past n peer opcode body o).made m → m.peer ≡ peer.label
@@ -143,7 +143,7 @@ input_reading : (past : Past) (n : ℕ) (peer : Joined) (x : ℕ) (i : Interface
     (of_reading past n peer x r).made ≡ []
 input_reading past n peer x i opcode body (Err f) e h = refl
 input_reading past n peer x i opcode body (Ok m) e h =
-    input_request past n peer x m (request_fault past peer.label peer.role (label_at past peer.label) m)
+    input_request past n peer x m (request_fault past peer.label x peer.role (label_at past peer.label) m)
     (reading_interface i opcode (past.waiting peer.label) body m h ∙ e)
 
 input_message : (past : Past) (n bound : ℕ) (peer : Joined) (opcode : ℕ) (body : List ℕ) (o : Option Made) →

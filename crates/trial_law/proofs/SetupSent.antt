@@ -94,7 +94,7 @@ message_makes past k n peer s (Some x) h own e =
     peer.label (n + 1))
     (sym reads)
     (request_makes past k n peer x.label s
-    (request_fault past peer.label peer.role (label_at past peer.label) s.message) h own)
+    (request_fault past peer.label x.label peer.role (label_at past peer.label) s.message) h own)
 
 entry_is : (q n : ℕ) (s : Sent) → IsMaking n s →
     message_entry q (bytes_of s) ≡ entries.Message q s.object s.message.opcode (spelling s.message.values)

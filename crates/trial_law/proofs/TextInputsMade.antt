@@ -32,14 +32,15 @@ use Rattle.trial_law.proofs.ClientIds.{either, reading_interface}
 
 -- ---- which request makes a text input
 
-global_other : (a b c : Bool) →
-    (if a then interface.Compositor
-    else (if b then interface.Seat else (if c then interface.TextInputManager else interface.InputMethodManager)))
+global_other : (a b c d : Bool) →
+    (if a then interface.Compositor else (if b then interface.Seat else (if c then interface.TextInputManager
+    else (if d then interface.InputMethodManager else interface.VirtualKeyboardManager))))
     ≡ interface.TextInput → ⊥
-global_other true b c e = cc
-global_other false true c e = cc
-global_other false false true e = cc
-global_other false false false e = cc
+global_other true b c d e = cc
+global_other false true c d e = cc
+global_other false false true d e = cc
+global_other false false false true e = cc
+global_other false false false false e = cc
 
 display_other : (b : Bool) → (if b then interface.Callback else interface.Registry) ≡ interface.TextInput → ⊥
 display_other true e = cc
@@ -60,12 +61,14 @@ only_manager interface.TextInputManager opcode vs new e h = refl
 only_manager interface.Display opcode (word id ∷ []) new e h =
     absurd (display_other (opcode == 0) (named_by _ id new e ∙ h))
 only_manager interface.Registry opcode (word name ∷ text t ∷ word version ∷ word id ∷ []) new e h =
-    absurd (global_other (name == 1) (name == 2) (name == 3) (named_by (global_at name) id new e ∙ h))
+    absurd (global_other (name == 1) (name == 2) (name == 3) (name == 4) (named_by (global_at name) id new e ∙ h))
 only_manager interface.Compositor opcode (word id ∷ []) new e h = (let s = named_by interface.Surface id new e
     ∙ h in cc)
 only_manager interface.Seat opcode (word id ∷ []) new e h = (let s = named_by interface.Seat id new e ∙ h in cc)
 only_manager interface.InputMethodManager opcode (word seat ∷ word id ∷ []) new e h =
     (let s = named_by interface.InputMethod id new e ∙ h in cc)
+only_manager interface.VirtualKeyboardManager opcode (word seat ∷ word id ∷ []) new e h =
+    (let s = named_by interface.VirtualKeyboard id new e ∙ h in cc)
 only_manager interface.InputMethod opcode (word id ∷ word surface ∷ []) new e h =
     (let s = chosen (opcode == 4) interface.InputPopupSurface id new e ∙ h in cc)
 only_manager interface.InputMethod opcode (word id ∷ []) new e h =
@@ -160,7 +163,7 @@ reading_input : (past : Past) (n : ℕ) (peer : Joined) (x : ℕ) (i : Interface
 reading_input past n peer x i opcode body (Err f) m e j h = absurd j
 reading_input past n peer x i opcode body (Ok r) m e j h =
     request_input past n peer x i opcode body r
-    (request_fault past peer.label peer.role (label_at past peer.label) r) m e j h
+    (request_fault past peer.label x peer.role (label_at past peer.label) r) m e j h
 
 -- the act that makes it is one of a live peer
 live_field : (older : List Entry) (n : ℕ) (act : Act) (p x : ℕ) → n ≡ length older + 1 → act ≡ acts.Field p →
