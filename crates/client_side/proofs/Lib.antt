@@ -6,3 +6,4 @@ pub mod EventsInTurn
 pub mod LogGoesOn
 pub mod MethodLogGoesOn
 pub mod PieceRefused
+pub mod HeardInTurn

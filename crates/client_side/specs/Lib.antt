@@ -14,3 +14,4 @@ pub mod MethodSends
 pub mod MethodLog
 pub mod MethodState
 pub mod MethodWorking
+pub mod Heard

@@ -7,10 +7,12 @@ ghost use Rattle.client_side.specs.FieldLog.{changes};
 ghost use Rattle.client_side.specs.FieldState.{new_state, happens, after_event, HasLog, GoesOn};
 ghost use Rattle.client_side.specs.Events.{field_objects};
 ghost use Rattle.client_side.specs.Client.{Accepts, Refuses};
+ghost use Rattle.client_side.specs.Heard.{Hears, happened};
 
 use crate::fault::ClientFault;
 use crate::field_receiving::{hold, take_held};
 use crate::field_state::{FieldState, MOST_SENT};
+use crate::hearer::FieldHearer;
 use std::alloc::Global;
 use std::marker::Model;
 use trial_field::{Edit, TrialField};
@@ -73,8 +75,8 @@ impl FieldClient {
     /// taken, and a cut one waits for its rest.
     ///
     /// `BadEvent` where the bytes so far aren't events of the client's objects and a part of one;
-    /// what stood before is taken, the bytes stay, and from then on each piece is answered so. After `NoMemory` the
-    /// client is as before.
+    /// what stood before is taken, the bytes stay, and from then on each piece is answered so. After
+    /// `NoMemory` the client is as before.
     pub fn receive(&mut self, piece: &[u8]) -> Result<(), ClientFault>
         ensures ok { OnOk result (Accepts field_objects after_event self.old self.new piece.now) }
         ensures bad { result ≡ Err ClientFault.BadEvent → self.old.is_bad ≡ false
@@ -85,11 +87,32 @@ impl FieldClient {
             GoesOn self.old.state self.new.state log sent }
         ensures no_memory { result ≡ Err ClientFault.NoMemory → self.new ≡ self.old }
     {
+        self.receive_heard(piece, &mut ())
+    }
+
+    /// As `receive`, and the hearer is told what the events that are taken make happen, one thing
+    /// after the other. It is told nothing where the answer is `NoMemory`.
+    pub fn receive_heard<H: FieldHearer>(
+        &mut self,
+        piece: &[u8],
+        hearer: &mut H,
+    ) -> Result<(), ClientFault>
+        ensures ok { OnOk result (Accepts field_objects after_event self.old self.new piece.now) }
+        ensures bad { result ≡ Err ClientFault.BadEvent → self.old.is_bad ≡ false
+            → Refuses field_objects after_event self.old self.new piece.now }
+        ensures again { self.old.is_bad ≡ true → result ≡ Err ClientFault.BadEvent }
+        ensures stays_bad { self.old.is_bad ≡ true → self.new ≡ self.old }
+        ensures log { (log : List Happening) (sent : List ℕ) → HasLog log sent self.old.state →
+            GoesOn self.old.state self.new.state log sent }
+        ensures no_memory { result ≡ Err ClientFault.NoMemory → self.new ≡ self.old }
+        ensures heard { (rest : List ℕ) × Hears field_objects after_event happened H.may_follow
+            self.old.state self.new.state (self.old.held ++ piece.now) rest hearer.old hearer.new }
+    {
         if self.is_bad {
             return Err(ClientFault::BadEvent);
         }
         hold(&mut self.state, &mut self.held, piece)?;
-        if !take_held(&mut self.state, &mut self.held) {
+        if !take_held(&mut self.state, &mut self.held, hearer) {
             self.is_bad = true;
             return Err(ClientFault::BadEvent);
         }

@@ -7,10 +7,12 @@ ghost use Rattle.wl_wire.specs.Texts.{IsBytes};
 ghost use Rattle.client_side.specs.Events.{object_in, field_objects, IsEventTo};
 ghost use Rattle.client_side.specs.FieldState.{after_event};
 ghost use Rattle.client_side.specs.Client.{Takes, GoesWrong};
+ghost use Rattle.client_side.specs.Heard.{Reached, Hears, happened};
 ghost use Rattle.wl_proto.specs.declared.event.Event as events;
 
 use crate::events::event_to;
 use crate::field_state::FieldState;
+use crate::hearer::FieldHearer;
 use crate::held::cut_front;
 use crate::objects::field_object;
 use wio_core::NoMemory;
@@ -21,15 +23,17 @@ use wl_wire::{Front, Raw, front_of};
 const SENT_A_BYTE: usize = 510;
 
 // Takes the event that a whole message spells; false where it spells none of a live object.
-fn take_message(state: &mut FieldState, raw: &Raw<'_>) -> bool
+fn take_message<H: FieldHearer>(state: &mut FieldState, raw: &Raw<'_>, hearer: &mut H) -> bool
     requires short { length raw.now.body.now ≤ 4088 }
     requires room { 4080 ≤ state.old.room }
     ensures taken { OnTrue result ((e : events.Event)
         × IsEventTo (object_in field_objects raw.now.id) raw.now.opcode raw.now.body.now e
-        × (state.new.state ≡ after_event e state.old.state)) }
+        × (state.new.state ≡ after_event e state.old.state)
+        × Reached H.may_follow hearer.old (happened e state.old.state) hearer.new) }
     ensures refused { OnFalse result ((e : events.Event)
         → IsEventTo (object_in field_objects raw.now.id) raw.now.opcode raw.now.body.now e → ⊥) }
     ensures unchanged { OnFalse result (state.new.state ≡ state.old.state) }
+    ensures unheard { OnFalse result (hearer.new ≡ hearer.old) }
     ensures room { state.old.room ≤ state.new.room + 4080 }
 {
     let Some(interface) = field_object(raw.id) else {
@@ -38,13 +42,17 @@ fn take_message(state: &mut FieldState, raw: &Raw<'_>) -> bool
     let Some(event) = event_to(interface, raw) else {
         return false;
     };
-    state.take(&event);
+    state.take(&event, hearer);
     true
 }
 
 // Takes the events at the front of the bytes, and says how many bytes they have; `None` where the
 // bytes go wrong.
-fn take_events(state: &mut FieldState, bytes: &[u8]) -> Option<usize>
+fn take_events<H: FieldHearer>(
+    state: &mut FieldState,
+    bytes: &[u8],
+    hearer: &mut H,
+) -> Option<usize>
     requires { 510 * length bytes.now ≤ state.old.room }
     ensures taken { IfSome result (λ n. (n ≤ length bytes.now)
         × Takes field_objects after_event state.old.state state.new.state bytes.now
@@ -53,6 +61,8 @@ fn take_events(state: &mut FieldState, bytes: &[u8]) -> Option<usize>
     ensures wrong { IfNone result
         (GoesWrong field_objects after_event state.old.state state.new.state bytes.now) }
     ensures fits { IfNone result (IsBytes bytes.now) }
+    ensures heard { (rest : List ℕ) × Hears field_objects after_event happened H.may_follow
+        state.old.state state.new.state bytes.now rest hearer.old hearer.new }
 {
     let mut at = 0;
     'events: loop {
@@ -61,7 +71,7 @@ fn take_events(state: &mut FieldState, bytes: &[u8]) -> Option<usize>
             Front::Part => return Some(at),
             Front::BadSize => return None,
             Front::Whole(raw, size) => {
-                if !take_message(state, &raw) {
+                if !take_message(state, &raw, hearer) {
                     return None;
                 }
                 at += size;
@@ -98,7 +108,11 @@ pub(crate) fn hold(state: &mut FieldState, held: &mut Vec<u8>, piece: &[u8]) -> 
 }
 
 // Takes the events that are held whole, and keeps what is left; false where the bytes go wrong.
-pub(crate) fn take_held(state: &mut FieldState, held: &mut Vec<u8>) -> bool
+pub(crate) fn take_held<H: FieldHearer>(
+    state: &mut FieldState,
+    held: &mut Vec<u8>,
+    hearer: &mut H,
+) -> bool
     requires { 510 * vec_len held.old ≤ state.old.room }
     ensures taken { OnTrue result
         (Takes field_objects after_event state.old.state state.new.state held.old.items
@@ -108,8 +122,10 @@ pub(crate) fn take_held(state: &mut FieldState, held: &mut Vec<u8>) -> bool
     ensures fits { OnFalse result (IsBytes held.new.items) }
     ensures wrong { OnFalse result
         (GoesWrong field_objects after_event state.old.state state.new.state held.old.items) }
+    ensures heard { (rest : List ℕ) × Hears field_objects after_event happened H.may_follow
+        state.old.state state.new.state held.old.items rest hearer.old hearer.new }
 {
-    let Some(taken) = take_events(state, held) else {
+    let Some(taken) = take_events(state, held, hearer) else {
         return false;
     };
     cut_front(held, taken);

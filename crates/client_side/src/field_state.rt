@@ -6,9 +6,11 @@ ghost use Rattle.trial_field.specs.FieldText.{after};
 ghost use Rattle.client_side.specs.Happenings.{edited, batch, entered, left};
 ghost use Rattle.client_side.specs.FieldLog.{changes};
 ghost use Rattle.client_side.specs.FieldState.{new_state, happens, after_event};
+ghost use Rattle.client_side.specs.Heard.{Reached, happened};
 ghost use Rattle.wl_proto.specs.declared.event.Event.TheVariants.{TextInputDone};
 
 use crate::field_telling::{put_change, put_enable};
+use crate::hearer::FieldHearer;
 use crate::outbox::Outbox;
 use crate::pending::Pending;
 use crate::setup::put_field_setup;
@@ -148,16 +150,25 @@ impl FieldState {
         }
     }
 
-    // One event of the text input or of another object, of which only the former change anything.
-    pub(crate) fn take(&mut self, event: &Event<'_>)
+    // One event of the text input or of another object, of which only the former change anything,
+    // and what it makes happen is heard.
+    pub(crate) fn take<H: FieldHearer>(&mut self, event: &Event<'_>, hearer: &mut H)
         requires room { 4080 ≤ self.old.room }
         requires fits { IsFitting event.now }
         ensures state { self.new.state ≡ after_event event.now self.old.state }
         ensures room { self.old.room ≤ self.new.room + 4080 }
+        ensures heard { Reached H.may_follow hearer.old (happened event.now self.old.state)
+            hearer.new }
     {
         match event {
-            Event::Enter { .. } => self.enter(),
-            Event::Leave { .. } => self.leave(),
+            Event::Enter { .. } => {
+                self.enter();
+                hearer.entered();
+            }
+            Event::Leave { .. } => {
+                self.leave();
+                hearer.left();
+            }
             Event::PreeditString { text, begin, end } => {
                 self.pending.set_preedit(text.unwrap_or(""), *begin, *end)
             }
@@ -165,7 +176,10 @@ impl FieldState {
             Event::DeleteSurroundingText { before, after } => {
                 self.pending.set_deletion(*before, *after)
             }
-            Event::TextInputDone { serial } => self.done(*serial),
+            Event::TextInputDone { serial } => {
+                hearer.batch(&self.pending.view(), *serial);
+                self.done(*serial);
+            }
             _ => {}
         }
     }

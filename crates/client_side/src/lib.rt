@@ -7,6 +7,7 @@ mod field_client;
 mod field_receiving;
 mod field_state;
 mod field_telling;
+mod hearer;
 mod held;
 mod method_client;
 mod method_receiving;
@@ -19,4 +20,5 @@ mod setup;
 
 pub use fault::ClientFault;
 pub use field_client::FieldClient;
+pub use hearer::{FieldHearer, MethodHearer};
 pub use method_client::MethodClient;

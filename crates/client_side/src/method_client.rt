@@ -6,8 +6,10 @@ ghost use Rattle.client_side.specs.MethodLog.{Happening, committed};
 ghost use Rattle.client_side.specs.MethodState.{new_state, happens, after_event, HasLog, GoesOn};
 ghost use Rattle.client_side.specs.Events.{method_objects};
 ghost use Rattle.client_side.specs.Client.{Accepts, Refuses};
+ghost use Rattle.client_side.specs.Heard.{Hears, came};
 
 use crate::fault::ClientFault;
+use crate::hearer::MethodHearer;
 use crate::method_receiving::{hold, take_held};
 use crate::method_state::MethodState;
 use compose_method::Typist;
@@ -78,8 +80,9 @@ impl<T: Typist> MethodClient<T> {
     /// gives.
     ///
     /// `BadEvent` where the bytes so far aren't events of the client's objects and a part of one;
-    /// what stood before is taken, the bytes stay, and from then on each piece is answered so. A client is given no
-    /// descriptors, so a keymap is such an event. After `NoMemory` the client is as before.
+    /// what stood before is taken, the bytes stay, and from then on each piece is answered so. A
+    /// client is given no descriptors, so a keymap is such an event. After `NoMemory` the client is
+    /// as before.
     pub fn receive(&mut self, piece: &[u8]) -> Result<(), ClientFault>
         ensures ok { OnOk result (Accepts method_objects (after_event T.meanings) self.old self.new piece.now) }
         ensures bad { result ≡ Err ClientFault.BadEvent → self.old.is_bad ≡ false
@@ -91,11 +94,33 @@ impl<T: Typist> MethodClient<T> {
         ensures stays_bad { self.old.is_bad ≡ true → self.new ≡ self.old }
         ensures no_memory { result ≡ Err ClientFault.NoMemory → self.new ≡ self.old }
     {
+        self.receive_heard(piece, &mut ())
+    }
+
+    /// As `receive`, and the hearer is told each event that is taken. It is told nothing where the
+    /// answer is `NoMemory`.
+    pub fn receive_heard<H: MethodHearer>(
+        &mut self,
+        piece: &[u8],
+        hearer: &mut H,
+    ) -> Result<(), ClientFault>
+        ensures ok { OnOk result (Accepts method_objects (after_event T.meanings) self.old self.new piece.now) }
+        ensures bad { result ≡ Err ClientFault.BadEvent → self.old.is_bad ≡ false
+            → Refuses method_objects (after_event T.meanings) self.old self.new piece.now }
+        ensures log { (first : T) (log : List Happening) (sent : List ℕ) →
+            HasLog T.meanings first log sent self.old.state →
+            GoesOn T.meanings first self.old.state self.new.state log sent }
+        ensures again { self.old.is_bad ≡ true → result ≡ Err ClientFault.BadEvent }
+        ensures stays_bad { self.old.is_bad ≡ true → self.new ≡ self.old }
+        ensures no_memory { result ≡ Err ClientFault.NoMemory → self.new ≡ self.old }
+        ensures heard { (rest : List ℕ) × Hears method_objects (after_event T.meanings) came H.may_follow
+            self.old.state self.new.state (self.old.held ++ piece.now) rest hearer.old hearer.new }
+    {
         if self.is_bad {
             return Err(ClientFault::BadEvent);
         }
         hold(&mut self.state, &mut self.held, piece)?;
-        if !take_held(&mut self.state, &mut self.held) {
+        if !take_held(&mut self.state, &mut self.held, hearer) {
             self.is_bad = true;
             return Err(ClientFault::BadEvent);
         }

@@ -7,9 +7,11 @@ ghost use Rattle.wl_wire.specs.Texts.{IsBytes};
 ghost use Rattle.client_side.specs.Events.{object_in, method_objects, IsEventTo};
 ghost use Rattle.client_side.specs.MethodState.{after_event};
 ghost use Rattle.client_side.specs.Client.{Takes, GoesWrong};
+ghost use Rattle.client_side.specs.Heard.{Reached, Hears, came};
 ghost use Rattle.wl_proto.specs.declared.event.Event as events;
 
 use crate::events::event_to;
+use crate::hearer::MethodHearer;
 use crate::held::cut_front;
 use crate::method_state::MethodState;
 use crate::objects::method_object;
@@ -22,15 +24,21 @@ use wl_wire::{Front, Raw, front_of};
 const SENT_A_BYTE: usize = 1_029;
 
 // Takes the event that a whole message spells; false where it spells none of a live object.
-fn take_message<T: Typist>(state: &mut MethodState<T>, raw: &Raw<'_>) -> bool
+fn take_message<T: Typist, H: MethodHearer>(
+    state: &mut MethodState<T>,
+    raw: &Raw<'_>,
+    hearer: &mut H,
+) -> bool
     requires short { length raw.now.body.now ≤ 4088 }
     requires room { 8226 ≤ state.old.room }
     ensures taken { OnTrue result ((e : events.Event)
         × IsEventTo (object_in method_objects raw.now.id) raw.now.opcode raw.now.body.now e
-        × (state.new.state ≡ after_event T.meanings e state.old.state)) }
+        × (state.new.state ≡ after_event T.meanings e state.old.state)
+        × Reached H.may_follow hearer.old (came e state.old.state) hearer.new) }
     ensures refused { OnFalse result ((e : events.Event)
         → IsEventTo (object_in method_objects raw.now.id) raw.now.opcode raw.now.body.now e → ⊥) }
     ensures unchanged { OnFalse result (state.new.state ≡ state.old.state) }
+    ensures unheard { OnFalse result (hearer.new ≡ hearer.old) }
     ensures room { state.old.room ≤ state.new.room + 8226 }
 {
     let Some(interface) = method_object(raw.id) else {
@@ -39,13 +47,17 @@ fn take_message<T: Typist>(state: &mut MethodState<T>, raw: &Raw<'_>) -> bool
     let Some(event) = event_to(interface, raw) else {
         return false;
     };
-    state.take(&event);
+    state.take(&event, hearer);
     true
 }
 
 // Takes the events at the front of the bytes, and says how many bytes they have; `None` where the
 // bytes go wrong.
-fn take_events<T: Typist>(state: &mut MethodState<T>, bytes: &[u8]) -> Option<usize>
+fn take_events<T: Typist, H: MethodHearer>(
+    state: &mut MethodState<T>,
+    bytes: &[u8],
+    hearer: &mut H,
+) -> Option<usize>
     requires { 1029 * length bytes.now ≤ state.old.room }
     ensures taken { IfSome result (λ n. (n ≤ length bytes.now)
         × Takes method_objects (after_event T.meanings) state.old.state state.new.state bytes.now
@@ -54,6 +66,8 @@ fn take_events<T: Typist>(state: &mut MethodState<T>, bytes: &[u8]) -> Option<us
     ensures wrong { IfNone result
         (GoesWrong method_objects (after_event T.meanings) state.old.state state.new.state bytes.now) }
     ensures fits { IfNone result (IsBytes bytes.now) }
+    ensures heard { (rest : List ℕ) × Hears method_objects (after_event T.meanings) came H.may_follow
+        state.old.state state.new.state bytes.now rest hearer.old hearer.new }
 {
     let mut at = 0;
     'events: loop {
@@ -62,7 +76,7 @@ fn take_events<T: Typist>(state: &mut MethodState<T>, bytes: &[u8]) -> Option<us
             Front::Part => return Some(at),
             Front::BadSize => return None,
             Front::Whole(raw, size) => {
-                if !take_message(state, &raw) {
+                if !take_message(state, &raw, hearer) {
                     return None;
                 }
                 at += size;
@@ -103,7 +117,11 @@ pub(crate) fn hold<T: Typist>(
 }
 
 // Takes the events that are held whole, and keeps what is left; false where the bytes go wrong.
-pub(crate) fn take_held<T: Typist>(state: &mut MethodState<T>, held: &mut Vec<u8>) -> bool
+pub(crate) fn take_held<T: Typist, H: MethodHearer>(
+    state: &mut MethodState<T>,
+    held: &mut Vec<u8>,
+    hearer: &mut H,
+) -> bool
     requires { 1029 * vec_len held.old ≤ state.old.room }
     ensures taken { OnTrue result
         (Takes method_objects (after_event T.meanings) state.old.state state.new.state held.old.items
@@ -113,8 +131,10 @@ pub(crate) fn take_held<T: Typist>(state: &mut MethodState<T>, held: &mut Vec<u8
     ensures fits { OnFalse result (IsBytes held.new.items) }
     ensures wrong { OnFalse result
         (GoesWrong method_objects (after_event T.meanings) state.old.state state.new.state held.old.items) }
+    ensures heard { (rest : List ℕ) × Hears method_objects (after_event T.meanings) came H.may_follow
+        state.old.state state.new.state held.old.items rest hearer.old hearer.new }
 {
-    let Some(taken) = take_events(state, held) else {
+    let Some(taken) = take_events(state, held, hearer) else {
         return false;
     };
     cut_front(held, taken);

@@ -1,5 +1,5 @@
 //! What types, with what its client told and is told.
-ghost use Rattle.std.specs.Prelude.{◌≡◌, ◌+◌, ◌≤◌, ◌++◌, [], length, IfOk, OnOk, IsTrue};
+ghost use Rattle.std.specs.Prelude.{◌≡◌, ◌+◌, ◌≤◌, ◌++◌, ◌∷◌, [], length, IfOk, OnOk, IsTrue};
 ghost use Rattle.wl_wire.specs.Texts.{has_no_zero};
 ghost use Rattle.client_side.specs.MethodSends.{batch_sent};
 ghost use Rattle.trial_field.specs.Log.{IsBatch, batch_of};
@@ -7,7 +7,9 @@ ghost use Rattle.compose_method.specs.declared.typist.TheConstants.{MAX_STRING, 
 ghost use Rattle.client_side.specs.Messages.{spelled};
 ghost use Rattle.client_side.specs.MethodLog.{committed, press_sent, batch_with};
 ghost use Rattle.client_side.specs.MethodState.{new_state, happens, after_event};
+ghost use Rattle.client_side.specs.Heard.{Reached};
 
+use crate::hearer::MethodHearer;
 use crate::method_telling::put_batch;
 use crate::outbox::Outbox;
 use crate::setup::put_method_setup;
@@ -110,12 +112,14 @@ impl<T: Typist> MethodState<T> {
     }
 
     // One event of the input method, its keyboard grab, or of another object, of which the last
-    // change nothing.
-    pub(crate) fn take(&mut self, event: &Event<'_>)
+    // change nothing. It is heard.
+    pub(crate) fn take<H: MethodHearer>(&mut self, event: &Event<'_>, hearer: &mut H)
         requires room { 8226 ≤ self.old.room }
         ensures state { self.new.state ≡ after_event T.meanings event.now self.old.state }
         ensures room { self.old.room ≤ self.new.room + 8226 }
+        ensures heard { Reached H.may_follow hearer.old (event.now ∷ []) hearer.new }
     {
+        hearer.came(event);
         match event {
             Event::Key { key, state, .. } => {
                 if *state == PRESSED {

@@ -5,8 +5,8 @@ ghost use Rattle.dict_method.specs.Dictionary.{AreWordKeys, clashes_control};
 ghost use Rattle.trial_script.specs.Grammar.{IsLine};
 ghost use Rattle.trial_script.specs.Rules.{no_rules, refuses_single, refuses_sequence};
 ghost use Rattle.trial_script.specs.Rules.{refuses_word, plus_single, plus_sequence, plus_word};
-ghost use Rattle.trial_script.specs.Rules.{plus_control, unless, with_entry_of, with_line, had_place};
-ghost use Rattle.trial_script.specs.Rules.{ArePut};
+ghost use Rattle.trial_script.specs.Rules.{plus_control, unless, with_entry_of, with_line};
+ghost use Rattle.trial_script.specs.Rules.{had_place, ArePut};
 
 use crate::line::Line;
 use compose_method::{ComposeTable, TableRefusal};

@@ -209,10 +209,10 @@ fn read_whole(alloc: Global, script: &[u8]) -> Result<Script, NoMemory>
 
 /// Reads a script up to its end, or to the first line that is outside the grammar. Its form: the
 /// header, then any number of lines that say what keys mean, then how many fields there are, then
-/// actions, then the end. A key that has a text already, a sequence or a word that clashes with what
-/// was said before, a control key that is one already or stands in a word, what the table or the
-/// dictionary has no place for, a sequence and a word in one script, and a field above the number
-/// of fields are outside the grammar too. What stands behind the line `end` isn't read.
+/// actions, then the end. A key that has a text already, a sequence or a word that clashes with
+/// what was said before, a control key that is one already or stands in a word, what the table or
+/// the dictionary has no place for, a sequence and a word in one script, and a field above the
+/// number of fields are outside the grammar too. What stands behind the line `end` isn't read.
 pub fn read_script(alloc: Global, script: &[u8]) -> Result<Script, NoMemory>
     ensures exact { IfOk result (λ read. read ≡ script_of script.now) }
     ensures valid { IfOk result IsScript }

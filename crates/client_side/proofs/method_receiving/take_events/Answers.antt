@@ -1,12 +1,18 @@
-use Rattle.std.proofs.Common.{arith}
+use Rattle.std.proofs.Common.{refl, arith}
 use Rattle.client_side.specs.Events.{method_objects}
 use Rattle.client_side.specs.MethodState.{after_event}
+use Rattle.client_side.specs.Heard.{came}
+use Rattle.client_side.proofs.HeardInTurn.{none_heard, next_heard}
 use Rattle.client_side.proofs.EventsInTurn.{none_taken, next_front, front_wrong, front_short}
 use Rattle.client_side.proofs.method_receiving.take_events.Goals as goal
 
 pub events-init : goal.events-init
-events-init g c =
-    (omega arith, omega (arith, c.requires), none_taken method_objects (after_event g.T.Typist.meanings) _ _)
+events-init g c = (
+  omega arith,
+  omega (arith, c.requires),
+  none_taken method_objects (after_event g.T.Typist.meanings) _ _,
+  none_heard method_objects (after_event g.T.Typist.meanings) came g.H.MethodHearer.may_follow _ _ _ _ refl,
+)
 
 pub take_message-requires-clause-short : goal.take_message-requires-clause-short
 take_message-requires-clause-short g c = front_short _ _ _ _ _ c.in-Whole.ensures.front
@@ -26,8 +32,14 @@ events-preserved g c =
     let taken =
     next_front method_objects
     (after_event g.T.Typist.meanings) _ _ _ c.args.bytes.now _ c.events.at c.in-Whole.size _ _ _ _
-    c.events.invariant.2 c.split_at.ensures.back front told.taken.1 told.taken.2 in (
+    c.events.invariant.2 c.split_at.ensures.back front told.taken.1 told.taken.2 in
+    let heard =
+    next_heard method_objects
+    (after_event g.T.Typist.meanings) came g.H.MethodHearer.may_follow _ _ _ c.args.bytes.now _ c.events.at
+    c.in-Whole.size _ _ _ _ _ _ _ c.events.invariant.3 c.split_at.ensures.back front told.taken.1 told.taken.2
+    told.taken.3 in (
       omega (arith, front.within, c.events.invariant.0, c.split_at.ensures.back_len),
       omega (arith, front.good.0, front.within, room, c.events.invariant.1, c.split_at.ensures.back_len),
       taken,
+      heard,
     )
