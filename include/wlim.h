@@ -56,33 +56,41 @@ enum {
 	WLIM_SHORT = -6,     /* of wlim_next: there is no room for the event's text and the zero behind it */
 };
 
-/* ---- Clients and their objects, as they are made and end ---- */
+/*
+ * ---- Clients and their objects, as they are made and end ----
+ *
+ * An object has a number of yours, as a pointer to what you have of it: it comes with each event that is told to the
+ * object, until wlim_drop names its label.
+ */
 
-/* A client joins, and has an object of one of the three protocols or a surface from now on. */
+/* A client joins. */
 int64_t wlim_peer(struct wlim *seat);
 
-/* A client ends, and with it all its objects. */
+/* A client ends, and with it all its objects. Their numbers stay until wlim_drop names them. */
 int64_t wlim_gone(struct wlim *seat, uint32_t peer);
 
 /* wl_compositor.create_surface */
-int64_t wlim_surface(struct wlim *seat, uint32_t peer);
+int64_t wlim_surface(struct wlim *seat, uint32_t peer, uint64_t number);
 
 /* zwp_text_input_manager_v3.get_text_input */
-int64_t wlim_field(struct wlim *seat, uint32_t peer);
+int64_t wlim_field(struct wlim *seat, uint32_t peer, uint64_t number);
 
 /* zwp_input_method_manager_v2.get_input_method */
-int64_t wlim_method(struct wlim *seat, uint32_t peer);
+int64_t wlim_method(struct wlim *seat, uint32_t peer, uint64_t number);
 
 /* zwp_input_method_v2.get_input_popup_surface */
-int64_t wlim_popup(struct wlim *seat, uint32_t method, uint32_t surface);
+int64_t wlim_popup(struct wlim *seat, uint32_t method, uint32_t surface, uint64_t number);
 
 /* zwp_input_method_v2.grab_keyboard */
-int64_t wlim_grab(struct wlim *seat, uint32_t method);
+int64_t wlim_grab(struct wlim *seat, uint32_t method, uint64_t number);
 
 /* zwp_virtual_keyboard_manager_v1.create_virtual_keyboard */
-int64_t wlim_vboard(struct wlim *seat, uint32_t peer);
+int64_t wlim_vboard(struct wlim *seat, uint32_t peer, uint64_t number);
 
-/* An object is destroyed by its client: a surface, a field, a method, a popup, a grab (release) or a board. */
+/*
+ * An object is destroyed by its client: a surface, a field, a method, a popup, a grab (release) or a board. Its number is
+ * forgotten, whatever is answered, also for events that wait.
+ */
 int64_t wlim_drop(struct wlim *seat, uint32_t label);
 
 /* ---- What you say: the keyboard focus, the keyboard, and where things are ---- */
@@ -196,6 +204,7 @@ struct wlim_event {
 	int64_t third;
 	int64_t fourth;
 	int64_t group;   /* the group of WLIM_MODS and WLIM_VMODS */
+	uint64_t number; /* your number of what it is told to; 0 where it has none */
 };
 
 /* The most bytes of a text, with the zero behind it. */
@@ -221,6 +230,9 @@ struct wlim_shown {
 
 /* Writes what stands on the seat. False: none is open, and nothing is written. */
 bool wlim_look(struct wlim *seat, struct wlim_shown *shown);
+
+/* Your number of a label, as of the surface of WLIM_ENTER; 0 where it has none, or no seat is open. */
+uint64_t wlim_number(struct wlim *seat, uint32_t label);
 
 #ifdef __cplusplus
 }

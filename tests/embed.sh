@@ -1,6 +1,7 @@
 #!/usr/bin/env bash
 # Builds the act player in C over out/libwlim, and holds what it prints against the program, over the worked rows and lists
-# made from numbers; again with the address sanitizer and under valgrind. `make build` and `make libwlim` come before.
+# made from numbers; again with the address sanitizer and under valgrind. Then what C and a client can do wrong
+# (tests/embed_bad.c). `make build` and `make libwlim` come before.
 #
 #   tests/embed.sh PROGRAM [LISTS]
 set -e
@@ -20,3 +21,9 @@ tests/embed.py "$program" "$made/play_acts" "$lists"
 tests/embed.py "$program" "$made/play_acts_checked" 100
 tests/embed.py "$program" "$made/play_acts_shared" 20
 tests/embed.py "$program" "valgrind -q --leak-check=full --error-exitcode=9 $made/play_acts" 20
+bad="-Wl,--wrap=malloc,--wrap=realloc,--wrap=free tests/embed_bad.c"
+${CC:-cc} $flags -o "$made/bad" $bad "$library"
+${CC:-cc} $flags -fsanitize=address,undefined -o "$made/bad_checked" $bad "$library"
+"$made/bad"
+"$made/bad_checked"
+valgrind -q --leak-check=full --error-exitcode=9 "$made/bad"

@@ -16,7 +16,7 @@
 
 static struct wlim seat;
 static uint32_t label_of[MOST]; /* by the list's number: the seat's, 0 where it has none */
-static uint32_t number_of[MOST]; /* by the seat's number: the list's */
+static uint32_t number_of[MOST]; /* by the seat's number: the list's, also of an act that made nothing */
 
 /* Each event's name, and which arguments it has: x a text, l a label, s the number of an act, n a number, g the group. */
 static const char *const events[][2] = {
@@ -43,11 +43,12 @@ static const char *const events[][2] = {
 	[WLIM_VMODS] = { "vmods", "nnng" },
 };
 
+/* The list's number of what an event is told to came back as the object's own. */
 static void show(const struct wlim_event *event, const char *text, uint32_t number)
 {
 	const int64_t arguments[] = { event->first, event->second, event->third, event->fourth };
 	int at = 0;
-	printf("%" PRIu32 " %" PRIu32 " %s", number, number_of[event->to], events[event->kind][0]);
+	printf("%" PRIu32 " %" PRIu32 " %s", number, (uint32_t)event->number, events[event->kind][0]);
 	for (const char *of = events[event->kind][1]; *of; of++) {
 		putchar(' ');
 		if (*of == 'x') {
@@ -65,7 +66,7 @@ static void show(const struct wlim_event *event, const char *text, uint32_t numb
 	putchar('\n');
 }
 
-static int64_t act(char **word)
+static int64_t act(char **word, uint32_t number)
 {
 	uint32_t n[6] = { 0 };
 	char text[8192];
@@ -78,12 +79,12 @@ static int64_t act(char **word)
 #define IS(name) (strcmp(word[0], name) == 0)
 	if (IS("peer")) return wlim_peer(&seat);
 	if (IS("gone")) return wlim_gone(&seat, a);
-	if (IS("surface")) return wlim_surface(&seat, a);
-	if (IS("field")) return wlim_field(&seat, a);
-	if (IS("method")) return wlim_method(&seat, a);
-	if (IS("popup")) return wlim_popup(&seat, a, n[1] < MOST ? label_of[n[1]] : 0);
-	if (IS("grab")) return wlim_grab(&seat, a);
-	if (IS("vboard")) return wlim_vboard(&seat, a);
+	if (IS("surface")) return wlim_surface(&seat, a, number);
+	if (IS("field")) return wlim_field(&seat, a, number);
+	if (IS("method")) return wlim_method(&seat, a, number);
+	if (IS("popup")) return wlim_popup(&seat, a, n[1] < MOST ? label_of[n[1]] : 0, number);
+	if (IS("grab")) return wlim_grab(&seat, a, number);
+	if (IS("vboard")) return wlim_vboard(&seat, a, number);
 	if (IS("drop")) return wlim_drop(&seat, a);
 	if (IS("focus")) return wlim_focus(&seat, a);
 	if (IS("unfocus")) return wlim_unfocus(&seat);
@@ -122,8 +123,7 @@ int main(void)
 		char *word[16] = { strtok(line, " \n") };
 		for (int i = 1; i < 15 && word[i - 1]; i++)
 			word[i] = strtok(NULL, " \n");
-		int64_t answer = act(word);
-		number++;
+		int64_t answer = act(word, ++number);
 		if (answer > 0) {
 			label_of[number] = (uint32_t)answer;
 			number_of[answer] = number;

@@ -6,8 +6,8 @@ use Rattle.std_alloc.proofs.BoxSteps.Form.{Bx}
 use Rattle.std_heap.specs.contracts.Global as Heap
 use Rattle.std_heap.specs.contracts.GlobalAllocator.TheImpl.{ghosts, dict}
 use Rattle.std_heap.proofs.Global.TheLaws as heap
-use Rattle.relay_seat.specs.contracts.seat.RelaySeat as Seat
-use Rattle.relay_seat.proofs.seat.RelaySeat.TheLaws as seat
+use Rattle.numbered_seat.specs.contracts.seat.NumberedSeat as Seat
+use Rattle.numbered_seat.proofs.seat.NumberedSeat.TheLaws as seat
 use Rattle.wlim_c.specs.contracts.parts.Parts as Parts
 use Rattle.wlim_c.specs.contracts.held.Held as Held
 

@@ -2,9 +2,10 @@
 use Rattle.std.specs.Prelude.{◌≡◌, ◌⊎◌, ◌≤◌, ℕ, ℤ, pos, negsuc, ◌++◌, List, [], ◌∷◌, length, Option, Some, None}
 use Rattle.relay_model.specs.declared.act.Act.{Act}
 use Rattle.relay_core.specs.Stands.{StandsFor}
-use Rattle.relay_seat.specs.declared.event.Event.{Event}
 use Rattle.relay_seat.specs.Events.{Heard}
 use Rattle.relay_seat.specs.Seated.{Seat}
+use Rattle.numbered_seat.specs.Numbers.{Numbered, number_at}
+use Rattle.wlim_c.specs.declared.events.Given.{Given}
 
 -- the text with a zero behind it stands at the front of the bytes
 abbrev pub IsZeroEnded : (text bytes : List ℕ) → Type 0
@@ -18,30 +19,34 @@ GaveNone old before result =
     ⊎ ((result ≡ negsuc 5) × (first : Heard) × (rest : List Heard) × (old.heard ≡ first ∷ rest)
     × (length before ≤ length first.text))
 
--- the seat stands for the same acts, and the same events wait
-abbrev pub IsSame : (old new : Seat) → Type 0
+-- the seat stands for the same acts, the same events wait, and each label has the number that it
+-- had
+abbrev pub IsSame : (old new : Numbered) → Type 0
 IsSame old new =
-    ((log : List Act) → StandsFor old.relay log → StandsFor new.relay log) × (new.heard ≡ old.heard)
+    ((log : List Act) → StandsFor old.seat.relay log → StandsFor new.seat.relay log)
+    × (new.seat.heard ≡ old.seat.heard) × (new.numbers ≡ old.numbers)
 
--- the event that waited longest was written, with its text, and waits no more; the seat stands for
--- the same acts
-pub record GaveFirst (old new : Seat) (event : Event) (bytes : List ℕ) : Type 0 where
+-- the event that waited longest was written, with its text and its object's number, and waits no
+-- more; the seat stands for the same acts
+pub record GaveFirst (old new : Numbered) (given : Given) (bytes : List ℕ) : Type 0 where
   pub text : List ℕ
-  pub first : old.heard ≡ record { event = event; text = text } ∷ new.heard
+  pub first : old.seat.heard ≡ record { event = given.event; text = text } ∷ new.seat.heard
+  pub number : given.number ≡ number_at old.numbers given.event.to
   pub written : IsZeroEnded text bytes
-  pub relay : (log : List Act) → StandsFor old.relay log → StandsFor new.relay log
+  pub relay : (log : List Act) → StandsFor old.seat.relay log → StandsFor new.seat.relay log
+  pub numbers : new.numbers ≡ old.numbers
 
 -- what the seat did when it was asked for the event that waits longest
-abbrev pub Gave : (old new : Seat) → (was event : Event) → (before after : List ℕ) → ℤ → Type 0
-Gave old new was event before after result =
-    (GaveNone old before result × IsSame old new × (event ≡ was) × (after ≡ before))
-    ⊎ ((result ≡ pos 1) × GaveFirst old new event after)
+abbrev pub Gave : (old new : Numbered) → (was given : Given) → (before after : List ℕ) → ℤ → Type 0
+Gave old new was given before after result =
+    (GaveNone old.seat before result × IsSame old new × (given ≡ was) × (after ≡ before))
+    ⊎ ((result ≡ pos 1) × GaveFirst old new given after)
 
--- what C had was asked: a seat, or none, which answers that it is closed and writes nothing
-abbrev pub GaveOf : (old new : Option Seat) → (was event : Event) → (before after : List ℕ) → ℤ →
-    Type 0
-GaveOf None new was event before after result =
-    (new ≡ None) × (result ≡ negsuc 4) × (event ≡ was) × (after ≡ before)
-GaveOf (Some old) None was event before after result = ⊥
-GaveOf (Some old) (Some new) was event before after result =
-    Gave old new was event before after result
+-- what C had was asked: none, which answers that it is closed and writes nothing, or a seat
+abbrev pub GaveOf : (old new : Option Numbered) → (was given : Given) → (before after : List ℕ) →
+    ℤ → Type 0
+GaveOf None new was given before after result =
+    (new ≡ None) × (result ≡ negsuc 4) × (given ≡ was) × (after ≡ before)
+GaveOf (Some old) None was given before after result = ⊥
+GaveOf (Some old) (Some new) was given before after result =
+    Gave old new was given before after result

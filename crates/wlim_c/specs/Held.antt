@@ -7,7 +7,7 @@ use Rattle.std.specs.Box.Ownership.{box_owns}
 use Rattle.std.specs.Global.{Global}
 use Rattle.std_heap.specs.contracts.GlobalAllocator.TheImpl.{ghosts}
 use Rattle.core.specs.contracts.option.Option as option
-use Rattle.relay_seat.specs.contracts.seat.RelaySeat.{the_row}
+use Rattle.numbered_seat.specs.contracts.seat.NumberedSeat.{the_row}
 
 abbrev pub held_owns : Global → Ptr → Option the_row.Denot → Fml
 held_owns alloc place None = ftrue

@@ -7,7 +7,8 @@ use Rattle.relay_model.specs.Activation.{serving}
 use Rattle.relay_model.specs.Keys.{standing}
 use Rattle.relay_model.specs.Idle.{history}
 use Rattle.relay_seat.specs.Events.{Heard}
-use Rattle.relay_seat.specs.Seated.{Seat, Seated}
+use Rattle.relay_seat.specs.Seated.{Seated}
+use Rattle.numbered_seat.specs.Numbers.{Numbered, number_at}
 use Rattle.wlim_c.specs.declared.readers.Shown.{Shown}
 
 -- the label, or 0 where there is none
@@ -26,11 +27,17 @@ shown_of log = record {
 }
 
 -- What C had was asked: none, which is answered by false, with nothing written. Or a seat, which
--- stands for the same acts, and the same events wait.
-abbrev pub IsShown : (old new : Option Seat) → (before after : Shown) → Bool → Type 0
+-- stands for the same acts, and where the same events wait and each label has the number that it
+-- had.
+abbrev pub IsShown : (old new : Option Numbered) → (before after : Shown) → Bool → Type 0
 IsShown None new before after result = (new ≡ None) × (result ≡ false) × (after ≡ before)
 IsShown (Some old) None before after result = ⊥
 IsShown (Some old) (Some new) before after result =
-    (result ≡ true)
-    × ((log : List Act) → (waits : List Heard) → Seated old log waits →
-    Seated new log waits × (after ≡ shown_of log))
+    (result ≡ true) × (new.numbers ≡ old.numbers)
+    × ((log : List Act) → (waits : List Heard) → Seated old.seat log waits →
+    Seated new.seat log waits × (after ≡ shown_of log))
+
+-- the label's number was asked; 0 where it has none, or no seat is open
+abbrev pub IsNumber : (old new : Option Numbered) → (label result : ℕ) → Type 0
+IsNumber None new label result = (new ≡ None) × (result ≡ 0)
+IsNumber (Some old) new label result = (new ≡ Some old) × (result ≡ number_at old.numbers label)

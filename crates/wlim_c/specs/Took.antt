@@ -3,10 +3,11 @@
 use Rattle.std.specs.Prelude.{◌≡◌, ◌⊎◌, ◌<◌, ℕ, ℤ, pos, negsuc, List, [], length, Bool, true, false, Option, Some, None, Result, Ok, Err}
 use Rattle.wl_wire.specs.Texts.{is_text}
 use Rattle.relay_model.specs.declared.act.Act.{Act}
-use Rattle.relay_seat.specs.Events.{Heard}
+use Rattle.relay_model.specs.declared.act.Act.TheVariants as acts
 use Rattle.relay_seat.specs.declared.seat.Refusal.{Refusal}
 use Rattle.relay_seat.specs.declared.seat.Refusal.TheVariants.{NoMemory, Full, Long}
-use Rattle.relay_seat.specs.Seated.{Seat, Seated, Takes}
+use Rattle.relay_seat.specs.Seated.{Seated}
+use Rattle.numbered_seat.specs.Numbers.{Numbered, Numbers, Gives, GivesMade, SeatTook}
 
 -- the act's number, 0 where it does nothing, or why it was not taken
 abbrev pub answer_of : Result (Option ℕ) Refusal → ℤ
@@ -16,17 +17,28 @@ answer_of (Err NoMemory) = negsuc 0
 answer_of (Err Full) = negsuc 1
 answer_of (Err Long) = negsuc 2
 
--- whatever a seat stood for, it took the act, did nothing or refused it, and the answer says which
-abbrev pub SeatTook : Seat → Seat → Act → Result (Option ℕ) Refusal → Type 0
-SeatTook old new act answer =
-    (log : List Act) → (waits : List Heard) → Seated old log waits → Takes new log waits act answer
+-- An act was given to what C had: none, which answers that it is closed. Or a seat, which took it,
+-- did nothing or refused it, as the answer says, and whose numbers changed so.
+abbrev pub Acted : (Numbers → Numbers → Result (Option ℕ) Refusal → Type 0) → Option Numbered →
+    Option Numbered → Act → ℤ → Type 0
+Acted Changed None new act result = (new ≡ None) × (result ≡ negsuc 4)
+Acted Changed (Some old) None act result = ⊥
+Acted Changed (Some old) (Some new) act result =
+    (answer : Result (Option ℕ) Refusal) × (result ≡ answer_of answer)
+    × SeatTook old.seat new.seat act answer × Changed old.numbers new.numbers answer
 
--- an act was given to what C had: a seat, or none, which answers that it is closed
-abbrev pub Took : Option Seat → Option Seat → Act → ℤ → Type 0
-Took None new act result = (new ≡ None) × (result ≡ negsuc 4)
-Took (Some old) None act result = ⊥
-Took (Some old) (Some new) act result =
-    (answer : Result (Option ℕ) Refusal) × (result ≡ answer_of answer) × SeatTook old new act answer
+-- an act was given that leaves all numbers as they were
+abbrev pub Took : Option Numbered → Option Numbered → Act → ℤ → Type 0
+Took = Acted (λ old new answer. new ≡ old)
+
+-- an act was given that makes an object, which has the number then
+abbrev pub Made : (number : ℕ) → Option Numbered → Option Numbered → Act → ℤ → Type 0
+Made number = Acted (λ old new answer. GivesMade answer old new number)
+
+-- the end of an object was given, whose number is forgotten
+abbrev pub Ended : (label : ℕ) → Option Numbered → Option Numbered → ℤ → Type 0
+Ended label old new result =
+    Acted (λ before after answer. Gives before after label 0) old new (acts.Drop label) result
 
 -- why bytes were not taken as a text: there are more than may be, there was no memory for a copy,
 -- or they are none
@@ -40,12 +52,13 @@ TextRead most bytes (Ok text) = text ≡ bytes
 TextRead most bytes (Err answer) = NoText most bytes answer
 
 -- an act with a text was given to what C had, or the bytes were not taken and all is as before
-abbrev pub TookText : Option Seat → Option Seat → (most : ℕ) → List ℕ → (List ℕ → Act) → ℤ → Type 0
+abbrev pub TookText : Option Numbered → Option Numbered → (most : ℕ) → List ℕ → (List ℕ → Act) → ℤ →
+    Type 0
 TookText old new most bytes act result =
     Took old new (act bytes) result ⊎ ((new ≡ old) × NoText most bytes result)
 
--- a seat that took no act, or none, as the answer says
-abbrev pub IsNewOr : Bool → Option Seat → Type 0
-IsNewOr true (Some seat) = Seated seat [] []
+-- a seat that took no act, where no label has a number, or none, as the answer says
+abbrev pub IsNewOr : Bool → Option Numbered → Type 0
+IsNewOr true (Some made) = Seated made.seat [] [] × (made.numbers ≡ [])
 IsNewOr false None = Unit {0}
 IsNewOr _ _ = ⊥

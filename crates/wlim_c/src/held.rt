@@ -1,10 +1,10 @@
 //! A boxed seat, or none, in a form in which a program in C can keep it.
 ghost use Rattle.std.specs.Prelude.{◌≡◌, Option, Some, None, is_some, true};
-ghost use Rattle.relay_seat.specs.declared.seat.RelaySeat.{RelaySeat};
+ghost use Rattle.numbered_seat.specs.declared.seat.NumberedSeat.{NumberedSeat};
 ghost use Rattle.wlim_c.specs.Held.{held_owns, seat_coded};
 
 use crate::parts::Parts;
-use relay_seat::RelaySeat;
+use numbered_seat::NumberedSeat;
 use std::alloc::Global;
 use std::marker::Model;
 use std::ptr::null_mut;
@@ -22,7 +22,7 @@ pub struct Opaque {
 pub struct Held {
     place: *mut Opaque,
     alloc: Global,
-    pub ghost seat: { Option RelaySeat } by { seat_coded },
+    pub ghost seat: { Option NumberedSeat } by { seat_coded },
 }
 
 impl Model for Held {
@@ -39,20 +39,20 @@ impl Held {
         }
     }
 
-    pub fn of_box(seat: Box<RelaySeat>) -> Held
+    pub fn of_box(seat: Box<NumberedSeat>) -> Held
         ensures { result.seat ≡ Some seat.value }
     {
         Held::of_parts(Parts::of_box(seat))
     }
 
-    pub fn into_box(self) -> Box<RelaySeat>
+    pub fn into_box(self) -> Box<NumberedSeat>
         requires { is_some self.seat ≡ true }
         ensures { self.seat ≡ Some result.value }
     {
         self.into_parts().into_box()
     }
 
-    fn of_parts(parts: Parts<RelaySeat, Global>) -> Held
+    fn of_parts(parts: Parts<NumberedSeat, Global>) -> Held
         ensures { result.seat ≡ Some parts.value }
     {
         let Parts { place, alloc } = parts;
@@ -62,13 +62,13 @@ impl Held {
         }
     }
 
-    fn into_parts(self) -> Parts<RelaySeat, Global>
+    fn into_parts(self) -> Parts<NumberedSeat, Global>
         requires { is_some self.seat ≡ true }
         ensures { self.seat ≡ Some result.value }
     {
         let Held { place, alloc } = self;
         Parts {
-            place: place as *mut RelaySeat,
+            place: place as *mut NumberedSeat,
             alloc,
         }
     }

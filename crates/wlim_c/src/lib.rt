@@ -4,6 +4,7 @@
 
 mod answer;
 mod board_acts;
+mod events;
 mod field_acts;
 mod held;
 mod method_acts;

@@ -1,12 +1,12 @@
 //! A seat as a program in C has it: opened and closed, given acts, and asked for events.
 ghost use Rattle.std.specs.Prelude.{◌≡◌, ◌<◌, None, Some, is_some, option_map, length, OnOk};
-ghost use Rattle.wlim_c.specs.Took.{Took, TextRead, IsNewOr, answer_of};
-ghost use Rattle.wlim_c.specs.Gave.{Gave, GaveOf};
+ghost use Rattle.wlim_c.specs.Took.{Took, Made, Ended, TextRead, IsNewOr, answer_of};
 
 use crate::answer;
 use crate::held::Held;
+use numbered_seat::NumberedSeat;
 use relay_model::{Act, Label, Text};
-use relay_seat::{Event, Refusal, RelaySeat};
+use relay_seat::Refusal;
 use std::alloc::Global;
 use std::mem::replace;
 
@@ -26,7 +26,7 @@ pub(crate) const ALONE: usize = 4083;
 pub(crate) const BESIDE_NUMBERS: usize = 4075;
 
 // Takes the seat out.
-pub(crate) fn taken(w: &mut Wlim, alloc: Global) -> Option<Box<RelaySeat>>
+pub(crate) fn taken(w: &mut Wlim, alloc: Global) -> Option<Box<NumberedSeat>>
     ensures value { option_map (λ boxed. boxed.value) result ≡ w.old.held.seat }
     ensures none { w.new.held.seat ≡ None }
 {
@@ -41,7 +41,7 @@ pub(crate) fn taken(w: &mut Wlim, alloc: Global) -> Option<Box<RelaySeat>>
 }
 
 // Puts a seat in.
-pub(crate) fn put(w: &mut Wlim, seat: Box<RelaySeat>)
+pub(crate) fn put(w: &mut Wlim, seat: Box<NumberedSeat>)
     ensures { w.new.held.seat ≡ Some seat.value }
 {
     let _ = replace(
@@ -94,6 +94,30 @@ pub(crate) fn take(w: &mut Wlim, alloc: Global, act: Act) -> i64
     answer_of(answer)
 }
 
+// Has the seat take an act that makes an object, which gets the number.
+pub(crate) fn make(w: &mut Wlim, alloc: Global, act: Act, number: u64) -> i64
+    ensures { Made number w.old.held.seat w.new.held.seat act result }
+{
+    let Some(mut seat) = taken(w, alloc) else {
+        return answer::CLOSED;
+    };
+    let answer = seat.make(&act, number);
+    put(w, seat);
+    answer_of(answer)
+}
+
+// Has the seat take the end of an object, whose number is forgotten.
+pub(crate) fn end(w: &mut Wlim, alloc: Global, label: Label) -> i64
+    ensures { Ended label w.old.held.seat w.new.held.seat result }
+{
+    let Some(mut seat) = taken(w, alloc) else {
+        return answer::CLOSED;
+    };
+    let answer = seat.end(label);
+    put(w, seat);
+    answer_of(answer)
+}
+
 /// Opens a seat that took no act. One that is open is closed before. False where there is no memory: nothing is open
 /// then.
 #[unsafe(no_mangle)]
@@ -101,7 +125,7 @@ pub extern "C" fn wlim_open(seat: &mut Wlim, alloc: Global) -> bool
     ensures { IsNewOr result seat.new.held.seat }
 {
     wlim_close(seat, alloc);
-    let Ok(made) = RelaySeat::new(alloc) else {
+    let Ok(made) = NumberedSeat::new(alloc) else {
         return false;
     };
     let Ok(boxed) = Box::new(alloc, made) else {
@@ -117,43 +141,4 @@ pub extern "C" fn wlim_close(seat: &mut Wlim, alloc: Global)
     ensures { seat.new.held.seat ≡ None }
 {
     drop(taken(seat, alloc));
-}
-
-// Hands out the event that waits longest, and writes its text with a zero behind it.
-fn give(seat: &mut RelaySeat, event: &mut Event, text: &mut [u8]) -> i64
-    ensures { Gave seat.old seat.new event.old event.new text.old text.new result }
-{
-    let Some(first) = seat.first() else {
-        return answer::NOTHING;
-    };
-    if text.len() <= first.length {
-        return answer::SHORT;
-    }
-    let Ok(Some(handed)) = seat.pull(text) else {
-        return answer::NOTHING;
-    };
-    text[handed.length] = 0;
-    *event = handed;
-    answer::GIVEN
-}
-
-/// Hands out the event that waits longest: writes it to `event`, and to `text` its text with a zero behind it. 1 with
-/// an event, 0 where none waits. Where `text` has no room for the text and the zero, the event waits on, and nothing is
-/// written; with 4,084 bytes there is room always.
-#[unsafe(no_mangle)]
-pub extern "C" fn wlim_next(
-    seat: &mut Wlim,
-    alloc: Global,
-    event: &mut Event,
-    text: &mut [u8],
-) -> i64
-    ensures { GaveOf seat.old.held.seat seat.new.held.seat event.old event.new text.old text.new
-        result }
-{
-    let Some(mut boxed) = taken(seat, alloc) else {
-        return answer::CLOSED;
-    };
-    let answer = give(&mut boxed, event, text);
-    put(seat, boxed);
-    answer
 }

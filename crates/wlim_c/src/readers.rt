@@ -1,9 +1,13 @@
 //! What C is shown of a seat.
-ghost use Rattle.std.specs.Prelude.{◌≡◌};
-ghost use Rattle.wlim_c.specs.Shown.{IsShown, label_or_0};
+ghost use Rattle.std.specs.Prelude.{◌≡◌, List};
+ghost use Rattle.relay_model.specs.declared.act.Act.{Act};
+ghost use Rattle.relay_seat.specs.Events.{Heard};
+ghost use Rattle.relay_seat.specs.Seated.{Seated};
+ghost use Rattle.wlim_c.specs.Shown.{IsShown, IsNumber, label_or_0, shown_of};
 
 use crate::opened::{Wlim, put, taken};
 use relay_model::Label;
+use relay_seat::RelaySeat;
 use std::alloc::Global;
 
 /// What stands on a seat. A label is 0 where there is none.
@@ -31,6 +35,19 @@ fn label_or_0(label: Option<Label>) -> Label
     }
 }
 
+fn show(seat: &RelaySeat) -> Shown
+    ensures { (log : List Act) → (waits : List Heard) → Seated seat.now log waits → result ≡
+        shown_of log }
+{
+    Shown {
+        acts: seat.acts(),
+        focus: label_or_0(seat.focus()),
+        holder: label_or_0(seat.holder()),
+        serving: label_or_0(seat.serving()),
+        standing: label_or_0(seat.standing()),
+    }
+}
+
 /// Writes what stands on the seat. False where none is open: nothing is written then.
 #[unsafe(no_mangle)]
 pub extern "C" fn wlim_look(seat: &mut Wlim, alloc: Global, shown: &mut Shown) -> bool
@@ -39,15 +56,22 @@ pub extern "C" fn wlim_look(seat: &mut Wlim, alloc: Global, shown: &mut Shown) -
     let Some(boxed) = taken(seat, alloc) else {
         return false;
     };
-    *shown = Shown {
-        acts: boxed.acts(),
-        focus: label_or_0(boxed.focus()),
-        holder: label_or_0(boxed.holder()),
-        serving: label_or_0(boxed.serving()),
-        standing: label_or_0(boxed.standing()),
-    };
+    *shown = show(boxed.seat());
     put(seat, boxed);
     true
+}
+
+/// The number that the label was given; 0 where it has none, or no seat is open.
+#[unsafe(no_mangle)]
+pub extern "C" fn wlim_number(seat: &mut Wlim, alloc: Global, label: u32) -> u64
+    ensures { IsNumber seat.old.held.seat seat.new.held.seat label result }
+{
+    let Some(boxed) = taken(seat, alloc) else {
+        return 0;
+    };
+    let number = boxed.number(label);
+    put(seat, boxed);
+    number
 }
 
 /// The version of these functions: it grows where one of them changes or goes.
