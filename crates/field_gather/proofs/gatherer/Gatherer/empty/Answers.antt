@@ -1,0 +1,9 @@
+use Rattle.std.proofs.Common.{◌≡◌, ℕ, List, ap, ◌∙◌}
+use Rattle.field_gather.specs.Gathering.{Gathering, is_gained}
+use Rattle.field_gather.proofs.NumbersLost.{lost}
+use Rattle.field_gather.proofs.gatherer.Gatherer.empty.Goals as goal
+
+pub returns-clause-others : goal.returns-clause-others
+returns-clause-others c = λ q other.
+    ap (λ (l : List ℕ). is_gained q l) c.lose.ensures ∙ lost q c.args.number c.self.inside.gained.items other
+    ∙ ap (λ (g : Gathering). is_gained q g.gained) c.self.view_is
