@@ -230,7 +230,9 @@ impl Machine {
         self.part(focused, false, post);
     }
 
-    // Plays an act that may do something. The route is that of a key act.
+    // Plays an act that may do something. The route is that of a key act. It stands in line in both of its callers' ways:
+    // those of acts that boards have to do with, and of all others.
+    #[inline(always)]
     fn play<P: Post>(&mut self, act: &Act, post: &mut P) -> Option<Route>
         requires room { HasRoom self.old.objects.room act.now }
         requires above { self.old.objects.bound ≤ self.old.acts }
