@@ -15,10 +15,11 @@ run() {
     if [ -n "$program" ]; then "$program" "$1" < "$2"; else (cd crates/wlim && rt try -- "$1" < "../../$2" 2> /dev/null); fi
 }
 
-for example in examples/*.session examples/*.acts examples/*.trial; do
+for example in examples/*.session examples/*.acts examples/*.seats examples/*.trial; do
     wanted=${example%.*}.transcript
     case $example in
         *.acts) command=replay-acts ;;
+        *.seats) command=replay-seats ;;
         *.trial) command=trial wanted=${example%.*}.shown ;;
         *) command=replay ;;
     esac

@@ -4,8 +4,8 @@
   tools/cost.py            builds nothing: measures crates/wlim/out/wlim, which `rt run` in crates/wlim builds
   tools/cost.py PROGRAM    measures another build
 
-It prints, by valgrind's callgrind, instructions a step of `replay` in both forms, an act of `replay-acts`, and of one
-honest step (an application types by way of a method) alone, beside 62 peers of 240 surfaces each, and beside 62 peers
+It prints, by valgrind's callgrind, instructions a step of `replay` in both forms and of `replay-seats` with one and with
+eight seats that take turns, an act of `replay-acts`, and of one honest step (an application types by way of a method) alone, beside 62 peers of 240 surfaces each, and beside 62 peers
 whose objects and stores are nearly as many as they may be, with 64 keys down. The start of the program is taken off
 by measuring two lengths of each input.
 """
@@ -103,6 +103,13 @@ def stamped(steps):
     """The same session in form 2."""
     lines = session(steps)
     return ["session 2 1000000 65536 134217728"] + [f"0 0 {line}" for line in lines[1:-1]] + lines[-1:]
+
+
+def seats(count, steps):
+    """The same session on each of so many seats, line by line in turn; so many steps in all."""
+    lines = session(steps // count)
+    told = [f"{seat} {line}" for line in lines[1:-1] for seat in range(1, count + 1)]
+    return [f"seats {count} 1000000 65536"] + told + lines[-1:]
 
 
 def act_list(acts):
@@ -207,6 +214,8 @@ def main():
     program = sys.argv[1] if len(sys.argv) == 2 else BUILT
     print(f"a step of replay:        {each(program, 'replay', session, 2000, 20000):8.0f}")
     print(f"the same in form 2:      {each(program, 'replay', stamped, 2000, 20000):8.0f}")
+    print(f"a step of replay-seats:  {each(program, 'replay-seats', lambda n: seats(1, n), 2000, 20000):8.0f}")
+    print(f"the same of eight seats: {each(program, 'replay-seats', lambda n: seats(8, n), 16000, 80000):8.0f}")
     print(f"an act of replay-acts:   {each(program, 'replay-acts', act_list, 2000, 20000):8.0f}")
     alone = each(program, "replay", lambda n: pair(0, n), 1000, 5000, 3)
     beside = each(program, "replay", lambda n: pair(62, n), 1000, 5000, 3)

@@ -12,6 +12,8 @@ pub mod ActListAnswers
 pub mod ActsPlayed
 pub mod SessionLines
 pub mod SessionsPlayed
+pub mod SeatsAtPlaces
+pub mod SeatsPlayed
 pub mod LinesReplayed
 pub mod MigratedLines
 pub mod WholeLines

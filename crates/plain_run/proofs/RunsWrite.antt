@@ -19,6 +19,7 @@ use Rattle.plain_run.specs.Writing.{IsCutShort}
 use Rattle.plain_run.specs.Transcript.{answer_from, answer_of}
 use Rattle.plain_run.specs.Session.{session_of_lines, session_answer}
 use Rattle.plain_run.specs.Migrating.{migrated_lines, migrated_answer}
+use Rattle.plain_run.specs.Seats.{seats_of_lines, seats_answer}
 use Rattle.plain_run.specs.Ran.{GrowsByFront, Ran, answer_read}
 use Rattle.plain_run.specs.LineByLine.{LineByLine}
 use Rattle.plain_run.specs.declared.reading.TheConstants.{INPUT_LIMIT, MIGRATE_LIMIT}
@@ -90,6 +91,27 @@ pub migrated_law : (command : Command) (left left' held held' : Option (List ℕ
     → command ≡ commands.Migrate → LineByLine MIGRATE_LIMIT migrated_lines left left' held held' result read
     → LineByLine (limit_of command) (answer_lines command) left left' held held' result read
 migrated_law command left left' held held' result read is law =
+    subst (λ c. LineByLine (limit_of c) (answer_lines c) left left' held held' result read) (sym is) law
+
+seats_read : (left : Option (List ℕ)) (reads reads' : ℕ) (held held' : Option (List ℕ)) (writes writes' : ℕ)
+    (result : Status)
+    → Ran (answer_read INPUT_LIMIT seats_of_lines) left reads reads' held held' writes writes' result
+    → Ran (answer_by commands.ReplaySeats) left reads reads' held held' writes writes' result
+unfolding answer_by seats_answer lines_read
+seats_read left reads reads' held held' writes writes' result ran = ran
+
+pub seats_ran : (command : Command) (left : Option (List ℕ)) (reads reads' : ℕ) (held held' : Option (List ℕ))
+    (writes writes' : ℕ) (result : Status) → command ≡ commands.ReplaySeats
+    → Ran (answer_read INPUT_LIMIT seats_of_lines) left reads reads' held held' writes writes' result
+    → Ran (answer_by command) left reads reads' held held' writes writes' result
+seats_ran command left reads reads' held held' writes writes' result is ran =
+    subst (λ c. Ran (answer_by c) left reads reads' held held' writes writes' result) (sym is)
+    (seats_read left reads reads' held held' writes writes' result ran)
+
+pub seats_law : (command : Command) (left left' held held' : Option (List ℕ)) (result : Status) (read : List ℕ)
+    → command ≡ commands.ReplaySeats → LineByLine INPUT_LIMIT seats_of_lines left left' held held' result read
+    → LineByLine (limit_of command) (answer_lines command) left left' held held' result read
+seats_law command left left' held held' result read is law =
     subst (λ c. LineByLine (limit_of c) (answer_lines c) left left' held held' result read) (sym is) law
 
 -- what was done of a task is what it owes

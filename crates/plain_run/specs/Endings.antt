@@ -30,6 +30,7 @@ long_line = codes "input too long\n"
 abbrev pub ending : LastLine → Answer
 ending (last.End n) = (end_line n, status.Ok)
 ending last.Over = (codes "end\n", status.Ok)
+ending last.OverFull = (codes "end\n", status.JournalFull)
 ending (last.Bad n) = (bad_line n, status.BadSession)
 ending (last.Full n) = (full_line n, status.JournalFull)
 ending last.Long = (long_line, status.InputLong)

@@ -8,12 +8,15 @@ pub mod Transcript
 pub mod Printing
 pub mod Session
 pub mod Replayed
+pub mod Seats
+pub mod SeatsPlayed
 pub mod Migrating
 pub mod ActScript
 pub mod MigrationScript
 pub mod Watching
 pub mod PlayerScript
 pub mod SessionScript
+pub mod SeatsScript
 pub mod Ran
 pub mod Whole
 pub mod Trials

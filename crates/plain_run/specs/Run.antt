@@ -13,6 +13,7 @@ use Rattle.plain_run.specs.Lines.{taken, is_cut}
 use Rattle.plain_run.specs.Endings.{Answer}
 use Rattle.plain_run.specs.Transcript.{answer_of, answer_from}
 use Rattle.plain_run.specs.Session.{session_answer, session_of_lines}
+use Rattle.plain_run.specs.Seats.{seats_answer, seats_of_lines}
 use Rattle.plain_run.specs.Migrating.{migrated_answer, migrated_lines}
 use Rattle.plain_run.specs.Ran.{answer_read}
 use Rattle.plain_run.specs.Trials.{trial_lines}
@@ -24,6 +25,7 @@ command_named word =
     if bytes_eq word (codes "replay") then Some commands.Replay
     else if bytes_eq word (codes "replay-acts") then Some commands.ReplayActs
     else if bytes_eq word (codes "migrate") then Some commands.Migrate
+    else if bytes_eq word (codes "replay-seats") then Some commands.ReplaySeats
     else None
 
 -- what one word names
@@ -75,18 +77,21 @@ abbrev pub answer_lines : Command → Bool → List (List ℕ) → Answer
 answer_lines commands.Replay cut lines = session_of_lines cut lines
 answer_lines commands.ReplayActs cut lines = answer_from cut [] lines
 answer_lines commands.Migrate cut lines = migrated_lines cut lines
+answer_lines commands.ReplaySeats cut lines = seats_of_lines cut lines
 
 -- the most bytes of its input that a command reads
 abbrev pub limit_of : Command → ℕ
 limit_of commands.Replay = INPUT_LIMIT
 limit_of commands.ReplayActs = INPUT_LIMIT
 limit_of commands.Migrate = MIGRATE_LIMIT
+limit_of commands.ReplaySeats = INPUT_LIMIT
 
 -- what a command makes of an input of which at most the limit was read
 abbrev pub answer_to : Command → Bool → List ℕ → Answer
 answer_to commands.Replay cut input = session_answer cut input
 answer_to commands.ReplayActs cut input = answer_of cut input
 answer_to commands.Migrate cut input = migrated_answer cut input
+answer_to commands.ReplaySeats cut input = seats_answer cut input
 
 -- what a command writes for the bytes of an input, and its status
 unfoldable pub answer_by : Command → List ℕ → Answer

@@ -15,6 +15,8 @@ pub enum Command {
     Replay,
     /// `replay-acts`: an act list.
     ReplayActs,
+    /// `replay-seats`: several seats, each with the lines of a session of form 1.
+    ReplaySeats,
     /// `migrate`: a session of form 1, which becomes one of form 2.
     Migrate,
 }
@@ -41,6 +43,8 @@ fn command_named(word: &str) -> Option<Command>
         Some(Command::ReplayActs)
     } else if word == "migrate" {
         Some(Command::Migrate)
+    } else if word == "replay-seats" {
+        Some(Command::ReplaySeats)
     } else {
         None
     }

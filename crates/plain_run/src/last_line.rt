@@ -12,6 +12,8 @@ pub enum LastLine {
     End(u32),
     /// `end`: the line `end` of a session that is migrated, or of a script.
     Over,
+    /// `end`: the line `end` of several seats, of which the journal of one was full.
+    OverFull,
     /// `bad line N`: the line with that number, from 1, is outside its grammar, or isn't there.
     Bad(u64),
     /// `journal full N`: a step met a journal that is full with so many acts or counted entries.
@@ -34,6 +36,10 @@ pub fn close(text: &mut String, last: LastLine) -> Result<Status, NoMemory>
         LastLine::Over => {
             text.push_str("end\n")?;
             Ok(Status::Ok)
+        }
+        LastLine::OverFull => {
+            text.push_str("end\n")?;
+            Ok(Status::JournalFull)
         }
         LastLine::Bad(n) => {
             write!(text, "bad line {n}\n")?;

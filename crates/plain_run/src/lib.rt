@@ -13,6 +13,7 @@ mod printer;
 mod reading;
 mod run;
 mod script;
+mod seats;
 mod session;
 mod session_line;
 mod status;

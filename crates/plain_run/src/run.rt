@@ -18,6 +18,7 @@ use crate::follow::play_input;
 use crate::generated::{write_counts, write_generated};
 use crate::migration::Migration;
 use crate::reading::{INPUT_LIMIT, MIGRATE_LIMIT};
+use crate::seats::SeatsPlay;
 use crate::session::SessionPlay;
 use crate::status::Status;
 use crate::trial::run_script;
@@ -56,6 +57,10 @@ fn replay<S: Source, K: Sink>(
             Ok(mut acts) => play_input(alloc, INPUT_LIMIT, &mut acts, input, output),
             Err(NoMemory) => Status::NoMemory,
         },
+        Command::ReplaySeats => {
+            let mut seats = SeatsPlay::new(alloc);
+            play_input(alloc, INPUT_LIMIT, &mut seats, input, output)
+        }
     }
 }
 
@@ -84,8 +89,9 @@ fn run_task<S: Source, K: Sink>(alloc: Global, task: Task, input: &mut S, output
 }
 
 /// Runs the command that the words name over an input and an output: `replay` reads a session, and
-/// `replay-acts` an act list of at most 100,000 acts, and each writes its transcript; `migrate`
-/// writes a session of form 1 as one of form 2. These work line by line. `trial` reads the whole
+/// `replay-acts` an act list of at most 100,000 acts, and each writes its transcript; `replay-seats`
+/// reads the lines of several seats, and writes what each would by itself, behind its number;
+/// `migrate` writes a session of form 1 as one of form 2. These work line by line. `trial` reads the whole
 /// script of a trial, runs it, and writes what it shows. `gen N` and `gen N text` read nothing:
 /// they write the counts of the session of the number, and the session. At most 4,294,967,296 bytes
 /// are read, and 1,073,741,824 of a session that is migrated. Always returns. What status comes

@@ -17,6 +17,8 @@ mod migrate_tests;
 #[cfg(test)]
 mod runs;
 #[cfg(test)]
+mod seats_tests;
+#[cfg(test)]
 mod session_tests;
 #[cfg(test)]
 mod whole_tests;

@@ -107,7 +107,7 @@ fn a_failed_write_ends_the_reading(rt: HostRuntime) -> Result<(), Fail> {
     Ok(())
 }
 
-fn letters(alloc: Global, length: usize) -> Result<String, Fail> {
+pub(crate) fn letters(alloc: Global, length: usize) -> Result<String, Fail> {
     let mut text = String::new(alloc);
     for _ in 0..length {
         text.push('a')?;
@@ -138,7 +138,7 @@ const LONG_LINES: [(&str, usize, &str, u64, &str, Status); 4] = [
     ),
 ];
 
-fn parts<'a>(front: &'a str, line: &'a str, rest: &'a str) -> [&'a str; 3] {
+pub(crate) fn parts<'a>(front: &'a str, line: &'a str, rest: &'a str) -> [&'a str; 3] {
     [front, line, rest]
 }
 

@@ -204,7 +204,8 @@ impl SeatSet {
 
     /// How many seats there are.
     pub fn count(&self) -> u32
-        ensures { result ≡ length self.now.seats }
+        ensures number { result ≡ length self.now.seats }
+        ensures few { result ≤ 8 }
     {
         self.seats.len() as u32
     }

@@ -1,6 +1,7 @@
-use Rattle.plain_run.proofs.RunsWrite.{acts_ran, session_ran, migrated_ran, acts_law, session_law, migrated_law}
+use Rattle.plain_run.proofs.RunsWrite.{acts_ran, session_ran, migrated_ran, seats_ran, acts_law, session_law, migrated_law, seats_law}
 use Rattle.plain_run.proofs.MigratedLines.{migration_begins}
 use Rattle.plain_run.proofs.ActsPlayed.{acts_begin}
+use Rattle.plain_run.proofs.SeatsPlayed.{seats_begin}
 use Rattle.plain_run.proofs.SessionsPlayed.{session_begins}
 use Rattle.plain_run.proofs.run.replay.Goals as goal
 
@@ -40,3 +41,16 @@ pub returns-in-Migrate-clause-line_by_line : goal.returns-in-Migrate-clause-line
 returns-in-Migrate-clause-line_by_line g c = λ other.
     let l = c.play_input-in-Migrate.ensures.line_by_line other in
     (l.0, l.1, migrated_law c.args.command _ _ _ _ c.play_input-in-Migrate.result l.0 c.in-Migrate.is l.2)
+
+pub play_input-requires-in-ReplaySeats-clause-follows : goal.play_input-requires-in-ReplaySeats-clause-follows
+play_input-requires-in-ReplaySeats-clause-follows g c = seats_begin
+
+pub returns-in-ReplaySeats-clause-ran : goal.returns-in-ReplaySeats-clause-ran
+returns-in-ReplaySeats-clause-ran g c =
+    seats_ran c.args.command _ _ _ _ _ _ _ c.play_input-in-ReplaySeats.result c.in-ReplaySeats.is
+    c.play_input-in-ReplaySeats.ensures.ran
+
+pub returns-in-ReplaySeats-clause-line_by_line : goal.returns-in-ReplaySeats-clause-line_by_line
+returns-in-ReplaySeats-clause-line_by_line g c = λ other.
+    let l = c.play_input-in-ReplaySeats.ensures.line_by_line other in
+    (l.0, l.1, seats_law c.args.command _ _ _ _ c.play_input-in-ReplaySeats.result l.0 c.in-ReplaySeats.is l.2)

@@ -1,0 +1,10 @@
+pub mod WholeTexts
+pub mod MarkedLines
+pub mod JournalsWhole
+pub mod SeatsTexts
+pub mod LinesGiven
+pub mod SessionsFollow
+pub mod SeatsFollow
+pub mod LinesShorter
+pub mod SessionsRead
+pub mod SeatsAlone

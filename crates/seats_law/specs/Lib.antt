@@ -1,0 +1,2 @@
+pub mod SeatTexts
+pub mod SeatsLaws
