@@ -1,10 +1,11 @@
 //! A field's client and a method's client in a small session, against the bytes of its transcript.
 use crate::equal::equal;
-use client_side::{ClientFault, FieldClient, MethodClient};
+use client_side::{ClientFault, FieldClient, FieldHearer, MethodClient, MethodHearer};
 use compose_method::{ComposeTable, Method};
 use std::process::Abort;
 use std::test::Fail;
-use trial_field::Edit;
+use trial_field::{BatchView, Edit};
+use wl_proto::Event;
 
 // Takes the piece, and compares what the client then sends.
 fn field_sends(rt: &impl Abort, client: &mut FieldClient, piece: &[u8], wanted: &[u8]) {
@@ -108,5 +109,75 @@ fn a_method_types_what_is_pressed(rt: HostRuntime) -> Result<(), Fail> {
     let method = Method::new(rt.alloc(), table)?;
     let mut client = MethodClient::new(rt.alloc(), method)?;
     method_goes_on(&rt, &mut client);
+    Ok(())
+}
+
+// What was heard: enters and leaves, the serial of the last batch and whether it has edits, and the
+// events of the method.
+#[derive(Drop)]
+struct Heard {
+    enters: u32,
+    leaves: u32,
+    serial: u32,
+    has_edits: bool,
+    events: u32,
+}
+
+impl FieldHearer for Heard {
+    ghost may_follow = { λ before happening after. Unit {0} };
+
+    fn entered(&mut self) {
+        self.enters = self.enters.wrapping_add(1);
+    }
+
+    fn left(&mut self) {
+        self.leaves = self.leaves.wrapping_add(1);
+    }
+
+    fn batch(&mut self, edits: &BatchView<'_>, serial: u32) {
+        self.serial = serial;
+        self.has_edits = !edits.string.is_empty();
+    }
+}
+
+impl MethodHearer for Heard {
+    ghost may_follow = { λ before event after. Unit {0} };
+
+    fn came(&mut self, _event: &Event<'_>) {
+        self.events = self.events.wrapping_add(1);
+    }
+}
+
+// The same session as above, heard.
+fn field_is_heard(rt: &impl Abort, client: &mut FieldClient, heard: &mut Heard) {
+    equal(rt, client.receive_heard(&[7, 0, 0, 0, 0], heard), Ok(()));
+    equal(rt, heard.enters, 0);
+    equal(rt, client.receive_heard(&ENTER, heard), Ok(()));
+    equal(rt, (heard.enters, heard.leaves), (1, 0));
+    equal(rt, client.receive_heard(&STRING, heard), Ok(()));
+    equal(rt, (heard.serial, heard.has_edits), (1, true));
+    equal(rt, client.receive_heard(&DONE, heard), Ok(()));
+    equal(rt, (heard.serial, heard.has_edits), (1, false));
+}
+
+fn method_is_heard(rt: &impl Abort, client: &mut MethodClient<Method>, heard: &mut Heard) {
+    equal(rt, client.receive_heard(&ACTIVATION, heard), Ok(()));
+    equal(rt, client.receive_heard(&PRESS, heard), Ok(()));
+    equal(rt, heard.events, 4);
+}
+
+#[test]
+fn who_hears_a_client_is_told_what_happens(rt: HostRuntime) -> Result<(), Fail> {
+    let alloc = rt.alloc();
+    let mut heard = Heard {
+        enters: 0,
+        leaves: 0,
+        serial: 0,
+        has_edits: false,
+        events: 0,
+    };
+    field_is_heard(&rt, &mut FieldClient::new(alloc)?, &mut heard);
+    let method = Method::new(alloc, ComposeTable::new(alloc)?)?;
+    method_is_heard(&rt, &mut MethodClient::new(alloc, method)?, &mut heard);
     Ok(())
 }
