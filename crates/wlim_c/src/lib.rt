@@ -13,3 +13,5 @@ mod parts;
 mod peer_acts;
 mod readers;
 mod shell_acts;
+#[cfg(test)]
+mod tests;
