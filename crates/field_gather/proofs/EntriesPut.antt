@@ -1,5 +1,5 @@
 -- What an entry puts for a peer, by what is watched of it.
-use Rattle.std.proofs.Common.{◌≡◌, ℕ, zero, suc, ◌+◌, ◌<◌, ◌≤◌, Bool, true, false, List, [], ◌∷◌, ◌++◌, length, map, Option, Some, None, refl, sym, ap, ap₂, ◌∙◌, append_assoc, append-nil, arith}
+use Rattle.std.proofs.Common.{◌≡◌, ℕ, zero, suc, ◌+◌, ◌<◌, Bool, true, false, List, [], ◌∷◌, ◌++◌, length, map, Some, refl, sym, ap, ap₂, ◌∙◌, append-nil, arith}
 use Rattle.std.specs.Prelude.{if◌then◌else◌, ◌==◌}
 use Rattle.std.specs.List.{slice_get, flat_map, AllByRecursion}
 use Rattle.std.proofs.lemmas.Grind.{flat_map-append}
@@ -12,7 +12,7 @@ use Rattle.broker_model.specs.declared.journal.Entry.{Entry}
 use Rattle.broker_model.specs.Ids.{Made, Joined}
 use Rattle.broker_model.specs.Resolve.{past_of, resolve}
 use Rattle.broker_model.specs.Groups.{Piece, pair_of, followed_by}
-use Rattle.broker_model.specs.Out.{Outgoing, act_at, group_at, fits, with_group, before_group, out_for}
+use Rattle.broker_model.specs.Out.{Outgoing, act_at, group_at, fits, before_group, out_for}
 use Rattle.broker_model.proofs.EachElement.{each_append}
 use Rattle.seat_audience.specs.Lives.{Numbered}
 use Rattle.broker_core.specs.Stands.{numbered}

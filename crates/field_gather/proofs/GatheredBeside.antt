@@ -1,14 +1,14 @@
 -- What is gathered stands beside the journal, entry by entry.
-use Rattle.std.proofs.Common.{◌≡◌, ℕ, zero, suc, ◌+◌, ◌-◌, ◌<◌, ◌≤◌, Bool, true, false, List, [], ◌∷◌, ◌++◌, length, drop, Option, Some, None, refl, sym, ap, subst, ◌∙◌, append_assoc, append-nil, arith, length-append, length-drop, ◌⊎◌, inl, inr}
+use Rattle.std.proofs.Common.{◌≡◌, ℕ, zero, suc, ◌+◌, ◌-◌, ◌<◌, ◌≤◌, Bool, true, false, List, [], ◌∷◌, ◌++◌, length, drop, Some, refl, sym, ap, subst, ◌∙◌, append-nil, arith, length-append, length-drop, ◌⊎◌, inl, inr}
 use Rattle.std.specs.Prelude.{if◌then◌else◌}
 use Rattle.std.specs.List.{slice_get}
 use Rattle.std.proofs.lemmas.List.{drop_all}
-use Rattle.std.proofs.lemmas.Option.{slice_get_past, slice_get_within}
+use Rattle.std.proofs.lemmas.Option.{slice_get_within}
 use Rattle.seat_objects.specs.Reached.{Reached}
 use Rattle.broker_model.specs.declared.journal.Entry.{Entry}
 use Rattle.broker_model.specs.declared.journal.Entry.TheVariants as entries
-use Rattle.broker_model.specs.Ids.{Joined, peer_in, peer_at}
-use Rattle.broker_model.specs.Groups.{Piece, followed_by, nothing}
+use Rattle.broker_model.specs.Ids.{Joined, peer_in}
+use Rattle.broker_model.specs.Groups.{followed_by, nothing}
 use Rattle.broker_model.specs.Out.{Outgoing, stored, group_at, took_at, fits, before_group, out_for}
 use Rattle.broker_model.specs.Resolve.{past_of}
 use Rattle.broker_core.specs.Watched.{Watched, watched, watched_since, told_of}
@@ -19,7 +19,7 @@ use Rattle.broker_core.proofs.WatchedSince.{since_none, since_more}
 use Rattle.field_streams.specs.Comparing.{Comparing, Follows}
 use Rattle.field_streams.proofs.PiecesHeard.{first_follows, told_more}
 use Rattle.field_gather.specs.declared.side.Side.{Side}
-use Rattle.field_gather.specs.Gathering.{Gathering, MayGather, fresh_side, told_side, is_app, is_gained, gathered}
+use Rattle.field_gather.specs.Gathering.{Gathering, MayGather, fresh_side, told_side, is_gained, gathered}
 use Rattle.field_gather.specs.Going.{IsSide, IsGathered}
 use Rattle.field_gather.proofs.EventsGathered.{all_gathered, AreGathered, reached_all, puts_to, all_at, all_length, GotNone, none_put}
 use Rattle.field_gather.proofs.EntriesPut.{put_of, put_more, told_inner, told_put}

@@ -1,20 +1,19 @@
 -- What is heard of what was sent to one peer.
-use Rattle.std.proofs.Common.{◌≡◌, ℕ, zero, suc, ◌+◌, ◌-◌, ◌<◌, ◌≤◌, Bool, true, false, List, [], ◌∷◌, ◌++◌, length, Option, Some, None, refl, sym, ap, subst, ◌∙◌, append-nil, arith}
+use Rattle.std.proofs.Common.{◌≡◌, ℕ, zero, suc, ◌<◌, ◌≤◌, Bool, true, false, List, [], ◌∷◌, ◌++◌, length, Option, Some, None, refl, sym, ap, subst, ◌∙◌, append-nil, arith}
 use Rattle.std.specs.Prelude.{if◌then◌else◌, ◌==◌, IfOk, IfErr, Result, Ok, Err}
 use Rattle.std.specs.List.{slice_get, slice_set}
-use Rattle.std.proofs.lemmas.Bool.{eq-eqb, ne_eqb, eqb-true}
+use Rattle.std.proofs.lemmas.Bool.{eq-eqb, eqb-true}
 use Rattle.std.proofs.lemmas.Option.{slice_get_past, slice_get_within}
 use Rattle.broker_model.specs.declared.journal.Entry.{Entry}
-use Rattle.broker_model.specs.Ids.{Joined, peer_in, peer_at}
+use Rattle.broker_model.specs.Ids.{Joined, peer_at}
 use Rattle.broker_model.specs.Resolve.{past_of}
 use Rattle.broker_model.specs.Out.{out_for}
 use Rattle.field_streams.specs.declared.comparison.HearEnd.{HearEnd}
 use Rattle.field_streams.specs.declared.comparison.HearEnd.TheVariants as ends
-use Rattle.field_streams.specs.Comparing.{Comparing, Follows, IsHeard}
 use Rattle.field_gather.specs.declared.side.Side.{Side}
 use Rattle.field_gather.specs.Gathering.{Gathering, is_app, is_app_in, is_gained}
 use Rattle.field_gather.specs.Going.{IsSide, IsGathered}
-use Rattle.field_gather.specs.Hearing.{IsHeardAt, IsUnheardAt, IsSent, IsHeardBy, IsHeardFor, IsHeardOf, IsOther, IsUnlike}
+use Rattle.field_gather.specs.Hearing.{IsHeardAt, IsUnheardAt, IsSent, IsHeardFor, IsHeardOf, IsUnlike}
 use Rattle.field_gather.proofs.SidesTold.{set_here, set_other, set_length}
 
 -- what was sent to other peers than this is what it was

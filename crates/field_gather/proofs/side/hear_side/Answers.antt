@@ -1,9 +1,3 @@
-use Rattle.std.proofs.Common.{◌≡◌, get_or, Result, Ok, Err, refl}
-use Rattle.std.specs.Prelude.{IfOk, IfErr}
-use Rattle.std.specs.List.{slice_set}
-use Rattle.std.proofs.lemmas.Option.{slice_get-get_or}
-use Rattle.field_gather.specs.Hearing.{IsHeardAt, IsUnheardAt}
-use Rattle.field_gather.specs.declared.side.Side.{Side}
 use Rattle.field_gather.proofs.SidesTold.{heard_by, unheard_by}
 use Rattle.field_gather.proofs.side.hear_side.Goals as goal
 

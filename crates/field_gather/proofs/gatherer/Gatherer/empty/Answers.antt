@@ -1,4 +1,4 @@
-use Rattle.std.proofs.Common.{◌≡◌, ℕ, List, ap, ◌∙◌}
+use Rattle.std.proofs.Common.{ℕ, List, ap, ◌∙◌}
 use Rattle.field_gather.specs.Gathering.{Gathering, is_gained}
 use Rattle.field_gather.proofs.NumbersLost.{lost}
 use Rattle.field_gather.proofs.gatherer.Gatherer.empty.Goals as goal

@@ -1,9 +1,7 @@
-use Rattle.std.proofs.Common.{◌≡◌, ◌+◌, ℕ, suc, List, Bool, true, false, not, refl, sym, ◌∙◌, ap, subst, arith}
+use Rattle.std.proofs.Common.{◌≡◌, List, true, false, sym, ◌∙◌, ap, arith}
 use Rattle.std.specs.List.{slice_get}
 use Rattle.field_gather.specs.declared.side.Side.{Side}
 use Rattle.field_gather.specs.Gathering.{Gathering, is_app_in}
-use Rattle.field_gather.specs.Going.{IsGathered}
-use Rattle.field_gather.specs.Hearing.{IsHeardAt, IsUnheardAt}
 use Rattle.std.specs.Vec.{with_items}
 use Rattle.std.proofs.lemmas.List.{with_items_is}
 use Rattle.field_gather.proofs.SidesTold.{app_within}
