@@ -1,9 +1,11 @@
 # `make demo` replays an example, unproved; `make build` proves and builds the program, and replays one; `make examples`
 # compares what it makes of all examples, and `make cost` counts the instructions of a step (by valgrind): both want the
 # program built. `make test` is the gate; `make gate-cost` runs it from nothing, on a machine that does nothing else, and
-# prints what each crate costs; `make claims` checks that each README names calls and clauses that are there.
+# prints what each crate costs; `make claims` checks the documents against the sources, and their command blocks where the
+# program is built.
 # `make libwlim` proves and makes the library for C, in out/libwlim, and holds its header against it; `make embed` also
 # plays act lists through it, beside the program.
+PROGRAM = crates/wlim/out/wlim
 .PHONY: demo build examples test gate-cost cost claims libwlim embed
 demo:
 	cd crates/wlim && rt try -- replay-acts < ../../examples/one_string.acts
@@ -25,7 +27,7 @@ cost:
 	python3 tools/cost.py
 
 claims:
-	python3 tools/claims.py
+	python3 tools/claims.py $(if $(wildcard $(PROGRAM)),--program $(PROGRAM))
 
 libwlim:
 	cd crates/wlim_c && rt lib

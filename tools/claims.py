@@ -1,23 +1,43 @@
 #!/usr/bin/env python3
-"""Checks the claims of README.md and of each crates/NAME/README.md against the sources.
+"""Checks the documents against the sources: claims.py [--program PATH]
 
-A claim is a row `claim | call | clause` of a table with that head. Each call has to be a function of the sources (of
-the crate itself in its own README), and each clause the name of an `ensures` of one of the row's calls, of a ghost
-member or a function of the crate, or of what its specifications define. `its ensures` and `definitions` name no clause.
-docs/AUDIT.md has to tell how many must-fail edits there are. Prints what fails, and how many were looked at; ends with 1
-if any failed.
+1. Tables `claim | call | clause` of README.md, docs/ and crates/NAME/README.md: each call is a function of the sources (of
+   the crate in its own README), and each clause the name of an `ensures` of one of the row's calls, of a ghost member or
+   a function of the crate, or of what its specifications define. `its ensures` and `definitions` name no clause.
+2. Links resolve. Words in back quotes that are a path or a file's name are there; those that are a name with `_`, a
+   path with `::` or a word `InThisForm` stand somewhere in the sources.
+3. docs/AUDIT.md tells how many must-fail edits there are. All documents together have at most so many words.
+4. With a program: each line `$ COMMAND` in a block of README.md and docs/FORMATS.md ends well, and writes what stands
+   below it, if anything does.
+
+Prints what fails, and how many were looked at; ends with 1 if any failed.
 """
 import glob
 import os
 import re
+import subprocess
 import sys
+import tempfile
 
-ROOT = os.path.join(os.path.dirname(os.path.abspath(__file__)), "..")
+ROOT = os.path.abspath(os.path.join(os.path.dirname(os.path.abspath(__file__)), ".."))
 FUNCTION = re.compile(r"\bfn\s+(\w+)")
 ENSURES = re.compile(r"\bensures\s*\*?\s*(\w+)\s*\{")
 GHOST = re.compile(r"\b(?:ghost|struct|enum|trait)\s+(\w+)\s*[:={<(]")
 DEFINED = re.compile(r"^\s*(?:(?:abbrev|unfoldable|record|data)\s+)*pub\s+(?:record\s+)?(\w+)", re.M)
 WORDS_OF_NO_CLAUSE = {"ensures", "requires", "result"}
+MOST_WORDS = 45_000
+RUN = ["README.md", "docs/FORMATS.md"]
+FILE = re.compile(r"[\w./-]+\.(?:rt|antt|py|sh|c|h|md|txt|session|acts|transcript|trial|shown|edit)")
+NAME = re.compile(r"[a-z]\w*_\w+|(?:[A-Z][a-z0-9]+){2,}|\w+(?:::\w+)+")
+
+
+def sources(pattern):
+    return glob.glob(f"{ROOT}/{pattern}", recursive=True)
+
+
+def read(path):
+    with open(path, encoding="utf-8") as file:
+        return file.read()
 
 
 def clauses_of(folder):
@@ -25,7 +45,7 @@ def clauses_of(folder):
     found = {}
     for path in glob.glob(f"{folder}/src/**/*.rt", recursive=True):
         name = None
-        for line in open(path, encoding="utf-8"):
+        for line in read(path).splitlines():
             function = FUNCTION.search(line.split("//")[0])
             if function:
                 name = function.group(1)
@@ -39,9 +59,9 @@ def words_of(folder):
     """What a crate's specifications define, fields of records with them, its ghost members and its types."""
     found = set()
     for path in glob.glob(f"{folder}/specs/**/*.antt", recursive=True):
-        found.update(DEFINED.findall(open(path, encoding="utf-8").read()))
+        found.update(DEFINED.findall(read(path)))
     for path in glob.glob(f"{folder}/src/**/*.rt", recursive=True):
-        found.update(GHOST.findall(open(path, encoding="utf-8").read()))
+        found.update(GHOST.findall(read(path)))
     return found
 
 
@@ -59,7 +79,7 @@ def called(word):
 def rows_of(path):
     """The rows of each table of claims."""
     inside = False
-    for number, line in enumerate(open(path, encoding="utf-8"), 1):
+    for number, line in enumerate(read(path).splitlines(), 1):
         cells = [cell.strip() for cell in line.strip().strip("|").split("|")]
         if line.startswith("|") and len(cells) == 3:
             if cells[1:] in (["call", "clause"], ["public call", "clause"]):
@@ -70,48 +90,98 @@ def rows_of(path):
             inside = False
 
 
-def main():
+def claims(documents):
+    """A problem, or none, for each row of a table of claims."""
     crates = {os.path.basename(folder): (clauses_of(folder), words_of(folder))
-              for folder in glob.glob(f"{ROOT}/crates/*") if os.path.isdir(folder)}
+              for folder in sources("crates/*") if os.path.isdir(folder)}
     every_clause, every_word = {}, set()
     for functions, words in crates.values():
         for name, clauses in functions.items():
             every_clause.setdefault(name, set()).update(clauses)
         every_word |= words
-    looked_at = failed = 0
-    for path in [f"{ROOT}/README.md"] + sorted(glob.glob(f"{ROOT}/crates/*/README.md")):
+    for path in documents:
         own = crates.get(os.path.basename(os.path.dirname(path)))
-        functions = own[0] if own and path != f"{ROOT}/README.md" else every_clause
+        functions = own[0] if own else every_clause
         for number, (_, call, clause) in rows_of(path):
-            looked_at += 1
             names = [name for word in code_words(call) for name in called(word) if "/" not in word]
             known = [name for name in names if name in functions]
-            problems = [f"no call `{name}`" for name in names 
+            problems = [f"no call `{name}`" for name in names
                         if name not in functions and name not in every_word and name[:1].islower()]
             clauses = set().union(*[functions[name] for name in known or functions])
             for word in code_words(clause):
                 if re.fullmatch(r"\w+", word) and word not in WORDS_OF_NO_CLAUSE \
                         and word not in clauses and word not in every_word and word not in functions:
                     problems.append(f"no clause `{word}`")
-            if problems:
-                failed += 1
-                print(f"{os.path.relpath(path, ROOT)}:{number}: {'; '.join(problems)}")
-    for told, counted in counts_of_edits():
-        looked_at += 1
-        if told != counted:
-            failed += 1
-            print(f"docs/AUDIT.md: {told} where {counted} are")
-    print(f"{looked_at} claims, {failed} that don't stand")
-    return 1 if failed else 0
+            yield f"{path}:{number}: {'; '.join(problems)}" if problems else None
 
 
-def counts_of_edits():
-    """How many crates have must-fail edits and how many these are, as docs/AUDIT.md tells and as they are."""
-    edits = glob.glob(f"{ROOT}/crates/*/must-fail/*.edit")
-    folders = {os.path.dirname(edit) for edit in edits}
-    with open(f"{ROOT}/docs/AUDIT.md") as file:
-        told = re.search(r"of (\d+) crates have (\d+) such\s+changes", file.read())
-    return zip(map(int, told.groups()) if told else (0, 0), (len(folders), len(edits)))
+def names(documents):
+    """A problem, or none, for each link and each word in back quotes that names something of the repository."""
+    files = {os.path.relpath(path, ROOT) for path in sources("**/*")}
+    bases = {os.path.basename(path) for path in files}
+    vocabulary = set(bases)
+    for path in files:
+        if re.search(r"\.(rt|antt|py|sh|c|h|toml|txt)$", path) or os.path.basename(path) == "Makefile":
+            vocabulary.update(re.findall(r"\w+", read(f"{ROOT}/{path}")))
+        vocabulary.update(re.findall(r"\w+", path))
+    for path in documents:
+        text = re.sub(r"^```.*?^```$", "", read(path), flags=re.M | re.S)
+        folder = os.path.dirname(path)
+        for target in re.findall(r"\]\(([^)#]+)[^)]*\)", text):
+            there = "://" in target or os.path.exists(os.path.join(folder, target))
+            yield None if there else f"{path}: no {target}"
+        for word in set(re.findall(r"`([^`\n]+)`", text)):
+            if FILE.fullmatch(word) and not re.search("NAME|PATH", word):
+                there = any(file == word or file.endswith("/" + word) for file in files)
+                yield None if there else f"{path}: no file {word}"
+            elif NAME.fullmatch(word):
+                gone = [part for part in word.split("::") if part not in vocabulary]
+                yield f"{path}: no {word}" if gone else None
+
+
+def blocks(path):
+    """Each command of the blocks of a document, with what stands below it."""
+    for block in re.findall(r"^```\n(.*?)^```$", read(path), flags=re.M | re.S):
+        for part in re.split(r"^\$ ", block.replace("\\\n    ", ""), flags=re.M)[1:]:
+            command, _, below = part.partition("\n")
+            yield command, below
+
+
+def runs(program):
+    """A problem, or none, for each command of a block."""
+    with tempfile.TemporaryDirectory() as folder:
+        os.symlink(os.path.abspath(program), f"{folder}/wlim")
+        environment = dict(os.environ, PATH=f"{folder}:{os.environ['PATH']}")
+        for document in RUN:
+            for command, below in blocks(f"{ROOT}/{document}"):
+                run = subprocess.run(command.replace("crates/wlim/out/wlim", f"{folder}/wlim"), shell=True, cwd=ROOT,
+                                     env=environment, stdout=subprocess.PIPE, text=True, timeout=60, check=False)
+                good = run.returncode == 0 and below in ("", run.stdout)
+                yield None if good else f"{document}: `{command}` ended with {run.returncode} and wrote {run.stdout!r}"
+
+
+def counts(documents):
+    """A problem, or none, for the must-fail edits that docs/AUDIT.md counts, and for the number of words."""
+    edits = sources("crates/*/must-fail/*.edit")
+    counted = (len({os.path.dirname(edit) for edit in edits}), len(edits))
+    told = re.search(r"of (\d+) crates have (\d+)\s+such\s+changes", read(f"{ROOT}/docs/AUDIT.md"))
+    good = told and tuple(map(int, told.groups())) == counted
+    yield None if good else f"docs/AUDIT.md: {counted[1]} edits of {counted[0]} crates are there"
+    words = sum(len(re.findall(r"\S*\w\S*", read(path))) for path in documents)
+    yield None if words <= MOST_WORDS else f"{words} words in all documents"
+
+
+def main():
+    folders = ["*.md", "docs/*.md", "crates/*/README.md", "examples/**/*.md"]
+    documents = sorted(path for pattern in folders for path in sources(pattern))
+    found = list(claims(documents)) + list(names(documents)) + list(counts(documents))
+    if sys.argv[1:2] == ["--program"]:
+        found += list(runs(sys.argv[2]))
+    problems = [problem for problem in found if problem]
+    for problem in problems:
+        print(problem.replace(f"{ROOT}/", ""))
+    print(f"{len(found)} claims, names and commands, {len(problems)} that don't stand")
+    return 1 if problems else 0
 
 
 if __name__ == "__main__":
