@@ -101,7 +101,8 @@ int64_t wlim_focus(struct wlim *seat, uint32_t surface);
 /* The keyboard focus is taken away (wl_keyboard.leave). */
 int64_t wlim_unfocus(struct wlim *seat);
 
-/* A key of the seat's keyboard: state 0 is released, 1 pressed; time in milliseconds. It has a number always. */
+/* A key of the seat's keyboard: state 0 is released, 1 pressed; time in milliseconds. With 64 keys down, a press of
+ * another does nothing. */
 int64_t wlim_key(struct wlim *seat, uint32_t time, uint32_t key, uint32_t state);
 
 /* The modifiers of the seat's keyboard. */
@@ -156,15 +157,16 @@ int64_t wlim_mdelete(struct wlim *seat, uint32_t method, uint32_t before, uint32
 /* commit: the serial names one of the dones that the method was told */
 int64_t wlim_mcommit(struct wlim *seat, uint32_t method, uint32_t serial);
 
-/* ---- zwp_virtual_keyboard_v1; what a board says has a number always ---- */
+/* ---- zwp_virtual_keyboard_v1 ---- */
 
 /* keymap: it is told to nobody; a board sends no key before it */
 int64_t wlim_vkeymap(struct wlim *seat, uint32_t board, uint32_t format, uint32_t token, uint32_t size);
 
-/* key: state 0 is released, 1 pressed */
+/* key: state 0 is released, 1 pressed. Before the board's keymap, and with 64 of its keys down at a press of another, it
+ * does nothing. */
 int64_t wlim_vkey(struct wlim *seat, uint32_t board, uint32_t time, uint32_t key, uint32_t state);
 
-/* modifiers */
+/* modifiers; before the board's keymap they do nothing */
 int64_t wlim_vmods(struct wlim *seat, uint32_t board, uint32_t depressed, uint32_t latched, uint32_t locked, uint32_t group);
 
 /* ---- Events ---- */
