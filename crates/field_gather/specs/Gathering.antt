@@ -2,7 +2,7 @@
 use Rattle.std.specs.Prelude.{◌≡◌, ℕ, zero, suc, ◌-◌, ◌<◌, ◌≤◌, ◌==◌, List, [], ◌∷◌, ◌++◌, Bool, true, false, if◌then◌else◌, Option, Some, None}
 use Rattle.std.specs.List.{list_any}
 use Rattle.relay_model.specs.declared.role.Role.{Role}
-use Rattle.relay_model.specs.declared.role.Role.TheVariants.{App, Method}
+use Rattle.relay_model.specs.declared.role.Role.TheVariants.{App, Method, Keyed}
 use Rattle.broker_model.specs.declared.journal.Entry.TheVariants.{Join}
 use Rattle.broker_core.specs.Watched.{Watched}
 use Rattle.broker_core.specs.Watched.Watched.{Entered, Put}
@@ -12,6 +12,7 @@ use Rattle.field_gather.specs.declared.side.Side.{Side}
 abbrev pub is_app : Role → Bool
 is_app App = true
 is_app Method = false
+is_app Keyed = false
 
 -- an application is there
 abbrev pub is_app_in : Option Side → Bool

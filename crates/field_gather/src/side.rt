@@ -22,7 +22,7 @@ fn is_app(role: Role) -> bool
 {
     match role {
         Role::App => true,
-        Role::Method => false,
+        Role::Method | Role::Keyed => false,
     }
 }
 
