@@ -55,7 +55,7 @@ class Server:
 
     def connect(self, letter):
         """A link to the door of the letter, once the server listens there."""
-        path = self.paths[{"a": "app", "m": "method", "s": "shell"}[letter]]
+        path = self.paths[{"a": "app", "m": "method", "k": "method", "s": "shell"}[letter]]
         for _ in range(500):
             link = socket.socket(socket.AF_UNIX)
             try:

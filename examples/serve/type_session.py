@@ -11,6 +11,7 @@ import time
 
 from frames import Server, frames_of, read_frame, told
 
+LETTERS = {"app": "a", "method": "m", "keyed": "k"}
 BETWEEN_LINES = 0.02  # seconds, so that the steps stand in the order of the lines
 
 
@@ -32,7 +33,7 @@ class Peer(threading.Thread):
 
 
 def letters(lines):
-    joins = "".join({"app": "a", "method": "m"}[line.split()[1]] for line in lines if line.startswith("join "))
+    joins = "".join(LETTERS[line.split()[1]] for line in lines if line.startswith("join "))
     return "s" + joins
 
 
@@ -51,7 +52,7 @@ def play(lines, server):
     for line in lines:
         words = line.split(" ")
         if words[0] == "join":
-            peers.append(Peer(server.connect({"app": "a", "method": "m"}[words[1]])))
+            peers.append(Peer(server.connect(LETTERS[words[1]])))
         elif words[0] == "bytes":
             send(peers[int(words[1]) - 1].link, frames_of(bytes.fromhex(words[2])))
         elif words[0] not in ("session", "end", "take", "gone"):

@@ -4,7 +4,6 @@ use Rattle.std.proofs.lemmas.List.{append_assoc, map-append}
 use Rattle.std.proofs.lemmas.List.Elements.{All-append}
 use Rattle.relay_model.specs.declared.role.Role.{Role}
 use Rattle.hub_lock.specs.Passes.{HubId}
-use Rattle.link_nets.specs.declared.door.Door.{Door}
 use Rattle.link_jobs.specs.Tags.{Tag}
 use Rattle.serve_run.specs.LinkJobs.{LinkedJob, IsOnHub, job_tagged, role_at, jobs_by, joins_by, passes_by, jobs_of, joins_of, passes_of}
 use Rattle.serve_run.specs.Started.{AreStarted}
@@ -13,43 +12,43 @@ pub jobs_counted : (next : ℕ) (role : Option Role) → length (jobs_by next ro
 jobs_counted next None = refl
 jobs_counted next (Some role) = refl
 
-pub all_jobs_counted : (next : ℕ) (doors : List Door) → length (jobs_of next doors) ≡ passes_of doors
+pub all_jobs_counted : (next : ℕ) (letters : List ℕ) → length (jobs_of next letters) ≡ passes_of letters
 all_jobs_counted next [] = refl
-all_jobs_counted next (d ∷ doors) =
-    let rest = all_jobs_counted (next + passes_by (role_at d)) doors in
+all_jobs_counted next (d ∷ letters) =
+    let rest = all_jobs_counted (next + passes_by (role_at d)) letters in
     let one = jobs_counted next (role_at d) in
-    let both = length-append (jobs_by next (role_at d)) (jobs_of (next + passes_by (role_at d)) doors) in omega arith
+    let both = length-append (jobs_by next (role_at d)) (jobs_of (next + passes_by (role_at d)) letters) in omega arith
 
-pub passes_more : (doors : List Door) (d : Door) → passes_of (doors ++ d ∷ []) ≡ passes_of doors + passes_by (role_at d)
+pub passes_more : (letters : List ℕ) (d : ℕ) → passes_of (letters ++ d ∷ []) ≡ passes_of letters + passes_by (role_at d)
 passes_more [] d = omega arith
-passes_more (e ∷ doors) d = let rest = passes_more doors d in omega arith
+passes_more (e ∷ letters) d = let rest = passes_more letters d in omega arith
 
-pub jobs_more : (next : ℕ) (doors : List Door) (d : Door)
-    → jobs_of next (doors ++ d ∷ []) ≡ jobs_of next doors ++ jobs_by (next + passes_of doors) (role_at d)
+pub jobs_more : (next : ℕ) (letters : List ℕ) (d : ℕ)
+    → jobs_of next (letters ++ d ∷ []) ≡ jobs_of next letters ++ jobs_by (next + passes_of letters) (role_at d)
 jobs_more next [] d = append-nil (jobs_by next (role_at d)) ∙ ap (λ n. jobs_by n (role_at d)) (omega arith)
-jobs_more next (e ∷ doors) d =
-    ap (λ jobs. jobs_by next (role_at e) ++ jobs) (jobs_more (next + passes_by (role_at e)) doors d)
-    ∙ (sym (append_assoc (jobs_by next (role_at e)) (jobs_of (next + passes_by (role_at e)) doors)
-    (jobs_by (next + passes_by (role_at e) + passes_of doors) (role_at d)))
-    ∙ ap (λ n. (jobs_by next (role_at e) ++ jobs_of (next + passes_by (role_at e)) doors) ++ jobs_by n (role_at d))
+jobs_more next (e ∷ letters) d =
+    ap (λ jobs. jobs_by next (role_at e) ++ jobs) (jobs_more (next + passes_by (role_at e)) letters d)
+    ∙ (sym (append_assoc (jobs_by next (role_at e)) (jobs_of (next + passes_by (role_at e)) letters)
+    (jobs_by (next + passes_by (role_at e) + passes_of letters) (role_at d)))
+    ∙ ap (λ n. (jobs_by next (role_at e) ++ jobs_of (next + passes_by (role_at e)) letters) ++ jobs_by n (role_at d))
     (omega arith))
 
-pub joins_more : (next : ℕ) (doors : List Door) (d : Door)
-    → joins_of next (doors ++ d ∷ []) ≡ joins_of next doors ++ joins_by (next + passes_of doors) (role_at d)
+pub joins_more : (next : ℕ) (letters : List ℕ) (d : ℕ)
+    → joins_of next (letters ++ d ∷ []) ≡ joins_of next letters ++ joins_by (next + passes_of letters) (role_at d)
 joins_more next [] d = append-nil (joins_by next (role_at d)) ∙ ap (λ n. joins_by n (role_at d)) (omega arith)
-joins_more next (e ∷ doors) d =
-    ap (λ joins. joins_by next (role_at e) ++ joins) (joins_more (next + passes_by (role_at e)) doors d)
-    ∙ (sym (append_assoc (joins_by next (role_at e)) (joins_of (next + passes_by (role_at e)) doors)
-    (joins_by (next + passes_by (role_at e) + passes_of doors) (role_at d)))
-    ∙ ap (λ n. (joins_by next (role_at e) ++ joins_of (next + passes_by (role_at e)) doors) ++ joins_by n (role_at d))
+joins_more next (e ∷ letters) d =
+    ap (λ joins. joins_by next (role_at e) ++ joins) (joins_more (next + passes_by (role_at e)) letters d)
+    ∙ (sym (append_assoc (joins_by next (role_at e)) (joins_of (next + passes_by (role_at e)) letters)
+    (joins_by (next + passes_by (role_at e) + passes_of letters) (role_at d)))
+    ∙ ap (λ n. (joins_by next (role_at e) ++ joins_of (next + passes_by (role_at e)) letters) ++ joins_by n (role_at d))
     (omega arith))
 
--- fewer doors bring no more passes
-pub passes_front : (doors : List Door) (n m : ℕ) → n ≤ m → passes_of (take n doors) ≤ passes_of (take m doors)
-passes_front doors zero m few = omega arith
+-- fewer letters bring no more passes
+pub passes_front : (letters : List ℕ) (n m : ℕ) → n ≤ m → passes_of (take n letters) ≤ passes_of (take m letters)
+passes_front letters zero m few = omega arith
 passes_front [] (suc n) m few = omega arith
-passes_front (d ∷ doors) (suc n) zero few = absurd (omega arith)
-passes_front (d ∷ doors) (suc n) (suc m) few = let rest = passes_front doors n m (omega arith) in omega arith
+passes_front (d ∷ letters) (suc n) zero few = absurd (omega arith)
+passes_front (d ∷ letters) (suc n) (suc m) few = let rest = passes_front letters n m (omega arith) in omega arith
 
 -- the first of two lists, and some of the second
 pub take_past : {A : Type 0} (xs ys : List A) (n : ℕ) → take (length xs + n) (xs ++ ys) ≡ xs ++ take n ys

@@ -12,7 +12,7 @@ use Rattle.hub_lock.specs.Passes.{HubId, PassSeat}
 use Rattle.wio_core.specs.Io.{Rose}
 use Rattle.link_nets.specs.declared.door.Door.{Door}
 use Rattle.link_jobs.specs.Tags.{Tag, Report}
-use Rattle.serve_words.specs.Words.{Serving}
+use Rattle.serve_words.specs.Words.{Serving, doors_of}
 use Rattle.serve_run.specs.declared.status.ServeStatus.{ServeStatus}
 use Rattle.serve_run.specs.declared.status.ServeStatus.TheVariants as statuses
 use Rattle.serve_run.specs.declared.stop.Stop.{Stop}
@@ -53,13 +53,13 @@ refused_stays limits a b more (Some role) stop is was = (
   },
 )
 
-unless_stays : (limits : Limits) (a b : History) (doors : List Door) (joined accepted : ℕ)
+unless_stays : (limits : Limits) (a b : History) (letters : List ℕ) (joined accepted : ℕ)
     (stop : Result (Unit {0}) Stop)
-    (more : History) → b ≡ a ++ more → JoinedUnless limits a doors joined accepted stop
-    → JoinedUnless limits b doors joined accepted stop
-unless_stays limits a b doors joined accepted stop more is unless =
+    (more : History) → b ≡ a ++ more → JoinedUnless limits a letters joined accepted stop
+    → JoinedUnless limits b letters joined accepted stop
+unless_stays limits a b letters joined accepted stop more is unless =
     ⊎_elim (λ all. inl all)
-    (λ (at : IsRefusedAt limits a doors joined accepted stop).
+    (λ (at : IsRefusedAt limits a letters joined accepted stop).
     inr (at.0, at.1, at.2, refused_stays limits a b more (role_at at.1) stop is at.3)) unless
 
 -- what the accepting, the collecting, the copying and the writing tell of a run
@@ -73,7 +73,7 @@ pub record Run (asked : Serving) (before after : Sides) (status : ServeStatus) :
   pub linked : PassSeat
   pub count : ℕ
   pub within : count ≤ length asked.order
-  pub doors : after.links ≡ before.links ++ take count asked.order
+  pub doors : after.links ≡ before.links ++ take count (doors_of asked.order)
   pub accepted : Result (Unit {0}) Stop
   pub links : LinksStarted hub first linked before.started after.started asked.order count accepted
   pub all : OnOk accepted (count ≡ length asked.order)
@@ -145,7 +145,7 @@ law_of asked before after status run =
       only_root = λ some. only_root run.collected.taken run.history
           (all_in (0 ∷ run.collected.taken) run.history
           (subst (λ taken. IsDistinct (0 ∷ taken)) (sym (taken_is are next_is))
-          (once_both links.count jobs (jobs_from 1 _)))
+          (once_both links.count jobs (jobs_from 1 (take links.joined asked.order))))
           (run.owned some))
           (λ n out. plain_pushed run.history (map job_reported run.given) (pushed (drop links.count jobs) [])
           (plain_reports asked.limits run.history run.given laws)

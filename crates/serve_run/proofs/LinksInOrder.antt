@@ -20,9 +20,9 @@ use Rattle.serve_run.specs.Refused.{stopped}
 use Rattle.serve_run.specs.Unserved.{pushed}
 
 -- no link came yet
-pub none_yet : (hub : HubId) (root : PassSeat) (started : List Tag) (doors : List Door) → IsRootOf hub root
-    → AllStarted hub root root started started doors 0
-none_yet hub root started doors is = record {
+pub none_yet : (hub : HubId) (root : PassSeat) (started : List Tag) (letters : List ℕ) → IsRootOf hub root
+    → AllStarted hub root root started started letters 0
+none_yet hub root started letters is = record {
   root_is = is;
   next = omega arith;
   joins = sym (append-nil (own 0 root.seen));
@@ -31,93 +31,110 @@ none_yet hub root started doors is = record {
   balance = refl;
 }
 
--- the doors of one link more
-one_door : (doors : List Door) (i : ℕ) (d : Door) → i < length doors → d ≡ get_or doors i App
-    → take (i + 1) doors ≡ take i doors ++ d ∷ []
-one_door doors i d within is = rw add-one (take-suc doors i App within) ∙ ap (λ e. take i doors ++ e ∷ []) (sym is)
+-- the front of a list with one more of it
+one_more : {A : Type 0} (default : A) (xs : List A) (i : ℕ) (x : A) → i < length xs → x ≡ get_or xs i default
+    → take (i + 1) xs ≡ take i xs ++ x ∷ []
+one_more default xs i x within is = rw add-one (take-suc xs i default within) ∙ ap (λ y. take i xs ++ y ∷ []) (sym is)
+
+-- the letters of one link more
+one_letter : (letters : List ℕ) (i : ℕ) (d : ℕ) → i < length letters → d ≡ get_or letters i 0
+    → take (i + 1) letters ≡ take i letters ++ d ∷ []
+one_letter letters i d within is = one_more 0 letters i d within is
 
 -- what a link more makes of the root's next number and of its joins
-next_more : (hub : HubId) (first before after : PassSeat) (a b c : List Tag) (doors : List Door) (i : ℕ) (d : Door)
-    (r : Result (Unit {0}) Stop) → i < length doors → d ≡ get_or doors i App → AllStarted hub first before a b doors i
+next_more : (hub : HubId) (first before after : PassSeat) (a b c : List Tag) (letters : List ℕ) (i : ℕ) (d : ℕ)
+    (r : Result (Unit {0}) Stop) → i < length letters → d ≡ get_or letters i 0 →
+    AllStarted hub first before a b letters i
     → (link : LinkStarted hub before after b c (role_at d) r) → link.is_joined ≡ true
-    → after.next ≡ first.next + passes_of (take (i + 1) doors)
-next_more hub first before after a b c doors i d r within is all link joined =
-    let doors_are = ap passes_of (one_door doors i d within is) ∙ passes_more (take i doors) d in
+    → after.next ≡ first.next + passes_of (take (i + 1) letters)
+next_more hub first before after a b c letters i d r within is all link joined =
+    let doors_are = ap passes_of (one_letter letters i d within is) ∙ passes_more (take i letters) d in
     let one = link.next ∙ ap (λ j. before.next + (if j then passes_by (role_at d) else 0)) joined in
     let two = all.next in omega arith
 
-joins_then : (hub : HubId) (first before after : PassSeat) (a b c : List Tag) (doors : List Door) (i : ℕ) (d : Door)
-    (r : Result (Unit {0}) Stop) → i < length doors → d ≡ get_or doors i App → AllStarted hub first before a b doors i
+joins_then : (hub : HubId) (first before after : PassSeat) (a b c : List Tag) (letters : List ℕ) (i : ℕ) (d : ℕ)
+    (r : Result (Unit {0}) Stop) → i < length letters → d ≡ get_or letters i 0 →
+    AllStarted hub first before a b letters i
     → (link : LinkStarted hub before after b c (role_at d) r) → link.is_joined ≡ true
-    → own 0 after.seen ≡ own 0 first.seen ++ joins_of first.next (take (i + 1) doors)
-joins_then hub first before after a b c doors i d r within is all link joined =
+    → own 0 after.seen ≡ own 0 first.seen ++ joins_of first.next (take (i + 1) letters)
+joins_then hub first before after a b c letters i d r within is all link joined =
     link.joins ∙ (ap (λ j. own 0 before.seen ++ (if j then joins_by before.next (role_at d) else [])) joined
     ∙ (ap (λ s. s ++ joins_by before.next (role_at d)) all.joins
-    ∙ (append_assoc (own 0 first.seen) (joins_of first.next (take i doors)) (joins_by before.next (role_at d))
-    ∙ ap (λ s. own 0 first.seen ++ s) (ap (λ n. joins_of first.next (take i doors) ++ joins_by n (role_at d)) all.next
-    ∙ (sym (joins_more first.next (take i doors) d) ∙ ap (joins_of first.next) (sym (one_door doors i d within is)))))))
+    ∙ (append_assoc (own 0 first.seen) (joins_of first.next (take i letters)) (joins_by before.next (role_at d))
+    ∙ ap (λ s. own 0 first.seen ++ s) (ap (λ n. joins_of first.next (take i letters) ++ joins_by n (role_at d)) all.next
+    ∙ (sym (joins_more first.next (take i letters) d)
+    ∙ ap (joins_of first.next) (sym (one_letter letters i d within is)))))))
 
 -- the jobs of the links so far, and some of the next link's
-jobs_then : (hub : HubId) (first before after : PassSeat) (a b c : List Tag) (doors : List Door) (i : ℕ) (d : Door)
-    (r : Result (Unit {0}) Stop) → i < length doors → d ≡ get_or doors i App → AllStarted hub first before a b doors i
+jobs_then : (hub : HubId) (first before after : PassSeat) (a b c : List Tag) (letters : List ℕ) (i : ℕ) (d : ℕ)
+    (r : Result (Unit {0}) Stop) → i < length letters → d ≡ get_or letters i 0 →
+    AllStarted hub first before a b letters i
     → (link : LinkStarted hub before after b c (role_at d) r)
-    → AreStarted hub a c (take (passes_of (take i doors) + link.count) (jobs_of first.next (take (i + 1) doors)))
-jobs_then hub first before after a b c doors i d r within is all link =
-    let so_far = jobs_of first.next (take i doors) in
-    let following = jobs_by (first.next + passes_of (take i doors)) (role_at d) in
-    let long = all_jobs_counted first.next (take i doors) in
+    → AreStarted hub a c (take (passes_of (take i letters) + link.count) (jobs_of first.next (take (i + 1) letters)))
+jobs_then hub first before after a b c letters i d r within is all link =
+    let so_far = jobs_of first.next (take i letters) in
+    let following = jobs_by (first.next + passes_of (take i letters)) (role_at d) in
+    let long = all_jobs_counted first.next (take i letters) in
     subst (AreStarted hub a c)
     (ap (λ n. so_far ++ take link.count (jobs_by n (role_at d))) all.next
     ∙ (sym (take_past so_far following link.count)
     ∙ (ap (λ n. take (n + link.count) (so_far ++ following)) long
-    ∙ ap (λ jobs. take (passes_of (take i doors) + link.count) jobs)
-    (sym (jobs_more first.next (take i doors) d) ∙ ap (jobs_of first.next) (sym (one_door doors i d within is))))))
+    ∙ ap (λ jobs. take (passes_of (take i letters) + link.count) jobs)
+    (sym (jobs_more first.next (take i letters) d)
+    ∙ ap (jobs_of first.next) (sym (one_letter letters i d within is))))))
     (started_both hub a b c _ _ all.jobs link.jobs)
 
 -- those of its jobs that weren't
-others_then : (hub : HubId) (first before after : PassSeat) (a b c : List Tag) (doors : List Door) (i : ℕ) (d : Door)
-    (r : Result (Unit {0}) Stop) → i < length doors → d ≡ get_or doors i App → AllStarted hub first before a b doors i
+others_then : (hub : HubId) (first before after : PassSeat) (a b c : List Tag) (letters : List ℕ) (i : ℕ) (d : ℕ)
+    (r : Result (Unit {0}) Stop) → i < length letters → d ≡ get_or letters i 0 →
+    AllStarted hub first before a b letters i
     → (link : LinkStarted hub before after b c (role_at d) r) → link.is_joined ≡ true
     → AreGivenBack hub.limits first after
-    (drop (passes_of (take i doors) + link.count) (jobs_of first.next (take (i + 1) doors)))
-others_then hub first before after a b c doors i d r within is all link joined =
-    let so_far = jobs_of first.next (take i doors) in
-    let following = jobs_by (first.next + passes_of (take i doors)) (role_at d) in
-    let long = all_jobs_counted first.next (take i doors) in
+    (drop (passes_of (take i letters) + link.count) (jobs_of first.next (take (i + 1) letters)))
+others_then hub first before after a b c letters i d r within is all link joined =
+    let so_far = jobs_of first.next (take i letters) in
+    let following = jobs_by (first.next + passes_of (take i letters)) (role_at d) in
+    let long = all_jobs_counted first.next (take i letters) in
     subst (AreGivenBack hub.limits first after)
     (ap (λ n. drop link.count (jobs_by n (role_at d))) all.next
     ∙ (sym (drop_past so_far following link.count)
     ∙ (ap (λ n. drop (n + link.count) (so_far ++ following)) long
-    ∙ ap (λ jobs. drop (passes_of (take i doors) + link.count) jobs)
-    (sym (jobs_more first.next (take i doors) d) ∙ ap (jobs_of first.next) (sym (one_door doors i d within is))))))
+    ∙ ap (λ jobs. drop (passes_of (take i letters) + link.count) jobs)
+    (sym (jobs_more first.next (take i letters) d)
+    ∙ ap (jobs_of first.next) (sym (one_letter letters i d within is))))))
     (back_since hub.limits first before after _ all.taken (link.others joined))
 
 -- a link that lacks jobs was joined
 never_full : (stop : Stop) → MayLack stop → stopped stop ≡ stopped stops.JournalFull → ⊥
 never_full stop may e = let same : stop ≡ stops.JournalFull = cc in subst MayLack same may
 
-found : (doors : List Door) (i : ℕ) (d : Door) → i < length doors → d ≡ get_or doors i App → slice_get doors i ≡ Some d
+found : (letters : List ℕ) (i : ℕ) (d : ℕ) → i < length letters → d ≡ get_or letters i 0 → slice_get letters i ≡ Some d
 found [] i d within is = absurd (omega arith)
-found (e ∷ doors) zero d within is = ap (λ f. Some f) (sym is)
-found (e ∷ doors) (suc i) d within is = found doors i d (omega arith) is
+found (e ∷ letters) zero d within is = ap (λ f. Some f) (sym is)
+found (e ∷ letters) (suc i) d within is = found letters i d (omega arith) is
+
+-- a link of the role that its letter lets in
+pub by_letter : (hub : HubId) (before after : PassSeat) (b c : List Tag) (role : Option Role) (d : ℕ)
+    (r : Result (Unit {0}) Stop) → role ≡ role_at d → LinkStarted hub before after b c role r
+    → LinkStarted hub before after b c (role_at d) r
+by_letter hub before after b c role d r is link = subst (λ o. LinkStarted hub before after b c o r) is link
 
 -- a link more, with all its jobs
-pub one_link_more : (hub : HubId) (first before after : PassSeat) (a b c : List Tag) (doors : List Door) (i : ℕ)
-    (d : Door)
-    → i < length doors → d ≡ get_or doors i App → AllStarted hub first before a b doors i
-    → LinkStarted hub before after b c (role_at d) (Ok tt) → AllStarted hub first after a c doors (i + 1)
-one_link_more hub first before after a b c doors i d within is all link =
-    let more = ap passes_of (one_door doors i d within is) ∙ passes_more (take i doors) d in
-    let long = all_jobs_counted first.next (take (i + 1) doors) in
+pub one_link_more : (hub : HubId) (first before after : PassSeat) (a b c : List Tag) (letters : List ℕ) (i : ℕ) (d : ℕ)
+    → i < length letters → d ≡ get_or letters i 0 → AllStarted hub first before a b letters i
+    → LinkStarted hub before after b c (role_at d) (Ok tt) → AllStarted hub first after a c letters (i + 1)
+one_link_more hub first before after a b c letters i d within is all link =
+    let more = ap passes_of (one_letter letters i d within is) ∙ passes_more (take i letters) d in
+    let long = all_jobs_counted first.next (take (i + 1) letters) in
     let started = link.all_started in
     let few = jobs_counted before.next (role_at d) in
     record {
       root_is = link.root_is;
-      next = next_more hub first before after a b c doors i d (Ok tt) within is all link link.all_joined;
-      joins = joins_then hub first before after a b c doors i d (Ok tt) within is all link link.all_joined;
+      next = next_more hub first before after a b c letters i d (Ok tt) within is all link link.all_joined;
+      joins = joins_then hub first before after a b c letters i d (Ok tt) within is all link link.all_joined;
       jobs = subst (AreStarted hub a c)
-          (take_all (passes_of (take i doors) + link.count) (jobs_of first.next (take (i + 1) doors)) (omega arith))
-          (jobs_then hub first before after a b c doors i d (Ok tt) within is all link);
+          (take_all (passes_of (take i letters) + link.count) (jobs_of first.next (take (i + 1) letters)) (omega arith))
+          (jobs_then hub first before after a b c letters i d (Ok tt) within is all link);
       taken = (link.others link.all_joined).taken
           ∙ (ap (λ jobs. pushed jobs before.taken)
           (drop_whole (jobs_by before.next (role_at d)) link.count (omega arith))
@@ -126,10 +143,10 @@ one_link_more hub first before after a b c doors i d within is all link =
     }
 
 -- no link came
-pub none_came : (hub : HubId) (first after : PassSeat) (a b : List Tag) (doors : List Door) (i : ℕ)
-    → AllStarted hub first after a b doors i → LinksStarted hub first after a b doors i (Err stops.NetFault)
-none_came hub first after a b doors i all =
-    let long = all_jobs_counted first.next (take i doors) in
+pub none_came : (hub : HubId) (first after : PassSeat) (a b : List Tag) (letters : List ℕ) (i : ℕ)
+    → AllStarted hub first after a b letters i → LinksStarted hub first after a b letters i (Err stops.NetFault)
+none_came hub first after a b letters i all =
+    let long = all_jobs_counted first.next (take i letters) in
     record {
       root_is = all.root_is;
       joined = i;
@@ -137,12 +154,12 @@ none_came hub first after a b doors i all =
       near = omega arith;
       next = all.next;
       joins = all.joins;
-      count = passes_of (take i doors);
+      count = passes_of (take i letters);
       jobs = subst (AreStarted hub a b)
-          (sym (take_all (passes_of (take i doors)) (jobs_of first.next (take i doors)) (omega arith))) all.jobs;
-      before_last = passes_front doors (i - 1) i (omega arith);
+          (sym (take_all (passes_of (take i letters)) (jobs_of first.next (take i letters)) (omega arith))) all.jobs;
+      before_last = passes_front letters (i - 1) i (omega arith);
       others = none_back hub.limits first after _
-          (drop_whole (jobs_of first.next (take i doors)) (passes_of (take i doors)) (omega arith)) all.taken;
+          (drop_whole (jobs_of first.next (take i letters)) (passes_of (take i letters)) (omega arith)) all.taken;
       balance = all.balance;
       all_joined = tt;
       all_started = tt;
@@ -151,10 +168,10 @@ none_came hub first after a b doors i all =
     }
 
 -- all came
-pub all_came : (hub : HubId) (first after : PassSeat) (a b : List Tag) (doors : List Door) (i : ℕ)
-    → AllStarted hub first after a b doors i → LinksStarted hub first after a b doors i (Ok tt)
-all_came hub first after a b doors i all =
-    let long = all_jobs_counted first.next (take i doors) in
+pub all_came : (hub : HubId) (first after : PassSeat) (a b : List Tag) (letters : List ℕ) (i : ℕ)
+    → AllStarted hub first after a b letters i → LinksStarted hub first after a b letters i (Ok tt)
+all_came hub first after a b letters i all =
+    let long = all_jobs_counted first.next (take i letters) in
     record {
       root_is = all.root_is;
       joined = i;
@@ -162,12 +179,12 @@ all_came hub first after a b doors i all =
       near = omega arith;
       next = all.next;
       joins = all.joins;
-      count = passes_of (take i doors);
+      count = passes_of (take i letters);
       jobs = subst (AreStarted hub a b)
-          (sym (take_all (passes_of (take i doors)) (jobs_of first.next (take i doors)) (omega arith))) all.jobs;
-      before_last = passes_front doors (i - 1) i (omega arith);
+          (sym (take_all (passes_of (take i letters)) (jobs_of first.next (take i letters)) (omega arith))) all.jobs;
+      before_last = passes_front letters (i - 1) i (omega arith);
       others = none_back hub.limits first after _
-          (drop_whole (jobs_of first.next (take i doors)) (passes_of (take i doors)) (omega arith)) all.taken;
+          (drop_whole (jobs_of first.next (take i letters)) (passes_of (take i letters)) (omega arith)) all.taken;
       balance = all.balance;
       all_joined = refl;
       all_started = refl;
@@ -176,26 +193,26 @@ all_came hub first after a b doors i all =
     }
 
 -- a link came, and was refused, or not all of its jobs were started
-pub last_came : (hub : HubId) (first before after : PassSeat) (a b c : List Tag) (doors : List Door) (i : ℕ) (d : Door)
-    (stop : Stop) → i < length doors → d ≡ get_or doors i App → AllStarted hub first before a b doors i
+pub last_came : (hub : HubId) (first before after : PassSeat) (a b c : List Tag) (letters : List ℕ) (i : ℕ) (d : ℕ)
+    (stop : Stop) → i < length letters → d ≡ get_or letters i 0 → AllStarted hub first before a b letters i
     → LinkStarted hub before after b c (role_at d) (Err stop) →
-    LinksStarted hub first after a c doors (i + 1) (Err stop)
-last_came hub first before after a b c doors i d stop within is all link = at link.is_joined refl
+    LinksStarted hub first after a c letters (i + 1) (Err stop)
+last_came hub first before after a b c letters i d stop within is all link = at link.is_joined refl
   where
-    at : (joined : Bool) → link.is_joined ≡ joined → LinksStarted hub first after a c doors (i + 1) (Err stop)
+    at : (joined : Bool) → link.is_joined ≡ joined → LinksStarted hub first after a c letters (i + 1) (Err stop)
     at true joined = record {
       root_is = link.root_is;
       joined = i + 1;
       none_more = omega arith;
       near = omega arith;
-      next = next_more hub first before after a b c doors i d (Err stop) within is all link joined;
-      joins = joins_then hub first before after a b c doors i d (Err stop) within is all link joined;
-      count = passes_of (take i doors) + link.count;
-      jobs = jobs_then hub first before after a b c doors i d (Err stop) within is all link;
+      next = next_more hub first before after a b c letters i d (Err stop) within is all link joined;
+      joins = joins_then hub first before after a b c letters i d (Err stop) within is all link joined;
+      count = passes_of (take i letters) + link.count;
+      jobs = jobs_then hub first before after a b c letters i d (Err stop) within is all link;
       before_last =
           let one : i + 1 - 1 ≡ i = omega arith in
-          let two = ap (λ n. passes_of (take n doors)) one in omega arith;
-      others = others_then hub first before after a b c doors i d (Err stop) within is all link joined;
+          let two = ap (λ n. passes_of (take n letters)) one in omega arith;
+      others = others_then hub first before after a b c letters i d (Err stop) within is all link joined;
       balance = let x = all.balance in let y = link.balance in omega arith;
       all_joined = tt;
       all_started = tt;
@@ -204,9 +221,9 @@ last_came hub first before after a b c doors i d stop within is all link = at li
     }
     at false joined =
         let none = link.none_else joined in
-        let long = all_jobs_counted first.next (take i doors) in
+        let long = all_jobs_counted first.next (take i letters) in
         let one = link.next ∙ ap (λ j. before.next + (if j then passes_by (role_at d) else 0)) joined in
-        let so_far = jobs_of first.next (take i doors) in
+        let so_far = jobs_of first.next (take i letters) in
         record {
           root_is = link.root_is;
           joined = i;
@@ -216,18 +233,18 @@ last_came hub first before after a b c doors i d stop within is all link = at li
           joins = link.joins
               ∙ (ap (λ j. own 0 before.seen ++ (if j then joins_by before.next (role_at d) else [])) joined
               ∙ (append-nil (own 0 before.seen) ∙ all.joins));
-          count = passes_of (take i doors);
+          count = passes_of (take i letters);
           jobs = subst (AreStarted hub a c)
               (ap (λ n. so_far ++ take n (jobs_by before.next (role_at d))) none
-              ∙ (append-nil so_far ∙ sym (take_all (passes_of (take i doors)) so_far (omega arith))))
+              ∙ (append-nil so_far ∙ sym (take_all (passes_of (take i letters)) so_far (omega arith))))
               (started_both hub a b c _ _ all.jobs link.jobs);
-          before_last = passes_front doors (i - 1) i (omega arith);
-          others = none_back hub.limits first after _ (drop_whole so_far (passes_of (take i doors)) (omega arith))
+          before_last = passes_front letters (i - 1) i (omega arith);
+          others = none_back hub.limits first after _ (drop_whole so_far (passes_of (take i letters)) (omega arith))
               (link.same joined ∙ all.taken);
           balance = let x = all.balance in let y = link.balance in omega arith;
           all_joined = tt;
           all_started = tt;
-          refused = inr (refl, d, found doors i d within is, link.refused joined);
+          refused = inr (refl, d, found letters i d within is, link.refused joined);
           lacks = inl refl;
         }
 
@@ -247,14 +264,14 @@ passes_two : (role : Option Role) → passes_by role ≤ 2
 passes_two None = omega arith
 passes_two (Some role) = omega arith
 
-pub passes_few : (doors : List Door) (n : ℕ) → passes_of (take n doors) ≤ 2 * n
-passes_few doors zero = omega arith
+pub passes_few : (letters : List ℕ) (n : ℕ) → passes_of (take n letters) ≤ 2 * n
+passes_few letters zero = omega arith
 passes_few [] (suc n) = omega arith
-passes_few (d ∷ doors) (suc n) = let rest = passes_few doors n in let two = passes_two (role_at d) in omega arith
+passes_few (d ∷ letters) (suc n) = let rest = passes_few letters n in let two = passes_two (role_at d) in omega arith
 
 -- one link more
 pub doors_more : (first before after doors : List Door) (i : ℕ) (d : Door) → i < length doors → d ≡ get_or doors i App
     → before ≡ first ++ take i doors → after ≡ before ++ d ∷ [] → after ≡ first ++ take (i + 1) doors
 doors_more first before after doors i d within is so_far more =
     more ∙ (ap (λ links. links ++ d ∷ []) so_far ∙ (append_assoc first (take i doors) (d ∷ [])
-    ∙ ap (λ links. first ++ links) (sym (one_door doors i d within is))))
+    ∙ ap (λ links. first ++ links) (sym (one_more App doors i d within is))))

@@ -3,7 +3,6 @@ use Rattle.std.proofs.Common.{◌≡◌, inl, inr, ⊎_elim, ◌+◌, ◌<◌, �
 use mathlib.Core.Logic.{dite}
 use native.Mathlib.Decide.{ℕ_discrete}
 use Rattle.relay_model.specs.declared.role.Role.{Role}
-use Rattle.link_nets.specs.declared.door.Door.{Door}
 use Rattle.turn_lock.specs.Pairs.{IsIn, IsDistinct, total}
 use Rattle.turn_lock.specs.Rule.{bit}
 use Rattle.turn_lock.proofs.TotalsOfPairs.{hits, hits-once, total-cons, total-few}
@@ -36,13 +35,14 @@ by_from : (next : ℕ) (role : Option Role) → AreFrom next (jobs_by next role)
 by_from next None = (refl, tt)
 by_from next (Some role) = (refl, (refl, tt))
 
-pub jobs_from : (next : ℕ) (doors : List Door) → AreFrom next (jobs_of next doors)
+pub jobs_from : (next : ℕ) (letters : List ℕ) → AreFrom next (jobs_of next letters)
 jobs_from next [] = tt
-jobs_from next (d ∷ doors) =
-    from_both next (jobs_by next (role_at d)) (jobs_of (next + passes_by (role_at d)) doors) (by_from next (role_at d))
-    (subst (λ n. AreFrom (next + n) (jobs_of (next + passes_by (role_at d)) doors))
+jobs_from next (d ∷ letters) =
+    from_both next (jobs_by next (role_at d)) (jobs_of (next + passes_by (role_at d)) letters)
+    (by_from next (role_at d))
+    (subst (λ n. AreFrom (next + n) (jobs_of (next + passes_by (role_at d)) letters))
     (sym (jobs_counted next (role_at d)))
-    (jobs_from (next + passes_by (role_at d)) doors))
+    (jobs_from (next + passes_by (role_at d)) letters))
 
 front_from : (n k : ℕ) (jobs : List LinkedJob) → AreFrom n jobs → AreFrom n (take k jobs)
 front_from n zero jobs from = tt

@@ -1,6 +1,6 @@
--- What the links of doors bring: joins, and jobs. Passes are numbered from 1 in the order in which
--- they are made: a peer's reader's, then its writer's, or that of a shell.
-use Rattle.std.specs.Prelude.{◌≡◌, ℕ, ◌+◌, ◌≤◌, List, [], ◌∷◌, ◌++◌, Option, Some, None}
+-- What the links of letters bring: joins, and jobs. Passes are numbered from 1 in the order in
+-- which they are made: a peer's reader's, then its writer's, or that of a shell.
+use Rattle.std.specs.Prelude.{◌≡◌, ℕ, ◌+◌, ◌≤◌, ◌==◌, if◌then◌else◌, List, [], ◌∷◌, ◌++◌, Option, Some, None}
 use Rattle.std.specs.List.{slice_get}
 use Rattle.relay_model.specs.declared.role.Role.{Role}
 use Rattle.relay_model.specs.declared.role.Role.TheVariants as roles
@@ -8,8 +8,6 @@ use Rattle.broker_model.specs.declared.journal.Entry.TheVariants as entries
 use Rattle.hub_lock.specs.declared.step.OuterStep.{OuterStep}
 use Rattle.hub_lock.specs.Histories.{joining}
 use Rattle.hub_lock.specs.Passes.{HubId}
-use Rattle.link_nets.specs.declared.door.Door.{Door}
-use Rattle.link_nets.specs.declared.door.Door.TheVariants as doors
 use Rattle.link_jobs.specs.Tags.{Part, Tag, Report}
 use Rattle.link_jobs.specs.Tags.Part.{reader, writer, shell}
 
@@ -21,11 +19,12 @@ pub record LinkedJob : Type 0 where
 abbrev pub job : ℕ → Part → LinkedJob
 job number part = record { number = number; part = part }
 
--- the role of the peer that comes through a door; a shell is none
-abbrev pub role_at : Door → Option Role
-role_at doors.App = Some roles.App
-role_at doors.Method = Some roles.Method
-role_at doors.Shell = None
+-- the role of the peer that a letter lets in; a shell is none
+abbrev pub role_at : (letter : ℕ) → Option Role
+role_at letter =
+    (if letter == 97 then Some roles.App
+    else (if letter == 109 then Some roles.Method
+    else (if letter == 107 then Some roles.Keyed else None)))
 
 -- the jobs of a link whose first pass has that number
 abbrev pub jobs_by : (next : ℕ) → Option Role → List LinkedJob
@@ -42,18 +41,18 @@ abbrev pub joins_by : (next : ℕ) → Option Role → List OuterStep
 joins_by next None = []
 joins_by next (Some role) = joining (entries.Join role) next ∷ []
 
--- the same of the links of these doors, in order
-abbrev pub jobs_of : (next : ℕ) → List Door → List LinkedJob
+-- the same of the links of these letters, in order
+abbrev pub jobs_of : (next : ℕ) → List ℕ → List LinkedJob
 jobs_of next [] = []
-jobs_of next (d ∷ ds) = jobs_by next (role_at d) ++ jobs_of (next + passes_by (role_at d)) ds
+jobs_of next (c ∷ rest) = jobs_by next (role_at c) ++ jobs_of (next + passes_by (role_at c)) rest
 
-abbrev pub passes_of : List Door → ℕ
+abbrev pub passes_of : List ℕ → ℕ
 passes_of [] = 0
-passes_of (d ∷ ds) = passes_by (role_at d) + passes_of ds
+passes_of (c ∷ rest) = passes_by (role_at c) + passes_of rest
 
-abbrev pub joins_of : (next : ℕ) → List Door → List OuterStep
+abbrev pub joins_of : (next : ℕ) → List ℕ → List OuterStep
 joins_of next [] = []
-joins_of next (d ∷ ds) = joins_by next (role_at d) ++ joins_of (next + passes_by (role_at d)) ds
+joins_of next (c ∷ rest) = joins_by next (role_at c) ++ joins_of (next + passes_by (role_at c)) rest
 
 -- the job of a tag, and of a report
 abbrev pub job_tagged : Tag → LinkedJob

@@ -7,7 +7,6 @@ use Rattle.broker_core.specs.declared.answers.JoinRefusal.{JoinRefusal}
 use Rattle.broker_core.specs.declared.answers.JoinRefusal.TheVariants as refusals
 use Rattle.broker_core.specs.Broker.{join_refusal}
 use Rattle.hub_lock.specs.Histories.{History, broker_of}
-use Rattle.link_nets.specs.declared.door.Door.{Door}
 use Rattle.serve_run.specs.declared.stop.Stop.{Stop}
 use Rattle.serve_run.specs.declared.stop.Stop.TheVariants as stops
 use Rattle.serve_run.specs.LinkJobs.{role_at}
@@ -36,15 +35,15 @@ WasRefused limits h (Some role) stop =
     (why : JoinRefusal) × (stop ≡ stopped (stop_of why)) × HasMet limits h role why
 
 -- so it was with the link behind those that joined
-abbrev pub IsRefusedAt : Limits → History → List Door → (joined accepted : ℕ) →
+abbrev pub IsRefusedAt : Limits → History → List ℕ → (joined accepted : ℕ) →
     Result (Unit {0}) Stop → Type 0
-IsRefusedAt limits h doors joined accepted stop =
-    (accepted ≡ joined + 1) × (d : Door) × (slice_get doors joined ≡ Some d)
+IsRefusedAt limits h letters joined accepted stop =
+    (accepted ≡ joined + 1) × (d : ℕ) × (slice_get letters joined ≡ Some d)
     × WasRefused limits h (role_at d) stop
 
 -- every link that was accepted joined, or the last was refused, and only then for a full journal
-abbrev pub JoinedUnless : Limits → History → List Door → (joined accepted : ℕ) →
+abbrev pub JoinedUnless : Limits → History → List ℕ → (joined accepted : ℕ) →
     Result (Unit {0}) Stop → Type 0
-JoinedUnless limits h doors joined accepted stop =
+JoinedUnless limits h letters joined accepted stop =
     ((joined ≡ accepted) × ¬ (stop ≡ stopped stops.JournalFull))
-    ⊎ IsRefusedAt limits h doors joined accepted stop
+    ⊎ IsRefusedAt limits h letters joined accepted stop

@@ -10,7 +10,7 @@ use Rattle.hub_lock.specs.Lawful.{IsLawful}
 use Rattle.serve_record.specs.Recorded.{recorded}
 use Rattle.link_nets.specs.declared.door.Door.{Door}
 use Rattle.link_jobs.specs.Tags.{Tag, Report}
-use Rattle.serve_words.specs.Words.{Serving}
+use Rattle.serve_words.specs.Words.{Serving, doors_of}
 use Rattle.serve_record.specs.Lines.{GainsFront}
 use Rattle.serve_run.specs.declared.status.ServeStatus.{ServeStatus}
 use Rattle.serve_run.specs.declared.status.ServeStatus.TheVariants as statuses
@@ -82,7 +82,7 @@ pub record ServerLaw (asked : Serving) (before after : Sides) (status : ServeSta
   -- the links came through the doors of the first letters
   pub accepted : ℕ
   pub within : accepted ≤ length asked.order
-  pub doors : after.links ≡ before.links ++ take accepted asked.order
+  pub doors : after.links ≡ before.links ++ take accepted (doors_of asked.order)
   -- each was joined, or all but the last; the joins of the root are theirs, in order, and, where
   -- there was memory for the session, there are no others
   pub joined : ℕ

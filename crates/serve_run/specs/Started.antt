@@ -5,7 +5,6 @@ use Rattle.relay_model.specs.declared.role.Role.{Role}
 use Rattle.std.specs.Prelude.{Option, Some}
 use Rattle.turn_lock.specs.Pairs.{own, HasSeen, IsIn}
 use Rattle.hub_lock.specs.Passes.{HubId, PassSeat, PeerPass, IsOf}
-use Rattle.link_nets.specs.declared.door.Door.{Door}
 use Rattle.link_jobs.specs.Tags.{Tag}
 use Rattle.link_jobs.specs.Tags.Part.{reader, writer}
 use Rattle.serve_run.specs.declared.stop.Stop.{Stop}
@@ -119,36 +118,36 @@ pub record LinkStarted (hub : HubId) (root root' : PassSeat) (started started' :
   pub refused : is_joined ≡ false → WasRefused hub.limits root'.seen role accepted
   pub lacks : is_joined ≡ true → IfErr accepted MayLack
 
--- the links of the first so many doors were joined and started, with all their jobs
+-- the links of the first so many letters were joined and started, with all their jobs
 pub record AllStarted (hub : HubId) (root root' : PassSeat) (started started' : List Tag)
-    (doors : List Door) (count : ℕ)
+    (letters : List ℕ) (count : ℕ)
     : Type 0 where
   pub root_is : IsRootOf hub root'
-  pub next : root'.next ≡ root.next + passes_of (take count doors)
-  pub joins : own 0 root'.seen ≡ own 0 root.seen ++ joins_of root.next (take count doors)
-  pub jobs : AreStarted hub started started' (jobs_of root.next (take count doors))
+  pub next : root'.next ≡ root.next + passes_of (take count letters)
+  pub joins : own 0 root'.seen ≡ own 0 root.seen ++ joins_of root.next (take count letters)
+  pub jobs : AreStarted hub started started' (jobs_of root.next (take count letters))
   pub taken : root'.taken ≡ root.taken
   pub balance : root'.out + length started ≡ root.out + length started'
 
--- The links of the first doors were joined and started: all that were accepted, or all but the
+-- The links of the first letters were joined and started: all that were accepted, or all but the
 -- last, whose join was refused. Where memory or a thread lacked, the last of them may lack some of
 -- its jobs, whose passes are back.
 pub record LinksStarted (hub : HubId) (root root' : PassSeat) (started started' : List Tag)
-    (doors : List Door)
+    (letters : List ℕ)
     (accepted : ℕ) (result : Result (Unit {0}) Stop) : Type 0 where
   pub root_is : IsRootOf hub root'
   pub joined : ℕ
   pub none_more : joined ≤ accepted
   pub near : accepted ≤ joined + 1
-  pub next : root'.next ≡ root.next + passes_of (take joined doors)
-  pub joins : own 0 root'.seen ≡ own 0 root.seen ++ joins_of root.next (take joined doors)
+  pub next : root'.next ≡ root.next + passes_of (take joined letters)
+  pub joins : own 0 root'.seen ≡ own 0 root.seen ++ joins_of root.next (take joined letters)
   pub count : ℕ
-  pub jobs : AreStarted hub started started' (take count (jobs_of root.next (take joined doors)))
-  pub before_last : passes_of (take (joined - 1) doors) ≤ count
+  pub jobs : AreStarted hub started started' (take count (jobs_of root.next (take joined letters)))
+  pub before_last : passes_of (take (joined - 1) letters) ≤ count
   pub others : AreGivenBack hub.limits root root'
-      (drop count (jobs_of root.next (take joined doors)))
+      (drop count (jobs_of root.next (take joined letters)))
   pub balance : root'.out + length started ≡ root.out + length started'
   pub all_joined : OnOk result (joined ≡ accepted)
-  pub all_started : OnOk result (count ≡ passes_of (take joined doors))
-  pub refused : JoinedUnless hub.limits root'.seen doors joined accepted result
-  pub lacks : (count ≡ passes_of (take joined doors)) ⊎ IfErr result MayLack
+  pub all_started : OnOk result (count ≡ passes_of (take joined letters))
+  pub refused : JoinedUnless hub.limits root'.seen letters joined accepted result
+  pub lacks : (count ≡ passes_of (take joined letters)) ⊎ IfErr result MayLack

@@ -13,14 +13,26 @@ use crate::start::{start_peer, start_shell};
 use crate::stop::Stop;
 use hub_lock::{Gate, Hub, HubPass};
 use link_jobs::{LinkJob, Spawner};
-use link_nets::{Door, LinkSink, Net};
+use link_nets::{LinkSink, Net};
 use relay_model::Role;
 use serve_words::door_of;
 use std::alloc::Global;
 use std::sync::{Arc, Wait};
 use wio_core::{Failed, Source};
 
-// Starts the jobs of a link that came through the door.
+// The role of the peer that a letter lets in; a shell is none.
+fn role_of(letter: u8) -> Option<Role>
+    ensures { result ≡ role_at letter }
+{
+    match letter {
+        b'a' => Some(Role::App),
+        b'm' => Some(Role::Method),
+        b'k' => Some(Role::Keyed),
+        _ => None,
+    }
+}
+
+// Starts the jobs of a link of a peer of this role, or of a shell.
 fn start_link<R: Wait, S: Source + Drop, K: LinkSink, G: Gate + Drop, W: Spawner<LinkJob<S, K, G>>>(
     rt: &R,
     alloc: Global,
@@ -28,7 +40,7 @@ fn start_link<R: Wait, S: Source + Drop, K: LinkSink, G: Gate + Drop, W: Spawner
     root: &mut HubPass,
     spawner: &mut W,
     gate: &Arc<G, Global>,
-    door: Door,
+    role: Option<Role>,
     source: S,
     sink: K,
 ) -> Result<(), Stop>
@@ -38,7 +50,7 @@ fn start_link<R: Wait, S: Source + Drop, K: LinkSink, G: Gate + Drop, W: Spawner
     requires source { IsNewSource (S.given source) (S.fault_count source) }
     requires sink { IsNewSink (K.Sink.held sink) (K.Sink.fault_count sink) }
     ensures started { LinkStarted (arc_value hub.now) root.old root.new (W.started spawner.old)
-        (W.started spawner.new) (role_at door) result }
+        (W.started spawner.new) role result }
     ensures last { (W.before_start spawner.new ≡ W.before_start spawner.old)
         ⊎ (W.before_start spawner.new ≡ length (W.reports spawner.old)) }
     ensures reports { W.reports spawner.new ≡ W.reports spawner.old }
@@ -47,22 +59,9 @@ fn start_link<R: Wait, S: Source + Drop, K: LinkSink, G: Gate + Drop, W: Spawner
         Rose (W.refusal_count spawner.old) (W.refusal_count spawner.new) }
     ensures net { result ≢ Err Stop.NetFault }
 {
-    match door {
-        Door::App => start_peer(rt, alloc, hub, root, spawner, gate, Role::App, source, sink),
-        Door::Method => {
-            start_peer(
-                rt,
-                alloc,
-                hub,
-                root,
-                spawner,
-                gate,
-                Role::Method,
-                source,
-                sink,
-            )
-        }
-        Door::Shell => start_shell(rt, alloc, hub, root, spawner, source, sink),
+    match role {
+        Some(role) => start_peer(rt, alloc, hub, root, spawner, gate, role, source, sink),
+        None => start_shell(rt, alloc, hub, root, spawner, source, sink),
     }
 }
 
@@ -84,7 +83,7 @@ pub(crate) fn accept_all<R: Wait, N: Net, G: Gate + Drop, W: Spawner<LinkJob<N::
     ensures accepted { (count : ℕ) × (count ≤ length letters.now)
         × (N.links net.new ≡ N.links net.old ++ take count (doors_of letters.now))
         × LinksStarted (arc_value hub.now) root.old root.new (W.started spawner.old)
-        (W.started spawner.new) (doors_of letters.now) count result
+        (W.started spawner.new) letters.now count result
         × OnOk result (count ≡ length letters.now) }
     ensures open { (d : Door) → N.opened net.new d ≡ true }
     ensures last { (W.before_start spawner.new ≡ W.before_start spawner.old)
@@ -98,12 +97,12 @@ pub(crate) fn accept_all<R: Wait, N: Net, G: Gate + Drop, W: Spawner<LinkJob<N::
         Rose (N.fault_count net.old) (N.fault_count net.new) }
 {
     for letter in letters {
-        let door = door_of(*letter);
-        let (source, sink) = match net.accept(door) {
+        let role = role_of(*letter);
+        let (source, sink) = match net.accept(door_of(*letter)) {
             Ok(link) => link,
             Err(Failed) => return Err(Stop::NetFault),
         };
-        if let Err(stop) = start_link(rt, alloc, hub, root, spawner, gate, door, source, sink) {
+        if let Err(stop) = start_link(rt, alloc, hub, root, spawner, gate, role, source, sink) {
             return Err(stop);
         }
     }

@@ -2,14 +2,13 @@
 use Rattle.serve_words.specs.declared.serving.Needed.{Needed}
 use Rattle.serve_words.specs.declared.serving.Serving.{Serving}
 use Rattle.serve_words.specs.Words as words
-use Rattle.serve_words.specs.Words.{doors_of}
 
 abbrev pub asked : Serving → words.Serving
 asked s = record {
   app = s.app.now;
   method = s.method.now;
   shell = s.shell.now;
-  order = doors_of s.order.now;
+  order = s.order.now;
   limits = s.limits;
 }
 

@@ -8,13 +8,13 @@ use Rattle.session_text.specs.Words.{count_of, ◌>>=◌, kept}
 use Rattle.link_nets.specs.declared.door.Door.{Door}
 use Rattle.link_nets.specs.declared.door.Door.TheVariants.{App, Method, Shell}
 
--- what the words ask for: the doors' paths, the doors of the links to accept, in order, and the
+-- what the words ask for: the doors' paths, the letters of the links to accept, in order, and the
 -- hub's limits
 pub record Serving : Type 0 where
   pub app : List ℕ
   pub method : List ℕ
   pub shell : List ℕ
-  pub order : List Door
+  pub order : List ℕ
   pub limits : Limits
 
 -- a word that names an option
@@ -53,21 +53,22 @@ number_or default most [] = Some default
 number_or default most (value ∷ []) = count_of most value
 number_or default most _ = None
 
--- the letter of a door
+-- a letter lets in an application, a method, a method that has virtual keyboards, or a shell
 abbrev pub is_letter : ℕ → Bool
-is_letter c = (c == 97) || (c == 109) || (c == 115)
+is_letter c = (c == 97) || (c == 109) || (c == 107) || (c == 115)
 
--- each is the letter of a door
+-- each is such a letter
 abbrev pub are_letters : List ℕ → Bool
 are_letters [] = true
 are_letters (c ∷ rest) = is_letter c && are_letters rest
 
--- the doors of 1 to 64 letters
+-- 1 to 64 letters
 abbrev pub is_order : List ℕ → Bool
 is_order letters = nat_le 1 (length letters) && nat_le (length letters) 64 && are_letters letters
 
+-- the door that a letter's link comes through: those of both kinds of methods share one
 abbrev pub door_of : ℕ → Door
-door_of c = if c == 97 then App else if c == 109 then Method else Shell
+door_of c = if c == 97 then App else if (c == 109) || (c == 107) then Method else Shell
 
 abbrev pub doors_of : List ℕ → List Door
 doors_of letters = map door_of letters
@@ -80,7 +81,7 @@ limits_of words =
     >>= (λ store. number_or 134217728 weight_limit (values_of (codes "--weight") words)
     >>= (λ weight. Some (record { entries = entries; store = store; weight = weight }))))
 
--- the letters of the doors to accept links at
+-- the letters of the links to accept
 abbrev pub order_of : List (List ℕ) → Option (List ℕ)
 order_of words = kept is_order (once (values_of (codes "--order") words))
 
@@ -105,7 +106,7 @@ serving n limits = record {
   app = n.app;
   method = n.method;
   shell = n.shell;
-  order = doors_of n.order;
+  order = n.order;
   limits = limits;
 }
 

@@ -23,8 +23,8 @@ const STORE: u32 = 65_536;
 // The most letters of an order.
 const MOST_LETTERS: usize = 64;
 
-/// What the words ask for: the doors' paths, the letters of the doors of the links to accept, 1 to
-/// 64 in order, and the hub's limits.
+/// What the words ask for: the doors' paths, the letters of the links to accept, 1 to 64 in order,
+/// and the hub's limits.
 #[derive(Clone, Copy)]
 pub struct Serving<'a> {
     /// The path of the applications' door.
@@ -48,13 +48,14 @@ struct Needed<'a> {
     order: &'a [u8],
 }
 
-/// The door of a letter: `a` for applications, `m` for methods, and any other for shells.
+/// The door of a letter's link: `a` for applications, `m` for methods and `k` for those that have
+/// virtual keyboards, and any other for shells.
 pub fn door_of(letter: u8) -> Door
     ensures { result ≡ grammar.door_of letter }
 {
     match letter {
         b'a' => Door::App,
-        b'm' => Door::Method,
+        b'm' | b'k' => Door::Method,
         _ => Door::Shell,
     }
 }
@@ -62,7 +63,7 @@ pub fn door_of(letter: u8) -> Door
 fn is_letter(letter: u8) -> bool
     ensures { result ≡ grammar.is_letter letter }
 {
-    letter == b'a' || letter == b'm' || letter == b's'
+    letter == b'a' || letter == b'm' || letter == b'k' || letter == b's'
 }
 
 fn are_letters(letters: &[u8]) -> bool

@@ -1,14 +1,14 @@
-use Rattle.std.proofs.Common.{refl, sym, ap, ◌≡◌, inl, inr, ⊎_elim, ◌+◌, ◌<◌, ◌∙◌, length, get_or, append-nil, arith}
+use Rattle.std.proofs.Common.{refl, sym, ap, ◌≡◌, inl, inr, ⊎_elim, ◌+◌, ◌<◌, ◌∙◌, length, get_or, append-nil, Ok, Err, arith}
 use Rattle.std.specs.Arc.{arc_value}
 use Rattle.link_nets.specs.declared.door.Door.TheVariants.{App}
 use Rattle.serve_words.specs.Words.{doors_of}
-use Rattle.serve_run.proofs.LinksInOrder.{none_yet, none_came, all_came, last_came, one_link_more, doors_counted, door_at, doors_more, passes_few}
+use Rattle.serve_run.proofs.LinksInOrder.{none_yet, none_came, all_came, last_came, one_link_more, by_letter, doors_counted, door_at, doors_more, passes_few}
 use Rattle.serve_run.proofs.accept.accept_all.Goals as goal
 
 pub loop-letter-init : goal.loop-letter-init
 loop-letter-init g c = record {
   started = none_yet (arc_value c.args.hub.now) c.args.root.now (g.W.Spawner.started c.args.spawner.now)
-      (doors_of c.args.letters.now) c.requires.root;
+      c.args.letters.now c.requires.root;
   links = sym (append-nil (g.N.Net.links c.args.net.now));
   last = inl refl;
   reports = refl;
@@ -24,7 +24,7 @@ returns-in-Err-clause-accepted g c =
       omega arith,
       c.in-Err.ensures.none ∙ i.links,
       none_came (arc_value c.args.hub.now) c.args.root.now c.loop-letter.root (g.W.Spawner.started c.args.spawner.now)
-          (g.W.Spawner.started c.loop-letter.spawner) (doors_of c.args.letters.now) c.loop-letter.letter-index
+          (g.W.Spawner.started c.loop-letter.spawner) c.args.letters.now c.loop-letter.letter-index
           i.started,
       tt,
     )
@@ -35,24 +35,29 @@ returns-in-Err-start_link-clause-accepted g c =
     let letters = c.args.letters.now in
     let within : c.loop-letter.letter-index < length letters = c.loop-letter-test.true in
     let many = doors_counted letters in
-    let is : c.door_of-door.result ≡ get_or (doors_of letters) c.loop-letter.letter-index App =
-    c.door_of-door.ensures ∙ door_at letters c.loop-letter.letter-index 0 within in (
+    let is : c.door_of.result ≡ get_or (doors_of letters) c.loop-letter.letter-index App =
+    c.door_of.ensures ∙ door_at letters c.loop-letter.letter-index 0 within in (
       c.loop-letter.letter-index + 1,
       omega arith,
       doors_more (g.N.Net.links c.args.net.now) (g.N.Net.links c.loop-letter.net) (g.N.Net.links c.accept.new.self)
-          (doors_of letters) c.loop-letter.letter-index c.door_of-door.result
+          (doors_of letters) c.loop-letter.letter-index c.door_of.result
           (omega arith) is i.links c.in-Ok.ensures.link,
       last_came (arc_value c.args.hub.now) c.args.root.now c.loop-letter.root c.start_link.new.root
           (g.W.Spawner.started c.args.spawner.now) (g.W.Spawner.started c.loop-letter.spawner)
-          (g.W.Spawner.started c.start_link.new.spawner) (doors_of letters) c.loop-letter.letter-index
-          c.door_of-door.result c.in-Err-start_link.stop (omega arith) is i.started c.in-Err-start_link.ensures.started,
+          (g.W.Spawner.started c.start_link.new.spawner) letters c.loop-letter.letter-index
+          (get_or letters c.loop-letter.letter-index 0) c.in-Err-start_link.stop within refl i.started
+          (by_letter (arc_value c.args.hub.now) c.loop-letter.root c.start_link.new.root
+          (g.W.Spawner.started c.loop-letter.spawner) (g.W.Spawner.started c.start_link.new.spawner)
+          c.role_of-role.result (get_or letters c.loop-letter.letter-index 0) (Err c.in-Err-start_link.stop)
+          c.role_of-role.ensures
+          c.in-Err-start_link.ensures.started),
       tt,
     )
 
 pub start_link-requires-clause-room : goal.start_link-requires-clause-room
 start_link-requires-clause-room g c =
     let next = c.loop-letter.invariant.started.next in
-    let few = passes_few (doors_of c.args.letters.now) c.loop-letter.letter-index in
+    let few = passes_few c.args.letters.now c.loop-letter.letter-index in
     let within : c.loop-letter.letter-index < length c.args.letters.now = c.loop-letter-test.true in
     let room = c.requires.room in omega arith
 
@@ -63,15 +68,19 @@ loop-letter-preserved g c =
     let within : c.loop-letter.letter-index < length letters = c.loop-letter-test.true in
     let many = doors_counted letters in
     let e = c.start_link.ensures in
-    let is : c.door_of-door.result ≡ get_or (doors_of letters) c.loop-letter.letter-index App =
-    c.door_of-door.ensures ∙ door_at letters c.loop-letter.letter-index 0 within in record {
+    let is : c.door_of.result ≡ get_or (doors_of letters) c.loop-letter.letter-index App =
+    c.door_of.ensures ∙ door_at letters c.loop-letter.letter-index 0 within in record {
       started = one_link_more (arc_value c.args.hub.now) c.args.root.now c.loop-letter.root c.start_link.new.root
           (g.W.Spawner.started c.args.spawner.now) (g.W.Spawner.started c.loop-letter.spawner)
-          (g.W.Spawner.started c.start_link.new.spawner) (doors_of letters) c.loop-letter.letter-index
-          c.door_of-door.result (omega arith) is i.started c.in_default.ensures.started;
+          (g.W.Spawner.started c.start_link.new.spawner) letters c.loop-letter.letter-index
+          (get_or letters c.loop-letter.letter-index 0) within refl i.started
+          (by_letter (arc_value c.args.hub.now) c.loop-letter.root c.start_link.new.root
+          (g.W.Spawner.started c.loop-letter.spawner) (g.W.Spawner.started c.start_link.new.spawner)
+          c.role_of-role.result (get_or letters c.loop-letter.letter-index 0) (Ok tt) c.role_of-role.ensures
+          c.in_default.ensures.started);
       links = doors_more (g.N.Net.links c.args.net.now) (g.N.Net.links c.loop-letter.net)
           (g.N.Net.links c.accept.new.self)
-          (doors_of letters) c.loop-letter.letter-index c.door_of-door.result
+          (doors_of letters) c.loop-letter.letter-index c.door_of.result
           (omega arith) is i.links c.in-Ok.ensures.link;
       last = ⊎_elim (λ l. ⊎_elim (λ m. inl (l ∙ m)) (λ m. inr (l ∙ m)) i.last)
           (λ r. inr (r ∙ ap length i.reports)) e.last;
@@ -89,6 +98,6 @@ returns-clause-accepted g c =
       omega arith,
       i.links,
       all_came (arc_value c.args.hub.now) c.args.root.now c.loop-letter.root (g.W.Spawner.started c.args.spawner.now)
-          (g.W.Spawner.started c.loop-letter.spawner) (doors_of letters) c.loop-letter.letter-index i.started,
+          (g.W.Spawner.started c.loop-letter.spawner) letters c.loop-letter.letter-index i.started,
       omega arith,
     )

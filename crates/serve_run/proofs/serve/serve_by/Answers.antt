@@ -4,7 +4,6 @@ use Rattle.wio_core.specs.Io.{Rose}
 use Rattle.turn_lock.specs.Pairs.{total}
 use Rattle.hub_lock.specs.Passes.{HubId, PassSeat}
 use Rattle.hub_lock.specs.Calls.{LegalCopy}
-use Rattle.serve_words.specs.Words.{doors_of}
 use Rattle.serve_words.specs.Asked.{asked as asked'}
 use Rattle.serve_run.specs.declared.status.ServeStatus.{ServeStatus}
 use Rattle.serve_run.specs.declared.status.ServeStatus.TheVariants as statuses
@@ -13,8 +12,7 @@ use Rattle.serve_run.specs.ServerLaw.{ServerLaw, sides, text_of, IsWritten}
 use Rattle.serve_run.specs.LinkJobs.{AreOnHub, job_tagged}
 use Rattle.serve_run.specs.Reported.{HaveLaws}
 use Rattle.serve_run.specs.Started.{IsRootOf, LinksStarted}
-use Rattle.serve_run.proofs.LinksInOrder.{doors_counted}
-use Rattle.serve_run.proofs.StartsCounted.{rose_until, ok_since}
+use Rattle.serve_run.proofs.StartsCounted.{rose_until}
 use Rattle.serve_run.proofs.HistoryCopied.{fresh_root, ours_of, copied_seen, copied_each, copied_text, copied_owned, nothing_written}
 use Rattle.serve_run.proofs.LawOfServer.{law_of}
 use Rattle.serve_run.proofs.serve.serve_by.Goals as goal
@@ -85,14 +83,14 @@ law g c status held faults owned written write status_is =
       idle = c.requires.idle;
       linked = c.serve_links-accepted.new.root;
       count = e.accepted.0;
-      within = (let many = doors_counted c.args.asked.now.order.now in let few = e.accepted.1 in omega arith);
+      within = e.accepted.1;
       doors = e.accepted.2;
       accepted = c.serve_links-accepted.result;
       links = subst
           (λ tags. LinksStarted hub c.args.root.now c.serve_links-accepted.new.root
           (g.W.Spawner.started c.args.spawner.now) tags
-          (doors_of c.args.asked.now.order.now) e.accepted.0 c.serve_links-accepted.result) (sym started) e.accepted.3;
-      all = ok_since c.serve_links-accepted.result _ _ _ (sym (doors_counted c.args.asked.now.order.now)) e.accepted.4;
+          c.args.asked.now.order.now e.accepted.0 c.serve_links-accepted.result) (sym started) e.accepted.3;
+      all = e.accepted.4;
       doors_open = e.open;
       starts = ⊎_elim (λ l. inl (f.before ∙ l)) (λ r. inr (f.before ∙ r)) e.last;
       net = e.net;
