@@ -5,6 +5,8 @@
 #[cfg(test)]
 mod act_list_tests;
 #[cfg(test)]
+mod board_tests;
+#[cfg(test)]
 mod equal;
 #[cfg(test)]
 mod fault_tests;

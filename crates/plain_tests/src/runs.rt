@@ -84,7 +84,7 @@ pub(crate) fn answers_beside(
     output: &[&str],
     status: Status,
 ) -> Result<(), Fail> {
-    let mut sink = sink(alloc, 1000, fails.1)?;
+    let mut sink = sink(alloc, 2000, fails.1)?;
     let answer = run_parts(alloc, words, input, fails.0, &mut sink)?;
     equal_at(rt, &(words, input), answer, status);
     holds(rt, alloc, &sink, output)

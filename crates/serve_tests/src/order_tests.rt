@@ -16,7 +16,7 @@ const REGISTRY: [u8; 16] = [12, 0, 0, 0, 1, 0, 0, 0, 1, 0, 12, 0, 2, 0, 0, 0];
 fn link_of(alloc: Global, letter: u8) -> Result<MemLink, AllocError> {
     match letter {
         b'a' => link(alloc, Door::App, &REGISTRY, 5),
-        b'm' => link(alloc, Door::Method, &REGISTRY, 4096),
+        b'm' | b'k' => link(alloc, Door::Method, &REGISTRY, 4096),
         _ => link(alloc, Door::Shell, b"key 5 30 1\n", 3),
     }
 }
@@ -68,13 +68,18 @@ fn has_lines<R: Abort>(rt: &R, session: &[u8], lines: &[(&str, u64)]) {
 #[test]
 fn sixty_four_letters(rt: HostRuntime) -> Result<(), Fail> {
     let alloc = rt.alloc();
-    let order = "amsamsamsamsamsamsamsamsamsamsamsamsamsamsamsamsamsamsamsamsamsa";
+    let order = "amsaksamsamsamsamsamsamsamsamsamsamsamsamsamsamsamsamsamsamsamsa";
     let line =
-        "serve --app a --method m --shell s --order amsamsamsamsamsamsamsamsamsamsamsamsamsamsamsamsamsamsamsamsamsa";
+        "serve --app a --method m --shell s --order amsaksamsamsamsamsamsamsamsamsamsamsamsamsamsamsamsamsamsamsamsa";
     let mut output = sink(alloc, &[])?;
     let status = serve_order(rt, alloc, line, order, (&[], &[]), &mut output)?;
     equal(&rt, status, ServeStatus::Ok);
-    let lines = [(" join ", 43), (" key ", 21), (" gone ", 43)];
+    let lines = [
+        (" join ", 43),
+        (" join keyed", 1),
+        (" key ", 21),
+        (" gone ", 43),
+    ];
     has_lines(&rt, output.held(), &lines);
     Ok(())
 }
