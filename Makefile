@@ -4,9 +4,11 @@
 # prints what each crate costs; `make claims` checks the documents against the sources, and their command blocks where the
 # program is built.
 # `make libwlim` proves and makes the library for C, in out/libwlim, and holds its header against it; `make embed` also
-# plays act lists through it, beside the program.
+# plays act lists through it, beside the program. `make embed-test` holds the glue of examples/embed over libwayland, and
+# types by fcitx5 into real programs through a compositor with it: it wants the library made, and installs what it needs
+# of Debian 12.
 PROGRAM = crates/wlim/out/wlim
-.PHONY: demo build examples test gate-cost cost claims libwlim embed
+.PHONY: demo build examples test gate-cost cost claims libwlim embed embed-test
 demo:
 	cd crates/wlim && rt try -- replay-acts < ../../examples/one_string.acts
 
@@ -35,3 +37,8 @@ libwlim:
 
 embed: libwlim
 	tests/embed.sh crates/wlim/out/wlim
+
+embed-test:
+	tests/embed_needs.sh
+	tests/embed_glue.sh
+	tests/embed_programs.sh

@@ -1,0 +1,209 @@
+#!/usr/bin/env python3
+"""Types by fcitx5 (pinyin) into foot and an entry of GTK 4, through the compositor of examples/embed.
+
+    tests/embed_programs.py FOLDER [ROUNDS]
+
+FOLDER has `compositor` and `entry`, as tests/embed_programs.sh builds them. Prints what each program got.
+"""
+import os
+import random
+import signal
+import subprocess
+import sys
+import tempfile
+import time
+
+ROWS = {16: "qwertyuiop", 30: "asdfghjkl", 44: "zxcvbnm", 57: " ", 28: "\n"}
+KEYS = {letter: first + at for first, row in ROWS.items() for at, letter in enumerate(row)}
+PROFILE = """[Groups/0]
+Name=Default
+Default Layout=us
+DefaultIM=pinyin
+
+[Groups/0/Items/0]
+Name=pinyin
+Layout=
+
+[GroupOrder]
+0=Default
+"""
+OFF = "notificationitem,kimpanel,xim,xcb,cloudpinyin,notifications"
+WINDOWS = {"term": "term.out", "entry": "entry.out"}
+
+
+class Desk:
+    """The compositor, and the programs that were started under it; all end with it."""
+
+    def __init__(self, built, work):
+        self.built, self.work, self.started, self.focused = built, work, [], None
+        self.env = dict(os.environ, XDG_RUNTIME_DIR=work, HOME=work, LC_ALL="C.UTF-8", GTK_IM_MODULE="wayland",
+                        GSK_RENDERER="cairo", GDK_BACKEND="wayland", GTK_A11Y="none", XDG_CONFIG_HOME=work + "/config",
+                        ASAN_OPTIONS="detect_leaks=0")
+        for unset in ("DISPLAY", "WAYLAND_DISPLAY", "DBUS_SESSION_BUS_ADDRESS", "XMODIFIERS"):
+            self.env.pop(unset, None)
+        self.compositor = self.start(built + "/compositor", stdin=subprocess.PIPE, stdout=subprocess.PIPE, text=True)
+        self.env["WAYLAND_DISPLAY"] = self.compositor.stdout.readline().split()[1]
+
+    def start(self, *command, **pipes):
+        log = open(f"{self.work}/log.{len(self.started)}", "wb")
+        process = subprocess.Popen(command, env=self.env, stderr=log, cwd=self.work, start_new_session=True,
+                                   **{"stdin": subprocess.DEVNULL, "stdout": log} | pipes)
+        self.started.append(process)
+        return process
+
+    def ask(self, line):
+        self.compositor.stdin.write(line + "\n")
+        self.compositor.stdin.flush()
+        return self.compositor.stdout.readline().rstrip("\n")
+
+    def type(self, text):
+        for letter in text:
+            self.ask(f"key {KEYS[letter]} 1")
+            self.ask(f"key {KEYS[letter]} 0")
+
+    def look(self):
+        """The labels of the field, the method and the grab that have the seat."""
+        return [int(label) for label in self.ask("look").split()]
+
+    def focus(self, window):
+        """Waits till fcitx5 grabs the keyboard for it, as at each focus: what goes to its last grab is lost."""
+        if self.focused == window:
+            return
+        had = self.look()
+        self.ask(f"focus {window}")
+        until(f"fcitx5 grabs the keys of {window}", lambda: all(
+            now not in (0, old) for now, old in zip(self.look()[::2], had[::2])))
+        self.focused = window
+
+    def unfocus(self):
+        self.ask("unfocus")
+        self.focused = None
+
+    def read(self, name):
+        try:
+            with open(f"{self.work}/{name}", encoding="utf-8", newline="") as file:
+                return file.read()
+        except FileNotFoundError:
+            return ""
+
+    def got(self, window):
+        return self.read(WINDOWS[window])
+
+    def end(self):
+        """Each has its own session, so that what it started ends too."""
+        code = None
+        for process in self.started[1:]:
+            if process.poll() is None:
+                os.killpg(process.pid, signal.SIGTERM)
+        try:
+            self.compositor.stdin.write("quit\n")
+            self.compositor.stdin.flush()
+            code = self.compositor.wait(10)
+        except (subprocess.TimeoutExpired, BrokenPipeError):
+            pass
+        for process in self.started:
+            try:
+                os.killpg(process.pid, signal.SIGKILL)
+            except ProcessLookupError:
+                pass
+            process.wait(10)
+        return code
+
+
+def out_of_time(*_):
+    raise TimeoutError("out of time")
+
+
+def until(what, holds, seconds=20):
+    """Waits till it holds. What never comes fails the test."""
+    ends = time.monotonic() + seconds
+    while not holds():
+        if time.monotonic() > ends:
+            raise TimeoutError(what)
+        time.sleep(0.02)
+
+
+def start_fcitx5(desk, bus):
+    """It has loaded pinyin once a field is focused; before, it gives all keys back."""
+    fcitx5 = desk.start("env", f"DBUS_SESSION_BUS_ADDRESS={bus}", "fcitx5", f"--disable={OFF}")
+    until("fcitx5", lambda: desk.look()[1])
+    until("pinyin", lambda: "addon pinyin" in desk.read(f"log.{len(desk.started) - 1}"))
+    desk.unfocus()
+    return fcitx5
+
+
+def typed(desk, window, keys, wanted):
+    """Keys into a window, one after another, and what it has then."""
+    before = desk.got(window)
+    desk.focus(window)
+    desk.type(keys)
+    until(f"{window} gets {wanted!r}", lambda: desk.got(window) == before + wanted)
+    print(f"{window}: {keys!r} gave {wanted!r}")
+
+
+def moved(desk, rounds):
+    """The focus moves while fcitx5 is at work: what was typed for a window comes to no other."""
+    before, pick = {window: desk.got(window) for window in WINDOWS}, random.Random(1)
+    for _ in range(rounds):
+        for window, keys in (("term", "nihao "), ("entry", "shijie ")):
+            desk.focus(window)
+            desk.type(keys)
+            time.sleep(pick.uniform(0, 0.3))
+    desk.unfocus()
+    time.sleep(1)
+    for window, word in (("term", "你好"), ("entry", "世界")):
+        came = desk.got(window)[len(before[window]):]
+        if came.replace(word, ""):
+            raise AssertionError(f"{window} got {came!r}")
+        print(f"{window}: {came.count(word)} of {rounds} words, where the focus moved within 0.3 s, and nothing else")
+
+
+def killed(desk, fcitx5):
+    """Without fcitx5 keys pass; where it starts again it types again."""
+    fcitx5.kill()
+    until("fcitx5's end", lambda: not desk.look()[1])
+    for window in WINDOWS:
+        before = desk.got(window)
+        desk.ask(f"focus {window}")
+        desk.type("abc")
+        until(f"{window} gets keys", lambda: desk.got(window) == before + "abc")
+        print(f"{window}: 'abc' gave 'abc' after fcitx5 was killed")
+
+
+def main():
+    built, rounds = os.path.abspath(sys.argv[1]), int(sys.argv[2]) if len(sys.argv) > 2 else 20
+    for end in (signal.SIGALRM, signal.SIGTERM):
+        signal.signal(end, out_of_time)
+    signal.alarm(180)
+    with tempfile.TemporaryDirectory() as work:
+        os.makedirs(work + "/config/fcitx5")
+        with open(work + "/config/fcitx5/profile", "w", encoding="utf-8") as file:
+            file.write(PROFILE)
+        desk = Desk(built, work)
+        try:
+            bus = f"unix:path={work}/bus"
+            desk.start("dbus-daemon", "--session", "--nofork", "--nopidfile", f"--address={bus}")
+            until("a bus", lambda: os.path.exists(work + "/bus"))
+            desk.start("foot", "-c", "/dev/null", "-a", "term", "sh", "-c", "stty raw -echo; exec cat > term.out")
+            desk.start(built + "/entry", "entry.out")
+            until("both windows", lambda: set(desk.ask("windows").split()) == set(WINDOWS))
+            fcitx5 = start_fcitx5(desk, bus)
+            typed(desk, "term", "nihao ", "你好")
+            typed(desk, "entry", "shijie ", "世界")
+            typed(desk, "term", "\n", "\r")
+            moved(desk, rounds)
+            killed(desk, fcitx5)
+            start_fcitx5(desk, bus)
+            typed(desk, "term", "nihao ", "你好")
+        except (TimeoutError, AssertionError) as error:
+            print(f"failed: {error}; what they have: {[desk.got(window) for window in WINDOWS]}")
+            for at in range(len(desk.started)):
+                print(f"-- {desk.started[at].args}\n{desk.read(f'log.{at}')[-1500:]}")
+            return 1
+        finally:
+            code = desk.end()
+    print(f"the compositor ended with {code}")
+    return code
+
+
+sys.exit(main())
