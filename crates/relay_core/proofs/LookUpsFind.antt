@@ -1,7 +1,7 @@
 -- What the relay finds is what the definitions say of a label.
 use Rattle.std.proofs.Common.{◌≡◌, ℕ, List, [], ◌∷◌, map, Bool, true, false, Option, Some, None, ap, refl, ◌∙◌}
 use Rattle.std.proofs.lemmas.Bool.{eq-eqb, true≢false}
-use Rattle.std.specs.Prelude.{◌&&◌, ◌||◌, not, if◌then◌else◌, filter, is_some, is_none}
+use Rattle.std.specs.Prelude.{◌&&◌, ◌||◌, not, if◌then◌else◌, filter, is_some, is_none, option_map}
 use Rattle.std.specs.List.{list_any}
 use Rattle.relay_model.specs.declared.act.Act.{Act}
 use Rattle.relay_model.specs.declared.act.Act.TheVariants as acts
@@ -157,6 +157,18 @@ finds_kept s log f h e = ap field_in (finds s log f h) ∙ field_of_found log f 
 pub finds_count : (s : State) (log : List Act) (f : ℕ) → Stands s log → is_field log f ≡ true →
     count_in (find s.objects f) ≡ commit_count log f
 finds_count s log f h e = ap count_of_field (finds_kept s log f h e)
+
+-- the relay knows how often the holder committed
+count_held : (s : State) (log : List Act) (o : Option ℕ) → Stands s log → IsHistory log → holder log ≡ o →
+    option_map (λ f. count_in (find s.objects f)) o ≡ option_map (commit_count log) o
+count_held s log None h i e = refl
+count_held s log (Some f) h i e =
+    ap (λ n. Some n) (finds_count s log f h (entered_field log f (holder_entered log f i e)))
+
+pub holder_count_is : (s : State) (log : List Act) → Stands s log → IsHistory log →
+    option_map (λ f. count_in (find s.objects f)) s.holder ≡ option_map (commit_count log) (holder log)
+holder_count_is s log h i =
+    ap (option_map (λ f. count_in (find s.objects f))) h.holder_now ∙ count_held s log (holder log) h i refl
 
 -- the relay knows the current state of the holder
 pub holder_state_is : (s : State) (log : List Act) (f : ℕ) → Stands s log → IsHistory log → holder log ≡ Some f →

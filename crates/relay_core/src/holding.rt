@@ -1,8 +1,8 @@
 //! The relay's part on the hold: the focus, a field's commits, and what the serving method is told of them.
-ghost use Rattle.std.specs.Prelude.{◌≡◌, ◌-◌, ◌<◌, true, Option, Some, None};
+ghost use Rattle.std.specs.Prelude.{◌≡◌, ◌-◌, ◌<◌, true, option_map, Option, Some, None};
 ghost use Rattle.relay_model.specs.declared.act.Act.TheVariants as acts;
 ghost use Rattle.field_state.specs.Hold.{holds_after};
-ghost use Rattle.seat_objects.specs.Objects.{find, field_in};
+ghost use Rattle.seat_objects.specs.Objects.{find, field_in, count_in};
 ghost use Rattle.seat_objects.specs.Reached.{Reached};
 ghost use Rattle.relay_core.specs.Kept.{state, text_pending};
 ghost use Rattle.relay_core.specs.Machine.{owner_at, activated, updated, deactivated, released};
@@ -31,6 +31,16 @@ fn taken(objects: &Objects, field: Label) -> Taken
     }
 }
 
+// How often a field committed that may be there.
+fn commits_of(objects: &Objects, field: Option<Label>) -> Option<u32>
+    ensures { result ≡ option_map (λ f. count_in (find objects.now.items f)) field }
+{
+    match field {
+        Some(field) => Some(objects.count_of(field)),
+        None => None,
+    }
+}
+
 // The field that had the seat, where a commit that does this begins a hold.
 fn displaced(taken: Taken, holder: Option<Label>) -> Option<Label>
     ensures { result ≡ displaced_by taken holder }
@@ -42,6 +52,14 @@ fn displaced(taken: Taken, holder: Option<Label>) -> Option<Label>
 }
 
 impl Machine {
+    /// How often the holder committed.
+    pub fn holder_commits(&self) -> Option<u32>
+        ensures { result ≡ option_map (λ f. count_in (find (state self.now).objects f))
+            (state self.now).holder }
+    {
+        commits_of(&self.objects, self.holder)
+    }
+
     // The serving method was told of an activation, which forgets its pending edits.
     fn count_activate(&mut self)
         ensures state { state self.new ≡ activated (state self.old) }

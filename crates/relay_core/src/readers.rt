@@ -1,15 +1,16 @@
 //! What a caller asks of a relay beside what it is told.
-ghost use Rattle.std.specs.Prelude.{◌≡◌, ◌≤◌, List, length, IfSome};
+ghost use Rattle.std.specs.Prelude.{◌≡◌, ◌≤◌, ◌%◌, ◌^◌, min, List, length, option_map, IfSome};
 ghost use Rattle.relay_model.specs.declared.act.Act.{Act};
 ghost use Rattle.relay_model.specs.Focus.{focus};
 ghost use Rattle.relay_model.specs.Hold.{holder};
-ghost use Rattle.relay_model.specs.Activation.{serving};
+ghost use Rattle.relay_model.specs.Activation.{serving, begun};
+ghost use Rattle.relay_model.specs.Batch.{commit_count};
 ghost use Rattle.relay_model.specs.Keys.{standing};
 ghost use Rattle.relay_model.specs.Idle.{history, is_live};
 ghost use Rattle.relay_model.specs.Told.{told};
 ghost use Rattle.relay_core.specs.Bounds.{text_bytes};
 ghost use Rattle.relay_core.specs.Kept.{IsReserved};
-ghost use Rattle.relay_core.specs.Stands.{StandsFor};
+ghost use Rattle.relay_core.specs.Stands.{StandsFor, dones_told, count_since};
 
 use crate::relay::Relay;
 use relay_model::{Act, Label};
@@ -71,6 +72,33 @@ impl Relay {
         ensures { (log : List Act) → StandsFor self.now log → result ≡ serving (history log) }
     {
         self.machine.serving
+    }
+
+    /// How many dones the serving method was told, modulo 2^32: the serial of the last
+    /// (`zwp_input_method_v2.commit`). 0 where no method serves.
+    pub fn dones(&self) -> u32
+        ensures { (log : List Act) → StandsFor self.now log →
+            result ≡ length (dones_told (history log) (serving (history log))) % 2 ^ 32 }
+    {
+        self.machine.dones.get()
+    }
+
+    /// How many of these dones came in the present activation, at most 2^32. 0 where none stands.
+    pub fn dones_since(&self) -> u64
+        ensures { (log : List Act) → StandsFor self.now log →
+            result ≡ min (count_since (begun (history log))
+            (dones_told (history log) (serving (history log)))) (2 ^ 32) }
+    {
+        self.machine.since.get()
+    }
+
+    /// How often the field that holds the seat committed, modulo 2^32: what its next done says
+    /// (`zwp_text_input_v3.done`). None where no field holds it.
+    pub fn holder_commits(&self) -> Option<u32>
+        ensures { (log : List Act) → StandsFor self.now log →
+            result ≡ option_map (commit_count (history log)) (holder (history log)) }
+    {
+        self.machine.holder_commits()
     }
 
     /// The grab that stands, to which modifiers go, and the first press of a key.

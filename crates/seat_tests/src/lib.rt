@@ -5,6 +5,8 @@
 #[cfg(test)]
 mod acts_by_number;
 #[cfg(test)]
+mod batch_reasons_tests;
+#[cfg(test)]
 mod equal;
 #[cfg(test)]
 mod plain_relay_tests;

@@ -44,7 +44,7 @@ impl Post for Script {
 }
 
 // A message can carry the act's text.
-fn fits(act: &Act) -> bool
+pub(crate) fn fits(act: &Act) -> bool
     ensures { result ≡ true → FitsMessage act.now }
 {
     match act {

@@ -1,0 +1,3 @@
+pub mod ActivationHeld
+pub mod FateByCounts
+pub mod FateLaws

@@ -1,0 +1,4 @@
+pub mod Seat
+pub mod Fate
+pub mod Counted
+pub mod Laws
