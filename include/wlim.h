@@ -35,8 +35,12 @@ struct wlim {
 	void *place;
 };
 
-/* Opens a seat that took no act; one that is open is closed before. False: there is no memory, and none is open. */
+/* Opens a seat that took no act, of at most 64 clients with at most 256 objects each; one that is open is closed before.
+ * False: there is no memory, and none is open. */
 bool wlim_open(struct wlim *seat);
+
+/* As wlim_open, of at most so many clients with at most so many objects each. */
+bool wlim_open_with(struct wlim *seat, uint32_t peers, uint32_t objects);
 
 /* Closes the seat, and gives back all its memory. What isn't open stays so. */
 void wlim_close(struct wlim *seat);
@@ -54,6 +58,7 @@ enum {
 	WLIM_NO_TEXT = -4,   /* the bytes are no UTF-8, or one of them is zero */
 	WLIM_CLOSED = -5,    /* no seat is open */
 	WLIM_SHORT = -6,     /* of wlim_next: there is no room for the event's text and the zero behind it */
+	WLIM_MANY = -7,      /* it makes one too many: a client or an object beyond what wlim_open allows */
 };
 
 /*
@@ -156,6 +161,24 @@ int64_t wlim_mdelete(struct wlim *seat, uint32_t method, uint32_t before, uint32
 
 /* commit: the serial names one of the dones that the method was told */
 int64_t wlim_mcommit(struct wlim *seat, uint32_t method, uint32_t serial);
+
+/* What a batch comes to. */
+enum wlim_fate {
+	WLIM_RELAYED = 1,            /* it is relayed to the field that holds the seat */
+	WLIM_NOT_SERVING = 2,        /* the method doesn't serve the seat, or is none */
+	WLIM_NO_ACTIVATION = 3,      /* no field holds the seat, so no activation stands */
+	WLIM_NAMES_NO_DONE = 4,      /* the serial names no done that the method was told */
+	WLIM_EARLIER_ACTIVATION = 5, /* the serial names a done of an earlier activation */
+};
+
+struct wlim_batch {
+	uint32_t field;  /* the field that it is relayed to; 0 where it is to none */
+	uint32_t serial; /* the serial of that field's WLIM_FIELD_DONE */
+};
+
+/* What a batch comes to that the method commits next with this serial: ask before wlim_mcommit. One of wlim_fate, or
+ * WLIM_CLOSED, and nothing is written. The seat stays as it is. */
+int64_t wlim_batch(struct wlim *seat, uint32_t method, uint32_t serial, struct wlim_batch *batch);
 
 /* ---- zwp_virtual_keyboard_v1 ---- */
 

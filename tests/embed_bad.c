@@ -1,6 +1,7 @@
 /*
  * What C can do wrong, and what a client can: closed seats, bad texts, labels of other kinds, too little room, each
- * allocation failing in turn, a million requests of no effect, and a second seat in the place of the first. Built by
+ * allocation failing in turn, a million requests of no effect or beyond the limits, and a second seat in the place of the
+ * first. Built by
  * tests/embed.sh, with -Wl,--wrap=malloc,--wrap=realloc,--wrap=free. Prints what doesn't hold.
  */
 #include <malloc.h>
@@ -96,6 +97,7 @@ static void closed(void)
 	HOLDS(wlim_gone(&seat, 1) == WLIM_CLOSED && wlim_drop(&seat, 1) == WLIM_CLOSED && wlim_grab(&seat, 1, 2) == WLIM_CLOSED);
 	HOLDS(wlim_next(&seat, &event, text, sizeof text) == WLIM_CLOSED);
 	HOLDS(!wlim_look(&seat, &shown) && wlim_number(&seat, 3) == 0);
+	HOLDS(wlim_batch(&seat, 5, 1, &(struct wlim_batch){ 0 }) == WLIM_CLOSED);
 	wlim_close(&seat);
 	HOLDS(!seat.live && seat.place == NULL && held == 0);
 }
@@ -118,6 +120,11 @@ static void bad_requests(void)
 	HOLDS(wlim_gone(&seat, 2) == WLIM_NOTHING && wlim_drop(&seat, 0) == WLIM_NOTHING && wlim_drop(&seat, UINT32_MAX) == WLIM_NOTHING);
 	HOLDS(wlim_rect(&seat, 3, 0, 0, -1, 1) == WLIM_NOTHING && wlim_surround(&seat, 3, "ab", 2, -1, 0) == WLIM_NOTHING);
 	HOLDS(wlim_look(&seat, &shown) && shown.focus == 2 && shown.holder == 3 && shown.serving == 5 && shown.standing == 0);
+	/* What a batch comes to, before it is committed. */
+	struct wlim_batch batch = { 7, 7 };
+	HOLDS(wlim_batch(&seat, 5, 1, &batch) == WLIM_RELAYED && batch.field == 3 && batch.serial == 1);
+	HOLDS(wlim_batch(&seat, 5, 9, &batch) == WLIM_NAMES_NO_DONE && batch.field == 0 && batch.serial == 0);
+	HOLDS(wlim_batch(&seat, 4, 1, &batch) == WLIM_NOT_SERVING && wlim_batch(&seat, 99, 1, &batch) == WLIM_NOT_SERVING);
 	/* The string of 4,083 bytes is told, and fits WLIM_TEXT_MAX alone. */
 	HOLDS(wlim_mcommit(&seat, 5, 1) > 0);
 	HOLDS(wlim_next(&seat, &event, NULL, 0) == WLIM_SHORT && wlim_next(&seat, &event, text, 4083) == WLIM_SHORT);
@@ -128,6 +135,27 @@ static void bad_requests(void)
 	HOLDS(wlim_open(&seat) && wlim_look(&seat, &shown) && shown.acts == 0);
 	HOLDS(wlim_next(&seat, &event, text, sizeof text) == WLIM_NOTHING);
 	wlim_close(&seat);
+	wlim_close(&seat);
+	HOLDS(held == 0);
+}
+
+/* A client or an object beyond the limits is refused, also a million times, and takes no memory; others go on. */
+static void limits(void)
+{
+	struct wlim seat = { 0 };
+	HOLDS(wlim_open_with(&seat, 2, 3));
+	HOLDS(wlim_peer(&seat) == 1 && wlim_peer(&seat) == 2 && wlim_peer(&seat) == WLIM_MANY);
+	for (int64_t number = 3; number <= 5; number++)
+		HOLDS(wlim_field(&seat, 1, 0) == number);
+	HOLDS(wlim_surface(&seat, 1, 9) == WLIM_MANY);
+	long before = held;
+	for (int at = 0; at < 1000000; at++)
+		HOLDS(wlim_field(&seat, 1, 0) == WLIM_MANY);
+	HOLDS(held == before);
+	HOLDS(wlim_method(&seat, 2, 0) == 6 && wlim_grab(&seat, 6, 0) == 7 && wlim_grab(&seat, 6, 0) == 8);
+	HOLDS(wlim_grab(&seat, 6, 0) == WLIM_MANY && wlim_drop(&seat, 3) == 9 && wlim_surface(&seat, 1, 9) == 10);
+	HOLDS(wlim_gone(&seat, 2) == 11 && wlim_peer(&seat) == 12 && wlim_peer(&seat) == WLIM_MANY);
+	HOLDS(wlim_open_with(&seat, 0, 0) && wlim_peer(&seat) == WLIM_MANY);
 	wlim_close(&seat);
 	HOLDS(held == 0);
 }
@@ -225,6 +253,7 @@ int main(void)
 {
 	closed();
 	bad_requests();
+	limits();
 	allocations();
 	hostile_client();
 	second_seat();

@@ -1,4 +1,4 @@
-/* An entry of GTK 4 in a window of its own: embed_entry FILE writes what is in it to FILE, at each change. */
+/* An entry of GTK 4 in a window of its own: embed_entry FILE [ID] writes what is in it to FILE, at each change. */
 #include <gtk/gtk.h>
 
 static const char *file;
@@ -23,6 +23,8 @@ int main(int count, char **words)
 {
 	GtkApplication *program = gtk_application_new(NULL, G_APPLICATION_NON_UNIQUE);
 	file = count > 1 ? words[1] : "/dev/null";
+	if (count > 2)
+		g_set_prgname(words[2]); /* the window's application id */
 	g_signal_connect(program, "activate", G_CALLBACK(on_activate), NULL);
 	return g_application_run(G_APPLICATION(program), 0, NULL);
 }

@@ -13,7 +13,7 @@ import sys
 
 TOP = os.path.dirname(os.path.dirname(os.path.abspath(__file__)))
 IN_C = {"u32": "uint32_t", "i32": "int32_t", "u64": "uint64_t", "i64": "int64_t", "usize": "size_t", "bool": "bool"}
-STRUCTS = {"Wlim": "wlim", "Given": "wlim_event", "Shown": "wlim_shown"}
+STRUCTS = {"Wlim": "wlim", "Given": "wlim_event", "Shown": "wlim_shown", "Batch": "wlim_batch"}
 
 
 def read(path):
@@ -89,6 +89,7 @@ def main():
         ("struct wlim_event", fields("crates/relay_seat/src/event.rt", "Event") + fields("crates/wlim_c/src/events.rt", "Given"),
          fields_in_c(header, "wlim_event")),
         ("struct wlim_shown", fields("crates/wlim_c/src/readers.rt", "Shown"), fields_in_c(header, "wlim_shown")),
+        ("struct wlim_batch", fields("crates/wlim_c/src/batches.rt", "Batch"), fields_in_c(header, "wlim_batch")),
         ("version", version, int(re.search(r"#define WLIM_VERSION (\d+)", header).group(1))),
     ]
     if len(sys.argv) > 1:

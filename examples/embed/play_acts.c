@@ -117,7 +117,7 @@ int main(void)
 	char text[WLIM_TEXT_MAX];
 	struct wlim_event event;
 	uint32_t number = 0;
-	if (!wlim_open(&seat))
+	if (!wlim_open_with(&seat, UINT32_MAX, UINT32_MAX)) /* a list may have any number of peers */
 		return 6;
 	while (fgets(line, sizeof line, stdin) && strcmp(line, "end\n") != 0 && number + 1 < MOST) {
 		char *word[16] = { strtok(line, " \n") };

@@ -5,7 +5,7 @@ use Rattle.std.specs.Map.{lookup}
 use Rattle.relay_model.specs.declared.act.Act.{Act}
 use Rattle.relay_seat.specs.declared.seat.Refusal.{Refusal}
 use Rattle.relay_seat.specs.Events.{Heard}
-use Rattle.relay_seat.specs.Seated.{Seat, Seated, Takes}
+use Rattle.relay_seat.specs.Seated.{Seat, Seated, Takes, IsCounted, Counts}
 
 -- numbers of labels, each label at most once
 abbrev pub Numbers : Type 0
@@ -38,3 +38,10 @@ GivesMade _ old new number = Keeps old new
 abbrev pub SeatTook : (old new : Seat) → Act → Result (Option ℕ) Refusal → Type 0
 SeatTook old new act answer =
     (log : List Act) → (waits : List Heard) → Seated old log waits → Takes new log waits act answer
+
+-- and its limits were held, and stay
+abbrev pub SeatCounts : (old new : Seat) → Act → Result (Option ℕ) Refusal → Type 0
+SeatCounts old new act answer =
+    ((log : List Act) → (waits : List Heard) → Seated old log waits → IsCounted old log →
+    Counts new log act answer)
+    × (new.limits ≡ old.limits)

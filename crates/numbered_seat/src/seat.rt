@@ -2,12 +2,13 @@
 ghost use Rattle.std.specs.Prelude.{◌≡◌, [], List, IfOk};
 ghost use Rattle.relay_model.specs.declared.act.Act.{Act};
 ghost use Rattle.relay_core.specs.Stands.{StandsFor};
-ghost use Rattle.relay_seat.specs.Seated.{Seated};
+ghost use Rattle.relay_seat.specs.Seated.{IsCounted, Seated};
 ghost use Rattle.relay_seat.specs.Waiting.{Pulls};
-ghost use Rattle.numbered_seat.specs.Numbers.{Gives, GivesMade, SeatTook, number_at};
+ghost use Rattle.numbered_seat.specs.Numbers.{Gives, GivesMade, SeatCounts, SeatTook, number_at};
 
 use relay_model::{Act, Label};
 use relay_seat::{Event, Refusal, RelaySeat, TooShort};
+use seat_census::SeatLimits;
 use std::alloc::Global;
 use std::collections::HashMap;
 use std::marker::Model;
@@ -34,13 +35,15 @@ impl Model for NumberedSeat {
 }
 
 impl NumberedSeat {
-    /// A seat that took no act; no label has a number.
-    pub fn new(alloc: Global) -> Result<NumberedSeat, NoMemory>
+    /// A seat that took no act, with limits of its own; no label has a number.
+    pub fn new(alloc: Global, limits: SeatLimits) -> Result<NumberedSeat, NoMemory>
         ensures seat { IfOk result (λ made. Seated made.seat [] []) }
+        ensures counted { IfOk result (λ made. IsCounted made.seat []) }
+        ensures limits { IfOk result (λ made. made.seat.limits ≡ limits) }
         ensures numbers { IfOk result (λ made. made.numbers ≡ []) }
     {
         Ok(NumberedSeat {
-            seat: RelaySeat::new(alloc)?,
+            seat: RelaySeat::with_limits(alloc, limits)?,
             numbers: HashMap::new(alloc),
         })
     }
@@ -48,6 +51,7 @@ impl NumberedSeat {
     /// Takes one act, as `RelaySeat::take` does. No number changes.
     pub fn take(&mut self, act: &Act) -> Result<Option<Label>, Refusal>
         ensures seat { SeatTook self.old.seat self.new.seat act.now result }
+        ensures counts { SeatCounts self.old.seat self.new.seat act.now result }
         ensures numbers { self.new.numbers ≡ self.old.numbers }
     {
         self.seat.take(act)
@@ -57,6 +61,7 @@ impl NumberedSeat {
     /// it after a refusal.
     pub fn make(&mut self, act: &Act, number: u64) -> Result<Option<Label>, Refusal>
         ensures seat { SeatTook self.old.seat self.new.seat act.now result }
+        ensures counts { SeatCounts self.old.seat self.new.seat act.now result }
         ensures numbers { GivesMade result self.old.numbers self.new.numbers number }
     {
         let Ok(()) = self.numbers.reserve(1) else {
@@ -72,6 +77,7 @@ impl NumberedSeat {
     /// Takes the act of an object's end, and forgets the object's number, also where the act does nothing or is refused.
     pub fn end(&mut self, label: Label) -> Result<Option<Label>, Refusal>
         ensures seat { SeatTook self.old.seat self.new.seat (Act.Drop label) result }
+        ensures counts { SeatCounts self.old.seat self.new.seat (Act.Drop label) result }
         ensures numbers { Gives self.old.numbers self.new.numbers label 0 }
     {
         let _ = self.numbers.remove(&label);
@@ -93,6 +99,8 @@ impl NumberedSeat {
         ensures handed { Pulls self.old.seat.heard self.new.seat.heard text.old text.new result }
         ensures relay { (log : List Act) → StandsFor self.old.seat.relay log → StandsFor
             self.new.seat.relay log }
+        ensures living { self.new.seat.living ≡ self.old.seat.living }
+        ensures limits { self.new.seat.limits ≡ self.old.seat.limits }
         ensures numbers { self.new.numbers ≡ self.old.numbers }
     {
         self.seat.pull(text)

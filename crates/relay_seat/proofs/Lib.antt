@@ -1,2 +1,3 @@
 pub mod EventsWithTexts
 pub mod QueueAfterTells
+pub mod LiveHistory

@@ -5,19 +5,28 @@ use Rattle.relay_model.specs.declared.act.Act.TheVariants as acts
 use Rattle.relay_model.specs.Idle.{history, is_live}
 use Rattle.relay_core.specs.Kept.{Shown}
 use Rattle.relay_core.specs.Stands.{StandsFor}
+use Rattle.seat_census.specs.declared.census.Living.{Living}
+use Rattle.seat_census.specs.declared.census.SeatLimits.{SeatLimits}
+use Rattle.seat_census.specs.Living.{living, is_over}
 use Rattle.relay_seat.specs.declared.seat.Refusal.{Refusal}
-use Rattle.relay_seat.specs.declared.seat.Refusal.TheVariants.{NoMemory, Full, Long}
+use Rattle.relay_seat.specs.declared.seat.Refusal.TheVariants.{NoMemory, Full, Long, Many}
 use Rattle.relay_seat.specs.Events.{Heard, heard}
 
 -- a seat as contracts see it
 pub record Seat : Type 0 where
   pub relay : Shown
   pub heard : List Heard
+  pub limits : SeatLimits
+  pub living : List Living
 
 -- the seat stands for the acts, the newest first, and these events wait
 pub record Seated (seat : Seat) (log : List Act) (waits : List Heard) : Type 0 where
   pub relay : StandsFor seat.relay log
   pub queue : seat.heard ≡ waits
+
+-- the objects that live by the acts are counted
+abbrev pub IsCounted : Seat → List Act → Type 0
+IsCounted seat log = seat.living ≡ living (history log)
 
 -- the texts of the act are such that a message can carry
 abbrev pub fits : Act → Bool
@@ -37,3 +46,13 @@ Takes new log waits act (Ok None) = (is_live act (history log) ≡ false) × Sea
 Takes new log waits act (Err NoMemory) = Seated new log waits
 Takes new log waits act (Err Full) = (length log ≡ 4294967295) × Seated new log waits
 Takes new log waits act (Err Long) = (fits act ≡ false) × Seated new log waits
+Takes new log waits act (Err Many) = Seated new log waits
+
+-- An act that was taken makes none too many, and is counted. One that was refused for that makes one
+-- too many. After that and all else the same are counted.
+abbrev pub Counts : Seat → List Act → Act → Result (Option ℕ) Refusal → Type 0
+Counts new log act (Ok (Some number)) =
+    (is_over new.limits act (history log) ≡ false) × IsCounted new (act ∷ log)
+Counts new log act (Err Many) =
+    (is_over new.limits act (history log) ≡ true) × IsCounted new log
+Counts new log act _ = IsCounted new log

@@ -6,18 +6,23 @@ ghost use Rattle.relay_model.specs.Hold.{holder};
 ghost use Rattle.relay_model.specs.Activation.{serving};
 ghost use Rattle.relay_model.specs.Keys.{standing};
 ghost use Rattle.relay_model.specs.Idle.{history};
+ghost use Rattle.relay_model.specs.Objects.{next};
 ghost use Rattle.relay_model.specs.Told.{told};
 ghost use Rattle.relay_core.specs.Kept.{IsReserved};
 ghost use Rattle.relay_core.specs.Stands.{StandsFor};
 ghost use Rattle.seat_objects.specs.Fits.{FitsMessage};
 ghost use Rattle.relay_seat.specs.Events.{Heard, heard};
 ghost use Rattle.relay_seat.specs.Waiting.{HasRoomFor, IsFirst, Pulls};
-ghost use Rattle.relay_seat.specs.Seated.{Seated, Takes, fits};
+ghost use Rattle.batch_reasons.specs.Fate.{fate};
+ghost use Rattle.seat_census.specs.Living.{living};
+ghost use Rattle.relay_seat.specs.Seated.{Seated, Takes, IsCounted, Counts, fits};
 
 use crate::event::Event;
 use crate::queue::{Queue, TooShort};
+use batch_reasons::{BatchFate, batch_fate};
 use relay_core::Relay;
 use relay_model::{Act, Label};
+use seat_census::{Census, OBJECT_LIMIT, PEER_LIMIT, SeatLimits};
 use std::alloc::Global;
 use std::marker::Model;
 use wio_core::NoMemory;
@@ -31,13 +36,16 @@ pub enum Refusal {
     Full,
     /// A text has more bytes than a message can carry: 4,083, or 4,075 beside two numbers.
     Long,
+    /// It makes one too many: a peer where so many are alive as may be, or an object of a peer that has so many.
+    Many,
 }
 
-/// A relay, and what it told that nobody has asked for yet.
+/// A relay, what it told that nobody has asked for yet, and how many peers and objects are alive.
 #[derive(Drop)]
 pub struct RelaySeat {
     relay: Relay,
     queue: Queue,
+    census: Census,
 }
 
 impl Model for RelaySeat {
@@ -50,7 +58,12 @@ impl Model for RelaySeat {
 
     ghost coded = { Prim.hlevel (codes, keyboard_code, boards_code) };
 
-    ghost view = { λ s. record { relay = s.relay; heard = s.queue.heard } };
+    ghost view = { λ s. record {
+      relay = s.relay;
+      heard = s.queue.heard;
+      limits = s.census.limits;
+      living = s.census.living;
+    } };
 }
 
 fn fits(act: &Act) -> bool
@@ -80,41 +93,75 @@ fn reserve(relay: &mut Relay, act: &Act, queue: &mut Queue) -> Result<(), NoMemo
     queue.reserve(events, bytes)
 }
 
-// Makes room for the act, and has the relay take it.
-fn play(relay: &mut Relay, act: &Act, queue: &mut Queue) -> Result<(), NoMemory>
+// Makes room for the act, and has the relay take it. It is counted under its number.
+fn play(
+    relay: &mut Relay,
+    act: &Act,
+    number: Label,
+    queue: &mut Queue,
+    census: &mut Census,
+) -> Result<(), NoMemory>
     requires number { relay.old.state.acts < 4294967295 }
     requires fits { FitsMessage act.now }
     ensures stands { (log : List Act) → StandsFor relay.old log → OnOk result (StandsFor relay.new
         (act.now ∷ log)) }
     ensures told { (log : List Act) → StandsFor relay.old log → OnOk result (queue.new.heard ≡
         queue.old.heard ++ heard act.now log) }
+    ensures counted { (log : List Act) → census.old.living ≡ living log → number ≡ next log →
+        OnOk result (census.new.living ≡ living (act.now ∷ log)) }
     ensures stays { (log : List Act) → StandsFor relay.old log → OnErr result (StandsFor relay.new
         log) }
     ensures waits { OnErr result (queue.new.heard ≡ queue.old.heard) }
+    ensures living { OnErr result (census.new.living ≡ census.old.living) }
+    ensures limits { census.new.limits ≡ census.old.limits }
 {
+    census.reserve()?;
     reserve(relay, act, queue)?;
     let _ = relay.step(act, queue);
+    census.enter(act, number);
     Ok(())
 }
 
 impl RelaySeat {
-    /// A seat that took no act.
+    /// A seat that took no act, of at most `PEER_LIMIT` peers with at most `OBJECT_LIMIT` objects each.
     pub fn new(alloc: Global) -> Result<RelaySeat, NoMemory>
-        ensures { IfOk result (λ seat. Seated seat [] []) }
+        ensures seated { IfOk result (λ seat. Seated seat [] []) }
+        ensures counted { IfOk result (λ seat. IsCounted seat []) }
+        ensures limits { IfOk result (λ seat. seat.limits ≡ record { peers = 64; objects = 256 }) }
+    {
+        RelaySeat::with_limits(
+            alloc,
+            SeatLimits {
+                peers: PEER_LIMIT,
+                objects: OBJECT_LIMIT,
+            },
+        )
+    }
+
+    /// A seat that took no act, with limits of its own.
+    pub fn with_limits(alloc: Global, limits: SeatLimits) -> Result<RelaySeat, NoMemory>
+        ensures seated { IfOk result (λ seat. Seated seat [] []) }
+        ensures counted { IfOk result (λ seat. IsCounted seat []) }
+        ensures limits { IfOk result (λ seat. seat.limits ≡ limits) }
     {
         Ok(RelaySeat {
             relay: Relay::new(alloc)?,
             queue: Queue::new(alloc)?,
+            census: Census::new(alloc, limits),
         })
     }
 
     /// Takes one act, and answers its number, which is the label of what it made. What it tells
     /// waits behind what waited before. An act that does nothing, as one on an object that isn't
     /// alive, a key of a board that had no keymap, or a press while 64 keys are down, costs no
-    /// number: the answer is none, and the seat is as before. So is it after a refusal.
+    /// number: the answer is none, and the seat is as before. So is it after a refusal. `Many`
+    /// comes exactly where the act would make one too many.
     pub fn take(&mut self, act: &Act) -> Result<Option<Label>, Refusal>
-        ensures { (log : List Act) → (waits : List Heard) → Seated self.old log waits →
+        ensures takes { (log : List Act) → (waits : List Heard) → Seated self.old log waits →
             Takes self.new log waits act.now result }
+        ensures counts { (log : List Act) → (waits : List Heard) → Seated self.old log waits →
+            IsCounted self.old log → Counts self.new log act.now result }
+        ensures limits { self.new.limits ≡ self.old.limits }
     {
         if !fits(act) {
             return Err(Refusal::Long);
@@ -125,8 +172,18 @@ impl RelaySeat {
         if self.relay.acts() == u32::MAX {
             return Err(Refusal::Full);
         }
-        match play(&mut self.relay, act, &mut self.queue) {
-            Ok(()) => Ok(Some(self.relay.acts())),
+        let number = self.relay.acts() + 1;
+        if self.census.is_over(act, number) {
+            return Err(Refusal::Many);
+        }
+        match play(
+            &mut self.relay,
+            act,
+            number,
+            &mut self.queue,
+            &mut self.census,
+        ) {
+            Ok(()) => Ok(Some(number)),
             Err(NoMemory) => Err(Refusal::NoMemory),
         }
     }
@@ -144,6 +201,8 @@ impl RelaySeat {
         ensures handed { Pulls self.old.heard self.new.heard text.old text.new result }
         ensures relay { (log : List Act) → StandsFor self.old.relay log → StandsFor self.new.relay
             log }
+        ensures living { self.new.living ≡ self.old.living }
+        ensures limits { self.new.limits ≡ self.old.limits }
     {
         self.queue.pull(text)
     }
@@ -187,5 +246,14 @@ impl RelaySeat {
             standing (history log) }
     {
         self.relay.standing()
+    }
+
+    /// What a batch comes to that the method commits next with this serial (`zwp_input_method_v2.commit`): asked before that
+    /// act. Of a label that names no live method it says `NotServing`.
+    pub fn batch(&self, method: Label, serial: u32) -> BatchFate
+        ensures { (log : List Act) → (waits : List Heard) → Seated self.now log waits → result ≡
+            fate (history log) method serial }
+    {
+        batch_fate(&self.relay, method, serial)
     }
 }

@@ -24,7 +24,8 @@ GaveNone old before result =
 abbrev pub IsSame : (old new : Numbered) → Type 0
 IsSame old new =
     ((log : List Act) → StandsFor old.seat.relay log → StandsFor new.seat.relay log)
-    × (new.seat.heard ≡ old.seat.heard) × (new.numbers ≡ old.numbers)
+    × (new.seat.heard ≡ old.seat.heard) × (new.seat.living ≡ old.seat.living)
+    × (new.seat.limits ≡ old.seat.limits) × (new.numbers ≡ old.numbers)
 
 -- the event that waited longest was written, with its text and its object's number, and waits no
 -- more; the seat stands for the same acts
@@ -34,6 +35,8 @@ pub record GaveFirst (old new : Numbered) (given : Given) (bytes : List ℕ) : T
   pub number : given.number ≡ number_at old.numbers given.event.to
   pub written : IsZeroEnded text bytes
   pub relay : (log : List Act) → StandsFor old.seat.relay log → StandsFor new.seat.relay log
+  pub living : new.seat.living ≡ old.seat.living
+  pub limits : new.seat.limits ≡ old.seat.limits
   pub numbers : new.numbers ≡ old.numbers
 
 -- what the seat did when it was asked for the event that waits longest

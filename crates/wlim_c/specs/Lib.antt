@@ -2,3 +2,4 @@ pub mod Held
 pub mod Took
 pub mod Gave
 pub mod Shown
+pub mod Fates

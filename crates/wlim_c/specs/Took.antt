@@ -4,10 +4,11 @@ use Rattle.std.specs.Prelude.{◌≡◌, ◌⊎◌, ◌<◌, ℕ, ℤ, pos, negs
 use Rattle.wl_wire.specs.Texts.{is_text}
 use Rattle.relay_model.specs.declared.act.Act.{Act}
 use Rattle.relay_model.specs.declared.act.Act.TheVariants as acts
+use Rattle.seat_census.specs.declared.census.SeatLimits.{SeatLimits}
 use Rattle.relay_seat.specs.declared.seat.Refusal.{Refusal}
-use Rattle.relay_seat.specs.declared.seat.Refusal.TheVariants.{NoMemory, Full, Long}
-use Rattle.relay_seat.specs.Seated.{Seated}
-use Rattle.numbered_seat.specs.Numbers.{Numbered, Numbers, Gives, GivesMade, SeatTook}
+use Rattle.relay_seat.specs.declared.seat.Refusal.TheVariants.{NoMemory, Full, Long, Many}
+use Rattle.relay_seat.specs.Seated.{Seated, IsCounted}
+use Rattle.numbered_seat.specs.Numbers.{Numbered, Numbers, Gives, GivesMade, SeatTook, SeatCounts}
 
 -- the act's number, 0 where it does nothing, or why it was not taken
 abbrev pub answer_of : Result (Option ℕ) Refusal → ℤ
@@ -16,6 +17,7 @@ answer_of (Ok None) = pos 0
 answer_of (Err NoMemory) = negsuc 0
 answer_of (Err Full) = negsuc 1
 answer_of (Err Long) = negsuc 2
+answer_of (Err Many) = negsuc 6
 
 -- An act was given to what C had: none, which answers that it is closed. Or a seat, which took it,
 -- did nothing or refused it, as the answer says, and whose numbers changed so.
@@ -25,7 +27,8 @@ Acted Changed None new act result = (new ≡ None) × (result ≡ negsuc 4)
 Acted Changed (Some old) None act result = ⊥
 Acted Changed (Some old) (Some new) act result =
     (answer : Result (Option ℕ) Refusal) × (result ≡ answer_of answer)
-    × SeatTook old.seat new.seat act answer × Changed old.numbers new.numbers answer
+    × SeatTook old.seat new.seat act answer × SeatCounts old.seat new.seat act answer
+    × Changed old.numbers new.numbers answer
 
 -- an act was given that leaves all numbers as they were
 abbrev pub Took : Option Numbered → Option Numbered → Act → ℤ → Type 0
@@ -57,8 +60,11 @@ abbrev pub TookText : Option Numbered → Option Numbered → (most : ℕ) → L
 TookText old new most bytes act result =
     Took old new (act bytes) result ⊎ ((new ≡ old) × NoText most bytes result)
 
--- a seat that took no act, where no label has a number, or none, as the answer says
-abbrev pub IsNewOr : Bool → Option Numbered → Type 0
-IsNewOr true (Some made) = Seated made.seat [] [] × (made.numbers ≡ [])
-IsNewOr false None = Unit {0}
-IsNewOr _ _ = ⊥
+-- a seat that took no act, with these limits, where no label has a number, or none, as the answer
+-- says
+abbrev pub IsNewOr : SeatLimits → Bool → Option Numbered → Type 0
+IsNewOr limits true (Some made) =
+    Seated made.seat [] [] × IsCounted made.seat [] × (made.seat.limits ≡ limits)
+    × (made.numbers ≡ [])
+IsNewOr limits false None = Unit {0}
+IsNewOr limits _ _ = ⊥

@@ -3,6 +3,7 @@
 #![tactic(auto)]
 
 mod answer;
+mod batches;
 mod board_acts;
 mod events;
 mod field_acts;

@@ -7,6 +7,7 @@ use crate::held::Held;
 use numbered_seat::NumberedSeat;
 use relay_model::{Act, Label, Text};
 use relay_seat::Refusal;
+use seat_census::{OBJECT_LIMIT, PEER_LIMIT, SeatLimits};
 use std::alloc::Global;
 use std::mem::replace;
 
@@ -63,6 +64,7 @@ fn answer_of(answer: Result<Option<Label>, Refusal>) -> i64
         Err(Refusal::NoMemory) => answer::NO_MEMORY,
         Err(Refusal::Full) => answer::FULL,
         Err(Refusal::Long) => answer::LONG,
+        Err(Refusal::Many) => answer::MANY,
     }
 }
 
@@ -118,14 +120,12 @@ pub(crate) fn end(w: &mut Wlim, alloc: Global, label: Label) -> i64
     answer_of(answer)
 }
 
-/// Opens a seat that took no act. One that is open is closed before. False where there is no memory: nothing is open
-/// then.
-#[unsafe(no_mangle)]
-pub extern "C" fn wlim_open(seat: &mut Wlim, alloc: Global) -> bool
-    ensures { IsNewOr result seat.new.held.seat }
+// Opens a seat that took no act, with limits of its own.
+fn open(seat: &mut Wlim, alloc: Global, limits: SeatLimits) -> bool
+    ensures { IsNewOr limits result seat.new.held.seat }
 {
     wlim_close(seat, alloc);
-    let Ok(made) = NumberedSeat::new(alloc) else {
+    let Ok(made) = NumberedSeat::new(alloc, limits) else {
         return false;
     };
     let Ok(boxed) = Box::new(alloc, made) else {
@@ -133,6 +133,30 @@ pub extern "C" fn wlim_open(seat: &mut Wlim, alloc: Global) -> bool
     };
     put(seat, boxed);
     true
+}
+
+/// Opens a seat that took no act, of at most 64 peers with at most 256 objects each. One that is open is closed before.
+/// False where there is no memory: nothing is open then.
+#[unsafe(no_mangle)]
+pub extern "C" fn wlim_open(seat: &mut Wlim, alloc: Global) -> bool
+    ensures { IsNewOr (record { peers = 64; objects = 256 }) result seat.new.held.seat }
+{
+    open(
+        seat,
+        alloc,
+        SeatLimits {
+            peers: PEER_LIMIT,
+            objects: OBJECT_LIMIT,
+        },
+    )
+}
+
+/// As `wlim_open`, of at most so many peers with at most so many objects each.
+#[unsafe(no_mangle)]
+pub extern "C" fn wlim_open_with(seat: &mut Wlim, alloc: Global, peers: u32, objects: u32) -> bool
+    ensures { IsNewOr (record { peers = peers; objects = objects }) result seat.new.held.seat }
+{
+    open(seat, alloc, SeatLimits { peers, objects })
 }
 
 /// Closes the seat, and gives back all its memory. What isn't open stays so.

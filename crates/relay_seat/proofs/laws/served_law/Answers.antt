@@ -2,7 +2,7 @@ use Rattle.std.proofs.Common.{List, ◌++◌, Err, ap, sym, ◌∙◌}
 use Rattle.std.proofs.lemmas.List.{append_assoc}
 use Rattle.relay_model.specs.declared.act.Act.{Act}
 use Rattle.relay_seat.specs.declared.seat.Refusal.{Refusal}
-use Rattle.relay_seat.specs.declared.seat.Refusal.TheVariants.{NoMemory, Full, Long}
+use Rattle.relay_seat.specs.declared.seat.Refusal.TheVariants.{NoMemory, Full, Long, Many}
 use Rattle.relay_seat.specs.Events.{Heard, heard}
 use Rattle.relay_seat.specs.Seated.{Seat, Seated, Takes}
 use Rattle.relay_seat.proofs.laws.served_law.Goals as goal
@@ -23,6 +23,7 @@ seated_still : (new : Seat) (log : List Act) (waits : List Heard) (act : Act) (r
 seated_still new log waits act NoMemory h = h
 seated_still new log waits act Full h = h.1
 seated_still new log waits act Long h = h.1
+seated_still new log waits act Many h = h
 
 pub returns-clause-refused : goal.returns-clause-refused
 returns-clause-refused c = λ old new log handed act refusal takes s.

@@ -6,6 +6,6 @@ use Rattle.relay_seat.proofs.seat.play.Goals as goal
 
 pub returns-clause-told : goal.returns-clause-told
 returns-clause-told c = λ log h.
-    reached_heard (told c.args.act.now log) _ _ (c.step.ensures.told log (c.in_ok-reserve.ensures.stands log h))
-    (c.in_ok-reserve.ensures.room log h) ∙
-    ap (λ w. w ++ heard c.args.act.now log) c.in_ok-reserve.ensures.heard
+    reached_heard (told c.args.act.now log) _ _ (c.step.ensures.told log (c.in_ok-reserve-2.ensures.stands log h))
+    (c.in_ok-reserve-2.ensures.room log h) ∙
+    ap (λ w. w ++ heard c.args.act.now log) c.in_ok-reserve-2.ensures.heard

@@ -35,6 +35,8 @@ returns c =
         number = c.number-number.ensures ∙ ap (λ m. number_at m event.to) c.in-Ok-Some.ensures.numbers;
         written = zero;
         relay = c.in-Ok-Some.ensures.relay;
+        living = c.in-Ok-Some.ensures.living;
+        limits = c.in-Ok-Some.ensures.limits;
         numbers = c.in-Ok-Some.ensures.numbers;
       },
     )

@@ -1,7 +1,7 @@
 use Rattle.std.proofs.Common.{◌≡◌, Some, ◌∙◌, sym, subst, w64, to_z, of_z}
 use Rattle.std.proofs.lemmas.Int.{to_z-of_z}
 use Rattle.relay_model.specs.declared.act.Act.TheVariants.{Drop}
-use Rattle.numbered_seat.specs.Numbers.{Numbered, SeatTook, Gives}
+use Rattle.numbered_seat.specs.Numbers.{Numbered, SeatTook, SeatCounts, Gives}
 use Rattle.wlim_c.specs.Took.{Ended, answer_of}
 use Rattle.wlim_c.proofs.opened.end.Goals as goal
 
@@ -16,8 +16,11 @@ returns c =
     let took = subst
     (λ (s : Numbered). SeatTook s.seat new.seat (Drop c.args.label) answer) c.deref_mut.ensures.value
     c.end-answer.ensures.seat in
+    let counts = subst
+    (λ (s : Numbered). SeatCounts s.seat new.seat (Drop c.args.label) answer) c.deref_mut.ensures.value
+    c.end-answer.ensures.counts in
     let numbers =
     subst (λ (s : Numbered). Gives s.numbers new.numbers c.args.label 0) c.deref_mut.ensures.value
     c.end-answer.ensures.numbers in
     subst (λ before. Ended c.args.label before c.put.new.w.held.seat word) c.in-Some.ensures.value
-    (subst (λ after. Ended c.args.label (Some seat) after word) (sym c.put.ensures) (answer, said, took, numbers))
+    (subst (λ after. Ended c.args.label (Some seat) after word) (sym c.put.ensures) (answer, said, took, counts, numbers))

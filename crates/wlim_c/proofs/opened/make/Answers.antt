@@ -1,6 +1,6 @@
 use Rattle.std.proofs.Common.{◌≡◌, Some, ◌∙◌, sym, subst, w64, to_z, of_z}
 use Rattle.std.proofs.lemmas.Int.{to_z-of_z}
-use Rattle.numbered_seat.specs.Numbers.{Numbered, SeatTook, GivesMade}
+use Rattle.numbered_seat.specs.Numbers.{Numbered, SeatTook, SeatCounts, GivesMade}
 use Rattle.wlim_c.specs.Took.{Made, answer_of}
 use Rattle.wlim_c.proofs.opened.make.Goals as goal
 
@@ -15,9 +15,12 @@ returns c =
     let took = subst
     (λ (s : Numbered). SeatTook s.seat new.seat c.args.act answer) c.deref_mut.ensures.value
     c.make-answer.ensures.seat in
+    let counts = subst
+    (λ (s : Numbered). SeatCounts s.seat new.seat c.args.act answer) c.deref_mut.ensures.value
+    c.make-answer.ensures.counts in
     let numbers =
     subst (λ (s : Numbered). GivesMade answer s.numbers new.numbers c.args.number) c.deref_mut.ensures.value
     c.make-answer.ensures.numbers in
     subst (λ before. Made c.args.number before c.put.new.w.held.seat c.args.act word) c.in-Some.ensures.value
     (subst (λ after. Made c.args.number (Some seat) after c.args.act word) (sym c.put.ensures)
-    (answer, said, took, numbers))
+    (answer, said, took, counts, numbers))

@@ -1,6 +1,6 @@
 use Rattle.std.proofs.Common.{◌≡◌, Some, ◌∙◌, sym, subst, w64, to_z, of_z}
 use Rattle.std.proofs.lemmas.Int.{to_z-of_z}
-use Rattle.numbered_seat.specs.Numbers.{Numbered, SeatTook}
+use Rattle.numbered_seat.specs.Numbers.{Numbered, SeatTook, SeatCounts}
 use Rattle.wlim_c.specs.Took.{Took, answer_of}
 use Rattle.wlim_c.proofs.opened.take.Goals as goal
 
@@ -15,7 +15,10 @@ returns c =
     let took = subst
     (λ (s : Numbered). SeatTook s.seat new.seat c.args.act answer) c.deref_mut.ensures.value
     c.take-answer.ensures.seat in
+    let counts = subst
+    (λ (s : Numbered). SeatCounts s.seat new.seat c.args.act answer) c.deref_mut.ensures.value
+    c.take-answer.ensures.counts in
     let numbers =
     subst (λ (s : Numbered). new.numbers ≡ s.numbers) c.deref_mut.ensures.value c.take-answer.ensures.numbers in
     subst (λ before. Took before c.put.new.w.held.seat c.args.act word) c.in-Some.ensures.value
-    (subst (λ after. Took (Some seat) after c.args.act word) (sym c.put.ensures) (answer, said, took, numbers))
+    (subst (λ after. Took (Some seat) after c.args.act word) (sym c.put.ensures) (answer, said, took, counts, numbers))

@@ -5,5 +5,5 @@ use Rattle.numbered_seat.proofs.seat.NumberedSeat.make.Goals as goal
 
 pub returns-in-Ok-Some-clause-seat : goal.returns-in-Ok-Some-clause-seat
 returns-in-Ok-Some-clause-seat c log waits stands =
-    c.take-answer.ensures log waits
+    c.take-answer.ensures.takes log waits
     (subst (λ (v : Numbered). Seated v.seat log waits) (sym c.self.view_is) stands)

@@ -1,0 +1,2 @@
+pub mod LivingAfterAct
+pub mod LivingCounted
