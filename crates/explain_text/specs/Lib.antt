@@ -1,0 +1,4 @@
+pub mod Phrase
+pub mod Deed
+pub mod Outcome
+pub mod Changes

@@ -1,0 +1,11 @@
+//! A line for people of each thing that happened on a seat: what it was, and what came of it.
+#![tactic(auto)]
+
+mod changes;
+mod deed;
+mod outcome;
+mod phrase;
+
+pub use changes::{Course, add_changes, course_of};
+pub use deed::begin_line;
+pub use outcome::{Outcome, WhyNobody, add_outcome, outcome_of};
