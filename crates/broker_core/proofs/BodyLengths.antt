@@ -1,5 +1,5 @@
 -- A message has as many bytes as its length says.
-use Rattle.std.proofs.Common.{◌≡◌, ℕ, ◌+◌, ◌-◌, ◌%◌, List, [], ◌∷◌, ◌++◌, length, arith, refl, length-append, length-take, map, sym, ap, ap₂, ◌∙◌, append_assoc, append-nil, Result, Ok, Err, ℤ, ◌≤◌, ◌<◌, false, cond, ltb, eqb, ◌&&◌, get_or, take, drop, Option, Some, None, inl, inr}
+use Rattle.std.proofs.Common.{◌≡◌, ℕ, ◌+◌, ◌-◌, List, [], ◌∷◌, ◌++◌, length, arith, refl, length-append, length-take, map, sym, ap, ap₂, ◌∙◌, append_assoc, append-nil, Result, Ok, Err, ℤ, ◌≤◌, ◌<◌, false, cond, ltb, eqb, ◌&&◌, get_or, take, drop, Option, Some, None, inl, inr}
 use Rattle.wl_proto.specs.Grammar.{Value, word, signed, text, token, string_value}
 use Rattle.wl_proto.specs.Rows.{Message, request_kinds}
 use Rattle.wl_proto.specs.Spelling.{value_len, values_len, row_bytes, message_len, message_bytes}

@@ -1,14 +1,13 @@
 -- Who watches a call is told of the entries that the journal has since: of the step's, and of the ends that follow from
 -- it.
-use Rattle.std.proofs.Common.{◌≡◌, ℕ, ◌≤◌, List, ◌∷◌, length, ap, refl, sym, subst, ◌∙◌, arith}
+use Rattle.std.proofs.Common.{◌≡◌, ℕ, ◌≤◌, List, ◌∷◌, length, ap, refl, sym, subst, arith}
 use Rattle.seat_steps.specs.declared.limits.Limits.{Limits}
-use Rattle.seat_steps.specs.declared.stamp.Stamp.{Stamp}
 use Rattle.seat_objects.specs.Reached.{Reached}
 use Rattle.broker_model.specs.declared.journal.Entry.{Entry}
 use Rattle.broker_core.specs.declared.state.State.{State}
-use Rattle.broker_core.specs.Broker.{Broker, IsBroker, IsWatched}
+use Rattle.broker_core.specs.Broker.{Broker, IsBroker, IsWatched, gone}
 use Rattle.broker_core.specs.Watched.{Watched, watched, watched_since}
-use Rattle.broker_core.proofs.SharedAfterStep.{shown}
+use Rattle.broker_core.proofs.SharedAfterStep.{shown, shows_as}
 use Rattle.broker_core.proofs.WatchedSince.{since_none, reached_more}
 
 -- nothing is watched where the journal has no entry more
@@ -19,14 +18,12 @@ nothing_watched R b w =
 
 pub refused_watched : {W : Type 0} (R : W → Watched → W → Type 0) (limits : Limits) (b : Broker) (s t : State)
     (w after : W) →
-    shown limits s ≡ b → t.journal.entries ≡ s.journal.entries → t.stamps.stamps ≡ s.stamps.stamps → after ≡ w →
+    shown limits s ≡ b → t.journal.entries ≡ s.journal.entries → t.stamps.stamps ≡ s.stamps.stamps → gone t ≡ gone s →
+    after ≡ w →
     IsWatched R b w (shown limits t) after
-refused_watched R limits b s t w after v j k stays =
+refused_watched R limits b s t w after v j k g stays =
     subst (λ (x : _). IsWatched R b w (shown limits t) x) (sym stays)
-    (subst (λ (x : Broker). IsWatched R b w x w)
-    (sym (ap (λ (journal : List Entry). record { limits = limits; journal = journal; stamps = t.stamps.stamps }) j
-    ∙ ap (λ (ss : List Stamp). record { limits = limits; journal = s.journal.entries; stamps = ss }) k ∙ v))
-    (nothing_watched R b w))
+    (subst (λ (x : Broker). IsWatched R b w x w) (sym (shows_as limits b s t v j k g)) (nothing_watched R b w))
 
 -- a step, and the ends that follow
 

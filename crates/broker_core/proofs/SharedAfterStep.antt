@@ -20,14 +20,19 @@ use Rattle.broker_core.specs.declared.state.State.{State}
 use Rattle.broker_core.specs.declared.taking.Standing.TheVariants.{Alive}
 use Rattle.broker_core.specs.Stands.{Stands}
 use Rattle.broker_core.specs.Taking.{standing_of}
-use Rattle.broker_core.specs.Broker.{Broker, IsBroker, with_step, full_for}
+use Rattle.broker_core.specs.Broker.{Broker, IsBroker, gone, with_step, full_for}
 use Rattle.broker_core.proofs.AliveAfterEntry.{IsNoMore, counted_cons, weight_cons, same_settled, alive_settle, alive_plain, alive_join, alive_end}
 use Rattle.broker_core.proofs.RosterAfterEntry.{IsPlain}
 use Rattle.broker_core.proofs.WhoIsAlive.{IsAlive, alive_is}
 
 -- what the callers see of a state
 abbrev pub shown : Limits → State → Broker
-shown limits s = record { limits = limits; journal = s.journal.entries; stamps = s.stamps.stamps }
+shown limits s = record {
+  limits = limits;
+  journal = s.journal.entries;
+  stamps = s.stamps.stamps;
+  kept_from = s.journal.kept_from;
+}
 
 -- the entry is an outer step, and all is within the limits with it
 pub record IsWithin (limits : Limits) (e : Entry) (older : List Entry) : Type 0 where
@@ -49,12 +54,14 @@ pub record IsStepped (e : Entry) (given : Stamp) (s t : State) : Type 0 where
   pub entered : t.journal.entries ≡ settle s.capacity (e ∷ s.journal.entries)
   pub stamped : (gave : List Stamp) → stamps s.journal.entries gave ≡ s.stamps.stamps →
       stamps t.journal.entries (given ∷ gave) ≡ t.stamps.stamps
+  pub kept : gone t ≡ gone s
 
 pub stepped : (e : Entry) (given : Stamp) (s m t : State) → follows e ≡ false → m.capacity ≡ s.capacity →
     m.journal.entries ≡ e ∷ s.journal.entries →
     m.stamps.stamps ≡ stamp_of e given s.stamps.stamps ∷ s.stamps.stamps → Stands t → t.capacity ≡ m.capacity →
-    t.journal.entries ≡ settle m.capacity m.journal.entries → StampsOn m t → IsStepped e given s t
-stepped e given s m t f c j p v d k on = record {
+    t.journal.entries ≡ settle m.capacity m.journal.entries → StampsOn m t → gone m ≡ gone s → gone t ≡ gone m →
+    IsStepped e given s t
+stepped e given s m t f c j p v d k on now later = record {
   stands = v;
   capacity = d ∙ c;
   entered = k ∙ ap (λ n. settle n m.journal.entries) c ∙ ap (settle s.capacity) j;
@@ -64,7 +71,13 @@ stepped e given s m t f c j p v d k on = record {
       ∙ step_stamped e s.journal.entries given gave f
       ∙ ap (λ (before : List Stamp). stamp_of e given before ∷ before) h
       ∙ sym p);
+  kept = later ∙ now;
 }
+
+-- as many stamps are gone as entries, still
+kept_as : (s t : State) → gone t ≡ gone s → s.stamps.kept_from ≡ s.journal.kept_from →
+    t.stamps.kept_from ≡ t.journal.kept_from
+kept_as s t g k = ap (λ (n : ℕ × ℕ). n.1) g ∙ k ∙ sym (ap (λ (n : ℕ × ℕ). n.0) g)
 
 -- the stamps that the steps have give the same again
 same_again : (journal : List Entry) (gave now : List Stamp) → stamps journal gave ≡ now →
@@ -97,6 +110,7 @@ stays limits e given s t b w h =
       few = subst (λ n. n ≤ 64) (sym lives) (omega arith);
       stamped = same_again t.journal.entries (given ∷ step_stamps s.journal.entries s.stamps.stamps) t.stamps.stamps
           (h.stamped (step_stamps s.journal.entries s.stamps.stamps) b.stamped);
+      kept = kept_as s t h.kept b.kept;
     }
 
 pub becomes : (limits : Limits) (e : Entry) (given : Stamp) (b : Broker) (s t : State) → shown limits s ≡ b →
@@ -106,20 +120,19 @@ becomes limits e given b s t v i h =
     let gave : List Stamp = step_stamps s.journal.entries s.stamps.stamps in
     let now : t.journal.entries ≡ settle limits.store (e ∷ s.journal.entries) =
     h.entered ∙ ap (λ n. settle n (e ∷ s.journal.entries)) i.capacity in
-    ap (λ (ss : List Stamp). record { limits = limits; journal = t.journal.entries; stamps = ss })
-    (sym (h.stamped gave i.stamped))
-    ∙ ap (λ (journal : List Entry). record {
-      limits = limits;
+    ap (λ (ss : List Stamp). record (shown limits t) { stamps = ss }) (sym (h.stamped gave i.stamped))
+    ∙ ap (λ (journal : List Entry). record (shown limits t) {
       journal = journal;
       stamps = stamps journal (given ∷ gave);
     }) now
+    ∙ ap (λ (n : ℕ × ℕ). record (with_step e given (shown limits s)) { kept_from = n.0 }) h.kept
     ∙ ap (with_step e given) v
 
--- it stays one, and shows the same, where a call that took nothing left its journal and its stamps
+-- it stays one, and shows the same, where a call that took nothing left its journal and its stamps, and let none go
 pub stays_as : (limits : Limits) (s t : State) → IsBroker limits s → Stands t → t.capacity ≡ s.capacity →
     t.journal.entries ≡ s.journal.entries →
-    t.stamps.stamps ≡ s.stamps.stamps → IsBroker limits t
-stays_as limits s t b v c j p = record {
+    t.stamps.stamps ≡ s.stamps.stamps → gone t ≡ gone s → IsBroker limits t
+stays_as limits s t b v c j p g = record {
   stands = v;
   capacity = c ∙ b.capacity;
   limited = b.limited;
@@ -129,14 +142,16 @@ stays_as limits s t b v c j p = record {
   few = subst (λ (J : List Entry). number_alive J ≤ 64) (sym j) b.few;
   stamped = subst (λ (J : List Entry). stamps J (step_stamps J t.stamps.stamps) ≡ t.stamps.stamps) (sym j)
       (subst (λ (ss : List Stamp). stamps s.journal.entries (step_stamps s.journal.entries ss) ≡ ss) (sym p) b.stamped);
+  kept = kept_as s t g b.kept;
 }
 
 pub shows_as : (limits : Limits) (b : Broker) (s t : State) → shown limits s ≡ b →
     t.journal.entries ≡ s.journal.entries →
-    t.stamps.stamps ≡ s.stamps.stamps → shown limits t ≡ b
-shows_as limits b s t v j p =
-    ap (λ (J : List Entry). record { limits = limits; journal = J; stamps = t.stamps.stamps }) j
-    ∙ ap (λ (ss : List Stamp). record { limits = limits; journal = s.journal.entries; stamps = ss }) p
+    t.stamps.stamps ≡ s.stamps.stamps → gone t ≡ gone s → shown limits t ≡ b
+shows_as limits b s t v j p g =
+    ap (λ (J : List Entry). record (shown limits t) { journal = J }) j
+    ∙ ap (λ (ss : List Stamp). record (shown limits s) { stamps = ss; kept_from = t.journal.kept_from }) p
+    ∙ ap (λ (n : ℕ × ℕ). record (shown limits s) { kept_from = n.0 }) g
     ∙ v
 
 -- how many peers joined, the ends that follow don't change

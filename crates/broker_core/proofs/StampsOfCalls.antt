@@ -1,14 +1,14 @@
 -- The stamps after calls are those for what the calls gave.
-use Rattle.std.proofs.Common.{◌≡◌, ℕ, zero, suc, List, [], ◌∷◌, map, true, false, Option, Some, None, refl, sym, ap, ap₂, ◌∙◌}
+use Rattle.std.proofs.Common.{◌≡◌, ℕ, zero, suc, List, [], ◌∷◌, map, true, false, Option, Some, None, refl, sym, ap, ◌∙◌}
 use Rattle.seat_steps.specs.declared.limits.Limits.{Limits}
 use Rattle.seat_steps.specs.declared.stamp.Stamp.{Stamp}
 use Rattle.broker_model.specs.declared.journal.Entry.{Entry}
 use Rattle.broker_model.specs.declared.journal.Entry.TheVariants as entries
-use Rattle.broker_model.specs.Settle.{refused, due, cause_of, with_end, settled, settle, number_alive, history}
+use Rattle.broker_model.specs.Settle.{refused, due, cause_of, with_end, settled, settle, number_alive}
 use Rattle.broker_model.specs.Stamps.{follows, stamp_of, no_stamp, stamps, step_stamps}
 use Rattle.broker_model.proofs.StampsAgain.{step_stamped, end_stamped, again}
 use Rattle.broker_core.specs.Broker.{Broker, with_step}
-use Rattle.broker_core.specs.Calls.{Call, after_calls, AreSteps, IsOfCalls, CallLaw}
+use Rattle.broker_core.specs.Calls.{Call, after_calls, IsOfCalls, CallLaw}
 use Rattle.broker_core.proofs.FirstDueIsSettled.{cause_follows}
 
 -- the stamps of the ends that follow stand on those before them alone

@@ -1,10 +1,10 @@
 -- Events whose texts are short are messages that fit.
-use Rattle.std.proofs.Common.{◌≡◌, ◌≤◌, List, length, refl, arith, ℕ, [], ◌∷◌, Bool, Option, Some, None}
+use Rattle.std.proofs.Common.{◌≤◌, List, length, arith, ℕ, [], ◌∷◌, Bool, Option, Some, None}
 use Rattle.std.specs.Prelude.{IfSome, ◌==◌, ◌&&◌, nat_le, if◌then◌else◌, is_some, filter, unwrap_or}
 use Rattle.wl_proto.specs.declared.interface.Interface.{Interface}
 use Rattle.wl_proto.specs.declared.interface.Interface.TheVariants as interface
 use Rattle.wl_proto.specs.Names.{name_of}
-use Rattle.wl_proto.specs.Spelling.{value_len, message_len}
+use Rattle.wl_proto.specs.Spelling.{message_len}
 use Rattle.relay_model.specs.declared.fault.Fault.{Fault}
 use Rattle.relay_model.specs.declared.fault.Fault.TheVariants as faults
 use Rattle.relay_model.specs.declared.said.Said.{Said}

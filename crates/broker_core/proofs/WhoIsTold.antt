@@ -1,5 +1,5 @@
 -- To whom an act tells things: to the shell, to an object that is alive, and to what the act makes.
-use Rattle.std.proofs.Common.{◌≡◌, ℕ, ◌≤◌, List, [], ◌∷◌, length, map, Bool, true, false, Option, Some, None, ap, refl, sym, ◌∙◌, arith, inl, inr, ◌⊎◌}
+use Rattle.std.proofs.Common.{◌≡◌, ℕ, ◌≤◌, List, [], ◌∷◌, length, map, Bool, true, false, Option, Some, None, ap, refl, arith, inl, inr, ◌⊎◌}
 use Rattle.std.specs.Prelude.{not, nat_lt, if◌then◌else◌, is_some, filter}
 use Rattle.std.specs.List.{AllByRecursion}
 use Rattle.std.proofs.lemmas.Bool.{eqb-true, cases_lt}
@@ -8,7 +8,7 @@ use Rattle.relay_model.specs.declared.act.Act.TheVariants as acts
 use Rattle.relay_model.specs.declared.said.Told.{Told}
 use Rattle.relay_model.specs.declared.said.Said.{Said}
 use Rattle.relay_model.specs.declared.said.Said.TheVariants as said
-use Rattle.relay_model.specs.Objects.{Object, next, is_at, is_peer_kind, is_field_kind, is_popup_kind, is_peer, is_popup, owner, object, alive, peer_of, fields, labels, popups, is_same}
+use Rattle.relay_model.specs.Objects.{next, is_at, is_peer_kind, is_field_kind, is_popup_kind, is_peer, is_popup, alive, peer_of, fields, labels, popups, is_same}
 use Rattle.relay_model.specs.Focus.{focus, entered, peer_at}
 use Rattle.relay_model.specs.Hold.{holder}
 use Rattle.relay_model.specs.Activation.{serving, notice, fresh}

@@ -1,6 +1,6 @@
 -- The shared state as its callers see it: limits and a journal. When a step is refused, and what
 -- becomes of one that isn't.
-use Rattle.std.specs.Prelude.{◌≡◌, ℕ, ◌≤◌, ◌==◌, List, ◌∷◌, length, nat_le, if◌then◌else◌, Option, Some, None, option_map, Result, IsOk, IsOkUnless}
+use Rattle.std.specs.Prelude.{◌≡◌, ℕ, ◌≤◌, ◌==◌, List, [], ◌∷◌, length, min, max, nat_le, if◌then◌else◌, Option, Some, None, option_map, Result, IsOk, IsOkUnless}
 use Rattle.relay_model.specs.declared.act.EndCause.{EndCause}
 use Rattle.relay_model.specs.declared.act.EndCause.TheVariants.{Gone}
 use Rattle.relay_model.specs.declared.role.Role.{Role}
@@ -32,14 +32,29 @@ use Rattle.broker_core.specs.Stands.{Stands, end_of}
 use Rattle.broker_core.specs.Taking.{out_at, standing_of}
 use Rattle.broker_core.specs.Watched.{Watched, watched_since}
 
--- what was allowed, and all that happened with its stamps, the newest first
+-- what was allowed, all that happened with its stamps, the newest first, and how many of the oldest
+-- entries and stamps were let go
 pub record Broker : Type 0 where
   pub limits : Limits
   pub journal : List Entry
   pub stamps : List Stamp
+  pub kept_from : ℕ
+
+-- where nothing happened yet
+abbrev pub begun : Limits → Broker
+begun limits = record { limits = limits; journal = []; stamps = []; kept_from = 0 }
+
+-- the entries up to a number are let go, and those that went before stay gone
+abbrev pub letting_go : ℕ → Broker → Broker
+letting_go number b = record b { kept_from = max b.kept_from (min number (length b.journal)) }
+
+-- how many entries and how many stamps were let go
+abbrev pub gone : State → ℕ × ℕ
+gone s = (s.journal.kept_from, s.stamps.kept_from)
 
 -- What its state keeps: it stands for a journal that is the history of its outer steps, within the
--- limits, at most 64 peers are alive, and the stamps are those for which the steps' were given.
+-- limits, at most 64 peers are alive, the stamps are those for which the steps' were given, and as
+-- many of them were let go as entries.
 pub record IsBroker (limits : Limits) (s : State) : Type 0 where
   pub stands : Stands s
   pub capacity : s.capacity ≡ limits.store
@@ -50,6 +65,7 @@ pub record IsBroker (limits : Limits) (s : State) : Type 0 where
   pub few : number_alive s.journal.entries ≤ 64
   pub stamped : stamps s.journal.entries (step_stamps s.journal.entries s.stamps.stamps)
       ≡ s.stamps.stamps
+  pub kept : s.stamps.kept_from ≡ s.journal.kept_from
 
 -- after one more step, and the ends that follow from it: its call gave the stamp
 abbrev pub with_step : Entry → Stamp → Broker → Broker

@@ -1,12 +1,12 @@
 -- What calls lead to: the history of their steps, with the stamps that they gave.
-use Rattle.std.specs.Prelude.{◌≡◌, ℕ, List, [], ◌∷◌, map, false}
+use Rattle.std.specs.Prelude.{◌≡◌, List, [], ◌∷◌, map, false}
 use Rattle.std.specs.List.{AllByRecursion}
 use Rattle.seat_steps.specs.declared.limits.Limits.{Limits}
 use Rattle.seat_steps.specs.declared.stamp.Stamp.{Stamp}
 use Rattle.broker_model.specs.declared.journal.Entry.{Entry}
 use Rattle.broker_model.specs.Settle.{history}
 use Rattle.broker_model.specs.Stamps.{follows, stamps}
-use Rattle.broker_core.specs.Broker.{Broker, with_step}
+use Rattle.broker_core.specs.Broker.{Broker, begun, with_step}
 
 -- a call that was answered with success: the entry of its step, and the stamp that it gave
 pub record Call : Type 0 where
@@ -15,7 +15,7 @@ pub record Call : Type 0 where
 
 -- what calls lead to from the beginning on, the newest first
 abbrev pub after_calls : Limits → List Call → Broker
-after_calls limits [] = record { limits = limits; journal = []; stamps = [] }
+after_calls limits [] = begun limits
 after_calls limits (call ∷ older) = with_step call.step call.given (after_calls limits older)
 
 -- no call is an end that follows from another

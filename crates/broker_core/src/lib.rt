@@ -3,7 +3,9 @@
 
 mod answers;
 mod laws;
+mod letting_go;
 mod limits;
+mod readers;
 mod shared;
 mod state;
 mod steps;
@@ -14,6 +16,7 @@ mod watch;
 pub use answers::{Applied, JoinRefusal, Refused, Took};
 pub use broker_model::{Entry, Journal, Kept, StampList};
 pub use laws::call_law;
+pub use letting_go::LetGo;
 pub use shared::{MOST_PEERS, Shared};
 pub use taking::Standing;
 pub use watch::Watch;

@@ -17,11 +17,10 @@ pub const MOST_PEERS: u32 = 64;
 
 /// The shared state of all peers of a seat: one journal of what happened, and for each peer what is stored for it.
 ///
-/// In contracts it is a `Broker`: its limits, and its journal with the newest entry first. All else
-/// is what the definitions say of these two. After each step that is taken, each live peer whose
-/// message was refused, or whose store had no room for what the step told it, is ended, the one
-/// with the lowest number first. A call costs what the step tells and the live objects, however
-/// long the journal is. Who watches a call is told of each entry that it makes.
+/// In contracts it is a `Broker`: its limits, its journal with the newest entry first, the stamps, and how many were
+/// let go. All else is what the definitions say of these. After each step that is taken, each live peer whose message
+/// was refused, or whose store had no room for what the step told it, is ended, the one with the lowest number first.
+/// A call costs what the step tells and the live objects. Who watches a call is told of each entry that it makes.
 #[derive(Drop)]
 pub struct Shared {
     pub(crate) state: State,
@@ -37,13 +36,14 @@ impl Model for Shared {
       limits = s.limits;
       journal = s.state.journal.entries;
       stamps = s.state.stamps.stamps;
+      kept_from = s.state.journal.kept_from;
     } };
 
     ghost invariant = { λ s. IsBroker s.limits s.state };
 }
 
 impl Shared {
-    ghost use Rattle.std.specs.Prelude.{◌≡◌, ◌≤◌, ◌+◌, ◌∷◌, ℕ, List, [], length, true, false};
+    ghost use Rattle.std.specs.Prelude.{◌≡◌, ◌≤◌, ◌+◌, ◌∷◌, ℕ, List, length, true, false};
     ghost use Rattle.std.specs.Prelude.{option_map, Option, Some, None, Err, IfSome, IfNone, IfOk};
     ghost use Rattle.std.specs.Prelude.{OnOk, OnErr, IsOkUnless};
     ghost use Rattle.std.specs.List.{count_by};
@@ -64,16 +64,14 @@ impl Shared {
     ghost use Rattle.broker_model.specs.Limits.{is_end, weight_of, number_counted, weight};
     ghost use Rattle.broker_core.specs.declared.taking.Standing.TheVariants.{Alive};
     ghost use Rattle.broker_core.specs.Ends.{is_end_of};
-    ghost use Rattle.broker_core.specs.Broker.{with_step, full_for, join_refusal, entry_of};
-    ghost use Rattle.broker_core.specs.Broker.{refusal_if_full, refusal, IsSaid, IsAccepted};
-    ghost use Rattle.broker_core.specs.Broker.{IsWatched};
+    ghost use Rattle.broker_core.specs.Broker.{begun, with_step, full_for, join_refusal, entry_of};
+    ghost use Rattle.broker_core.specs.Broker.{refusal_if_full, refusal, IsSaid, IsAccepted, IsWatched};
     ghost use Rattle.broker_core.specs.Taking.{out_at, standing_of, lives};
 
     /// Nobody joined yet, and the journal is empty. Asks for limits in their ranges. `NoMemory` is its one error.
     pub fn new(alloc: Global, limits: Limits) -> Result<Shared, NoMemory>
         requires limits { IsLimits limits }
-        ensures { IfOk result (λ shared. shared ≡ record
-            { limits = limits; journal = []; stamps = [] }) }
+        ensures { IfOk result (λ shared. shared ≡ begun limits) }
     {
         Ok(Shared {
             state: State::new(alloc, limits.store as usize)?,
@@ -114,6 +112,7 @@ impl Shared {
     /// that joined and aren't alive.
     pub fn journal(&self) -> &Journal
         ensures entries { result.now.entries ≡ self.now.journal }
+        ensures kept { result.now.kept_from ≡ self.now.kept_from }
         ensures history { history self.now.limits.store (outer self.now.journal) ≡
             self.now.journal }
         ensures nobody_is_due { (number : ℕ) (peer : Joined) →
@@ -142,6 +141,7 @@ impl Shared {
     /// the entry before. An end that follows has author 0, and the moment of the entry before.
     pub fn stamps(&self) -> &StampList
         ensures stamps { result.now.stamps ≡ self.now.stamps }
+        ensures kept { result.now.kept_from ≡ self.now.kept_from }
         ensures each { length self.now.stamps ≡ length self.now.journal }
         ensures stamped { stamps self.now.journal (step_stamps self.now.journal self.now.stamps) ≡
             self.now.stamps }

@@ -1,12 +1,14 @@
 //! The state of all peers of a seat. It stands for the journal of what happened.
-ghost use Rattle.std.specs.Prelude.{◌≡◌, ◌≤◌, ◌<◌, ◌+◌, ◌∷◌, [], ℕ, List, map, length, Option};
-ghost use Rattle.std.specs.Prelude.{Some, None, IsSome, IfSome, IfOk, OnOk, OnErr};
+ghost use Rattle.std.specs.Prelude.{◌≡◌, ◌≤◌, ◌<◌, ◌+◌, ◌↔◌, ◌∷◌, [], ℕ, List, map, length};
+ghost use Rattle.std.specs.Prelude.{Option};
+ghost use Rattle.std.specs.Prelude.{Some, None, IsSome, IfSome, IfOk, OnOk, OnErr, min, max};
 ghost use Rattle.std.specs.List.{AllByRecursion};
 ghost use Rattle.relay_model.specs.declared.act.Act.{Act};
 ghost use Rattle.relay_model.specs.Told.{told};
 ghost use Rattle.relay_core.specs.Kept.{IsReserved};
 ghost use Rattle.relay_core.specs.Stands as relay;
 ghost use Rattle.broker_model.specs.declared.journal.Entry.TheVariants as entries;
+ghost use Rattle.broker_model.specs.Recorded.{entry_at};
 ghost use Rattle.broker_model.specs.Settle.{settle};
 ghost use Rattle.broker_model.specs.Stamps.{stamp_of, stamps};
 ghost use Rattle.seat_steps.specs.declared.stamp.Stamp.{Stamp};
@@ -14,10 +16,12 @@ ghost use Rattle.broker_model.specs.Resolve.{past_of, resolve};
 ghost use Rattle.broker_model.specs.Out.{act_at};
 ghost use Rattle.seat_audience.specs.Lives.{told_all, number_of};
 ghost use Rattle.broker_core.specs.Stands.{Stands, IsReadyFor, store_of};
+ghost use Rattle.broker_core.specs.Broker.{gone};
 ghost use Rattle.seat_objects.specs.Reached.{Reached};
 ghost use Rattle.seat_audience.specs.Tells.{IsShort};
 ghost use Rattle.broker_core.specs.Watched.{told_live, watched, watched_since};
 
+use crate::letting_go::LetGo;
 use crate::watch::{Watch, show_groups, speak};
 use broker_model::{Entry, Journal, StampList};
 use out_store::Store;
@@ -72,6 +76,7 @@ impl State {
         ensures stands { IfOk result Stands }
         ensures empty { IfOk result (λ state. state.journal.entries ≡ []) }
         ensures no_stamps { IfOk result (λ state. state.stamps.stamps ≡ []) }
+        ensures kept { IfOk result (λ state. gone state ≡ (0, 0)) }
         ensures capacity { IfOk result (λ state. state.capacity ≡ capacity) }
     {
         Ok(State {
@@ -140,6 +145,7 @@ impl State {
         ensures stamped { self.new.stamps.stamps
             ≡ stamp_of entry given self.old.stamps.stamps ∷ self.old.stamps.stamps }
         ensures capacity { self.new.capacity ≡ self.old.capacity }
+        ensures kept { gone self.new ≡ gone self.old }
         ensures route { result ≡ relay.route_told act.now (resolve self.old.journal.entries) }
         ensures watched { Reached W.may_follow watch.old
             (watched self.old.capacity entry self.old.journal.entries) watch.new }
@@ -167,6 +173,7 @@ impl State {
         requires few { length self.old.journal.entries < 4294967295 }
         ensures stands { Stands self.new }
         ensures capacity { self.new.capacity ≡ self.old.capacity }
+        ensures kept { gone self.new ≡ gone self.old }
         ensures ended { self.new.journal.entries ≡ entries.End number cause ∷
             self.old.journal.entries }
         ensures stamped { self.new.stamps.stamps ≡ stamp_of (entries.End number cause) given
@@ -204,6 +211,7 @@ impl State {
             4294967295 }
         ensures stands { Stands self.new }
         ensures capacity { self.new.capacity ≡ self.old.capacity }
+        ensures kept { gone self.new ≡ gone self.old }
         ensures settled { self.new.journal.entries ≡ settle self.old.capacity
             self.old.journal.entries }
         ensures stamped { (given : List Stamp) →
@@ -217,5 +225,53 @@ impl State {
         while let Some((number, cause)) = self.audience.live.due() {
             self.end(number, cause, NOT_GIVEN, watch);
         }
+    }
+
+    /// Lets the entries of the journal up to a number go, with their stamps.
+    pub(crate) fn let_go(&mut self, number: u32)
+        requires stands { Stands self.old }
+        requires kept { self.old.stamps.kept_from ≡ self.old.journal.kept_from }
+        ensures stands { Stands self.new }
+        ensures same { self.new.journal.entries ≡ self.old.journal.entries }
+        ensures stamps { self.new.stamps.stamps ≡ self.old.stamps.stamps }
+        ensures capacity { self.new.capacity ≡ self.old.capacity }
+        ensures kept { self.new.journal.kept_from ≡ max self.old.journal.kept_from
+            (min number (length self.old.journal.entries)) }
+        ensures kept_stamps { self.new.stamps.kept_from ≡ self.new.journal.kept_from }
+    {
+        self.journal.let_go(number);
+        self.stamps.let_go(number);
+    }
+
+    /// Lets the oldest kept entry go with its stamp, and hands both out.
+    pub(crate) fn pop_oldest(&mut self) -> Option<LetGo>
+        requires stands { Stands self.old }
+        requires kept { self.old.stamps.kept_from ≡ self.old.journal.kept_from }
+        ensures stands { Stands self.new }
+        ensures same { self.new.journal.entries ≡ self.old.journal.entries }
+        ensures stamps { self.new.stamps.stamps ≡ self.old.stamps.stamps }
+        ensures capacity { self.new.capacity ≡ self.old.capacity }
+        ensures some { IsSome result ↔
+            (self.old.journal.kept_from < length self.old.journal.entries) }
+        ensures number { IfSome result (λ it. it.number ≡ self.old.journal.kept_from + 1) }
+        ensures entry { IfSome result (λ it.
+            entry_at self.old.journal.entries it.number ≡ Some it.entry) }
+        ensures stamp { IfSome result (λ it.
+            entry_at self.old.stamps.stamps it.number ≡ Some it.stamp) }
+        ensures kept { self.new.journal.kept_from ≡ max self.old.journal.kept_from
+            (min (self.old.journal.kept_from + 1) (length self.old.journal.entries)) }
+        ensures kept_stamps { self.new.stamps.kept_from ≡ self.new.journal.kept_from }
+    {
+        if self.journal.kept_from() >= self.journal.len() {
+            return None;
+        }
+        let number = self.journal.kept_from() + 1;
+        let entry = self.journal.pop_oldest()?;
+        let stamp = self.stamps.pop_oldest()?;
+        Some(LetGo {
+            number,
+            entry,
+            stamp,
+        })
     }
 }

@@ -16,6 +16,7 @@ ghost use Rattle.broker_model.specs.Stamps.{stamp_of};
 ghost use Rattle.broker_model.specs.Out.{act_at};
 ghost use Rattle.seat_audience.specs.Lives.{number_of};
 ghost use Rattle.broker_core.specs.Stands.{Stands, CanTake};
+ghost use Rattle.broker_core.specs.Broker.{gone};
 ghost use Rattle.seat_objects.specs.Reached.{Reached};
 ghost use Rattle.broker_core.specs.Watched.{watched};
 
@@ -45,6 +46,7 @@ impl State {
         ensures labels { self.new.labels ≡ self.old.labels }
         ensures ended { self.new.ended ≡ self.old.ended }
         ensures capacity { self.new.capacity ≡ self.old.capacity }
+        ensures kept { gone self.new ≡ gone self.old }
         ensures stamps { self.new.stamps.stamps ≡ self.old.stamps.stamps }
         ensures room { OnOk result (length self.old.audience.live.items + 2 ≤
             self.new.journal.room) }
@@ -71,6 +73,7 @@ impl State {
         requires place { CanTake (entries.Join role) self.old.journal.entries }
         ensures stands { Stands self.new }
         ensures capacity { self.new.capacity ≡ self.old.capacity }
+        ensures kept { gone self.new ≡ gone self.old }
         ensures ok { OnOk result (self.new.journal.entries ≡ entries.Join role ∷
             self.old.journal.entries) }
         ensures stamped { OnOk result (self.new.stamps.stamps ≡ stamp_of (entries.Join role) given
@@ -145,6 +148,7 @@ impl State {
             self.old.journal.entries }
         ensures stands { Stands self.new }
         ensures capacity { self.new.capacity ≡ self.old.capacity }
+        ensures kept { gone self.new ≡ gone self.old }
         ensures ok { OnOk result (self.new.journal.entries ≡ entries.Message number id opcode
             body.now ∷ self.old.journal.entries) }
         ensures stamped { OnOk result (self.new.stamps.stamps ≡ stamp_of
@@ -200,6 +204,7 @@ impl State {
         requires place { CanTake (entries.Tokens number tokens.now) self.old.journal.entries }
         ensures stands { Stands self.new }
         ensures capacity { self.new.capacity ≡ self.old.capacity }
+        ensures kept { gone self.new ≡ gone self.old }
         ensures ok { OnOk result (self.new.journal.entries ≡ entries.Tokens number tokens.now
             ∷ self.old.journal.entries) }
         ensures stamped { OnOk result (self.new.stamps.stamps ≡ stamp_of
@@ -239,6 +244,7 @@ impl State {
         requires place { CanTake (entries.BadSize number head) self.old.journal.entries }
         ensures stands { Stands self.new }
         ensures capacity { self.new.capacity ≡ self.old.capacity }
+        ensures kept { gone self.new ≡ gone self.old }
         ensures ok { OnOk result (self.new.journal.entries ≡ entries.BadSize number head ∷
             self.old.journal.entries) }
         ensures stamped { OnOk result (self.new.stamps.stamps ≡ stamp_of
@@ -305,6 +311,7 @@ impl State {
         requires place { CanTake (entries.Shell step.now) self.old.journal.entries }
         ensures stands { Stands self.new }
         ensures capacity { self.new.capacity ≡ self.old.capacity }
+        ensures kept { gone self.new ≡ gone self.old }
         ensures ok { OnOk result (self.new.journal.entries ≡ entries.Shell step.now ∷
             self.old.journal.entries) }
         ensures stamped { OnOk result (self.new.stamps.stamps ≡ stamp_of (entries.Shell step.now)

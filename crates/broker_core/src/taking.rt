@@ -10,6 +10,7 @@ ghost use Rattle.broker_model.specs.Stamps.{stamp_of};
 ghost use Rattle.broker_core.specs.declared.taking.Standing.TheVariants.{Alive};
 ghost use Rattle.seat_audience.specs.Lives.{number_of};
 ghost use Rattle.broker_core.specs.Stands.{Stands, CanTake, store_of};
+ghost use Rattle.broker_core.specs.Broker.{gone};
 ghost use Rattle.seat_objects.specs.Reached.{Reached};
 ghost use Rattle.broker_core.specs.Watched.{watched};
 ghost use Rattle.broker_core.specs.Taking.{out_at, IsTaken, standing_of};
@@ -87,6 +88,7 @@ impl State {
         requires place { CanTake (entries.Took number 0) self.old.journal.entries }
         ensures stands { Stands self.new }
         ensures capacity { self.new.capacity ≡ self.old.capacity }
+        ensures kept { gone self.new ≡ gone self.old }
         ensures ok { IfSome (out_at self.old.capacity self.old.journal.entries number)
             (λ out. IfOk result (λ counts.
             IsTaken out self.old.journal.entries number buf.old tokens.old counts buf.new tokens.new

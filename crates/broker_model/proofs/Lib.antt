@@ -8,7 +8,6 @@ pub mod QueuedForFields
 pub mod FieldsHaveIds
 pub mod BatchGroupsWhole
 pub mod QuietStoresStay
-pub mod NumberedEntries
 pub mod IdsAreNames
 pub mod MadeAtMostOne
 pub mod MadeObjectsStand

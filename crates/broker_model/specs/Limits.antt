@@ -1,5 +1,5 @@
 -- How much a journal holds: its counted entries and its weight.
-use Rattle.std.specs.Prelude.{ℕ, ◌+◌, ◌*◌, List, length, Bool, true, false, not, ◌&&◌, ◌||◌, nat_le, nat_lt}
+use Rattle.std.specs.Prelude.{ℕ, ◌+◌, ◌*◌, List, [], ◌∷◌, length, Bool, true, false, not, ◌&&◌, ◌||◌, nat_le, nat_lt}
 use Rattle.std.specs.List.{count_by, sum_by}
 use Rattle.seat_steps.specs.declared.limits.Limits.{Limits}
 use Rattle.broker_model.specs.declared.journal.Entry.{Entry}
@@ -9,6 +9,11 @@ use Rattle.broker_model.specs.declared.journal.Entry.TheVariants.{Message, Token
 abbrev pub is_end : Entry → Bool
 is_end (End peer cause) = true
 is_end _ = false
+
+-- the newest entry is the end of a peer
+abbrev pub ends_in_end : List Entry → Bool
+ends_in_end [] = false
+ends_in_end (e ∷ older) = is_end e
 
 abbrev pub is_counted : Entry → Bool
 is_counted e = not (is_end e)

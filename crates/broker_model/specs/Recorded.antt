@@ -1,13 +1,15 @@
 -- A journal as contracts see it.
-use Rattle.std.specs.Prelude.{ℕ, ◌+◌, List, [], ◌∷◌, length, ◌==◌, if◌then◌else◌, Option, Some, None}
+use Rattle.std.specs.Prelude.{ℕ, List, Option}
+use Rattle.long_list.specs.Long.{item_at}
 use Rattle.broker_model.specs.declared.journal.Entry.{Entry}
 
--- the entries, the newest first, and how many more may be put before memory has to be taken
+-- all entries, the newest first; how many of the oldest were let go; and how many more may be put
+-- before memory has to be taken
 pub record Recorded : Type 0 where
   pub entries : List Entry
+  pub kept_from : ℕ
   pub room : ℕ
 
--- what has a number in such a list; the oldest has the number 1
+-- what has a number in such a list, let go or not; the oldest has the number 1
 abbrev pub entry_at : {A : Type 0} → List A → ℕ → Option A
-entry_at [] number = None
-entry_at (e ∷ older) number = (if number == length older + 1 then Some e else entry_at older number)
+entry_at journal number = item_at journal number

@@ -7,9 +7,11 @@ use Rattle.seat_steps.specs.declared.step.ShellStep.TheVariants as shell
 use Rattle.broker_model.specs.declared.journal.Entry.{Entry}
 use Rattle.broker_model.specs.declared.journal.Entry.TheVariants as entries
 
--- the stamps, the newest first, and how many more may be put before memory has to be taken
+-- all stamps, the newest first; how many of the oldest were let go; and how many more may be put
+-- before memory has to be taken
 pub record StampsKept : Type 0 where
   pub stamps : List Stamp
+  pub kept_from : ℕ
   pub room : ℕ
 
 -- the moment of the newest entry; 0 where there is none

@@ -1,4 +1,5 @@
 //! What happened, step by step.
+use long_list::{LongList, OwnCopy};
 use relay_model::{EndCause, Role};
 use seat_steps::{Limits, ShellStep, TokenList};
 use std::alloc::Global;
@@ -102,7 +103,13 @@ impl Entry {
     }
 }
 
-/// How much a journal holds.
+impl OwnCopy for Entry {
+    fn own_copy(&self, alloc: Global) -> Result<Entry, NoMemory> {
+        self.copy(alloc)
+    }
+}
+
+/// How much a journal holds, entries that were let go among it.
 #[derive(Clone, Copy, Debug, PartialEq, Eq)]
 pub struct Kept {
     /// The entries that aren't ends of peers.
@@ -112,83 +119,107 @@ pub struct Kept {
     pub weight: u64,
 }
 
-/// All steps so far. Their numbers go from 1, the oldest.
+/// All steps so far. Their numbers go from 1, the oldest, and each keeps its own.
 ///
-/// In contracts it is its entries, the newest first, and how many more may be put without taking
-/// memory. No call but `copy` goes over the entries.
+/// The oldest can be let go: they leave memory, and all else goes on counting them. In contracts it
+/// is all its entries, the newest first, how many of the oldest were let go, and how many more may be
+/// put without taking memory. No call but `copy` and `let_go` goes over entries.
 #[derive(Drop)]
 pub struct Journal {
-    entries: Vec<Entry>,
+    entries: LongList<Entry>,
     kept: Kept,
+    // Whether the newest entry is the end of a peer.
+    newest_is_end: bool,
 }
 
 impl Model for Journal {
-    ghost use Rattle.std.specs.Prelude.{◌≡◌, ◌-◌, ◌<◌, ◌≤◌, reverse, length, vec_len, vec_capacity};
+    ghost use Rattle.std.specs.Prelude.{◌≡◌, ◌≤◌};
     ghost use Rattle.broker_model.specs.Recorded.{Recorded};
-    ghost use Rattle.broker_model.specs.Limits.{number_counted, weight};
+    ghost use Rattle.broker_model.specs.Limits.{number_counted, weight, ends_in_end};
 
     ghost Value = { Recorded };
 
     ghost view = { λ j. record {
-      entries = reverse j.entries.items;
-      room = vec_capacity j.entries - vec_len j.entries;
+      entries = j.entries.items;
+      kept_from = j.entries.kept_from;
+      room = j.entries.room;
     } };
 
-    ghost invariant = { λ j. (length j.entries.items < 4294967296)
-        × (j.kept.entries ≡ number_counted (reverse j.entries.items))
-        × (j.kept.weight ≡ weight (reverse j.entries.items))
-        × (j.kept.weight ≤ 536870912) };
+    ghost invariant = { λ j. (j.kept.entries ≡ number_counted j.entries.items)
+        × (j.kept.weight ≡ weight j.entries.items)
+        × (j.kept.weight ≤ 536870912)
+        × (j.newest_is_end ≡ ends_in_end j.entries.items) };
 }
 
 impl Journal {
-    ghost use Rattle.std.specs.Prelude.{◌≡◌, ◌+◌, ◌<◌, ◌≤◌, [], ◌∷◌, length, false, IfOk, OnOk};
+    ghost use Rattle.std.specs.Prelude.{◌≡◌, ◌+◌, ◌<◌, ◌≤◌, ◌↔◌, [], ◌∷◌, length, min, max, false};
+    ghost use Rattle.std.specs.Prelude.{IfOk, OnOk, IsSome};
     ghost use Rattle.std.specs.Option.{option_copied};
+    ghost use Rattle.long_list.specs.Long.{kept_at};
     ghost use Rattle.broker_model.specs.Recorded.{entry_at};
     ghost use Rattle.broker_model.specs.Limits.{is_end, number_counted, weight_of, weight, is_full};
+    ghost use Rattle.broker_model.specs.Limits.{ends_in_end};
 
     /// A journal of no entries. Takes no memory.
     pub fn new(alloc: Global) -> Journal
         ensures empty { result.entries ≡ [] }
+        ensures kept { result.kept_from ≡ 0 }
     {
         Journal {
-            entries: Vec::new(alloc),
+            entries: LongList::new(alloc),
             kept: Kept {
                 entries: 0,
                 weight: 0,
             },
+            newest_is_end: false,
         }
     }
 
-    /// How many entries there are, ends of peers among them.
+    /// How many entries there are, ends of peers and those that were let go among them.
     pub fn len(&self) -> u32
         ensures number { result ≡ length self.now.entries }
+        ensures within { self.now.kept_from ≤ length self.now.entries }
     {
-        self.entries.len() as u32
+        self.entries.len()
     }
 
-    /// The entry with a number, from 1, the oldest, to `len`; none has any other number.
+    /// How many of the oldest entries were let go: 0 to `len`.
+    pub fn kept_from(&self) -> u32
+        ensures number { result ≡ self.now.kept_from }
+        ensures within { result ≤ length self.now.entries }
+    {
+        self.entries.kept_from()
+    }
+
+    /// The entry with a number, from 1, the oldest, to `len`; none has any other number, and none is
+    /// answered that was let go.
     pub fn entry(&self, number: u32) -> Option<&Entry>
-        ensures value { option_copied result ≡ entry_at self.now.entries number }
+        ensures value { option_copied result ≡ kept_at self.now.kept_from self.now.entries number }
     {
-        let before = number.checked_sub(1)?;
-        self.entries.get(before as usize)
+        self.entries.item(number)
     }
 
-    /// The same entries in memory of their own. `NoMemory` is its one error.
+    /// Whether the newest entry, let go or not, is the end of a peer.
+    pub fn ends_in_end(&self) -> bool
+        ensures { result ≡ ends_in_end self.now.entries }
+    {
+        self.newest_is_end
+    }
+
+    /// The same entries in memory of their own, without those that were let go, which are gone in the
+    /// copy too. `NoMemory` is its one error.
     pub fn copy(&self, alloc: Global) -> Result<Journal, NoMemory>
         ensures value { IfOk result (λ journal. journal.entries ≡ self.now.entries) }
+        ensures kept { IfOk result (λ journal. journal.kept_from ≡ self.now.kept_from) }
     {
-        let mut entries = Vec::with_capacity(alloc, self.entries.len())?;
-        for entry in &self.entries {
-            entries.push(entry.copy(alloc)?)?;
-        }
         Ok(Journal {
-            entries,
+            entries: self.entries.copy(alloc)?,
             kept: self.kept,
+            newest_is_end: self.newest_is_end,
         })
     }
 
-    /// How much the journal holds.
+    /// How much the journal holds, entries that were let go among it.
     pub fn kept(&self) -> Kept
         ensures entries { result.entries ≡ number_counted self.now.entries }
         ensures weight { result.weight ≡ weight self.now.entries }
@@ -211,6 +242,7 @@ impl Journal {
     /// room that there was.
     pub fn reserve(&mut self, more: usize) -> Result<(), NoMemory>
         ensures same { self.new.entries ≡ self.old.entries }
+        ensures kept { self.new.kept_from ≡ self.old.kept_from }
         ensures room { OnOk result (more ≤ self.new.room) }
         ensures never_less { self.old.room ≤ self.new.room }
     {
@@ -227,12 +259,37 @@ impl Journal {
         requires light { is_end entry ≡ false →
             weight self.old.entries + weight_of entry ≤ 536870912 }
         ensures put { self.new.entries ≡ entry ∷ self.old.entries }
+        ensures kept { self.new.kept_from ≡ self.old.kept_from }
         ensures room_left { self.old.room ≤ self.new.room + 1 }
     {
         if !entry.is_end() {
             self.kept.entries += 1;
             self.kept.weight += entry.weight();
         }
-        let _ = self.entries.push(entry);
+        self.newest_is_end = entry.is_end();
+        self.entries.push(entry);
+    }
+
+    /// Lets the oldest kept entry go, and hands it out; none where none is kept.
+    pub fn pop_oldest(&mut self) -> Option<Entry>
+        ensures value { result ≡ entry_at self.old.entries (self.old.kept_from + 1) }
+        ensures some { IsSome result ↔ (self.old.kept_from < length self.old.entries) }
+        ensures same { self.new.entries ≡ self.old.entries }
+        ensures kept { self.new.kept_from ≡ min (self.old.kept_from + 1)
+            (length self.old.entries) }
+        ensures never_less { self.old.room ≤ self.new.room }
+    {
+        self.entries.pop_oldest()
+    }
+
+    /// Lets the entries up to a number go, all where it is `len` or more: they leave memory, and stay
+    /// in the journal for contracts. Those that went before stay gone.
+    pub fn let_go(&mut self, number: u32)
+        ensures same { self.new.entries ≡ self.old.entries }
+        ensures kept { self.new.kept_from ≡ max self.old.kept_from
+            (min number (length self.old.entries)) }
+        ensures never_less { self.old.room ≤ self.new.room }
+    {
+        self.entries.let_go(number);
     }
 }

@@ -38,6 +38,9 @@ enum Call {
     Take(Took),
     // How many are alive, how many entries and stamps there are, and what the entries weigh.
     Shows(u32, u32, u64),
+    LetGo(u32),
+    // The number of the oldest that is kept.
+    Pop(Option<u32>),
 }
 
 fn ask_registry(alloc: Global, shared: &mut Shared) -> Result<Result<Applied, Refused>, NoMemory> {
@@ -102,6 +105,11 @@ fn shows(rt: &impl Abort, shared: &Shared, peers: u32, entries: u32, weight: u64
     equal(rt, shared.stamps().entry(entries), Some(&GIVEN));
 }
 
+fn pop(shared: &mut Shared) -> Option<u32> {
+    let out = shared.pop_oldest()?;
+    Some(out.number)
+}
+
 fn make_call(
     rt: &impl Abort,
     alloc: Global,
@@ -116,6 +124,8 @@ fn make_call(
         Call::Stored(want) => equal(rt, shared.stored(1), Some(want)),
         Call::Take(want) => equal(rt, take(shared), want),
         Call::Shows(peers, entries, weight) => shows(rt, shared, peers, entries, weight),
+        Call::LetGo(number) => shared.let_go(number),
+        Call::Pop(want) => equal(rt, pop(shared), want),
     }
     Ok(())
 }
@@ -132,8 +142,8 @@ fn call_all(
     Ok(())
 }
 
-// An application joins and asks for its registry, and a key passes.
-const EACH_CALL_ANSWERS: [Call; 7] = [
+// An application joins and asks for its registry, and a key passes. Then entries are let go.
+const EACH_CALL_ANSWERS: [Call; 12] = [
     Call::Join(Role::App, Ok(1)),
     Call::Goes(Kind::Registry),
     Call::Stored(112),
@@ -146,7 +156,12 @@ const EACH_CALL_ANSWERS: [Call; 7] = [
         }),
     ),
     Call::Goes(Kind::Tokens),
+    Call::LetGo(2),
+    Call::Pop(Some(3)),
     Call::Shows(1, 5, 92),
+    Call::LetGo(9),
+    Call::Pop(None),
+    Call::Stored(0),
 ];
 
 const FULL: Kept = Kept {

@@ -77,6 +77,31 @@ fn a_journal_of_three_entries(rt: HostRuntime) -> Result<(), Fail> {
     Ok(())
 }
 
+// The first was let go: it is counted, and none answers for its number.
+fn shows_the_last_two(rt: &impl Abort, journal: &Journal) {
+    equal(rt, journal.len(), 3);
+    equal(rt, journal.kept_from(), 1);
+    assert!(rt; matches!(journal.entry(1), None));
+    assert!(rt; matches!(journal.entry(2), Some(Entry::Message { .. })));
+    assert!(rt; journal.ends_in_end());
+    weighs(rt, journal, 36);
+}
+
+#[test]
+fn entries_that_are_let_go_still_count(rt: HostRuntime) -> Result<(), Fail> {
+    let mut journal = Journal::new(rt.alloc());
+    put_three(&rt, rt.alloc(), &mut journal)?;
+    journal.let_go(1);
+    shows_the_last_two(&rt, &journal);
+    shows_the_last_two(&rt, &journal.copy(rt.alloc())?);
+    assert!(rt; matches!(journal.pop_oldest(), Some(Entry::Message { .. })));
+    journal.let_go(9);
+    equal(&rt, journal.kept_from(), 3);
+    assert!(rt; matches!(journal.pop_oldest(), None));
+    weighs(&rt, &journal, 36);
+    Ok(())
+}
+
 // The entry and its copy are put.
 fn put_twice(
     rt: &impl Abort,
@@ -205,5 +230,18 @@ fn moments_never_fall(rt: HostRuntime) -> Result<(), Fail> {
     let mut stamps = StampList::new(rt.alloc());
     put_stamps(&mut stamps)?;
     shows_stamps(&rt, &stamps.copy(rt.alloc())?);
+    Ok(())
+}
+
+#[test]
+fn a_moment_stays_where_its_stamp_was_let_go(rt: HostRuntime) -> Result<(), Fail> {
+    let mut stamps = StampList::new(rt.alloc());
+    put_stamps(&mut stamps)?;
+    let (_, given, want) = STAMPS[0];
+    equal(&rt, stamps.pop_oldest(), Some(want));
+    stamps.let_go(4);
+    equal(&rt, stamps.kept_from(), 4);
+    equal(&rt, stamps.entry(4), None);
+    equal(&rt, stamps.next(&entry(1), given).moment, 9);
     Ok(())
 }

@@ -1,1 +1,2 @@
 pub mod NumberedItems
+pub mod ListsCross

@@ -22,7 +22,7 @@ invariant_of-self g c =
     (ap (λ (b : Broker). standing_of b.journal c.args.number) c.self.view_is ∙ c.requires))
     (stepped e c.args.stamp c.self.inside.state c.end.new.self c.settle.new.self refl c.end.ensures.capacity
     c.end.ensures.ended c.end.ensures.stamped c.settle.ensures.stands c.settle.ensures.capacity
-    c.settle.ensures.settled c.settle.ensures.stamped)
+    c.settle.ensures.settled c.settle.ensures.stamped c.end.ensures.kept c.settle.ensures.kept)
 
 pub returns-clause-watched : goal.returns-clause-watched
 returns-clause-watched g c =

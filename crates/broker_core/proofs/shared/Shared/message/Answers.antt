@@ -17,7 +17,7 @@ pub invariant_of-self : goal.invariant_of-self
 invariant_of-self g c =
     stays_as c.self.inside.limits c.self.inside.state c.message.new.self c.self.invariant
     c.in_err-message.ensures.stands c.in_err-message.ensures.capacity c.in_err-message.ensures.err
-    c.in_err-message.ensures.unstamped
+    c.in_err-message.ensures.unstamped c.message.ensures.kept
 
 pub invariant_of-self-2 : goal.invariant_of-self-2
 invariant_of-self-2 g c =
@@ -29,7 +29,7 @@ invariant_of-self-2 g c =
     (stepped e c.args.stamp c.self.inside.state c.message.new.self c.settle.new.self refl
     c.in_ok-message.ensures.capacity c.in_ok-message.ensures.ok c.in_ok-message.ensures.stamped c.settle.ensures.stands
     c.settle.ensures.capacity
-    c.settle.ensures.settled c.settle.ensures.stamped)
+    c.settle.ensures.settled c.settle.ensures.stamped c.message.ensures.kept c.settle.ensures.kept)
 
 pub returns-clause-ok : goal.returns-clause-ok
 returns-clause-ok g c =
@@ -39,13 +39,13 @@ returns-clause-ok g c =
     (stepped e c.args.stamp c.self.inside.state c.message.new.self c.settle.new.self refl
     c.in_ok-message.ensures.capacity c.in_ok-message.ensures.ok c.in_ok-message.ensures.stamped c.settle.ensures.stands
     c.settle.ensures.capacity
-    c.settle.ensures.settled c.settle.ensures.stamped)
+    c.settle.ensures.settled c.settle.ensures.stamped c.message.ensures.kept c.settle.ensures.kept)
 
 pub returns-in_err-message-clause-watched : goal.returns-in_err-message-clause-watched
 returns-in_err-message-clause-watched g c =
     refused_watched g.W.Watch.may_follow c.self.inside.limits c.args.self.now c.self.inside.state c.message.new.self
     c.args.watch.now c.message.new.watch
-    c.self.view_is c.in_err-message.ensures.err c.in_err-message.ensures.unstamped c.in_err-message.ensures.unwatched
+    c.self.view_is c.in_err-message.ensures.err c.in_err-message.ensures.unstamped c.message.ensures.kept c.in_err-message.ensures.unwatched
 
 pub returns-clause-watched : goal.returns-clause-watched
 returns-clause-watched g c =

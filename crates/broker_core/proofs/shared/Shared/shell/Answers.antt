@@ -8,7 +8,7 @@ use Rattle.broker_core.proofs.shared.Shared.shell.Goals as goal
 pub invariant_of-self : goal.invariant_of-self
 invariant_of-self g c =
     stays_as c.self.inside.limits c.self.inside.state c.shell.new.self c.self.invariant c.in_err-route.ensures.stands
-    c.in_err-route.ensures.capacity c.in_err-route.ensures.err c.in_err-route.ensures.unstamped
+    c.in_err-route.ensures.capacity c.in_err-route.ensures.err c.in_err-route.ensures.unstamped c.shell.ensures.kept
 
 pub invariant_of-self-2 : goal.invariant_of-self-2
 invariant_of-self-2 g c =
@@ -19,7 +19,7 @@ invariant_of-self-2 g c =
     (within_plain c.self.inside.limits e c.self.inside.state tt refl c.self.invariant place)
     (stepped e c.args.stamp c.self.inside.state c.shell.new.self c.settle.new.self refl c.in_ok-route.ensures.capacity
     c.in_ok-route.ensures.ok c.in_ok-route.ensures.stamped c.settle.ensures.stands c.settle.ensures.capacity
-    c.settle.ensures.settled c.settle.ensures.stamped)
+    c.settle.ensures.settled c.settle.ensures.stamped c.shell.ensures.kept c.settle.ensures.kept)
 
 pub returns-clause-ok : goal.returns-clause-ok
 returns-clause-ok g c =
@@ -28,13 +28,13 @@ returns-clause-ok g c =
     c.self.invariant
     (stepped e c.args.stamp c.self.inside.state c.shell.new.self c.settle.new.self refl c.in_ok-route.ensures.capacity
     c.in_ok-route.ensures.ok c.in_ok-route.ensures.stamped c.settle.ensures.stands c.settle.ensures.capacity
-    c.settle.ensures.settled c.settle.ensures.stamped)
+    c.settle.ensures.settled c.settle.ensures.stamped c.shell.ensures.kept c.settle.ensures.kept)
 
 pub returns-in_err-route-clause-watched : goal.returns-in_err-route-clause-watched
 returns-in_err-route-clause-watched g c =
     refused_watched g.W.Watch.may_follow c.self.inside.limits c.args.self.now c.self.inside.state c.shell.new.self
     c.args.watch.now c.shell.new.watch
-    c.self.view_is c.in_err-route.ensures.err c.in_err-route.ensures.unstamped c.in_err-route.ensures.unwatched
+    c.self.view_is c.in_err-route.ensures.err c.in_err-route.ensures.unstamped c.shell.ensures.kept c.in_err-route.ensures.unwatched
 
 pub returns-clause-watched : goal.returns-clause-watched
 returns-clause-watched g c =

@@ -10,12 +10,12 @@ use Rattle.broker_core.proofs.shared.Shared.take_watched.Goals as goal
 pub invariant_of-self : goal.invariant_of-self
 invariant_of-self g c =
     stays_as c.self.inside.limits c.self.inside.state c.take.new.self c.self.invariant c.in_default-take.ensures.stands
-    c.in_default-take.ensures.capacity c.in_default-take.ensures.err c.in_default-take.ensures.unstamped
+    c.in_default-take.ensures.capacity c.in_default-take.ensures.err c.in_default-take.ensures.unstamped c.take.ensures.kept
 
 pub returns-in_default-take-clause-same : goal.returns-in_default-take-clause-same
 returns-in_default-take-clause-same g c =
     shows_as c.self.inside.limits c.args.self.now c.self.inside.state c.take.new.self c.self.view_is
-    c.in_default-take.ensures.err c.in_default-take.ensures.unstamped
+    c.in_default-take.ensures.err c.in_default-take.ensures.unstamped c.take.ensures.kept
 
 pub invariant_of-self-2 : goal.invariant_of-self-2
 invariant_of-self-2 g c =
@@ -29,7 +29,7 @@ invariant_of-self-2 g c =
     (within_plain c.self.inside.limits e c.self.inside.state tt refl c.self.invariant place)
     (stepped e c.args.stamp c.self.inside.state c.take.new.self c.settle.new.self refl c.in-Ok.ensures.capacity entered
     c.in-Ok.ensures.stamped c.settle.ensures.stands c.settle.ensures.capacity
-    c.settle.ensures.settled c.settle.ensures.stamped)
+    c.settle.ensures.settled c.settle.ensures.stamped c.take.ensures.kept c.settle.ensures.kept)
 
 pub returns-in-Some-clause-watched : goal.returns-in-Some-clause-watched
 returns-in-Some-clause-watched g c = nothing_watched g.W.Watch.may_follow c.args.self.now c.args.watch.now
@@ -38,7 +38,7 @@ pub returns-in_default-take-clause-watched : goal.returns-in_default-take-clause
 returns-in_default-take-clause-watched g c =
     refused_watched g.W.Watch.may_follow c.self.inside.limits c.args.self.now c.self.inside.state c.take.new.self
     c.args.watch.now c.take.new.watch
-    c.self.view_is c.in_default-take.ensures.err c.in_default-take.ensures.unstamped c.in_default-take.ensures.unwatched
+    c.self.view_is c.in_default-take.ensures.err c.in_default-take.ensures.unstamped c.take.ensures.kept c.in_default-take.ensures.unwatched
 
 pub returns-clause-watched : goal.returns-clause-watched
 returns-clause-watched g c =

@@ -16,7 +16,7 @@ tokens-requires-clause-live g c =
 pub invariant_of-self : goal.invariant_of-self
 invariant_of-self g c =
     stays_as c.self.inside.limits c.self.inside.state c.tokens.new.self c.self.invariant c.in_err-tokens.ensures.stands
-    c.in_err-tokens.ensures.capacity c.in_err-tokens.ensures.err c.in_err-tokens.ensures.unstamped
+    c.in_err-tokens.ensures.capacity c.in_err-tokens.ensures.err c.in_err-tokens.ensures.unstamped c.tokens.ensures.kept
 
 pub invariant_of-self-2 : goal.invariant_of-self-2
 invariant_of-self-2 g c =
@@ -27,7 +27,7 @@ invariant_of-self-2 g c =
     (within_plain c.self.inside.limits e c.self.inside.state tt refl c.self.invariant place)
     (stepped e c.args.stamp c.self.inside.state c.tokens.new.self c.settle.new.self refl c.in_ok-tokens.ensures.capacity
     c.in_ok-tokens.ensures.ok c.in_ok-tokens.ensures.stamped c.settle.ensures.stands c.settle.ensures.capacity
-    c.settle.ensures.settled c.settle.ensures.stamped)
+    c.settle.ensures.settled c.settle.ensures.stamped c.tokens.ensures.kept c.settle.ensures.kept)
 
 pub returns-clause-ok : goal.returns-clause-ok
 returns-clause-ok g c =
@@ -36,13 +36,13 @@ returns-clause-ok g c =
     c.self.invariant
     (stepped e c.args.stamp c.self.inside.state c.tokens.new.self c.settle.new.self refl c.in_ok-tokens.ensures.capacity
     c.in_ok-tokens.ensures.ok c.in_ok-tokens.ensures.stamped c.settle.ensures.stands c.settle.ensures.capacity
-    c.settle.ensures.settled c.settle.ensures.stamped)
+    c.settle.ensures.settled c.settle.ensures.stamped c.tokens.ensures.kept c.settle.ensures.kept)
 
 pub returns-in_err-tokens-clause-watched : goal.returns-in_err-tokens-clause-watched
 returns-in_err-tokens-clause-watched g c =
     refused_watched g.W.Watch.may_follow c.self.inside.limits c.args.self.now c.self.inside.state c.tokens.new.self
     c.args.watch.now c.tokens.new.watch
-    c.self.view_is c.in_err-tokens.ensures.err c.in_err-tokens.ensures.unstamped c.in_err-tokens.ensures.unwatched
+    c.self.view_is c.in_err-tokens.ensures.err c.in_err-tokens.ensures.unstamped c.tokens.ensures.kept c.in_err-tokens.ensures.unwatched
 
 pub returns-clause-watched : goal.returns-clause-watched
 returns-clause-watched g c =

@@ -13,6 +13,7 @@ pub loop-number-init : goal.loop-number-init
 loop-number-init g c = record {
   stands = c.requires.stands;
   capacity = refl;
+  kept = refl;
   few = c.requires.few;
   longer = omega arith;
   watched = λ k from h r. r;
@@ -52,6 +53,7 @@ loop-number-preserved g c =
     record {
       stands = c.end.ensures.stands;
       capacity = c.end.ensures.capacity ∙ c.loop-number.invariant.capacity;
+      kept = c.end.ensures.kept ∙ c.loop-number.invariant.kept;
       few = (let few = c.loop-number.invariant.few in let more = near.more in let fewer = near.fewer in omega arith);
       longer = (let longer = c.loop-number.invariant.longer in let more = near.more in omega arith);
       watched = λ k from h r.
@@ -79,6 +81,9 @@ returns-clause-stands g c = c.loop-number.invariant.stands
 
 pub returns-clause-capacity : goal.returns-clause-capacity
 returns-clause-capacity g c = c.loop-number.invariant.capacity
+
+pub returns-clause-kept : goal.returns-clause-kept
+returns-clause-kept g c = c.loop-number.invariant.kept
 
 pub returns-clause-settled : goal.returns-clause-settled
 returns-clause-settled g c =

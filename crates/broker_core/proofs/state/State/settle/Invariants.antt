@@ -3,6 +3,7 @@ use Rattle.seat_objects.specs.Reached.{Reached}
 use Rattle.seat_steps.specs.declared.stamp.Stamp.{Stamp}
 use Rattle.broker_model.specs.Settle.{settle}
 use Rattle.broker_model.specs.Stamps.{stamps}
+use Rattle.broker_core.specs.Broker.{gone}
 use Rattle.broker_core.specs.Stands.{Stands}
 use Rattle.broker_core.specs.Watched.{watched_since}
 use Rattle.broker_core.proofs.state.State.settle.Given as goal
@@ -12,6 +13,7 @@ abbrev pub invariant-loop-number : goal.invariant-loop-number
 invariant-loop-number g l = record {
   stands : Stands l.self;
   capacity : l.self.capacity ≡ l.fn.self.capacity;
+  kept : gone l.self ≡ gone l.fn.self;
   few : length l.self.journal.entries + length l.self.audience.live.items < 4294967295;
   longer : length l.fn.self.journal.entries ≤ length l.self.journal.entries;
   watched : (k : ℕ) (from : _) → k ≤ length l.fn.self.journal.entries →

@@ -1,6 +1,5 @@
-use Rattle.std.proofs.Common.{◌≡◌, ℕ, List, Some, ap, sym, ◌∙◌, subst}
+use Rattle.std.proofs.Common.{◌≡◌, ℕ, List, sym, subst}
 use Rattle.std.specs.Prelude.{Option, IfSome, IfOk}
-use Rattle.std.specs.List.{slice_get}
 use Rattle.broker_model.specs.Waiting.{with_tokens}
 use Rattle.seat_audience.specs.declared.live.Live.{Live}
 use Rattle.broker_core.proofs.SenderFound.{few_at_place}
