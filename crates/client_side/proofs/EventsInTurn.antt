@@ -6,7 +6,7 @@ use Rattle.wl_proto.specs.declared.event.Event.{Event}
 use Rattle.wl_wire.specs.Messages.{IsMessage, id_of, joined}
 use Rattle.wl_wire.specs.Fronts.{IsFrontMessage}
 use Rattle.client_side.specs.Events.{object_in, IsEventTo, IsEventOf, AreEvents}
-use Rattle.client_side.specs.Client.{Step, after_all, Takes, GoesWrong}
+use Rattle.client_side.specs.Client.{Step, after_all, Takes, IsWrong, GoesWrong}
 
 are-append : (objects : List Interface) (ms : List (List ℕ)) (events : List Event) (m : List ℕ) (event : Event)
     → AreEvents objects ms events → IsMessage m → IsEventOf (object_in objects (id_of m)) m event
@@ -118,3 +118,16 @@ pub front_wrong : {S : Type 0} (objects : List Interface) (step : Step S) (old n
 front_wrong {S} objects step old now new bytes rest at n id opcode body before rest-is f none then =
     no_event objects step old now new bytes rest (take n rest) at n before rest-is refl f.whole
     (λ event is. none event (message_spells objects id opcode body rest n event f is)) then
+
+-- where it spells none, what is left goes wrong
+pub none_spelled : (objects : List Interface) (bytes rest : List ℕ) (at n id opcode : ℕ) (body : List ℕ)
+    → rest ≡ drop at bytes → IsFrontMessage id opcode body rest n
+    → ((event : Event) → IsEventTo (object_in objects id) opcode body event → ⊥) → IsWrong objects (drop at bytes)
+none_spelled objects bytes rest at n id opcode body rest-is f none =
+    inr (
+      take n rest,
+      drop n rest,
+      sym rest-is ∙ sym (take-append-drop n rest),
+      f.whole,
+      λ event is. none event (message_spells objects id opcode body rest n event f is),
+    )

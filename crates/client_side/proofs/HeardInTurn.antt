@@ -4,8 +4,8 @@ use Rattle.wl_proto.specs.declared.interface.Interface.{Interface}
 use Rattle.wl_proto.specs.declared.event.Event.{Event}
 use Rattle.wl_wire.specs.Fronts.{IsFrontMessage}
 use Rattle.client_side.specs.Events.{object_in, IsEventTo}
-use Rattle.client_side.specs.Client.{Step, Takes}
-use Rattle.client_side.specs.Heard.{Reached, telling, Hears}
+use Rattle.client_side.specs.Client.{Step, Takes, IsWrong}
+use Rattle.client_side.specs.Heard.{Reached, telling, Hears, HearsWrong}
 use Rattle.client_side.proofs.EventsInTurn.{none_taken, next_front}
 
 pub reached_append : {H : Type 0} {E : Type 0} (may_follow : H → E → H → Type 0) (before mid after : H) (xs ys : List E)
@@ -57,3 +57,18 @@ pub heard_of : {S : Type 0} {H : Type 0} {E : Type 0} (objects : List Interface)
 heard_of {S} {H} {E} objects step each may_follow was old new bytes all rest before after state held heard =
     subst (λ (b : List ℕ). Hears objects step each may_follow old new b rest before after) held
     (subst (λ (s : S). Hears objects step each may_follow s new bytes rest before after) state heard)
+
+-- what is left goes wrong, and neither the state nor the hearer changes by it
+pub then_wrong : {S : Type 0} {H : Type 0} {E : Type 0} (objects : List Interface) (step : Step S)
+    (each : Event → S → List E) (may_follow : H → E → H → Type 0) (old now new : S) (bytes rest : List ℕ)
+    (before mid after : H)
+    → Hears objects step each may_follow old now bytes rest before mid → new ≡ now → after ≡ mid → IsWrong objects rest
+    → HearsWrong objects step each may_follow old new bytes before after
+then_wrong {S} {H} {E} objects step each may_follow old now new bytes rest before mid after heard state hearer wrong =
+    record {
+      rest = rest;
+      heard =
+          subst (λ (h : H). Hears objects step each may_follow old new bytes rest before h) (sym hearer)
+          (subst (λ (s : S). Hears objects step each may_follow old s bytes rest before mid) (sym state) heard);
+      wrong = wrong;
+    }

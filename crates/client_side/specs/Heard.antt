@@ -2,7 +2,7 @@
 use Rattle.std.specs.Prelude.{◌≡◌, ℕ, List, [], ◌∷◌, ◌++◌}
 use Rattle.wl_proto.specs.declared.interface.Interface.{Interface}
 use Rattle.wl_proto.specs.declared.event.Event.{Event}
-use Rattle.client_side.specs.Client.{Step, Takes}
+use Rattle.client_side.specs.Client.{Step, Takes, IsWrong}
 use Rattle.client_side.specs.Happenings.{Happening}
 use Rattle.client_side.specs.FieldState as field
 use Rattle.client_side.specs.MethodState as method
@@ -27,6 +27,15 @@ pub record Hears {S : Type 0} {H : Type 0} {E : Type 0} (objects : List Interfac
   pub told : List E
   pub takes : Takes objects (telling step each) (old, []) (new, told) bytes rest
   pub reached : Reached may_follow before told after
+
+-- the same of all events that stand before the place where the bytes go wrong
+pub record HearsWrong {S : Type 0} {H : Type 0} {E : Type 0} (objects : List Interface)
+    (step : Step S)
+    (each : Event → S → List E) (may_follow : H → E → H → Type 0) (old new : S) (bytes : List ℕ)
+    (before after : H) : Type 0 where
+  pub rest : List ℕ
+  pub heard : Hears objects step each may_follow old new bytes rest before after
+  pub wrong : IsWrong objects rest
 
 -- what an event makes happen to a field: an enter, a leave, or the batch of the edits that waited
 abbrev pub happened : Event → field.State → List Happening

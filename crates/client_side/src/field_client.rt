@@ -7,7 +7,7 @@ ghost use Rattle.client_side.specs.FieldLog.{changes};
 ghost use Rattle.client_side.specs.FieldState.{new_state, happens, after_event, HasLog, GoesOn};
 ghost use Rattle.client_side.specs.Events.{field_objects};
 ghost use Rattle.client_side.specs.Client.{Accepts, Refuses};
-ghost use Rattle.client_side.specs.Heard.{Hears, happened};
+ghost use Rattle.client_side.specs.Heard.{Hears, HearsWrong, happened};
 
 use crate::fault::ClientFault;
 use crate::field_receiving::{hold, take_held};
@@ -107,6 +107,14 @@ impl FieldClient {
         ensures no_memory { result ≡ Err ClientFault.NoMemory → self.new ≡ self.old }
         ensures heard { (rest : List ℕ) × Hears field_objects after_event happened H.may_follow
             self.old.state self.new.state (self.old.held ++ piece.now) rest hearer.old hearer.new }
+        ensures heard_all { OnOk result
+            (Hears field_objects after_event happened H.may_follow self.old.state self.new.state
+            (self.old.held ++ piece.now) self.new.held hearer.old hearer.new) }
+        ensures heard_wrong { result ≡ Err ClientFault.BadEvent → self.old.is_bad ≡ false →
+            HearsWrong field_objects after_event happened H.may_follow self.old.state self.new.state
+            (self.old.held ++ piece.now) hearer.old hearer.new }
+        ensures hears_no_more { self.old.is_bad ≡ true → hearer.new ≡ hearer.old }
+        ensures unheard { result ≡ Err ClientFault.NoMemory → hearer.new ≡ hearer.old }
     {
         if self.is_bad {
             return Err(ClientFault::BadEvent);

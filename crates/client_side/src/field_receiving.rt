@@ -7,7 +7,7 @@ ghost use Rattle.wl_wire.specs.Texts.{IsBytes};
 ghost use Rattle.client_side.specs.Events.{object_in, field_objects, IsEventTo};
 ghost use Rattle.client_side.specs.FieldState.{after_event};
 ghost use Rattle.client_side.specs.Client.{Takes, GoesWrong};
-ghost use Rattle.client_side.specs.Heard.{Reached, Hears, happened};
+ghost use Rattle.client_side.specs.Heard.{Reached, Hears, HearsWrong, happened};
 ghost use Rattle.wl_proto.specs.declared.event.Event as events;
 
 use crate::events::event_to;
@@ -63,6 +63,12 @@ fn take_events<H: FieldHearer>(
     ensures fits { IfNone result (IsBytes bytes.now) }
     ensures heard { (rest : List ℕ) × Hears field_objects after_event happened H.may_follow
         state.old.state state.new.state bytes.now rest hearer.old hearer.new }
+    ensures heard_all { IfSome result (λ n.
+        Hears field_objects after_event happened H.may_follow state.old.state state.new.state
+        bytes.now (drop n bytes.now) hearer.old hearer.new) }
+    ensures heard_wrong { IfNone result
+        (HearsWrong field_objects after_event happened H.may_follow state.old.state state.new.state
+        bytes.now hearer.old hearer.new) }
 {
     let mut at = 0;
     'events: loop {
@@ -124,6 +130,12 @@ pub(crate) fn take_held<H: FieldHearer>(
         (GoesWrong field_objects after_event state.old.state state.new.state held.old.items) }
     ensures heard { (rest : List ℕ) × Hears field_objects after_event happened H.may_follow
         state.old.state state.new.state held.old.items rest hearer.old hearer.new }
+    ensures heard_all { OnTrue result
+        (Hears field_objects after_event happened H.may_follow state.old.state state.new.state
+        held.old.items held.new.items hearer.old hearer.new) }
+    ensures heard_wrong { OnFalse result
+        (HearsWrong field_objects after_event happened H.may_follow state.old.state state.new.state
+        held.old.items hearer.old hearer.new) }
 {
     let Some(taken) = take_events(state, held, hearer) else {
         return false;

@@ -6,7 +6,7 @@ ghost use Rattle.client_side.specs.MethodLog.{Happening, committed};
 ghost use Rattle.client_side.specs.MethodState.{new_state, happens, after_event, HasLog, GoesOn};
 ghost use Rattle.client_side.specs.Events.{method_objects};
 ghost use Rattle.client_side.specs.Client.{Accepts, Refuses};
-ghost use Rattle.client_side.specs.Heard.{Hears, came};
+ghost use Rattle.client_side.specs.Heard.{Hears, HearsWrong, came};
 
 use crate::fault::ClientFault;
 use crate::hearer::MethodHearer;
@@ -115,6 +115,14 @@ impl<T: Typist> MethodClient<T> {
         ensures no_memory { result ≡ Err ClientFault.NoMemory → self.new ≡ self.old }
         ensures heard { (rest : List ℕ) × Hears method_objects (after_event T.meanings) came H.may_follow
             self.old.state self.new.state (self.old.held ++ piece.now) rest hearer.old hearer.new }
+        ensures heard_all { OnOk result
+            (Hears method_objects (after_event T.meanings) came H.may_follow self.old.state self.new.state
+            (self.old.held ++ piece.now) self.new.held hearer.old hearer.new) }
+        ensures heard_wrong { result ≡ Err ClientFault.BadEvent → self.old.is_bad ≡ false →
+            HearsWrong method_objects (after_event T.meanings) came H.may_follow self.old.state self.new.state
+            (self.old.held ++ piece.now) hearer.old hearer.new }
+        ensures hears_no_more { self.old.is_bad ≡ true → hearer.new ≡ hearer.old }
+        ensures unheard { result ≡ Err ClientFault.NoMemory → hearer.new ≡ hearer.old }
     {
         if self.is_bad {
             return Err(ClientFault::BadEvent);

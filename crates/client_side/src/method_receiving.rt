@@ -7,7 +7,7 @@ ghost use Rattle.wl_wire.specs.Texts.{IsBytes};
 ghost use Rattle.client_side.specs.Events.{object_in, method_objects, IsEventTo};
 ghost use Rattle.client_side.specs.MethodState.{after_event};
 ghost use Rattle.client_side.specs.Client.{Takes, GoesWrong};
-ghost use Rattle.client_side.specs.Heard.{Reached, Hears, came};
+ghost use Rattle.client_side.specs.Heard.{Reached, Hears, HearsWrong, came};
 ghost use Rattle.wl_proto.specs.declared.event.Event as events;
 
 use crate::events::event_to;
@@ -68,6 +68,12 @@ fn take_events<T: Typist, H: MethodHearer>(
     ensures fits { IfNone result (IsBytes bytes.now) }
     ensures heard { (rest : List ℕ) × Hears method_objects (after_event T.meanings) came H.may_follow
         state.old.state state.new.state bytes.now rest hearer.old hearer.new }
+    ensures heard_all { IfSome result (λ n.
+        Hears method_objects (after_event T.meanings) came H.may_follow state.old.state state.new.state
+        bytes.now (drop n bytes.now) hearer.old hearer.new) }
+    ensures heard_wrong { IfNone result
+        (HearsWrong method_objects (after_event T.meanings) came H.may_follow state.old.state state.new.state
+        bytes.now hearer.old hearer.new) }
 {
     let mut at = 0;
     'events: loop {
@@ -133,6 +139,12 @@ pub(crate) fn take_held<T: Typist, H: MethodHearer>(
         (GoesWrong method_objects (after_event T.meanings) state.old.state state.new.state held.old.items) }
     ensures heard { (rest : List ℕ) × Hears method_objects (after_event T.meanings) came H.may_follow
         state.old.state state.new.state held.old.items rest hearer.old hearer.new }
+    ensures heard_all { OnTrue result
+        (Hears method_objects (after_event T.meanings) came H.may_follow state.old.state state.new.state
+        held.old.items held.new.items hearer.old hearer.new) }
+    ensures heard_wrong { OnFalse result
+        (HearsWrong method_objects (after_event T.meanings) came H.may_follow state.old.state state.new.state
+        held.old.items hearer.old hearer.new) }
 {
     let Some(taken) = take_events(state, held, hearer) else {
         return false;

@@ -2,8 +2,8 @@ use Rattle.std.proofs.Common.{refl, arith}
 use Rattle.client_side.specs.Events.{field_objects}
 use Rattle.client_side.specs.FieldState.{after_event}
 use Rattle.client_side.specs.Heard.{happened}
-use Rattle.client_side.proofs.HeardInTurn.{none_heard, next_heard}
-use Rattle.client_side.proofs.EventsInTurn.{none_taken, next_front, front_wrong, front_short}
+use Rattle.client_side.proofs.HeardInTurn.{none_heard, next_heard, then_wrong}
+use Rattle.client_side.proofs.EventsInTurn.{none_taken, next_front, front_wrong, front_short, none_spelled}
 use Rattle.client_side.proofs.field_receiving.take_events.Goals as goal
 
 pub events-init : goal.events-init
@@ -40,3 +40,11 @@ events-preserved g c =
       taken,
       heard,
     )
+
+pub returns-then-not-take_message-clause-heard_wrong : goal.returns-then-not-take_message-clause-heard_wrong
+returns-then-not-take_message-clause-heard_wrong g c =
+    let told = c.if-not-take_message.ensures in
+    then_wrong field_objects after_event happened g.H.FieldHearer.may_follow _ _ _ c.args.bytes.now _ _ _ _
+    c.events.invariant.3 told.unchanged told.unheard
+    (none_spelled field_objects c.args.bytes.now _ c.events.at c.in-Whole.size _ _ _ c.split_at.ensures.back
+    c.in-Whole.ensures.front told.refused)

@@ -2,8 +2,8 @@ use Rattle.std.proofs.Common.{refl, arith}
 use Rattle.client_side.specs.Events.{method_objects}
 use Rattle.client_side.specs.MethodState.{after_event}
 use Rattle.client_side.specs.Heard.{came}
-use Rattle.client_side.proofs.HeardInTurn.{none_heard, next_heard}
-use Rattle.client_side.proofs.EventsInTurn.{none_taken, next_front, front_wrong, front_short}
+use Rattle.client_side.proofs.HeardInTurn.{none_heard, next_heard, then_wrong}
+use Rattle.client_side.proofs.EventsInTurn.{none_taken, next_front, front_wrong, front_short, none_spelled}
 use Rattle.client_side.proofs.method_receiving.take_events.Goals as goal
 
 pub events-init : goal.events-init
@@ -43,3 +43,11 @@ events-preserved g c =
       taken,
       heard,
     )
+
+pub returns-then-not-take_message-clause-heard_wrong : goal.returns-then-not-take_message-clause-heard_wrong
+returns-then-not-take_message-clause-heard_wrong g c =
+    let told = c.if-not-take_message.ensures in
+    then_wrong method_objects (after_event g.T.Typist.meanings) came g.H.MethodHearer.may_follow _ _ _ c.args.bytes.now _ _ _ _
+    c.events.invariant.3 told.unchanged told.unheard
+    (none_spelled method_objects c.args.bytes.now _ c.events.at c.in-Whole.size _ _ _ c.split_at.ensures.back
+    c.in-Whole.ensures.front told.refused)
