@@ -5,8 +5,9 @@ use Rattle.seat_steps.specs.declared.step.Step.{Step}
 use Rattle.broker_model.specs.declared.journal.Entry.{Entry}
 use Rattle.broker_model.specs.Limits.{is_end, number_counted}
 use Rattle.seat_objects.specs.Reached.{Reached}
-use Rattle.broker_core.specs.Broker.{Broker, IsWatched}
+use Rattle.broker_core.specs.Broker.{Broker, begun, IsWatched}
 use Rattle.broker_core.specs.Watched.{watched_since}
+use Rattle.session_play.specs.Playing.{IsShort}
 use Rattle.session_gen.specs.Generated.{Progress, step_of, step_count}
 use Rattle.gen_run.specs.declared.counts.Counts.{Counts}
 use Rattle.gen_run.specs.declared.tally.Tally.{Tally}
@@ -34,10 +35,10 @@ journal_first n = refl
 
 -- the state of all peers before the first step
 abbrev empty : Broker
-empty = record { limits = limits; journal = []; stamps = [] }
+empty = begun limits
 
 pub first_stands : (run : Run) (n : ℕ) → run.session ≡ record { number = n; made = 0 } →
-    run.shared ≡ record { limits = limits; journal = []; stamps = [] } →
+    run.shared ≡ begun limits →
     run.tally ≡ record { dones = 0; activates = 0; method_dones = 0; queued = 0 } → Stands run
 first_stands run n e s t =
     let made : run.session.made ≡ 0 = ap (λ (p : Progress). p.made) e in
@@ -46,6 +47,7 @@ first_stands run n e s t =
       few = omega arith;
       played = same_broker run.shared empty (journal_in run) (ap (λ (b : Broker). b.limits) s)
           (ap (λ (b : Broker). b.journal) s ∙ sym at);
+      short = subst (λ (b : Broker). IsShort b.journal b.kept_from) (sym s) (omega arith);
       counted = t ∙ ap tally_of (sym at);
     }
 
@@ -84,11 +86,12 @@ generated n made = step_sent n made (put_sum method_dones (journal_of n made))
 pub next_stands : (before after : Run) (step : Step) → Stands before → before.session.made < step_count →
     after.session ≡ record before.session { made = before.session.made + 1 } →
     step ≡ step_of before.session.number before.session.made before.tally.method_dones →
-    after.shared ≡ record before.shared {
+    after.shared ≡ record after.shared {
+      limits = before.shared.limits;
       journal = after_step before.shared.limits.store step before.shared.journal;
-      stamps = after.shared.stamps;
-    } → IsWatched MayTally before.shared before.tally after.shared after.tally → Stands after
-next_stands before after step s few e made p w =
+    } → IsWatched MayTally before.shared before.tally after.shared after.tally →
+    IsShort after.shared.journal after.shared.kept_from → Stands after
+next_stands before after step s few e made p w short =
     let n : ℕ = before.session.number in
     let k : ℕ = before.session.made in
     let journal : List Entry = journal_of n k in
@@ -116,6 +119,7 @@ next_stands before after step s few e made p w =
     record {
       few = omega arith;
       played = same_broker after.shared empty (journal_in after) allowed (played ∙ sym at);
+      short = short;
       counted = counted ∙ ap tally_of (sym at);
     }
 

@@ -97,10 +97,10 @@ take_case b q n r room s a = case_of b q n (peer_at (past_of b.journal) q) r roo
 
 -- a state with the limits of another and this journal
 pub same_broker : (after b : Broker) (journal : List Entry) → after.limits ≡ b.limits → after.journal ≡ journal →
-    after ≡ record b { journal = journal; stamps = after.stamps }
+    after ≡ record after { limits = b.limits; journal = journal }
 same_broker after b journal l j =
-    ap (λ (x : Limits). record { limits = x; journal = after.journal; stamps = after.stamps }) l
-    ∙ ap (λ (x : List Entry). record { limits = b.limits; journal = x; stamps = after.stamps }) j
+    ap (λ (x : Limits). record after { limits = x }) l
+    ∙ ap (λ (x : List Entry). record after { limits = b.limits; journal = x }) j
 
 -- bytes were taken
 
@@ -109,7 +109,7 @@ bytes_by : (stamp : Stamp) (b after : Broker) (q n k t : ℕ) (buf places buf_af
     1 ≤ n → length buf ≡ n → r ≡ took.Bytes k t → TakeCase b q n o r →
     IfSome (out_of b o) (λ out. IsTaken out b.journal q buf places (k, t) buf_after places_after
     (entries.Took q k ∷ b.journal)) → after ≡ broker.with_step (entries.Took q k) stamp b →
-    after ≡ record b { journal = after_take b.limits.store q n b.journal o; stamps = after.stamps }
+    after ≡ record after { limits = b.limits; journal = after_take b.limits.store q n b.journal o }
 bytes_by stamp b after q n k t buf places buf_after places_after o r l len e (nothing i same) h a =
     absurd (subst IsNothing e i)
 bytes_by stamp b after q n k t buf places buf_after places_after None r l len e (something i peer p none) h a = cc
@@ -132,9 +132,9 @@ pub bytes_taken : (stamp : Stamp) (b after : Broker) (q n k t : ℕ) (buf places
     IfNone (take_refusal b q) (IsBytesUnlessMemory r) →
     IfSome (out_at b.limits.store b.journal q) (λ out. IsTaken out b.journal q buf places (k, t) buf_after places_after
     (entries.Took q k ∷ b.journal)) → after ≡ broker.with_step (entries.Took q k) stamp b →
-    after ≡ record b {
+    after ≡ record after {
+      limits = b.limits;
       journal = after_take b.limits.store q n b.journal (peer_at (past_of b.journal) q);
-      stamps = after.stamps;
     }
 bytes_taken stamp b after q n k t buf places buf_after places_after r l len e room s a h is =
     bytes_by stamp b after q n k t buf places buf_after places_after (peer_at (past_of b.journal) q) r l len e

@@ -6,13 +6,14 @@ ghost use Rattle.broker_model.specs.Resolve.{past_of};
 ghost use Rattle.broker_core.specs.declared.taking.Standing.TheVariants.{Alive};
 ghost use Rattle.broker_core.specs.Broker.{entry_of, IsSaid, IsWatched};
 ghost use Rattle.broker_core.specs.Taking.{lives, standing_of};
-ghost use Rattle.session_play.specs.Playing.{IsThere};
+ghost use Rattle.session_play.specs.Playing.{IsShort, IsThere};
 ghost use Rattle.gen_run.specs.Steps.{entered, after_join, after_take, after_step};
 ghost use Rattle.gen_run.specs.Room.{HasRoom};
 
 use broker_core::{JoinRefusal, Refused, Shared, Standing, Took, Watch};
 use relay_model::Role;
 use seat_steps::{Stamp, Step};
+use session_play::keep_short;
 use wio_core::NoMemory;
 
 /// A generated session is of form 1, whose steps have no stamps.
@@ -30,9 +31,9 @@ const PLACES: usize = 256;
 // A peer joins, unless 64 are alive.
 fn join<W: Watch>(shared: &mut Shared, role: Role, watch: &mut W) -> Result<(), NoMemory>
     requires room { HasRoom shared.old.limits shared.old.journal }
-    ensures ok { OnOk result (shared.new ≡ record shared.old {
+    ensures ok { OnOk result (shared.new ≡ record shared.new {
+      limits = shared.old.limits;
       journal = after_join shared.old.limits.store role shared.old.journal;
-      stamps = shared.new.stamps;
     }) }
     ensures watched { IsWatched W.may_follow shared.old watch.old shared.new watch.new }
 {
@@ -57,9 +58,9 @@ fn apply<W: Watch>(shared: &mut Shared, step: &Step, watch: &mut W) -> Result<()
     requires step { IsStep step.now }
     requires said { IsSaid step.now }
     requires there { IsThere step.now shared.old.journal }
-    ensures ok { OnOk result (shared.new ≡ record shared.old {
+    ensures ok { OnOk result (shared.new ≡ record shared.new {
+      limits = shared.old.limits;
       journal = entered shared.old.limits.store (entry_of step.now) shared.old.journal;
-      stamps = shared.new.stamps;
     }) }
     ensures watched { IsWatched W.may_follow shared.old watch.old shared.new watch.new }
 {
@@ -79,10 +80,10 @@ fn take_into<W: Watch>(
 ) -> Result<(), NoMemory>
     requires room { HasRoom shared.old.limits shared.old.journal }
     requires bytes { IsWithin piece_limit (length bytes.old) }
-    ensures ok { OnOk result (shared.new ≡ record shared.old {
+    ensures ok { OnOk result (shared.new ≡ record shared.new {
+      limits = shared.old.limits;
       journal = after_take shared.old.limits.store peer (length bytes.old) shared.old.journal
           (peer_at (past_of shared.old.journal) peer);
-      stamps = shared.new.stamps;
     }) }
     ensures watched { IsWatched W.may_follow shared.old watch.old shared.new watch.new }
 {
@@ -100,10 +101,10 @@ fn take_into<W: Watch>(
 fn take<W: Watch>(shared: &mut Shared, peer: u32, most: u32, watch: &mut W) -> Result<(), NoMemory>
     requires room { HasRoom shared.old.limits shared.old.journal }
     requires most { IsWithin piece_limit most }
-    ensures ok { OnOk result (shared.new ≡ record shared.old {
+    ensures ok { OnOk result (shared.new ≡ record shared.new {
+      limits = shared.old.limits;
       journal = after_take shared.old.limits.store peer most shared.old.journal
           (peer_at (past_of shared.old.journal) peer);
-      stamps = shared.new.stamps;
     }) }
     ensures watched { IsWatched W.may_follow shared.old watch.old shared.new watch.new }
 {
@@ -111,18 +112,14 @@ fn take<W: Watch>(shared: &mut Shared, peer: u32, most: u32, watch: &mut W) -> R
     take_into(shared, peer, &mut bytes[..most as usize], watch)
 }
 
-/// Plays a step: its entry and the ends that follow, or nothing where nobody takes it. Who watches
-/// is told of each entry. `NoMemory` is its one error.
-pub(crate) fn play<W: Watch>(
-    shared: &mut Shared,
-    step: &Step,
-    watch: &mut W,
-) -> Result<(), NoMemory>
+// Plays a step: its entry and the ends that follow, or nothing where nobody takes it. Who watches is
+// told of each entry. `NoMemory` is its one error.
+fn play_step<W: Watch>(shared: &mut Shared, step: &Step, watch: &mut W) -> Result<(), NoMemory>
     requires room { HasRoom shared.old.limits shared.old.journal }
     requires step { IsStep step.now }
-    ensures ok { OnOk result (shared.new ≡ record shared.old {
+    ensures ok { OnOk result (shared.new ≡ record shared.new {
+      limits = shared.old.limits;
       journal = after_step shared.old.limits.store step.now shared.old.journal;
-      stamps = shared.new.stamps;
     }) }
     ensures watched { IsWatched W.may_follow shared.old watch.old shared.new watch.new }
 {
@@ -133,4 +130,24 @@ pub(crate) fn play<W: Watch>(
         Step::Peer(peer, _) if lives(shared, *peer) => apply(shared, step, watch),
         Step::Peer(..) => Ok(()),
     }
+}
+
+/// Plays a step, and lets entries go where many are in memory.
+pub(crate) fn play<W: Watch>(
+    shared: &mut Shared,
+    step: &Step,
+    watch: &mut W,
+) -> Result<(), NoMemory>
+    requires room { HasRoom shared.old.limits shared.old.journal }
+    requires step { IsStep step.now }
+    ensures ok { OnOk result (shared.new ≡ record shared.new {
+      limits = shared.old.limits;
+      journal = after_step shared.old.limits.store step.now shared.old.journal;
+    }) }
+    ensures watched { IsWatched W.may_follow shared.old watch.old shared.new watch.new }
+    ensures short { OnOk result (IsShort shared.new.journal shared.new.kept_from) }
+{
+    play_step(shared, step, watch)?;
+    keep_short(shared);
+    Ok(())
 }

@@ -9,8 +9,7 @@ use Rattle.seat_steps.specs.declared.step.PeerStep.TheVariants as peers
 use Rattle.broker_model.specs.declared.journal.Entry.{Entry}
 use Rattle.broker_model.specs.declared.journal.Entry.TheVariants as entries
 use Rattle.broker_model.specs.Ids.{Joined, peer_in}
-use Rattle.broker_model.specs.Limits.{is_end}
-use Rattle.broker_model.specs.Recorded.{entry_at}
+use Rattle.broker_model.specs.Limits.{is_end, ends_in_end}
 use Rattle.broker_model.specs.Resolve.{past_of}
 use Rattle.broker_model.specs.Settle.{due, cause_of, with_end, settled, number_alive, settle}
 use Rattle.broker_core.specs.Broker as broker
@@ -18,22 +17,10 @@ use Rattle.broker_core.specs.Broker.{Broker, entry_of, IsSaid}
 use Rattle.broker_core.specs.Taking.{lives}
 use Rattle.session_play.specs.declared.unread.Unread.{Unread}
 use Rattle.session_play.specs.Played.{Waiting, of_live}
-use Rattle.session_play.specs.Playing.{is_waiting, AreLive, ends_in_end}
+use Rattle.session_play.specs.Playing.{is_waiting, AreLive}
 use Rattle.session_play.specs.Unread.{waiting}
 use Rattle.session_play.proofs.LivesBefore.{IsAlive, is_alive, lives_kept}
 use Rattle.session_play.proofs.UnreadPlaces.{given_back}
-
--- the newest entry
-
-abbrev newest : List Entry → Option Entry
-newest [] = None
-newest (e ∷ older) = Some e
-
-pub newest_at : (journal : List Entry) (n : ℕ) → n ≡ length journal → entry_at journal n ≡ newest journal
-newest_at [] n h = refl
-newest_at (e ∷ older) n h =
-    let at : (n == length older + 1) ≡ true = eq-eqb n (length older + 1) (omega arith) in
-    ap (λ (b : Bool). (if b then Some e else entry_at older n)) at
 
 -- the ends that follow
 

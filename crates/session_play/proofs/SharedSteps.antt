@@ -41,7 +41,7 @@ abbrev pub play_in : Broker → List Unread → Play
 play_in b us = record { journal = b.journal; unread = map waiting us }
 
 abbrev pub view_of : Broker → List Unread → Ongoing
-view_of b us = record { limits = b.limits; play = play_in b us; stamps = b.stamps }
+view_of b us = record { limits = b.limits; play = play_in b us; stamps = b.stamps; kept_from = b.kept_from }
 
 -- what is left of those that were there
 abbrev pub AreLeft : Broker → List Unread → List Unread → Type 0

@@ -1,5 +1,5 @@
 -- A session as far as it is played.
-use Rattle.std.specs.Prelude.{◌≡◌, ℕ, ◌+◌, ◌==◌, List, [], ◌∷◌, ◌++◌, length, replicate, min, Bool, true, false, string_bytes, Option, Result, Ok, Err, String}
+use Rattle.std.specs.Prelude.{◌≡◌, ℕ, ◌+◌, ◌<◌, ◌==◌, List, [], ◌∷◌, ◌++◌, length, replicate, min, Bool, true, false, string_bytes, Option, Result, Ok, Err, String}
 use Rattle.std.specs.List.{list_any}
 use Rattle.std.specs.Global.{Global}
 use Rattle.seat_steps.specs.declared.limits.Limits.{Limits}
@@ -7,7 +7,6 @@ use Rattle.seat_steps.specs.declared.stamp.Stamp.{Stamp}
 use Rattle.seat_steps.specs.declared.step.Step.{Step}
 use Rattle.seat_steps.specs.declared.step.Step.TheVariants as steps
 use Rattle.broker_model.specs.declared.journal.Entry.{Entry}
-use Rattle.broker_model.specs.Limits.{is_end}
 use Rattle.broker_model.specs.Out.{Outgoing, stored}
 use Rattle.broker_model.specs.Settle.{outer}
 use Rattle.broker_model.specs.Stamps.{stamps}
@@ -26,12 +25,13 @@ use Rattle.session_play.specs.declared.unread.Found.{Found}
 use Rattle.session_play.specs.Played.{Waiting, Play, Played, unread_of, with_unread}
 use Rattle.session_play.specs.Unread.{Finds}
 
--- a session that goes on: what was allowed, what was played so far, and the stamps of its journal,
--- the newest first
+-- a session that goes on: what was allowed, what was played so far, the stamps of its journal, the
+-- newest first, and how many of the oldest entries were let go
 pub record Ongoing : Type 0 where
   pub limits : Limits
   pub play : Play
   pub stamps : List Stamp
+  pub kept_from : ℕ
 
 -- what a player's callers see: what was allowed, what was played so far with its stamps, whether
 -- nothing more can be played, and why
@@ -46,6 +46,10 @@ pub record Playing : Type 0 where
 abbrev pub is_waiting : ℕ → List Waiting → Bool
 is_waiting q unread = list_any (λ w. w.number == q) unread
 
+-- fewer than 256 entries of the journal are in memory
+abbrev pub IsShort : (journal : List Entry) (kept_from : ℕ) → Type 0
+IsShort journal kept_from = length journal < kept_from + 256
+
 -- each live peer has its unread bytes
 abbrev pub AreWaiting : List Entry → List Waiting → Type 0
 AreWaiting journal unread = (q : ℕ) → lives journal q ≡ true → is_waiting q unread ≡ true
@@ -53,11 +57,6 @@ AreWaiting journal unread = (q : ℕ) → lives journal q ≡ true → is_waitin
 -- and nobody else has
 abbrev pub AreLive : List Entry → List Waiting → Type 0
 AreLive journal unread = (q : ℕ) → is_waiting q unread ≡ true → lives journal q ≡ true
-
--- the newest entry is the end of a peer
-abbrev pub ends_in_end : List Entry → Bool
-ends_in_end [] = false
-ends_in_end (e ∷ older) = is_end e
 
 -- a buffer has room for as many of the stored bytes as are asked for at most
 abbrev pub IsEnough : (room most : ℕ) → Outgoing → Type 0

@@ -24,7 +24,7 @@ pub enum PlayEnd {
 }
 
 /// Plays a session line by line. After an error it plays nothing more, and its journal stays what
-/// was played.
+/// was played. After each line fewer than 256 entries of it are in memory: older ones were let go.
 ///
 /// In contracts it is its limits, what was played so far, and whether and why an error came.
 #[derive(Drop)]
@@ -37,7 +37,7 @@ pub struct Player {
 
 impl Model for Player {
     ghost use Rattle.std.specs.Prelude.{is_some};
-    ghost use Rattle.session_play.specs.Playing.{Playing};
+    ghost use Rattle.session_play.specs.Playing.{Playing, IsShort};
 
     ghost Value = { Playing };
 
@@ -48,6 +48,8 @@ impl Model for Player {
       is_spent = is_some p.stopped;
       stopped = p.stopped;
     } };
+
+    ghost invariant = { λ p. IsShort p.session.value.play.journal p.session.value.kept_from };
 }
 
 // How a line ends, with its text.
@@ -70,7 +72,7 @@ impl Player {
     ghost use Rattle.broker_model.specs.Stamps.{stamps, step_stamps};
     ghost use Rattle.session_play.specs.Played.{line_played};
     ghost use Rattle.session_play.specs.Playing.{AreStamped, IsPlayed, IsWatched, IsMore};
-    ghost use Rattle.session_play.specs.Playing.{IsWritten, IsStopped, IsAgain, stop_of};
+    ghost use Rattle.session_play.specs.Playing.{IsShort, IsWritten, IsStopped, IsAgain, stop_of};
 
     /// Nobody joined yet. Asks for limits in their ranges. `NoMemory` is its one error.
     pub fn new(alloc: Global, limits: Limits) -> Result<Player, NoMemory>
@@ -122,6 +124,7 @@ impl Player {
             return Err(stop);
         }
         let played = self.session.line(line, stamp, watch);
+        self.session.let_go();
         if let Err(stop) = played {
             self.stopped = Some(stop);
         }
@@ -158,6 +161,7 @@ impl Player {
             return Err(stop);
         }
         let played = self.session.bytes(number, piece, stamp, watch);
+        self.session.let_go();
         if let Err(why) = played {
             self.stopped = Some(why);
         }
@@ -229,18 +233,22 @@ impl Player {
         self.session.journal().len()
     }
 
-    /// What was played, also after an error. It is the history of its outer steps.
+    /// What was played, also after an error. It is the history of its outer steps. Fewer than 256
+    /// entries are in memory: it answers those alone.
     pub fn journal(&self) -> &Journal
         ensures entries { result.now.entries ≡ self.now.play.journal }
+        ensures short { IsShort self.now.play.journal result.now.kept_from }
         ensures history { history self.now.limits.store (outer self.now.play.journal)
             ≡ self.now.play.journal }
     {
         self.session.journal()
     }
+
     /// The stamps of the journal's entries, also after an error. Each step has the author that was
-    /// given with its line.
+    /// given with its line. Those of entries that were let go went with them.
     pub fn stamps(&self) -> &StampList
         ensures stamps { result.now.stamps ≡ self.now.stamps }
+        ensures short { IsShort self.now.play.journal result.now.kept_from }
         ensures each { length self.now.stamps ≡ length self.now.play.journal }
         ensures stamped { stamps self.now.play.journal (step_stamps self.now.play.journal
             self.now.stamps) ≡ self.now.stamps }

@@ -1,5 +1,6 @@
 //! The lines of a session that are one step each, played through the shared state.
 use crate::ending::{forget_ended, keep_live};
+use crate::short_journal::keep_short;
 use crate::unread::{Unread, lives};
 use broker_core::{JoinRefusal, Journal, Kept, Refused, Shared, StampList, Took, Watch};
 use relay_model::Role;
@@ -68,6 +69,7 @@ impl Model for Session {
       limits = s.shared.limits;
       play = record { journal = s.shared.journal; unread = map waiting s.unread.items };
       stamps = s.shared.stamps;
+      kept_from = s.shared.kept_from;
     } };
 
     ghost invariant = { λ s. AreWaiting s.shared.journal (map waiting s.unread.items)
@@ -93,7 +95,7 @@ impl Session {
     ghost use Rattle.session_play.specs.Played.{step_played, gone_played, join_played, take_played};
     ghost use Rattle.session_play.specs.Played.{tokens_played, line_played};
     ghost use Rattle.session_play.specs.Playing.{AreStamped, IsPlayed, IsWatched, IsThere};
-    ghost use Rattle.session_play.specs.Playing.{IsEnough};
+    ghost use Rattle.session_play.specs.Playing.{IsEnough, IsShort};
 
     /// Nobody joined yet. `NoMemory` is its one error.
     pub(crate) fn new(alloc: Global, limits: Limits) -> Result<Session, NoMemory>
@@ -102,6 +104,7 @@ impl Session {
           limits = limits;
           play = record { journal = []; unread = [] };
           stamps = [];
+          kept_from = 0;
         }) }
     {
         Ok(Session {
@@ -122,6 +125,7 @@ impl Session {
     /// The journal.
     pub(crate) fn journal(&self) -> &Journal
         ensures entries { result.now.entries ≡ self.now.play.journal }
+        ensures kept { result.now.kept_from ≡ self.now.kept_from }
         ensures history { history self.now.limits.store (outer self.now.play.journal)
             ≡ self.now.play.journal }
     {
@@ -131,11 +135,21 @@ impl Session {
     /// The stamps of the journal.
     pub(crate) fn stamps(&self) -> &StampList
         ensures stamps { result.now.stamps ≡ self.now.stamps }
+        ensures kept { result.now.kept_from ≡ self.now.kept_from }
         ensures each { length self.now.stamps ≡ length self.now.play.journal }
         ensures stamped { stamps self.now.play.journal (step_stamps self.now.play.journal
             self.now.stamps) ≡ self.now.stamps }
     {
         self.shared.stamps()
+    }
+
+    /// Where many entries of the journal are in memory, all are let go, with their stamps.
+    #[inline(always)]
+    pub(crate) fn let_go(&mut self)
+        ensures same { self.new ≡ record self.old { kept_from = self.new.kept_from } }
+        ensures short { IsShort self.new.play.journal self.new.kept_from }
+    {
+        keep_short(&mut self.shared);
     }
 
     /// A step of a live peer or of the shell.

@@ -14,7 +14,7 @@ use Rattle.trial_script.specs.declared.script.Ending.TheVariants as endings
 use Rattle.trial_script.specs.Rules.{has_words}
 use Rattle.trial_script.specs.Scripts.{script_of}
 use Rattle.broker_model.specs.declared.journal.Kept.{Kept}
-use Rattle.broker_core.specs.Broker.{kept_in}
+use Rattle.broker_core.specs.Broker.{begun, kept_in}
 use Rattle.trial_run.specs.declared.run.TrialEnd.{TrialEnd}
 use Rattle.trial_run.specs.declared.run.TrialEnd.TheVariants as ends
 use Rattle.trial_run.specs.declared.typist.TrialTypist.{TrialTypist}
@@ -41,7 +41,7 @@ typist_of s = typist_by s.rules
 abbrev pub unplayed : Limits → TrialTypist → TrialPlay
 unplayed limits typist = record {
   most = limits.entries + 1;
-  broker = record { limits = limits; journal = []; stamps = [] };
+  broker = begun limits;
   method = new_method typist;
   fields = [];
   shown = [];

@@ -1,5 +1,5 @@
 use Rattle.std.proofs.Common.{◌≡◌, false, sym, ap, ◌∙◌}
-use Rattle.session_play.specs.Playing.{ends_in_end}
+use Rattle.broker_model.specs.Limits.{ends_in_end}
 use Rattle.session_play.proofs.NobodyEnded.{all_kept}
 use Rattle.session_play.proofs.ending.forget_ended.Goals as goal
 

@@ -14,4 +14,4 @@ returns-clause-step c = made_step c.args.self.now c.in_ok-step.step c.requires.s
 pub returns-clause-stands : goal.returns-clause-stands
 returns-clause-stands c =
     next_stands c.args.self.now _ c.in_ok-step.step c.requires.stands c.requires.more c.in_ok-step.ensures.ok
-    c.in_ok-step.ensures.step c.in_ok-play.ensures.ok c.in_ok-play.ensures.watched
+    c.in_ok-step.ensures.step c.in_ok-play.ensures.ok c.in_ok-play.ensures.watched c.in_ok-play.ensures.short
