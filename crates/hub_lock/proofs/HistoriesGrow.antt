@@ -69,8 +69,13 @@ broker-more limits h n s f =
     step_stamped s.entry J g (step_stamps J (stamps J G)) f
     ∙ ap (λ (ss : List Stamp). stamp_of s.entry g ss ∷ ss) (again J G) ∙ sym (step_stamped s.entry J g G f) in
     let made : List Entry → List Stamp → Broker = λ es gs.
-    record { limits = limits; journal = history limits.store es; stamps = stamps (history limits.store es) gs } in
-    ap (λ (ss : List Stamp). record { limits = limits; journal = settle limits.store K; stamps = ss })
+    record {
+      limits = limits;
+      journal = history limits.store es;
+      stamps = stamps (history limits.store es) gs;
+      kept_from = 0;
+    } in
+    ap (λ (ss : List Stamp). record { limits = limits; journal = settle limits.store K; stamps = ss; kept_from = 0 })
     (stamps_settled limits.store (number_alive K) K (g ∷ step_stamps J (stamps J G)) (g ∷ G) again')
     ∙ ap (λ es. made es (g ∷ G)) (sym (entries-more h n s))
     ∙ ap (made (entries_of (h ++ (n, s) ∷ []))) (sym (given-more h n s))

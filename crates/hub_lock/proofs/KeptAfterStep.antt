@@ -10,7 +10,7 @@ use Rattle.broker_model.specs.declared.journal.Entry.TheVariants as entries
 use Rattle.broker_model.specs.Ids.{Joined}
 use Rattle.broker_model.specs.Resolve.{past_of}
 use Rattle.broker_model.specs.Stamps.{follows, stamps, step_stamps}
-use Rattle.broker_core.specs.Broker.{Broker, with_step}
+use Rattle.broker_core.specs.Broker.{Broker, begun, with_step}
 use Rattle.broker_core.proofs.AliveAfterEntry.{same_settled}
 use Rattle.hub_lock.specs.declared.step.OuterStep.{OuterStep}
 use Rattle.hub_lock.specs.Histories.{History, stamp_by, broker_of, readers_of, numbered_in, reader_of, only, joining, step_after, steps_in}
@@ -119,6 +119,10 @@ module _ (b : Broker) (readers : List ℕ) (n : ℕ) (kept : IsKept b readers) (
       ∙ ap (λ rs. numbered_in rs q) (readers-join role r)
       ∙ ap (numbered_in (readers ++ r ∷ [])) (e ∙ joined-join role) ∙ get-end readers r
 
+-- nothing was let go
+pub none_let_go : (b : Broker) (readers : List ℕ) → IsKept b readers → b.kept_from ≡ 0
+none_let_go b readers kept = ap (λ (x : Broker). x.kept_from) (sym kept.is)
+
 -- what is behind the lock is lawful
 pub lawful : (b : Broker) (readers : List ℕ) → IsKept b readers → IsShared b → IsLawful b.limits (history_of b readers)
 lawful b readers kept shared = record {
@@ -130,6 +134,6 @@ lawful b readers kept shared = record {
 
 -- so is the empty history
 pub lawful-empty : (limits : Limits) (b : Broker) → IsLimits limits →
-    b ≡ record { limits = limits; journal = []; stamps = [] } → IsShared b → IsLawful limits []
+    b ≡ begun limits → IsShared b → IsLawful limits []
 lawful-empty limits b limited is shared =
     record { limited = limited; shared = subst IsShared is shared; readers = refl; made_by = tt }

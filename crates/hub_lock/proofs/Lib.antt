@@ -13,3 +13,5 @@ pub mod PlaysKeepRule
 pub mod LegalCalls
 pub mod TakesCopied
 pub mod SessionTotals
+pub mod SharedCrosses
+pub mod HubCrosses

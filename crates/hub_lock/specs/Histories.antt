@@ -29,11 +29,16 @@ entries_of h = reverse (map (λ (s : ℕ × OuterStep). s.1.entry) h)
 abbrev pub given_of : History → List Stamp
 given_of h = reverse (map (λ (s : ℕ × OuterStep). stamp_by s.0) h)
 
--- the one journal that these steps make, and its stamps
+-- the one journal that these steps make, and its stamps; nothing of it was let go
 abbrev pub broker_of : Limits → History → Broker
 broker_of limits h =
     let journal = history limits.store (entries_of h) in
-    record { limits = limits; journal = journal; stamps = stamps journal (given_of h) }
+    record {
+      limits = limits;
+      journal = journal;
+      stamps = stamps journal (given_of h);
+      kept_from = 0;
+    }
 
 -- the number of the reader's pass of the peer that joins by the step
 abbrev pub reader_in : Option ℕ → List ℕ

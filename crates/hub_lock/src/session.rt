@@ -1,9 +1,11 @@
 //! What a hub's users did, as it can be written down.
+ghost use Rattle.std.specs.Prelude.{◌≡◌};
+
 use broker_model::{Journal, StampList};
 use seat_steps::Limits;
 
-/// A copy of a hub's limits, of its whole journal and of the stamps of the journal's entries. The
-/// author of a step's stamp is the number of the pass whose call made the step.
+/// A copy of a hub's limits, of its whole journal and of the stamps of the journal's entries: none of
+/// them was let go. The author of a step's stamp is the number of the pass whose call made the step.
 #[derive(Drop)]
 pub struct Session {
     /// The limits that the hub was made with.
@@ -12,4 +14,6 @@ pub struct Session {
     pub journal: Journal,
     /// A stamp for each of its entries.
     pub stamps: StampList,
+    pub ghost whole: { journal.kept_from ≡ 0 },
+    pub ghost all_stamps: { stamps.kept_from ≡ 0 },
 }

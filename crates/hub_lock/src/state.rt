@@ -208,6 +208,7 @@ impl HubState {
     }
 
     // A copy of it all. `NoMemory` is its one error.
+    #[tactic(auto, using(crate::proofs::KeptAfterStep::none_let_go))]
     fn copy(&self) -> Result<Session, NoMemory>
         ensures { IfOk result (λ s. IsSessionOf (broker_of self.now.broker.limits
             (history_of self.now.broker self.now.readers)) s) }

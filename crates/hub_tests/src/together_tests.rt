@@ -187,12 +187,12 @@ fn race<R: Threads + Wait + Clock + Sync>(
         other: AtomicU64::new(0),
     };
     let taken = &taken;
+    let (one, other) = readers;
     join(
         rt,
         move || -> u64
-            requires { IsOf hub.now shell × IsOf hub.now readers.0.seat × IsOf hub.now
-                readers.1.seat }
-        { move_focus(rt, hub, shell, readers, taken) },
+            requires { IsOf hub.now shell × IsOf hub.now one.seat × IsOf hub.now other.seat }
+        { move_focus(rt, hub, shell, (one, other), taken) },
         move || -> (u64, u64)
             requires { IsOf hub.now writers.0.seat × IsOf hub.now writers.1.seat }
         { both_take(rt, hub, writers, taken) },

@@ -1,5 +1,6 @@
 -- The text of the steps, the oldest first
 use Rattle.std.proofs.Common.{◌≡◌, ◌+◌, ◌-◌, ◌<◌, ◌≤◌, ◌++◌, ◌∷◌, [], ℕ, zero, suc, nat_eq, true, false, Bool, if◌then◌else◌, List, length, drop, Option, Some, None, refl, sym, ap, ◌∙◌, subst, arith, append-nil}
+use Rattle.std.specs.Prelude.{nat_le}
 use Rattle.std.proofs.lemmas.Bool.{eq-eqb, ne_eqb, eqb-false}
 use Rattle.std.proofs.lemmas.List.{append_assoc}
 use Rattle.std.specs.List.{flat_map}
@@ -7,6 +8,7 @@ use Rattle.seat_steps.specs.declared.limits.Limits.{Limits}
 use Rattle.seat_steps.specs.declared.stamp.Stamp.{Stamp}
 use Rattle.session_text.specs.declared.line.Line.TheVariants.{Header, End}
 use Rattle.broker_model.specs.declared.journal.Entry.{Entry}
+use Rattle.long_list.specs.Long.{kept_at}
 use Rattle.broker_model.specs.Recorded.{entry_at}
 use Rattle.serve_record.specs.Recorded.{steps_text, text_line, recorded, entry_lines}
 use Rattle.serve_record.specs.Lines.{lines_text, text_at, text_without, stamped_text}
@@ -21,7 +23,7 @@ not_newest : {A : Type 0} (x : A) (older : List A) (number : ℕ) → number ≤
 not_newest x older number few = rw (ne_eqb number (length older + 1) (λ e. absurd (omega arith))) refl
 
 -- there is one with each number
-pub is_there : {A : Type 0} (xs : List A) (number : ℕ) → 1 ≤ number → number ≤ length xs → entry_at xs number ≡ None → ⊥
+is_there : {A : Type 0} (xs : List A) (number : ℕ) → 1 ≤ number → number ≤ length xs → entry_at xs number ≡ None → ⊥
 is_there [] number first last none = absurd (omega arith)
 is_there {A} (x ∷ older) number first last none =
     at (nat_eq number (length older + 1)) refl (λ few. is_there older number first few)
@@ -38,6 +40,17 @@ is_there {A} (x ∷ older) number first last none =
     at false e among =
         let few = less number (length older) last (eqb-false number (length older + 1) e) in
         among few (sym (not_newest x older number few) ∙ none)
+
+-- where none was let go, what is kept is all
+pub kept_is : {A : Type 0} (kept_from : ℕ) (xs : List A) (number : ℕ) → kept_from ≡ 0 → 1 ≤ number
+    → kept_at kept_from xs number ≡ entry_at xs number
+kept_is kept_from xs number none first =
+    let later : nat_le number kept_from ≡ false = grind (arith, none, first) in rw later refl
+
+pub is_kept : {A : Type 0} (kept_from : ℕ) (xs : List A) (number : ℕ) → kept_from ≡ 0 → 1 ≤ number → number ≤ length xs
+    → kept_at kept_from xs number ≡ None → ⊥
+is_kept kept_from xs number none first last gone =
+    is_there xs number first last (sym (kept_is kept_from xs number none first) ∙ gone)
 
 -- the lines of the entry with k newer ones stand behind those of the older ones
 pub one_more : (k : ℕ) (journal : List Entry) (stamps : List Stamp) → k < length journal

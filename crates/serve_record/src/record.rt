@@ -73,7 +73,7 @@ fn header(alloc: Global, limits: &Limits) -> Result<Vec<u8>, NoMemory>
 }
 
 // Adds the line of the entry with the number, and writes what waits, if it is a whole piece.
-#[tactic(auto, using(crate::proofs::StepsText::is_there))]
+#[tactic(auto, using(crate::proofs::StepsText::is_kept, crate::proofs::StepsText::kept_is))]
 fn write_entry<K: Sink>(
     alloc: Global,
     session: &Session,
