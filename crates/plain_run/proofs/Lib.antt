@@ -12,6 +12,7 @@ pub mod ActListAnswers
 pub mod ActsPlayed
 pub mod SessionLines
 pub mod SessionsPlayed
+pub mod SeatPieces
 pub mod SeatsAtPlaces
 pub mod SeatsPlayed
 pub mod LinesReplayed

@@ -1,6 +1,9 @@
 //! Several seats, played line by line.
-ghost use Rattle.std.specs.Prelude.{◌≡◌, ◌<◌, ◌^◌, ◌++◌, [], IfOk, IfSome, OnOk};
-ghost use Rattle.std.specs.Prelude.{length, string_bytes};
+ghost use Rattle.std.specs.Prelude.{◌≡◌, ◌≤◌, ◌<◌, ◌^◌, ◌++◌, [], IfOk, IfSome, OnOk};
+ghost use Rattle.std.specs.Prelude.{Some, length, string_bytes, take};
+ghost use Rattle.session_text.specs.declared.line.SessionLine.TheVariants as lines;
+ghost use Rattle.session_text.specs.declared.seat_line.SeatLine.TheVariants as seats;
+ghost use Rattle.session_text.specs.declared.seat_line.SeatsLine.TheVariants as said;
 ghost use Rattle.session_text.specs.SeatLines.{IsSeatsHeader, seats_header_of, seats_line_of};
 ghost use Rattle.plain_run.specs.Seats.{seat_ending, seats_endings, seats_last, some_full};
 ghost use Rattle.plain_run.specs.SeatsPlayed.{IsSeatsLinePlayed};
@@ -8,7 +11,10 @@ ghost use Rattle.plain_run.specs.SeatsPlayed.{IsSeatsLinePlayed};
 use crate::last_line::LastLine;
 use crate::script::Script;
 use seat_set::{Kept, SeatSet};
-use session_text::{BadLine, SeatsHeader, SeatsLine, read_seat_line, read_seats_header};
+use session_text::{
+    Address, BadLine, LINE_LIMIT, SeatsHeader, SeatsLine, read_address, read_piece, read_seat_line,
+    read_seats_header,
+};
 use std::alloc::Global;
 use transcript_text::{add_seat_end, add_seat_full};
 use wio_core::NoMemory;
@@ -80,8 +86,37 @@ fn last_of(set: &SeatSet) -> LastLine
     }
 }
 
-// Plays the line after so many. Tells how the output ends if the line decides it.
-fn play_line(
+// As many bytes as most lines of a peer have at most.
+const FEW: usize = 64;
+
+// The line of a peer's few bytes for one seat: the seat, the peer's number, and how many bytes it
+// sent, which stand at the front of the buffer. Where it finds none, `read_seat_line` says what the
+// line is.
+#[inline(always)]
+fn read_seat_piece(count: u32, raw: &[u8], piece: &mut [u8]) -> Option<(u32, u32, usize)>
+    requires seats { count ≤ 8 }
+    requires few { length piece.old ≤ 4096 }
+    ensures read { IfSome result (λ found. seats_line_of count raw.now ≡ Some (said.Seat
+        (seats.One found.0 (lines.Bytes found.1 (take found.2 piece.new))))) }
+    ensures there { IfSome result (λ found. (1 ≤ found.0) × (found.0 ≤ count)) }
+    ensures within { IfSome result (λ found. found.2 ≤ length piece.new) }
+{
+    if raw.len() > LINE_LIMIT {
+        return None;
+    }
+    match read_address(count, raw) {
+        Some((Address::One(seat), rest)) => {
+            let (peer, length) = read_piece(rest, piece)?;
+            Some((seat, peer, length))
+        }
+        _ => None,
+    }
+}
+
+// Plays any line after so many. Tells how the output ends if the line decides it. Stands apart, so
+// that the line of a few bytes makes no room for others.
+#[inline(never)]
+fn play_any(
     alloc: Global,
     set: &mut SeatSet,
     text: &mut String,
@@ -103,6 +138,28 @@ fn play_line(
         }
         Err(BadLine::Grammar) => Ok(Some(LastLine::Bad(before.saturating_add(1)))),
         Err(BadLine::NoMemory) => Err(NoMemory),
+    }
+}
+
+// Plays the line after so many, as `play_any` does.
+fn play_line(
+    alloc: Global,
+    set: &mut SeatSet,
+    text: &mut String,
+    before: u64,
+    raw: &[u8],
+) -> Result<Option<LastLine>, NoMemory>
+    ensures { before < 2 ^ 63 → IfOk result (IsSeatsLinePlayed before
+        (seats_line_of (length set.old.seats) raw.now) set.old.seats set.new.seats
+        (string_bytes text.old) (string_bytes text.new)) }
+{
+    let mut piece = [0u8; FEW];
+    match read_seat_piece(set.count(), raw, &mut piece) {
+        Some((seat, peer, length)) => {
+            set.bytes_into(seat, peer, &piece[..length], text)?;
+            Ok(None)
+        }
+        None => play_any(alloc, set, text, before, raw),
     }
 }
 

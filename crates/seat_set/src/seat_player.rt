@@ -2,6 +2,7 @@
 ghost use Rattle.std.specs.Prelude.{◌≡◌, length, IfOk, OnOk, None};
 ghost use Rattle.seat_steps.specs.Ranges.{IsLimits};
 ghost use Rattle.session_text.specs.Steps.{IsSessionLine};
+ghost use Rattle.session_text.specs.declared.line.SessionLine.TheVariants as lines;
 ghost use Rattle.session_play.specs.Playing.{IsWatched};
 ghost use Rattle.seat_set.specs.Seats.{fresh, seat_after};
 
@@ -85,6 +86,35 @@ impl SeatPlayer {
             Ok(()) => Ok(()),
             Err(Stop::Full(kept)) => {
                 self.stopped = Some(Stop::Full(kept));
+                Ok(())
+            }
+            Err(Stop::NoMemory) => {
+                self.stopped = Some(Stop::NoMemory);
+                Err(NoMemory)
+            }
+        }
+    }
+
+    /// Plays the line of a peer's bytes, as `play` does.
+    #[inline(always)]
+    pub(crate) fn play_bytes<W: Watch>(
+        &mut self,
+        peer: u32,
+        piece: &[u8],
+        watch: &mut W,
+    ) -> Result<(), NoMemory>
+        requires open { self.old.full ≡ None }
+        ensures ok { OnOk result (self.new ≡ seat_after (lines.Bytes peer piece.now) self.old) }
+        ensures watched { OnOk result (IsWatched W.may_follow self.old.limits.store
+            self.old.play.journal watch.old self.new.play.journal watch.new) }
+    {
+        if self.stopped.is_some() {
+            return Err(NoMemory);
+        }
+        match self.player.bytes_watched(peer, piece, UNSTAMPED, watch) {
+            Ok(()) => Ok(()),
+            Err(Stop::Full(full)) => {
+                self.stopped = Some(Stop::Full(full));
                 Ok(())
             }
             Err(Stop::NoMemory) => {

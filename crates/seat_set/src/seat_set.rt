@@ -1,12 +1,18 @@
 //! The seats of a set, and the lines that go to one or to all.
 ghost use Rattle.std.specs.Prelude.{◌≡◌, ◌≤◌, ◌<◌, ◌-◌, ◌++◌, true, false, IfOk, IfSome, OnOk, OnErr};
-ghost use Rattle.std.specs.Prelude.{length, replicate, string_bytes};
+ghost use Rattle.std.specs.Prelude.{ℕ, List, length, replicate, string_bytes};
 ghost use Rattle.std.specs.List.{slice_get};
 ghost use Rattle.seat_steps.specs.Ranges.{IsLimits};
 ghost use Rattle.session_text.specs.Steps.{IsSessionLine};
 ghost use Rattle.session_text.specs.SeatLines.{IsSeatLine};
+ghost use Rattle.session_text.specs.declared.line.SessionLine.TheVariants as sessions;
 ghost use Rattle.session_text.specs.declared.seat_line.SeatLine.TheVariants as lines;
 ghost use Rattle.transcript_text.specs.Seats.{seat_lines};
+ghost use Rattle.broker_model.specs.declared.journal.Entry.{Entry};
+ghost use Rattle.seat_objects.specs.Reached.{Reached};
+ghost use Rattle.broker_core.specs.Watched.{watched_since};
+ghost use Rattle.seat_printer.specs.Printed.{MayPrint, blank};
+ghost use Rattle.seat_printer.specs.Transcribed.{text_since};
 ghost use Rattle.seat_set.specs.Seats.{fresh, seat_after, seat_said, seats_after, seats_said};
 
 use crate::seat_player::SeatPlayer;
@@ -18,6 +24,34 @@ use std::alloc::Global;
 use std::marker::Model;
 use transcript_text::add_seat_lines;
 use wio_core::NoMemory;
+
+// What a seat printed goes behind the text with the seat's number before each line. Most lines of an
+// input tell nothing.
+#[inline(always)]
+fn add_lines(number: u32, lines: &str, text: &mut String) -> Result<(), NoMemory>
+    ensures { OnOk result (string_bytes text.new
+        ≡ string_bytes text.old ++ seat_lines number lines.now) }
+{
+    if lines.is_empty() {
+        return Ok(());
+    }
+    add_seat_lines(number, lines, text)
+}
+
+// What a printer that was blank watched of a seat goes behind the text likewise.
+#[inline(always)]
+fn add_printed(number: u32, printer: &mut Printer, text: &mut String) -> Result<(), NoMemory>
+    ensures { (capacity k : ℕ) (journal : List Entry) →
+        Reached MayPrint blank (watched_since capacity k journal) printer.old →
+        OnOk result (string_bytes text.new
+        ≡ string_bytes text.old ++ seat_lines number (text_since capacity k journal)) }
+{
+    printer.close();
+    if printer.is_short() {
+        return Err(NoMemory);
+    }
+    add_lines(number, printer.text(), text)
+}
 
 // Plays a line on the seat with the number, whose transcript has more after it: its lines go behind
 // the text. A seat that is full plays nothing.
@@ -38,11 +72,29 @@ fn play_seat(
     }
     printer.clear();
     seat.play(line, printer)?;
-    printer.close();
-    if printer.is_short() {
-        return Err(NoMemory);
+    add_printed(number, printer, text)
+}
+
+// Plays the line of a peer's bytes, as `play_seat` does.
+#[inline(always)]
+fn play_seat_bytes(
+    seat: &mut SeatPlayer,
+    number: u32,
+    peer: u32,
+    piece: &[u8],
+    printer: &mut Printer,
+    text: &mut String,
+) -> Result<(), NoMemory>
+    ensures seat { OnOk result (seat.new ≡ seat_after (sessions.Bytes peer piece.now) seat.old) }
+    ensures text { OnOk result (string_bytes text.new ≡ string_bytes text.old
+        ++ seat_lines number (seat_said (sessions.Bytes peer piece.now) seat.old)) }
+{
+    if seat.full().is_some() {
+        return Ok(());
     }
-    add_seat_lines(number, printer.text(), text)
+    printer.clear();
+    seat.play_bytes(peer, piece, printer)?;
+    add_printed(number, printer, text)
 }
 
 // Plays a line on the seat with the number.
@@ -64,6 +116,33 @@ fn play_one(
         &mut seats[(number - 1) as usize],
         number,
         line,
+        printer,
+        text,
+    )
+}
+
+// Plays the line of a peer's bytes on the seat with the number.
+#[inline(always)]
+fn play_one_bytes(
+    seats: &mut [SeatPlayer],
+    seat: u32,
+    peer: u32,
+    piece: &[u8],
+    printer: &mut Printer,
+    text: &mut String,
+) -> Result<(), NoMemory>
+    requires from { 1 ≤ seat }
+    requires to { seat ≤ length seats.old }
+    ensures seats { OnOk result (seats.new
+        ≡ seats_after (lines.One seat (sessions.Bytes peer piece.now)) 1 seats.old) }
+    ensures text { OnOk result (string_bytes text.new ≡ string_bytes text.old
+        ++ seats_said (lines.One seat (sessions.Bytes peer piece.now)) 1 seats.old) }
+{
+    play_seat_bytes(
+        &mut seats[(seat - 1) as usize],
+        seat,
+        peer,
+        piece,
         printer,
         text,
     )
@@ -157,6 +236,41 @@ impl SeatSet {
         }
     }
 
+    // The line of a peer's bytes, as long as there is memory.
+    #[inline(always)]
+    fn play_bytes(
+        &mut self,
+        seat: u32,
+        peer: u32,
+        piece: &[u8],
+        text: &mut String,
+    ) -> Result<(), NoMemory>
+        requires from { 1 ≤ seat }
+        requires to { seat ≤ length self.old.seats }
+        ensures seats { OnOk result (self.new ≡ record self.old {
+          seats = seats_after (lines.One seat (sessions.Bytes peer piece.now)) 1 self.old.seats;
+        }) }
+        ensures text { OnOk result (string_bytes text.new ≡ string_bytes text.old
+            ++ seats_said (lines.One seat (sessions.Bytes peer piece.now)) 1 self.old.seats) }
+        ensures count { length self.new.seats ≡ length self.old.seats }
+    {
+        let seats = self.seats.as_mut_slice();
+        play_one_bytes(seats, seat, peer, piece, &mut self.printer, text)
+    }
+
+    // A set whose line found no memory is spent.
+    #[inline(always)]
+    fn ended(&mut self, played: Result<(), NoMemory>) -> Result<(), NoMemory>
+        ensures result { result ≡ played }
+        ensures ok { OnOk played (self.new ≡ self.old) }
+        ensures spent { OnErr played (self.new ≡ record self.old { is_spent = true }) }
+    {
+        if played.is_err() {
+            self.is_spent = true;
+        }
+        played
+    }
+
     /// Plays a line on the seat that it is for, or on all in turn, and adds to the text what their
     /// transcripts have more, each line behind its seat's number. A seat that is full plays nothing.
     ///
@@ -178,10 +292,34 @@ impl SeatSet {
             return Err(NoMemory);
         }
         let played = self.play(line, text);
-        if played.is_err() {
-            self.is_spent = true;
+        self.ended(played)
+    }
+
+    /// Plays the line of a peer's bytes on a seat that there is, as `line_into` does.
+    pub fn bytes_into(
+        &mut self,
+        seat: u32,
+        peer: u32,
+        piece: &[u8],
+        text: &mut String,
+    ) -> Result<(), NoMemory>
+        requires from { 1 ≤ seat }
+        requires to { seat ≤ length self.old.seats }
+        ensures seats { OnOk result (self.new ≡ record self.old {
+          seats = seats_after (lines.One seat (sessions.Bytes peer piece.now)) 1 self.old.seats;
+        }) }
+        ensures text { OnOk result (string_bytes text.new ≡ string_bytes text.old
+            ++ seats_said (lines.One seat (sessions.Bytes peer piece.now)) 1 self.old.seats) }
+        ensures spent { OnErr result (self.new.is_spent ≡ true) }
+        ensures again { self.old.is_spent ≡ true → IfOk result (λ _. ⊥) }
+        ensures stays { self.old.is_spent ≡ true → (self.new ≡ self.old) × (text.new ≡ text.old) }
+        ensures count { length self.new.seats ≡ length self.old.seats }
+    {
+        if self.is_spent {
+            return Err(NoMemory);
         }
-        played
+        let played = self.play_bytes(seat, peer, piece, text);
+        self.ended(played)
     }
 
     /// Plays a line, as `line_into` does, and answers what it adds.

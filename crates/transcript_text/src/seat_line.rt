@@ -1,26 +1,32 @@
 //! The lines of a transcript of several seats: each begins with its seat's number.
-ghost use Rattle.std.specs.Prelude.{◌≡◌, ◌++◌, OnOk, string_bytes};
+ghost use Rattle.std.specs.Prelude.{◌≡◌, ◌<◌, ◌∷◌, ◌++◌, [], ℕ, OnOk, length, string_bytes};
 ghost use Rattle.transcript_text.specs.Seats.{seat_end_line, seat_full_line, seat_lines};
 ghost use Rattle.transcript_text.specs.Seats.{seat_mark};
 
 use itoa::Buffer;
+use memchr::memchr;
 use wio_core::NoMemory;
 
-// What stands before each line of a seat goes behind the text.
-fn add_mark(seat: u32, text: &mut String) -> Result<(), NoMemory>
-    ensures { OnOk result (string_bytes text.new ≡ string_bytes text.old ++ seat_mark seat) }
+// The first line with its line feed, or all where there is none, and what stands behind it.
+fn first_line(lines: &str) -> (&str, &str)
+    requires some { 0 < length lines.now }
+    ensures marked { (seat : ℕ) → seat_lines seat lines.now
+        ≡ seat_mark seat ++ (result.0.now ++ seat_lines seat result.1.now) }
+    ensures shorter { length result.1.now < length lines.now }
 {
-    text.push_str(Buffer::new().format(seat))?;
-    text.push(' ')?;
-    Ok(())
+    match memchr(b'\n', lines.as_bytes()) {
+        Some(feed) => lines.split_at(feed + 1),
+        None => (lines, ""),
+    }
 }
 
-// A line of a seat goes behind the text.
-fn add_line(seat: u32, line: &str, text: &mut String) -> Result<(), NoMemory>
+// A line of a seat goes behind the text, which begins with the number's digits and a space.
+fn add_line(digits: &str, line: &str, text: &mut String) -> Result<(), NoMemory>
     ensures { OnOk result (string_bytes text.new
-        ≡ string_bytes text.old ++ (seat_mark seat ++ line.now)) }
+        ≡ string_bytes text.old ++ ((digits.now ++ 32 ∷ []) ++ line.now)) }
 {
-    add_mark(seat, text)?;
+    text.push_str(digits)?;
+    text.push(' ')?;
     text.push_str(line)?;
     Ok(())
 }
@@ -31,16 +37,15 @@ pub fn add_seat_lines(seat: u32, lines: &str, text: &mut String) -> Result<(), N
     ensures { OnOk result (string_bytes text.new
         ≡ string_bytes text.old ++ seat_lines seat lines.now) }
 {
+    let mut buffer = Buffer::new();
+    let digits = buffer.format(seat);
     let mut rest = lines;
-    while let Some((line, more)) = rest.split_once('\n') {
-        add_line(seat, line, text)?;
-        text.push('\n')?;
+    while !rest.is_empty() {
+        let (line, more) = first_line(rest);
+        add_line(digits, line, text)?;
         rest = more;
     }
-    if rest.is_empty() {
-        return Ok(());
-    }
-    add_line(seat, rest, text)
+    Ok(())
 }
 
 /// Adds the last line of a seat with so many entries, `S end N`, with its line feed.

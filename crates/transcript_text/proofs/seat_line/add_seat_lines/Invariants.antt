@@ -4,10 +4,10 @@ use denote.Shadow.{shadow}
 use Rattle.transcript_text.specs.Seats.{seat_lines}
 use Rattle.transcript_text.proofs.seat_line.add_seat_lines.Given as goal
 
-abbrev pub invariant-loop-line : goal.invariant-loop-line
-invariant-loop-line l =
+abbrev pub invariant-loop-digits : goal.invariant-loop-digits
+invariant-loop-digits l =
     shadow (Utf8 l.rest)
     × (string_bytes l.text ++ seat_lines l.seat l.rest ≡ string_bytes l.fn.text ++ seat_lines l.seat l.fn.lines)
 
-abbrev pub decreases-loop-line : goal.decreases-loop-line
-decreases-loop-line l = length l.rest
+abbrev pub decreases-loop-digits : goal.decreases-loop-digits
+decreases-loop-digits l = length l.rest
