@@ -1,0 +1,4 @@
+pub mod StepsLead
+pub mod WatchedOn
+pub mod BytesOnWay
+pub mod HeldBytes

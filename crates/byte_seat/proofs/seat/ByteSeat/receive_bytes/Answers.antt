@@ -1,0 +1,23 @@
+use Rattle.std.proofs.Common.{◌++◌, ap, subst, ◌∙◌}
+use Rattle.broker_core.specs.declared.answers.Refused.TheVariants as refused
+use Rattle.byte_seat.specs.Seated.{Bytewise, begun_in, waiting}
+use Rattle.byte_seat.specs.Steps.{Hearing}
+use Rattle.byte_seat.proofs.WatchedOn.{heard_none}
+use Rattle.byte_seat.proofs.HeldBytes.{keeps_unless}
+use Rattle.byte_seat.proofs.seat.ByteSeat.receive_bytes.Goals as goal
+
+pub returns-in_default-clause-hears : goal.returns-in_default-clause-hears
+returns-in_default-clause-hears c =
+    subst (λ (v : Bytewise). Hearing v.broker v.ears c.self.inside.shared c.self.inside.ears) c.self.view_is
+    (heard_none c.self.inside.shared c.self.inside.ears)
+
+pub returns-in_default-clause-keeps : goal.returns-in_default-clause-keeps
+returns-in_default-clause-keeps c =
+    keeps_unless c.args.self.now.held c.reserve.new.self.entries c.args.peer
+    (waiting c.args.self.now.held c.args.peer ++ c.args.piece.now) refused.NoMemory
+    (λ other. ap begun_in (c.reserve.ensures.entries.2 other) ∙ ap (λ (v : Bytewise). waiting v.held other) c.self.view_is)
+
+pub returns-in-Err-clause-hears : goal.returns-in-Err-clause-hears
+returns-in-Err-clause-hears c =
+    subst (λ (v : Bytewise). Hearing v.broker v.ears c.self.inside.shared c.self.inside.ears) c.self.view_is
+    (heard_none c.self.inside.shared c.self.inside.ears)
