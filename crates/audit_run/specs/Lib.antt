@@ -1,0 +1,4 @@
+pub mod Taking
+pub mod Judged
+pub mod Standing
+pub mod Verdict
