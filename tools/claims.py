@@ -6,7 +6,8 @@
    a function of the crate, or of what its specifications define. `its ensures` and `definitions` name no clause.
 2. Links resolve. Words in back quotes that are a path or a file's name are there; those that are a name with `_`, a
    path with `::` or a word `InThisForm` stand somewhere in the sources.
-3. docs/AUDIT.md tells how many must-fail edits there are. All documents together have at most so many words.
+3. docs/AUDIT.md tells how many must-fail edits there are. All documents together have at most so many words, and none
+   has a mark of an unfinished merge.
 4. With a program: each line `$ COMMAND` in a block of README.md and docs/FORMATS.md ends well, and writes what stands
    below it, if anything does.
 
@@ -161,7 +162,7 @@ def runs(program):
 
 
 def counts(documents):
-    """A problem, or none, for the must-fail edits that docs/AUDIT.md counts, and for the number of words."""
+    """A problem, or none, for the must-fail edits that docs/AUDIT.md counts, the number of words, and each merge."""
     edits = sources("crates/*/must-fail/*.edit")
     counted = (len({os.path.dirname(edit) for edit in edits}), len(edits))
     told = re.search(r"of (\d+) crates have (\d+)\s+such\s+changes", read(f"{ROOT}/docs/AUDIT.md"))
@@ -169,6 +170,9 @@ def counts(documents):
     yield None if good else f"docs/AUDIT.md: {counted[1]} edits of {counted[0]} crates are there"
     words = sum(len(re.findall(r"\S*\w\S*", read(path))) for path in documents)
     yield None if words <= MOST_WORDS else f"{words} words in all documents"
+    for path in documents:
+        marked = re.search(r"<<<<<<< |>>>>>>> ", read(path))
+        yield f"{path}: a merge isn't finished" if marked else None
 
 
 def main():
