@@ -2,6 +2,7 @@
 -- groups that were put.
 use Rattle.std.specs.Prelude.{ℕ, ℤ, ◌+◌, List, [], ◌∷◌, ◌++◌, length, map, nat_le, ◌==◌, if◌then◌else◌, Option, Some, None}
 use Rattle.std.specs.List.{flat_map}
+use Rattle.relay_model.specs.declared.act.Act.{Act}
 use Rattle.relay_model.specs.declared.said.Told.{Told}
 use Rattle.relay_model.specs.declared.said.Said.{Said}
 use Rattle.relay_model.specs.declared.said.Said.TheVariants as said
@@ -18,8 +19,8 @@ use Rattle.broker_core.specs.Stands.{numbered}
 
 -- one thing that is watched, with the number of its entry
 pub data Watched : Type 0 where
-  -- the entry itself
-  Entered : ℕ → Entry → Watched
+  -- the entry itself, the act that it is, and the acts before it
+  Entered : ℕ → Entry → Act → List Act → Watched
   -- where a popup is, in pixels of the screen: by the number of its peer, and its id there
   Placed : ℕ → (peer id : ℕ) → (x y : ℤ) → Watched
   -- a key that passes
@@ -87,7 +88,8 @@ told_of capacity e older =
 
 -- all that is watched of the newest entry
 abbrev pub watched : ℕ → Entry → List Entry → List Watched
-watched capacity e older = Entered (length older + 1) e ∷ told_of capacity e older
+watched capacity e older =
+    Entered (length older + 1) e (act_at e older) (resolve older) ∷ told_of capacity e older
 
 -- of all entries behind the first k
 abbrev pub watched_since : ℕ → ℕ → List Entry → List Watched

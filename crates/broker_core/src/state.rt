@@ -151,7 +151,7 @@ impl State {
             (watched self.old.capacity entry self.old.journal.entries) watch.new }
     {
         let number = self.journal.len() + 1;
-        watch.entered(number, &entry);
+        watch.entered(number, &entry, act, &self.relay);
         let route = self.play(number, act, watch);
         let stamp = self.stamps.next(&entry, given);
         self.stamps.push(stamp);

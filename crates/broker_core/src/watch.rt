@@ -24,9 +24,11 @@ pub trait Watch {
     /// The watcher before, what it is told, and a watcher that may follow.
     ghost may_follow: { Self → Watched → Self → Type 0 };
 
-    /// The entry with the number.
-    fn entered(&mut self, number: u32, entry: &Entry)
-        ensures { may_follow self.old (Entered number entry.now) self.new };
+    /// The entry with the number, and the act that it is, which the relay is about to take: it stands
+    /// for the acts before.
+    fn entered(&mut self, number: u32, entry: &Entry, act: &Act, relay: &Relay)
+        ensures { (log : List Act) → StandsFor relay.now log →
+            may_follow self.old (Entered number entry.now act.now log) self.new };
 
     /// Where the shell shows a popup, in pixels of the screen from the top left corner
     /// (`zwp_input_popup_surface_v2`): by the number of its peer, and its id there.
@@ -50,7 +52,7 @@ pub trait Watch {
 impl Watch for () {
     ghost may_follow = { λ before event after. Unit {0} };
 
-    fn entered(&mut self, _number: u32, _entry: &Entry) {}
+    fn entered(&mut self, _number: u32, _entry: &Entry, _act: &Act, _relay: &Relay) {}
 
     fn placed(&mut self, _number: u32, _peer: u32, _id: u32, _x: i64, _y: i64) {}
 

@@ -40,7 +40,7 @@ puts_to q events = flat_map (put_to q) events
 
 -- it is no entry
 abbrev pub IsInner : Watched → Type 0
-IsInner (Entered n e) = ⊥
+IsInner (Entered n e act log) = ⊥
 IsInner _ = Unit {0}
 
 put_at : (q k : ℕ) (bytes : List ℕ) (g : Gathering) (side : Side) → slice_get g.sides k ≡ Some side →
@@ -66,7 +66,7 @@ put_at (suc p) k bytes g side e =
 
 one_at : (event : Watched) (k : ℕ) (g : Gathering) (side : Side) → IsInner event → slice_get g.sides k ≡ Some side →
     slice_get (gathered event g).sides k ≡ Some (told_side (put_to (suc k) event) side)
-one_at (Entered n e) k g side i is = absurd i
+one_at (Entered n e act log) k g side i is = absurd i
 one_at (Placed n q id x y) k g side i is = is ∙ ap Some (sym (told_none side))
 one_at (Passed n time key state) k g side i is = is ∙ ap Some (sym (told_none side))
 one_at (Modified n mods) k g side i is = is ∙ ap Some (sym (told_none side))
@@ -95,7 +95,7 @@ put_length q bytes g = by (q == 0)
 pub all_length : (events : List Watched) (g : Gathering) → AllByRecursion IsInner events →
     length (all_gathered events g).sides ≡ length g.sides
 all_length [] g i = refl
-all_length (Entered n e ∷ rest) g i = absurd i.0
+all_length (Entered n e act log ∷ rest) g i = absurd i.0
 all_length (Placed n q id x y ∷ rest) g i = all_length rest g i.1
 all_length (Passed n time key state ∷ rest) g i = all_length rest g i.1
 all_length (Modified n mods ∷ rest) g i = all_length rest g i.1
@@ -161,7 +161,7 @@ put_none q p bytes g some none = by (p == 0) refl none
 pub none_put : (events : List Watched) (q : ℕ) (g : Gathering) → (q ≡ 0 → ⊥) → AllByRecursion IsInner events →
     is_gained q (all_gathered events g).gained ≡ false → GotNone q events g
 none_put [] q g some i e = record { before = e; nothing = refl }
-none_put (Entered n x ∷ rest) q g some i e = absurd i.0
+none_put (Entered n x act log ∷ rest) q g some i e = absurd i.0
 none_put (Placed n p id x y ∷ rest) q g some i e =
     (let r = none_put rest q g some i.1 e in record { before = r.before; nothing = r.nothing })
 none_put (Passed n time key state ∷ rest) q g some i e =

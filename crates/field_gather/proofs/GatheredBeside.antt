@@ -9,8 +9,8 @@ use Rattle.broker_model.specs.declared.journal.Entry.{Entry}
 use Rattle.broker_model.specs.declared.journal.Entry.TheVariants as entries
 use Rattle.broker_model.specs.Ids.{Joined, peer_in}
 use Rattle.broker_model.specs.Groups.{followed_by, nothing}
-use Rattle.broker_model.specs.Out.{Outgoing, stored, group_at, took_at, fits, before_group, out_for}
-use Rattle.broker_model.specs.Resolve.{past_of}
+use Rattle.broker_model.specs.Out.{Outgoing, act_at, stored, group_at, took_at, fits, before_group, out_for}
+use Rattle.broker_model.specs.Resolve.{past_of, resolve}
 use Rattle.broker_core.specs.Watched.{Watched, watched, watched_since, told_of}
 use Rattle.broker_core.specs.Watched.Watched.{Entered}
 use Rattle.broker_core.proofs.NewLabels.{unborn}
@@ -77,7 +77,8 @@ join_side capacity sent older role peer side none same fresh =
     }))
 
 entered : (capacity : ℕ) (sent : ℕ → List ℕ) (e : Entry) (older : List Entry) (g : Gathering) →
-    IsGathered capacity sent older g → IsEntered capacity sent e older (gathered (Entered (length older + 1) e) g)
+    IsGathered capacity sent older g → IsEntered capacity sent e older
+    (gathered (Entered (length older + 1) e (act_at e older) (resolve older)) g)
 entered capacity sent (entries.Join role) older g f =
     let joined : List Joined = (past_of older).joined in
     let peer : Joined = record { label = length older + 1; role = role } in
@@ -243,7 +244,7 @@ entry_beside capacity sent e older g h f r e-whole =
     record {
       whole = all.whole;
       gathered =
-          told_all capacity sent e older (gathered (Entered (length older + 1) e) g) h
+          told_all capacity sent e older (gathered (Entered (length older + 1) e (act_at e older) (resolve older)) g) h
           (entered capacity sent e older g (f all.whole)) all.is;
     }
 

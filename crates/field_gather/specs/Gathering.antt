@@ -58,7 +58,7 @@ gathered_for q bytes g =
 
 -- with what is watched: who joins, and what is put
 abbrev pub gathered : Watched → Gathering → Gathering
-gathered (Entered n (Join role)) g = record g { sides = g.sides ++ fresh_side role ∷ [] }
+gathered (Entered n (Join role) act log) g = record g { sides = g.sides ++ fresh_side role ∷ [] }
 gathered (Put n q bytes tokens) g = gathered_for q bytes g
 gathered _ g = g
 

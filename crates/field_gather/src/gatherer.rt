@@ -6,7 +6,8 @@ use crate::gained::{gain, least_above, lose};
 use crate::side::{Side, hear_side, is_app_at, join_side, tell_side};
 use broker_core::{Entry, Watch};
 use field_streams::HearEnd;
-use relay_model::Mods;
+use relay_core::Relay;
+use relay_model::{Act, Mods};
 use std::alloc::Global;
 use std::marker::Model;
 use wio_core::NoMemory;
@@ -135,7 +136,7 @@ impl Watch for Gatherer {
 
     ghost may_follow = { MayGather };
 
-    fn entered(&mut self, _number: u32, entry: &Entry) {
+    fn entered(&mut self, _number: u32, entry: &Entry, _act: &Act, _relay: &Relay) {
         if let Entry::Join(role) = entry {
             if self.is_short {
                 return;

@@ -68,7 +68,7 @@ entry_sum count e older =
     let peers = numbered 1 past.joined in
     let shell = shown_by n past.made peers (told (act_at e older) (resolve older)) in
     let groups = flat_map (out_put limits.store e older) peers in
-    let first = sum_by-cons (of_put count) (Entered n e) (shell ++ groups) in
+    let first = sum_by-cons (of_put count) (Entered n e (act_at e older) (resolve older)) (shell ++ groups) in
     let both = sum_by-append (of_put count) shell groups in
     let none = shown_none_by count n past.made peers (told (act_at e older) (resolve older)) in
     omega arith

@@ -53,7 +53,7 @@ dones_raised = record { raises = by }
     by : (event : Watched) (t : Tally) → t.dones ≤ 2 ^ 64 - 1 →
         (tallied event t).dones ≡ raised t.dones (of_put field_dones event)
     by (Put n q bytes tokens) t l = refl
-    by (Entered n e) t l = omega arith
+    by (Entered n e act log) t l = omega arith
     by (Placed n q id x y) t l = omega arith
     by (Passed n time key state) t l = omega arith
     by (Modified n mods) t l = omega arith
@@ -64,7 +64,7 @@ activates_raised = record { raises = by }
     by : (event : Watched) (t : Tally) → t.activates ≤ 2 ^ 64 - 1 →
         (tallied event t).activates ≡ raised t.activates (of_put activates event)
     by (Put n q bytes tokens) t l = refl
-    by (Entered n e) t l = omega arith
+    by (Entered n e act log) t l = omega arith
     by (Placed n q id x y) t l = omega arith
     by (Passed n time key state) t l = omega arith
     by (Modified n mods) t l = omega arith
@@ -75,7 +75,7 @@ method_dones_raised = record { raises = by }
     by : (event : Watched) (t : Tally) → t.method_dones ≤ 2 ^ 64 - 1 →
         (tallied event t).method_dones ≡ raised t.method_dones (of_put method_dones event)
     by (Put n q bytes tokens) t l = refl
-    by (Entered n e) t l = omega arith
+    by (Entered n e act log) t l = omega arith
     by (Placed n q id x y) t l = omega arith
     by (Passed n time key state) t l = omega arith
     by (Modified n mods) t l = omega arith
@@ -86,7 +86,7 @@ queued_raised = record { raises = by }
     by : (event : Watched) (t : Tally) → t.queued ≤ 2 ^ 64 - 1 →
         (tallied event t).queued ≡ raised t.queued (of_put all_bytes event)
     by (Put n q bytes tokens) t l = refl
-    by (Entered n e) t l = omega arith
+    by (Entered n e act log) t l = omega arith
     by (Placed n q id x y) t l = omega arith
     by (Passed n time key state) t l = omega arith
     by (Modified n mods) t l = omega arith

@@ -5,7 +5,8 @@ ghost use Rattle.gen_run.specs.Counts.{field_dones, activates};
 
 use crate::events::events_in;
 use broker_core::{Entry, Watch};
-use relay_model::Mods;
+use relay_core::Relay;
+use relay_model::{Act, Mods};
 
 /// The peer that has the input method, and the input method's id there.
 const METHOD_PEER: u32 = 5;
@@ -87,7 +88,7 @@ impl Watch for Tally {
 
     ghost may_follow = { MayTally };
 
-    fn entered(&mut self, _number: u32, _entry: &Entry) {}
+    fn entered(&mut self, _number: u32, _entry: &Entry, _act: &Act, _relay: &Relay) {}
 
     fn placed(&mut self, _number: u32, _peer: u32, _id: u32, _x: i64, _y: i64) {}
 

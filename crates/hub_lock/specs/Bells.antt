@@ -13,7 +13,7 @@ bell q = q % 64
 -- the bell of the peer that one thing is for: a group that was put for it, or its end
 abbrev pub bell_of : Watched → Option ℕ
 bell_of (Put n q bytes tokens) = Some (bell q)
-bell_of (Entered n (End q cause)) = Some (bell q)
+bell_of (Entered n (End q cause) act log) = Some (bell q)
 bell_of _ = None
 
 -- one of these things is for a peer with this bell

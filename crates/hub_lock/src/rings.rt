@@ -5,7 +5,8 @@ ghost use Rattle.hub_lock.specs.Bells.{bell};
 
 use broker_core::Watch;
 use broker_model::Entry;
-use relay_model::Mods;
+use relay_core::Relay;
+use relay_model::{Act, Mods};
 
 /// How many bells there are. Peers share a bell whose numbers are the same modulo this.
 pub(crate) const BELLS: u32 = 64;
@@ -38,7 +39,7 @@ impl Watch for Rings {
 
     ghost may_follow = { IsRungBy };
 
-    fn entered(&mut self, _number: u32, entry: &Entry) {
+    fn entered(&mut self, _number: u32, entry: &Entry, _act: &Act, _relay: &Relay) {
         if let Entry::End { peer, .. } = entry {
             self.ring(*peer);
         }

@@ -49,7 +49,7 @@ shell_lines (Modified n mods) = with_feed (vmods_line n mods)
 shell_lines _ = []
 
 abbrev IsInner : Watched → Type 0
-IsInner (Entered n e) = ⊥
+IsInner (Entered n e act log) = ⊥
 IsInner _ = Unit {0}
 
 abbrev with_lines : List ℕ → List ℕ → Printing → Printing
@@ -57,7 +57,7 @@ with_lines groups shell p = record p { text = p.text ++ groups; shell = p.shell 
 
 one_inner : (event : Watched) (p : Printing) → IsInner event →
     printed event p ≡ with_lines (group_lines event) (shell_lines event) p
-one_inner (Entered n e) p i = absurd i
+one_inner (Entered n e act log) p i = absurd i
 one_inner (Placed n q id x y) p i =
     ap (λ (t : List ℕ). record p { text = t; shell = p.shell ++ with_feed (placed_line n q id x y) })
     (sym (append-nil p.text))
@@ -197,7 +197,7 @@ entry_full head groups shell p =
 pub entry_printed : (capacity : ℕ) (e : Entry) (older : List Entry) (p : Printing) →
     full (all_printed (watched capacity e older) p) ≡ full p ++ entry_text capacity e older
 entry_printed capacity e older p =
-    let begun : Printing = printed (Entered (length older + 1) e) p in
+    let begun : Printing = printed (Entered (length older + 1) e (act_at e older) (resolve older)) p in
     let prints = told_prints capacity e older in
     let head = head_text (length older + 1) e in
     ap full

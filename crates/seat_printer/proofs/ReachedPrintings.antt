@@ -24,7 +24,7 @@ front_front : (a b c : List ℕ) → IsFront a b → IsFront b c → IsFront a c
 front_front a b c h k = (h.0 ++ k.0, sym (append_assoc a h.0 k.0) ∙ ap (λ (l : List ℕ). l ++ k.0) h.1 ∙ k.1)
 
 one_grows : (event : Watched) (p : Printing) → IsFront p.text (printed event p).text
-one_grows (Entered n e) p = (p.shell ++ head_text n e, refl)
+one_grows (Entered n e act log) p = (p.shell ++ head_text n e, refl)
 one_grows (Placed n q id x y) p = front_self p.text
 one_grows (Passed n time key state) p = front_self p.text
 one_grows (Modified n mods) p = front_self p.text
@@ -37,7 +37,7 @@ all_grow (event ∷ rest) p =
     (all_grow rest (printed event p))
 
 stays_unshort : (event : Watched) (p : Printing) → (printed event p).is_short ≡ p.is_short
-stays_unshort (Entered n e) p = refl
+stays_unshort (Entered n e act log) p = refl
 stays_unshort (Placed n q id x y) p = refl
 stays_unshort (Passed n time key state) p = refl
 stays_unshort (Modified n mods) p = refl

@@ -21,7 +21,8 @@ closed p = record p { text = p.text ++ p.shell; shell = [] }
 
 -- with what is watched, where there is memory for it
 abbrev pub printed : Watched → Printing → Printing
-printed (Entered n e) p = record p { text = p.text ++ (p.shell ++ head_text n e); shell = [] }
+printed (Entered n e act log) p =
+    record p { text = p.text ++ (p.shell ++ head_text n e); shell = [] }
 printed (Placed n q id x y) p = record p { shell = p.shell ++ with_feed (placed_line n q id x y) }
 printed (Passed n time key state) p =
     record p { shell = p.shell ++ with_feed (pass_line n time key state) }

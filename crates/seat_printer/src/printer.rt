@@ -8,7 +8,8 @@ ghost use Rattle.seat_printer.specs.Transcribed.{with_feed, head_text, text_sinc
 ghost use Rattle.seat_printer.specs.Printed.{MayPrint, blank, closed, IsFront};
 
 use broker_core::{Entry, Watch};
-use relay_model::Mods;
+use relay_core::Relay;
+use relay_model::{Act, Mods};
 use std::alloc::Global;
 use std::marker::Model;
 use transcript_text::{write_ended, write_out, write_pass, write_placed, write_took, write_vmods};
@@ -207,7 +208,7 @@ impl Watch for Printer {
 
     ghost may_follow = { MayPrint };
 
-    fn entered(&mut self, number: u32, entry: &Entry) {
+    fn entered(&mut self, number: u32, entry: &Entry, _act: &Act, _relay: &Relay) {
         if self.is_short {
             return;
         }

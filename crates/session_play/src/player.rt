@@ -4,6 +4,7 @@ ghost use Rattle.session_play.specs.Playing.{end_with};
 
 use crate::session::{Session, Stop};
 use broker_core::{Journal, Kept, StampList, Watch};
+use relay_core::Relay;
 use seat_printer::Printer;
 use seat_steps::{Limits, Stamp};
 use session_text::SessionLine;
@@ -68,6 +69,8 @@ impl Player {
     ghost use Rattle.seat_steps.specs.Ranges.{IsLimits};
     ghost use Rattle.session_text.specs.Steps.{IsSessionLine};
     ghost use Rattle.session_text.specs.declared.line.SessionLine.TheVariants as lines;
+    ghost use Rattle.relay_core.specs.Stands.{StandsFor};
+    ghost use Rattle.broker_model.specs.Resolve.{past_of, resolve};
     ghost use Rattle.broker_model.specs.Settle.{history, outer};
     ghost use Rattle.broker_model.specs.Stamps.{stamps, step_stamps};
     ghost use Rattle.session_play.specs.Played.{line_played};
@@ -231,6 +234,20 @@ impl Player {
         ensures number { result ≡ length self.now.play.journal }
     {
         self.session.journal().len()
+    }
+
+    /// How many peers joined, alive or not. Their numbers go from 1.
+    pub fn peers(&self) -> u32
+        ensures { result ≡ length (past_of self.now.play.journal).joined }
+    {
+        self.session.shared.peers()
+    }
+
+    /// The relay of the seat, as it stands after what was played.
+    pub fn relay(&self) -> &Relay
+        ensures { StandsFor result.now (resolve self.now.play.journal) }
+    {
+        self.session.shared.relay()
     }
 
     /// What was played, also after an error. It is the history of its outer steps. Fewer than 256

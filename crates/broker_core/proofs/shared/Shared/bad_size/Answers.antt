@@ -45,7 +45,8 @@ pub returns-in_err-bad_size-clause-watched : goal.returns-in_err-bad_size-clause
 returns-in_err-bad_size-clause-watched g c =
     refused_watched g.W.Watch.may_follow c.self.inside.limits c.args.self.now c.self.inside.state c.bad_size.new.self
     c.args.watch.now c.bad_size.new.watch
-    c.self.view_is c.in_err-bad_size.ensures.err c.in_err-bad_size.ensures.unstamped c.bad_size.ensures.kept c.in_err-bad_size.ensures.unwatched
+    c.self.view_is c.in_err-bad_size.ensures.err c.in_err-bad_size.ensures.unstamped c.bad_size.ensures.kept
+    c.in_err-bad_size.ensures.unwatched
 
 pub returns-clause-watched : goal.returns-clause-watched
 returns-clause-watched g c =

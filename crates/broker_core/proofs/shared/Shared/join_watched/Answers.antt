@@ -11,7 +11,8 @@ use Rattle.broker_core.proofs.shared.Shared.join_watched.Goals as goal
 pub invariant_of-self : goal.invariant_of-self
 invariant_of-self g c =
     stays_as c.self.inside.limits c.self.inside.state c.join.new.self c.self.invariant c.in_default-join.ensures.stands
-    c.in_default-join.ensures.capacity c.in_default-join.ensures.err c.in_default-join.ensures.unstamped c.join.ensures.kept
+    c.in_default-join.ensures.capacity c.in_default-join.ensures.err c.in_default-join.ensures.unstamped
+    c.join.ensures.kept
 
 pub returns-in_default-join-clause-err : goal.returns-in_default-join-clause-err
 returns-in_default-join-clause-err g c =
@@ -31,7 +32,8 @@ invariant_of-self-2 g c =
     (within_join c.self.inside.limits c.args.role c.self.inside.state few place)
     (stepped e c.args.stamp c.self.inside.state c.join.new.self c.settle.new.self refl c.in-Ok.ensures.capacity
     c.in-Ok.ensures.ok c.in-Ok.ensures.stamped c.settle.ensures.stands
-    c.settle.ensures.capacity c.settle.ensures.settled c.settle.ensures.stamped c.join.ensures.kept c.settle.ensures.kept)
+    c.settle.ensures.capacity c.settle.ensures.settled c.settle.ensures.stamped c.join.ensures.kept
+    c.settle.ensures.kept)
 
 pub returns-clause-ok : goal.returns-clause-ok
 returns-clause-ok g c =
@@ -40,7 +42,8 @@ returns-clause-ok g c =
     c.self.invariant
     (stepped e c.args.stamp c.self.inside.state c.join.new.self c.settle.new.self refl c.in-Ok.ensures.capacity
     c.in-Ok.ensures.ok c.in-Ok.ensures.stamped c.settle.ensures.stands
-    c.settle.ensures.capacity c.settle.ensures.settled c.settle.ensures.stamped c.join.ensures.kept c.settle.ensures.kept)
+    c.settle.ensures.capacity c.settle.ensures.settled c.settle.ensures.stamped c.join.ensures.kept
+    c.settle.ensures.kept)
 
 pub returns-clause-number : goal.returns-clause-number
 returns-clause-number g c =
@@ -56,7 +59,8 @@ pub returns-in_default-join-clause-watched : goal.returns-in_default-join-clause
 returns-in_default-join-clause-watched g c =
     refused_watched g.W.Watch.may_follow c.self.inside.limits c.args.self.now c.self.inside.state c.join.new.self
     c.args.watch.now c.join.new.watch
-    c.self.view_is c.in_default-join.ensures.err c.in_default-join.ensures.unstamped c.join.ensures.kept c.in_default-join.ensures.unwatched
+    c.self.view_is c.in_default-join.ensures.err c.in_default-join.ensures.unstamped c.join.ensures.kept
+    c.in_default-join.ensures.unwatched
 
 pub returns-clause-watched : goal.returns-clause-watched
 returns-clause-watched g c =

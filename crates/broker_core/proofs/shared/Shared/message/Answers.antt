@@ -45,7 +45,8 @@ pub returns-in_err-message-clause-watched : goal.returns-in_err-message-clause-w
 returns-in_err-message-clause-watched g c =
     refused_watched g.W.Watch.may_follow c.self.inside.limits c.args.self.now c.self.inside.state c.message.new.self
     c.args.watch.now c.message.new.watch
-    c.self.view_is c.in_err-message.ensures.err c.in_err-message.ensures.unstamped c.message.ensures.kept c.in_err-message.ensures.unwatched
+    c.self.view_is c.in_err-message.ensures.err c.in_err-message.ensures.unstamped c.message.ensures.kept
+    c.in_err-message.ensures.unwatched
 
 pub returns-clause-watched : goal.returns-clause-watched
 returns-clause-watched g c =

@@ -34,7 +34,8 @@ pub returns-in_err-route-clause-watched : goal.returns-in_err-route-clause-watch
 returns-in_err-route-clause-watched g c =
     refused_watched g.W.Watch.may_follow c.self.inside.limits c.args.self.now c.self.inside.state c.shell.new.self
     c.args.watch.now c.shell.new.watch
-    c.self.view_is c.in_err-route.ensures.err c.in_err-route.ensures.unstamped c.shell.ensures.kept c.in_err-route.ensures.unwatched
+    c.self.view_is c.in_err-route.ensures.err c.in_err-route.ensures.unstamped c.shell.ensures.kept
+    c.in_err-route.ensures.unwatched
 
 pub returns-clause-watched : goal.returns-clause-watched
 returns-clause-watched g c =

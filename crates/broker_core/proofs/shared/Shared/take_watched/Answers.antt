@@ -10,7 +10,8 @@ use Rattle.broker_core.proofs.shared.Shared.take_watched.Goals as goal
 pub invariant_of-self : goal.invariant_of-self
 invariant_of-self g c =
     stays_as c.self.inside.limits c.self.inside.state c.take.new.self c.self.invariant c.in_default-take.ensures.stands
-    c.in_default-take.ensures.capacity c.in_default-take.ensures.err c.in_default-take.ensures.unstamped c.take.ensures.kept
+    c.in_default-take.ensures.capacity c.in_default-take.ensures.err c.in_default-take.ensures.unstamped
+    c.take.ensures.kept
 
 pub returns-in_default-take-clause-same : goal.returns-in_default-take-clause-same
 returns-in_default-take-clause-same g c =
@@ -38,7 +39,8 @@ pub returns-in_default-take-clause-watched : goal.returns-in_default-take-clause
 returns-in_default-take-clause-watched g c =
     refused_watched g.W.Watch.may_follow c.self.inside.limits c.args.self.now c.self.inside.state c.take.new.self
     c.args.watch.now c.take.new.watch
-    c.self.view_is c.in_default-take.ensures.err c.in_default-take.ensures.unstamped c.take.ensures.kept c.in_default-take.ensures.unwatched
+    c.self.view_is c.in_default-take.ensures.err c.in_default-take.ensures.unstamped c.take.ensures.kept
+    c.in_default-take.ensures.unwatched
 
 pub returns-clause-watched : goal.returns-clause-watched
 returns-clause-watched g c =

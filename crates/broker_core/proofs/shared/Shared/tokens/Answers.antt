@@ -42,7 +42,8 @@ pub returns-in_err-tokens-clause-watched : goal.returns-in_err-tokens-clause-wat
 returns-in_err-tokens-clause-watched g c =
     refused_watched g.W.Watch.may_follow c.self.inside.limits c.args.self.now c.self.inside.state c.tokens.new.self
     c.args.watch.now c.tokens.new.watch
-    c.self.view_is c.in_err-tokens.ensures.err c.in_err-tokens.ensures.unstamped c.tokens.ensures.kept c.in_err-tokens.ensures.unwatched
+    c.self.view_is c.in_err-tokens.ensures.err c.in_err-tokens.ensures.unstamped c.tokens.ensures.kept
+    c.in_err-tokens.ensures.unwatched
 
 pub returns-clause-watched : goal.returns-clause-watched
 returns-clause-watched g c =

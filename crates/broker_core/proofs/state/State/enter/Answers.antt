@@ -65,7 +65,9 @@ returns-clause-watched g c =
     (subst (λ (a : Act). Reached R mid (told_live (c.len-number.result + 1) made live (told a log)) after) act
     (c.play-route.ensures.watched log c.requires.ready.relayed shorts)) in (
       mid,
-      subst (λ (m : ℕ). R c.args.watch.now (Entered (m + 1) e) mid) number c.entered.ensures,
+      subst (λ (m : ℕ). R c.args.watch.now (Entered (m + 1) e (act_at e s.journal.entries) log) mid) number
+          (subst (λ (a : Act). R c.args.watch.now (Entered (c.len-number.result + 1) e a log) mid) act
+          (c.entered.ensures log c.requires.ready.relayed)),
       subst (λ (events : List Watched). Reached R mid events after) (told_is_watched e s c.requires.ready) by_number,
     )
 
