@@ -142,7 +142,8 @@ relayed_at log true (Some x) (Some g) (Some j) f count k = at (nat_le x j) log g
 pub relayed_fresh : RelayedFresh
 relayed_fresh acts m s f count =
     let log = history acts in
-    let both = relayed_at log (is_at (serving log) m) (begun log) (holder log) (named log m s) f count (served acts m) in (
+    let both = relayed_at log (is_at (serving log) m) (begun log) (holder log) (named log m s) f count
+    (served acts m) in (
       λ e. let p = both.0 e in record { fresh = p.0; holds = p.1; counts = p.2 },
       λ r. both.1 (r.fresh, r.holds, r.counts),
     )

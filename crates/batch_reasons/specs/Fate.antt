@@ -13,7 +13,8 @@ use Rattle.batch_reasons.specs.declared.fate.BatchFate.TheVariants.{Relayed, Unr
 -- by the act that began the activation and the done that is named, where the field f holds the seat
 abbrev pub named_fate : ℕ → Option ℕ → ℕ → ℕ → BatchFate
 named_fate b None f count = Unrelayed NamesNoDone
-named_fate b (Some n) f count = (if nat_le b n then Relayed f count else Unrelayed EarlierActivation)
+named_fate b (Some n) f count =
+    (if nat_le b n then Relayed f count else Unrelayed EarlierActivation)
 
 -- of the serving method, by the act that began the present activation and the holder; there are
 -- both or none

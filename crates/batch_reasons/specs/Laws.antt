@@ -22,7 +22,8 @@ ActivationLaw =
 abbrev pub ReasonsHold : Type 0
 ReasonsHold =
     (acts : List Act) (m serial : ℕ) (why : Reason) →
-    (fate (history acts) m serial ≡ Unrelayed why) ↔ (reason_holds why (history acts) m serial ≡ true)
+    (fate (history acts) m serial ≡ Unrelayed why) ↔
+    (reason_holds why (history acts) m serial ≡ true)
 
 -- the batch is relayed to f with that count
 pub record IsRelayed (log : List Act) (m serial f count : ℕ) : Type 0 where

@@ -66,7 +66,8 @@ impl<T: Typist> MethodClient<T> {
             self.new ≡ record self.old { state = state }) }
         ensures log { (first : T) (log : List Happening) (sent : List ℕ) →
             HasLog T.meanings first log sent self.old.state →
-            OnOk result (HasLog T.meanings first (committed (batch_of batch.now) ∷ log) sent self.new.state) }
+            OnOk result (HasLog T.meanings first
+            (committed (batch_of batch.now) ∷ log) sent self.new.state) }
         ensures err { OnErr result (self.new ≡ self.old) }
     {
         let room = BATCH_ROOM + batch.string.len() + batch.preedit.len();
@@ -84,7 +85,8 @@ impl<T: Typist> MethodClient<T> {
     /// client is given no descriptors, so a keymap is such an event. After `NoMemory` the client is
     /// as before.
     pub fn receive(&mut self, piece: &[u8]) -> Result<(), ClientFault>
-        ensures ok { OnOk result (Accepts method_objects (after_event T.meanings) self.old self.new piece.now) }
+        ensures ok { OnOk result (Accepts method_objects
+            (after_event T.meanings) self.old self.new piece.now) }
         ensures bad { result ≡ Err ClientFault.BadEvent → self.old.is_bad ≡ false
             → Refuses method_objects (after_event T.meanings) self.old self.new piece.now }
         ensures log { (first : T) (log : List Happening) (sent : List ℕ) →
@@ -104,7 +106,8 @@ impl<T: Typist> MethodClient<T> {
         piece: &[u8],
         hearer: &mut H,
     ) -> Result<(), ClientFault>
-        ensures ok { OnOk result (Accepts method_objects (after_event T.meanings) self.old self.new piece.now) }
+        ensures ok { OnOk result (Accepts method_objects
+            (after_event T.meanings) self.old self.new piece.now) }
         ensures bad { result ≡ Err ClientFault.BadEvent → self.old.is_bad ≡ false
             → Refuses method_objects (after_event T.meanings) self.old self.new piece.now }
         ensures log { (first : T) (log : List Happening) (sent : List ℕ) →
@@ -113,13 +116,16 @@ impl<T: Typist> MethodClient<T> {
         ensures again { self.old.is_bad ≡ true → result ≡ Err ClientFault.BadEvent }
         ensures stays_bad { self.old.is_bad ≡ true → self.new ≡ self.old }
         ensures no_memory { result ≡ Err ClientFault.NoMemory → self.new ≡ self.old }
-        ensures heard { (rest : List ℕ) × Hears method_objects (after_event T.meanings) came H.may_follow
+        ensures heard { (rest : List ℕ) × Hears method_objects
+            (after_event T.meanings) came H.may_follow
             self.old.state self.new.state (self.old.held ++ piece.now) rest hearer.old hearer.new }
         ensures heard_all { OnOk result
-            (Hears method_objects (after_event T.meanings) came H.may_follow self.old.state self.new.state
+            (Hears method_objects (after_event T.meanings) came H.may_follow self.old.state
+            self.new.state
             (self.old.held ++ piece.now) self.new.held hearer.old hearer.new) }
         ensures heard_wrong { result ≡ Err ClientFault.BadEvent → self.old.is_bad ≡ false →
-            HearsWrong method_objects (after_event T.meanings) came H.may_follow self.old.state self.new.state
+            HearsWrong method_objects (after_event T.meanings) came H.may_follow self.old.state
+            self.new.state
             (self.old.held ++ piece.now) hearer.old hearer.new }
         ensures hears_no_more { self.old.is_bad ≡ true → hearer.new ≡ hearer.old }
         ensures unheard { result ≡ Err ClientFault.NoMemory → hearer.new ≡ hearer.old }

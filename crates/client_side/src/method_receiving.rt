@@ -64,15 +64,19 @@ fn take_events<T: Typist, H: MethodHearer>(
         (drop n bytes.now)
         × IsPartial (drop n bytes.now)) }
     ensures wrong { IfNone result
-        (GoesWrong method_objects (after_event T.meanings) state.old.state state.new.state bytes.now) }
+        (GoesWrong method_objects (after_event T.meanings) state.old.state state.new.state
+        bytes.now) }
     ensures fits { IfNone result (IsBytes bytes.now) }
-    ensures heard { (rest : List ℕ) × Hears method_objects (after_event T.meanings) came H.may_follow
+    ensures heard { (rest : List ℕ) × Hears method_objects
+        (after_event T.meanings) came H.may_follow
         state.old.state state.new.state bytes.now rest hearer.old hearer.new }
     ensures heard_all { IfSome result (λ n.
-        Hears method_objects (after_event T.meanings) came H.may_follow state.old.state state.new.state
+        Hears method_objects (after_event T.meanings) came H.may_follow state.old.state
+        state.new.state
         bytes.now (drop n bytes.now) hearer.old hearer.new) }
     ensures heard_wrong { IfNone result
-        (HearsWrong method_objects (after_event T.meanings) came H.may_follow state.old.state state.new.state
+        (HearsWrong method_objects (after_event T.meanings) came H.may_follow state.old.state
+        state.new.state
         bytes.now hearer.old hearer.new) }
 {
     let mut at = 0;
@@ -130,20 +134,25 @@ pub(crate) fn take_held<T: Typist, H: MethodHearer>(
 ) -> bool
     requires { 1029 * vec_len held.old ≤ state.old.room }
     ensures taken { OnTrue result
-        (Takes method_objects (after_event T.meanings) state.old.state state.new.state held.old.items
+        (Takes method_objects (after_event T.meanings) state.old.state state.new.state
+        held.old.items
         held.new.items) }
     ensures part { OnTrue result (IsPartial held.new.items) }
     ensures kept { OnFalse result (held.new.items ≡ held.old.items) }
     ensures fits { OnFalse result (IsBytes held.new.items) }
     ensures wrong { OnFalse result
-        (GoesWrong method_objects (after_event T.meanings) state.old.state state.new.state held.old.items) }
-    ensures heard { (rest : List ℕ) × Hears method_objects (after_event T.meanings) came H.may_follow
+        (GoesWrong method_objects (after_event T.meanings) state.old.state state.new.state
+        held.old.items) }
+    ensures heard { (rest : List ℕ) × Hears method_objects
+        (after_event T.meanings) came H.may_follow
         state.old.state state.new.state held.old.items rest hearer.old hearer.new }
     ensures heard_all { OnTrue result
-        (Hears method_objects (after_event T.meanings) came H.may_follow state.old.state state.new.state
+        (Hears method_objects (after_event T.meanings) came H.may_follow state.old.state
+        state.new.state
         held.old.items held.new.items hearer.old hearer.new) }
     ensures heard_wrong { OnFalse result
-        (HearsWrong method_objects (after_event T.meanings) came H.may_follow state.old.state state.new.state
+        (HearsWrong method_objects (after_event T.meanings) came H.may_follow state.old.state
+        state.new.state
         held.old.items hearer.old hearer.new) }
 {
     let Some(taken) = take_events(state, held, hearer) else {

@@ -89,7 +89,8 @@ impl DictMethod {
         ensures value { option_copied result ≡
             option_map (λ w. w.text) (candidate self.now.dict.words self.now.code n) }
         ensures after { (t : Table) (d : Dictionary) (log : List Input) → IsAfter t d log self.now →
-            option_copied result ≡ option_map (λ w. w.text) (candidate d.words (code_of t d log) n) }
+            option_copied result ≡ option_map (λ w. w.text)
+            (candidate d.words (code_of t d log) n) }
     {
         self.dict.candidate(&self.code, n)
     }
@@ -210,7 +211,8 @@ impl DictMethod {
     // String and preedit of the last batch.
     fn batch(&self) -> (&str, &str)
         ensures texts { (result.0.now ≡ self.now.string) × (result.1.now ≡ self.now.preedit) }
-        ensures fits { (length result.0.now ≤ MAX_KEY_TEXT) × (length result.1.now ≤ MAX_CODE_TEXT) }
+        ensures fits { (length result.0.now ≤ MAX_KEY_TEXT) ×
+            (length result.1.now ≤ MAX_CODE_TEXT) }
         ensures clean { IsTrue (has_no_zero result.0.now) × IsTrue (has_no_zero result.1.now) }
     {
         (self.string.as_str(), self.preedit.as_str())

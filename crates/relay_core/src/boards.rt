@@ -84,7 +84,8 @@ impl Boards {
     // The board is given a keymap, if it lives.
     fn give_keymap(&mut self, board: Label)
         ensures { (v : ℕ) → live_board (kept self.new) v
-            ≡ (if board == v then with_keymap (live_board (kept self.old) v) else live_board (kept self.old) v) }
+            ≡ (if board == v then with_keymap (live_board (kept self.old) v)
+            else live_board (kept self.old) v) }
     {
         if self.lives(board) {
             self.keys.keymap(board);
@@ -134,7 +135,8 @@ impl Boards {
 
     // The boards of the peer end.
     fn drop_peer(&mut self, peer: Label)
-        ensures { (v : ℕ) → live_board (kept self.new) v ≡ unless_of peer (live_board (kept self.old) v) }
+        ensures { (v : ℕ) → live_board (kept self.new) v
+            ≡ unless_of peer (live_board (kept self.old) v) }
     {
         self.keys.drop_peer(peer);
     }

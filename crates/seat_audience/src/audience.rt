@@ -55,7 +55,8 @@ impl Audience {
         requires accepted { IfSome (slice_get self.old.live.items place)
             (λ l. IfSome meaning.now.made (λ new. refusal_of l.table new.id ≡ None)) }
         ensures changed { OnOk result (IsChangedAt place id label meaning.now.takes_token
-            meaning.now.act (option_map asked meaning.now.made) self.old.live.items self.new.live.items) }
+            meaning.now.act (option_map asked meaning.now.made)
+            self.old.live.items self.new.live.items) }
         ensures made { IfSome (slice_get self.old.live.items place)
             (λ l. OnOk result (self.new.directory.made ≡ made_new l.label label
             (option_map asked meaning.now.made) ++ self.old.directory.made)) }

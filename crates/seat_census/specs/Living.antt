@@ -62,7 +62,7 @@ crowds limits ls (Some l) =
     else nat_le limits.objects
     (count_by (λ (o : Living). (o.peer == l.peer) && not o.is_peer) ls))
 
--- the same by the history: what is made is a peer where so many are alive as may be, or an object of a peer that has so many
+-- the same by the history: a peer where so many are alive as may be, or an object of a peer that has so many
 abbrev pub over_for : SeatLimits → List Act → Option Object → Bool
 over_for limits log None = false
 over_for limits log (Some o) =

@@ -47,7 +47,8 @@ events-preserved g c =
 pub returns-then-not-take_message-clause-heard_wrong : goal.returns-then-not-take_message-clause-heard_wrong
 returns-then-not-take_message-clause-heard_wrong g c =
     let told = c.if-not-take_message.ensures in
-    then_wrong method_objects (after_event g.T.Typist.meanings) came g.H.MethodHearer.may_follow _ _ _ c.args.bytes.now _ _ _ _
+    then_wrong method_objects (after_event g.T.Typist.meanings) came g.H.MethodHearer.may_follow _ _ _ c.args.bytes.now
+    _ _ _ _
     c.events.invariant.3 told.unchanged told.unheard
     (none_spelled method_objects c.args.bytes.now _ c.events.at c.in-Whole.size _ _ _ c.split_at.ensures.back
     c.in-Whole.ensures.front told.refused)

@@ -19,7 +19,8 @@ returns-clause-takes c = λ log waits s.
     let wait : c.self.inside.queue.heard ≡ waits = ap (λ (v : Seat). v.heard) c.self.view_is ∙ s.queue in
     let census = c.play.new.census in
     let new : Seat =
-    record { relay = c.play.new.relay; heard = c.play.new.queue.heard; limits = census.limits; living = census.living } in
+    record { relay = c.play.new.relay; heard = c.play.new.queue.heard; limits = census.limits; living = census.living }
+    in
     elim c.match-play.branch [
       | in-Ok w ↦
           (let counted = c.acts-number.ensures.length log before in
@@ -44,7 +45,8 @@ returns-clause-counts c = λ log waits s same.
     let was : c.self.inside.census.living ≡ living (history log) = ap (λ (v : Seat). v.living) c.self.view_is ∙ same in
     let census = c.play.new.census in
     let new : Seat =
-    record { relay = c.play.new.relay; heard = c.play.new.queue.heard; limits = census.limits; living = census.living } in
+    record { relay = c.play.new.relay; heard = c.play.new.queue.heard; limits = census.limits; living = census.living }
+    in
     let counted = c.acts-number.ensures.length log before in
     let long = length_history log in
     let number : c.acts-number.result + 1 ≡ next (history log) = omega (arith, counted, long) in
