@@ -46,7 +46,7 @@ no_method m serial log None i = refl
 no_method m serial log (Some s) i = rw (no_notice m serial log i) refl
 
 -- a fresh batch tells its group to the holder, and nothing else
-fresh_told : (act : Act) (log : List Act) (f : ℕ) → IsHistory log → fresh act log ≡ true → holder log ≡ Some f →
+pub fresh_told : (act : Act) (log : List Act) (f : ℕ) → IsHistory log → fresh act log ≡ true → holder log ≡ Some f →
     told_by act log ≡ map (to f) (group_of act log f)
 fresh_told (acts.MCommit m serial) log f i h e =
     rw (no_method m serial log (serving (acts.MCommit m serial ∷ log)) i, h, e) refl
@@ -58,12 +58,12 @@ group_alone : (made : List Made) (p f : ℕ) (m : Made) (events : List Said) →
 group_alone made p f m [] e k = refl
 group_alone made p f m (event ∷ rest) e k = rw (e, eq-eqb m.peer p k, group_alone made p f m rest e k) refl
 
-both : (a b : Bool) → (a && b) ≡ true → (a ≡ true) × (b ≡ true)
+pub both : (a b : Bool) → (a && b) ≡ true → (a ≡ true) × (b ≡ true)
 both true true h = (refl, refl)
 both true false h = cc
 both false b h = cc
 
-at_is : (o : Option ℕ) (f : ℕ) → is_at o f ≡ true → o ≡ Some f
+pub at_is : (o : Option ℕ) (f : ℕ) → is_at o f ≡ true → o ≡ Some f
 at_is None f e = cc
 at_is (Some g) f e = ap Some (eqb-true g f e)
 

@@ -12,3 +12,4 @@ pub mod MessagesTold
 pub mod MessagesPut
 pub mod AllHeard
 pub mod BoardsTold
+pub mod BatchesAreRelayed

@@ -1,3 +1,4 @@
 pub mod Sayable
 pub mod ToldRead
 pub mod BoardsApart
+pub mod BatchesTold

@@ -2,6 +2,7 @@
 //! do nothing: the laws are the contracts.
 #![tactic(auto)]
 
+ghost use Rattle.told_law.specs.BatchesTold.{BatchesAreRelayed};
 ghost use Rattle.told_law.specs.BoardsApart.{BoardsAreApart};
 ghost use Rattle.told_law.specs.ToldRead.{ActsAreSayable, ToldIsWritable, ToldToItsKind};
 ghost use Rattle.told_law.specs.ToldRead.{WritableIsRead, ToldIsRead, AllIsHeard};
@@ -34,6 +35,14 @@ pub fn told_is_writable()
 /// So what an entry tells to an object is read as an event of that object.
 pub fn told_is_read()
     ensures { ToldIsRead }
+{}
+
+/// What acts tell an object of edits of a text, and of the dones that end batches, are the whole batches
+/// that are relayed to it, in order and once each, and nothing else: for every list of acts, whoever
+/// gives them, and every object.
+#[tactic(auto, using(crate::proofs::BatchesAreRelayed::batches_relayed))]
+pub fn batches_are_relayed()
+    ensures { BatchesAreRelayed }
 {}
 
 /// The board law, for every journal: a key of a virtual keyboard is told where its route leads, its
