@@ -1,12 +1,13 @@
 /*
- * wlim: the text-input and input-method relay of one Wayland seat, for a compositor.
+ * wlim: the text-input and input-method relay of one Wayland seat, for a compositor; and for who has its clients' bytes and
+ * no Wayland library the whole broker, by the functions wlim_broker_..
  *
  * You own the wire, the clients and the loop. The seat is told what happens (acts), each by one call, and says what each
  * object is to be told (events), which wlim_next hands out one at a time, in order. It makes no system call, starts no
  * thread, keeps no pointer of yours and calls nothing of yours but malloc, realloc and free.
  *
- * Proved: after any calls, the events that wlim_next handed out and those that wait are all that the acts tell by the
- * rules of docs/MODEL.md, in order. docs/EMBEDDING.md says how a compositor uses it, and what is trusted.
+ * Proved: each call keeps that the events which wlim_next handed out and those that wait are all that the acts tell by
+ * the rules of docs/MODEL.md, in order. docs/EMBEDDING.md says how a compositor uses it, and what is trusted.
  *
  * An act that does something has a number, from 1; the number of the act that made an object is its label, and is never
  * used anew. Label 0 is the shell, which is you. An act on a label that isn't alive or is of another kind does nothing.
@@ -53,12 +54,12 @@ enum {
 	WLIM_GIVEN = 1,      /* of wlim_next: an event was handed out */
 	WLIM_NOTHING = 0,    /* the act does nothing; of wlim_next: no event waits */
 	WLIM_NO_MEMORY = -1, /* there is no memory */
-	WLIM_FULL = -2,      /* the seat took 4,294,967,295 acts: close it and open another */
+	WLIM_FULL = -2,      /* the seat took 4,294,967,295 acts, or the broker's journal is full: close it and open another */
 	WLIM_LONG = -3,      /* the text has more than 4,083 bytes, or 4,075 beside two numbers */
 	WLIM_NO_TEXT = -4,   /* the bytes are no UTF-8, or one of them is zero */
-	WLIM_CLOSED = -5,    /* no seat is open */
+	WLIM_CLOSED = -5,    /* no seat is open, or no broker */
 	WLIM_SHORT = -6,     /* of wlim_next: there is no room for the event's text and the zero behind it */
-	WLIM_MANY = -7,      /* it makes one too many: a client or an object beyond what wlim_open allows */
+	WLIM_MANY = -7,      /* it makes one too many: a client or an object beyond what wlim_open allows, or a 65th peer */
 };
 
 /*
@@ -258,6 +259,178 @@ bool wlim_look(struct wlim *seat, struct wlim_shown *shown);
 
 /* Your number of a label, as of the surface of WLIM_ENTER; 0 where it has none, or no seat is open. */
 uint64_t wlim_number(struct wlim *seat, uint32_t label);
+
+/*
+ * ==== By bytes: all peers of one seat, for who has their bytes and no Wayland library ====
+ *
+ * A broker reads the bytes that its peers send, however cut, and keeps what each is to be sent. Peers are numbered from 1
+ * in the order in which they join; a peer's objects have the ids that it gave them. Each call that tells the broker
+ * something has a moment, in a unit of yours, which never falls (a lesser one counts as the last).
+ *
+ * A step that is taken may end peers besides: one whose message was refused (WLIM_BAD), one whose store had no room for a
+ * whole group of events (WLIM_OVER). So after a call ask wlim_broker_ready, and wlim_broker_standing of each peer that you
+ * have a link of. What was stored of a peer that ended can still be taken; of one whose message was refused its
+ * wl_display.error is the last, where it fitted.
+ */
+
+/*
+ * A broker, or none. All zero is none: `struct wlim_broker broker = {0};`. As with struct wlim, don't copy or move it
+ * while it is open, and call the functions for one broker from one thread at a time.
+ */
+struct wlim_broker {
+	bool live;
+	void *place;
+};
+
+/* What is answered besides WLIM_GIVEN (it is done), WLIM_NOTHING, WLIM_NO_MEMORY, WLIM_FULL, WLIM_CLOSED, WLIM_SHORT and
+ * WLIM_MANY. Below 0 all is as before, but where a function says otherwise. */
+enum {
+	WLIM_TO_GRAB = 2,  /* of a key: it went to a grab, as an event of the grab's peer */
+	WLIM_PASSED = 3,   /* of a key: no grab has it, send it to the focused surface */
+	WLIM_NOWHERE = 4,  /* of a key: the grab that had its press doesn't stand any more */
+	WLIM_TOO_MANY = 5, /* of a key: 64 others are down, and the press is refused */
+	WLIM_MISSED = 6,   /* of wlim_broker_next: no event waits, and some are lost, since 1,024 waited. It is said once */
+	WLIM_RANGE = -8,   /* a number is out of its range */
+	WLIM_NOBODY = -9,  /* no peer has the number */
+	WLIM_ENDED = -10,  /* the peer has ended: wlim_broker_standing says why */
+};
+
+/* Opens a broker whose peers have a store of so many bytes each, 1 to 1,048,576 (65,536 is enough for most), whose journal
+ * may have so many entries, 1 to 4,000,000, and weigh so much, 1 to 536,870,912. One that is open is closed before.
+ * WLIM_GIVEN; WLIM_RANGE, WLIM_NO_MEMORY: none is open then. */
+int64_t wlim_broker_open(struct wlim_broker *broker, uint32_t store, uint32_t entries, uint64_t weight);
+
+/* Closes the broker, and gives back all its memory. What isn't open stays so. */
+void wlim_broker_close(struct wlim_broker *broker);
+
+/* What a peer is offered (wl_registry.global). */
+enum wlim_role {
+	WLIM_APP = 1,    /* wl_compositor (name 1), wl_seat (2), zwp_text_input_manager_v3 (3) */
+	WLIM_METHOD = 2, /* wl_compositor (1), wl_seat (2), zwp_input_method_manager_v2 (4) */
+	WLIM_KEYED = 3,  /* as a method, and zwp_virtual_keyboard_manager_v1 (5) */
+};
+
+/* A peer joins. Above 0 its number. WLIM_MANY: 64 are alive. WLIM_FULL, WLIM_NO_MEMORY; WLIM_RANGE: no such role. */
+int64_t wlim_broker_join(struct wlim_broker *broker, uint64_t moment, uint32_t role);
+
+/*
+ * Bytes of a peer, as they come: any number, cut anywhere; and the tokens of the descriptors that came with them, at most
+ * 256, numbers of yours. The tokens wait for the messages that take them, then each message that the bytes complete is a
+ * step; what isn't whole waits for more.
+ *
+ * WLIM_GIVEN: all steps were taken, the last of which may have ended the peer. WLIM_ENDED: the peer had ended, or did by a
+ * step before the last; the rest says nothing. WLIM_FULL, WLIM_NO_MEMORY: the first steps were taken, and the peer has
+ * ended (WLIM_GONE), since its bytes can't be read on: close its link. WLIM_NOBODY; WLIM_RANGE: more than 256 tokens.
+ */
+int64_t wlim_broker_receive(struct wlim_broker *broker, uint64_t moment, uint32_t peer, const uint8_t *bytes, size_t length,
+	const uint32_t *tokens, size_t count);
+
+/* The peer's link has ended; it ends, and all its objects. WLIM_GIVEN; WLIM_ENDED: it had ended; WLIM_NOBODY. */
+int64_t wlim_broker_gone(struct wlim_broker *broker, uint64_t moment, uint32_t peer);
+
+struct wlim_taken {
+	size_t bytes;  /* how many bytes were taken */
+	size_t tokens; /* how many tokens came with them */
+};
+
+/*
+ * Takes of what is stored for the peer, alive or ended: the first bytes, as many as fit, at most 4,096 at once, and the
+ * tokens whose messages begin in them. There must be room for 1 byte and places for 256 tokens: else WLIM_SHORT.
+ *
+ * WLIM_GIVEN: some were taken, and `taken` says how many; in all other cases nothing is written. WLIM_NOTHING: nothing is
+ * stored yet. WLIM_ENDED: nothing is stored, and the peer has ended, so that its link can be closed. WLIM_FULL,
+ * WLIM_NO_MEMORY, WLIM_NOBODY.
+ */
+int64_t wlim_broker_take(struct wlim_broker *broker, uint64_t moment, uint32_t peer, uint8_t *bytes, size_t room,
+	uint32_t *tokens, size_t places, struct wlim_taken *taken);
+
+/* ---- How it stands; the broker stays as it is ---- */
+
+/* How a peer stands. */
+enum wlim_standing {
+	WLIM_ALIVE = 1,
+	WLIM_GONE = 2, /* its link ended, or there was no memory or room in the journal for what it sent */
+	WLIM_BAD = 3,  /* its last message was refused */
+	WLIM_OVER = 4, /* a group of events did not fit its store */
+};
+
+/* One of wlim_standing; WLIM_NOBODY. */
+int64_t wlim_broker_standing(struct wlim_broker *broker, uint32_t peer);
+
+/* How many bytes are stored for the peer, alive or ended; WLIM_NOBODY. */
+int64_t wlim_broker_stored(struct wlim_broker *broker, uint32_t peer);
+
+/* The lowest number of a peer above `after` for which bytes are stored; 0 where there is none. */
+int64_t wlim_broker_ready(struct wlim_broker *broker, uint32_t after);
+
+/* How many peers joined, alive or not. */
+int64_t wlim_broker_peers(struct wlim_broker *broker);
+
+/* Above 0 where a grab stands, to which the modifiers of the seat's keyboard go; 0 where they are for the focused
+ * surface. */
+int64_t wlim_broker_grab(struct wlim_broker *broker);
+
+struct wlim_used {
+	uint32_t entries; /* how many entries were counted: of joins, messages, tokens, what you say, what is taken */
+	uint64_t weight;  /* what they weigh: 16 each, a message the bytes of its arguments besides, tokens 4 each besides */
+};
+
+/* Writes how much of what wlim_broker_open allows is used up. At its end a broker takes no more (WLIM_FULL): before it,
+ * open a second one, and have its peers join there. WLIM_GIVEN. */
+int64_t wlim_broker_used(struct wlim_broker *broker, struct wlim_used *used);
+
+/*
+ * ---- What you say: each WLIM_GIVEN, or WLIM_FULL, WLIM_NO_MEMORY, WLIM_RANGE with all as before ----
+ *
+ * A surface is named by its peer and its id there. A name of none does nothing, and is WLIM_GIVEN.
+ */
+
+/* The keyboard focus goes to a surface (wl_keyboard.enter). */
+int64_t wlim_broker_focus(struct wlim_broker *broker, uint64_t moment, uint32_t peer, uint32_t id);
+
+/* The keyboard focus goes away. */
+int64_t wlim_broker_unfocus(struct wlim_broker *broker, uint64_t moment);
+
+/* Where a surface stands on the screen, in pixels; WLIM_RANGE where its size is negative. */
+int64_t wlim_broker_area(struct wlim_broker *broker, uint64_t moment, uint32_t peer, uint32_t id, int32_t x, int32_t y,
+	int32_t width, int32_t height);
+
+/* How large the screen is, in pixels; WLIM_RANGE where it is negative. */
+int64_t wlim_broker_screen(struct wlim_broker *broker, uint64_t moment, int32_t width, int32_t height);
+
+/* A key of the seat's keyboard: state 0 is released, 1 pressed, another WLIM_RANGE; time in milliseconds. In place of
+ * WLIM_GIVEN it is WLIM_TO_GRAB, WLIM_PASSED, WLIM_NOWHERE or WLIM_TOO_MANY. */
+int64_t wlim_broker_key(struct wlim_broker *broker, uint64_t moment, uint32_t time, uint32_t key, uint32_t state);
+
+/* The modifiers of the seat's keyboard. While a grab stands they go to it; else send them to the focused surface. */
+int64_t wlim_broker_mods(struct wlim_broker *broker, uint64_t moment, uint32_t depressed, uint32_t latched, uint32_t locked,
+	uint32_t group);
+
+/* The keymap of the seat's keyboard. The token is a number of yours, and comes back with wlim_broker_take. */
+int64_t wlim_broker_keymap(struct wlim_broker *broker, uint64_t moment, uint32_t format, uint32_t token, uint32_t size);
+
+/* How keys repeat: how many a second, and after how many milliseconds. */
+int64_t wlim_broker_repeat(struct wlim_broker *broker, uint64_t moment, int32_t rate, int32_t delay);
+
+/*
+ * ---- What you are told ----
+ *
+ * Keys and modifiers of a method's virtual keyboard that no grab has, for the focused surface, and where popups stand.
+ */
+struct wlim_told {
+	uint32_t kind;   /* WLIM_PASS, WLIM_PLACED, WLIM_VMODS */
+	uint32_t peer;   /* whose message told it: its peer; 0 where none did, as with a key of the seat's keyboard */
+	uint32_t id;     /* to which object the message went, as a virtual keyboard: its id there; 0 where none told it */
+	uint32_t first;  /* WLIM_PASS: the time;  WLIM_PLACED: the popup's peer; WLIM_VMODS: depressed */
+	uint32_t second; /* WLIM_PASS: the key;   WLIM_PLACED: its id there;     WLIM_VMODS: latched */
+	int64_t third;   /* WLIM_PASS: its state; WLIM_PLACED: x;                WLIM_VMODS: locked */
+	int64_t fourth;  /*                       WLIM_PLACED: y;                WLIM_VMODS: the group */
+};
+
+/* Hands out what you were told and waits longest: WLIM_GIVEN. Else WLIM_NOTHING or WLIM_MISSED, and nothing is written. A
+ * key of the seat's keyboard that passes is told here as WLIM_PASS too, in order with the others, of peer 0: send it once,
+ * by the answer or by this. */
+int64_t wlim_broker_next(struct wlim_broker *broker, struct wlim_told *told);
 
 #ifdef __cplusplus
 }

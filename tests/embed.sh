@@ -1,7 +1,7 @@
 #!/usr/bin/env bash
-# Builds the act player in C over out/libwlim, and holds what it prints against the program, over the worked rows and lists
-# made from numbers; again with the address sanitizer and under valgrind. Then what C and a client can do wrong
-# (tests/embed_bad.c). `make build` and `make libwlim` come before.
+# Builds the players in C over out/libwlim, of acts and of sessions by bytes, and holds what they print against the
+# program, over the worked rows, the examples, and lists and sessions made from numbers; again with the address sanitizer
+# and under valgrind. Then what C and a client can do wrong (tests/embed_bad.c). `make build` and `make libwlim` come before.
 #
 #   tests/embed.sh PROGRAM [LISTS]
 set -e
@@ -21,6 +21,12 @@ tests/embed.py "$program" "$made/play_acts" "$lists"
 tests/embed.py "$program" "$made/play_acts_checked" 100
 tests/embed.py "$program" "$made/play_acts_shared" 20
 tests/embed.py "$program" "valgrind -q --leak-check=full --error-exitcode=9 $made/play_acts" 20
+by_bytes=examples/embed/play_session.c
+${CC:-cc} $flags -D_DEFAULT_SOURCE -o "$made/play_session" "$by_bytes" "$library"
+${CC:-cc} $flags -D_DEFAULT_SOURCE -fsanitize=address,undefined -o "$made/play_session_checked" "$by_bytes" "$library"
+tests/embed_bytes.py "$program" "$made/play_session" 20
+tests/embed_bytes.py "$program" "$made/play_session_checked" 5
+tests/embed_bytes.py "$program" "valgrind -q --leak-check=full --error-exitcode=9 $made/play_session" 1
 bad="-Wl,--wrap=malloc,--wrap=realloc,--wrap=free tests/embed_bad.c"
 ${CC:-cc} $flags -o "$made/bad" $bad "$library"
 ${CC:-cc} $flags -fsanitize=address,undefined -o "$made/bad_checked" $bad "$library"

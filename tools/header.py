@@ -13,7 +13,15 @@ import sys
 
 TOP = os.path.dirname(os.path.dirname(os.path.abspath(__file__)))
 IN_C = {"u32": "uint32_t", "i32": "int32_t", "u64": "uint64_t", "i64": "int64_t", "usize": "size_t", "bool": "bool"}
-STRUCTS = {"Wlim": "wlim", "Given": "wlim_event", "Shown": "wlim_shown", "Batch": "wlim_batch"}
+STRUCTS = {
+    "Wlim": "wlim", "Given": "wlim_event", "Shown": "wlim_shown", "Batch": "wlim_batch",
+    "WlimBroker": "wlim_broker", "Taken": "wlim_taken", "Told": "wlim_told", "Used": "wlim_used",
+}
+# A text is of characters, other bytes are numbers.
+SLICES = {
+    "&[u8]": "const {} *{}, size_t length", "&mut [u8]": "{} *{}, size_t room",
+    "&[u32]": "const {} *{}, size_t count", "&mut [u32]": "{} *{}, size_t places",
+}
 
 
 def read(path):
@@ -25,10 +33,9 @@ def parameters_in_c(name, kind):
     """The parameters in C of one parameter of an export."""
     if kind == "Global":
         return []
-    if kind == "&[u8]":
-        return [f"const char *{name}", "size_t length"]
-    if kind == "&mut [u8]":
-        return [f"char *{name}", "size_t room"]
+    if kind in SLICES:
+        element = "uint32_t" if "u32" in kind else "char" if name == "text" else "uint8_t"
+        return SLICES[kind].format(element, name).split(", ")
     if kind.startswith("&mut "):
         return [f"struct {STRUCTS[kind[5:]]} *{name}"]
     return [f"{IN_C[kind]} {name}"]
@@ -81,6 +88,7 @@ def main():
     header = re.sub(r"/\*.*?\*/", "", read("include/wlim.h"), flags=re.S)
     ours, theirs = exports(), prototypes(header)
     values = constants("crates/wlim_c/src/answer.rt", "i64") | constants("crates/relay_seat/src/event.rt", "u32")
+    values |= constants("crates/wlim_c/src/codes.rt", "u32")
     version = int(re.search(r"fn wlim_version\(\) -> u32\s+ensures { result ≡ (\d+) }", read("crates/wlim_c/src/readers.rt")).group(1))
     sides = [
         ("functions", ours, theirs),
@@ -90,6 +98,8 @@ def main():
          fields_in_c(header, "wlim_event")),
         ("struct wlim_shown", fields("crates/wlim_c/src/readers.rt", "Shown"), fields_in_c(header, "wlim_shown")),
         ("struct wlim_batch", fields("crates/wlim_c/src/batches.rt", "Batch"), fields_in_c(header, "wlim_batch")),
+        *[(f"struct {STRUCTS[name]}", fields(f"crates/wlim_c/src/{file}.rt", name), fields_in_c(header, STRUCTS[name]))
+          for file, name in [("broker_peers", "Taken"), ("broker_told", "Told"), ("broker_looks", "Used")]],
         ("version", version, int(re.search(r"#define WLIM_VERSION (\d+)", header).group(1))),
     ]
     if len(sys.argv) > 1:

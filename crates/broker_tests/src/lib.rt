@@ -7,6 +7,8 @@ mod broker_core_tests;
 #[cfg(test)]
 mod broker_model_tests;
 #[cfg(test)]
+mod byte_seat_tests;
+#[cfg(test)]
 mod equal;
 #[cfg(test)]
 mod seat_audience_tests;

@@ -1,5 +1,5 @@
 -- The way through a piece of bytes, step by step.
-use Rattle.std.proofs.Common.{◌≡◌, ℕ, List, [], ◌∷◌, ◌++◌, drop, Some, None, Ok, Err, refl, ap, sym, subst, ◌∙◌, append_assoc, append-nil, inl, inr}
+use Rattle.std.proofs.Common.{◌≡◌, ℕ, List, [], ◌∷◌, ◌++◌, drop, refl, ap, sym, subst, ◌∙◌, append_assoc, inl, inr}
 use Rattle.std.specs.Prelude.{Result}
 use Rattle.wl_wire.specs.Messages.{id_of, opcode_of, body_of, behind}
 use Rattle.wl_wire.specs.Streams.{Assembly, begun, bytes_of}
@@ -10,7 +10,7 @@ use Rattle.broker_core.specs.declared.answers.Refused.{Refused}
 use Rattle.broker_core.specs.Broker.{Broker}
 use Rattle.step_cutter.specs.Steps.{steps_in}
 use Rattle.step_cutter.specs.Cuts.{IsFirst, IsUnfinished, IsLast}
-use Rattle.byte_seat.specs.Steps.{all_done, not_done, led, Leads, Plays, Leaves, Reads, TookFirst, GoesOn}
+use Rattle.byte_seat.specs.Steps.{all_done, not_done, led, Leads, Plays, Leaves, TookFirst}
 use Rattle.byte_seat.proofs.StepsLead.{led_on, plays_on, plays_stops}
 
 -- what was taken so far, and that what is left gives the rest

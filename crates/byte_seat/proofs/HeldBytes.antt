@@ -1,5 +1,5 @@
 -- What waits of peers' bytes where nothing changes.
-use Rattle.std.proofs.Common.{◌≡◌, ℕ, List, Bool, true, false, Err, refl, ap, sym, subst, ◌∙◌}
+use Rattle.std.proofs.Common.{◌≡◌, ℕ, List, Bool, true, false, refl, ap, sym, subst, ◌∙◌}
 use Rattle.std.specs.Prelude.{cond, nat_eq}
 use Rattle.std.proofs.lemmas.Bool.{eqb-true}
 use Rattle.broker_core.specs.declared.answers.Refused.{Refused}
@@ -15,7 +15,8 @@ pub keeps_none : (old new : Held) (q : ℕ) (bytes : List ℕ) (why : Refused) �
     Keeps old new q bytes (not_done why)
 keeps_none old new q bytes why is = record {
   left = waiting old q;
-  held = subst (λ (h : Held). WaitsAt old h q (waiting old q)) (sym is) (λ other. same_at old q other (nat_eq q other) refl);
+  held = subst (λ (h : Held). WaitsAt old h q (waiting old q)) (sym is)
+      (λ other. same_at old q other (nat_eq q other) refl);
   reads = tt;
 }
 

@@ -2,3 +2,4 @@ pub mod StepsLead
 pub mod WatchedOn
 pub mod BytesOnWay
 pub mod HeldBytes
+pub mod StoppedPeers

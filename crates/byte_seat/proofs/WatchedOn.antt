@@ -8,7 +8,7 @@ use Rattle.broker_core.specs.declared.answers.Took.TheVariants as took
 use Rattle.seat_objects.specs.Reached.{Reached}
 use Rattle.seat_objects.proofs.TellsAppend.{reached_append}
 use Rattle.broker_model.specs.declared.journal.Entry.{Entry}
-use Rattle.broker_model.specs.Settle.{number_alive, settle}
+use Rattle.broker_model.specs.Settle.{number_alive}
 use Rattle.broker_core.specs.Broker.{Broker, with_step, letting_go, IsWatched, IfBytes, IfNoBytes}
 use Rattle.broker_core.specs.Watched.{Watched, watched_since}
 use Rattle.broker_core.proofs.WatchedSince.{since_none, since_append, settled_more}
@@ -34,8 +34,8 @@ heard_none b ears = record {
 }
 
 -- one step
-pub heard_step : (e : Entry) (given : Stamp) (b after : Broker) (ears ears_after : Waits) → after ≡ with_step e given b →
-    IsWatched Hears b ears after ears_after → Hearing b ears after ears_after
+pub heard_step : (e : Entry) (given : Stamp) (b after : Broker) (ears ears_after : Waits) →
+    after ≡ with_step e given b → IsWatched Hears b ears after ears_after → Hearing b ears after ears_after
 heard_step e given b after ears ears_after is told =
     let m = settled_more b.limits.store (number_alive (e ∷ b.journal)) (e ∷ b.journal) in
     record {
@@ -65,8 +65,8 @@ heard_both a b c u v w h k =
     ≡ watched_since store (length a.journal) b.journal ++ watched_since store (length b.journal) c.journal =
     ap (watched_since store (length a.journal)) k.grew.is
     ∙ since_append store (length a.journal) k.grew.more b.journal (omega arith)
-    ∙ ap (λ (l : List Entry). watched_since store (length a.journal) b.journal ++ watched_since store (length b.journal) l)
-    (sym k.grew.is) in
+    ∙ ap (λ (l : List Entry). watched_since store (length a.journal) b.journal
+    ++ watched_since store (length b.journal) l) (sym k.grew.is) in
     let later : Reached Hears v (watched_since store (length b.journal) c.journal) w =
     subst (λ n. Reached Hears v (watched_since n (length b.journal) c.journal) w)
     (ap (λ l. l.store) h.limits) k.told in
@@ -85,9 +85,9 @@ heard_gone a b n after u v is h = subst (λ (x : Broker). Hearing a u x v) (sym 
     (record { limits = h.limits; grew = record { more = h.grew.more; is = h.grew.is }; told = h.told })
 
 -- by what a call answered
-pub heard_by : {T E : Type 0} (r : Result T E) (e : Entry) (given : Stamp) (b after : Broker) (ears ears_after : Waits) →
-    OnOk r (after ≡ with_step e given b) → OnErr r (after ≡ b) → IsWatched Hears b ears after ears_after →
-    Hearing b ears after ears_after
+pub heard_by : {T E : Type 0} (r : Result T E) (e : Entry) (given : Stamp) (b after : Broker)
+    (ears ears_after : Waits) → OnOk r (after ≡ with_step e given b) → OnErr r (after ≡ b) →
+    IsWatched Hears b ears after ears_after → Hearing b ears after ears_after
 heard_by (Ok x) e given b after ears ears_after ok err told = heard_step e given b after ears ears_after ok told
 heard_by (Err x) e given b after ears ears_after ok err told = heard_same b after ears ears_after err told
 
@@ -114,6 +114,7 @@ took_gone (took.JournalFull kept) q given b mid after ok is = tt
 took_gone took.NoMemory q given b mid after ok is = tt
 
 -- and then all entries are let go
-pub heard_let : (a b after : Broker) (u v w : Waits) → after ≡ all_gone b → w ≡ v → Hearing a u b v → Hearing a u after w
+pub heard_let : (a b after : Broker) (u v w : Waits) → after ≡ all_gone b → w ≡ v → Hearing a u b v →
+    Hearing a u after w
 heard_let a b after u v w is same h =
     subst (λ (x : Waits). Hearing a u after x) (sym same) (heard_gone a b (length b.journal) after u v is h)

@@ -17,6 +17,7 @@ pub record Waits : Type 0 where
   pub missed : Bool
   pub from : Sender
 
+-- of what no message told
 abbrev pub nobody : Sender
 nobody = record { peer = 0; id = 0 }
 
@@ -37,7 +38,7 @@ Gains old event new =
 
 -- what is watched is told to the shell, if it is for it, with the sender of the entry before it
 abbrev pub Hears : Waits → Watched → Waits → Type 0
-Hears old (Entered n e) new = new ≡ record old { from = sender_of e }
+Hears old (Entered n e act log) new = new ≡ record old { from = sender_of e }
 Hears old (Placed n peer id x y) new = Gains old (shell.Placed peer id x y) new
 Hears old (Passed n time key state) new = Gains old (shell.Passed old.from time key state) new
 Hears old (Modified n mods) new = Gains old (shell.Modified old.from mods) new

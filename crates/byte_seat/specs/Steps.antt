@@ -16,6 +16,7 @@ pub record Led : Type 0 where
   pub broker : Broker
   pub refused : Option Refused
 
+-- no further than here, where a step is refused
 abbrev pub unless_refused : Option Refused → Broker → Led → Led
 unless_refused None b next = next
 unless_refused (Some why) b next = record { broker = b; refused = Some why }
@@ -31,8 +32,8 @@ led q given (e ∷ rest) b =
 abbrev pub Leads : ℕ → Stamp → List Entry → Broker → Broker → Type 0
 Leads q given steps b after = led q given steps b ≡ record { broker = after; refused = None }
 
--- All steps were taken. Or the first of them, and the next was refused for this reason. Or the first
--- of them, and then there was no memory.
+-- All steps were taken. Or the first of them, and the next was refused for this reason. Or the
+-- first of them, and then there was no memory.
 abbrev pub Plays : {T : Type 0} → ℕ → Stamp → List Entry → Broker → Result T Refused → Broker →
     Type 0
 Plays q given steps b (Ok done) after = Leads q given steps b after
@@ -42,10 +43,11 @@ Plays q given steps b (Err refused.NoMemory) after =
 Plays q given steps b (Err why) after =
     led q given steps b ≡ record { broker = after; refused = Some why }
 
--- the answers that all was done, and why not
+-- the answer that all was done
 abbrev pub all_done : Result (Unit {0}) Refused
 all_done = Ok tt
 
+-- the answer why not
 abbrev pub not_done : Refused → Result (Unit {0}) Refused
 not_done why = Err why
 

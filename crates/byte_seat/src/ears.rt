@@ -5,7 +5,8 @@ ghost use Rattle.byte_seat.specs.Ears.{Gains, Hands, nothing_heard, sender_of};
 
 use broker_core::{Entry, Watch};
 use circular_buffer::HeapCircularBuffer;
-use relay_model::Mods;
+use relay_core::Relay;
+use relay_model::{Act, Mods};
 use std::alloc::Global;
 use std::marker::Model;
 use wio_core::NoMemory;
@@ -16,31 +17,40 @@ const MOST_EVENTS: usize = 1024;
 /// What the shell is told beside what is stored for its clients.
 #[derive(Clone, Copy, Debug, PartialEq, Eq)]
 pub enum ShellEvent {
-    /// Where a popup stands, in pixels of the screen from the top left corner (`zwp_input_popup_surface_v2`): by the
-    /// number of its peer, and its id there.
+    /// Where a popup stands (`zwp_input_popup_surface_v2`).
     Placed {
+        /// The number of its peer.
         peer: u32,
+        /// Its id there.
         id: u32,
+        /// How many pixels of the screen it stands right of the top left corner.
         x: i64,
+        /// How many below.
         y: i64,
     },
-    /// A key that no grab has, for the focused surface (`wl_keyboard.key`), its time in milliseconds: one of the seat's
+    /// A key that no grab has, for the focused surface (`wl_keyboard.key`): one of the seat's
     /// keyboard, or of a method's own.
     Passed {
+        /// Whose message it was.
         from: Sender,
+        /// When, in milliseconds from any moment.
         time: u32,
+        /// The key's number on the keyboard, as Linux's evdev counts them.
         key: u32,
+        /// 0 where it was released, 1 where it was pressed.
         state: u32,
     },
     /// Modifiers of a method's own keyboard that no grab has (`zwp_virtual_keyboard_v1.modifiers`).
     Modified {
+        /// Whose message it was.
         from: Sender,
+        /// How the modifiers stand, by the keyboard's own keymap.
         mods: Mods,
     },
 }
 
-/// Whose message told something: its peer, and the object that it went to, as a virtual keyboard. Both are 0 where it was
-/// no message, as with a key of the seat's keyboard.
+/// Whose message told something: its peer, and the object that it went to, as a virtual keyboard.
+/// Both are 0 where it was no message, as with a key of the seat's keyboard.
 #[derive(Clone, Copy, Debug, PartialEq, Eq)]
 pub struct Sender {
     /// The number of the peer.
@@ -138,7 +148,7 @@ impl Watch for Ears {
 
     ghost may_follow = { Hears };
 
-    fn entered(&mut self, _number: u32, entry: &Entry) {
+    fn entered(&mut self, _number: u32, entry: &Entry, _act: &Act, _relay: &Relay) {
         self.from = sender_of(entry);
     }
 

@@ -1,5 +1,5 @@
-//! All peers of a seat for a program that has their bytes: it gives what each sent, however cut, and takes what each is to
-//! be sent. It keeps no journal of what happened.
+//! All peers of a seat for a program that has their bytes: it gives what each sent, however cut, and
+//! takes what each is to be sent. It keeps no journal of what happened.
 #![tactic(auto)]
 
 mod ears;

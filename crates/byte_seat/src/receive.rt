@@ -1,9 +1,10 @@
 //! What a peer sent: its tokens, and the messages that its bytes complete.
-ghost use Rattle.std.specs.Prelude.{◌≡◌, ◌≤◌, ◌++◌, length, IfSome, IfNone, Err};
+ghost use Rattle.std.specs.Prelude.{◌≡◌, ◌≤◌, ◌++◌, [], length, IfSome, IfNone, Err};
 ghost use Rattle.broker_core.specs.Taking.{standing_of};
 ghost use Rattle.step_cutter.specs.Steps.{steps_in};
-ghost use Rattle.byte_seat.specs.Steps.{Plays, Hearing};
-ghost use Rattle.byte_seat.specs.Seated.{Received, Keeps, absent, steps_of, token_steps, waiting};
+ghost use Rattle.byte_seat.specs.Steps.{Plays, Hearing, not_done};
+ghost use Rattle.byte_seat.specs.Seated.{Received, Keeps, WaitsAt, absent, steps_of, token_steps};
+ghost use Rattle.byte_seat.specs.Seated.{HoldsOn, IfStopped, PlaysOrStops, stopping, waiting};
 
 use crate::seat::ByteSeat;
 use crate::steps::{bytes, tokens};
@@ -95,14 +96,60 @@ impl ByteSeat {
         }
     }
 
-    /// Receives what a peer sent: its bytes, however they are cut, and the tokens of the descriptors that came with them,
-    /// at most 256. The tokens wait for the messages that take them; then each message that the bytes complete, and a
-    /// header with a bad size, is a step. What makes no whole message waits for more.
+    // A step of a peer wasn't taken. Where that was for want of memory or room, its bytes can't be
+    // read on, and it ends.
+    fn stop(&mut self, peer: u32, why: Refused, stamp: Stamp) -> Result<(), Refused>
+        ensures why { result ≡ not_done why }
+        ensures broker { self.new.broker ≡ stopping peer stamp result self.old.broker }
+        ensures held { HoldsOn self.old.held self.new.held peer result }
+        ensures hears { Hearing self.old.broker self.old.ears self.new.broker self.new.ears }
+    {
+        match why {
+            Refused::NoMemory => {
+                let _ = self.end(peer, stamp);
+                Err(Refused::NoMemory)
+            }
+            Refused::JournalFull(kept) => {
+                let _ = self.end(peer, stamp);
+                Err(Refused::JournalFull(kept))
+            }
+            Refused::NoPeer => Err(Refused::NoPeer),
+            Refused::Ended(cause) => Err(Refused::Ended(cause)),
+        }
+    }
+
+    // The steps of what a live peer sent, which ends where they can't be read on.
+    fn receive_or_stop(
+        &mut self,
+        peer: u32,
+        piece: &[u8],
+        sent: &[u32],
+        stamp: Stamp,
+    ) -> Result<(), Refused>
+        requires few { length sent.now ≤ 256 }
+        ensures plays { PlaysOrStops peer stamp (steps_of peer (waiting self.old.held peer) piece.now
+            sent.now) self.old.broker result self.new.broker }
+        ensures hears { Hearing self.old.broker self.old.ears self.new.broker self.new.ears }
+        ensures keeps { Keeps self.old.held self.new.held peer
+            (waiting self.old.held peer ++ piece.now) result }
+        ensures stopped { IfStopped result (WaitsAt self.old.held self.new.held peer []) }
+    {
+        match self.receive_steps(peer, piece, sent, stamp) {
+            Ok(()) => Ok(()),
+            Err(why) => self.stop(peer, why, stamp),
+        }
+    }
+
+    /// Receives what a peer sent: its bytes, however they are cut, and the tokens of the descriptors
+    /// that came with them, at most 256. The tokens wait for the messages that take them; then each
+    /// message that the bytes complete, and a header with a bad size, is a step. What makes no whole
+    /// message waits for more.
     ///
-    /// `NoPeer` comes where no peer has the number, and `Ended` where it had ended: all is as before. Else each step is
-    /// taken unless the one before ended the peer (`Ended`), the journal is full for it (`JournalFull`), or there is no
-    /// memory (`NoMemory`); the steps before stay taken. After `JournalFull` and `NoMemory` it isn't
-    /// known how far the bytes were read, so the peer has to go (`gone`).
+    /// `NoPeer` comes where no peer has the number, and `Ended` where it had ended: all is as before.
+    /// Else each step is taken unless the one before ended the peer (`Ended`), the journal is full for
+    /// it (`JournalFull`), or there is no memory (`NoMemory`); the steps before stay taken. After
+    /// `JournalFull` and `NoMemory` nothing more of the peer is read: it ends as if its link had, and
+    /// what was held of its bytes is dropped.
     pub fn receive(
         &mut self,
         peer: u32,
@@ -121,12 +168,13 @@ impl ByteSeat {
         ensures keeps { IfNone (absent (standing_of self.old.broker.journal peer))
             (Keeps self.old.held self.new.held peer (waiting self.old.held peer ++ piece.now)
             result) }
+        ensures stopped { IfStopped result (WaitsAt self.old.held self.new.held peer []) }
         ensures told { Hearing self.old.broker self.old.ears self.new.broker self.new.ears }
     {
         if let Some(why) = self.absence(peer) {
             return Err(why);
         }
-        let answer = self.receive_steps(peer, piece, sent, stamp);
+        let answer = self.receive_or_stop(peer, piece, sent, stamp);
         self.let_go();
         answer
     }

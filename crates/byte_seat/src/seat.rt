@@ -14,9 +14,10 @@ use wio_core::NoMemory;
 /// message yet, and what the shell is told and hasn't asked for.
 ///
 /// Peers have numbers from 1, as they join. Each call that takes a step lets all entries of the
-/// journal go; contracts go on seeing them. What stays in memory besides: some words for each peer
-/// that joined and each object that was made, what is stored for a peer until it is taken, and what
-/// is held of an ended peer's bytes until `gone` is said of it.
+/// journal go; contracts go on seeing them. What grows all the same: a label and an end for each
+/// peer that ever joined, and 16 bytes for each object that was ever made. What is stored for a peer
+/// stays until it is taken, also after its end; what is held of its bytes until its next message is
+/// whole, or until `gone` is said of it.
 #[derive(Drop)]
 pub struct ByteSeat {
     pub(crate) alloc: Global,
@@ -84,8 +85,8 @@ impl ByteSeat {
 
     /// A peer joins. Answers its number: how many joined so far.
     ///
-    /// `TooManyPeers` comes where `MOST_PEERS` are alive, else `JournalFull` where the journal is full for a join, else
-    /// `NoMemory` may come. After each all is as before.
+    /// `TooManyPeers` comes where `MOST_PEERS` are alive, else `JournalFull` where the journal is full
+    /// for a join, else `NoMemory` may come. After each all is as before.
     pub fn join(&mut self, role: Role, stamp: Stamp) -> Result<u32, JoinRefusal>
         ensures refused { IfSome (join_refusal self.old.broker role) (λ why. result ≡ Err why) }
         ensures accepted { IfNone (join_refusal self.old.broker role)
@@ -107,6 +108,26 @@ impl ByteSeat {
         }
     }
 
+    // The end of a peer, and of what was held of its bytes.
+    pub(crate) fn end(&mut self, peer: u32, stamp: Stamp) -> Result<(), Refused>
+        ensures refused { IfSome (refusal self.old.broker (steps.Peer peer peers.Gone)) (λ why.
+            result ≡ Err why) }
+        ensures accepted { IfNone (refusal self.old.broker (steps.Peer peer peers.Gone))
+            (IsOk result) }
+        ensures ok { OnOk result (self.new.broker ≡
+            with_step (entries.End peer Gone) stamp self.old.broker) }
+        ensures err { OnErr result (self.new.broker ≡ self.old.broker) }
+        ensures held { WaitsAt self.old.held self.new.held peer [] }
+        ensures told { Hearing self.old.broker self.old.ears self.new.broker self.new.ears }
+    {
+        let _ = self.held.remove(&peer);
+        let step = Step::Peer(peer, PeerStep::Gone);
+        match self.shared.apply_watched(&step, stamp, &mut self.ears) {
+            Ok(_) => Ok(()),
+            Err(why) => Err(why),
+        }
+    }
+
     /// The link of a peer has ended: it ends, and all its objects, and what was held of its bytes is
     /// dropped. It needs no memory, and room in no journal.
     ///
@@ -123,10 +144,8 @@ impl ByteSeat {
         ensures held { WaitsAt self.old.held self.new.held peer [] }
         ensures told { Hearing self.old.broker self.old.ears self.new.broker self.new.ears }
     {
-        let _ = self.held.remove(&peer);
-        let step = Step::Peer(peer, PeerStep::Gone);
-        match self.shared.apply_watched(&step, stamp, &mut self.ears) {
-            Ok(_) => {
+        match self.end(peer, stamp) {
+            Ok(()) => {
                 self.let_go();
                 Ok(())
             }
@@ -134,10 +153,11 @@ impl ByteSeat {
         }
     }
 
-    /// Something that the shell says. Asks that a key's state is 0 or 1, and that sizes aren't negative. Answers where a
-    /// key went, and none for any other.
+    /// Something that the shell says. Asks that a key's state is 0 or 1, and that sizes aren't
+    /// negative. Answers where a key went, and none for any other.
     ///
-    /// `JournalFull` comes where the journal is full for it, else `NoMemory` may come. After each all is as before.
+    /// `JournalFull` comes where the journal is full for it, else `NoMemory` may come. After each all
+    /// is as before.
     pub fn order(&mut self, step: ShellStep, stamp: Stamp) -> Result<Option<Route>, Refused>
         requires step { IsShellStep step }
         ensures refused { IfSome (refusal self.old.broker (steps.Shell step)) (λ why.
@@ -163,10 +183,12 @@ impl ByteSeat {
         }
     }
 
-    /// The first bytes that are stored for the peer, alive or ended, go into the buffer, as many as fit, and the tokens
-    /// whose messages begin in them beside. Asks for a buffer of 1 to 4,096 bytes and for 256 places of tokens.
+    /// The first bytes that are stored for the peer, alive or ended, go into the buffer, as many as
+    /// fit, and the tokens whose messages begin in them beside. Asks for a buffer of 1 to 4,096 bytes
+    /// and for 256 places of tokens.
     ///
-    /// `NoPeer`, `Closed`, `Empty`, `JournalFull` and `NoMemory` come as with `Shared::take`: after each all is as before.
+    /// `NoPeer`, `Closed`, `Empty`, `JournalFull` and `NoMemory` come as with `Shared::take`: after
+    /// each all is as before.
     pub fn take(&mut self, peer: u32, buf: &mut [u8], tokens: &mut [u32], stamp: Stamp) -> Took
         requires piece { length buf.old ≤ 4096 }
         requires some { 1 ≤ length buf.old }
@@ -226,8 +248,8 @@ impl ByteSeat {
         self.shared.standing(peer)
     }
 
-    /// The grab that stands, to which the modifiers of the seat's keyboard go, as the label of its object; none where they
-    /// go to the focused surface.
+    /// The grab that stands, to which the modifiers of the seat's keyboard go, as the label of its
+    /// object; none where they go to the focused surface.
     pub fn grab(&self) -> Option<Label>
         ensures { result ≡ standing (history (resolve self.now.broker.journal)) }
     {

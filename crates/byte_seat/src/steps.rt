@@ -80,8 +80,8 @@ pub(crate) fn tokens(
     }
 }
 
-// Takes the first step that a piece of a peer's bytes gives, behind those that wait. Answers how many bytes of the piece
-// it ends with, if a message is taken; none where the piece gives no step more.
+// Takes the first step that a piece of a peer's bytes gives, behind those that wait. Answers how many
+// bytes of the piece it ends with, if a message is taken; none where the piece gives no step more.
 fn first(
     shared: &mut Shared,
     ears: &mut Ears,

@@ -11,6 +11,7 @@ use Rattle.relay_seat.specs.Seated.{Seated}
 use Rattle.numbered_seat.specs.Numbers.{Numbered}
 use Rattle.wlim_c.specs.declared.batches.Batch.{Batch}
 
+-- the number by which C is told it
 abbrev pub fate_code : BatchFate → ℤ
 fate_code (Relayed field count) = pos 1
 fate_code (Unrelayed NotServing) = pos 2

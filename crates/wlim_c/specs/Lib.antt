@@ -1,5 +1,12 @@
 pub mod Held
+pub mod HeldBytes
 pub mod Took
 pub mod Gave
 pub mod Shown
 pub mod Fates
+pub mod Codes
+pub mod Called
+pub mod PeersCalled
+pub mod OrdersCalled
+pub mod ToldCalled
+pub mod LooksCalled

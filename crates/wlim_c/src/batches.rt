@@ -45,8 +45,11 @@ fn batch_of(fate: BatchFate) -> Batch
     }
 }
 
-/// What a batch comes to that the method commits next with this serial, asked before `wlim_mcommit`: it writes the field
-/// that it is relayed to.
+/// What a batch comes to that the method commits next with this serial, asked before `wlim_mcommit`.
+/// 1: it is relayed, and the field and its count are written. Else 0 and 0 are, and the answer is the
+/// reason: 2, the method doesn't serve the seat; 3, no activation stands; 4, the serial names no done
+/// that the method was told; 5, it names one of an earlier activation. -5: no seat is open, and
+/// nothing is written. The seat stays as it is.
 #[unsafe(no_mangle)]
 pub extern "C" fn wlim_batch(
     seat: &mut Wlim,

@@ -26,7 +26,7 @@ pub struct Shown {
     pub standing: u32,
 }
 
-fn label_or_0(label: Option<Label>) -> Label
+pub(crate) fn label_or_0(label: Option<Label>) -> Label
     ensures { result ≡ label_or_0 label }
 {
     match label {

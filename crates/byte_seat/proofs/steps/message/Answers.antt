@@ -10,5 +10,7 @@ returns-in-Over-clause-hears c = heard_none c.args.shared.now c.args.ears.now
 
 pub returns-in-Alive-clause-hears : goal.returns-in-Alive-clause-hears
 returns-in-Alive-clause-hears c =
-    heard_by c.message_watched.result (entries.Message c.args.peer c.args.raw.now.id c.args.raw.now.opcode c.args.raw.now.body.now) c.args.stamp c.args.shared.now c.message_watched.new.self c.args.ears.now c.message_watched.new.watch
+    let raw = c.args.raw.now in
+    heard_by c.message_watched.result (entries.Message c.args.peer raw.id raw.opcode raw.body.now) c.args.stamp
+    c.args.shared.now c.message_watched.new.self c.args.ears.now c.message_watched.new.watch
     c.message_watched.ensures.ok c.message_watched.ensures.err c.message_watched.ensures.watched

@@ -11,10 +11,11 @@ use Rattle.byte_seat.proofs.seat.ByteSeat.join.Goals as goal
 pub returns-in-Ok-clause-told : goal.returns-in-Ok-clause-told
 returns-in-Ok-clause-told c =
     subst (λ (v : Bytewise). Hearing v.broker v.ears c.let_go.new.self.broker c.let_go.new.self.ears) c.self.view_is
-    (heard_let c.self.inside.shared c.join_watched.new.self c.let_go.new.self.broker c.self.inside.ears c.join_watched.new.watch
-    c.let_go.new.self.ears c.let_go.ensures.gone c.let_go.ensures.ears
-    (heard_by c.join_watched.result (entries.Join c.args.role) c.args.stamp c.self.inside.shared c.join_watched.new.self c.self.inside.ears c.join_watched.new.watch
-    c.join_watched.ensures.ok c.join_watched.ensures.err c.join_watched.ensures.watched))
+    (heard_let c.self.inside.shared c.join_watched.new.self c.let_go.new.self.broker c.self.inside.ears
+    c.join_watched.new.watch c.let_go.new.self.ears c.let_go.ensures.gone c.let_go.ensures.ears
+    (heard_by c.join_watched.result (entries.Join c.args.role) c.args.stamp c.self.inside.shared
+    c.join_watched.new.self c.self.inside.ears c.join_watched.new.watch c.join_watched.ensures.ok
+    c.join_watched.ensures.err c.join_watched.ensures.watched))
 
 pub returns-in-Err-clause-refused : goal.returns-in-Err-clause-refused
 returns-in-Err-clause-refused c =

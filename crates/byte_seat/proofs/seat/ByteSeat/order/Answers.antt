@@ -1,5 +1,5 @@
 use Rattle.broker_model.specs.declared.journal.Entry.TheVariants as entries
-use Rattle.std.proofs.Common.{◌≡◌, subst}
+use Rattle.std.proofs.Common.{subst}
 use Rattle.byte_seat.specs.Seated.{Bytewise}
 use Rattle.byte_seat.specs.Steps.{Hearing}
 use Rattle.byte_seat.proofs.WatchedOn.{heard_by, heard_let}
@@ -8,7 +8,8 @@ use Rattle.byte_seat.proofs.seat.ByteSeat.order.Goals as goal
 pub returns-in-Ok-clause-told : goal.returns-in-Ok-clause-told
 returns-in-Ok-clause-told c =
     subst (λ (v : Bytewise). Hearing v.broker v.ears c.let_go.new.self.broker c.let_go.new.self.ears) c.self.view_is
-    (heard_let c.self.inside.shared c.apply_watched.new.self c.let_go.new.self.broker c.self.inside.ears c.apply_watched.new.watch
-    c.let_go.new.self.ears c.let_go.ensures.gone c.let_go.ensures.ears
-    (heard_by c.apply_watched.result (entries.Shell c.args.step) c.args.stamp c.self.inside.shared c.apply_watched.new.self c.self.inside.ears c.apply_watched.new.watch
-    c.apply_watched.ensures.ok c.apply_watched.ensures.err c.apply_watched.ensures.watched))
+    (heard_let c.self.inside.shared c.apply_watched.new.self c.let_go.new.self.broker c.self.inside.ears
+    c.apply_watched.new.watch c.let_go.new.self.ears c.let_go.ensures.gone c.let_go.ensures.ears
+    (heard_by c.apply_watched.result (entries.Shell c.args.step) c.args.stamp c.self.inside.shared
+    c.apply_watched.new.self c.self.inside.ears c.apply_watched.new.watch c.apply_watched.ensures.ok
+    c.apply_watched.ensures.err c.apply_watched.ensures.watched))

@@ -1,5 +1,4 @@
-use Rattle.std.proofs.Common.{◌≡◌, ◌-◌, ◌≤◌, length}
-use Rattle.broker_model.specs.Resolve.{past_of}
+use Rattle.std.proofs.Common.{◌-◌, ◌≤◌}
 use Rattle.byte_seat.specs.Seated.{NothingFor}
 use Rattle.byte_seat.proofs.seat.ByteSeat.ready.Given as goal
 

@@ -15,7 +15,8 @@ pub returns-in_default-clause-keeps : goal.returns-in_default-clause-keeps
 returns-in_default-clause-keeps c =
     keeps_unless c.args.self.now.held c.reserve.new.self.entries c.args.peer
     (waiting c.args.self.now.held c.args.peer ++ c.args.piece.now) refused.NoMemory
-    (λ other. ap begun_in (c.reserve.ensures.entries.2 other) ∙ ap (λ (v : Bytewise). waiting v.held other) c.self.view_is)
+    (λ other. ap begun_in (c.reserve.ensures.entries.2 other)
+    ∙ ap (λ (v : Bytewise). waiting v.held other) c.self.view_is)
 
 pub returns-in-Err-clause-hears : goal.returns-in-Err-clause-hears
 returns-in-Err-clause-hears c =

@@ -1,6 +1,3 @@
-use Rattle.std.proofs.Common.{◌≡◌, subst}
-use Rattle.byte_seat.specs.Seated.{Bytewise}
-use Rattle.byte_seat.specs.Steps.{Hearing}
 use Rattle.byte_seat.proofs.WatchedOn.{heard_none}
 use Rattle.byte_seat.proofs.seat.ByteSeat.receive_tokens.Goals as goal
 

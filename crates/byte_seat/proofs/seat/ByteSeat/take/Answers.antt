@@ -1,4 +1,4 @@
-use Rattle.std.proofs.Common.{◌≡◌, subst, ap, ◌∙◌}
+use Rattle.std.proofs.Common.{◌≡◌, subst}
 use Rattle.byte_seat.specs.Seated.{Bytewise}
 use Rattle.byte_seat.specs.Steps.{Hearing}
 use Rattle.broker_model.specs.declared.journal.Entry.TheVariants as entries
@@ -22,5 +22,5 @@ returns-in-Bytes-clause-told c =
     subst (λ (v : Bytewise). Hearing v.broker v.ears c.let_go.new.self.broker c.let_go.new.self.ears) c.self.view_is
     (heard_let c.self.inside.shared call.new.self c.let_go.new.self.broker c.self.inside.ears call.new.watch
     c.let_go.new.self.ears c.let_go.ensures.gone c.let_go.ensures.ears
-    (heard_took call.result c.args.peer c.args.stamp c.self.inside.shared call.new.self c.self.inside.ears call.new.watch
-    call.ensures.settled call.ensures.same call.ensures.watched))
+    (heard_took call.result c.args.peer c.args.stamp c.self.inside.shared call.new.self c.self.inside.ears
+    call.new.watch call.ensures.settled call.ensures.same call.ensures.watched))

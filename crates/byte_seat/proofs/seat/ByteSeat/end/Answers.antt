@@ -1,0 +1,14 @@
+use Rattle.std.proofs.Common.{subst}
+use Rattle.relay_model.specs.declared.act.EndCause.TheVariants.{Gone}
+use Rattle.broker_model.specs.declared.journal.Entry.TheVariants as entries
+use Rattle.byte_seat.specs.Seated.{Bytewise}
+use Rattle.byte_seat.specs.Steps.{Hearing}
+use Rattle.byte_seat.proofs.WatchedOn.{heard_by}
+use Rattle.byte_seat.proofs.seat.ByteSeat.end.Goals as goal
+
+pub returns-in-Ok-clause-told : goal.returns-in-Ok-clause-told
+returns-in-Ok-clause-told c =
+    let call = c.apply_watched in
+    subst (λ (v : Bytewise). Hearing v.broker v.ears call.new.self call.new.watch) c.self.view_is
+    (heard_by call.result (entries.End c.args.peer Gone) c.args.stamp c.self.inside.shared call.new.self
+    c.self.inside.ears call.new.watch call.ensures.ok call.ensures.err call.ensures.watched)
