@@ -1,7 +1,8 @@
 /*
  * The glue without a compositor: libwayland's clients over socket pairs against examples/embed/wlim_glue.c, in one
- * process. Holds what each is told, line by line; then again with each allocation of the glue and of libwlim failing in
- * turn, where nothing may reach another field. Built by tests/embed_glue.sh with -Wl,--wrap=malloc and its kin.
+ * process. Holds what each is told, line by line, also where a client is one too many; then again with each allocation
+ * of the glue and of libwlim failing in turn, where nothing may reach another field. Built by tests/embed_glue.sh with
+ * -Wl,--wrap=malloc and its kin.
  */
 #define _GNU_SOURCE
 #include "embed_clients.h"
@@ -385,23 +386,49 @@ static void ends(void)
 	holds("a text that is no UTF-8", "a is ended\nm deactivate\nm done\n");
 }
 
-static void play(void)
+static void all_scenes(void)
 {
+	typing();
+	moving();
+	keys();
+	popups();
+	renewed();
+	ends();
+}
+
+/* Two clients count: the application B is one too many, and its focus takes the seat from A. */
+static void crowded(void)
+{
+	make_field(A);
+	make_method(M);
+	holds("objects", "");
+	make_field(B);
+	wlim_glue_focus(glue, clients[A].at);
+	enable(A);
+	holds("two clients", "a enter\nm activate\nm content 1 2\nm done\n");
+	if (wlim_glue_focus(glue, clients[B].at) && ++failed)
+		printf("a client too many has the focus\n");
+	enable(B);
+	commits(M, "for a", 1);
+	holds("a client too many", "a leave\nm deactivate\nm done\n");
+	wlim_glue_focus(glue, clients[A].at);
+	enable(A);
+	holds("the focus is back", "a enter\nm activate\nm content 1 2\nm done\n");
+}
+
+/* A scene over a glue for so many clients. */
+static void play(uint32_t most, void (*scene)(void))
+{
+	told[0] = 0;
 	display = wl_display_create();
 	wl_global_create(display, &wl_compositor_interface, 1, NULL, bind_compositor);
 	wl_global_create(display, &wl_seat_interface, 1, NULL, bind_seat);
-	glue = wlim_glue_create(display, &hooks, NULL);
+	glue = wlim_glue_create_with(display, &hooks, NULL, most, 256);
 	const char *names[] = { "a", "b", "m", "n" };
 	for (int i = 0; i < 4 && glue; i++)
 		join(i, names[i]);
-	if (glue) {
-		typing();
-		moving();
-		keys();
-		popups();
-		renewed();
-		ends();
-	}
+	if (glue)
+		scene();
 	for (int i = 0; i < 4; i++)
 		kill_client(i);
 	wl_display_destroy_clients(display);
@@ -419,14 +446,15 @@ int main(void)
 {
 	wl_log_set_handler_client(quiet);
 	wl_log_set_handler_server(quiet);
-	play();
+	play(2, crowded);
+	play(64, all_scenes);
 	long runs[2] = { 0 };
 	failing = true;
 	for (int all = 0; all < 2; all++) {
 		all_fail = all;
 		for (bool reached = true; reached && !failed; runs[all]++) {
 			fails_at = runs[all];
-			play();
+			play(64, all_scenes);
 			reached = fails_at <= 0;
 		}
 	}

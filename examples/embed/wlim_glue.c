@@ -44,6 +44,7 @@ struct object {
 struct wlim_glue {
 	struct wlim *seat; /* the one of the two that is open; both are at a renewal */
 	struct wlim seats[2];
+	uint32_t clients_most, objects_most;
 	struct wl_display *display;
 	const struct wlim_glue_hooks *hooks;
 	void *data;
@@ -345,7 +346,7 @@ static void on_client_created(struct wl_listener *listener, void *data)
 		glue->ending = NULL;
 }
 
-/* A client's label, 0 where it ends or there is no memory. */
+/* A client's label, 0 where it ends, is one too many or there is no memory. */
 static uint32_t client_label(struct wlim_glue *glue, struct wl_client *client)
 {
 	struct wl_listener *known = wl_client_get_destroy_listener(client, on_client_destroy);
@@ -359,7 +360,8 @@ static uint32_t client_label(struct wlim_glue *glue, struct wl_client *client)
 	int64_t answer = object ? wlim_peer(glue->seat) : WLIM_NO_MEMORY;
 	if (answer < 0) {
 		object_free(object);
-		wl_client_post_no_memory(client);
+		if (answer != WLIM_MANY)
+			wl_client_post_no_memory(client);
 		return 0;
 	}
 	object->label = answer;
@@ -375,7 +377,7 @@ static void on_surface_destroy(struct wl_listener *listener, void *data)
 	object_end(surface);
 }
 
-/* NULL where the surface's client ends or there is no memory. */
+/* NULL where the surface's client ends, one of the two is one too many or there is no memory. */
 static struct object *surface_object(struct wlim_glue *glue, struct wl_resource *surface)
 {
 	struct wl_listener *known = wl_resource_get_destroy_listener(surface, on_surface_destroy);
@@ -775,7 +777,8 @@ static bool build_again(struct wlim_glue *glue, struct wlim *to, const struct wl
 {
 	const uint32_t *is = glue->modifiers;
 	struct object *object;
-	bool fits = wlim_open(to) && wlim_mods(to, is[0], is[1], is[2], is[3]) >= 0;
+	bool fits = wlim_open_with(to, glue->clients_most, glue->objects_most) &&
+		wlim_mods(to, is[0], is[1], is[2], is[3]) >= 0;
 	if (fits && glue->has_screen)
 		fits = wlim_screen(to, glue->screen[0], glue->screen[1]) >= 0;
 	if (fits && glue->has_repeat)
@@ -825,15 +828,14 @@ bool wlim_glue_renew(struct wlim_glue *glue)
 
 bool wlim_glue_focus(struct wlim_glue *glue, struct wl_resource *surface)
 {
+	/* A surface that the seat can't have takes the focus away all the same. */
 	struct object *of = surface ? surface_object(glue, surface) : NULL;
-	if (surface && !of)
-		return false;
 	pay(glue);
 	bool taken = (of ? wlim_focus(glue->seat, of->label) : wlim_unfocus(glue->seat)) >= 0;
 	if (taken)
 		glue->focus_owed = NOTHING;
 	pull(glue);
-	return taken;
+	return taken && (of || !surface);
 }
 
 bool wlim_glue_key(struct wlim_glue *glue, uint32_t time, uint32_t key, uint32_t state)
@@ -923,12 +925,20 @@ bool wlim_glue_is_for_methods(const struct wlim_glue *glue, const struct wl_glob
 struct wlim_glue *wlim_glue_create(struct wl_display *display, const struct wlim_glue_hooks *hooks,
 	void *data)
 {
+	return wlim_glue_create_with(display, hooks, data, 64, 256);
+}
+
+struct wlim_glue *wlim_glue_create_with(struct wl_display *display,
+	const struct wlim_glue_hooks *hooks, void *data, uint32_t clients, uint32_t objects)
+{
 	struct wlim_glue *glue = calloc(1, sizeof *glue);
 	if (!glue)
 		return NULL;
 	glue->display = display;
 	glue->hooks = hooks;
 	glue->data = data;
+	glue->clients_most = clients;
+	glue->objects_most = objects;
 	glue->keymap_file = -1;
 	wl_list_init(&glue->objects);
 	glue->seat = &glue->seats[0];
@@ -941,7 +951,8 @@ struct wlim_glue *wlim_glue_create(struct wl_display *display, const struct wlim
 		bind_methods);
 	glue->boards_global = wl_global_create(display, &zwp_virtual_keyboard_manager_v1_interface, 1,
 		glue, bind_boards);
-	if (wlim_open(glue->seat) && glue->fields && glue->methods && glue->boards_global)
+	if (wlim_open_with(glue->seat, clients, objects) && glue->fields && glue->methods &&
+			glue->boards_global)
 		return glue;
 	wlim_glue_destroy(glue);
 	return NULL;

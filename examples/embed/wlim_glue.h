@@ -4,7 +4,8 @@
  * into your compositor; protocols.sh makes the headers that they include.
  *
  * You say where the keyboard focus is and what the keyboard does; you are called with what no
- * input method grabbed. Nothing here knows a rule of the protocols.
+ * input method grabbed. Which edit goes to which field libwlim decides; the rest of a compositor's
+ * part, as docs/EMBEDDING.md lists it, is here.
  */
 #ifndef WLIM_GLUE_H
 #define WLIM_GLUE_H
@@ -38,9 +39,18 @@ struct wlim_glue_hooks {
 
 struct wlim_glue;
 
-/* Opens a seat and offers the three globals. NULL: there is no memory. */
+/*
+ * Opens a seat and offers the three globals, in version 1: create no others of these. NULL: there
+ * is no memory. A client counts from its first text input, input method or virtual keyboard, or
+ * from the first focus or area on a surface of it. At most 64 count, with 256 objects each. One
+ * too many: its requests do nothing. An object too many: the client is ended with an error.
+ */
 struct wlim_glue *wlim_glue_create(struct wl_display *display, const struct wlim_glue_hooks *hooks,
 	void *data);
+
+/* The same with other limits. */
+struct wlim_glue *wlim_glue_create_with(struct wl_display *display,
+	const struct wlim_glue_hooks *hooks, void *data, uint32_t clients, uint32_t objects);
 
 /* Comes after wl_display_destroy_clients, and before wl_display_destroy. */
 void wlim_glue_destroy(struct wlim_glue *glue);
@@ -63,7 +73,11 @@ bool wlim_glue_look(struct wlim_glue *glue, struct wlim_shown *shown);
 
 /* Of all below, false: there is no memory, and all is as before. Then call again. */
 
-/* The keyboard focus goes to a wl_surface, or with NULL is taken away. */
+/*
+ * The keyboard focus goes to a wl_surface, or with NULL is taken away. Also false: the surface or
+ * its client is one too many. The focus is taken away then, as far as there is memory, so that no
+ * field keeps the seat.
+ */
 bool wlim_glue_focus(struct wlim_glue *glue, struct wl_resource *surface);
 
 /* Your keyboard: each key and all modifiers, also those that pass; state is 0 or 1. */
@@ -76,7 +90,10 @@ bool wlim_glue_keymap(struct wlim_glue *glue, uint32_t format, int file, uint32_
 const struct wlim_glue_keymap *wlim_glue_own_keymap(const struct wlim_glue *glue);
 bool wlim_glue_repeat(struct wlim_glue *glue, int32_t rate, int32_t delay);
 
-/* Where a wl_surface stands on the screen, and how large that is: popups are placed by it. */
+/*
+ * Where a wl_surface stands on the screen, and how large that is: popups are placed by it. Also
+ * false of an area: the surface or its client is one too many.
+ */
 bool wlim_glue_area(struct wlim_glue *glue, struct wl_resource *surface, int32_t x, int32_t y,
 	int32_t width, int32_t height);
 bool wlim_glue_screen(struct wlim_glue *glue, int32_t width, int32_t height);
