@@ -24,11 +24,13 @@ same_value null null = true
 same_value (token a) (token b) = a == b
 same_value _ _ = false
 
+-- both are the same arguments, in order
 abbrev pub same_values : List Value → List Value → Bool
 same_values [] [] = true
 same_values (v ∷ vs) (w ∷ ws) = same_value v w && same_values vs ws
 same_values _ _ = false
 
+-- the interface is that of text inputs
 abbrev pub is_text_input : Interface → Bool
 is_text_input TextInput = true
 is_text_input _ = false
@@ -54,6 +56,7 @@ is_front (h ∷ hs) (t ∷ ts) = (h.id == t.id) && (same_reading h.reading t.rea
 abbrev pub is_like : (told sent : List ℕ) → Bool
 is_like told all = is_none (bad_size all) && is_front (heard all) (heard told)
 
+-- all that was sent to an application that joined is like what it is told
 abbrev pub is_good_for : List Entry → Option Joined → List ℕ → Bool
 is_good_for journal None all = true
 is_good_for journal (Some peer) all =

@@ -4,6 +4,7 @@ ghost use Rattle.audit_run.specs.Judged.{answer_of, of_stop};
 
 use crate::taking::play_step;
 use audit_text::AuditLine;
+use broker_core::Journal;
 use field_gather::{Gatherer, HearEnd};
 use seat_steps::{ENTRY_LIMIT, Limits, STORE_LIMIT, WEIGHT_LIMIT};
 use session_play::{Kept, Player, Stop};
@@ -77,6 +78,7 @@ impl Audit {
     ghost use Rattle.audit_text.specs.declared.audit_line.AuditLine.{AuditLine as Line};
     ghost use Rattle.audit_run.specs.Judged.{dones_of, most_dones, IsAuditLine, IsFair, IsEnd};
     ghost use Rattle.audit_run.specs.Standing.{Stands};
+    ghost use Rattle.session_play.specs.Playing.{IsShort};
 
     /// No line came yet. `NoMemory` is its one error.
     pub fn new(alloc: Global) -> Result<Audit, NoMemory>
@@ -101,6 +103,16 @@ impl Audit {
             result ≡ min (dones_of lines) most_dones }
     {
         self.dones
+    }
+
+    /// What was played, also after an error. Fewer than 256 entries are in memory: it answers those
+    /// alone. Besides those an audit keeps what the peers and objects of the seat keep, and what
+    /// applications were told and weren't sent yet.
+    pub fn journal(&self) -> &Journal
+        ensures entries { result.now.entries ≡ self.now.player.play.journal }
+        ensures short { IsShort self.now.player.play.journal result.now.kept_from }
+    {
+        self.player.journal()
     }
 
     /// Judges the next line.

@@ -1,1 +1,2 @@
 pub mod LinesAsked
+pub mod SpellingsReadBack

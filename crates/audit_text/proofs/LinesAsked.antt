@@ -17,7 +17,7 @@ use Rattle.audit_text.specs.declared.audit_line.AuditText.TheVariants as texts
 use Rattle.audit_text.specs.Grammar.{IsAuditText, IsNoTake}
 use Rattle.audit_text.specs.Reading.{sent_by, sent_of, step_by, step_of}
 
-sent_valid : (rest : List ℕ) (o : Option Line) (t : AuditText) → line_of Session (codes "bytes " ++ rest) ≡ o →
+pub sent_valid : (rest : List ℕ) (o : Option Line) (t : AuditText) → line_of Session (codes "bytes " ++ rest) ≡ o →
     sent_by o ≡ Some t → IsAuditText t
 sent_valid rest (Some (lines.Session (sessions.Bytes q bytes))) t e h =
     let same : texts.Line (Out q bytes) ≡ t = cc in
@@ -42,7 +42,7 @@ stamped_valid bytes stamp line t e free h =
     let same : texts.Line (Step stamp line) ≡ t = cc in
     subst IsAuditText same (valid.0, valid.1, free)
 
-step_valid : (bytes : List ℕ) (o : Option Line) (t : AuditText) → line_of Session2 bytes ≡ o → step_by o ≡ Some t →
+pub step_valid : (bytes : List ℕ) (o : Option Line) (t : AuditText) → line_of Session2 bytes ≡ o → step_by o ≡ Some t →
     IsAuditText t
 step_valid bytes (Some (lines.Stamped stamp (sessions.Take q n))) t e h = cc
 step_valid bytes (Some (lines.Stamped stamp (sessions.Join role))) t e h =

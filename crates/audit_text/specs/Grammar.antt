@@ -5,7 +5,6 @@ use Rattle.std.specs.Fmt.{decimal}
 use Rattle.seat_steps.specs.Ranges.{piece_limit}
 use Rattle.session_text.specs.declared.line.SessionLine.{SessionLine}
 use Rattle.session_text.specs.declared.line.SessionLine.TheVariants as sessions
-use Rattle.session_text.specs.Steps.{IsSessionLine}
 use Rattle.session_text.specs.SessionGrammar.{session_words, stamped_words, HasStampedLine, IsStamp}
 use Rattle.session_text.specs.Words.{hex_word, IsBytesWithin}
 use Rattle.audit_text.specs.declared.audit_line.AuditLine.{AuditLine}
@@ -33,6 +32,7 @@ abbrev pub HasAuditLine : AuditLine → Type 0
 HasAuditLine (Step stamp line) = IsStamp stamp × HasStampedLine line × IsNoTake line
 HasAuditLine (Out q bytes) = (q < 2 ^ 32) × IsBytesWithin piece_limit bytes
 
+-- so does what is a line, and the end holds nothing
 abbrev pub IsAuditText : AuditText → Type 0
 IsAuditText (texts.Line line) = HasAuditLine line
 IsAuditText texts.End = Unit {0}

@@ -36,9 +36,11 @@ step_by (Some (lines.Stamped stamp line)) = Some (texts.Line (Step stamp line))
 step_by (Some lines.End) = Some texts.End
 step_by _ = None
 
+-- the bytes as such a line
 abbrev pub step_of : List ℕ → Option AuditText
 step_of bytes = step_by (line_of Session2 bytes)
 
+-- by what stands behind `out `, or by the whole line where it begins otherwise
 abbrev pub line_found : List ℕ → Option (List ℕ) → Option AuditText
 line_found bytes (Some rest) = sent_of rest
 line_found bytes None = step_of bytes

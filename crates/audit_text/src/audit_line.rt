@@ -7,6 +7,7 @@ ghost use Rattle.session_text.specs.Reading.{Reads, line_of};
 ghost use Rattle.audit_text.specs.Grammar.{IsAuditText};
 ghost use Rattle.audit_text.specs.Reading.{audit_line_of, behind_out, is_header, sent_by, sent_of};
 ghost use Rattle.audit_text.specs.Reading.{step_by, step_of};
+ghost use Rattle.audit_text.specs.Laws.{ReadsOnlySpellings, ReadsEachSpelling};
 
 use seat_steps::Stamp;
 use session_text::{BadLine, Form, Line, SessionLine, read_line};
@@ -111,3 +112,10 @@ pub fn read_audit_line(alloc: Global, line: &[u8]) -> Result<AuditText, BadLine>
         None => read_step(alloc, line),
     }
 }
+
+/// A law without work: bytes that read as a line are its one spelling, and each line's spelling
+/// reads as that line.
+pub fn one_spelling()
+    ensures only { ReadsOnlySpellings }
+    ensures each { ReadsEachSpelling }
+{}

@@ -3,4 +3,4 @@
 
 mod audit_line;
 
-pub use audit_line::{AuditLine, AuditText, read_audit_header, read_audit_line};
+pub use audit_line::{AuditLine, AuditText, one_spelling, read_audit_header, read_audit_line};

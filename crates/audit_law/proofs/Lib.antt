@@ -1,0 +1,5 @@
+pub mod AppsHaveFields
+pub mod OthersSayNothing
+pub mod PutGroupsQueued
+pub mod GroupsHeard
+pub mod SentIsFront

@@ -1,0 +1,5 @@
+use Rattle.audit_law.proofs.SentIsFront.{seen_owed}
+use Rattle.audit_law.proofs.seen_is_owed.Goals as goal
+
+pub returns : goal.returns
+returns c = seen_owed

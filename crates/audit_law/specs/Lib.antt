@@ -1,0 +1,4 @@
+pub mod AppObjects
+pub mod FieldGroups
+pub mod OwedGroups
+pub mod SeenOwed
