@@ -25,10 +25,12 @@ abbrev pub words_now : Option ℕ → List ℕ → List ℕ → List ℕ → Lis
 words_now (Some x) kind verb nobody = phrase kind (Some x) verb None
 words_now None kind verb nobody = phrase nobody None [] None
 
+-- nothing where it is who it was
 abbrev pub moved_words : Option ℕ → Option ℕ → List ℕ → List ℕ → List ℕ → List ℕ
 moved_words before after kind verb nobody =
     (if has_moved before after then words_now after kind verb nobody else [])
 
+-- what became of the activation, and whose it is or was
 abbrev pub course_words : Option Course → Seat → Seat → List ℕ
 course_words None before after = []
 course_words (Some Begins) before after =

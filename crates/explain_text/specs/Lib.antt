@@ -2,3 +2,4 @@ pub mod Phrase
 pub mod Deed
 pub mod Outcome
 pub mod Changes
+pub mod Laws

@@ -1,183 +1,165 @@
 //! What an act is: how a line begins.
-ghost use Rattle.std.specs.Prelude.{◌≡◌, ◌++◌, OnOk, string_bytes};
-ghost use Rattle.explain_text.specs.Deed.{deed, begun};
+ghost use Rattle.std.specs.Prelude.{◌≡◌, ◌++◌, Some, None, OnOk, string_bytes};
+ghost use Rattle.explain_text.specs.Deed.{source_words, end_words, peer_words, object_words};
+ghost use Rattle.explain_text.specs.Deed.{shell_words, field_words, method_words, deed, begun};
+ghost use Rattle.explain_text.specs.Phrase.{phrase};
 
 use crate::phrase::add_phrase;
 use itoa::Buffer;
 use relay_model::{Act, EndCause};
 use wio_core::NoMemory;
 
-// Who did what, by the act with the number.
-fn add_deed(line: &mut String, number: u32, act: &Act) -> Result<(), NoMemory>
-    ensures { OnOk result (string_bytes line.new ≡ string_bytes line.old ++ deed number act.now) }
+/// Whose act it is. Peers are numbered from 1 in the order in which they join.
+#[derive(Clone, Copy, Debug, PartialEq, Eq)]
+pub enum Source {
+    /// The peer with the number.
+    Peer(u32),
+    /// The peer with the number, by a message to the object with the id.
+    Object { peer: u32, id: u32 },
+    /// The shell.
+    Shell,
+}
+
+fn add_words(line: &mut String, words: &str) -> Result<(), NoMemory>
+    ensures { OnOk result (string_bytes line.new ≡ string_bytes line.old ++ words.now) }
 {
-    match act {
-        Act::Peer => add_phrase(line, "peer", Some(number), " joins", None),
-        Act::Gone {
-            peer,
-            cause: EndCause::Gone,
-        } => add_phrase(line, "peer", Some(*peer), " ends: its link ended", None),
-        Act::Gone {
-            peer,
-            cause: EndCause::Bad,
-        } => add_phrase(
-            line,
-            "peer",
-            Some(*peer),
-            " ends: a message of it was refused",
-            None,
-        ),
-        Act::Gone {
-            peer,
-            cause: EndCause::Full,
-        } => add_phrase(
-            line,
-            "peer",
-            Some(*peer),
-            " ends: a group did not fit its store",
-            None,
-        ),
-        Act::Surface { peer } => add_phrase(
-            line,
-            "peer",
-            Some(*peer),
-            " makes surface",
-            Some(number),
-        ),
-        Act::Field { peer } => add_phrase(line, "peer", Some(*peer), " makes field", Some(number)),
-        Act::Method { peer } => add_phrase(
-            line,
-            "peer",
-            Some(*peer),
-            " makes method",
-            Some(number),
-        ),
-        Act::Popup { method, .. } => add_phrase(
-            line,
-            "method",
-            Some(*method),
-            " makes popup",
-            Some(number),
-        ),
-        Act::Grab { method } => add_phrase(
-            line,
-            "method",
-            Some(*method),
-            " makes grab",
-            Some(number),
-        ),
-        Act::Drop { label } => add_phrase(line, "object", Some(*label), " is destroyed", None),
-        Act::Focus { surface } => add_phrase(
-            line,
-            "shell: focus on surface",
-            Some(*surface),
-            "",
-            None,
-        ),
-        Act::Unfocus => add_phrase(line, "shell: focus on nothing", None, "", None),
-        Act::Area { surface, .. } => add_phrase(
-            line,
-            "shell: area of surface",
-            Some(*surface),
-            "",
-            None,
-        ),
-        Act::Screen { .. } => add_phrase(line, "shell: screen", None, "", None),
-        Act::Enable { field } => add_phrase(line, "field", Some(*field), " enable", None),
-        Act::Disable { field } => add_phrase(line, "field", Some(*field), " disable", None),
-        Act::Surround { field, .. } => add_phrase(
-            line,
-            "field",
-            Some(*field),
-            " set_surrounding_text",
-            None,
-        ),
-        Act::Cause { field, .. } => add_phrase(
-            line,
-            "field",
-            Some(*field),
-            " set_text_change_cause",
-            None,
-        ),
-        Act::Content { field, .. } => add_phrase(
-            line,
-            "field",
-            Some(*field),
-            " set_content_type",
-            None,
-        ),
-        Act::Cursor { field, .. } => add_phrase(
-            line,
-            "field",
-            Some(*field),
-            " set_cursor_rectangle",
-            None,
-        ),
-        Act::Commit { field } => add_phrase(line, "field", Some(*field), " commit", None),
-        Act::MString { method, .. } => add_phrase(
-            line,
-            "method",
-            Some(*method),
-            " commit_string",
-            None,
-        ),
-        Act::MPreedit { method, .. } => add_phrase(
-            line,
-            "method",
-            Some(*method),
-            " set_preedit_string",
-            None,
-        ),
-        Act::MDelete { method, .. } => add_phrase(
-            line,
-            "method",
-            Some(*method),
-            " delete_surrounding_text",
-            None,
-        ),
-        Act::MCommit { method, serial } => add_phrase(
-            line,
-            "method",
-            Some(*method),
-            " commit",
-            Some(*serial),
-        ),
-        Act::Key { key, .. } => add_phrase(line, "shell: key", Some(*key), "", None),
-        Act::Mods(_) => add_phrase(line, "shell: modifiers", None, "", None),
-        Act::Keymap(_) => add_phrase(line, "shell: keymap", None, "", None),
-        Act::Repeat(_) => add_phrase(line, "shell: repeat of keys", None, "", None),
-        Act::Registry { peer, .. } => add_phrase(line, "peer", Some(*peer), " get_registry", None),
-        Act::Sync { peer } => add_phrase(line, "peer", Some(*peer), " sync", None),
-        Act::Seat { peer } => add_phrase(line, "peer", Some(*peer), " binds the seat", None),
-        Act::Thing { peer } => add_phrase(line, "peer", Some(*peer), " binds a global", None),
-        Act::Bad { peer, object, .. } => add_phrase(
-            line,
-            "peer",
-            Some(*peer),
-            " has a message refused, to object",
-            Some(*object),
-        ),
-        Act::Took { peer, bytes } => add_phrase(
-            line,
-            "peer",
-            Some(*peer),
-            " takes bytes:",
-            Some(*bytes),
-        ),
-        Act::VBoard { peer } => add_phrase(line, "peer", Some(*peer), " makes board", Some(number)),
-        Act::VKeymap { board, .. } => add_phrase(line, "board", Some(*board), " keymap", None),
-        Act::VKey { board, key, .. } => add_phrase(line, "board", Some(*board), " key", Some(*key)),
-        Act::VMods { board, .. } => add_phrase(line, "board", Some(*board), " modifiers", None),
-        Act::Idle => add_phrase(line, "nothing", None, "", None),
+    line.push_str(words)?;
+    Ok(())
+}
+
+// Words, a number after them, and more words.
+fn add_about(line: &mut String, who: &str, number: u32, what: &str) -> Result<(), NoMemory>
+    ensures { OnOk result (string_bytes line.new
+        ≡ string_bytes line.old ++ phrase who.now (Some number) what.now None) }
+{
+    add_phrase(line, who, Some(number), what, None)
+}
+
+fn add_source(line: &mut String, source: Source) -> Result<(), NoMemory>
+    ensures { OnOk result (string_bytes line.new ≡ string_bytes line.old ++ source_words source) }
+{
+    match source {
+        Source::Peer(peer) => add_about(line, " peer", peer, ": "),
+        Source::Object { peer, id } => {
+            add_phrase(line, " peer", Some(peer), " to object", Some(id))?;
+            add_words(line, ": ")
+        }
+        Source::Shell => add_words(line, " shell: "),
     }
 }
 
-/// Begins a line over what it was: the act's number, and what it is.
-pub fn begin_line(line: &mut String, number: u32, act: &Act) -> Result<(), NoMemory>
-    ensures { OnOk result (string_bytes line.new ≡ begun number act.now) }
+fn add_end(line: &mut String, cause: EndCause) -> Result<(), NoMemory>
+    ensures { OnOk result (string_bytes line.new ≡ string_bytes line.old ++ end_words cause) }
+{
+    match cause {
+        EndCause::Gone => add_words(line, "ends, its link ended"),
+        EndCause::Bad => add_words(line, "ends, a message of it was refused"),
+        EndCause::Full => add_words(line, "ends, a group did not fit its store"),
+    }
+}
+
+fn add_of_peer(line: &mut String, act: &Act) -> Result<(), NoMemory>
+    ensures { OnOk result (string_bytes line.new ≡ string_bytes line.old ++ peer_words act.now) }
+{
+    match act {
+        Act::Peer => add_words(line, "joins"),
+        Act::Gone { cause, .. } => add_end(line, *cause),
+        Act::Registry { .. } => add_words(line, "get_registry"),
+        Act::Sync { .. } => add_words(line, "sync"),
+        Act::Seat { .. } => add_words(line, "binds the seat"),
+        Act::Thing { .. } => add_words(line, "binds a global"),
+        Act::Bad { .. } => add_words(line, "a message is refused"),
+        Act::Took { bytes, .. } => add_about(line, "takes", *bytes, " bytes"),
+        Act::Idle => add_words(line, "nothing"),
+        _ => Ok(()),
+    }
+}
+
+// An object is named by the number of the act that made it.
+fn add_of_object(line: &mut String, number: u32, act: &Act) -> Result<(), NoMemory>
+    ensures { OnOk result (string_bytes line.new
+        ≡ string_bytes line.old ++ object_words number act.now) }
+{
+    match act {
+        Act::Surface { .. } => add_about(line, "makes surface", number, ""),
+        Act::Field { .. } => add_about(line, "makes field", number, ""),
+        Act::Method { .. } => add_about(line, "makes method", number, ""),
+        Act::Popup { .. } => add_about(line, "makes popup", number, ""),
+        Act::Grab { .. } => add_about(line, "makes grab", number, ""),
+        Act::VBoard { .. } => add_about(line, "makes board", number, ""),
+        Act::Drop { label } => add_about(line, "object", *label, " is destroyed"),
+        _ => Ok(()),
+    }
+}
+
+fn add_of_shell(line: &mut String, act: &Act) -> Result<(), NoMemory>
+    ensures { OnOk result (string_bytes line.new ≡ string_bytes line.old ++ shell_words act.now) }
+{
+    match act {
+        Act::Focus { surface } => add_about(line, "focus on surface", *surface, ""),
+        Act::Unfocus => add_words(line, "focus on nothing"),
+        Act::Area { surface, .. } => add_about(line, "area of surface", *surface, ""),
+        Act::Screen { .. } => add_words(line, "screen"),
+        Act::Key { key, .. } => add_about(line, "key", *key, ""),
+        Act::Mods(_) => add_words(line, "modifiers"),
+        Act::Keymap(_) => add_words(line, "keymap"),
+        Act::Repeat(_) => add_words(line, "repeat of keys"),
+        _ => Ok(()),
+    }
+}
+
+fn add_of_field(line: &mut String, act: &Act) -> Result<(), NoMemory>
+    ensures { OnOk result (string_bytes line.new ≡ string_bytes line.old ++ field_words act.now) }
+{
+    match act {
+        Act::Enable { field } => add_about(line, "field", *field, " enable"),
+        Act::Disable { field } => add_about(line, "field", *field, " disable"),
+        Act::Surround { field, .. } => add_about(line, "field", *field, " set_surrounding_text"),
+        Act::Cause { field, .. } => add_about(line, "field", *field, " set_text_change_cause"),
+        Act::Content { field, .. } => add_about(line, "field", *field, " set_content_type"),
+        Act::Cursor { field, .. } => add_about(line, "field", *field, " set_cursor_rectangle"),
+        Act::Commit { field } => add_about(line, "field", *field, " commit"),
+        _ => Ok(()),
+    }
+}
+
+fn add_of_method(line: &mut String, act: &Act) -> Result<(), NoMemory>
+    ensures { OnOk result (string_bytes line.new ≡ string_bytes line.old ++ method_words act.now) }
+{
+    match act {
+        Act::MString { method, .. } => add_about(line, "method", *method, " commit_string"),
+        Act::MPreedit { method, .. } => add_about(line, "method", *method, " set_preedit_string"),
+        Act::MDelete { method, .. } => {
+            add_about(line, "method", *method, " delete_surrounding_text")
+        }
+        Act::MCommit { method, serial } => {
+            add_phrase(line, "method", Some(*method), " commit", Some(*serial))
+        }
+        Act::VKeymap { board, .. } => add_about(line, "board", *board, " keymap"),
+        Act::VKey { board, key, .. } => add_phrase(line, "board", Some(*board), " key", Some(*key)),
+        Act::VMods { board, .. } => add_about(line, "board", *board, " modifiers"),
+        _ => Ok(()),
+    }
+}
+
+// What the act with the number is.
+fn add_deed(line: &mut String, number: u32, act: &Act) -> Result<(), NoMemory>
+    ensures { OnOk result (string_bytes line.new ≡ string_bytes line.old ++ deed number act.now) }
+{
+    add_of_peer(line, act)?;
+    add_of_object(line, number, act)?;
+    add_of_shell(line, act)?;
+    add_of_field(line, act)?;
+    add_of_method(line, act)
+}
+
+/// Begins a line over what it was: the act's number, whose it is, and what it is. An object is named
+/// by the number of the act that made it.
+pub fn begin_line(line: &mut String, number: u32, source: Source, act: &Act) -> Result<(), NoMemory>
+    ensures { OnOk result (string_bytes line.new ≡ begun number source act.now) }
 {
     line.clear();
     line.push_str(Buffer::new().format(number))?;
-    line.push_str(" ")?;
+    add_source(line, source)?;
     add_deed(line, number, act)
 }

@@ -3,9 +3,11 @@
 
 mod changes;
 mod deed;
+mod laws;
 mod outcome;
 mod phrase;
 
 pub use changes::{Course, add_changes, course_of};
-pub use deed::begin_line;
+pub use deed::{Source, begin_line};
+pub use laws::course_law;
 pub use outcome::{Outcome, WhyNobody, add_outcome, outcome_of};

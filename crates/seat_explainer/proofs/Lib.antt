@@ -1,0 +1,3 @@
+pub mod LinesSince
+pub mod ExplainersReached
+pub mod OutcomesGiven

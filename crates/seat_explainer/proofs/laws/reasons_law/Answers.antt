@@ -1,0 +1,11 @@
+use Rattle.seat_explainer.proofs.OutcomesGiven.{reasons_given, queued_relayed, no_room_given}
+use Rattle.seat_explainer.proofs.laws.reasons_law.Goals as goal
+
+pub returns-clause-reasons : goal.returns-clause-reasons
+returns-clause-reasons c = reasons_given
+
+pub returns-clause-relayed : goal.returns-clause-relayed
+returns-clause-relayed c = queued_relayed
+
+pub returns-clause-no_room : goal.returns-clause-no_room
+returns-clause-no_room c = no_room_given

@@ -1,0 +1,42 @@
+-- What holds of what is said of batches.
+use Rattle.std.specs.Prelude.{◌≡◌, ◌↔◌, ℕ, List, true, false, Some}
+use Rattle.relay_model.specs.declared.act.Act.TheVariants.{MCommit}
+use Rattle.relay_model.specs.Idle.{history}
+use Rattle.batch_reasons.specs.declared.fate.Reason.{Reason}
+use Rattle.batch_reasons.specs.Fate.{reason_holds}
+use Rattle.batch_reasons.specs.Laws.{IsRelayed}
+use Rattle.explain_text.specs.declared.outcome.Outcome.TheVariants.{Queued, ReachedNobody}
+use Rattle.explain_text.specs.declared.outcome.WhyNobody.TheVariants.{Unrelayed, NoRoom}
+use Rattle.broker_model.specs.declared.journal.Entry.{Entry}
+use Rattle.broker_model.specs.Resolve.{resolve}
+use Rattle.broker_model.specs.Out.{act_at}
+use Rattle.seat_explainer.specs.Journals.{was_put, outcome_at}
+
+-- the entry commits a batch of the method m with the serial
+abbrev pub Commits : Entry → List Entry → (m serial : ℕ) → Type 0
+Commits e older m serial = act_at e older ≡ MCommit m serial
+
+-- a reason is given exactly where its condition holds
+abbrev pub ReasonsGiven : Type 0
+ReasonsGiven =
+    (capacity : ℕ) (e : Entry) (older : List Entry) (m serial : ℕ) (why : Reason) →
+    Commits e older m serial →
+    (outcome_at capacity e older ≡ Some (ReachedNobody (Unrelayed why)))
+    ↔ (reason_holds why (history (resolve older)) m serial ≡ true)
+
+-- none is given exactly where the batch was relayed, and its group was put
+abbrev pub QueuedRelayed : Type 0
+QueuedRelayed =
+    (capacity : ℕ) (e : Entry) (older : List Entry) (m serial f count : ℕ) →
+    Commits e older m serial →
+    (outcome_at capacity e older ≡ Some (Queued f count))
+    ↔ (IsRelayed (history (resolve older)) m serial f count × (was_put capacity e older ≡ true))
+
+-- want of room is given exactly where it was relayed, and no group was put
+abbrev pub NoRoomGiven : Type 0
+NoRoomGiven =
+    (capacity : ℕ) (e : Entry) (older : List Entry) (m serial : ℕ) →
+    Commits e older m serial →
+    (outcome_at capacity e older ≡ Some (ReachedNobody NoRoom))
+    ↔ ((f : ℕ) × (count : ℕ) × IsRelayed (history (resolve older)) m serial f count
+    × (was_put capacity e older ≡ false))
