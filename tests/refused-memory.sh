@@ -93,6 +93,7 @@ try() {
 for example in examples/*.acts; do try "$(basename "$example")" "$example" replay-acts; done
 for example in examples/*.session; do try "$(basename "$example")" "$example" replay; done
 for example in examples/*.seats; do try "$(basename "$example")" "$example" replay-seats; done
+for example in examples/*.audit; do try "$(basename "$example")" "$example" audit; done
 for example in examples/*.trial; do try "$(basename "$example")" "$example" trial; done
 try "gen 7" /dev/null gen 7
 

@@ -6,7 +6,7 @@ use Rattle.std.proofs.Math.Seq.{take-append_seam}
 use Rattle.std.proofs.lemmas.List.{take_all}
 use Rattle.plain_run.specs.declared.reading.TheConstants.{INPUT_LIMIT}
 use Rattle.plain_run.specs.Lines.{taken}
-use Rattle.plain_run.specs.Run.{task_named, gen_named, gen_text_named, task_of}
+use Rattle.plain_run.specs.Run.{task_named, two_named, gen_text_named, task_of}
 
 pub one_word : (ws : List (String Global)) (a : String Global) → 1 ≤ length ws → length ws < 2 → a ≡ get_or ws 0 a →
     task_of (map string_bytes ws) ≡ task_named (string_bytes a)
@@ -16,11 +16,11 @@ one_word (v ∷ u ∷ ws) a some few is = absurd (omega arith)
 
 pub two_words : (ws : List (String Global)) (a b : String Global) → 2 ≤ length ws → length ws < 3 →
     a ≡ get_or ws 0 a → b ≡ get_or ws 1 b →
-    task_of (map string_bytes ws) ≡ gen_named (string_bytes a) (string_bytes b)
+    task_of (map string_bytes ws) ≡ two_named (string_bytes a) (string_bytes b)
 two_words [] a b some few is also = absurd (omega arith)
 two_words (v ∷ []) a b some few is also = absurd (omega arith)
 two_words (v ∷ u ∷ []) a b some few is also =
-    ap₂ (λ x y. gen_named (string_bytes x) (string_bytes y)) (sym is) (sym also)
+    ap₂ (λ x y. two_named (string_bytes x) (string_bytes y)) (sym is) (sym also)
 two_words (v ∷ u ∷ t ∷ ws) a b some few is also = absurd (omega arith)
 
 pub three_words : (ws : List (String Global)) (a b d : String Global) → 3 ≤ length ws → length ws < 4 →

@@ -13,8 +13,12 @@ pub mod ActsPlayed
 pub mod SessionLines
 pub mod SessionsPlayed
 pub mod SeatPieces
+pub mod ExplainAnswers
+pub mod SessionsExplained
 pub mod SeatsAtPlaces
 pub mod SeatsPlayed
+pub mod AuditsEnd
+pub mod AuditLines
 pub mod LinesReplayed
 pub mod MigratedLines
 pub mod WholeLines

@@ -274,6 +274,7 @@ by_error limit answer stands holds gf lf g l before after done read output gathe
     by status.NoMemory come = memory
     by status.JournalFull come = subst P (sym come) memory
     by status.InputLong come = subst P (sym come) memory
+    by status.AuditNo come = subst P (sym come) memory
 
 pub failed_ran : {limit : ℕ} {answer : Bool → List (List ℕ) → Answer} {stands : List (List ℕ) → List ℕ → Type 0}
     {holds : List ℕ → Type 0} {gf lf g l held0 held : Option (List ℕ)} {reader : LinesAhead}

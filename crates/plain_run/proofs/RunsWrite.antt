@@ -19,7 +19,10 @@ use Rattle.plain_run.specs.Writing.{IsCutShort}
 use Rattle.plain_run.specs.Transcript.{answer_from, answer_of}
 use Rattle.plain_run.specs.Session.{session_of_lines, session_answer}
 use Rattle.plain_run.specs.Migrating.{migrated_lines, migrated_answer}
+use Rattle.plain_run.specs.Audit.{audit_answer, audit_of_lines}
 use Rattle.plain_run.specs.Seats.{seats_of_lines, seats_answer}
+use Rattle.plain_run.specs.Explain.{explain_of_lines, explain_answer}
+use Rattle.seat_explainer.specs.declared.explainer.Lines.{Lines}
 use Rattle.plain_run.specs.Ran.{GrowsByFront, Ran, answer_read}
 use Rattle.plain_run.specs.LineByLine.{LineByLine}
 use Rattle.plain_run.specs.declared.reading.TheConstants.{INPUT_LIMIT, MIGRATE_LIMIT}
@@ -112,6 +115,49 @@ pub seats_law : (command : Command) (left left' held held' : Option (List ℕ)) 
     → command ≡ commands.ReplaySeats → LineByLine INPUT_LIMIT seats_of_lines left left' held held' result read
     → LineByLine (limit_of command) (answer_lines command) left left' held held' result read
 seats_law command left left' held held' result read is law =
+    subst (λ c. LineByLine (limit_of c) (answer_lines c) left left' held held' result read) (sym is) law
+
+audit_read : (left : Option (List ℕ)) (reads reads' : ℕ) (held held' : Option (List ℕ)) (writes writes' : ℕ)
+    (result : Status)
+    → Ran (answer_read INPUT_LIMIT audit_of_lines) left reads reads' held held' writes writes' result
+    → Ran (answer_by commands.Audit) left reads reads' held held' writes writes' result
+unfolding answer_by audit_answer lines_read
+audit_read left reads reads' held held' writes writes' result ran = ran
+
+pub audit_ran : (command : Command) (left : Option (List ℕ)) (reads reads' : ℕ) (held held' : Option (List ℕ))
+    (writes writes' : ℕ) (result : Status) → command ≡ commands.Audit
+    → Ran (answer_read INPUT_LIMIT audit_of_lines) left reads reads' held held' writes writes' result
+    → Ran (answer_by command) left reads reads' held held' writes writes' result
+audit_ran command left reads reads' held held' writes writes' result is ran =
+    subst (λ c. Ran (answer_by c) left reads reads' held held' writes writes' result) (sym is)
+    (audit_read left reads reads' held held' writes writes' result ran)
+
+pub audit_law : (command : Command) (left left' held held' : Option (List ℕ)) (result : Status) (read : List ℕ)
+    → command ≡ commands.Audit → LineByLine INPUT_LIMIT audit_of_lines left left' held held' result read
+    → LineByLine (limit_of command) (answer_lines command) left left' held held' result read
+audit_law command left left' held held' result read is law =
+    subst (λ c. LineByLine (limit_of c) (answer_lines c) left left' held held' result read) (sym is) law
+
+explain_read : (which : Lines) (left : Option (List ℕ)) (reads reads' : ℕ) (held held' : Option (List ℕ))
+    (writes writes' : ℕ) (result : Status)
+    → Ran (answer_read INPUT_LIMIT (explain_of_lines which)) left reads reads' held held' writes writes' result
+    → Ran (answer_by (commands.Explain which)) left reads reads' held held' writes writes' result
+unfolding answer_by explain_answer lines_read
+explain_read which left reads reads' held held' writes writes' result ran = ran
+
+pub explain_ran : (which : Lines) (command : Command) (left : Option (List ℕ)) (reads reads' : ℕ)
+    (held held' : Option (List ℕ)) (writes writes' : ℕ) (result : Status) → command ≡ commands.Explain which
+    → Ran (answer_read INPUT_LIMIT (explain_of_lines which)) left reads reads' held held' writes writes' result
+    → Ran (answer_by command) left reads reads' held held' writes writes' result
+explain_ran which command left reads reads' held held' writes writes' result is ran =
+    subst (λ c. Ran (answer_by c) left reads reads' held held' writes writes' result) (sym is)
+    (explain_read which left reads reads' held held' writes writes' result ran)
+
+pub explain_law : (which : Lines) (command : Command) (left left' held held' : Option (List ℕ)) (result : Status)
+    (read : List ℕ) → command ≡ commands.Explain which
+    → LineByLine INPUT_LIMIT (explain_of_lines which) left left' held held' result read
+    → LineByLine (limit_of command) (answer_lines command) left left' held held' result read
+explain_law which command left left' held held' result read is law =
     subst (λ c. LineByLine (limit_of c) (answer_lines c) left left' held held' result read) (sym is) law
 
 -- what was done of a task is what it owes
@@ -258,6 +304,7 @@ decides answer left reads reads' held held' writes writes' status.WriteFault ran
 decides answer left reads reads' held held' writes writes' status.NoMemory ran r w m = m refl
 decides answer left reads reads' held held' writes writes' status.JournalFull ran r w m = tt
 decides answer left reads reads' held held' writes writes' status.InputLong ran r w m = tt
+decides answer left reads reads' held held' writes writes' status.AuditNo ran r w m = tt
 
 pub other_words : (words : List (List ℕ)) (left held : Option (List ℕ)) → task_of words ≡ None
     → IfSome left (λ bytes. (status_of words bytes ≡ status.BadWords) × Appends held held (output_of words bytes))

@@ -26,6 +26,12 @@ full_line n = codes "journal full " ++ decimal n ++ codes "\n"
 abbrev pub long_line : List ℕ
 long_line = codes "input too long\n"
 
+abbrev pub yes_line : ℕ → List ℕ
+yes_line n = codes "yes " ++ decimal n ++ codes "\n"
+
+abbrev pub no_line : ℕ → List ℕ
+no_line n = codes "no " ++ decimal n ++ codes "\n"
+
 -- a last line alone, and its status
 abbrev pub ending : LastLine → Answer
 ending (last.End n) = (end_line n, status.Ok)
@@ -34,6 +40,8 @@ ending last.OverFull = (codes "end\n", status.JournalFull)
 ending (last.Bad n) = (bad_line n, status.BadSession)
 ending (last.Full n) = (full_line n, status.JournalFull)
 ending last.Long = (long_line, status.InputLong)
+ending (last.Yes n) = (yes_line n, status.Ok)
+ending (last.No n) = (no_line n, status.AuditNo)
 
 -- where no line is left after so many that count
 abbrev pub without_end : Bool → ℕ → Answer
@@ -45,6 +53,7 @@ IsDecided status.Ok = Unit {0}
 IsDecided status.BadSession = Unit {0}
 IsDecided status.JournalFull = Unit {0}
 IsDecided status.InputLong = Unit {0}
+IsDecided status.AuditNo = Unit {0}
 IsDecided _ = ⊥
 
 -- the status of an input whose lines decide nothing up to the limit of input bytes

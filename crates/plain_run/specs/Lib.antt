@@ -11,12 +11,15 @@ pub mod Replayed
 pub mod Seats
 pub mod SeatsPlayed
 pub mod Migrating
+pub mod Audit
+pub mod AuditPlayed
 pub mod ActScript
 pub mod MigrationScript
 pub mod Watching
 pub mod PlayerScript
 pub mod SessionScript
 pub mod SeatsScript
+pub mod AuditScript
 pub mod Ran
 pub mod Whole
 pub mod Trials
@@ -24,3 +27,5 @@ pub mod Generated
 pub mod Run
 pub mod Migrates
 pub mod LineByLine
+pub mod Explain
+pub mod ExplainScript

@@ -14,7 +14,10 @@ use Rattle.plain_run.specs.Endings.{Answer}
 use Rattle.plain_run.specs.Transcript.{answer_of, answer_from}
 use Rattle.plain_run.specs.Session.{session_answer, session_of_lines}
 use Rattle.plain_run.specs.Seats.{seats_answer, seats_of_lines}
+use Rattle.plain_run.specs.Explain.{explain_answer, explain_of_lines}
+use Rattle.seat_explainer.specs.declared.explainer.Lines.TheVariants.{All, BadOnly}
 use Rattle.plain_run.specs.Migrating.{migrated_answer, migrated_lines}
+use Rattle.plain_run.specs.Audit.{audit_answer, audit_of_lines}
 use Rattle.plain_run.specs.Ran.{answer_read}
 use Rattle.plain_run.specs.Trials.{trial_lines}
 use Rattle.plain_run.specs.Generated.{counts_answer, text_answer}
@@ -26,6 +29,8 @@ command_named word =
     else if bytes_eq word (codes "replay-acts") then Some commands.ReplayActs
     else if bytes_eq word (codes "migrate") then Some commands.Migrate
     else if bytes_eq word (codes "replay-seats") then Some commands.ReplaySeats
+    else if bytes_eq word (codes "audit") then Some commands.Audit
+    else if bytes_eq word (codes "explain") then Some (commands.Explain All)
     else None
 
 -- what one word names
@@ -46,10 +51,26 @@ gen_text_named word number last =
     then option_map (λ n. tasks.GenText n) (long_number_of number)
     else None
 
+-- `explain --bad-only`
+abbrev pub explain_named : (word option : List ℕ) → Option Task
+explain_named word option =
+    if bytes_eq word (codes "explain") && bytes_eq option (codes "--bad-only")
+    then Some (tasks.Lines (commands.Explain BadOnly))
+    else None
+
+-- the first of two, if it is there
+abbrev pub either_task : Option Task → Option Task → Option Task
+either_task (Some task) other = Some task
+either_task None other = other
+
+-- what two words name
+abbrev pub two_named : (word second : List ℕ) → Option Task
+two_named word second = either_task (explain_named word second) (gen_named word second)
+
 -- what the words name, if they do
 abbrev pub task_of : List (List ℕ) → Option Task
 task_of (word ∷ []) = task_named word
-task_of (word ∷ number ∷ []) = gen_named word number
+task_of (word ∷ second ∷ []) = two_named word second
 task_of (word ∷ number ∷ last ∷ []) = gen_text_named word number last
 task_of _ = None
 
@@ -78,6 +99,8 @@ answer_lines commands.Replay cut lines = session_of_lines cut lines
 answer_lines commands.ReplayActs cut lines = answer_from cut [] lines
 answer_lines commands.Migrate cut lines = migrated_lines cut lines
 answer_lines commands.ReplaySeats cut lines = seats_of_lines cut lines
+answer_lines commands.Audit cut lines = audit_of_lines cut lines
+answer_lines (commands.Explain which) cut lines = explain_of_lines which cut lines
 
 -- the most bytes of its input that a command reads
 abbrev pub limit_of : Command → ℕ
@@ -85,6 +108,8 @@ limit_of commands.Replay = INPUT_LIMIT
 limit_of commands.ReplayActs = INPUT_LIMIT
 limit_of commands.Migrate = MIGRATE_LIMIT
 limit_of commands.ReplaySeats = INPUT_LIMIT
+limit_of commands.Audit = INPUT_LIMIT
+limit_of (commands.Explain which) = INPUT_LIMIT
 
 -- what a command makes of an input of which at most the limit was read
 abbrev pub answer_to : Command → Bool → List ℕ → Answer
@@ -92,6 +117,8 @@ answer_to commands.Replay cut input = session_answer cut input
 answer_to commands.ReplayActs cut input = answer_of cut input
 answer_to commands.Migrate cut input = migrated_answer cut input
 answer_to commands.ReplaySeats cut input = seats_answer cut input
+answer_to commands.Audit cut input = audit_answer cut input
+answer_to (commands.Explain which) cut input = explain_answer which cut input
 
 -- what a command writes for the bytes of an input, and its status
 unfoldable pub answer_by : Command → List ℕ → Answer

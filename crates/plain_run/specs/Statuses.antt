@@ -12,3 +12,4 @@ number_of status.WriteFault = 5
 number_of status.NoMemory = 6
 number_of status.JournalFull = 7
 number_of status.InputLong = 11
+number_of status.AuditNo = 12

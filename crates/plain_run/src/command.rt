@@ -4,9 +4,11 @@ ghost use Rattle.std.specs.Fmt.{decimal};
 ghost use Rattle.std.specs.Str.{bytes_eq};
 ghost use Rattle.session_text.specs.Words.{long_number_of};
 ghost use Rattle.plain_run.specs.Run.{command_named, task_named, gen_named, gen_text_named};
+ghost use Rattle.plain_run.specs.Run.{explain_named, two_named};
 ghost use Rattle.plain_run.specs.Run.{task_of};
 
 use itoa::Buffer;
+use seat_explainer::Lines;
 
 /// What an input is that is read line by line.
 #[derive(Clone, Copy, Debug, PartialEq, Eq)]
@@ -17,8 +19,12 @@ pub enum Command {
     ReplayActs,
     /// `replay-seats`: several seats, each with the lines of a session of form 1.
     ReplaySeats,
+    /// `explain`: a session, of which these entries have a line each.
+    Explain(Lines),
     /// `migrate`: a session of form 1, which becomes one of form 2.
     Migrate,
+    /// `audit`: what went into another broker, and what it sent.
+    Audit,
 }
 
 /// What is to be done.
@@ -45,6 +51,10 @@ fn command_named(word: &str) -> Option<Command>
         Some(Command::Migrate)
     } else if word == "replay-seats" {
         Some(Command::ReplaySeats)
+    } else if word == "audit" {
+        Some(Command::Audit)
+    } else if word == "explain" {
+        Some(Command::Explain(Lines::All))
     } else {
         None
     }
@@ -101,13 +111,32 @@ fn gen_text_named(word: &str, number: &str, last: &str) -> Option<Task>
     Some(Task::GenText(number))
 }
 
+fn explain_named(word: &str, option: &str) -> Option<Task>
+    ensures { result ≡ explain_named word.now option.now }
+{
+    if word != "explain" || option != "--bad-only" {
+        return None;
+    }
+    Some(Task::Lines(Command::Explain(Lines::BadOnly)))
+}
+
+// What two words name.
+fn two_named(word: &str, second: &str) -> Option<Task>
+    ensures { result ≡ two_named word.now second.now }
+{
+    match explain_named(word, second) {
+        Some(task) => Some(task),
+        None => gen_named(word, second),
+    }
+}
+
 /// What the words name. None: they are in no grammar.
 pub fn task_of(words: &[String]) -> Option<Task>
     ensures { result ≡ task_of (map string_bytes words.now) }
 {
     match words {
         [word] => task_named(word.as_str()),
-        [word, number] => gen_named(word.as_str(), number.as_str()),
+        [word, second] => two_named(word.as_str(), second.as_str()),
         [word, number, last] => gen_text_named(word.as_str(), number.as_str(), last.as_str()),
         _ => None,
     }

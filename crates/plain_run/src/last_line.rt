@@ -20,6 +20,10 @@ pub enum LastLine {
     Full(u32),
     /// `input too long`: the limit of input bytes was taken, and no line in them decided.
     Long,
+    /// `yes D`: each line of an audit is as it should be, and so many dones were counted.
+    Yes(u64),
+    /// `no L`: what was sent on the line with that number, from 1, isn't what was owed.
+    No(u64),
 }
 
 /// Adds the last line to a transcript, and gives the status.
@@ -52,6 +56,14 @@ pub fn close(text: &mut String, last: LastLine) -> Result<Status, NoMemory>
         LastLine::Long => {
             text.push_str("input too long\n")?;
             Ok(Status::InputLong)
+        }
+        LastLine::Yes(n) => {
+            write!(text, "yes {n}\n")?;
+            Ok(Status::Ok)
+        }
+        LastLine::No(n) => {
+            write!(text, "no {n}\n")?;
+            Ok(Status::AuditNo)
         }
     }
 }

@@ -1,9 +1,11 @@
 //! What the words of the command line name, over an input and an output: sessions and act lists
-//! that are played, sessions that are migrated, trials, and generated sessions.
+//! that are played, sessions that are migrated, audits, trials, and generated sessions.
 #![tactic(auto)]
 
 mod act_list;
+mod audit;
 mod command;
+mod explain;
 mod follow;
 mod generated;
 mod last_line;

@@ -6,14 +6,17 @@ ghost use Rattle.wio_core.specs.Io.{Rose};
 ghost use Rattle.wio_core.specs.Lines.{TookFrom};
 ghost use Rattle.plain_run.specs.Endings.{IsDecided};
 ghost use Rattle.plain_run.specs.LineByLine.{LineByLine};
-ghost use Rattle.plain_run.specs.Ran.{GrowsByFront, Ran};
+ghost use Rattle.plain_run.specs.Ran.{GrowsByFront, Ran, answer_read};
+ghost use Rattle.plain_run.specs.Explain.{explain_of_lines};
 ghost use Rattle.plain_run.specs.Run.{is_command, status_of, output_of};
 ghost use Rattle.plain_run.specs.Migrates.{Migrates};
 ghost use Rattle.plain_run.specs.Run.{command_of, limit_of, answer_by, answer_lines};
 ghost use Rattle.plain_run.specs.Run.{line_command, reads_nothing, task_answer, task_of};
 
 use crate::act_list::ActList;
+use crate::audit::AuditPlay;
 use crate::command::{Command, Task, task_of};
+use crate::explain::{BadLines, EachLine, ExplainPlay};
 use crate::follow::play_input;
 use crate::generated::{write_counts, write_generated};
 use crate::migration::Migration;
@@ -22,8 +25,35 @@ use crate::seats::SeatsPlay;
 use crate::session::SessionPlay;
 use crate::status::Status;
 use crate::trial::run_script;
+use seat_explainer::Lines;
 use std::alloc::Global;
 use wio_core::{NoMemory, Sink, Source};
+
+// Explains a session.
+fn explain<S: Source, K: Sink>(alloc: Global, lines: Lines, input: &mut S, output: &mut K) -> Status
+    ensures ran { Ran (answer_read INPUT_LIMIT (explain_of_lines lines)) (S.left input.old)
+        (S.fault_count input.old) (S.fault_count input.new)
+        (K.held output.old) (K.held output.new)
+        (K.fault_count output.old) (K.fault_count output.new) result }
+    ensures line_by_line { result ≢ Status.NoMemory → (read : List ℕ)
+        × TookFrom (S.given input.old) (S.given input.new)
+        (S.left input.old) (S.left input.new) read
+        × LineByLine INPUT_LIMIT (explain_of_lines lines) (S.left input.old) (S.left input.new)
+        (K.held output.old) (K.held output.new) result read }
+    ensures reads_never_fall { S.fault_count input.old ≤ S.fault_count input.new }
+    ensures writes_never_fall { K.fault_count output.old ≤ K.fault_count output.new }
+{
+    match lines {
+        Lines::All => {
+            let mut script = ExplainPlay::new(alloc, EachLine);
+            play_input(alloc, INPUT_LIMIT, &mut script, input, output)
+        }
+        Lines::BadOnly => {
+            let mut script = ExplainPlay::new(alloc, BadLines);
+            play_input(alloc, INPUT_LIMIT, &mut script, input, output)
+        }
+    }
+}
 
 // Plays an input by its command.
 fn replay<S: Source, K: Sink>(
@@ -61,6 +91,11 @@ fn replay<S: Source, K: Sink>(
             let mut seats = SeatsPlay::new(alloc);
             play_input(alloc, INPUT_LIMIT, &mut seats, input, output)
         }
+        Command::Audit => {
+            let mut audit = AuditPlay::new(alloc);
+            play_input(alloc, INPUT_LIMIT, &mut audit, input, output)
+        }
+        Command::Explain(lines) => explain(alloc, lines, input, output),
     }
 }
 
@@ -91,11 +126,14 @@ fn run_task<S: Source, K: Sink>(alloc: Global, task: Task, input: &mut S, output
 /// Runs the command that the words name over an input and an output: `replay` reads a session, and
 /// `replay-acts` an act list of at most 100,000 acts, and each writes its transcript; `replay-seats`
 /// reads the lines of several seats, and writes what each would by itself, behind its number;
-/// `migrate` writes a session of form 1 as one of form 2. These work line by line. `trial` reads the whole
-/// script of a trial, runs it, and writes what it shows. `gen N` and `gen N text` read nothing:
-/// they write the counts of the session of the number, and the session. At most 4,294,967,296 bytes
-/// are read, and 1,073,741,824 of a session that is migrated. Always returns. What status comes
-/// when is the clauses' to say; `NoMemory` alone may come at any time.
+/// `explain` writes a line for people of each entry of a session, and with `--bad-only` those of batches
+/// that reached nobody alone;
+/// `migrate` writes a session of form 1 as one of form 2; `audit` says whether what another broker
+/// sent is what it owed. These work line by line. `trial` reads the whole script of a trial, runs
+/// it, and writes what it shows. `gen N` and `gen N text` read nothing: they write the counts of the
+/// session of the number, and the session. At most 4,294,967,296 bytes are read, and 1,073,741,824
+/// of a session that is migrated. Always returns. What status comes when is the clauses' to say;
+/// `NoMemory` alone may come at any time.
 pub fn run_plain<S: Source, K: Sink>(
     alloc: Global,
     words: &[String],

@@ -21,6 +21,8 @@ pub enum Status {
     JournalFull,
     /// The limit of input bytes was taken, and no line in them decided.
     InputLong,
+    /// What an audited broker sent isn't what it owes.
+    AuditNo,
 }
 
 impl Status {
@@ -37,6 +39,7 @@ impl Status {
             Status::NoMemory => 6,
             Status::JournalFull => 7,
             Status::InputLong => 11,
+            Status::AuditNo => 12,
         }
     }
 }

@@ -5,9 +5,13 @@
 #[cfg(test)]
 mod act_list_tests;
 #[cfg(test)]
+mod audit_tests;
+#[cfg(test)]
 mod board_tests;
 #[cfg(test)]
 mod equal;
+#[cfg(test)]
+mod explain_tests;
 #[cfg(test)]
 mod fault_tests;
 #[cfg(test)]

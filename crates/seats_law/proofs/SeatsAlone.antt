@@ -156,6 +156,7 @@ by_status status.ReadFault told text out h = absurd out
 by_status status.WriteFault told text out h = absurd out
 by_status status.NoMemory told text out h = absurd out
 by_status status.InputLong told text out h = absurd out
+by_status status.AuditNo told text out h = absurd out
 
 pub isolated : SeatsAreIsolated
 isolated one other header header' lines lines' seat h h' limits some few few' out given_same =

@@ -1,7 +1,8 @@
-use Rattle.plain_run.proofs.RunsWrite.{acts_ran, session_ran, migrated_ran, seats_ran, acts_law, session_law, migrated_law, seats_law}
+use Rattle.plain_run.proofs.RunsWrite.{acts_ran, session_ran, migrated_ran, seats_ran, audit_ran, explain_ran, acts_law, session_law, migrated_law, seats_law, audit_law, explain_law}
 use Rattle.plain_run.proofs.MigratedLines.{migration_begins}
 use Rattle.plain_run.proofs.ActsPlayed.{acts_begin}
 use Rattle.plain_run.proofs.SeatsPlayed.{seats_begin}
+use Rattle.plain_run.proofs.AuditLines.{audit_begins}
 use Rattle.plain_run.proofs.SessionsPlayed.{session_begins}
 use Rattle.plain_run.proofs.run.replay.Goals as goal
 
@@ -54,3 +55,26 @@ pub returns-in-ReplaySeats-clause-line_by_line : goal.returns-in-ReplaySeats-cla
 returns-in-ReplaySeats-clause-line_by_line g c = λ other.
     let l = c.play_input-in-ReplaySeats.ensures.line_by_line other in
     (l.0, l.1, seats_law c.args.command _ _ _ _ c.play_input-in-ReplaySeats.result l.0 c.in-ReplaySeats.is l.2)
+
+pub play_input-requires-in-Audit-clause-follows : goal.play_input-requires-in-Audit-clause-follows
+play_input-requires-in-Audit-clause-follows g c = audit_begins
+
+pub returns-in-Audit-clause-ran : goal.returns-in-Audit-clause-ran
+returns-in-Audit-clause-ran g c =
+    audit_ran c.args.command _ _ _ _ _ _ _ c.play_input-in-Audit.result c.in-Audit.is
+    c.play_input-in-Audit.ensures.ran
+
+pub returns-in-Audit-clause-line_by_line : goal.returns-in-Audit-clause-line_by_line
+returns-in-Audit-clause-line_by_line g c = λ other.
+    let l = c.play_input-in-Audit.ensures.line_by_line other in
+    (l.0, l.1, audit_law c.args.command _ _ _ _ c.play_input-in-Audit.result l.0 c.in-Audit.is l.2)
+
+pub returns-in-Explain-clause-ran : goal.returns-in-Explain-clause-ran
+returns-in-Explain-clause-ran g c =
+    explain_ran c.in-Explain.lines c.args.command _ _ _ _ _ _ _ c.explain.result c.in-Explain.is
+    c.explain.ensures.ran
+
+pub returns-in-Explain-clause-line_by_line : goal.returns-in-Explain-clause-line_by_line
+returns-in-Explain-clause-line_by_line g c = λ other.
+    let l = c.explain.ensures.line_by_line other in
+    (l.0, l.1, explain_law c.in-Explain.lines c.args.command _ _ _ _ c.explain.result l.0 c.in-Explain.is l.2)

@@ -1,0 +1,220 @@
+-- What one line more makes of a session that is explained.
+use Rattle.std.proofs.Common.{◌≡◌, ℕ, ◌+◌, Bool, true, false, List, [], ◌∷◌, ◌++◌, length, Option, Some, None, Ok, Err, refl, sym, ap, subst, ◌∙◌, append-nil, length-append}
+use Rattle.std.specs.Prelude.{if◌then◌else◌, Result, IfOk}
+use Rattle.std.specs.Option.{option_map}
+use Rattle.seat_steps.specs.declared.limits.Limits.{Limits}
+use Rattle.seat_steps.specs.declared.stamp.Stamp.{Stamp}
+use Rattle.session_text.specs.declared.line.SessionLine.{SessionLine}
+use Rattle.broker_model.specs.declared.journal.Entry.{Entry}
+use Rattle.session_play.specs.Played.{line_played}
+use Rattle.session_play.specs.Playing.{Playing, IsMore}
+use Rattle.seat_explainer.specs.declared.explainer.Lines.{Lines}
+use Rattle.seat_explainer.specs.Explained.{Explaining, blank}
+use Rattle.seat_explainer.specs.Journals.{journal_lines, lines_since, at_rest}
+use Rattle.plain_run.specs.declared.last_line.LastLine.{LastLine}
+use Rattle.plain_run.specs.declared.last_line.LastLine.TheVariants as last
+use Rattle.plain_run.specs.declared.session_line.Meaning.TheVariants as meaning
+use Rattle.plain_run.specs.declared.session_line.Opening.{Opening}
+use Rattle.plain_run.specs.declared.session_line.Stage.{Stage}
+use Rattle.plain_run.specs.Endings.{with_front, ending}
+use Rattle.plain_run.specs.Scripts.{Follows, Settles, NamesNext, Played}
+use Rattle.plain_run.specs.Session.{full_at, meaning_of, opening_of, first_stage, next_stage}
+use Rattle.plain_run.specs.PlayerScript.{fresh}
+use Rattle.plain_run.specs.Explain.{by_opening, explain_from, explain_of_lines}
+use Rattle.plain_run.specs.ExplainScript.{ExplainerStands, ExplainerHolds, IsLed, Explains, ExplainStandsBy, ExplainHoldsBy}
+use Rattle.plain_run.proofs.SessionLines.{line_grows, long_is_bad, long_is_none}
+use Rattle.plain_run.proofs.ExplainAnswers.{text_grows, settles, settles_full, goes_further, follows}
+
+-- the lines of a line
+abbrev gained : Lines → Playing → Playing → List ℕ
+gained which player after =
+    lines_since which player.limits.store (length player.play.journal) after.play.journal
+
+grows : (which : Lines) (player after : Playing) (found : SessionLine)
+    → after.play.journal ≡ (line_played player.limits found player.play).play.journal
+    → journal_lines which player.limits.store after.play.journal
+    ≡ journal_lines which player.limits.store player.play.journal ++ gained which player after
+grows which player after found same =
+    text_grows which player.limits.store player.play.journal after.play.journal
+    (subst (λ (j : List Entry). IsMore player.play.journal j) (sym same) (line_grows player.limits found player.play))
+
+-- the output so far, with it
+said_line : (which : Lines) (stage : Stage) (player after : Playing) (found : SessionLine) (before : ℕ)
+    (done : List (List ℕ)) (output : List ℕ)
+    → ExplainerStands which stage player before done output
+    → after.play.journal ≡ (line_played player.limits found player.play).play.journal
+    → output ++ gained which player after ≡ journal_lines which player.limits.store after.play.journal
+said_line which stage player after found before done output s same =
+    ap (λ t. t ++ gained which player after) s.said ∙ sym (grows which player after found same)
+
+one_more : (done : List (List ℕ)) (raw : List ℕ) → length (done ++ raw ∷ []) ≡ length done + 1
+one_more done raw = length-append done (raw ∷ [])
+
+-- it goes on
+stands_line : (which : Lines) (stage : Stage) (player after : Playing) (stamp : Stamp) (found : SessionLine)
+    (before : ℕ) (done : List (List ℕ)) (raw output : List ℕ) → ExplainerStands which stage player before done output
+    → meaning.Play stamp found ≡ meaning_of stage raw → None ≡ full_at (line_played player.limits found player.play)
+    → IsLed player after found None
+    → ExplainerStands which (next_stage stage stamp) after (before + 1) (done ++ raw ∷ [])
+    (output ++ gained which player after)
+stands_line which stage player after stamp found before done raw output s is room w =
+    let went = w.play refl in
+    let store : player.limits.store ≡ after.limits.store = ap (λ (l : Limits). l.store) (sym w.limits) in
+    record {
+      unspent = ap (λ (p : Playing). p.is_spent) went ∙ s.unspent;
+      count = ap (λ k. k + 1) s.count ∙ sym (one_more done raw);
+      said = subst (λ (n : ℕ). output ++ gained which player after ≡ journal_lines which n after.play.journal) store
+          (said_line which stage player after found before done output s w.journal);
+      goes_on = λ cut more.
+          goes_further which stage player before done output raw stamp found s is room cut more
+          ∙ ap (λ (p : Playing). explain_from which p.limits cut (before + 1) (next_stage stage stamp) p.play more)
+          (sym went);
+    }
+
+-- by the entries that are counted where the journal was full
+told_by : (which : Lines) (stage : Stage) (player after : Playing) (y : Explaining) (stamp : Stamp)
+    (found : SessionLine) (before : ℕ) (done : List (List ℕ)) (raw output gathered : List ℕ) (full : Option ℕ)
+    → ExplainerStands which stage player before done output → meaning.Play stamp found ≡ meaning_of stage raw
+    → full ≡ full_at (line_played player.limits found player.play)
+    → Explains which player after gathered y found (option_map last.Full full)
+    → Played (explain_of_lines which) (ExplainerStands which (next_stage stage stamp) after (before + 1))
+    (ExplainerHolds which after y) done raw output gathered (option_map last.Full full)
+told_by which stage player after y stamp found before done raw output gathered None s is room w =
+    let next = stands_line which stage player after stamp found before done raw output s is room w.0 in (
+      gained which player after,
+      next,
+      w.1,
+      follows which (next_stage stage stamp) after (before + 1) (done ++ raw ∷ [])
+          (output ++ gained which player after) next,
+    )
+told_by which stage player after y stamp found before done raw output gathered (Some entries) s is room w =
+    let text : journal_lines which player.limits.store (line_played player.limits found player.play).play.journal
+    ≡ output ++ gained which player after =
+    ap (journal_lines which player.limits.store) (sym w.0.journal)
+    ∙ sym (said_line which stage player after found before done output s w.0.journal) in (
+      gained which player after,
+      w.1,
+      subst (λ t. Settles (explain_of_lines which) (done ++ raw ∷ []) (with_front t (ending (last.Full entries)))) text
+          (settles_full which stage player before done output raw stamp found entries s is room),
+    )
+
+-- a line that was played
+line_told : (which : Lines) (stage : Stage) (player after : Playing) (y : Explaining) (stamp : Stamp)
+    (found : SessionLine) (before : ℕ) (done : List (List ℕ)) (raw output gathered : List ℕ) (end : Option LastLine)
+    → ExplainerStands which stage player before done output → meaning.Play stamp found ≡ meaning_of stage raw
+    → Explains which player after gathered y found end
+    → Played (explain_of_lines which) (ExplainerStands which (next_stage stage stamp) after (before + 1))
+    (ExplainerHolds which after y) done raw output gathered end
+line_told which stage player after y stamp found before done raw output gathered end s is w =
+    let full : Option ℕ = full_at (line_played player.limits found player.play) in
+    subst (Played (explain_of_lines which) (ExplainerStands which (next_stage stage stamp) after (before + 1))
+    (ExplainerHolds which after y) done raw output gathered) (sym w.0.full)
+    (told_by which stage player after y stamp found before done raw output gathered full s is refl
+    (subst (Explains which player after gathered y found) w.0.full w))
+
+-- the same of a call that may have found no memory
+pub line_told_if : {E : Type 0} (which : Lines) (stage : Stage) (player after : Playing) (y : Explaining)
+    (stamp : Stamp) (found : SessionLine) (before : ℕ) (done : List (List ℕ)) (raw output gathered : List ℕ)
+    (r : Result (Option LastLine) E) → ExplainerStands which stage player before done output
+    → meaning.Play stamp found ≡ meaning_of stage raw → IfOk r (Explains which player after gathered y found)
+    → IfOk r (Played (explain_of_lines which) (ExplainerStands which (next_stage stage stamp) after (before + 1))
+    (ExplainerHolds which after y) done raw output gathered)
+line_told_if which stage player after y stamp found before done raw output gathered (Ok end) s is w =
+    line_told which stage player after y stamp found before done raw output gathered end s is w
+line_told_if which stage player after y stamp found before done raw output gathered (Err e) s is w = tt
+
+-- a line that ends the session without a step has no line of its own
+pub ended : (which : Lines) (stands : List (List ℕ) → List ℕ → Type 0) (player : Playing) (y : Explaining)
+    (done : List (List ℕ)) (raw output gathered : List ℕ) (end : LastLine) → ExplainerHolds which player y gathered
+    → Settles (explain_of_lines which) (done ++ raw ∷ []) (with_front output (ending end))
+    → Played (explain_of_lines which) stands (ExplainerHolds which player y) done raw output gathered (Some end)
+ended which stands player y done raw output gathered end h s = (
+  [],
+  subst (ExplainerHolds which player y) (sym (append-nil gathered)) h,
+  subst (λ t. Settles (explain_of_lines which) (done ++ raw ∷ []) (with_front t (ending end)))
+      (sym (append-nil output)) s,
+)
+
+-- the header
+header_stands : (which : Lines) (opening : Opening) (raw : List ℕ) → Some opening ≡ opening_of raw
+    → ExplainerStands which (first_stage opening.form) (fresh opening.limits) 1 (raw ∷ []) []
+header_stands which opening raw is = record {
+  unspent = refl;
+  count = refl;
+  said = refl;
+  goes_on = λ cut more. ap (λ o. by_opening which cut o more) (sym is);
+}
+
+pub no_header : (which : Lines) (raw : List ℕ) → None ≡ opening_of raw
+    → Settles (explain_of_lines which) (raw ∷ []) (ending (last.Bad 1))
+no_header which raw is = record { same = λ cut more. ap (λ o. by_opening which cut o more) (sym is); decides = refl }
+
+-- how the output ends behind these lines
+names_next : (which : Lines) (stage : Stage) (player : Playing) (before : ℕ) (done : List (List ℕ)) (output : List ℕ)
+    → ExplainerStands which stage player before done output
+    → NamesNext (explain_of_lines which) done output (last.Bad (before + 1))
+unfolding explain_from
+names_next which stage player before done output s = record {
+  missing = ap (explain_of_lines which false) (sym (append-nil done)) ∙ s.goes_on false []
+      ∙ ap (λ t. with_front t (ending (last.Bad (before + 1)))) (sym s.said);
+  long = λ raw wide. settles which stage player before done output raw meaning.Bad (last.Bad (before + 1)) s
+      (sym (long_is_bad stage raw wide)) (λ rest. refl) refl;
+}
+
+names_first : (which : Lines) → NamesNext (explain_of_lines which) [] [] (last.Bad 1)
+names_first which = record { missing = refl; long = λ raw wide. no_header which raw (sym (long_is_none raw wide)) }
+
+-- the same where a header may have come or not
+
+pub count_by : (which : Lines) (stage : Stage) (o : Option Playing) (before : ℕ) (done : List (List ℕ))
+    (output : List ℕ) → ExplainStandsBy which stage o before done output → before ≡ length done
+count_by which stage None before done output s = s.0 ∙ sym (ap length s.1)
+count_by which stage (Some player) before done output s = s.count
+
+pub names_by : (which : Lines) (stage : Stage) (o : Option Playing) (before next : ℕ) (done : List (List ℕ))
+    (output : List ℕ) → ExplainStandsBy which stage o before done output → next ≡ before + 1
+    → NamesNext (explain_of_lines which) done output (last.Bad next)
+names_by which stage None before next done output s e =
+    subst (λ n. NamesNext (explain_of_lines which) done output (last.Bad n)) (sym (e ∙ ap (λ n. n + 1) s.0))
+    (subst (λ d. NamesNext (explain_of_lines which) d output (last.Bad 1)) (sym s.1)
+    (subst (λ t. NamesNext (explain_of_lines which) [] t (last.Bad 1)) (sym s.2) (names_first which)))
+names_by which stage (Some player) before next done output s e =
+    subst (λ n. NamesNext (explain_of_lines which) done output (last.Bad n)) (sym e)
+    (names_next which stage player before done output s)
+
+-- a header came first
+
+Begun : Lines → Stage → Playing → ℕ → Explaining → List (List ℕ) → List ℕ → List ℕ → List ℕ → Type 0
+Begun which stage player before y done raw output gathered =
+    (x : List ℕ) × ExplainerStands which stage player before (done ++ raw ∷ []) (output ++ x)
+    × ExplainerHolds which player y (gathered ++ x)
+    × Follows (explain_of_lines which) (done ++ raw ∷ []) (output ++ x)
+
+begun_fresh : (which : Lines) (opening : Opening) (raw : List ℕ) → Some opening ≡ opening_of raw
+    → Begun which (first_stage opening.form) (fresh opening.limits) 1 (blank which) [] raw [] []
+unfolding Begun
+begun_fresh which opening raw is =
+    let s = header_stands which opening raw is in
+    ([], s, refl, follows which (first_stage opening.form) (fresh opening.limits) 1 (raw ∷ []) [] s)
+
+pub begun : (which : Lines) (stage : Stage) (player : Playing) (before : ℕ) (y : Explaining) (opening : Opening)
+    (done : List (List ℕ)) (raw output gathered : List ℕ) → Some opening ≡ opening_of raw
+    → stage ≡ first_stage opening.form → player ≡ fresh opening.limits
+    → (before ≡ 1) × (done ≡ []) × (output ≡ []) → (y ≡ blank which) × (gathered ≡ [])
+    → (x : List ℕ) × ExplainerStands which stage player before (done ++ raw ∷ []) (output ++ x)
+    × ExplainerHolds which player y (gathered ++ x)
+    × Follows (explain_of_lines which) (done ++ raw ∷ []) (output ++ x)
+unfolding Begun
+begun which stage player before y opening done raw output gathered is at made stood held =
+    subst (λ n. Begun which stage player n y done raw output gathered) (sym stood.0)
+    (subst (λ d. Begun which stage player 1 y d raw output gathered) (sym stood.1)
+    (subst (λ t. Begun which stage player 1 y [] raw t gathered) (sym stood.2)
+    (subst (λ (z : Explaining). Begun which stage player 1 z [] raw [] gathered) (sym held.0)
+    (subst (λ t. Begun which stage player 1 (blank which) [] raw [] t) (sym held.1)
+    (subst (λ (t : Stage). Begun which t player 1 (blank which) [] raw [] []) (sym at)
+    (subst (λ (p : Playing). Begun which (first_stage opening.form) p 1 (blank which) [] raw [] []) (sym made)
+    (begun_fresh which opening raw is)))))))
+
+-- before any line
+pub explain_begins : (which : Lines) → Follows (explain_of_lines which) [] []
+explain_begins which = record { begins = λ cut more. (explain_of_lines which cut more, refl); undecided = refl }

@@ -1,0 +1,220 @@
+//! A session explained, line by line: the line of each entry says what it was, and what came of it.
+ghost use Rattle.std.specs.Prelude.{◌≡◌, ◌<◌, ◌+◌, ◌^◌, ℕ, [], false, List, length, IfOk};
+ghost use Rattle.session_text.specs.Steps.{IsSessionLine};
+ghost use Rattle.seat_explainer.specs.declared.explainer.Lines.{Lines as Which};
+ghost use Rattle.plain_run.specs.Scripts.{Played};
+ghost use Rattle.plain_run.specs.Explain.{explain_of_lines};
+ghost use Rattle.plain_run.specs.ExplainScript.{ExplainerStands, ExplainerHolds, IsSeen, Explains};
+ghost use Rattle.plain_run.specs.ExplainScript.{ExplainHoldsBy};
+ghost use Rattle.seat_explainer.specs.Explained.{blank};
+
+use crate::last_line::LastLine;
+use crate::script::Script;
+use crate::session_line::{Meaning, Stage, judge, read_opening};
+use seat_explainer::{Explainer, Lines};
+use seat_steps::Stamp;
+use session_play::{Player, Stop};
+use session_text::{Form, SessionLine};
+use std::alloc::Global;
+use wio_core::NoMemory;
+
+/// Which lines are written.
+pub trait Wanted {
+    ghost which: { Which };
+
+    /// The same, as a value.
+    fn lines(&self) -> Lines
+        ensures { result ≡ which };
+}
+
+/// The line of each entry.
+#[derive(Drop)]
+pub struct EachLine;
+
+impl Wanted for EachLine {
+    ghost use Rattle.seat_explainer.specs.declared.explainer.Lines.TheVariants.{All};
+
+    ghost which = { All };
+
+    fn lines(&self) -> Lines {
+        Lines::All
+    }
+}
+
+/// The lines of batches that reached nobody.
+#[derive(Drop)]
+pub struct BadLines;
+
+impl Wanted for BadLines {
+    ghost use Rattle.seat_explainer.specs.declared.explainer.Lines.TheVariants.{BadOnly};
+
+    ghost which = { BadOnly };
+
+    fn lines(&self) -> Lines {
+        Lines::BadOnly
+    }
+}
+
+// Plays one line before the explainer. Tells how the output ends where the journal was full for a
+// step of it.
+fn watch(
+    player: &mut Player,
+    line: &SessionLine,
+    stamp: Stamp,
+    explainer: &mut Explainer,
+) -> Result<Option<LastLine>, NoMemory>
+    requires valid { IsSessionLine line.now }
+    ensures { player.old.is_spent ≡ false
+        → IfOk result (IsSeen player.old player.new explainer.old explainer.new line.now) }
+{
+    match player.line_watched(line, stamp, explainer) {
+        Ok(()) => Ok(None),
+        Err(Stop::Full(kept)) => Ok(Some(LastLine::Full(kept.entries))),
+        Err(Stop::NoMemory) => Err(NoMemory),
+    }
+}
+
+// Plays one line, and explains what it makes.
+fn play(
+    player: &mut Player,
+    line: &SessionLine,
+    stamp: Stamp,
+    explainer: &mut Explainer,
+) -> Result<Option<LastLine>, NoMemory>
+    requires valid { IsSessionLine line.now }
+    ensures { (which : Which) (gathered : List ℕ) → player.old.is_spent ≡ false
+        → ExplainerHolds which player.old explainer.old gathered
+        → IfOk result (Explains which player.old player.new gathered explainer.new line.now) }
+{
+    let end = watch(player, line, stamp, explainer)?;
+    explainer.close(player.relay());
+    if explainer.is_short() {
+        return Err(NoMemory);
+    }
+    Ok(end)
+}
+
+// Plays any line after so many.
+fn play_line(
+    alloc: Global,
+    stage: &mut Stage,
+    player: &mut Player,
+    explainer: &mut Explainer,
+    before: u64,
+    raw: &[u8],
+) -> Result<Option<LastLine>, NoMemory>
+    ensures { (which : Which) (done : List (List ℕ)) (output gathered : List ℕ)
+        → length done < 2 ^ 33 → ExplainerStands which stage.old player.old before done output
+        → ExplainerHolds which player.old explainer.old gathered
+        → IfOk result (Played (explain_of_lines which)
+        (ExplainerStands which stage.new player.new (before + 1))
+        (ExplainerHolds which player.new explainer.new) done raw.now output gathered) }
+{
+    match judge(alloc, *stage, raw)? {
+        Meaning::Play(stamp, line) => {
+            *stage = stage.after(stamp);
+            play(player, &line, stamp, explainer)
+        }
+        Meaning::End => Ok(Some(LastLine::End(player.entries()))),
+        Meaning::Bad => Ok(Some(LastLine::Bad(before.saturating_add(1)))),
+    }
+}
+
+// How many peers joined; before the header none.
+fn peers_of(player: &Option<Player>) -> u32
+    ensures { (which : Which) →
+        ExplainHoldsBy which player.now (record (blank which) { peers = result }) [] }
+{
+    match player {
+        Some(player) => player.peers(),
+        None => 0,
+    }
+}
+
+/// The lines so far, and what was explained of them. Before the header no player is there.
+#[derive(Drop)]
+pub struct ExplainPlay<W> {
+    alloc: Global,
+    // Which lines are wanted.
+    wanted: W,
+    stage: Stage,
+    player: Option<Player>,
+    explainer: Explainer,
+    before: u64,
+}
+
+impl<W: Wanted> ExplainPlay<W> {
+    ghost use Rattle.plain_run.specs.ExplainScript.{ExplainStandsBy, ExplainHoldsBy};
+
+    /// No line was played yet.
+    pub fn new(alloc: Global, wanted: W) -> ExplainPlay<W>
+        ensures stands { ExplainStandsBy W.which result.stage result.player result.before [] [] }
+        ensures holds { ExplainHoldsBy W.which result.player result.explainer [] }
+    {
+        let lines = wanted.lines();
+        ExplainPlay {
+            alloc,
+            wanted,
+            stage: Stage::of(Form::Session),
+            player: None,
+            explainer: Explainer::new(alloc, lines),
+            before: 0,
+        }
+    }
+}
+
+impl<W: Wanted> Script for ExplainPlay<W> {
+    ghost use Rattle.plain_run.specs.Explain.{explain_of_lines};
+    ghost use Rattle.plain_run.specs.ExplainScript.{ExplainStandsBy, ExplainHoldsBy};
+
+    ghost answer = { explain_of_lines W.which };
+
+    ghost stands = { λ session done output.
+        ExplainStandsBy W.which session.stage session.player session.before done output };
+
+    ghost holds = { λ session gathered.
+        ExplainHoldsBy W.which session.player session.explainer gathered };
+
+    ghost text = { λ session. session.explainer.text };
+
+    fn line(&mut self, raw: &[u8]) -> Result<Option<LastLine>, NoMemory> {
+        let before = self.before;
+        self.before = before.saturating_add(1);
+        match &mut self.player {
+            Some(player) => play_line(
+                self.alloc,
+                &mut self.stage,
+                player,
+                &mut self.explainer,
+                before,
+                raw,
+            ),
+            None => match read_opening(self.alloc, raw)? {
+                Some(opening) => {
+                    let player = Player::new(self.alloc, opening.limits)?;
+                    self.stage = Stage::of(opening.form);
+                    self.player = Some(player);
+                    Ok(None)
+                }
+                None => Ok(Some(LastLine::Bad(1))),
+            },
+        }
+    }
+
+    fn bad_line(&self) -> LastLine {
+        LastLine::Bad(self.before.saturating_add(1))
+    }
+
+    fn close(&mut self) -> Result<(), NoMemory> {
+        Ok(())
+    }
+
+    fn text(&self) -> &[u8] {
+        self.explainer.text().as_bytes()
+    }
+
+    fn clear(&mut self) {
+        let lines = self.wanted.lines();
+        self.explainer.clear(lines, peers_of(&self.player));
+    }
+}
