@@ -1,0 +1,3 @@
+pub mod LogsWritten
+pub mod FieldsWritten
+pub mod MethodsWritten

@@ -1,0 +1,4 @@
+pub mod Logs
+pub mod MethodLogs
+pub mod Writing
+pub mod Hearing
