@@ -1,0 +1,161 @@
+/* The broker: libwlim's family of bytes, and the session's record. After each call what clients are told is sent. */
+#include "gateway.h"
+#include <inttypes.h>
+#include <stdarg.h>
+#include <stdio.h>
+#include <time.h>
+
+enum {
+	STORE = 65536, ENTRIES = 4000000, WEIGHT = 536870912, /* what a broker holds at most, as wlim.h says */
+	WEIGHT_OLD = 400000000, /* so heavy it is renewed */
+	QUIET = 500, /* milliseconds without a step, after which a renewal cuts nothing in two */
+	PIECE = 4096, /* bytes of a line of the session, and of one taking */
+};
+
+struct wlim_broker broker;
+
+static struct {
+	FILE *record, *taken;
+	unsigned number; /* of the broker, from 1: each has a record */
+	uint64_t moment; /* of the last call */
+} self;
+
+uint64_t broker_now(void) {
+	struct timespec time;
+	clock_gettime(CLOCK_MONOTONIC, &time);
+	return self.moment = (uint64_t)time.tv_sec * 1000000 + (uint64_t)time.tv_nsec / 1000;
+}
+
+/* Writes a call's line, if it was taken. Answers the answer. */
+int64_t broker_record(int64_t answer, const char *format, ...) {
+	va_list arguments;
+	if (answer == WLIM_NO_MEMORY || answer == WLIM_FULL)
+		say(answer == WLIM_FULL ? "the broker is full" : "there is no memory for a step");
+	if (answer < WLIM_GIVEN || !self.record)
+		return answer;
+	fprintf(self.record, "%" PRIu64 " 0 ", self.moment);
+	va_start(arguments, format);
+	vfprintf(self.record, format, arguments);
+	va_end(arguments);
+	putc('\n', self.record);
+	return answer;
+}
+
+/* The bytes as hexadecimal numbers. */
+static const char *spell(const uint8_t *bytes, size_t size) {
+	static char text[2 * (STORE + PIECE) + 1];
+	text[2 * size] = 0;
+	for (size_t at = 0; at < 2 * size; at++)
+		text[at] = "0123456789abcdef"[bytes[at / 2] >> (at % 2 ? 0 : 4) & 15];
+	return text;
+}
+
+/* Opens a file, where it has a name: from the second broker on with the broker's number. False: it said why. */
+static bool open_record(const char *name, FILE **file) {
+	char path[4096];
+	snprintf(path, sizeof path, self.number > 1 ? "%s.%u" : "%s", name ? name : "", self.number);
+	*file = name ? fopen(path, "we") : NULL;
+	if (name && !*file)
+		say("%s: %m", path);
+	return !name || *file;
+}
+
+bool broker_open(void) {
+	self.number++;
+	if (!open_record(gateway.record, &self.record) || !open_record(gateway.taken, &self.taken))
+		return false;
+	if (self.record)
+		fprintf(self.record, "session 2 %d %d %d\n", ENTRIES, STORE, WEIGHT);
+	bool opened = wlim_broker_open(&broker, STORE, ENTRIES, WEIGHT) == WLIM_GIVEN;
+	return opened || (say("there is no memory for a broker"), false);
+}
+
+void broker_close(void) {
+	if ((self.record && (fputs("end\n", self.record) < 0 || fclose(self.record) != 0))
+			|| (self.taken && fclose(self.taken) != 0))
+		say("the session isn't whole: %m");
+	wlim_broker_close(&broker);
+}
+
+int broker_renewal(void) {
+	struct wlim_used used;
+	wlim_broker_used(&broker, &used);
+	if (used.entries <= gateway.entries && used.weight <= WEIGHT_OLD)
+		return -1;
+	uint64_t last = self.moment, passed = (broker_now() - last) / 1000;
+	self.moment = last;
+	return passed >= QUIET || used.entries > gateway.entries + ENTRIES / 8 ? 0 : QUIET;
+}
+
+static struct client *client_of(uint32_t peer) {
+	struct client *client = peer > 0 ? gateway.clients : NULL;
+	while (client && client->peer != peer)
+		client = client->next;
+	return client;
+}
+
+/* Takes all that is stored for a peer: whole messages. */
+static void take(uint32_t peer) {
+	static uint8_t bytes[STORE + PIECE];
+	static uint32_t tokens[STORE / 16 + 256];
+	struct wlim_taken taken;
+	struct client *client = client_of(peer);
+	size_t size = 0, count = 0;
+	while (wlim_broker_take(&broker, broker_now(), peer, bytes + size, PIECE, tokens + count, 256, &taken) == WLIM_GIVEN) {
+		broker_record(WLIM_GIVEN, "take %u %zu", peer, taken.bytes);
+		size += taken.bytes;
+		count += taken.tokens;
+	}
+	if (self.taken)
+		fprintf(self.taken, "%u %s\n", peer, spell(bytes, size));
+	if (client)
+		client_told(client, bytes, size, tokens);
+	if (client && wlim_broker_standing(&broker, peer) != WLIM_ALIVE)
+		client_refuse(client, DISPLAY, ERROR_MEMORY, "what it was to be told didn't fit its store");
+}
+
+/* Sends what clients are told, and then what boards gave back, which so stands behind the batches before it. */
+int64_t broker_done(int64_t answer) {
+	struct wlim_told told;
+	int64_t next;
+	for (int64_t peer = 0; (peer = wlim_broker_ready(&broker, (uint32_t)peer)) > 0; )
+		take((uint32_t)peer);
+	while ((next = wlim_broker_next(&broker, &told)) == WLIM_GIVEN) {
+		struct client *client = client_of(told.peer);
+		const struct object *board = client ? object_live(client, told.id) : NULL;
+		if (board && told.kind != WLIM_PLACED)
+			keyboard_give(board->keymap, &told);
+	}
+	if (next == WLIM_MISSED)
+		say("more keys were given back at once than wait: some are lost");
+	return answer;
+}
+
+void broker_receive(struct client *client, const struct message *message, uint32_t token) {
+	int64_t answer = wlim_broker_receive(&broker, broker_now(), client->peer, message->bytes, message->size, &token,
+		token > 0);
+	if (token > 0)
+		broker_record(answer, "tokens %u %u", client->peer, token);
+	for (size_t at = 0; self.record && at < message->size; at += PIECE)
+		broker_record(answer, "bytes %u %s", client->peer,
+			spell(message->bytes + at, message->size - at < PIECE ? message->size - at : PIECE));
+	if (answer < WLIM_GIVEN)
+		client_refuse(client, DISPLAY, ERROR_MEMORY, "the broker can't take its message");
+	broker_done(answer);
+}
+
+bool broker_join(struct client *client) {
+	bool method = client->role == METHOD;
+	int64_t answer = wlim_broker_join(&broker, broker_now(), method ? WLIM_KEYED : WLIM_APP);
+	broker_record(answer, method ? "join keyed" : "join app");
+	if (answer < WLIM_GIVEN)
+		return client_refuse(client, DISPLAY, ERROR_MEMORY, "the broker takes no more clients"), false;
+	client->peer = (uint32_t)answer;
+	broker_receive(client, draft(DISPLAY, wl_display_request_get_registry, "u", OWN), 0);
+	for (const struct offer *offer = offers; offer->interface; offer++)
+		if (offer->role == ALL || offer->role == client->role)
+			broker_receive(client, draft(OWN, wl_registry_request_bind, "usuu", offer->global, offer->interface->name, 1,
+				OWN + offer->global), 0);
+	keyboard_client_joined(client);
+	return true;
+}

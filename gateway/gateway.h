@@ -1,0 +1,125 @@
+/* The gateway's parts over messages and wires: clients and their objects, globals, the broker, the seat's keyboard. */
+#pragma once
+#include "tables.h"
+#include "wire.h"
+#include <wlim.h>
+
+enum { DISPLAY = 1, CLIENTS_MAX = 1000, OBJECTS_MAX = 65536 /* ids of each side */ };
+#define FIRST_SERVER_ID 0xff000000u /* ids from here on are the compositor's */
+
+struct object {
+	const struct interface *interface; /* NULL: the id names nothing */
+	uint32_t holes; /* how many `sync`s the compositor got in this id's place, and hasn't told the end of */
+	uint32_t made[4]; /* the message by which it was made at the broker; all 0: it isn't there */
+	uint32_t count, base; /* commits of a field or dones of a method, and as many of them at an earlier broker */
+	uint32_t keymap; /* of a board: the number of its keymap */
+	bool is_ours; /* the compositor doesn't know it: it lives at the broker, a manager nowhere */
+	bool of_seat; /* a wl_seat or a wl_keyboard of the one seat that the broker has */
+};
+
+struct client {
+	struct client *next;
+	unsigned number; /* from 1, in the order of coming */
+	enum role { ALL, PROGRAM, METHOD } role; /* by which socket it came; never ALL */
+	uint32_t peer; /* its number at the broker; 0: it isn't there */
+	bool ending; /* nothing of it is read any more; it ends when the round does */
+	uint32_t serves; /* the id of its first input method that wasn't told that it is unavailable; 0 none */
+	uint32_t keymap, modifiers[4]; /* what its wl_keyboards of the seat were told: a keymap's number, 0 none */
+	struct wire near, far; /* to the client, and for it to the compositor */
+	uint32_t counts[2]; /* of ids that ever named something: the client's, and the compositor's */
+	struct object objects[2][OBJECTS_MAX];
+};
+
+extern struct gateway {
+	const char *record, *taken; /* where the session is written, and what clients got of it; NULL: nowhere */
+	unsigned long entries; /* after so many of them the broker is renewed */
+	bool renews; /* what is told now was told before */
+	struct client *clients;
+	uint32_t seat; /* the name of the wl_seat global whose keyboard is the broker's; 0 none yet */
+} gateway;
+
+/* A line on standard error; one of --log: who told what to whom; a connection to the compositor, or -1 and errno. */
+void say(const char *format, ...) __attribute__((format(printf, 1, 2)));
+void log_message(struct client *client, const char *way, const struct message *message);
+int compositor_connect(void);
+
+/* ---- Objects (objects.c) ---- */
+/* The place of an id that named something before or does; NULL: it never did. And only if it does. */
+struct object *object_at(struct client *client, uint32_t id);
+struct object *object_live(struct client *client, uint32_t id);
+/* NULL: the id isn't of this side, is live (the compositor's may be: it tells no end), leaves a gap, or is too high. */
+struct object *object_make(struct client *client, uint32_t id, const struct interface *interface, bool by_server);
+void object_free(struct client *client, uint32_t id);
+
+/* ---- Clients (client.c; requests.c plays their messages) ---- */
+/* A new client, before the others, if it can be let in. One that isn't in the list any more is closed and freed. */
+struct client *client_open(int socket, enum role role);
+void client_close(struct client *client);
+/* Reads what came, from the client or from the compositor, and does what it says. The descriptors are the calls'. */
+void client_read(struct client *client, bool near);
+void request_play(struct client *client, struct message *message, const int *files);
+/* The client ends with the round, and why is said, unless it ended first; and it is told, by wl_display.error. */
+enum error { ERROR_OBJECT, ERROR_METHOD, ERROR_MEMORY, ERROR_COMPOSITOR };
+void client_end(struct client *client, const char *why);
+void client_refuse(struct client *client, uint32_t object, enum error code, const char *why);
+/* Sends the client a message of the gateway's; the broker's whole messages, where a token is a keymap's number. */
+void client_send(struct client *client, const struct message *message);
+void client_told(struct client *client, uint8_t *bytes, size_t size, const uint32_t *tokens);
+/* The object is ours. The compositor, which takes no gaps in a client's ids, gets a `sync` in its place. */
+struct object *request_hold(struct client *client, uint32_t id);
+/* The surface is known to the broker too, from now on. False: it is none of the client's. */
+bool request_mirror(struct client *client, uint32_t surface);
+
+/* ---- Globals (globals.c) ---- */
+/* The broker's globals by their names there; and the gateway's own objects at each peer, which no client reaches. */
+enum { GLOBAL_COMPOSITOR = 1, GLOBAL_SEAT, GLOBAL_FIELDS, GLOBAL_METHODS, GLOBAL_BOARDS };
+enum { OWN = 0x7e000000 /* its registry; and that and a global's name: what was bound of it */ };
+/* What the broker offers to a role, where the gateway alone binds what is ALL's; the last has no interface. */
+extern const struct offer { uint32_t global; enum role role; const struct interface *interface; } offers[];
+/* The offer of a manager, or NULL. */
+const struct offer *offer_of(const struct interface *manager);
+/* A registry is told what is offered. The compositor tells a global, a client binds one: whether that goes on. */
+void globals_offer(struct client *client, uint32_t registry);
+bool globals_add(struct client *client, struct message *message);
+bool globals_bind(struct client *client, const struct message *message);
+
+/* ---- The broker: libwlim's family of bytes, and the session's record (broker.c, renew.c) ---- */
+extern struct wlim_broker broker;
+/* Opens the broker, and the files of --record. False: it said why. */
+bool broker_open(void);
+void broker_close(void);
+/* The client is a peer from now on. False: it is refused. */
+bool broker_join(struct client *client);
+/* A whole message of the client; where it has a descriptor, its token. After it what clients are told is sent. */
+void broker_receive(struct client *client, const struct message *message, uint32_t token);
+/* An order of the gateway's, as that: what to call, and its line in a session, both with the arguments. Its answer. */
+#define broker_order(call, format, ...) \
+	broker_done(broker_record(wlim_broker_##call(&broker, broker_now(), ##__VA_ARGS__), format, ##__VA_ARGS__))
+int64_t broker_record(int64_t answer, const char *format, ...) __attribute__((format(printf, 2, 3)));
+int64_t broker_done(int64_t answer);
+uint64_t broker_now(void); /* microseconds; the moment of the next call */
+/* In how many milliseconds it is to be renewed: 0 now, -1 not yet; and moves all peers to a new one, between rounds. */
+int broker_renewal(void);
+void renew(void);
+
+/* ---- The keyboard of the seat (keyboard.c) ---- */
+/* An event of a wl_keyboard of the seat: whether the client gets it. The focus leaves its surface; 0: any of its. */
+bool keyboard_event(struct client *client, const struct message *message, const int *files);
+void keyboard_leave(const struct client *client, uint32_t surface);
+/* A key or modifiers that a board sent and no grab has: for the client that has the focus, with the board's keymap. */
+void keyboard_give(uint32_t keymap, const struct wlim_told *told);
+/* A board ends: its keys are released. The serving method does: the field is left and entered, and keeps no preedit. */
+void keyboard_board_ended(void);
+void keyboard_method_ended(void);
+/* The client is a peer from now on. The broker goes, with the keys that are down; a new one is told what stands. */
+void keyboard_client_joined(const struct client *client);
+void keyboard_leave_broker(void);
+void keyboard_join_broker(void);
+
+/* ---- Keymaps: the same text has the same number, which is its token at the broker (keymaps.c) ---- */
+struct keymap { uint32_t format, size; int file; char *text; };
+/* The number of what the file holds, from 1. 0: it can't be read, is larger than 1 MiB, or is the 65th. */
+uint32_t keymap_number(uint32_t format, int file, uint32_t size);
+/* The keymap with the number, and a new descriptor of its file; NULL and -1: there is none. */
+const struct keymap *keymap_find(uint32_t number);
+int keymap_file(uint32_t number);

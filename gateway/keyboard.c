@@ -1,0 +1,233 @@
+/* The keyboard of the seat: who has the focus, which keys went where, and what is given back of them. */
+#include "gateway.h"
+#include <string.h>
+
+enum {
+	KEYS = 1024, /* evdev's numbers of keys are lower; larger ones are taken for those */
+	TYPED_MAX = 256,
+	TYPED_LATELY = 5000000, /* microseconds; so long a key that went up can come back with another time */
+};
+
+static struct {
+	struct client *focus; /* NULL: nobody has it */
+	uint32_t surface, serial, time; /* the focused surface; the last serial that its client was told; of the last key */
+	uint32_t entered, key_serial; /* of the last enter; of the last key, which each of the client's keyboards is told */
+	bool key_given, fresh; /* the client got that key; it got the focus and no modifiers yet */
+	bool has_modifiers, repeats; /* what follows was told */
+	uint32_t keymap, modifiers[4], rate, delay;
+	bool down[KEYS], given[KEYS]; /* keys that the broker was told are down, and that boards pressed at the client */
+	struct typed { /* a key that went to a grab: given back, it goes to where it was typed */
+		uint32_t time, key, surface;
+		unsigned client; /* its number; 0: none */
+		uint64_t moment;
+	} typed[TYPED_MAX]; /* a ring */
+	unsigned typed_next;
+} seat;
+
+/* Sends an event of each of its wl_keyboards of the seat, where a keymap's number is given with its descriptor. */
+static void send_all(const struct message *message, uint32_t keymap) {
+	for (uint32_t id = 0; id < seat.focus->counts[0]; id++) {
+		const struct object *object = object_at(seat.focus, id);
+		if (object->interface != &wl_keyboard_table || !object->of_seat)
+			continue;
+		int file = keymap_file(keymap);
+		memcpy(message->bytes, &id, sizeof id);
+		if (keymap == 0 || file >= 0)
+			wire_send(&seat.focus->near, message->bytes, message->size, &file, keymap > 0);
+	}
+}
+
+static void send_modifiers(const uint32_t m[4]) {
+	memmove(seat.focus->modifiers, m, sizeof seat.focus->modifiers);
+	seat.fresh = false;
+	send_all(draft(0, wl_keyboard_event_modifiers, "uuuuu", seat.serial, m[0], m[1], m[2], m[3]), 0);
+}
+
+static void send_key(uint32_t time, uint32_t key, uint32_t state) {
+	seat.given[key % KEYS] = state != 0;
+	send_all(draft(0, wl_keyboard_event_key, "uuuu", seat.serial, time, key, state), 0);
+}
+
+/* The keymap, where the client has another one; its modifiers begin anew with it. */
+static void send_keymap(uint32_t number) {
+	const struct keymap *keymap = keymap_find(number);
+	if (!keymap || seat.focus->keymap == number)
+		return;
+	seat.focus->keymap = number;
+	send_all(draft(0, wl_keyboard_event_keymap, "uu", keymap->format, keymap->size), number);
+	if (!seat.fresh)
+		send_modifiers(seat.focus->modifiers);
+}
+
+/* Tells the broker a key. Answers whether the client gets it: no grab has it, or has what a board pressed there. */
+static bool order_key(uint32_t key, uint32_t state) {
+	int64_t way = broker_order(key, "key %u %u %u", seat.time, key, state);
+	bool given = seat.given[key % KEYS] && state == 0;
+	seat.down[key % KEYS] = state != 0 && way != WLIM_TOO_MANY;
+	if (way == WLIM_TO_GRAB)
+		seat.typed[seat.typed_next++ % TYPED_MAX] =
+			(struct typed){ seat.time, key, seat.surface, seat.focus ? seat.focus->number : 0, broker_now() };
+	if (way == WLIM_NOWHERE) /* the grab that had the press is gone: who was given it back gets the release */
+		seat.given[key % KEYS] = false;
+	return way == WLIM_NOWHERE ? given : way != WLIM_TO_GRAB;
+}
+
+/* Nobody will tell the releases of keys that are down: they come before the focus goes. */
+static void release_all(void) {
+	for (uint32_t key = 0; key < KEYS; key++)
+		if (seat.down[key])
+			order_key(key, 0);
+}
+
+static void tell_focus(void) {
+	if (seat.focus && seat.focus->peer && request_mirror(seat.focus, seat.surface))
+		broker_order(focus, "focus %u %u", seat.focus->peer, seat.surface);
+	else
+		broker_order(unfocus, "unfocus");
+}
+
+/* Connections are read in any order, but the compositor's serials rise. What it wrote to the last one comes first. */
+static void on_enter(struct client *client, uint32_t serial, uint32_t surface) {
+	if (seat.focus && seat.focus != client)
+		client_read(seat.focus, false);
+	if ((seat.focus == client && seat.surface == surface) || (int32_t)(serial - seat.entered) < 0)
+		return; /* another keyboard of the client, or the focus went on since */
+	release_all();
+	memset(seat.given, 0, sizeof seat.given);
+	seat.focus = client;
+	seat.surface = surface;
+	seat.serial = seat.entered = serial;
+	seat.fresh = true;
+	tell_focus();
+}
+
+void keyboard_leave(const struct client *client, uint32_t surface) {
+	if (seat.focus != client || (surface > 0 && seat.surface != surface))
+		return;
+	release_all();
+	seat.focus = NULL;
+	tell_focus();
+}
+
+void keyboard_client_joined(const struct client *client) {
+	if (client == seat.focus && !gateway.renews)
+		tell_focus();
+}
+
+void keyboard_board_ended(void) {
+	for (uint32_t key = 0; seat.focus && key < KEYS; key++)
+		if (seat.given[key])
+			send_key(seat.time, key, 0);
+}
+
+void keyboard_leave_broker(void) {
+	release_all();
+	keyboard_board_ended();
+	broker_order(unfocus, "unfocus");
+}
+
+void keyboard_method_ended(void) {
+	keyboard_board_ended();
+	broker_order(unfocus, "unfocus");
+	tell_focus();
+}
+
+/* Whether the client gets a key. Its keyboards are the seat's again before it, whatever boards sent. */
+static bool on_key(struct client *client, uint32_t serial, uint32_t time, uint32_t key, uint32_t state) {
+	if (client != seat.focus || serial == seat.key_serial)
+		return client != seat.focus || seat.key_given;
+	seat.key_serial = seat.serial = serial;
+	seat.time = time;
+	seat.key_given = order_key(key, state);
+	if (seat.key_given)
+		send_keymap(seat.keymap);
+	if (seat.key_given && seat.has_modifiers && memcmp(client->modifiers, seat.modifiers, sizeof seat.modifiers) != 0)
+		send_modifiers(seat.modifiers);
+	return seat.key_given;
+}
+
+/* Whether the client gets modifiers. Where a grab does, the method gives them back, behind the keys before them. */
+static bool on_modifiers(struct client *client, uint32_t serial, const uint32_t m[4]) {
+	if (client != seat.focus)
+		return true;
+	seat.serial = serial;
+	if (!seat.has_modifiers || memcmp(seat.modifiers, m, sizeof seat.modifiers) != 0) {
+		seat.has_modifiers = true;
+		memcpy(seat.modifiers, m, sizeof seat.modifiers);
+		broker_order(mods, "mods %u %u %u %u", m[0], m[1], m[2], m[3]);
+	}
+	if (wlim_broker_grab(&broker) > 0 && !seat.fresh)
+		return false;
+	memcpy(client->modifiers, m, sizeof client->modifiers);
+	seat.fresh = false;
+	return true;
+}
+
+bool keyboard_event(struct client *client, const struct message *message, const int *files) {
+	const uint32_t *words = message->numbers;
+	switch (message->opcode) {
+	case wl_keyboard_event_keymap:
+		client->keymap = keymap_number(words[0], files[0], words[2]);
+		if (client->keymap > 0 && client->keymap != seat.keymap)
+			broker_order(keymap, "keymap %u %u %u", words[0], client->keymap, words[2]);
+		seat.keymap = client->keymap > 0 ? client->keymap : seat.keymap;
+		return true;
+	case wl_keyboard_event_enter:
+		client_send(client, message); /* before its field hears of it */
+		on_enter(client, words[0], words[1]);
+		return false;
+	case wl_keyboard_event_leave:
+		keyboard_leave(client, words[1]);
+		return true;
+	case wl_keyboard_event_key:
+		return on_key(client, words[0], words[1], words[2], words[3]);
+	case wl_keyboard_event_modifiers:
+		return on_modifiers(client, words[0], &words[1]);
+	case wl_keyboard_event_repeat_info:
+		seat.repeats = true;
+		seat.rate = words[0];
+		seat.delay = words[1];
+		broker_order(repeat, "repeat %d %d", (int32_t)seat.rate, (int32_t)seat.delay);
+	}
+	return true;
+}
+
+/*
+ * Whether a key that is given back was typed at the focused window, or nowhere. A method repeats the key's time. Where
+ * it has another, each such key of the last seconds has to have been typed there: better lost than in another window.
+ */
+static bool is_typed_here(uint32_t time, uint32_t key) {
+	bool lately_here = true;
+	uint64_t now = broker_now();
+	for (const struct typed *typed = seat.typed; typed < seat.typed + TYPED_MAX; typed++) {
+		bool here = typed->client == seat.focus->number && typed->surface == seat.surface;
+		if (typed->client == 0 || typed->key != key)
+			continue;
+		if (typed->time == time)
+			return here;
+		lately_here &= here || now - typed->moment > TYPED_LATELY;
+	}
+	return lately_here;
+}
+
+void keyboard_give(uint32_t keymap, const struct wlim_told *told) {
+	if (!seat.focus || (told->kind == WLIM_PASS && !is_typed_here(told->first, told->second)))
+		return;
+	send_keymap(keymap);
+	if (told->kind == WLIM_PASS)
+		send_key(told->first, told->second, (uint32_t)told->third);
+	else
+		send_modifiers((const uint32_t[]){ told->first, told->second, (uint32_t)told->third, (uint32_t)told->fourth });
+}
+
+void keyboard_join_broker(void) {
+	const struct keymap *keymap = keymap_find(seat.keymap);
+	const uint32_t *m = seat.modifiers;
+	if (keymap)
+		broker_order(keymap, "keymap %u %u %u", keymap->format, seat.keymap, keymap->size);
+	if (seat.repeats)
+		broker_order(repeat, "repeat %d %d", (int32_t)seat.rate, (int32_t)seat.delay);
+	if (seat.has_modifiers)
+		broker_order(mods, "mods %u %u %u %u", m[0], m[1], m[2], m[3]);
+	tell_focus();
+}

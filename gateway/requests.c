@@ -1,0 +1,118 @@
+/* What a message of a client does: it goes to the broker, where its object lives there, and else to the compositor. */
+#include "gateway.h"
+#include <string.h>
+#include <unistd.h>
+
+/* What a client sends that is refused goes nowhere. */
+static void forward(struct client *client, const struct message *message, const int *files) {
+	if (!client->ending)
+		return wire_send(&client->far, message->bytes, message->size, files, message->descriptors);
+	for (unsigned at = 0; at < message->descriptors; at++)
+		close(files[at]);
+}
+
+struct object *request_hold(struct client *client, uint32_t id) {
+	struct object *object = object_at(client, id);
+	object->is_ours = true;
+	object->holes++;
+	forward(client, draft(DISPLAY, wl_display_request_sync, "u", id), NULL);
+	return object;
+}
+
+/* An object is made at the broker, and will be so at another. */
+static void make_there(struct client *client, struct object *object, const struct message *message) {
+	memcpy(object->made, message->bytes, message->size);
+	broker_receive(client, message, 0);
+}
+
+bool request_mirror(struct client *client, uint32_t surface) {
+	struct object *object = object_live(client, surface);
+	if (!object || object->interface != &wl_surface_table)
+		return false;
+	if (object->made[0] == 0)
+		make_there(client, object, draft(OWN + GLOBAL_COMPOSITOR, wl_compositor_request_create_surface, "u", surface));
+	return true;
+}
+
+/* The broker has one seat and one manager of each kind, by the gateway's ids, whichever the client names. */
+static void make_at_broker(struct client *client, struct message *message, int made) {
+	const struct interface *interface = message->signature->made;
+	const struct offer *offer = offer_of(object_at(client, message->object)->interface);
+	uint32_t id = message->numbers[made], own = offer ? OWN + offer->global : message->object;
+	struct object *object = request_hold(client, id);
+	if (interface == &zwp_input_method_v2_table && client->serves == 0)
+		client->serves = id;
+	if (interface == &zwp_input_popup_surface_v2_table && !request_mirror(client, message->numbers[1]))
+		return client_refuse(client, message->object, ERROR_OBJECT, "wrong object");
+	memcpy(message->bytes, &own, sizeof own);
+	if (offer)
+		message_set(message, 1 - (unsigned)made, OWN + GLOBAL_SEAT);
+	make_there(client, object, message);
+}
+
+/* A board's keymap: the board has its number, which is the broker's token. */
+static void board_keymap(struct client *client, const struct message *message, int file) {
+	uint32_t number = keymap_number(message->numbers[0], file, message->numbers[2]);
+	object_at(client, message->object)->keymap = number;
+	close(file);
+	if (number == 0)
+		return client_refuse(client, message->object, ERROR_OBJECT, "the keymap can't be read");
+	broker_receive(client, message, number);
+}
+
+static void to_broker(struct client *client, struct message *message, const int *files) {
+	struct object *object = object_at(client, message->object);
+	int made = message->signature->new_id;
+	log_message(client, "->", message);
+	if (made >= 0)
+		return make_at_broker(client, message, made);
+	if (message->descriptors > 0)
+		return board_keymap(client, message, files[0]);
+	if (object->made[0] == 0) { /* it lives nowhere, and its only request ends it */
+		object_free(client, message->object);
+		return client_send(client, draft(DISPLAY, wl_display_event_delete_id, "u", message->object));
+	}
+	object->count += IS(message, zwp_text_input_v3, request, commit);
+	if (IS(message, zwp_input_method_v2, request, commit))
+		message_set(message, 0, message->numbers[0] - object->base);
+	broker_receive(client, message, 0);
+	if (IS(message, zwp_virtual_keyboard_v1, request, destroy))
+		keyboard_board_ended();
+	if (message->object == client->serves && IS(message, zwp_input_method_v2, request, destroy)) {
+		client->serves = 0;
+		keyboard_method_ended();
+	}
+}
+
+/* Makes the object of a message's new id. False: the client was refused. */
+static bool make(struct client *client, const struct message *message) {
+	int new_id = message->signature->new_id;
+	const struct interface *made = message->signature->made;
+	made = made ? made : interface_named(message->texts[new_id - 2]);
+	if (!made)
+		client_refuse(client, message->object, ERROR_OBJECT, "no such global");
+	else if (!object_make(client, message->numbers[new_id], made, false))
+		client_refuse(client, DISPLAY, ERROR_OBJECT, "bad new id");
+	return !client->ending;
+}
+
+void request_play(struct client *client, struct message *message, const int *files) {
+	if (message->signature->new_id >= 0 && !make(client, message))
+		return forward(client, message, files);
+	struct object *object = object_at(client, message->object);
+	if (object->is_ours)
+		return to_broker(client, message, files);
+	if (IS(message, wl_registry, request, bind) && !globals_bind(client, message))
+		return;
+	if (IS(message, wl_display, request, get_registry))
+		globals_offer(client, message->numbers[0]);
+	if (IS(message, wl_seat, request, get_keyboard))
+		object_at(client, message->numbers[0])->of_seat = object->of_seat;
+	if (IS(message, wl_surface, request, destroy)) {
+		keyboard_leave(client, message->object);
+		if (object->made[0] > 0)
+			broker_receive(client, message, 0);
+		object->made[0] = 0;
+	}
+	forward(client, message, files);
+}

@@ -1,0 +1,37 @@
+#!/usr/bin/env bash
+# Tests the gateway beside sway without a screen: its parts, random messages, and what clients see, with the address
+# sanitizer; programs that fcitx5 types into; how long things take. PROGRAM replays each session to the bytes that
+# clients got. `make libwlim` and `make build` come before.
+#
+#     tests/gateway.sh PROGRAM [ROUNDS]
+set -e
+cd "$(dirname "$0")/.."
+program=$1
+rounds=${2:-20}
+made=out/gateway
+checked=$made/checked
+sanitize="-fsanitize=address,undefined -fno-sanitize-recover=all"
+flags="-std=c11 -D_GNU_SOURCE -Wall -Wextra -Werror -g -Igateway -Iout/libwlim/include"
+gateway/build.sh "$made"
+mkdir -p "$checked"
+cp -r "$made/protocols" "$checked"
+gateway/build.sh "$checked" $sanitize
+for name in fuzz order; do
+	${CC:-cc} $flags $sanitize -I"$checked" -o "$checked/$name" "tests/gateway_$name.c" \
+		$(ls gateway/*.c | grep -v /gateway.c) "$checked/tables.c" out/libwlim/lib/libwlim.a
+done
+${CC:-cc} $flags $sanitize -I"$checked" -o "$checked/units" tests/gateway_units.c gateway/{message,objects,wire}.c \
+	"$checked/tables.c"
+${CC:-cc} $flags -O2 -I"$made" -o "$made/speed" tests/gateway_speed.c gateway/message.c "$made/tables.c"
+${CC:-cc} $flags -o "$checked/entry" tests/embed_entry.c $(pkg-config --cflags --libs gtk4)
+rm -f "$checked"/*.session* "$checked"/*.taken*
+"$checked/units"
+"$checked/order"
+for seed in 1 2 3; do
+	timeout 300 "$checked/fuzz" 200000 $seed
+done
+timeout -k 10 300 tests/gateway_peers.py "$checked"
+timeout -k 10 900 tests/gateway_programs.py "$checked" "$rounds"
+timeout -k 10 600 tests/gateway_replay.py "$program" "$checked"
+# As root above all that else keeps the processors busy.
+timeout -k 10 300 $([ "$(id -u)" != 0 ] || echo chrt -r 1) tests/gateway_figures.py "$made"

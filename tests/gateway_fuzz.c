@@ -1,0 +1,246 @@
+/*
+ * Random messages of clients and of a compositor, good, bent and cut, through the gateway's parts but its sockets:
+ *
+ *     gateway_fuzz [ROUNDS [SEED]]
+ *
+ * Built with the address sanitizer by tests/gateway.sh. Says how many messages were read and how many clients ended.
+ */
+#include "gateway_harness.h"
+#include <errno.h>
+#include <fcntl.h>
+#include <stdio.h>
+#include <stdlib.h>
+#include <string.h>
+#include <sys/mman.h>
+#include <sys/socket.h>
+#include <unistd.h>
+
+enum { CLIENTS = 4, LONGEST = 70000, KEYMAPS = 64 /* as many keep their files */ };
+
+static struct place places[CLIENTS];
+
+static uint64_t state;
+static unsigned long messages, ended;
+
+static uint32_t random_below(uint32_t bound)
+{
+	state = state * UINT64_C(6364136223846793005) + UINT64_C(1442695040888963407);
+	return (uint32_t)(state >> 33) % bound;
+}
+
+static void close_client(struct place *place)
+{
+	struct client **at = &gateway.clients;
+	while (*at != place->client)
+		at = &(*at)->next;
+	*at = place->client->next;
+	client_close(place->client);
+	close(place->near);
+	close(place->far);
+	ended++;
+}
+
+/* An id that mostly names something. */
+static uint32_t random_id(struct client *client)
+{
+	uint32_t count = client->counts[0], servers = client->counts[1], id = DISPLAY;
+	if (random_below(400) == 0)
+		return random_below(2) ? (uint32_t)state : OWN + random_below(8);
+	for (int tries = 0; tries < 20; tries++) {
+		id = servers > 0 && random_below(5) == 0 ? FIRST_SERVER_ID + random_below(servers) : random_below(count);
+		if (object_live(client, id))
+			return id;
+	}
+	return DISPLAY;
+}
+
+static uint32_t new_id(struct client *client, bool by_server)
+{
+	if (random_below(300) == 0)
+		return random_id(client);
+	for (uint32_t id = 2; !by_server && id < client->counts[0]; id++)
+		if (!object_live(client, id))
+			return id;
+	return by_server ? FIRST_SERVER_ID + random_below(client->counts[1] + 1) : client->counts[0];
+}
+
+static size_t put(uint8_t *bytes, size_t at, uint32_t word)
+{
+	memcpy(bytes + at, &word, 4);
+	return at + 4;
+}
+
+static size_t put_text(uint8_t *bytes, size_t at, const char *text, size_t length)
+{
+	at = put(bytes, at, (uint32_t)length + 1);
+	memset(bytes + at, 0, (length + 4) / 4 * 4);
+	memcpy(bytes + at, text, length);
+	return at + (length + 4) / 4 * 4;
+}
+
+static size_t put_some_text(uint8_t *bytes, size_t at)
+{
+	static char filler[5000];
+	memset(filler, 'a' + (int)random_below(26), sizeof filler);
+	return put_text(bytes, at, filler, random_below(random_below(20) ? 40 : sizeof filler));
+}
+
+/* What a global and a bind say: a name, mostly of the interface that goes with it, and a version. */
+static size_t put_global(const struct client *client, uint8_t *bytes, size_t at)
+{
+	static const char *const usual[] = {
+		"wl_seat", "wl_compositor", "xdg_wm_base", "zwp_text_input_manager_v3", "zwp_input_method_manager_v2",
+		"zwp_virtual_keyboard_manager_v1",
+	};
+	uint32_t offer = client->role == PROGRAM ? 3 : 4 + random_below(2), kind = random_below(2) ? random_below(3) : offer;
+	const char *name = random_below(10) ? usual[kind] : interfaces[random_below(100)]->name;
+	at = put(bytes, at, kind < 3 ? kind + 1 : 0xffff0000 + kind);
+	return put(bytes, put_text(bytes, at, name, strlen(name)), 1);
+}
+
+static uint32_t random_number(void)
+{
+	static const uint32_t usual[] = { 0, 1, 2, 3, 1, 30, 0xffff0003, 0xffff0004, 0xffff0005, 0x7fffffff };
+	return random_below(6) ? usual[random_below(10)] : (uint32_t)state;
+}
+
+/* A message of the row. Answers its size, and its descriptors. */
+static size_t write_message(struct client *client, uint32_t id, uint16_t opcode, const struct signature *row,
+	bool by_server, uint8_t *bytes, unsigned *files)
+{
+	size_t at = put(bytes, put(bytes, 0, id), opcode);
+	const char *kind = row->kinds;
+	*files = 0;
+	if (strncmp(kind, "usu", 3) == 0) {
+		at = put_global(client, bytes, at);
+		kind += 3;
+	}
+	for (; *kind; kind++) {
+		if (*kind == 'h')
+			++*files;
+		else if (*kind == 's' || *kind == 'S')
+			at = put_some_text(bytes, at);
+		else if (*kind == 'a')
+			at = put_text(bytes, at, "12345678", random_below(9));
+		else if (*kind == 'n')
+			at = put(bytes, at, new_id(client, by_server));
+		else
+			at = put(bytes, at, *kind == 'o' || *kind == 'O' ? random_id(client) : random_number());
+	}
+	put(bytes, 4, (uint32_t)at << 16 | opcode);
+	if (random_below(200) == 0)
+		bytes[random_below((uint32_t)at)] ^= (uint8_t)(1u << random_below(8));
+	if (random_below(400) == 0)
+		at = random_below((uint32_t)at + 1);
+	return at;
+}
+
+static void send_bytes(int socket, const uint8_t *bytes, size_t size, unsigned count)
+{
+	_Alignas(struct cmsghdr) char control[CMSG_SPACE(64 * sizeof(int))] = { 0 };
+	int file = count > 0 ? memfd_create("fuzz", MFD_CLOEXEC) : -1;
+	struct iovec place = { (void *)(uintptr_t)bytes, size };
+	struct msghdr header = { .msg_iov = &place, .msg_iovlen = 1 };
+	if (file >= 0) {
+		if (ftruncate(file, 4) < 0)
+			exit(1);
+		header.msg_control = control;
+		header.msg_controllen = CMSG_SPACE(count * sizeof(int));
+		struct cmsghdr *part = CMSG_FIRSTHDR(&header);
+		*part = (struct cmsghdr){ CMSG_LEN(count * sizeof(int)), SOL_SOCKET, SCM_RIGHTS };
+		for (unsigned at = 0; at < count; at++)
+			memcpy(CMSG_DATA(part) + at * sizeof(int), &file, sizeof file);
+	}
+	if (sendmsg(socket, &header, MSG_NOSIGNAL) < 0 && errno != EAGAIN && errno != EPIPE && errno != EINVAL)
+		perror("sendmsg");
+	if (file >= 0)
+		close(file);
+}
+
+/* Reads away what the gateway sent, with its descriptors. */
+static void read_away(int socket)
+{
+	static uint8_t bytes[65536];
+	_Alignas(struct cmsghdr) char control[CMSG_SPACE(64 * sizeof(int))];
+	for (;;) {
+		struct iovec place = { bytes, sizeof bytes };
+		struct msghdr header = {
+			.msg_iov = &place, .msg_iovlen = 1, .msg_control = control, .msg_controllen = sizeof control,
+		};
+		if (recvmsg(socket, &header, MSG_DONTWAIT | MSG_CMSG_CLOEXEC) <= 0)
+			return;
+		for (struct cmsghdr *part = CMSG_FIRSTHDR(&header); part; part = CMSG_NXTHDR(&header, part))
+			for (size_t at = 0; at < (part->cmsg_len - CMSG_LEN(0)) / sizeof(int); at++) {
+				int file;
+				memcpy(&file, CMSG_DATA(part) + at * sizeof file, sizeof file);
+				close(file);
+			}
+	}
+}
+
+/* One message, from the client or from the compositor. */
+static void play(struct place *place, bool near)
+{
+	static uint8_t bytes[LONGEST];
+	uint32_t id = random_id(place->client);
+	const struct object *object = object_live(place->client, id);
+	const struct interface *interface = object ? object->interface : &wl_display_table;
+	uint32_t rows = interface->counts[near], opcode = rows ? random_below(rows) : 0;
+	unsigned files;
+	if (rows == 0 || (!near && interface == &wl_display_table && opcode == 0 && random_below(20)))
+		return;
+	const struct signature *row = &interface->rows[near][opcode];
+	size_t size = write_message(place->client, id, (uint16_t)opcode, row, !near, bytes, &files);
+	if (random_below(300) == 0)
+		files = random_below(60);
+	send_bytes(near ? place->near : place->far, bytes, size, files);
+	client_read(place->client, near);
+	messages++;
+}
+
+static void finish(struct place *place, unsigned at)
+{
+	struct client *client = place->client;
+	client->ending |= !wire_flush(&client->far) | !wire_flush(&client->near) | client->near.full | client->far.full;
+	read_away(place->near);
+	read_away(place->far);
+	if (!client->ending && random_below(5000))
+		return;
+	close_client(place);
+	open_client(place, at == 0 ? METHOD : PROGRAM);
+}
+
+/* How many descriptors are open. */
+static unsigned open_files(void)
+{
+	unsigned number = 0;
+	for (int file = 0; file < 4096; file++)
+		number += fcntl(file, F_GETFD) >= 0;
+	return number;
+}
+
+int main(int count, char **words)
+{
+	unsigned long rounds = count > 1 ? strtoul(words[1], NULL, 10) : 200000;
+	state = count > 2 ? strtoull(words[2], NULL, 10) : 1;
+	if (!broker_open())
+		return 1;
+	unsigned files = open_files();
+	for (unsigned at = 0; at < CLIENTS; at++)
+		open_client(&places[at], at == 0 ? METHOD : PROGRAM);
+	for (unsigned long round = 0; round < rounds; round++) {
+		unsigned at = random_below(CLIENTS);
+		play(&places[at], random_below(3) > 0);
+		for (unsigned each = 0; each < CLIENTS; each++)
+			finish(&places[each], each);
+		if (random_below(20000) == 0 || broker_renewal() == 0)
+			renew();
+	}
+	for (unsigned at = 0; at < CLIENTS; at++)
+		close_client(&places[at]);
+	broker_close();
+	printf("%lu messages, %lu clients ended\n", messages, ended);
+	if (open_files() > files + KEYMAPS)
+		printf("%u descriptors are left open\n", open_files() - files);
+	return open_files() > files + KEYMAPS;
+}
