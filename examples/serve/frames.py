@@ -20,6 +20,16 @@ def frames_of(data):
     return b"".join(frame(data[at : at + MOST_BYTES]) for at in range(0, len(data), MOST_BYTES))
 
 
+def sync(callback):
+    """The request `sync` of the display, which makes this callback."""
+    return struct.pack("<IHHI", 1, 0, 12, callback)
+
+
+def synced(callback):
+    """The event `done` of the callback of a `sync`."""
+    return struct.pack("<IHHI", callback, 0, 12, 0)
+
+
 def read_exactly(link, size):
     """So many bytes of the link, or fewer where it ends."""
     data = b""
@@ -42,21 +52,22 @@ def read_frame(link):
 
 
 class Server:
-    """`wlim serve` in a folder of its own, with a link for each letter."""
+    """`wlim serve` in a folder of its own, or in that of one which is gone, with a link for each letter."""
 
-    def __init__(self, program, order, options=()):
-        self.folder = tempfile.mkdtemp(prefix="wlim-")
+    def __init__(self, program, order, options=(), folder=None):
+        self.folder = folder or tempfile.mkdtemp(prefix="wlim-")
         self.paths = {door: os.path.join(self.folder, door) for door in ("app", "method", "shell")}
         words = [program, "serve", "--order", order]
         for door, path in self.paths.items():
             words += ["--" + door, path]
+        self.words = words + list(options)
         self.session = open(os.path.join(self.folder, "session"), "w+b")
-        self.process = subprocess.Popen(words + list(options), stdout=self.session, stderr=subprocess.DEVNULL)
+        self.process = subprocess.Popen(self.words, stdout=self.session, stderr=subprocess.DEVNULL)
 
     def connect(self, letter):
         """A link to the door of the letter, once the server listens there."""
         path = self.paths[{"a": "app", "m": "method", "k": "method", "s": "shell"}[letter]]
-        for _ in range(500):
+        for _ in range(3000):
             link = socket.socket(socket.AF_UNIX)
             try:
                 link.connect(path)
