@@ -1,0 +1,146 @@
+#!/usr/bin/env bash
+# Measures libwlim in the compositor of examples/embed beside sway: tests/embed_speed.sh [BATCHES] [ROUNDS]
+#
+# Both run without a screen, in turn, ROUNDS times each; tests/embed_speed.c is their client. Then by callgrind, which
+# counts the same whatever else the machine does, their instructions for a batch, and the library's for an act; and its
+# size. `make libwlim` comes before. As root all runs as nobody, since sway refuses root.
+set -e -o pipefail
+cd "$(dirname "$0")/.."
+batches=${1:-100000}
+rounds=${2:-3}
+protocols=out/embed/protocols
+shell=out/embed/xdg-shell
+library=out/libwlim/lib
+work=$(mktemp -d)
+compositor=
+trap '[ -z "$compositor" ] || kill "$compositor"; rm -rf "$work"' EXIT
+chmod 755 "$work"
+user=
+[ "$(id -u)" != 0 ] || user="setpriv --reuid nobody --regid nogroup --clear-groups"
+
+build() {
+	local xml flags="-std=c11 -Wall -Wextra -Werror -O2 -I$protocols -I$shell -Iout/libwlim/include"
+	examples/embed/protocols.sh "$protocols"
+	mkdir -p "$shell"
+	xml=$(pkg-config --variable=pkgdatadir wayland-protocols)/stable/xdg-shell/xdg-shell.xml
+	wayland-scanner server-header "$xml" "$shell/xdg-shell-protocol.h"
+	wayland-scanner client-header "$xml" "$shell/xdg-shell-client-protocol.h"
+	wayland-scanner private-code "$xml" "$shell/xdg-shell-protocol.c"
+	${CC:-cc} $flags -DWLR_USE_UNSTABLE -o "$work/compositor" examples/embed/compositor.c \
+		examples/embed/wlim_glue.c "$protocols"/*-unstable-*-protocol.c "$library/libwlim.a" \
+		$(pkg-config --cflags --libs wlroots wayland-server xkbcommon pixman-1)
+	${CC:-cc} $flags -o "$work/embed_speed" tests/embed_speed.c "$protocols"/*-unstable-*-protocol.c \
+		"$shell/xdg-shell-protocol.c" $(pkg-config --cflags --libs wayland-client) -lpthread
+	${CC:-cc} $flags -D_POSIX_C_SOURCE=200809L -o "$work/play_acts" examples/embed/play_acts.c "$library/libwlim.a"
+}
+
+# What the client prints of a compositor that is started for it: measure BATCHES SINGLES COMMAND..
+measure() {
+	local many=$1 singles=$2 tries=0 socket
+	shift 2
+	[ $SECONDS -lt 220 ] || { echo "out of time"; exit 1; }
+	export XDG_RUNTIME_DIR=$work/run
+	mkdir -m 700 "$XDG_RUNTIME_DIR"
+	[ -z "$user" ] || chown nobody "$XDG_RUNTIME_DIR"
+	$user "$@" < "$work/nothing" > "$work/log" 2>&1 3>&- &
+	compositor=$!
+	until socket=$(cd "$XDG_RUNTIME_DIR" && ls | grep -x 'wayland-[0-9]*'); do
+		[ $((tries += 1)) -lt 300 ] || { cat "$work/log"; exit 1; }
+		sleep 0.1
+	done
+	WAYLAND_DISPLAY=$socket $user "$work/embed_speed" "$many" "$singles"
+	kill "$compositor"
+	wait "$compositor" || true
+	compositor=
+	rm -r "$XDG_RUNTIME_DIR"
+}
+
+# Of each number the middle of all rounds, the least and the most; the same of the rounds' ratios.
+table() {
+	awk '
+		{ round = int((NR + 1) / 2); for (at = 2; at <= NF; at++) value[$1, at, round] = $at }
+		function spread(of, digits,    i, j, low, form) {
+			for (i = 2; i <= round; i++)
+				for (j = i; j > 1 && of[j] < of[j - 1]; j--) {
+					low = of[j]; of[j] = of[j - 1]; of[j - 1] = low
+				}
+			form = "%." digits "f"
+			return sprintf(form " (" form " to " form ")", of[int((round + 1) / 2)], of[1], of[round])
+		}
+		function row(what, at, digits,    i, ours, theirs, ratio) {
+			for (i = 1; i <= round; i++) {
+				ours[i] = value["libwlim", at, i] + 0
+				theirs[i] = value["sway", at, i] + 0
+				ratio[i] = ours[i] / theirs[i]
+			}
+			printf "| %s | %s | %s | %s |\n", what, spread(ours, digits), spread(theirs, digits), spread(ratio, 2)
+		}
+		END {
+			print "| | libwlim | sway | ratio |\n|---|---|---|---|"
+			row("batches a second, pipelined", 2, 0)
+			row("processor time of one of these, us", 3, 2)
+			row("one batch at a time, p50, us", 4, 1)
+			row("one batch at a time, p99, us", 5, 1)
+		}' "$1"
+}
+
+# Instructions that a compositor takes for a batch, the start and the end taken off: batch_instructions COMMAND..
+batch_instructions() {
+	local many counted
+	for many in 2000 10000; do
+		measure $many 0 valgrind --tool=callgrind --callgrind-out-file="$work/run/callgrind" "$@" > "$work/line"
+		counted="$(sed -n 's/.*Collected : //p' "$work/log") $counted"
+	done
+	echo "$counted" | awk '{ printf "%.0f\n", ($1 - $2) / 8000 }'
+}
+
+# So many keystrokes: the method's string and commit, the field's surrounding text and commit.
+keystrokes() {
+	printf '%s\n' peer 'surface 1' 'field 1' peer 'method 4' 'focus 2' 'enable 3' 'commit 3'
+	for serial in $(seq "$1"); do
+		printf '%s\n' 'mstring 5 61' "mcommit 5 $serial" 'surround 3 c3a9 2 2' 'commit 3'
+	done
+	echo end
+}
+
+# Instructions that the library takes for an act of a keystroke, its events pulled.
+act_instructions() {
+	local call calls many counted
+	for call in mstring mcommit surround commit next; do
+		calls="$calls --toggle-collect=wlim_$call"
+	done
+	for many in 500 2500; do
+		keystrokes $many > "$work/acts"
+		valgrind --tool=callgrind --callgrind-out-file="$work/callgrind" $calls "$work/play_acts" \
+			< "$work/acts" > "$work/told" 2> "$work/log"
+		counted="$(sed -n 's/.*Collected : //p' "$work/log") $counted"
+	done
+	echo "$counted" | awk '{ printf "%.0f\n", ($1 - $2) / 8000 }'
+}
+
+build
+mkfifo "$work/nothing"
+exec 3<> "$work/nothing"
+# Without a cursor theme, whose reading would be most of sway's start.
+export WLR_BACKENDS=headless WLR_RENDERER=pixman XCURSOR_PATH=$work
+echo 'xwayland disable' > "$work/config"
+ours="$work/compositor"
+sway="sway --config $work/config"
+load="a load of $(cut -d ' ' -f 1 /proc/loadavg) on $(nproc) processors"
+echo "$batches batches and 5000 one at a time, $rounds times each, at $load; $(sway --version)"
+for round in $(seq "$rounds"); do
+	measure "$batches" 5000 $ours > "$work/libwlim.line"
+	measure "$batches" 5000 $sway > "$work/sway.line"
+	(cd "$work" && sed 's/^/libwlim /' libwlim.line && sed 's/^/sway /' sway.line)
+done > "$work/rounds"
+cat "$work/rounds"
+table "$work/rounds"
+batch_instructions $ours > "$work/ours"
+batch_instructions $sway > "$work/theirs"
+awk '{ of[NR] = $1 } END { printf "| instructions of one | %d | %d | %.2f |\n", of[1], of[2], of[1] / of[2] }' \
+	"$work/ours" "$work/theirs"
+echo "an act of a keystroke, its events pulled: $(act_instructions) instructions of the library"
+for file in libwlim.a libwlim.so; do
+	strip --strip-unneeded -o "$work/$file" "$library/$file"
+	echo "$file, stripped: $(stat -c %s "$work/$file") bytes"
+done
