@@ -1,14 +1,26 @@
-# `make demo` replays an example, unproved; `make build` proves and builds the program, and replays one; `make examples`
-# compares what it makes of all examples, and `make cost` counts the instructions of a step (by valgrind): both want the
-# program built. `make test` is the gate; `make gate-cost` runs it from nothing, on a machine that does nothing else, and
-# prints what each crate costs; `make claims` checks the documents against the sources, and their command blocks where the
-# program is built.
-# `make libwlim` proves and makes the library for C, in out/libwlim, and holds its header against it; `make embed` also
-# plays act lists through it, beside the program. `make embed-test` holds the glue of examples/embed over libwayland, and
-# types by fcitx5 into real programs through a compositor with it: it wants the library made, and installs what it needs
-# of Debian 12.
+# All but examples, claims and embed-test want `rt`, of the kit that README.md names.
+#
+# make demo        replays an example, unproved
+# make build       proves and builds the program, and replays an example
+# make examples    compares what the built program makes of all examples
+# make test        the gate
+# make gate-cost   the gate from nothing, on a machine that does nothing else, with what each crate costs; python3
+# make cost        builds the program, and counts the instructions of a step; python3, valgrind
+# make claims      the documents against the sources, and where the program is built their command blocks; python3
+# make libwlim     proves and makes the library for C, in out/libwlim, and holds its header against it; cc, ld, objcopy,
+#                  ar, nm, python3
+# make embed       also plays act lists and sessions through it, beside the program, which `make build` makes before;
+#                  pkg-config, valgrind, cc with its sanitizers
+# make embed-test  the glue of examples/embed over libwayland, and fcitx5 into real programs through a compositor with
+#                  it; after `make libwlim`. Installs what it needs of Debian 12: as root, with a network
+# make embed-speed a batch in that compositor beside sway, what an act takes of the library, and its size; after
+#                  `make libwlim`. Installs as embed-test does; ends within five minutes
+# make gateway     builds out/gateway/wlim-gateway over the library; cc, pkg-config, python3
+# make gateway-test  tests it beside sway, with programs and fcitx5, and prints its figures; after `make build` and
+#                  `make libwlim`. Installs what it needs of Debian 12: as root, with a network
+# make gateway-mutter-test  after it, types through the gateway beside GNOME's compositor
 PROGRAM = crates/wlim/out/wlim
-.PHONY: demo build examples test gate-cost cost claims libwlim embed embed-test
+.PHONY: demo build examples test gate-cost cost claims libwlim embed embed-test embed-speed gateway gateway-test gateway-mutter-test
 demo:
 	cd crates/wlim && rt try -- replay-acts < ../../examples/one_string.acts
 
@@ -42,3 +54,18 @@ embed-test:
 	tests/embed_needs.sh
 	tests/embed_glue.sh
 	tests/embed_programs.sh
+
+gateway:
+	gateway/build.sh out/gateway
+
+gateway-test:
+	tests/gateway_needs.sh
+	tests/gateway.sh crates/wlim/out/wlim
+
+gateway-mutter-test:
+	tests/gateway_mutter.sh
+
+embed-speed:
+	tests/embed_needs.sh gcc binutils pkg-config libwayland-dev libwayland-bin wayland-protocols libwlroots-dev \
+		libxkbcommon-dev sway valgrind
+	timeout -k 10 300 tests/embed_speed.sh

@@ -1,15 +1,17 @@
 #!/usr/bin/env python3
 """Checks the documents against the sources: claims.py [--program PATH]
 
-1. Tables `claim | call | clause` of README.md, docs/ and crates/NAME/README.md: each call is a function of the sources (of
-   the crate in its own README), and each clause the name of an `ensures` of one of the row's calls, of a ghost member or
-   a function of the crate, or of what its specifications define. `its ensures` and `definitions` name no clause.
+1. Tables `claim | call | clause` of README.md, docs/ and crates/NAME/README.md: each call is a function of the crate
+   whose README it is, else of those that the row names, else of any; of its type, where the row says `Type::call` or
+   did before. Each clause is the name of an `ensures` of one of the row's calls, or of a ghost member or a definition
+   of these crates or of those below them, where none of theirs has a clause of that name (a crate's own README may
+   name a field of its own records all the same). `its ensures` and `definitions` name no clause.
 2. Links resolve. Words in back quotes that are a path or a file's name are there; those that are a name with `_`, a
    path with `::` or a word `InThisForm` stand somewhere in the sources.
 3. docs/AUDIT.md tells how many must-fail edits there are. All documents together have at most so many words, and none
    has a mark of an unfinished merge.
-4. With a program: each line `$ COMMAND` in a block of README.md and docs/FORMATS.md ends well, and writes what stands
-   below it, if anything does.
+4. With a program: each line `$ COMMAND` in a block of README.md, docs/FORMATS.md and docs/AUDITING.md ends well,
+   and writes what stands below it, if anything does. Without one it says how many were not run.
 
 Prints what fails, and how many were looked at; ends with 1 if any failed.
 """
@@ -22,12 +24,14 @@ import tempfile
 
 ROOT = os.path.abspath(os.path.join(os.path.dirname(os.path.abspath(__file__)), ".."))
 FUNCTION = re.compile(r"\bfn\s+(\w+)")
+OWNER = re.compile(r"^(?:pub\s+)?(?:impl\b(?:<.*?>)?\s+(?:.*\bfor\s+)?|trait\s+)(?:\w+::)*(\w+)"
+                   r"|^ +for ([A-Z]\w*)(?:<.*>)? \{$")
 ENSURES = re.compile(r"\bensures\s*\*?\s*(\w+)\s*\{")
 GHOST = re.compile(r"\b(?:ghost|struct|enum|trait)\s+(\w+)\s*[:={<(]")
 DEFINED = re.compile(r"^\s*(?:(?:abbrev|unfoldable|record|data)\s+)*pub\s+(?:record\s+)?(\w+)", re.M)
 WORDS_OF_NO_CLAUSE = {"ensures", "requires", "result"}
 MOST_WORDS = 45_000
-RUN = ["README.md", "docs/FORMATS.md"]
+RUN = ["README.md", "docs/FORMATS.md", "docs/AUDITING.md"]
 FILE = re.compile(r"[\w./-]+\.(?:rt|antt|py|sh|c|h|md|txt|session|acts|transcript|trial|shown|edit)")
 NAME = re.compile(r"[a-z]\w*_\w+|(?:[A-Z][a-z0-9]+){2,}|\w+(?:::\w+)+")
 
@@ -42,17 +46,19 @@ def read(path):
 
 
 def clauses_of(folder):
-    """For each function of a crate's sources, the names of its clauses."""
+    """For each function of a crate's sources, as `name` and as `Type::name`, the names of its clauses."""
     found = {}
     for path in glob.glob(f"{folder}/src/**/*.rt", recursive=True):
-        name = None
+        owner, names_of_it = None, []
         for line in read(path).splitlines():
+            begins = OWNER.match(line)
+            owner = begins.group(1) or begins.group(2) if begins else None if line.startswith("}") else owner
             function = FUNCTION.search(line.split("//")[0])
             if function:
                 name = function.group(1)
-                found.setdefault(name, set())
-            if name:
-                found[name].update(ENSURES.findall(line))
+                names_of_it = [name, f"{owner}::{name}"] if owner else [name]
+            for name in names_of_it:
+                found.setdefault(name, set()).update(ENSURES.findall(line))
     return found
 
 
@@ -72,9 +78,30 @@ def code_words(cell):
 
 
 def called(word):
-    """The functions that a word names: `Store::{put, take}` names two."""
-    last = word.split("::")[-1]
-    return [name.strip() for name in last.strip("{}").split(",")]
+    """The functions that a word names: `Store::{put, take}` names two, each with its type."""
+    *path, last = word.split("::")
+    owner = f"{path[-1]}::" if path and path[-1][:1].isupper() else ""
+    return [owner + name.strip() for name in last.strip("{}").split(",")]
+
+
+def typed(calls, functions):
+    """Calls of which one without a type has that of the call before it, if that type has such a function."""
+    found, owner = [], ""
+    for name in calls:
+        owner = name.split("::")[0] if "::" in name else owner
+        found.append(f"{owner}::{name}" if f"{owner}::{name}" in functions else name)
+    return found
+
+
+def below():
+    """For each crate of crates.txt, itself and all those on which it stands."""
+    found = {}
+    for line in read(f"{ROOT}/crates.txt").splitlines():
+        names_of_it, _, stands_on = line.partition(":")
+        if stands_on or names_of_it.strip():
+            name = names_of_it.split(" ")[0]
+            found[name] = {name}.union(*[found.get(other, set()) for other in stands_on.split()])
+    return found
 
 
 def rows_of(path):
@@ -91,27 +118,39 @@ def rows_of(path):
             inside = False
 
 
+def merged(crates):
+    """The clauses of the functions of several crates."""
+    found = {}
+    for functions, _ in crates:
+        for name, clauses in functions.items():
+            found.setdefault(name, set()).update(clauses)
+    return found
+
+
 def claims(documents):
     """A problem, or none, for each row of a table of claims."""
     crates = {os.path.basename(folder): (clauses_of(folder), words_of(folder))
               for folder in sources("crates/*") if os.path.isdir(folder)}
-    every_clause, every_word = {}, set()
-    for functions, words in crates.values():
-        for name, clauses in functions.items():
-            every_clause.setdefault(name, set()).update(clauses)
-        every_word |= words
+    stands_on = below()
     for path in documents:
-        own = crates.get(os.path.basename(os.path.dirname(path)))
-        functions = own[0] if own else every_clause
+        own = os.path.basename(os.path.dirname(path))
         for number, (_, call, clause) in rows_of(path):
-            names = [name for word in code_words(call) for name in called(word) if "/" not in word]
-            known = [name for name in names if name in functions]
-            problems = [f"no call `{name}`" for name in names
-                        if name not in functions and name not in every_word and name[:1].islower()]
+            named = {word.split("/")[0] for word in re.findall(r"`([^`]+)`", call)} & set(crates)
+            where = {own} if own in crates else named or set(crates)
+            functions = merged(crates[name] for name in where)
+            own_words = set().union(*[crates[name][1] for name in where])
+            lower = set().union(*[crates[name][1] for crate in where for name in stands_on.get(crate, set())
+                                  if name in crates])
+            others = set().union(*functions.values())
+            words = own_words | lower - others if own in crates else (own_words | lower) - others
+            calls = typed([name for word in code_words(call) for name in called(word) if "/" not in word], functions)
+            known = [name for name in calls if name in functions]
+            problems = [f"no call `{name}`" for name in calls
+                        if name not in functions and name not in words and name.split("::")[-1][:1].islower()]
             clauses = set().union(*[functions[name] for name in known or functions])
             for word in code_words(clause):
                 if re.fullmatch(r"\w+", word) and word not in WORDS_OF_NO_CLAUSE \
-                        and word not in clauses and word not in every_word and word not in functions:
+                        and word not in clauses and word not in words:
                     problems.append(f"no clause `{word}`")
             yield f"{path}:{number}: {'; '.join(problems)}" if problems else None
 
@@ -181,6 +220,9 @@ def main():
     found = list(claims(documents)) + list(names(documents)) + list(counts(documents))
     if sys.argv[1:2] == ["--program"]:
         found += list(runs(sys.argv[2]))
+    else:
+        unrun = [f"{path}: {len(list(blocks(f'{ROOT}/{path}')))}" for path in RUN]
+        print(f"commands that no program was given for: {', '.join(unrun)}")
     problems = [problem for problem in found if problem]
     for problem in problems:
         print(problem.replace(f"{ROOT}/", ""))

@@ -4,10 +4,11 @@
   tools/cost.py            builds nothing: measures crates/wlim/out/wlim, which `rt run` in crates/wlim builds
   tools/cost.py PROGRAM    measures another build
 
-It prints, by valgrind's callgrind, instructions a step of `replay` in both forms and of `replay-seats` with one and with
-eight seats that take turns, an act of `replay-acts`, and of one honest step (an application types by way of a method) alone, beside 62 peers of 240 surfaces each, and beside 62 peers
-whose objects and stores are nearly as many as they may be, with 64 keys down. The start of the program is taken off
-by measuring two lengths of each input.
+It prints, by valgrind's callgrind, instructions a step of `replay` in both forms, of `explain`, and of `replay-seats` with
+one and with eight seats that take turns, an act of `replay-acts`, a batch that is replayed and taken, and that is
+audited with what was sent for it, and of one honest step (an application types by way of a method) alone, beside 62
+peers of 240 surfaces each, and beside 62 peers whose objects and stores are nearly as many as they may be, with 64 keys
+down. The start of the program is taken off by measuring two lengths of each input.
 """
 import os
 import random
@@ -168,6 +169,15 @@ def pair(crowd, batches):
     return lines + ["end"]
 
 
+def audited(batches):
+    """The same pair by itself, in an audit: each batch, and what its field was sent."""
+    lines = pair(0, 0)[1:-1]
+    sent = message(1, 7, 3, text("a"))[len("bytes 1 "):] + message(1, 7, 5, word(1))[len("bytes 1 "):]
+    for _ in range(batches):
+        lines += [message(2, 5, 0, text("a")), message(2, 5, 3, word(1)), f"out 1 {sent}"]
+    return ["audit 1"] + [line if line.startswith("out") else f"0 0 {line}" for line in lines] + ["end"]
+
+
 def attacked(crowd, batches):
     """The same where each of the crowd has 255 objects and a store that is nearly full, and 64 keys are down."""
     store = 8192
@@ -214,9 +224,12 @@ def main():
     program = sys.argv[1] if len(sys.argv) == 2 else BUILT
     print(f"a step of replay:        {each(program, 'replay', session, 2000, 20000):8.0f}")
     print(f"the same in form 2:      {each(program, 'replay', stamped, 2000, 20000):8.0f}")
+    print(f"a step of explain:       {each(program, 'explain', session, 2000, 20000):8.0f}")
     print(f"a step of replay-seats:  {each(program, 'replay-seats', lambda n: seats(1, n), 2000, 20000):8.0f}")
     print(f"the same of eight seats: {each(program, 'replay-seats', lambda n: seats(8, n), 16000, 80000):8.0f}")
     print(f"an act of replay-acts:   {each(program, 'replay-acts', act_list, 2000, 20000):8.0f}")
+    print(f"a batch, and its take:   {each(program, 'replay', lambda n: pair(0, n), 1000, 5000):8.0f}")
+    print(f"a batch that is audited: {each(program, 'audit', audited, 1000, 5000):8.0f}")
     alone = each(program, "replay", lambda n: pair(0, n), 1000, 5000, 3)
     beside = each(program, "replay", lambda n: pair(62, n), 1000, 5000, 3)
     print(f"an honest step alone:    {alone:8.0f}")
