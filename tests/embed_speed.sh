@@ -32,6 +32,7 @@ build() {
 	${CC:-cc} $flags -o "$work/embed_speed" tests/embed_speed.c "$protocols"/*-unstable-*-protocol.c \
 		"$shell/xdg-shell-protocol.c" $(pkg-config --cflags --libs wayland-client) -lpthread
 	${CC:-cc} $flags -D_POSIX_C_SOURCE=200809L -o "$work/play_acts" examples/embed/play_acts.c "$library/libwlim.a"
+	${CC:-cc} $flags -D_POSIX_C_SOURCE=200809L -o "$work/embed_act" tests/embed_act.c "$library/libwlim.a"
 }
 
 # What the client prints of a compositor that is started for it: measure BATCHES SINGLES COMMAND..
@@ -140,6 +141,7 @@ batch_instructions $sway > "$work/theirs"
 awk '{ of[NR] = $1 } END { printf "| instructions of one | %d | %d | %.2f |\n", of[1], of[2], of[1] / of[2] }' \
 	"$work/ours" "$work/theirs"
 echo "an act of a keystroke, its events pulled: $(act_instructions) instructions of the library"
+echo "a string and its commit: $("$work/embed_act")"
 for file in libwlim.a libwlim.so; do
 	strip --strip-unneeded -o "$work/$file" "$library/$file"
 	echo "$file, stripped: $(stat -c %s "$work/$file") bytes"
