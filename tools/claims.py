@@ -215,7 +215,7 @@ def counts(documents):
 
 
 def main():
-    folders = ["*.md", "docs/*.md", "crates/*/README.md", "examples/**/*.md"]
+    folders = ["*.md", "docs/*.md", "crates/*/README.md", "examples/**/*.md", "gateway/*.md"]
     documents = sorted(path for pattern in folders for path in sources(pattern))
     found = list(claims(documents)) + list(names(documents)) + list(counts(documents))
     if sys.argv[1:2] == ["--program"]:
