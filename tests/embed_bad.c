@@ -1,9 +1,9 @@
 /*
- * What C can do wrong, and what a client can: closed seats, bad texts, labels of other kinds, too little room, each
- * allocation failing in turn, a million requests of no effect or beyond the limits, and a second seat in the place of the
- * first. Then the same by bytes: closed brokers, numbers out of range, peers that aren't there or ended, too little room,
- * a full journal, lost events. Built by tests/embed.sh, with -Wl,--wrap=malloc,--wrap=realloc,--wrap=free. Prints what
- * doesn't hold.
+ * What C can do wrong, and what a client can: closed seats, bad texts, labels of other kinds, too little room, fields
+ * without a text, each allocation failing in turn, a million requests of no effect or beyond the limits, and a second
+ * seat in the place of the first. Then the same by bytes: closed brokers, numbers out of range, peers that aren't there
+ * or ended, too little room, a full journal, lost events. Built by tests/embed.sh, with
+ * -Wl,--wrap=malloc,--wrap=realloc,--wrap=free. Prints what doesn't hold.
  */
 #include <malloc.h>
 #include <stdio.h>
@@ -157,6 +157,25 @@ static void limits(void)
 	HOLDS(wlim_grab(&seat, 6, 0) == WLIM_MANY && wlim_drop(&seat, 3) == 9 && wlim_surface(&seat, 1, 9) == 10);
 	HOLDS(wlim_gone(&seat, 2) == 11 && wlim_peer(&seat) == 12 && wlim_peer(&seat) == WLIM_MANY);
 	HOLDS(wlim_open_with(&seat, 0, 0) && wlim_peer(&seat) == WLIM_MANY);
+	wlim_close(&seat);
+	HOLDS(held == 0);
+}
+
+/* A field takes memory for its texts with its first one, and keeps it; one without a text has none. */
+static void small_fields(void)
+{
+	struct wlim seat = { 0 };
+	HOLDS(wlim_open(&seat) && wlim_peer(&seat) == 1 && wlim_surface(&seat, 1, 0) == 2);
+	for (int64_t number = 3; number <= 202; number++)
+		HOLDS(wlim_field(&seat, 1, 0) == number);
+	HOLDS(held < 200 * 1024);
+	HOLDS(wlim_focus(&seat, 2) == 203 && wlim_surround(&seat, 3, "a", 1, 0, 0) == 204);
+	long before = held;
+	HOLDS(wlim_surround(&seat, 3, "ab", 2, 1, 1) == 205 && held - before <= 8192);
+	before = held;
+	for (uint32_t at = 0; at < 1000; at++)
+		HOLDS(wlim_surround(&seat, 3, "abc", 3, 2, 2) == 206 + at);
+	HOLDS(held == before);
 	wlim_close(&seat);
 	HOLDS(held == 0);
 }
@@ -506,6 +525,7 @@ int main(void)
 	closed();
 	bad_requests();
 	limits();
+	small_fields();
 	allocations();
 	hostile_client();
 	second_seat();

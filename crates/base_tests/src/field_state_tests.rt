@@ -1,6 +1,6 @@
 //! A field's states over its requests, and what it takes.
 use crate::equal::equal;
-use field_state::{Field, SURROUNDING_LIMIT, Taken};
+use field_state::{Field, Room, SURROUNDING_LIMIT, Taken};
 use popup_place::Rect;
 use std::alloc::Global;
 use std::process::Abort;
@@ -45,12 +45,18 @@ const LOW: Rect = Rect {
     height: -1,
 };
 
-// Whether the text has an effect, where it is short enough to be told.
-fn surround(field: &mut Field, text: &str, cursor: i32, anchor: i32) -> Option<bool> {
-    if text.len() > SURROUNDING_LIMIT {
+// Whether the text has an effect, where it is short enough to be told and there is memory for it.
+fn surround(
+    field: &mut Field,
+    text: &str,
+    cursor: i32,
+    anchor: i32,
+    room: &mut Option<Room>,
+) -> Option<bool> {
+    if text.len() > SURROUNDING_LIMIT || room.is_none() {
         return None;
     }
-    Some(field.set_surrounding(text, cursor, anchor))
+    Some(field.set_surrounding(text, cursor, anchor, room))
 }
 
 fn shows(
@@ -67,14 +73,18 @@ fn shows(
     equal(rt, field.rect(), rect);
 }
 
-fn take(rt: &impl Abort, field: &mut Field, step: Step) {
+fn take(rt: &impl Abort, field: &mut Field, room: &mut Option<Room>, step: Step) {
     match step {
         Step::Enter => field.enter(),
         Step::Leave => field.leave(),
         Step::Enable => field.enable(),
         Step::Disable => field.disable(),
         Step::Surround(text, cursor, anchor, has_effect) => {
-            equal(rt, surround(field, text, cursor, anchor), Some(has_effect));
+            equal(
+                rt,
+                surround(field, text, cursor, anchor, room),
+                Some(has_effect),
+            );
         }
         Step::Cause(cause) => field.set_cause(cause),
         Step::Content(hint, purpose) => field.set_content(hint, purpose),
@@ -94,9 +104,13 @@ fn take(rt: &impl Abort, field: &mut Field, step: Step) {
 }
 
 fn play(rt: &impl Abort, alloc: Global, steps: &[Step]) -> Result<(), NoMemory> {
-    let mut field = Field::new(alloc)?;
+    let mut field = Field::new(alloc);
+    let mut room = None;
     for step in steps {
-        take(rt, &mut field, *step);
+        if room.is_none() {
+            room = Some(Room::new(alloc)?);
+        }
+        take(rt, &mut field, &mut room, *step);
     }
     Ok(())
 }
@@ -203,5 +217,20 @@ fn each_list_of_steps_is_answered(rt: HostRuntime) -> Result<(), Fail> {
     for steps in &LISTS {
         play(&rt, rt.alloc(), steps)?;
     }
+    Ok(())
+}
+
+#[test]
+fn the_first_text_takes_the_room(rt: HostRuntime) -> Result<(), Fail> {
+    let mut field = Field::new(rt.alloc());
+    let mut room = Some(Room::new(rt.alloc())?);
+    equal(&rt, surround(&mut field, "a", 0, 0, &mut room), Some(false));
+    assert!(rt; room.is_some());
+    field.enter();
+    equal(&rt, surround(&mut field, "a", 0, 0, &mut room), Some(true));
+    assert!(rt; room.is_none());
+    room = Some(Room::new(rt.alloc())?);
+    equal(&rt, surround(&mut field, "b", 1, 1, &mut room), Some(true));
+    assert!(rt; room.is_some());
     Ok(())
 }

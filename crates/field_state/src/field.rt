@@ -1,7 +1,7 @@
 //! One text field: its requests set what is pending, and a commit makes that current where the field holds the seat.
 //! What is current is defined by looking back over the calls; here it is kept in two sets of slots.
 ghost use Rattle.std.specs.Prelude.{◌≡◌, ◌≤◌, List, [], ◌∷◌, length, true, false, Option, None};
-ghost use Rattle.std.specs.Prelude.{option_map, IfOk, if◌then◌else◌};
+ghost use Rattle.std.specs.Prelude.{option_map, is_some, if◌then◌else◌};
 ghost use Rattle.field_state.specs.Calls.{Call, Enter, Leave, Enable, Disable, Surround, Cause};
 ghost use Rattle.field_state.specs.Calls.{Content, Rectangle, Commit, Displace, initial, is_place};
 ghost use Rattle.field_state.specs.Hold.{entered, answer, holds_after, has_effect, taken};
@@ -12,11 +12,11 @@ ghost use Rattle.field_state.specs.Changes.{fresh, focused, enabled, disabled, s
 ghost use Rattle.field_state.specs.Changes.{typed, placed, taken_of, committed, displaced};
 
 use crate::commit::{Taken, Word};
+use crate::room::Room;
 use crate::slots::{SURROUNDING_LIMIT, Slots};
 use popup_place::Rect;
 use std::alloc::Global;
 use std::marker::Model;
-use wio_core::NoMemory;
 
 /// One `zwp_text_input_v3`. Contracts speak of the calls on it so far, the newest first.
 #[derive(Drop)]
@@ -39,14 +39,16 @@ impl Model for Field {
       word = f.word;
       holds = f.holds;
       count = f.count;
-      pending = f.pending;
-      current = f.current;
+      pending = f.pending.state;
+      current = f.current.state;
     } };
 
     ghost use Rattle.std.specs.Prelude.{◌≡◌, false};
     ghost use Rattle.field_state.specs.Stands.{IsLeft};
 
-    ghost invariant = { λ f. f.entered ≡ false → IsLeft f.word f.holds f.pending f.current };
+    ghost invariant = { λ f.
+        (f.entered ≡ false → IsLeft f.word f.holds f.pending.state f.current.state)
+        × (f.pending.has_room ≡ f.current.has_room) };
 }
 
 // A cursor or anchor can stand at this byte of the text.
@@ -77,7 +79,11 @@ fn holds_after(taken: Taken) -> bool
 
 // Makes current what is pending where the field holds, else what is initial.
 fn show(current: &mut Slots, pending: &Slots, holds: bool)
-    ensures { current.new ≡ (if holds then pending.now else initial) }
+    requires { pending.now.has_room ≡ current.old.has_room }
+    ensures { current.new ≡ record {
+      state = (if holds then pending.now.state else initial);
+      has_room = current.old.has_room;
+    } }
 {
     if holds {
         current.copy_from(pending);
@@ -86,22 +92,36 @@ fn show(current: &mut Slots, pending: &Slots, holds: bool)
     }
 }
 
+// Both have memory for a text then: their own, or that of the room.
+fn take_room(pending: &mut Slots, current: &mut Slots, room: &mut Option<Room>)
+    requires room { is_some room.old ≡ true }
+    requires both { pending.old.has_room ≡ current.old.has_room }
+    ensures pending { pending.new ≡ record { state = pending.old.state; has_room = true } }
+    ensures current { current.new ≡ record { state = current.old.state; has_room = true } }
+{
+    if pending.has_room() {
+        return;
+    }
+    if let Some(room) = room.take() {
+        pending.take_room(room.pending);
+        current.take_room(room.current);
+    }
+}
+
 impl Field {
-    /// A field that isn't entered. Reserves `SURROUNDING_LIMIT` bytes twice; no later call takes memory.
-    pub fn new(alloc: Global) -> Result<Field, NoMemory>
-        ensures fresh { IfOk result (λ field. field ≡ fresh) }
-        ensures history { IfOk result (λ field. Stands [] field) }
+    /// A field that isn't entered. Takes no memory.
+    pub fn new(alloc: Global) -> Field
+        ensures fresh { result ≡ fresh }
+        ensures history { Stands [] result }
     {
-        let pending = Slots::new(alloc)?;
-        let current = Slots::new(alloc)?;
-        Ok(Field {
+        Field {
             entered: false,
             word: None,
             holds: false,
             count: 0,
-            pending,
-            current,
-        })
+            pending: Slots::new(alloc),
+            current: Slots::new(alloc),
+        }
     }
 
     /// The field is entered. Where it isn't, leaving it changes nothing.
@@ -178,9 +198,17 @@ impl Field {
     /// `zwp_text_input_v3.set_surrounding_text`: the text around the cursor, of at most
     /// `SURROUNDING_LIMIT` bytes, and the bytes where cursor and anchor stand. False, and no
     /// effect, exactly where the field isn't entered, or cursor or anchor is negative, past the
-    /// text's end or inside a character.
-    pub fn set_surrounding(&mut self, text: &str, cursor: i32, anchor: i32) -> bool
-        requires { length text.now ≤ SURROUNDING_LIMIT }
+    /// text's end or inside a character. The first text that has an effect takes the room, and no
+    /// other call takes memory.
+    pub fn set_surrounding(
+        &mut self,
+        text: &str,
+        cursor: i32,
+        anchor: i32,
+        room: &mut Option<Room>,
+    ) -> bool
+        requires short { length text.now ≤ SURROUNDING_LIMIT }
+        requires room { is_some room.old ≡ true }
         ensures now { self.new ≡ surrounded text.now cursor anchor self.old }
         ensures stands { (calls : List Call) → Stands calls self.old →
             Stands (Surround text.now cursor anchor ∷ calls) self.new }
@@ -189,6 +217,7 @@ impl Field {
     {
         let has_effect = self.entered && is_place(text, cursor) && is_place(text, anchor);
         if has_effect {
+            take_room(&mut self.pending, &mut self.current, room);
             self.pending.set_surrounding(text, cursor, anchor);
         }
         has_effect

@@ -490,14 +490,14 @@ tells_weigh act s spare h =
 
 -- some copies that would do
 with_texts : List ℕ → List ℕ → Spare
-with_texts text preedit = record { text = text; preedit = preedit; field = Some change.fresh }
+with_texts text preedit = record { text = text; preedit = preedit; room = Some tt }
 
 pub some_spare : (act : Act) (s : State) → (spare : Spare) × HasSpare s spare act
 unfolding with_texts
 some_spare acts.Peer s = (with_texts [] [], tt)
 some_spare (acts.Gone p cause) s = (with_texts [] [], tt)
 some_spare (acts.Surface p) s = (with_texts [] [], tt)
-some_spare (acts.Field p) s = (with_texts [] [], refl)
+some_spare (acts.Field p) s = (with_texts [] [], tt)
 some_spare (acts.Method p) s = (with_texts (text_around (holder_state s).surrounding) [], refl)
 some_spare (acts.Popup m t) s = (with_texts [] [], tt)
 some_spare (acts.Grab m) s = (with_texts [] [], tt)
@@ -508,7 +508,7 @@ some_spare (acts.Area t rect) s = (with_texts [] [], tt)
 some_spare (acts.Screen size) s = (with_texts [] [], tt)
 some_spare (acts.Enable f) s = (with_texts [] [], tt)
 some_spare (acts.Disable f) s = (with_texts [] [], tt)
-some_spare (acts.Surround f text cursor anchor) s = (with_texts [] [], tt)
+some_spare (acts.Surround f text cursor anchor) s = (with_texts [] [], refl)
 some_spare (acts.Cause f cause) s = (with_texts [] [], tt)
 some_spare (acts.Content f hint purpose) s = (with_texts [] [], tt)
 some_spare (acts.Cursor f rect) s = (with_texts [] [], tt)

@@ -3,14 +3,13 @@ use Rattle.std.specs.Prelude.{◌≡◌, ℕ, ◌<◌, List, [], Option, Some, N
 use Rattle.relay_model.specs.declared.act.Act.{Act}
 use Rattle.relay_model.specs.declared.act.Act.TheVariants as acts
 use Rattle.field_state.specs.Stands.{Kept}
-use Rattle.field_state.specs.Changes.{fresh}
 use Rattle.relay_core.specs.declared.boards.Boards as declared
 use Rattle.relay_core.specs.declared.machine.Machine.{Machine}
 use Rattle.seat_objects.specs.declared.spare.Spare.{Spare}
 use Rattle.seat_objects.specs.Objects.{find, field_in}
 use Rattle.relay_core.specs.BoardKeys.{Boards, HasBoard}
 use Rattle.relay_core.specs.Machine.{State, holder_state, text_around}
-use Rattle.seat_objects.specs.Fits.{FitsMessage}
+use Rattle.seat_objects.specs.Fits.{FitsMessage, FindsRoom}
 
 -- what the machine keeps, without what is reserved
 abbrev pub state : Machine → State
@@ -48,14 +47,13 @@ abbrev pub text_pending : Option Kept → List ℕ
 text_pending None = []
 text_pending (Some kept) = text_around kept.pending.surrounding
 
--- what is made before the act: copies of the texts that it may tell, and what a new field needs
+-- what is made before the act: copies of the texts that it may tell, and memory for a text of a field
 abbrev pub HasSpare : State → Spare → Act → Type 0
-HasSpare s spare (acts.Field p) = spare.field ≡ Some fresh
 HasSpare s spare (acts.Method p) = spare.text ≡ text_around (holder_state s).surrounding
 HasSpare s spare (acts.Commit f) = spare.text ≡ text_pending (field_in (find s.objects f))
 HasSpare s spare (acts.MCommit m serial) =
     (spare.text ≡ s.edits.string) × (spare.preedit ≡ s.edits.preedit.text)
-HasSpare s spare _ = Unit {0}
+HasSpare s spare act = FindsRoom act spare.room
 
 -- there is room for one more object, which the end of a peer does without
 abbrev pub HasRoom : ℕ → Act → Type 0

@@ -68,14 +68,14 @@ impl Machine {
         self.spare.copy_preedit(self.alloc, edits.preedit)
     }
 
-    // Makes copies of the texts that the act may tell, and the place of a field that it may make.
+    // Makes copies of the texts that the act may tell, and memory for a text of a field.
     fn spare_for(&mut self, act: &Act) -> Result<(), NoMemory>
         ensures same { state self.new ≡ state self.old }
         ensures objects { self.new.objects ≡ self.old.objects }
         ensures spare { OnOk result (HasSpare (state self.old) self.new.spare act.now) }
     {
         match act {
-            Act::Field { .. } => self.spare.make_field(self.alloc),
+            Act::Surround { .. } => self.spare.make_room(self.alloc),
             Act::Method { .. } => self.copy_holder(),
             Act::Commit { field } => self.copy_pending(*field),
             Act::MCommit { .. } => self.copy_edits(),

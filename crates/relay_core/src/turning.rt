@@ -2,7 +2,6 @@
 ghost use Rattle.std.specs.Prelude.{◌≡◌, ◌&&◌, ◌+◌, ◌<◌, ◌≤◌, true, Option, Some, None};
 ghost use Rattle.relay_model.specs.declared.act.Act.{Act};
 ghost use Rattle.relay_model.specs.Idle.{is_place, is_sized};
-ghost use Rattle.field_state.specs.Changes as change;
 ghost use Rattle.seat_objects.specs.Fits.{FitsMessage};
 ghost use Rattle.seat_objects.specs.declared.object.Kind.TheVariants as kinds;
 ghost use Rattle.seat_objects.specs.Objects.{find, no_area};
@@ -14,6 +13,7 @@ ghost use Rattle.relay_core.specs.Machine.{enter_told, drop_told, gone_told, say
 
 use crate::machine::Machine;
 use crate::peers::{tell_error, tell_synced};
+use field_state::Field;
 use kbd_grab::Route;
 use relay_model::{Act, Label, Rect};
 use seat_objects::{Kind, NO_AREA, Object, Objects, Post, is_number, tell_deleted, tell_enter};
@@ -179,7 +179,6 @@ impl Machine {
     fn make_field<P: Post>(&mut self, peer: Label, post: &mut P)
         requires room { 0 < self.old.objects.room }
         requires above { self.old.objects.bound ≤ self.old.acts }
-        requires spare { self.old.spare.field ≡ Some change.fresh }
         ensures state { state self.new ≡ made peer (Kind.Field (new_field peer (state self.old)))
             (state self.old) }
         ensures told { Reached P.may_follow post.old (enter_told (state self.old) peer
@@ -191,12 +190,11 @@ impl Machine {
                 tell_enter(self.acts, surface, post);
             }
         }
-        if let Some(mut field) = self.spare.field.take() {
-            if entered {
-                field.enter();
-            }
-            self.make(peer, Kind::Field(field));
+        let mut field = Field::new(self.alloc);
+        if entered {
+            field.enter();
         }
+        self.make(peer, Kind::Field(field));
     }
 
     #[tactic(auto, using(seat_objects::proofs::TellsAppend::reached_append))]
@@ -256,7 +254,7 @@ impl Machine {
             | Act::Surround { field, .. }
             | Act::Cause { field, .. }
             | Act::Content { field, .. }
-            | Act::Cursor { field, .. } => self.objects.request(*field, act),
+            | Act::Cursor { field, .. } => self.objects.request(*field, act, &mut self.spare.room),
             Act::Commit { field } => {
                 self.commit(*field, post);
                 self.tell_popups_of(*field, post);

@@ -1,5 +1,5 @@
 -- What a change makes of an object.
-use Rattle.std.specs.Prelude.{ℕ, ◌==◌, if◌then◌else◌}
+use Rattle.std.specs.Prelude.{ℕ, ◌==◌, Option, if◌then◌else◌}
 use Rattle.popup_place.specs.declared.geometry.Rect.{Rect}
 use Rattle.relay_model.specs.Objects.{is_at}
 use Rattle.field_state.specs.Stands.{Kept}
@@ -8,16 +8,16 @@ use Rattle.seat_objects.specs.declared.change.Change.{Change}
 use Rattle.seat_objects.specs.declared.change.Change.TheVariants.{Ask, Focus, Commit, Displace, Area}
 use Rattle.seat_objects.specs.declared.object.Object.{Object}
 use Rattle.seat_objects.specs.declared.object.Kind.{Kind}
-use Rattle.seat_objects.specs.Fits.{FitsMessage}
+use Rattle.seat_objects.specs.Fits.{FitsMessage, FindsRoom}
 use Rattle.seat_objects.specs.Objects.{asked, changed, kind_placed}
 
--- a request's text is one that a message can carry
-abbrev pub FitsChange : Change → Type 0
-FitsChange (Ask act) = FitsMessage act.now
-FitsChange (Focus peer) = Unit {0}
-FitsChange Commit = Unit {0}
-FitsChange Displace = Unit {0}
-FitsChange (Area rect) = Unit {0}
+-- a request's text is one that a message can carry, and finds memory
+abbrev pub FitsChange : Change → (room : Option (Unit {0})) → Type 0
+FitsChange (Ask act) room = FitsMessage act.now × FindsRoom act.now room
+FitsChange (Focus peer) room = Unit {0}
+FitsChange Commit room = Unit {0}
+FitsChange Displace room = Unit {0}
+FitsChange (Area rect) room = Unit {0}
 
 -- what a field keeps after the change, its peer given
 abbrev pub field_after : Change → ℕ → Kept → Kept

@@ -1,14 +1,15 @@
 //! What a field's requests set.
 ghost use Rattle.std.specs.Prelude.{◌≡◌};
-ghost use Rattle.seat_objects.specs.Fits.{FitsMessage};
+ghost use Rattle.seat_objects.specs.Fits.{FitsMessage, FindsRoom};
 ghost use Rattle.seat_objects.specs.Objects.{asked};
 
-use field_state::Field;
+use field_state::{Field, Room};
 use relay_model::Act;
 
-/// The act is a request of this field, other than a commit.
-pub fn ask(field: &mut Field, act: &Act)
-    requires { FitsMessage act.now }
+/// The act is a request of this field, other than a commit. Its first text takes the room.
+pub fn ask(field: &mut Field, act: &Act, room: &mut Option<Room>)
+    requires fits { FitsMessage act.now }
+    requires room { FindsRoom act.now room.old }
     ensures { field.new ≡ asked act.now field.old }
 {
     match act {
@@ -20,7 +21,7 @@ pub fn ask(field: &mut Field, act: &Act)
             anchor,
             ..
         } => {
-            let _ = field.set_surrounding(text.as_str(), *cursor, *anchor);
+            let _ = field.set_surrounding(text.as_str(), *cursor, *anchor, room);
         }
         Act::Cause { cause, .. } => field.set_cause(*cause),
         Act::Content { hint, purpose, .. } => field.set_content(*hint, *purpose),

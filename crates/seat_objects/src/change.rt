@@ -4,7 +4,7 @@ ghost use Rattle.seat_objects.specs.Changes.{FitsChange, field_after, area_after
 
 use crate::asking::ask;
 use crate::object::{Kind, Object, is_number};
-use field_state::Field;
+use field_state::{Field, Room};
 use relay_model::{Act, Label, Rect};
 
 /// A change of one object: of a field, or of a surface. Other objects stay as they are.
@@ -23,12 +23,12 @@ pub enum Change<'a> {
 }
 
 // The field belongs to the peer.
-fn change_field(field: &mut Field, peer: Label, change: Change<'_>)
-    requires { FitsChange change }
+fn change_field(field: &mut Field, peer: Label, change: Change<'_>, room: &mut Option<Room>)
+    requires { FitsChange change room.old }
     ensures { field.new ≡ field_after change.entry peer field.old }
 {
     match change {
-        Change::Ask(act) => ask(field, act),
+        Change::Ask(act) => ask(field, act, room),
         Change::Focus(focused) => {
             if is_number(focused, peer) {
                 field.enter();
@@ -53,13 +53,13 @@ fn change_area(area: &mut Rect, change: Change<'_>)
 }
 
 impl Object {
-    /// Makes the change.
-    pub fn change(&mut self, change: Change<'_>)
-        requires { FitsChange change }
+    /// Makes the change. A field's first text takes the room.
+    pub fn change(&mut self, change: Change<'_>, room: &mut Option<Room>)
+        requires { FitsChange change room.old }
         ensures { self.new ≡ changed_by change.entry self.old }
     {
         match &mut self.kind {
-            Kind::Field(field) => change_field(field, self.peer, change),
+            Kind::Field(field) => change_field(field, self.peer, change, room),
             Kind::Surface { area } => change_area(area, change),
             Kind::Peer
             | Kind::Method

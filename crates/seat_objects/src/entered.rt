@@ -76,7 +76,7 @@ fn refocus_each(shelf: &mut Shelf, fields: &[LiveField], peer: Option<Label>)
     ensures room { shelf.new.room ≡ shelf.old.room }
 {
     for field in fields {
-        shelf.change(field.label, Change::Focus(peer));
+        shelf.change(field.label, Change::Focus(peer), &mut None);
     }
 }
 

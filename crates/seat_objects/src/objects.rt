@@ -1,7 +1,7 @@
 //! The live objects of a seat: found by label, with the fields of each peer and the popups listed beside.
 ghost use Rattle.std.specs.Prelude.{◌≡◌, ◌≢◌, ◌≤◌, ◌<◌, ◌+◌, ◌∷◌, [], ◌++◌, map, filter};
 ghost use Rattle.std.specs.Prelude.{option_map, Some, OnOk};
-ghost use Rattle.seat_objects.specs.Fits.{FitsMessage};
+ghost use Rattle.seat_objects.specs.Fits.{FitsMessage, FindsRoom};
 ghost use Rattle.seat_objects.specs.Objects.{find, owner_in, area_in, has_popup_in, not_label};
 ghost use Rattle.seat_objects.specs.Objects.{not_peer, requested, refocused, committed, placed_at};
 ghost use Rattle.seat_objects.specs.Objects.{field_in, field_at, count_in, is_peer_in, is_field_in};
@@ -13,7 +13,7 @@ use crate::entered::{Entered, entered_by, entered_with, left_for, refocus_entere
 use crate::listed::{LiveField, LivePopup, has_surface, list_field, list_popup, of_peer, unlist};
 use crate::object::{Kind, NO_AREA, Object};
 use crate::shelf::Shelf;
-use field_state::Field;
+use field_state::{Field, Room};
 use relay_model::{Act, Label, Rect};
 use std::alloc::Global;
 use std::marker::Model;
@@ -190,14 +190,15 @@ impl Objects {
         of_peer(&self.fields, peer)
     }
 
-    /// The act is a request of the field, other than a commit.
-    pub fn request(&mut self, field: Label, act: &Act)
-        requires { FitsMessage act.now }
+    /// The act is a request of the field, other than a commit. A field's first surrounding text takes the room.
+    pub fn request(&mut self, field: Label, act: &Act, room: &mut Option<Room>)
+        requires fits { FitsMessage act.now }
+        requires finds { FindsRoom act.now room.old }
         ensures items { self.new.items ≡ map (requested field act.now) self.old.items }
         ensures room { self.new.room ≡ self.old.room }
         ensures bound { self.new.bound ≡ self.old.bound }
     {
-        self.shelf.change(field, Change::Ask(act));
+        self.shelf.change(field, Change::Ask(act), room);
     }
 
     /// The focus is the peer's now, or nobody's: the peer's fields are entered anew, and no others.
@@ -222,7 +223,7 @@ impl Objects {
     {
         match displaced {
             Some(other) if other != field => self.commit_over(field, other),
-            Some(_) | None => self.shelf.change(field, Change::Commit),
+            Some(_) | None => self.shelf.change(field, Change::Commit, &mut None),
         }
     }
 
@@ -233,8 +234,8 @@ impl Objects {
         ensures room { self.new.room ≡ self.old.room }
         ensures bound { self.new.bound ≡ self.old.bound }
     {
-        self.shelf.change(other, Change::Displace);
-        self.shelf.change(field, Change::Commit);
+        self.shelf.change(other, Change::Displace, &mut None);
+        self.shelf.change(field, Change::Commit, &mut None);
     }
 
     /// The surface is there on the screen.
@@ -243,7 +244,7 @@ impl Objects {
         ensures room { self.new.room ≡ self.old.room }
         ensures bound { self.new.bound ≡ self.old.bound }
     {
-        self.shelf.change(surface, Change::Area(rect));
+        self.shelf.change(surface, Change::Area(rect), &mut None);
     }
 
     /// Makes room for one more object. `NoMemory` is its one error.

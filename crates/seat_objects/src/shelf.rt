@@ -10,6 +10,7 @@ ghost use Rattle.seat_objects.specs.Labels.{IsNew, Rises};
 use crate::change::Change;
 use crate::object::Object;
 use crate::place::{Place, key_of, place_of};
+use field_state::Room;
 use relay_model::Label;
 use slab::Slab;
 use std::alloc::Global;
@@ -83,14 +84,14 @@ impl Shelf {
         }
     }
 
-    /// Makes the change of the object with the label, if it lives.
-    pub fn change(&mut self, label: Label, change: Change<'_>)
-        requires { FitsChange change }
+    /// Makes the change of the object with the label, if it lives. A field's first text takes the room.
+    pub fn change(&mut self, label: Label, change: Change<'_>, room: &mut Option<Room>)
+        requires { FitsChange change room.old }
         ensures items { self.new.items ≡ map (changed_at label change.entry) self.old.items }
         ensures room { self.new.room ≡ self.old.room }
     {
         if let Some(key) = key_of(&self.places, label) {
-            self.slab[key].change(change);
+            self.slab[key].change(change, room);
         }
     }
 

@@ -1,23 +1,22 @@
 //! What is made before an act, so that the act takes no memory.
 ghost use Rattle.std.specs.Prelude.{◌≡◌, [], Some, None, OnOk, IfOk};
 ghost use Rattle.wl_wire.specs.Texts.{has_no_zero};
-ghost use Rattle.field_state.specs.Changes.{fresh};
 
-use field_state::Field;
+use field_state::Room;
 use relay_model::Text;
 use std::alloc::Global;
 use std::mem;
 use wio_core::NoMemory;
 
-/// Copies of the texts that the act may tell, and the place of a field that it may make.
+/// Copies of the texts that the act may tell, and memory for the texts of a field that had none.
 #[derive(Drop)]
 pub struct Spare {
     /// A surrounding text, or the string of a batch.
     pub text: Text,
     /// The preedit of a batch.
     pub preedit: Text,
-    /// The field, if one is made.
-    pub field: Option<Field>,
+    /// The memory for a field's texts, if it is made.
+    pub room: Option<Room>,
 }
 
 fn has_no_zero(bytes: &[u8]) -> bool
@@ -37,14 +36,14 @@ fn copy(alloc: Global, text: &str) -> Result<Text, NoMemory>
 }
 
 impl Spare {
-    /// Nothing is copied, and no field is made.
+    /// Nothing is copied, and no memory is made.
     pub fn new(alloc: Global) -> Spare
-        ensures { result ≡ record { text = []; preedit = []; field = None } }
+        ensures { result ≡ record { text = []; preedit = []; room = None } }
     {
         Spare {
             text: Text::empty(alloc),
             preedit: Text::empty(alloc),
-            field: None,
+            room: None,
         }
     }
 
@@ -64,11 +63,13 @@ impl Spare {
         Ok(())
     }
 
-    /// Makes a field, to which nothing happened yet. `NoMemory` is its one error.
-    pub fn make_field(&mut self, alloc: Global) -> Result<(), NoMemory>
-        ensures { OnOk result (self.new ≡ record self.old { field = Some fresh }) }
+    /// Makes memory for a field's texts, where none is made. `NoMemory` is its one error.
+    pub fn make_room(&mut self, alloc: Global) -> Result<(), NoMemory>
+        ensures { OnOk result (self.new ≡ record self.old { room = Some tt }) }
     {
-        self.field = Some(Field::new(alloc)?);
+        if self.room.is_none() {
+            self.room = Some(Room::new(alloc)?);
+        }
         Ok(())
     }
 

@@ -96,7 +96,7 @@ fn make(rt: &impl Abort, objects: &mut Objects, label: Label, kind: Kind) -> Res
 
 fn make_two(rt: &impl Abort, alloc: Global, objects: &mut Objects) -> Result<(), NoMemory> {
     make(rt, objects, 2, Kind::Surface { area: NO_AREA })?;
-    make(rt, objects, 3, Kind::Field(Field::new(alloc)?))
+    make(rt, objects, 3, Kind::Field(Field::new(alloc)))
 }
 
 #[test]
@@ -111,10 +111,10 @@ fn fields_of_the_peer_are_told(rt: HostRuntime) -> Result<(), Fail> {
 fn is_copied(alloc: Global, spare: &mut Spare) -> Result<bool, Fail> {
     spare.copy_text(alloc, "a")?;
     spare.copy_preedit(alloc, "b")?;
-    spare.make_field(alloc)?;
+    spare.make_room(alloc)?;
     let text = spare.take_text(alloc);
     let preedit = spare.take_preedit(alloc);
-    Ok(text.as_str() == "a" && preedit.as_str() == "b" && spare.field.is_some())
+    Ok(text.as_str() == "a" && preedit.as_str() == "b" && spare.room.is_some())
 }
 
 #[test]
