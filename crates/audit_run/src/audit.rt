@@ -107,7 +107,7 @@ impl Audit {
 
     /// What was played, also after an error. Fewer than 256 entries are in memory: it answers those
     /// alone. Besides those an audit keeps what the peers and objects of the seat keep, and what
-    /// applications were told and weren't sent yet.
+    /// applications were told from the first field message on that they weren't sent yet.
     pub fn journal(&self) -> &Journal
         ensures entries { result.now.entries ≡ self.now.player.play.journal }
         ensures short { IsShort self.now.player.play.journal result.now.kept_from }

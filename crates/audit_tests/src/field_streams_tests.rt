@@ -92,3 +92,38 @@ fn pieces_are_heard_or_unlike(rt: HostRuntime) {
         equal(&rt, heard(rt.alloc(), row), row.heard);
     }
 }
+
+// A sync is answered with its callback's done and the end of its id: nothing that a field says.
+const SYNC: &[u8] = b"\x03\0\0\0\0\0\x0c\0\x01\0\0\0\x01\0\0\0\x01\0\x0c\0\x03\0\0\0";
+
+// The most bytes that were kept while an application synced so often.
+fn most_kept(streams: &mut Comparison, syncs: u32) -> Result<usize, HearEnd> {
+    let mut most = 0;
+    for _ in 0..syncs {
+        if streams.tell(SYNC).is_err() {
+            return Err(HearEnd::NoMemory);
+        }
+        most = most.max(streams.kept());
+    }
+    Ok(most)
+}
+
+// What is kept by one that syncs: before it is told anything else, while the worked group isn't
+// sent, and once it was.
+fn kept_by_syncs(alloc: Global) -> Result<[usize; 3], HearEnd> {
+    let mut streams = Comparison::new(alloc);
+    let first = most_kept(&mut streams, 5000)?;
+    if streams.tell(TOLD).is_err() {
+        return Err(HearEnd::NoMemory);
+    }
+    let group = streams.kept();
+    most_kept(&mut streams, 10)?;
+    streams.hear(TOLD)?;
+    let last = most_kept(&mut streams, 5000)?;
+    Ok([first, group, last])
+}
+
+#[test]
+fn syncs_leave_as_they_are_told(rt: HostRuntime) {
+    equal(&rt, kept_by_syncs(rt.alloc()), Ok([0, TOLD.len(), 0]));
+}

@@ -1,5 +1,5 @@
 -- What events make of what is gathered.
-use Rattle.std.proofs.Common.{◌≡◌, ℕ, zero, suc, ◌-◌, Bool, true, false, ◌||◌, List, [], ◌∷◌, ◌++◌, length, Some, refl, sym, ap, ◌∙◌, arith}
+use Rattle.std.proofs.Common.{◌≡◌, ℕ, zero, suc, ◌-◌, Bool, true, false, ◌||◌, List, [], ◌∷◌, ◌++◌, length, Some, refl, sym, ap, subst, ◌∙◌, arith}
 use Rattle.std.specs.Prelude.{if◌then◌else◌, ◌==◌}
 use Rattle.std.specs.List.{slice_get, flat_map, AllByRecursion}
 use Rattle.std.proofs.lemmas.Bool.{eq-eqb, ne_eqb, eqb-true}
@@ -8,7 +8,7 @@ use Rattle.broker_core.specs.Watched.{Watched}
 use Rattle.broker_core.specs.Watched.Watched.{Entered, Placed, Passed, Modified, Put}
 use Rattle.field_gather.specs.declared.side.Side.{Side}
 use Rattle.field_gather.specs.Gathering.{told_side, told_at, is_gained, gained_by, Gathering, gathered_for, gathered, IsGatheredBy, MayGather}
-use Rattle.field_gather.proofs.SidesTold.{told_none, told_twice, told_here, told_other, told_length}
+use Rattle.field_gather.proofs.SidesTold.{IsTold, told_none, told_once, told_then, told_here, told_other, told_length}
 
 -- ---- all of a list
 
@@ -43,42 +43,58 @@ abbrev pub IsInner : Watched → Type 0
 IsInner (Entered n e act log) = ⊥
 IsInner _ = Unit {0}
 
+-- the side at a place was told these bytes
+pub record IsToldAt (bytes : List ℕ) (side : Side) (sides : List Side) (k : ℕ) : Type 0 where
+  pub after : Side
+  pub at : slice_get sides k ≡ Some after
+  pub told : IsTold bytes side after
+
+-- nothing was put for it
+same_at : (k : ℕ) (sides : List Side) (side : Side) → slice_get sides k ≡ Some side → IsToldAt [] side sides k
+same_at k sides side e = record { after = side; at = e; told = told_none side }
+
 put_at : (q k : ℕ) (bytes : List ℕ) (g : Gathering) (side : Side) → slice_get g.sides k ≡ Some side →
-    slice_get (gathered_for q bytes g).sides k ≡ Some (told_side (if q == suc k then bytes else []) side)
-put_at zero k bytes g side e =
-    rw (ne_eqb 0 (suc k) (λ d. omega (arith, d))) (e ∙ ap Some (sym (told_none side)))
+    IsToldAt (if q == suc k then bytes else []) side (gathered_for q bytes g).sides k
+put_at zero k bytes g side e = rw (ne_eqb 0 (suc k) (λ d. omega (arith, d))) (same_at k g.sides side e)
 put_at (suc p) k bytes g side e =
     let back : suc p - 1 ≡ p = omega arith in
-    let here : (b : Bool) → (suc p == suc k) ≡ b →
-    slice_get (told_at p bytes g.sides) k ≡ Some (told_side (if b then bytes else []) side) =
-    λ b. elim b as
-    (λ c. (suc p == suc k) ≡ c →
-    slice_get (told_at p bytes g.sides) k ≡ Some (told_side (if c then bytes else []) side)) [
-      | true ↦ λ same.
-          let is : p ≡ k = (let s = eqb-true (suc p) (suc k) same in omega (arith, s)) in
-          ap (λ i. slice_get (told_at i bytes g.sides) k) is ∙ told_here k bytes g.sides side e
-      | false ↦ λ other.
-          let differs : p ≡ k → ⊥ = λ s. (let no = sym (eq-eqb (suc p) (suc k) (ap suc s)) ∙ other in cc) in
-          told_other p k bytes g.sides differs ∙ e ∙ ap Some (sym (told_none side))
-    ] in
     rw (ne_eqb (suc p) 0 (λ d. omega (arith, d)))
-    (ap (λ i. slice_get (told_at i bytes g.sides) k) back ∙ here (suc p == suc k) refl)
+    (subst (λ i. IsToldAt (if suc p == suc k then bytes else []) side (told_at i bytes g.sides) k) (sym back)
+    (by (suc p == suc k) refl))
+  where
+    by : (b : Bool) → (suc p == suc k) ≡ b → IsToldAt (if b then bytes else []) side (told_at p bytes g.sides) k
+    by true same =
+        let is : p ≡ k = (let s = eqb-true (suc p) (suc k) same in omega (arith, s)) in
+        record {
+          after = told_side bytes side;
+          at = ap (λ i. slice_get (told_at i bytes g.sides) k) is ∙ told_here k bytes g.sides side e;
+          told = told_once bytes side;
+        }
+    by false other =
+        let differs : p ≡ k → ⊥ = λ s. (let no = sym (eq-eqb (suc p) (suc k) (ap suc s)) ∙ other in cc) in
+        same_at k (told_at p bytes g.sides) side (told_other p k bytes g.sides differs ∙ e)
 
 one_at : (event : Watched) (k : ℕ) (g : Gathering) (side : Side) → IsInner event → slice_get g.sides k ≡ Some side →
-    slice_get (gathered event g).sides k ≡ Some (told_side (put_to (suc k) event) side)
+    IsToldAt (put_to (suc k) event) side (gathered event g).sides k
 one_at (Entered n e act log) k g side i is = absurd i
-one_at (Placed n q id x y) k g side i is = is ∙ ap Some (sym (told_none side))
-one_at (Passed n time key state) k g side i is = is ∙ ap Some (sym (told_none side))
-one_at (Modified n mods) k g side i is = is ∙ ap Some (sym (told_none side))
+one_at (Placed n q id x y) k g side i is = same_at k g.sides side is
+one_at (Passed n time key state) k g side i is = same_at k g.sides side is
+one_at (Modified n mods) k g side i is = same_at k g.sides side is
 one_at (Put n q bytes tokens) k g side i is = put_at q k bytes g side is
 
 pub all_at : (events : List Watched) (k : ℕ) (g : Gathering) (side : Side) → AllByRecursion IsInner events →
-    slice_get g.sides k ≡ Some side →
-    slice_get (all_gathered events g).sides k ≡ Some (told_side (puts_to (suc k) events) side)
-all_at [] k g side i is = is ∙ ap Some (sym (told_none side))
+    slice_get g.sides k ≡ Some side → IsToldAt (puts_to (suc k) events) side (all_gathered events g).sides k
+all_at [] k g side i is = same_at k g.sides side is
 all_at (event ∷ rest) k g side i is =
-    all_at rest k (gathered event g) (told_side (put_to (suc k) event) side) i.1 (one_at event k g side i.0 is)
-    ∙ ap Some (told_twice (put_to (suc k) event) (puts_to (suc k) rest) side)
+    let first = one_at event k g side i.0 is in
+    let later = all_at rest k (gathered event g) first.after i.1 first.at in
+    record {
+      after = later.after;
+      at = later.at;
+      told =
+          told_then (put_to (suc k) event) (puts_to (suc k) rest) side first.after later.after first.told
+          later.told;
+    }
 
 -- ---- how many sides
 

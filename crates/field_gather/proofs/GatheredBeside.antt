@@ -16,11 +16,12 @@ use Rattle.broker_core.specs.Watched.Watched.{Entered}
 use Rattle.broker_core.proofs.NewLabels.{unborn}
 use Rattle.broker_core.proofs.DeadPeersToldNothing.{quiet}
 use Rattle.broker_core.proofs.WatchedSince.{since_none, since_more}
-use Rattle.field_streams.specs.Comparing.{Comparing, Follows}
-use Rattle.field_streams.proofs.PiecesHeard.{first_follows, told_more}
+use Rattle.field_streams.specs.Comparing.{Follows}
+use Rattle.field_streams.proofs.PiecesHeard.{first_follows}
 use Rattle.field_gather.specs.declared.side.Side.{Side}
-use Rattle.field_gather.specs.Gathering.{Gathering, MayGather, fresh_side, told_side, is_gained, gathered}
+use Rattle.field_gather.specs.Gathering.{Gathering, MayGather, fresh_side, is_gained, gathered}
 use Rattle.field_gather.specs.Going.{IsSide, IsGathered}
+use Rattle.field_gather.proofs.SidesTold.{IsTold}
 use Rattle.field_gather.proofs.EventsGathered.{all_gathered, AreGathered, reached_all, puts_to, all_at, all_length, GotNone, none_put}
 use Rattle.field_gather.proofs.EntriesPut.{put_of, put_more, told_inner, told_put}
 
@@ -128,41 +129,21 @@ entered capacity sent _ older g f = record { number = f.number; each = f.each; d
 
 -- ---- what an entry tells
 
-same_role : (bytes : List ℕ) (side : Side) → (told_side bytes side).is_app ≡ side.is_app
-same_role bytes side = by side.is_app side.streams
-  where
-    by : (is_app : Bool) (c : Comparing) →
-        (told_side bytes (record { is_app = is_app; streams = c })).is_app ≡ is_app
-    by true c = refl
-    by false c = refl
-
-told_streams : (bytes : List ℕ) (side : Side) → side.is_app ≡ true →
-    (told_side bytes side).streams ≡ record side.streams { told = side.streams.told ++ bytes }
-told_streams bytes side e = by side.is_app side.streams e
-  where
-    by : (is_app : Bool) (c : Comparing) → is_app ≡ true →
-        (told_side bytes (record { is_app = is_app; streams = c })).streams ≡ record c { told = c.told ++ bytes }
-    by true c e = refl
-    by false c e = cc
-
 side_told : (capacity : ℕ) (sent : List ℕ) (e : Entry) (older : List Entry) (peer : Joined) (side after : Side)
     (bytes : List ℕ) →
-    IsSide capacity older sent peer side → bytes ≡ put_of capacity e older peer.label → after ≡ told_side bytes side →
+    IsSide capacity older sent peer side → bytes ≡ put_of capacity e older peer.label → IsTold bytes side after →
     IsSide capacity (e ∷ older) sent peer after
-side_told capacity sent e older peer side after bytes s put is =
-    subst (λ (x : Side). IsSide capacity (e ∷ older) sent peer x) (sym is) (record {
-      role = same_role bytes side ∙ s.role;
-      follows = λ app.
-          let was = sym (same_role bytes side) ∙ app in
-          let all : (out_for capacity older peer.label).put.bytes ++ bytes
-          ≡ (out_for capacity (e ∷ older) peer.label).put.bytes =
-          ap (λ (l : List ℕ). (out_for capacity older peer.label).put.bytes ++ l) put
-          ∙ sym (put_more capacity e older peer.label) in
-          subst (λ (l : List ℕ). Follows l sent (told_side bytes side).streams) all
-          (told_more (out_for capacity older peer.label).put.bytes sent bytes side.streams
-          (told_side bytes side).streams
-          (s.follows was) (told_streams bytes side was));
-    })
+side_told capacity sent e older peer side after bytes s put t = record {
+  role = t.role ∙ s.role;
+  follows = λ app.
+      let was = sym t.role ∙ app in
+      let all : (out_for capacity older peer.label).put.bytes ++ bytes
+      ≡ (out_for capacity (e ∷ older) peer.label).put.bytes =
+      ap (λ (l : List ℕ). (out_for capacity older peer.label).put.bytes ++ l) put
+      ∙ sym (put_more capacity e older peer.label) in
+      subst (λ (l : List ℕ). Follows l sent after.streams) all
+      (t.follows was (out_for capacity older peer.label).put.bytes sent (s.follows was));
+}
 
 taken_more : (capacity : ℕ) (e : Entry) (older : List Entry) (label : ℕ) →
     (out_for capacity (e ∷ older) label).taken ≡ (out_for capacity older label).taken + took_at e (past_of older) label
@@ -225,9 +206,9 @@ told_all capacity sent e older g h f is =
         let was : IsThere g.sides k = there g.sides k (omega arith) in
         let bytes : List ℕ = puts_to (suc k) (told_of capacity e older) in
         let becomes = all_at (told_of capacity e older) k g was.item (told_inner capacity e older) was.at in
-        let is-side : side ≡ told_side bytes was.item = (let a = sym at ∙ becomes in cc) in
+        let is-side : becomes.after ≡ side = (let a = sym becomes.at ∙ at in cc) in
         side_told capacity (sent (suc k)) e older peer was.item side bytes (f.each k was.item peer was.at is-peer)
-        (told_put capacity k e older peer is-peer) is-side
+        (told_put capacity k e older peer is-peer) (subst (IsTold bytes was.item) is-side becomes.told)
 
 -- ---- entry by entry
 

@@ -1,5 +1,5 @@
 -- Sides are told more, one after the other.
-use Rattle.std.proofs.Common.{◌≡◌, ℕ, zero, suc, ◌<◌, get_or, Bool, true, false, List, [], ◌∷◌, ◌++◌, length, Some, None, refl, ap, append_assoc, append-nil, arith}
+use Rattle.std.proofs.Common.{◌≡◌, ℕ, zero, suc, ◌<◌, get_or, Bool, true, false, List, [], ◌∷◌, ◌++◌, length, Some, None, refl, sym, ap, subst, ◌∙◌, append_assoc, append-nil, arith}
 use Rattle.std.specs.List.{slice_get}
 use Rattle.std.proofs.Math.ListN.{set}
 use Rattle.std.specs.Prelude.{IfOk, IfErr}
@@ -7,27 +7,41 @@ use Rattle.std.proofs.Common.{Result, Ok, Err}
 use Rattle.std.proofs.lemmas.Option.{slice_get-get_or}
 use Rattle.field_streams.specs.declared.comparison.HearEnd.{HearEnd}
 use Rattle.field_streams.specs.Comparing.{Comparing, Follows, IsHeard, IsUnheard}
+use Rattle.field_streams.specs.FromField.{from_field}
+use Rattle.field_streams.proofs.PiecesHeard.{told_more}
 use Rattle.field_gather.specs.Hearing.{IsHeardAt, IsUnheardAt}
 use Rattle.field_gather.specs.declared.side.Side.{Side}
 use Rattle.field_gather.specs.Gathering.{told_side, told_at, is_app_in}
 
-pub told_none : (side : Side) → told_side [] side ≡ side
-told_none side = by side.is_app side.streams
-  where
-    by : (is_app : Bool) (c : Comparing) →
-        told_side [] (record { is_app = is_app; streams = c }) ≡ record { is_app = is_app; streams = c }
-    by true c = ap (λ (l : List ℕ). record { is_app = true; streams = record c { told = l } }) (append-nil c.told)
-    by false c = refl
+-- a side that was told these bytes, in however many pieces
+pub record IsTold (bytes : List ℕ) (before after : Side) : Type 0 where
+  pub role : after.is_app ≡ before.is_app
+  pub follows : before.is_app ≡ true → (told sent : List ℕ) → Follows told sent before.streams →
+      Follows (told ++ bytes) sent after.streams
 
-pub told_twice : (a b : List ℕ) (side : Side) → told_side b (told_side a side) ≡ told_side (a ++ b) side
-told_twice a b side = by side.is_app side.streams
+pub told_none : (side : Side) → IsTold [] side side
+told_none side = record {
+  role = refl;
+  follows = λ app told sent f.
+      subst (λ (l : List ℕ). Follows l sent side.streams) (sym (append-nil told)) f;
+}
+
+pub told_once : (bytes : List ℕ) (side : Side) → IsTold bytes side (told_side bytes side)
+told_once bytes side = by side.is_app side.streams
   where
     by : (is_app : Bool) (c : Comparing) →
-        told_side b (told_side a (record { is_app = is_app; streams = c }))
-        ≡ told_side (a ++ b) (record { is_app = is_app; streams = c })
-    by true c =
-        ap (λ (l : List ℕ). record { is_app = true; streams = record c { told = l } }) (append_assoc c.told a b)
-    by false c = refl
+        IsTold bytes (record { is_app = is_app; streams = c })
+        (told_side bytes (record { is_app = is_app; streams = c }))
+    by true c = record { role = refl; follows = λ app told sent f. told_more told sent bytes c _ f refl }
+    by false c = record { role = refl; follows = λ app. absurd (let no = app in cc) }
+
+pub told_then : (a b : List ℕ) (x y z : Side) → IsTold a x y → IsTold b y z → IsTold (a ++ b) x z
+told_then a b x y z s t = record {
+  role = t.role ∙ s.role;
+  follows = λ app told sent f.
+      subst (λ (l : List ℕ). Follows l sent z.streams) (append_assoc told a b)
+      (t.follows (s.role ∙ app) (told ++ a) sent (s.follows app told sent f));
+}
 
 pub told_here : (k : ℕ) (bytes : List ℕ) (sides : List Side) (side : Side) → slice_get sides k ≡ Some side →
     slice_get (told_at k bytes sides) k ≡ Some (told_side bytes side)
@@ -68,12 +82,12 @@ told_nobody (suc k) bytes (x ∷ sides) e = ap (λ (l : List Side). x ∷ l) (to
 -- and where one is, it is
 pub told_app : (k : ℕ) (bytes : List ℕ) (sides : List Side) (d : Side) (c : Comparing) →
     is_app_in (slice_get sides k) ≡ true →
-    c ≡ record (get_or sides k d).streams { told = (get_or sides k d).streams.told ++ bytes } →
+    c ≡ record (get_or sides k d).streams { told = from_field ((get_or sides k d).streams.told ++ bytes) } →
     set sides k (record { is_app = (get_or sides k d).is_app; streams = c }) ≡ told_at k bytes sides
 told_app k bytes [] d c e is = cc
 told_app zero bytes (x ∷ sides) d c e is = ap (λ (s : Side). s ∷ sides) (by x.is_app x.streams c e is)
   where
-    by : (is_app : Bool) (s c : Comparing) → is_app ≡ true → c ≡ record s { told = s.told ++ bytes } →
+    by : (is_app : Bool) (s c : Comparing) → is_app ≡ true → c ≡ record s { told = from_field (s.told ++ bytes) } →
         record { is_app = is_app; streams = c } ≡ told_side bytes (record { is_app = is_app; streams = s })
     by true s c e is = ap (λ (x : Comparing). record { is_app = true; streams = x }) is
     by false s c e is = cc

@@ -6,6 +6,7 @@ use Rattle.relay_model.specs.declared.role.Role.TheVariants.{App, Method, Keyed}
 use Rattle.broker_model.specs.declared.journal.Entry.TheVariants.{Join}
 use Rattle.broker_core.specs.Watched.{Watched}
 use Rattle.broker_core.specs.Watched.Watched.{Entered, Put}
+use Rattle.field_streams.specs.FromField.{from_field}
 use Rattle.field_gather.specs.declared.side.Side.{Side}
 
 -- a peer of the role has text fields
@@ -23,11 +24,13 @@ is_app_in (Some side) = side.is_app
 abbrev pub fresh_side : Role → Side
 fresh_side role = record { is_app = is_app role; streams = record { told = []; begun = [] } }
 
--- a peer that is told more, if it is an application
+-- a peer that is told more, if it is an application: that stays from its first field message on
 abbrev pub told_side : List ℕ → Side → Side
 told_side bytes side =
     (if side.is_app
-    then record side { streams = record side.streams { told = side.streams.told ++ bytes } }
+    then record side {
+      streams = record side.streams { told = from_field (side.streams.told ++ bytes) };
+    }
     else side)
 
 -- the peer at a place is told more

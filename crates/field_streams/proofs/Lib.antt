@@ -1,4 +1,5 @@
 pub mod MessagesPassed
+pub mod FieldMessageFirst
 pub mod StreamsCompared
 pub mod PiecesHeard
 pub mod EventsRead

@@ -13,11 +13,11 @@ use Rattle.field_streams.specs.Passing.{IsPassed, IsPast}
 
 -- ---- one message, and what follows it
 
-record IsFirst (m more : List ℕ) : Type 0 where
-  messages-are : messages (m ++ more) ≡ m ∷ messages more
-  bad : bad_size (m ++ more) ≡ bad_size more
+pub record IsFirst (m more : List ℕ) : Type 0 where
+  pub messages-are : messages (m ++ more) ≡ m ∷ messages more
+  pub bad : bad_size (m ++ more) ≡ bad_size more
 
-first_of : (m more : List ℕ) → IsMessage m → IsFirst m more
+pub first_of : (m more : List ℕ) → IsMessage m → IsFirst m more
 first_of m more is =
     let long : 8 ≤ length m = omega (arith, is.0.0, is.1) in
     let same : size_of (m ++ more) ≡ size_of m = size_stays m more long in
@@ -43,7 +43,7 @@ dones_is bytes = refl
 abbrev pub done_by : ℕ → ℕ
 done_by opcode = cond (opcode == 5) 1 0
 
-one_passed : (m : List ℕ) → IsMessage m →
+pub one_passed : (m : List ℕ) → IsMessage m →
     IsPassed m (heard_by (id_of m) (opcode_of m) (body_of m)) (done_by (opcode_of m))
 one_passed m is = record {
   says = λ more.

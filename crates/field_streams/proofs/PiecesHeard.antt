@@ -8,7 +8,9 @@ use Rattle.field_streams.specs.declared.compare.Compared.{Compared}
 use Rattle.field_streams.specs.Heard.{Heard, heard, dones, IsWell, IsLike}
 use Rattle.field_streams.specs.Passing.{IsPassed, IsCompared}
 use Rattle.field_streams.specs.Comparing.{Comparing, Follows, IsHeard}
+use Rattle.field_streams.specs.FromField.{from_field}
 use Rattle.field_streams.proofs.MessagesPassed.{none_passed, both_passed, heard_none, dones_none}
+use Rattle.field_streams.proofs.FieldMessageFirst.{from_empty, led, settled_by}
 use Rattle.field_streams.proofs.StreamsCompared.{each_both, each_right}
 
 -- nothing was told and nothing sent
@@ -22,24 +24,55 @@ first_follows c told begun = record {
   well = tt;
   number = 0;
   goes = none_passed;
+  left = from_empty c.told told;
   count = 0;
   passes = none_passed;
   part = subst IsPartial (sym begun) (λ long. absurd (omega (arith, long)));
 }
 
+-- of what is told a front is gone, which says this
+record IsGone (told left : List ℕ) (hs : List Heard) : Type 0 where
+  gone : List ℕ
+  is : told ≡ gone ++ left
+  number : ℕ
+  goes : IsPassed gone hs number
+
+-- and what stands before the next field message goes with it
+passed_on : (told left : List ℕ) (hs : List Heard) → IsGone told left hs → IsGone told (from_field left) hs
+passed_on told left hs g =
+    let l = led left in
+    record {
+      gone = g.gone ++ l.front;
+      is =
+          g.is ∙ ap (λ (x : List ℕ). g.gone ++ x) l.is ∙ sym (append_assoc g.gone l.front (from_field left));
+      number = g.number + l.count;
+      goes =
+          subst (λ (x : List Heard). IsPassed (g.gone ++ l.front) x (g.number + l.count)) (append-nil hs)
+          (both_passed g.gone l.front hs [] g.number l.count g.goes l.passed);
+    }
+
 -- more is told
 pub told_more : (told sent more : List ℕ) (before after : Comparing) → Follows told sent before →
-    after ≡ record before { told = before.told ++ more } → Follows (told ++ more) sent after
+    after ≡ record before { told = from_field (before.told ++ more) } → Follows (told ++ more) sent after
 told_more told sent more before after f is =
-    subst (Follows (told ++ more) sent) (sym is) (record {
+    let g : IsGone (told ++ more) (before.told ++ more) f.hs =
+    record {
       gone = f.gone;
-      told_is = ap (λ (l : List ℕ). l ++ more) f.told_is ∙ append_assoc f.gone before.told more;
+      is = ap (λ (l : List ℕ). l ++ more) f.told_is ∙ append_assoc f.gone before.told more;
+      number = f.number;
+      goes = f.goes;
+    } in
+    let all = passed_on (told ++ more) (before.told ++ more) f.hs g in
+    subst (Follows (told ++ more) sent) (sym is) (record {
+      gone = all.gone;
+      told_is = all.is;
       passed = f.passed;
       sent_is = f.sent_is;
       hs = f.hs;
       well = f.well;
-      number = f.number;
-      goes = f.goes;
+      number = all.number;
+      goes = all.goes;
+      left = (led (before.told ++ more)).settled;
       count = f.count;
       passes = f.passes;
       part = f.part;
@@ -53,7 +86,8 @@ with_piece told sent piece c f =
 
 -- a piece whose messages are what is told
 pub heard_more : (told sent piece bytes : List ℕ) (before after : Comparing) (c : Compared) → Follows told sent before →
-    bytes ≡ before.begun ++ piece → IsCompared before.told bytes c → after.told ≡ drop c.told before.told →
+    bytes ≡ before.begun ++ piece → IsCompared before.told bytes c →
+    after.told ≡ from_field (drop c.told before.told) →
     after.begun ≡ drop c.sent bytes → IsHeard told sent piece c.dones after
 heard_more told sent piece bytes before after c f all k left begun =
     let x = k.sent-past in
@@ -62,17 +96,23 @@ heard_more told sent piece bytes before after c f all k left begun =
     let well : AllByRecursion IsWell hs = each_both f.hs k.hs f.well k.well in
     let passes : IsPassed (f.passed ++ x.front) hs (f.count + c.dones) =
     both_passed f.passed x.front f.hs k.hs f.count c.dones f.passes x.passed in
-    let goes : IsPassed (f.gone ++ y.front) hs (f.number + k.told-past.count) =
-    both_passed f.gone y.front f.hs k.hs f.number k.told-past.count f.goes y.passed in
+    let g : IsGone told (drop c.told before.told) hs =
+    record {
+      gone = f.gone ++ y.front;
+      is =
+          f.told_is ∙ ap (λ (l : List ℕ). f.gone ++ l) y.is
+          ∙ sym (append_assoc f.gone y.front (drop c.told before.told));
+      number = f.number + k.told-past.count;
+      goes = both_passed f.gone y.front f.hs k.hs f.number k.told-past.count f.goes y.passed;
+    } in
+    let all-gone = passed_on told (drop c.told before.told) hs g in
+    let told-is : told ≡ all-gone.gone ++ after.told =
+    all-gone.is ∙ ap (λ (l : List ℕ). all-gone.gone ++ l) (sym left) in
     let part : IsPartial after.begun = subst IsPartial (sym begun) k.part in
     let sent-is : sent ++ piece ≡ (f.passed ++ x.front) ++ after.begun =
     with_piece told sent piece before f ∙ ap (λ (l : List ℕ). f.passed ++ l) (sym all ∙ x.is)
     ∙ sym (append_assoc f.passed x.front (drop c.sent bytes))
     ∙ ap (λ (l : List ℕ). (f.passed ++ x.front) ++ l) (sym begun) in
-    let told-is : told ≡ (f.gone ++ y.front) ++ after.told =
-    f.told_is ∙ ap (λ (l : List ℕ). f.gone ++ l) y.is
-    ∙ sym (append_assoc f.gone y.front (drop c.told before.told))
-    ∙ ap (λ (l : List ℕ). (f.gone ++ y.front) ++ l) (sym left) in
     let none : messages after.begun ≡ [] = (part_tells after.begun part).0 in
     let said : heard (sent ++ piece) ≡ hs =
     ap heard sent-is ∙ passes.says after.begun ∙ ap (λ (l : List Heard). hs ++ l) (heard_none after.begun none)
@@ -86,18 +126,19 @@ heard_more told sent piece bytes before after c f all k left begun =
         well = subst (AllByRecursion IsWell) (sym said) well;
         rest = heard after.told;
         front =
-            ap heard told-is ∙ goes.says after.told
+            ap heard told-is ∙ all-gone.goes.says after.told
             ∙ ap (λ (l : List Heard). l ++ heard after.told) (sym said);
       };
       follows = record {
-        gone = f.gone ++ y.front;
+        gone = all-gone.gone;
         told_is = told-is;
         passed = f.passed ++ x.front;
         sent_is = sent-is;
         hs = hs;
         well = well;
-        number = f.number + k.told-past.count;
-        goes = goes;
+        number = all-gone.number;
+        goes = all-gone.goes;
+        left = settled_by (drop c.told before.told) after.told left;
         count = f.count + c.dones;
         passes = passes;
         part = part;

@@ -5,6 +5,7 @@ use Rattle.wl_wire.specs.Messages.{IsPartial}
 use Rattle.field_streams.specs.declared.comparison.HearEnd.{HearEnd}
 use Rattle.field_streams.specs.declared.comparison.HearEnd.TheVariants.{Unlike, NoMemory}
 use Rattle.field_streams.specs.Heard.{Heard, dones, IsWell, IsLike}
+use Rattle.field_streams.specs.FromField.{from_field}
 use Rattle.field_streams.specs.Passing.{IsPassed}
 
 -- what was told and isn't heard yet, and the part of a message that was sent last
@@ -12,8 +13,8 @@ pub record Comparing : Type 0 where
   pub told : List ℕ
   pub begun : List ℕ
 
--- All that was told and all that was sent: what is gone of both says the same, and nothing that was
--- sent is unlike.
+-- All that was told and all that was sent: what is gone of both says the same, nothing that was sent
+-- is unlike, and of what was told no more is left than from its next field message on.
 pub record Follows (told sent : List ℕ) (c : Comparing) : Type 0 where
   pub gone : List ℕ
   pub told_is : told ≡ gone ++ c.told
@@ -23,6 +24,7 @@ pub record Follows (told sent : List ℕ) (c : Comparing) : Type 0 where
   pub well : AllByRecursion IsWell hs
   pub number : ℕ
   pub goes : IsPassed gone hs number
+  pub left : from_field c.told ≡ c.told
   pub count : ℕ
   pub passes : IsPassed passed hs count
   pub part : IsPartial c.begun

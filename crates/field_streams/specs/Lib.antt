@@ -1,4 +1,5 @@
 pub mod Heard
+pub mod FromField
 pub mod Values
 pub mod Passing
 pub mod Comparing

@@ -1,8 +1,10 @@
 //! What was sent is compared with what is told, message by message.
-ghost use Rattle.std.specs.Prelude.{◌≡◌, ◌++◌, [], true, List, IfSome, IfNone};
+ghost use Rattle.std.specs.Prelude.{◌≡◌, ◌≤◌, ◌++◌, [], true, List, length, IfSome, IfNone};
 ghost use Rattle.std.specs.List.{AllByRecursion};
 ghost use Rattle.field_streams.specs.Heard.{Heard, heard, heard_by, is_field_opcode, IsWell, IsLike};
+ghost use Rattle.field_streams.specs.FromField.{before_field};
 ghost use Rattle.field_streams.specs.Passing.{Tells, IsCompared};
+ghost use Rattle.wl_wire.specs.Messages.{messages};
 
 use crate::field_event::{is_field_opcode, is_same, read_field};
 use wl_wire::{Front, Raw, front_of};
@@ -18,12 +20,10 @@ pub(crate) struct Compared {
     pub dones: u64,
 }
 
-// The first whole field message of what is told, and how many bytes go with it and those before.
-fn next_field(told: &[u8]) -> Option<(Raw<'_>, usize)>
-    ensures found { IfSome result (λ next.
-        Tells told.now next.1 (heard_by next.0.id next.0.opcode next.0.body.now)) }
-    ensures field { IfSome result (λ next. is_field_opcode next.0.opcode ≡ true) }
-    ensures none { IfNone result (heard told.now ≡ []) }
+/// How many bytes stand before the first whole field message of what is told.
+pub(crate) fn before_field(told: &[u8]) -> usize
+    ensures is { result ≡ before_field (messages told.now) }
+    ensures within { result ≤ length told.now }
 {
     let mut at = 0;
     'messages: loop {
@@ -31,12 +31,27 @@ fn next_field(told: &[u8]) -> Option<(Raw<'_>, usize)>
         match front_of(rest) {
             Front::Whole(raw, size) => {
                 if is_field_opcode(raw.opcode) {
-                    return Some((raw, at + size));
+                    return at;
                 }
                 at += size;
             }
-            _ => return None,
+            _ => return at,
         }
+    }
+}
+
+// The first whole field message of what is told, and how many bytes go with it and those before.
+fn next_field(told: &[u8]) -> Option<(Raw<'_>, usize)>
+    ensures found { IfSome result (λ next.
+        Tells told.now next.1 (heard_by next.0.id next.0.opcode next.0.body.now)) }
+    ensures field { IfSome result (λ next. is_field_opcode next.0.opcode ≡ true) }
+    ensures none { IfNone result (heard told.now ≡ []) }
+{
+    let at = before_field(told);
+    let (_, rest) = told.split_at(at);
+    match front_of(rest) {
+        Front::Whole(raw, size) => Some((raw, at + size)),
+        _ => None,
     }
 }
 

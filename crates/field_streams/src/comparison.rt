@@ -1,7 +1,9 @@
 //! Two streams, as far as they came.
-ghost use Rattle.std.specs.Prelude.{◌≡◌, ◌≤◌, ◌<◌, drop, vec_len};
+ghost use Rattle.std.specs.Prelude.{◌≡◌, ◌≤◌, drop, length};
+ghost use Rattle.field_streams.specs.FromField.{from_field};
 
-use crate::compare::compare;
+use crate::backlog::{Backlog, cut_front};
+use crate::compare::{before_field, compare};
 use std::alloc::Global;
 use std::marker::Model;
 use thiserror::Error;
@@ -18,41 +20,44 @@ pub enum HearEnd {
     NoMemory,
 }
 
-// The first bytes go.
-fn cut_front(bytes: &mut Vec<u8>, count: usize)
-    requires { count ≤ vec_len bytes.old }
-    ensures { bytes.new.items ≡ drop count bytes.old.items }
+// So many of the bytes told are let go, and what stands behind them before the next field message.
+fn pass(told: &mut Backlog, count: usize)
+    requires { count ≤ length told.old }
+    ensures { told.new ≡ from_field (drop count told.old) }
 {
-    bytes.rotate_left(count);
-    bytes.truncate(bytes.len() - count);
+    let (_, left) = told.as_slice().split_at(count);
+    let others = before_field(left);
+    told.let_go(count + others);
 }
 
 /// What one application is told, and what another broker sent it: compared as they come. It keeps
-/// what was told and wasn't sent yet, and the part of a message that was sent last.
+/// what was told from the first field message on that wasn't sent yet, and the part of a message
+/// that was sent last.
 ///
 /// In contracts it is these two.
 #[derive(Drop)]
 pub struct Comparison {
-    told: Vec<u8>,
-    // So many of the bytes told were sent: they leave memory when they are half of them.
-    gone: usize,
+    told: Backlog,
     begun: Vec<u8>,
 }
 
 impl Model for Comparison {
-    ghost use Rattle.std.specs.Prelude.{◌≤◌, drop, vec_len};
+    ghost use Rattle.std.specs.Prelude.{◌≡◌};
     ghost use Rattle.field_streams.specs.Comparing.{Comparing};
+    ghost use Rattle.field_streams.specs.FromField.{from_field};
 
     ghost Value = { Comparing };
 
-    ghost view = { λ c. record { told = drop c.gone c.told.items; begun = c.begun.items } };
+    ghost view = { λ c. record { told = c.told; begun = c.begun.items } };
 
-    ghost invariant = { λ c. c.gone ≤ vec_len c.told };
+    ghost invariant = { λ c. from_field c.told ≡ c.told };
 }
 
 impl Comparison {
-    ghost use Rattle.std.specs.Prelude.{◌≡◌, ◌++◌, [], ℕ, List, IfOk, IfErr, OnOk, OnErr};
-    ghost use Rattle.field_streams.specs.Comparing.{Comparing, Follows, IsHeard, IsUnheard};
+    ghost use Rattle.std.specs.Prelude.{◌≡◌, ◌≤◌, ◌+◌, ◌*◌, ◌++◌, [], ℕ, List, length};
+    ghost use Rattle.std.specs.Prelude.{IfOk, IfErr, OnOk, OnErr};
+    ghost use Rattle.field_streams.specs.Comparing.{Follows, IsHeard, IsUnheard};
+    ghost use Rattle.field_streams.specs.FromField.{from_field};
 
     /// Nothing was told and nothing sent. Takes no memory.
     pub fn new(alloc: Global) -> Comparison
@@ -60,33 +65,33 @@ impl Comparison {
         ensures follows { Follows [] [] result }
     {
         Comparison {
-            told: Vec::new(alloc),
-            gone: 0,
+            told: Backlog::new(alloc),
             begun: Vec::new(alloc),
         }
     }
 
-    // What is gone leaves memory, if it is half of what was told.
-    fn let_go(&mut self)
-        ensures { self.new ≡ self.old }
+    /// How many bytes it keeps in memory. What was told begins with a field message that wasn't
+    /// sent yet, or has no whole message: others leave as they are told.
+    pub fn kept(&self) -> usize
+        ensures from_field { from_field self.now.told ≡ self.now.told }
+        ensures least { length self.now.told + length self.now.begun ≤ result }
+        ensures most { result ≤ 2 * length self.now.told + length self.now.begun }
     {
-        if self.gone > 0 && self.gone >= self.told.len() - self.gone {
-            cut_front(&mut self.told, self.gone);
-            self.gone = 0;
-        }
+        self.told.kept() + self.begun.len()
     }
 
-    /// Tells more. `NoMemory` is its one error, after which all is as before.
+    /// Tells more: what stands before the first field message leaves at once. `NoMemory` is its one
+    /// error, after which all is as before.
     pub fn tell(&mut self, bytes: &[u8]) -> Result<(), NoMemory>
         ensures ok { OnOk result (self.new ≡ record self.old {
-          told = self.old.told ++ bytes.now;
+          told = from_field (self.old.told ++ bytes.now);
         }) }
         ensures follows { OnOk result ((told sent : List ℕ) → Follows told sent self.old →
             Follows (told ++ bytes.now) sent self.new) }
         ensures err { OnErr result (self.new ≡ self.old) }
     {
-        self.let_go();
-        self.told.extend_from_slice(bytes)?;
+        self.told.push(bytes)?;
+        pass(&mut self.told, 0);
         Ok(())
     }
 
@@ -105,13 +110,12 @@ impl Comparison {
         if self.begun.extend_from_slice(piece).is_err() {
             return Err(HearEnd::NoMemory);
         }
-        let (_, told) = self.told.split_at(self.gone);
-        let Some(compared) = compare(told, &self.begun) else {
+        let Some(compared) = compare(self.told.as_slice(), &self.begun) else {
             self.begun.truncate(before);
             return Err(HearEnd::Unlike);
         };
         cut_front(&mut self.begun, compared.sent);
-        self.gone += compared.told;
+        pass(&mut self.told, compared.told);
         Ok(compared.dones)
     }
 }

@@ -2,6 +2,7 @@
 //! another broker sent it.
 #![tactic(auto)]
 
+mod backlog;
 mod compare;
 mod comparison;
 mod field_event;
