@@ -1,5 +1,5 @@
 -- What one line more makes of an audit.
-use Rattle.std.proofs.Common.{◌≡◌, ℕ, suc, ◌+◌, ◌^◌, ◌<◌, ◌≤◌, Bool, true, false, leb, List, [], ◌∷◌, ◌++◌, codes, length, Option, Some, None, Result, Ok, Err, refl, sym, ap, subst, ◌∙◌, arith, append_assoc, append-nil, length-append}
+use Rattle.std.proofs.Common.{◌≡◌, ℕ, suc, ◌+◌, ◌^◌, ◌<◌, Bool, true, false, leb, List, [], ◌∷◌, ◌++◌, codes, length, Option, Some, None, Result, Ok, Err, refl, sym, ap, subst, ◌∙◌, arith, append_assoc, append-nil, length-append}
 use Rattle.std.specs.Prelude.{◌==◌, ◌&&◌, if◌then◌else◌, IfOk}
 use Rattle.std.specs.Str.{bytes_eq}
 use Rattle.std.proofs.lemmas.Bool.{lt-leb}
@@ -23,7 +23,7 @@ use Rattle.plain_run.specs.declared.last_line.LastLine.TheVariants as last
 use Rattle.plain_run.specs.Endings.{Answer, with_front, ending, is_long}
 use Rattle.plain_run.specs.Scripts.{Follows, Settles, NamesNext, Played}
 use Rattle.plain_run.specs.Audit.{audit_from, audit_of_lines, by_audit_header, by_audit_line, by_end, counted, end_if_full, end_with, moment_of, text_after, timed}
-use Rattle.plain_run.specs.AuditPlayed.{IsAuditLinePlayed, IsJudged}
+use Rattle.plain_run.specs.AuditPlayed.{IsAuditLinePlayed}
 use Rattle.plain_run.specs.AuditScript.{AuditStands, IsAuditOf, StandsBy}
 
 -- any answer for the lines that came is one for what is left behind the header and these

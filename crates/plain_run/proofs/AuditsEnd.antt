@@ -1,5 +1,5 @@
 -- How the output of an audit ends with a line, by what the audit answers.
-use Rattle.std.proofs.Common.{◌≡◌, ℕ, ◌+◌, Bool, true, false, List, [], ◌∷◌, length, Option, Some, None, refl, sym, ap, ◌∙◌}
+use Rattle.std.proofs.Common.{◌≡◌, ℕ, ◌+◌, Bool, true, false, List, ◌∷◌, length, Some, None, sym, ap, ◌∙◌}
 use Rattle.std.specs.Prelude.{if◌then◌else◌, nat_lt, IfSome}
 use Rattle.std.proofs.lemmas.Bool.{false_from_ne_true}
 use Rattle.seat_steps.specs.declared.stamp.Stamp.{Stamp}
@@ -13,20 +13,21 @@ use Rattle.audit_text.specs.declared.audit_line.AuditText.{AuditText}
 use Rattle.audit_text.specs.declared.audit_line.AuditText.TheVariants as texts
 use Rattle.audit_text.specs.Grammar.{HasAuditLine, IsAuditText}
 use Rattle.audit_run.specs.declared.audit.AuditEnd.TheVariants as ends
-use Rattle.audit_run.specs.Judged.{judged, journal_of, IsAuditLine, IsEnd, IsFair}
+use Rattle.audit_run.specs.Judged.{journal_of, IsAuditLine, IsEnd, IsFair}
 use Rattle.audit_run.specs.Standing.{Auditing, Stands}
 use Rattle.audit_run.specs.Verdict.{is_good}
 use Rattle.audit_run.proofs.GoodComputed.{good_computed}
 use Rattle.plain_run.specs.declared.last_line.LastLine.{LastLine}
 use Rattle.plain_run.specs.declared.last_line.LastLine.TheVariants as last
-use Rattle.plain_run.specs.Audit.{end_with, moment_of, timed}
+use Rattle.plain_run.specs.Audit.{end_with, timed}
 use Rattle.plain_run.specs.AuditPlayed.{IsJudged}
 
 -- ---- by the answer
 
 fair_goes : (log : List AuditLine) (line : AuditLine) → IsFair line log → None ≡ end_with log line
 fair_goes log (Step stamp said) h =
-    sym (ap (λ (b : Bool). if b then Some (last.Full (number_counted (journal_of (Step stamp said ∷ log)))) else None) h)
+    sym (ap (λ (b : Bool).
+    if b then Some (last.Full (number_counted (journal_of (Step stamp said ∷ log)))) else None) h)
 fair_goes log (Out q bytes) h =
     sym (ap (λ (b : Bool). if b then None else Some (last.No (length log + 2))) ((good_computed q bytes log).1 h))
 
@@ -47,8 +48,8 @@ full_ends log (Step stamp said) kept h =
     if b then Some (last.Full (number_counted (journal_of (Step stamp said ∷ log)))) else None) h.0)
 full_ends log (Out q bytes) kept h = absurd h
 
-pub goes_on : (log : List AuditLine) (line : AuditLine) (after : Auditing) → IsFair line log → Stands (line ∷ log) after →
-    IsJudged log line after None
+pub goes_on : (log : List AuditLine) (line : AuditLine) (after : Auditing) → IsFair line log
+    → Stands (line ∷ log) after → IsJudged log line after None
 goes_on log line after h s = record { ends = fair_goes log line h; stands = λ e. s }
 
 judged_so : (log : List AuditLine) (line : AuditLine) (after : Auditing) (end : LastLine) →

@@ -11,6 +11,7 @@ pub mod PrintedTells
 pub mod ActListAnswers
 pub mod ActsPlayed
 pub mod SessionLines
+pub mod LinesLed
 pub mod SessionsPlayed
 pub mod SeatPieces
 pub mod ExplainAnswers

@@ -134,7 +134,8 @@ written_by cut n raw lines (meaning.Play stamp found) is more ok =
       split = ap (λ l. raw ∷ l) later.split;
       played = (played_by raw stamp found is, later.played);
       ends = later.ends;
-      is = ap (λ t. migrated_line raw ++ t) later.is ∙ sym (append_assoc (migrated_line raw) (texts later.front) (codes "end\n"));
+      is = ap (λ t. migrated_line raw ++ t) later.is
+          ∙ sym (append_assoc (migrated_line raw) (texts later.front) (codes "end\n"));
     }
 written_by cut n raw lines meaning.End is more ok =
     record { front = []; end = raw; rest = lines; split = refl; played = tt; ends = is; is = refl }
@@ -171,7 +172,8 @@ same_by limits p f g same = by p.is_full
 plays_as : (limits : Limits) (cut cut' : Bool) (n : ℕ) (play : Play) (front : List (List ℕ)) (end : List ℕ)
     (rest : List (List ℕ)) → AllPlayed front
     → meaning_of old end ≡ meaning.End
-    → session_from limits cut n old play (front ++ end ∷ rest) ≡ session_from limits cut' n new play (map renewed front ++ codes "end" ∷ [])
+    → session_from limits cut n old play (front ++ end ∷ rest)
+    ≡ session_from limits cut' n new play (map renewed front ++ codes "end" ∷ [])
 unfolding AllPlayed IsPlayed session_from
 plays_as limits cut cut' n play [] end rest played ends =
     ap (λ m. by_meaning limits n play m
@@ -187,7 +189,9 @@ plays_as limits cut cut' n play (raw ∷ front) end rest played ends =
     (λ next. session_from limits cut (n + 1) (next_stage old unstamped) next (front ++ end ∷ rest))
     (λ next. session_from limits cut' (n + 1) (next_stage new unstamped) next (map renewed front ++ codes "end" ∷ []))
     (λ next. plays_as limits cut cut' (n + 1) next front end rest played.1 ends)
-    ∙ sym (ap (λ m. by_meaning limits n play m (λ stamp next. session_from limits cut' (n + 1) (next_stage new stamp) next (map renewed front ++ codes "end" ∷ []))) (means_new raw found is))
+    ∙ sym (ap (λ m. by_meaning limits n play m (λ stamp next.
+    session_from limits cut' (n + 1) (next_stage new stamp) next (map renewed front ++ codes "end" ∷ [])))
+    (means_new raw found is))
 
 -- ---- the header
 
@@ -256,7 +260,10 @@ header_lacks limits h =
 
 renewed_lack : (front : List (List ℕ)) → LackFeeds front → LackFeeds (map renewed front)
 renewed_lack [] lack = tt
-renewed_lack (raw ∷ front) lack = (All-append (λ b. b ≢ 10) (codes "0 0 ") raw (lacks_feed (codes "0 0 ") refl) lack.0, renewed_lack front lack.1)
+renewed_lack (raw ∷ front) lack = (
+  All-append (λ b. b ≢ 10) (codes "0 0 ") raw (lacks_feed (codes "0 0 ") refl) lack.0,
+  renewed_lack front lack.1,
+)
 
 -- ---- how long it is
 
@@ -276,7 +283,10 @@ new_lines limits front = new_header limits ∷ (map renewed front ++ codes "end"
 new_lack : (limits : Limits) (front : List (List ℕ)) → IsLimits limits → LackFeeds front →
     LackFeeds (new_lines limits front)
 unfolding new_lines
-new_lack limits front h lack = (header_lacks limits h, lack_both (map renewed front) (codes "end" ∷ []) (renewed_lack front lack) (lacks_feed (codes "end") refl, tt))
+new_lack limits front h lack = (
+  header_lacks limits h,
+  lack_both (map renewed front) (codes "end" ∷ []) (renewed_lack front lack) (lacks_feed (codes "end") refl, tt),
+)
 
 new_size : (limits : Limits) (front : List (List ℕ)) → IsLimits limits → AllPlayed front →
     size_of front ≤ MIGRATE_LIMIT + 1
@@ -288,7 +298,8 @@ new_size limits front h played few =
     let both = size_both (map renewed front) (codes "end" ∷ []) in
     omega (arith, header, body, both, few, length_of (new_lines limits front))
 
-new_bytes : (limits : Limits) (front : List (List ℕ)) → migrated_header limits ++ (texts front ++ codes "end\n") ≡ bytes_of (new_lines limits front)
+new_bytes : (limits : Limits) (front : List (List ℕ))
+    → migrated_header limits ++ (texts front ++ codes "end\n") ≡ bytes_of (new_lines limits front)
 unfolding new_lines
 new_bytes limits front =
     append_assoc (new_header limits) (10 ∷ []) (texts front ++ codes "end\n")

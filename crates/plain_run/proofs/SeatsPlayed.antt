@@ -1,6 +1,6 @@
 -- What one line more makes of several seats.
-use Rattle.std.proofs.Common.{◌≡◌, ℕ, suc, ◌+◌, ◌^◌, ◌<◌, ◌≤◌, Bool, true, false, leb, List, [], ◌∷◌, ◌++◌, length, Option, Some, None, Result, Ok, Err, refl, sym, ap, ap₂, subst, ◌∙◌, arith, append_assoc, append-nil, length-append}
-use Rattle.std.specs.Prelude.{if◌then◌else◌, replicate, IfOk}
+use Rattle.std.proofs.Common.{◌≡◌, ℕ, ◌+◌, ◌^◌, ◌<◌, ◌≤◌, Bool, true, false, leb, List, [], ◌∷◌, ◌++◌, length, Option, Some, None, Result, Ok, Err, refl, sym, ap, ap₂, subst, ◌∙◌, arith, append_assoc, append-nil, length-append}
+use Rattle.std.specs.Prelude.{if◌then◌else◌, IfOk}
 use Rattle.std.proofs.lemmas.Bool.{lt-leb}
 use Rattle.std.proofs.lemmas.List.{length-replicate}
 use Rattle.session_text.specs.declared.seat_line.SeatLine.{SeatLine}
@@ -110,13 +110,15 @@ pub line_told : (play after : SeatsPlay) (set set' : Seats) (done : List (List �
     → after.set ≡ Some set' → after.before ≡ play.before + 1 → seats_text play ≡ gathered
     → Played seats_of_lines (SeatsStand after) (λ g. seats_text after ≡ g) done raw output gathered end
 line_told play after set set' done raw output gathered None end s begun is played still next held =
-    subst (Played seats_of_lines (SeatsStand after) (λ g. seats_text after ≡ g) done raw output gathered) (sym played.0) (
+    subst (Played seats_of_lines (SeatsStand after) (λ g. seats_text after ≡ g) done raw output gathered)
+    (sym played.0) (
       [],
       played.2 ∙ held ∙ sym (append-nil gathered),
       settles play set done output raw [] None (last.Bad (play.before + 1)) s begun is (λ rest. refl) refl,
     )
 line_told play after set set' done raw output gathered (Some said.End) end s begun is played still next held =
-    subst (Played seats_of_lines (SeatsStand after) (λ g. seats_text after ≡ g) done raw output gathered) (sym played.0) (
+    subst (Played seats_of_lines (SeatsStand after) (λ g. seats_text after ≡ g) done raw output gathered)
+    (sym played.0) (
       seats_endings 1 set.seats,
       played.2 ∙ ap (λ (t : List ℕ). t ++ seats_endings 1 set.seats) held,
       settles play set done output raw (seats_endings 1 set.seats) (Some said.End) (seats_last set.seats) s begun is
@@ -125,7 +127,8 @@ line_told play after set set' done raw output gathered (Some said.End) end s beg
     )
 line_told play after set set' done raw output gathered (Some (said.Seat line)) end s begun is played still next held =
     let on = stands play after set set' done output raw line s begun is played.1 still next in
-    subst (Played seats_of_lines (SeatsStand after) (λ g. seats_text after ≡ g) done raw output gathered) (sym played.0) (
+    subst (Played seats_of_lines (SeatsStand after) (λ g. seats_text after ≡ g) done raw output gathered)
+    (sym played.0) (
       seats_said line 1 set.seats,
       on,
       played.2 ∙ ap (λ (t : List ℕ). t ++ seats_said line 1 set.seats) held,

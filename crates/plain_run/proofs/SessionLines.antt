@@ -36,7 +36,7 @@ use Rattle.plain_run.specs.Session.{closed, meaning_of_line, meaning_of, by_mean
 
 -- the transcript of a longer journal begins with that of the shorter
 
-none_since : (capacity : ℕ) (journal : List Entry) → text_since capacity (length journal) journal ≡ []
+pub none_since : (capacity : ℕ) (journal : List Entry) → text_since capacity (length journal) journal ≡ []
 none_since capacity [] = refl
 none_since capacity (e ∷ older) =
     ap (λ (b : Bool). (if b then text_since capacity (suc (length older)) older ++ entry_text capacity e older else []))

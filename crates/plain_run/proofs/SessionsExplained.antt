@@ -1,18 +1,19 @@
 -- What one line more makes of a session that is explained.
-use Rattle.std.proofs.Common.{◌≡◌, ℕ, ◌+◌, Bool, true, false, List, [], ◌∷◌, ◌++◌, length, Option, Some, None, Ok, Err, refl, sym, ap, subst, ◌∙◌, append-nil, length-append}
-use Rattle.std.specs.Prelude.{if◌then◌else◌, Result, IfOk}
+use Rattle.std.proofs.Common.{◌≡◌, ℕ, ◌+◌, false, List, [], ◌∷◌, ◌++◌, length, Option, Some, None, refl, sym, ap, subst, ◌∙◌, append-nil, length-append}
 use Rattle.std.specs.Option.{option_map}
 use Rattle.seat_steps.specs.declared.limits.Limits.{Limits}
 use Rattle.seat_steps.specs.declared.stamp.Stamp.{Stamp}
 use Rattle.session_text.specs.declared.line.SessionLine.{SessionLine}
 use Rattle.broker_model.specs.declared.journal.Entry.{Entry}
 use Rattle.session_play.specs.Played.{line_played}
-use Rattle.session_play.specs.Playing.{Playing, IsMore}
+use Rattle.session_play.specs.Playing.{Playing, IsMore, IsWatched}
 use Rattle.seat_explainer.specs.declared.explainer.Lines.{Lines}
-use Rattle.seat_explainer.specs.Explained.{Explaining, blank}
+use Rattle.seat_explainer.specs.Explained.{Explaining, MayExplain, blank}
 use Rattle.seat_explainer.specs.Journals.{journal_lines, lines_since, at_rest}
+use Rattle.seat_explainer.proofs.LinesSince.{no_lines}
 use Rattle.plain_run.specs.declared.last_line.LastLine.{LastLine}
 use Rattle.plain_run.specs.declared.last_line.LastLine.TheVariants as last
+use Rattle.plain_run.specs.declared.session_line.Meaning.{Meaning}
 use Rattle.plain_run.specs.declared.session_line.Meaning.TheVariants as meaning
 use Rattle.plain_run.specs.declared.session_line.Opening.{Opening}
 use Rattle.plain_run.specs.declared.session_line.Stage.{Stage}
@@ -21,8 +22,9 @@ use Rattle.plain_run.specs.Scripts.{Follows, Settles, NamesNext, Played}
 use Rattle.plain_run.specs.Session.{full_at, meaning_of, opening_of, first_stage, next_stage}
 use Rattle.plain_run.specs.PlayerScript.{fresh}
 use Rattle.plain_run.specs.Explain.{by_opening, explain_from, explain_of_lines}
-use Rattle.plain_run.specs.ExplainScript.{ExplainerStands, ExplainerHolds, IsLed, Explains, ExplainStandsBy, ExplainHoldsBy}
-use Rattle.plain_run.proofs.SessionLines.{line_grows, long_is_bad, long_is_none}
+use Rattle.plain_run.specs.ExplainScript.{ExplainerStands, ExplainerHolds, ExplainStandsBy}
+use Rattle.plain_run.specs.WhereLinesLead.{IsLed, IsLedBy, stage_behind}
+use Rattle.plain_run.proofs.SessionLines.{long_is_bad, long_is_none}
 use Rattle.plain_run.proofs.ExplainAnswers.{text_grows, settles, settles_full, goes_further, follows}
 
 -- the lines of a line
@@ -30,22 +32,39 @@ abbrev gained : Lines → Playing → Playing → List ℕ
 gained which player after =
     lines_since which player.limits.store (length player.play.journal) after.play.journal
 
-grows : (which : Lines) (player after : Playing) (found : SessionLine)
-    → after.play.journal ≡ (line_played player.limits found player.play).play.journal
-    → journal_lines which player.limits.store after.play.journal
-    ≡ journal_lines which player.limits.store player.play.journal ++ gained which player after
-grows which player after found same =
-    text_grows which player.limits.store player.play.journal after.play.journal
-    (subst (λ (j : List Entry). IsMore player.play.journal j) (sym same) (line_grows player.limits found player.play))
+-- a line that isn't played has none
+gains_none : (which : Lines) (player after : Playing) → after ≡ player → gained which player after ≡ []
+gains_none which player after same =
+    ap (λ (p : Playing). lines_since which player.limits.store (length player.play.journal) p.play.journal) same
+    ∙ no_lines which player.limits.store player.play.journal
 
--- the output so far, with it
-said_line : (which : Lines) (stage : Stage) (player after : Playing) (found : SessionLine) (before : ℕ)
-    (done : List (List ℕ)) (output : List ℕ)
-    → ExplainerStands which stage player before done output
-    → after.play.journal ≡ (line_played player.limits found player.play).play.journal
+-- they are finished once they were watched
+pub finished : (which : Lines) (player after : Playing) (x y z : Explaining) (gathered : List ℕ)
+    → ExplainerHolds which player x gathered
+    → IsWatched MayExplain player.limits.store player.play.journal x after.play.journal y
+    → ((more : List Entry) → after.play.journal ≡ more ++ player.play.journal
+    → IsWatched MayExplain player.limits.store player.play.journal (at_rest which player.play.journal gathered)
+    (more ++ player.play.journal) y
+    → z ≡ at_rest which (more ++ player.play.journal)
+    (gathered ++ lines_since which player.limits.store (length player.play.journal) (more ++ player.play.journal)))
+    → ExplainerHolds which after z (gathered ++ gained which player after)
+finished which player after x y z gathered rest w close =
+    let store : ℕ = player.limits.store in
+    let older : List Entry = player.play.journal in
+    subst (λ (j : List Entry). z ≡ at_rest which j (gathered ++ lines_since which store (length older) j))
+    (sym w.grew.is)
+    (close w.grew.more w.grew.is
+    (subst (λ (j : List Entry). IsWatched MayExplain store older (at_rest which older gathered) j y) w.grew.is
+    (subst (λ (v : Explaining). IsWatched MayExplain store older v after.play.journal y) rest w)))
+
+-- the output so far, with them
+said_line : (which : Lines) (stage : Stage) (player after : Playing) (before : ℕ) (done : List (List ℕ))
+    (output : List ℕ) → ExplainerStands which stage player before done output
+    → IsMore player.play.journal after.play.journal
     → output ++ gained which player after ≡ journal_lines which player.limits.store after.play.journal
-said_line which stage player after found before done output s same =
-    ap (λ t. t ++ gained which player after) s.said ∙ sym (grows which player after found same)
+said_line which stage player after before done output s more =
+    ap (λ t. t ++ gained which player after) s.said
+    ∙ sym (text_grows which player.limits.store player.play.journal after.play.journal more)
 
 one_more : (done : List (List ℕ)) (raw : List ℕ) → length (done ++ raw ∷ []) ≡ length done + 1
 one_more done raw = length-append done (raw ∷ [])
@@ -54,86 +73,119 @@ one_more done raw = length-append done (raw ∷ [])
 stands_line : (which : Lines) (stage : Stage) (player after : Playing) (stamp : Stamp) (found : SessionLine)
     (before : ℕ) (done : List (List ℕ)) (raw output : List ℕ) → ExplainerStands which stage player before done output
     → meaning.Play stamp found ≡ meaning_of stage raw → None ≡ full_at (line_played player.limits found player.play)
-    → IsLed player after found None
+    → IsLed player after found None → IsMore player.play.journal after.play.journal
     → ExplainerStands which (next_stage stage stamp) after (before + 1) (done ++ raw ∷ [])
     (output ++ gained which player after)
-stands_line which stage player after stamp found before done raw output s is room w =
-    let went = w.play refl in
-    let store : player.limits.store ≡ after.limits.store = ap (λ (l : Limits). l.store) (sym w.limits) in
+stands_line which stage player after stamp found before done raw output s is room led more =
+    let went = led.play refl in
+    let store : player.limits.store ≡ after.limits.store = ap (λ (l : Limits). l.store) (sym led.limits) in
     record {
       unspent = ap (λ (p : Playing). p.is_spent) went ∙ s.unspent;
       count = ap (λ k. k + 1) s.count ∙ sym (one_more done raw);
       said = subst (λ (n : ℕ). output ++ gained which player after ≡ journal_lines which n after.play.journal) store
-          (said_line which stage player after found before done output s w.journal);
+          (said_line which stage player after before done output s more);
       goes_on = λ cut more.
           goes_further which stage player before done output raw stamp found s is room cut more
           ∙ ap (λ (p : Playing). explain_from which p.limits cut (before + 1) (next_stage stage stamp) p.play more)
           (sym went);
     }
 
+-- a line before an explainer: what it comes to
+Comes : Lines → Stage → Playing → ℕ → Explaining → List (List ℕ) → List ℕ → List ℕ → List ℕ → Option LastLine
+    → Type 0
+Comes which stage player before y done raw output gathered end =
+    Played (explain_of_lines which) (ExplainerStands which stage player before) (ExplainerHolds which player y) done
+    raw output gathered end
+
 -- by the entries that are counted where the journal was full
 told_by : (which : Lines) (stage : Stage) (player after : Playing) (y : Explaining) (stamp : Stamp)
     (found : SessionLine) (before : ℕ) (done : List (List ℕ)) (raw output gathered : List ℕ) (full : Option ℕ)
     → ExplainerStands which stage player before done output → meaning.Play stamp found ≡ meaning_of stage raw
     → full ≡ full_at (line_played player.limits found player.play)
-    → Explains which player after gathered y found (option_map last.Full full)
-    → Played (explain_of_lines which) (ExplainerStands which (next_stage stage stamp) after (before + 1))
-    (ExplainerHolds which after y) done raw output gathered (option_map last.Full full)
-told_by which stage player after y stamp found before done raw output gathered None s is room w =
-    let next = stands_line which stage player after stamp found before done raw output s is room w.0 in (
+    → IsLed player after found (option_map last.Full full) → IsMore player.play.journal after.play.journal
+    → ExplainerHolds which after y (gathered ++ gained which player after)
+    → Comes which (next_stage stage stamp) after (before + 1) y done raw output gathered (option_map last.Full full)
+unfolding Comes
+told_by which stage player after y stamp found before done raw output gathered None s is room led more h =
+    let next = stands_line which stage player after stamp found before done raw output s is room led more in (
       gained which player after,
       next,
-      w.1,
+      h,
       follows which (next_stage stage stamp) after (before + 1) (done ++ raw ∷ [])
           (output ++ gained which player after) next,
     )
-told_by which stage player after y stamp found before done raw output gathered (Some entries) s is room w =
+told_by which stage player after y stamp found before done raw output gathered (Some entries) s is room led more h =
     let text : journal_lines which player.limits.store (line_played player.limits found player.play).play.journal
     ≡ output ++ gained which player after =
-    ap (journal_lines which player.limits.store) (sym w.0.journal)
-    ∙ sym (said_line which stage player after found before done output s w.0.journal) in (
+    ap (journal_lines which player.limits.store) (sym led.journal)
+    ∙ sym (said_line which stage player after before done output s more) in (
       gained which player after,
-      w.1,
+      h,
       subst (λ t. Settles (explain_of_lines which) (done ++ raw ∷ []) (with_front t (ending (last.Full entries)))) text
           (settles_full which stage player before done output raw stamp found entries s is room),
     )
 
 -- a line that was played
-line_told : (which : Lines) (stage : Stage) (player after : Playing) (y : Explaining) (stamp : Stamp)
+played_line : (which : Lines) (stage : Stage) (player after : Playing) (y : Explaining) (stamp : Stamp)
     (found : SessionLine) (before : ℕ) (done : List (List ℕ)) (raw output gathered : List ℕ) (end : Option LastLine)
     → ExplainerStands which stage player before done output → meaning.Play stamp found ≡ meaning_of stage raw
-    → Explains which player after gathered y found end
-    → Played (explain_of_lines which) (ExplainerStands which (next_stage stage stamp) after (before + 1))
-    (ExplainerHolds which after y) done raw output gathered end
-line_told which stage player after y stamp found before done raw output gathered end s is w =
+    → IsLed player after found end → IsMore player.play.journal after.play.journal
+    → ExplainerHolds which after y (gathered ++ gained which player after)
+    → Comes which (next_stage stage stamp) after (before + 1) y done raw output gathered end
+played_line which stage player after y stamp found before done raw output gathered end s is led more h =
     let full : Option ℕ = full_at (line_played player.limits found player.play) in
-    subst (Played (explain_of_lines which) (ExplainerStands which (next_stage stage stamp) after (before + 1))
-    (ExplainerHolds which after y) done raw output gathered) (sym w.0.full)
+    subst (Comes which (next_stage stage stamp) after (before + 1) y done raw output gathered) (sym led.full)
     (told_by which stage player after y stamp found before done raw output gathered full s is refl
-    (subst (Explains which player after gathered y found) w.0.full w))
-
--- the same of a call that may have found no memory
-pub line_told_if : {E : Type 0} (which : Lines) (stage : Stage) (player after : Playing) (y : Explaining)
-    (stamp : Stamp) (found : SessionLine) (before : ℕ) (done : List (List ℕ)) (raw output gathered : List ℕ)
-    (r : Result (Option LastLine) E) → ExplainerStands which stage player before done output
-    → meaning.Play stamp found ≡ meaning_of stage raw → IfOk r (Explains which player after gathered y found)
-    → IfOk r (Played (explain_of_lines which) (ExplainerStands which (next_stage stage stamp) after (before + 1))
-    (ExplainerHolds which after y) done raw output gathered)
-line_told_if which stage player after y stamp found before done raw output gathered (Ok end) s is w =
-    line_told which stage player after y stamp found before done raw output gathered end s is w
-line_told_if which stage player after y stamp found before done raw output gathered (Err e) s is w = tt
+    (subst (IsLed player after found) led.full led) more h)
 
 -- a line that ends the session without a step has no line of its own
-pub ended : (which : Lines) (stands : List (List ℕ) → List ℕ → Type 0) (player : Playing) (y : Explaining)
-    (done : List (List ℕ)) (raw output gathered : List ℕ) (end : LastLine) → ExplainerHolds which player y gathered
+ended : (which : Lines) (stage : Stage) (player after : Playing) (y : Explaining) (before : ℕ)
+    (done : List (List ℕ)) (raw output gathered : List ℕ) (end : LastLine) → after ≡ player
+    → ExplainerHolds which after y (gathered ++ gained which player after)
     → Settles (explain_of_lines which) (done ++ raw ∷ []) (with_front output (ending end))
-    → Played (explain_of_lines which) stands (ExplainerHolds which player y) done raw output gathered (Some end)
-ended which stands player y done raw output gathered end h s = (
+    → Comes which stage after before y done raw output gathered (Some end)
+unfolding Comes
+ended which stage player after y before done raw output gathered end same h s = (
   [],
-  subst (ExplainerHolds which player y) (sym (append-nil gathered)) h,
+  subst (λ t. ExplainerHolds which after y (gathered ++ t)) (gains_none which player after same) h,
   subst (λ t. Settles (explain_of_lines which) (done ++ raw ∷ []) (with_front t (ending end)))
       (sym (append-nil output)) s,
 )
+
+-- any line, by what it means
+line_told : (which : Lines) (stage : Stage) (player after : Playing) (y : Explaining) (before : ℕ)
+    (done : List (List ℕ)) (raw output gathered : List ℕ) (m : Meaning) (end : Option LastLine)
+    → ExplainerStands which stage player before done output → m ≡ meaning_of stage raw
+    → IsLedBy before player after m end → IsMore player.play.journal after.play.journal
+    → ExplainerHolds which after y (gathered ++ gained which player after)
+    → Comes which (stage_behind stage m) after (before + 1) y done raw output gathered end
+line_told which stage player after y before done raw output gathered (meaning.Play stamp found) end s is led more h =
+    played_line which stage player after y stamp found before done raw output gathered end s is led more h
+line_told which stage player after y before done raw output gathered meaning.End end s is led more h =
+    subst (Comes which stage after (before + 1) y done raw output gathered) (sym led.1)
+    (ended which stage player after y (before + 1) done raw output gathered
+    (last.End (length player.play.journal)) led.0 h
+    (settles which stage player before done output raw meaning.End (last.End (length player.play.journal)) s is
+    (λ rest. refl) refl))
+line_told which stage player after y before done raw output gathered meaning.Bad end s is led more h =
+    subst (Comes which stage after (before + 1) y done raw output gathered) (sym led.1)
+    (ended which stage player after y (before + 1) done raw output gathered (last.Bad (before + 1)) led.0 h
+    (settles which stage player before done output raw meaning.Bad (last.Bad (before + 1)) s is (λ rest. refl) refl))
+
+-- the same by its stage
+pub line_explained : (which : Lines) (stage next : Stage) (player after : Playing) (y : Explaining) (before : ℕ)
+    (done : List (List ℕ)) (raw output gathered : List ℕ) (end : Option LastLine)
+    → ExplainerStands which stage player before done output
+    → next ≡ stage_behind stage (meaning_of stage raw) → IsLedBy before player after (meaning_of stage raw) end
+    → IsMore player.play.journal after.play.journal
+    → ExplainerHolds which after y
+    (gathered ++ lines_since which player.limits.store (length player.play.journal) after.play.journal)
+    → Played (explain_of_lines which) (ExplainerStands which next after (before + 1)) (ExplainerHolds which after y)
+    done raw output gathered end
+unfolding Comes
+line_explained which stage next player after y before done raw output gathered end s at led more h =
+    subst (λ (t : Stage). Comes which t after (before + 1) y done raw output gathered end) (sym at)
+    (line_told which stage player after y before done raw output gathered (meaning_of stage raw) end s refl led more h)
 
 -- the header
 header_stands : (which : Lines) (opening : Opening) (raw : List ℕ) → Some opening ≡ opening_of raw

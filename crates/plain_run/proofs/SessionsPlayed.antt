@@ -1,16 +1,14 @@
 -- What one line more makes of a session.
 use Rattle.std.proofs.Common.{◌≡◌, ℕ, ◌+◌, Bool, true, false, List, [], ◌∷◌, ◌++◌, length, Option, Some, None, Ok, Err, refl, sym, ap, subst, ◌∙◌, append_assoc, append-nil, length-append}
-use Rattle.std.specs.Prelude.{if◌then◌else◌, Result, IfOk}
+use Rattle.std.specs.Prelude.{if◌then◌else◌, Result, IfOk, OnOk}
 use Rattle.std.specs.Option.{option_map}
 use Rattle.seat_steps.specs.declared.limits.Limits.{Limits}
 use Rattle.session_text.specs.declared.line.SessionLine.{SessionLine}
 use Rattle.broker_model.specs.declared.journal.Entry.{Entry}
 use Rattle.broker_model.specs.Limits.{number_counted}
-use Rattle.broker_model.specs.declared.journal.Kept.{Kept}
 use Rattle.seat_printer.specs.Transcribed.{journal_text, text_since}
 use Rattle.session_play.specs.Played.{Play, Played as Step, line_played}
-use Rattle.session_play.specs.Playing.{Playing, IsMore, IsPlayed, IsWatched}
-use Rattle.session_play.specs.declared.session.Stop.TheVariants as stops
+use Rattle.session_play.specs.Playing.{Playing, IsMore, IsWatched}
 use Rattle.session_play.proofs.JournalGrows.{watched_none, watched_both}
 use Rattle.std.proofs.lemmas.List.{append_cancel_left}
 use Rattle.seat_printer.specs.Printed.{Printing, MayPrint, blank}
@@ -24,10 +22,10 @@ use Rattle.plain_run.specs.declared.session_line.Stage.{Stage}
 use Rattle.plain_run.specs.Endings.{Answer, with_front, ending, is_long}
 use Rattle.plain_run.specs.Scripts.{Follows, Settles, NamesNext, Played}
 use Rattle.plain_run.specs.Session.{closed, full_at, meaning_of, by_meaning, opening_of, by_opening, first_stage, next_stage, session_from, session_of_lines}
-use Rattle.plain_run.specs.PlayerScript.{fresh, PlayerStands, PlayerHolds}
+use Rattle.plain_run.specs.PlayerScript.{fresh, Gathers, PlayerStands, PlayerHolds}
 use Rattle.plain_run.specs.SessionScript.{StandsBy, HoldsBy}
-use Rattle.plain_run.specs.Watching.{Gathers, Went}
-use Rattle.plain_run.proofs.SessionLines.{begins, text_grows, line_grows, long_is_bad, long_is_none}
+use Rattle.plain_run.specs.WhereLinesLead.{IsLed, IsLedBy, stage_behind}
+use Rattle.plain_run.proofs.SessionLines.{begins, none_since, text_grows, long_is_bad, long_is_none}
 
 -- by what the line means
 step : (stage : Stage) (player : Playing) (before : ℕ) (done : List (List ℕ)) (output raw : List ℕ) (m : Meaning)
@@ -123,182 +121,176 @@ pub holds_more : (store : ℕ) (before after written : List Entry) (gathered : L
 holds_more store before after written gathered m grew held =
     grew ∙ ap (λ t. t ++ m) held ∙ append_assoc (journal_text store written) gathered m
 
--- by what the player says of it
-
-gathers_line : (player after : Playing) (printer printer_after : Printing)
-    → IsWatched MayPrint player.limits.store player.play.journal printer after.play.journal printer_after
-    → (written : List Entry) → Gathers player.limits.store written player.play.journal printer
-    → Gathers player.limits.store written after.play.journal printer_after
-gathers_line player after printer printer_after watched written h =
-    watched_both MayPrint player.limits.store written player.play.journal after.play.journal blank printer
-    printer_after h watched
-
-full_of : (p : Step) (b : Bool) → p.is_full ≡ b → full_at p ≡ (if b then Some (number_counted p.play.journal) else None)
-full_of p b e = ap (λ (f : Bool). (if f then Some (number_counted p.play.journal) else None)) e
-
-pub went_on : (player after : Playing) (printer printer_after : Printing) (line : SessionLine)
-    → IsPlayed (line_played player.limits line player.play) (Ok tt) after.play
-    → after ≡ record player { play = after.play; stamps = after.stamps } → after.limits ≡ player.limits
-    → IsWatched MayPrint player.limits.store player.play.journal printer after.play.journal printer_after
-    → Went player after printer printer_after line None
-went_on player after printer printer_after line played same limits watched = record {
-  full = ap (option_map last.Full) (sym (full_of (line_played player.limits line player.play) false played.0));
-  play = λ e. same ∙ ap (λ (x : Play). record player { play = x; stamps = after.stamps }) played.1;
-  journal = ap (λ (x : Play). x.journal) played.1;
-  limits = limits;
-  gathers = gathers_line player after printer printer_after watched;
-}
-
-pub went_full : (player after : Playing) (printer printer_after : Printing) (line : SessionLine) (kept : Kept)
-    → IsPlayed (line_played player.limits line player.play) (Err (stops.Full kept)) after.play
-    → after.limits ≡ player.limits
-    → IsWatched MayPrint player.limits.store player.play.journal printer after.play.journal printer_after
-    → Went player after printer printer_after line (Some (last.Full kept.entries))
-went_full player after printer printer_after line kept played limits watched =
-    let p = line_played player.limits line player.play in
-    let counted : kept.entries ≡ number_counted p.play.journal = ap (λ (k : Kept). k.entries) played.1 in
-    record {
-      full = ap (λ n. Some (last.Full n)) counted ∙ ap (option_map last.Full) (sym (full_of p true played.0));
-      play = λ e. absurd (cc e);
-      journal = played.2;
-      limits = limits;
-      gathers = gathers_line player after printer printer_after watched;
-    }
-
 -- the text of the line
 gained : Playing → Playing → List ℕ
 gained player after = text_since player.limits.store (length player.play.journal) after.play.journal
 
-grows : (player after : Playing) (found : SessionLine)
-    → after.play.journal ≡ (line_played player.limits found player.play).play.journal
-    → journal_text player.limits.store after.play.journal ≡ journal_text player.limits.store player.play.journal ++
-    gained player after
+grows : (player after : Playing) → IsMore player.play.journal after.play.journal
+    → journal_text player.limits.store after.play.journal
+    ≡ journal_text player.limits.store player.play.journal ++ gained player after
 unfolding gained
-grows player after found same =
-    text_grows player.limits.store player.play.journal after.play.journal
-    (subst (λ (j : List Entry). IsMore player.play.journal j) (sym same) (line_grows player.limits found player.play))
+grows player after more = text_grows player.limits.store player.play.journal after.play.journal more
+
+-- a line that isn't played has none
+gains_none : (player after : Playing) → after ≡ player → gained player after ≡ []
+unfolding gained
+gains_none player after same =
+    ap (λ (p : Playing). text_since player.limits.store (length player.play.journal) p.play.journal) same
+    ∙ none_since player.limits.store player.play.journal
+
+-- who watched the line
+Watches : Playing → Playing → Printing → Printing → Type 0
+Watches player after printer printer_after =
+    IsWatched MayPrint player.limits.store player.play.journal printer after.play.journal printer_after
 
 -- the printer holds it
-holds_line : (player after : Playing) (printer printer_after : Printing) (found : SessionLine) (end : Option LastLine)
-    (gathered : List ℕ) → Went player after printer printer_after found end
+holds_line : (player after : Playing) (printer printer_after : Printing) (gathered : List ℕ)
+    → after.limits ≡ player.limits → Watches player after printer printer_after
     → PlayerHolds player printer gathered → PlayerHolds after printer_after (gathered ++ gained player after)
-holds_line player after printer printer_after found end gathered w h =
-    let store : player.limits.store ≡ after.limits.store = ap (λ (l : Limits). l.store) (sym w.limits) in
+unfolding Watches
+holds_line player after printer printer_after gathered limits w h =
+    let store : player.limits.store ≡ after.limits.store = ap (λ (l : Limits). l.store) (sym limits) in
     record {
       written = h.written;
       watched = subst (λ (s : ℕ). Gathers s h.written after.play.journal printer_after) store
-          (w.gathers h.written h.watched);
+          (watched_both MayPrint player.limits.store h.written player.play.journal after.play.journal blank printer
+          printer_after h.watched w);
       text = subst (λ (s : ℕ). journal_text s after.play.journal ≡ journal_text s h.written ++
           (gathered ++ gained player after)) store
           (holds_more player.limits.store player.play.journal after.play.journal h.written gathered
-          (gained player after) (grows player after found w.journal) h.text);
+          (gained player after) (grows player after w.grew) h.text);
     }
 
 -- the output so far, with it
-said_line : (stage : Stage) (player after : Playing) (found : SessionLine) (before : ℕ) (done : List (List ℕ))
-    (output : List ℕ)
-    → PlayerStands stage player before done output
-    → after.play.journal ≡ (line_played player.limits found player.play).play.journal
+said_line : (stage : Stage) (player after : Playing) (before : ℕ) (done : List (List ℕ)) (output : List ℕ)
+    → PlayerStands stage player before done output → IsMore player.play.journal after.play.journal
     → output ++ gained player after ≡ journal_text player.limits.store after.play.journal
-said_line stage player after found before done output s same = ap (λ t. t ++ gained player after) s.said
-    ∙ sym (grows player after found same)
+said_line stage player after before done output s more =
+    ap (λ t. t ++ gained player after) s.said ∙ sym (grows player after more)
 
 one_more : (done : List (List ℕ)) (raw : List ℕ) → length (done ++ raw ∷ []) ≡ length done + 1
 one_more done raw = length-append done (raw ∷ [])
 
 -- it goes on
-stands_line : (stage : Stage) (player after : Playing) (printer printer_after : Printing) (stamp : Stamp)
-    (found : SessionLine) (before : ℕ)
+stands_line : (stage : Stage) (player after : Playing) (stamp : Stamp) (found : SessionLine) (before : ℕ)
     (done : List (List ℕ)) (raw output : List ℕ) → PlayerStands stage player before done output
     → meaning.Play stamp found ≡ meaning_of stage raw → None ≡ full_at (line_played player.limits found player.play)
-    → Went player after printer printer_after found None
+    → IsLed player after found None → IsMore player.play.journal after.play.journal
     → PlayerStands (next_stage stage stamp) after (before + 1) (done ++ raw ∷ []) (output ++ gained player after)
-stands_line stage player after printer printer_after stamp found before done raw output s is room w =
-    let went = w.play refl in
-    let store : player.limits.store ≡ after.limits.store = ap (λ (l : Limits). l.store) (sym w.limits) in
+stands_line stage player after stamp found before done raw output s is room led more =
+    let went = led.play refl in
+    let store : player.limits.store ≡ after.limits.store = ap (λ (l : Limits). l.store) (sym led.limits) in
     record {
       unspent = ap (λ (p : Playing). p.is_spent) went ∙ s.unspent;
       count = ap (λ k. k + 1) s.count ∙ sym (one_more done raw);
       said = subst (λ (n : ℕ). output ++ gained player after ≡ journal_text n after.play.journal) store
-          (said_line stage player after found before done output s w.journal);
+          (said_line stage player after before done output s more);
       goes_on = λ cut more.
           goes_further stage player before done output raw stamp found s is room cut more
           ∙ ap (λ (p : Playing). session_from p.limits cut (before + 1) (next_stage stage stamp) p.play more)
           (sym went);
     }
 
+-- a line before a printer: what it comes to
+Comes : Stage → Playing → ℕ → Printing → List (List ℕ) → List ℕ → List ℕ → List ℕ → Option LastLine → Type 0
+Comes stage player before printer done raw output gathered end =
+    Played session_of_lines (PlayerStands stage player before) (PlayerHolds player printer) done raw output
+    gathered end
+
 -- by the entries that are counted where the journal was full
 told_by : (stage : Stage) (player after : Playing) (printer printer_after : Printing) (stamp : Stamp)
     (found : SessionLine) (before : ℕ)
     (done : List (List ℕ)) (raw output gathered : List ℕ) (full : Option ℕ)
-    → PlayerStands stage player before done output → PlayerHolds player printer gathered →
-    meaning.Play stamp found ≡ meaning_of stage raw
+    → PlayerStands stage player before done output → PlayerHolds player printer gathered
+    → meaning.Play stamp found ≡ meaning_of stage raw
     → full ≡ full_at (line_played player.limits found player.play)
-    → Went player after printer printer_after found (option_map last.Full full)
-    → Played session_of_lines (PlayerStands (next_stage stage stamp) after (before + 1))
-    (PlayerHolds after printer_after) done raw output
-    gathered (option_map last.Full full)
-told_by stage player after printer printer_after stamp found before done raw output gathered None s h is room w =
-    let next = stands_line stage player after printer printer_after stamp found before done raw output s is room w in (
+    → IsLed player after found (option_map last.Full full) → Watches player after printer printer_after
+    → Comes (next_stage stage stamp) after (before + 1) printer_after done raw output gathered
+    (option_map last.Full full)
+unfolding Comes Watches
+told_by stage player after printer printer_after stamp found before done raw output gathered None s h is room led w =
+    let next = stands_line stage player after stamp found before done raw output s is room led w.grew in (
       gained player after,
       next,
-      holds_line player after printer printer_after found None gathered w h,
+      holds_line player after printer printer_after gathered led.limits w h,
       follows (next_stage stage stamp) after
           (before + 1) (done ++ raw ∷ []) (output ++ gained player after) next,
     )
 told_by stage player after printer printer_after stamp found before done raw output gathered
-    (Some entries) s h is room w =
+    (Some entries) s h is room led w =
     let text : journal_text player.limits.store (line_played player.limits found player.play).play.journal ≡ output ++
     gained player after =
-    ap (journal_text player.limits.store) (sym w.journal)
-    ∙ sym (said_line stage player after found before done output s w.journal) in (
+    ap (journal_text player.limits.store) (sym led.journal)
+    ∙ sym (said_line stage player after before done output s w.grew) in (
       gained player after,
-      holds_line player after printer printer_after found (Some (last.Full entries)) gathered w h,
+      holds_line player after printer printer_after gathered led.limits w h,
       subst (λ t. Settles session_of_lines (done ++ raw ∷ []) (with_front t (ending (last.Full entries)))) text
           (settles_full stage player before done output raw stamp found entries s is room),
     )
 
 -- a line that was played
-pub line_told : (stage : Stage) (player after : Playing) (printer printer_after : Printing) (stamp : Stamp)
+played_line : (stage : Stage) (player after : Playing) (printer printer_after : Printing) (stamp : Stamp)
     (found : SessionLine) (before : ℕ)
     (done : List (List ℕ)) (raw output gathered : List ℕ) (end : Option LastLine)
     → PlayerStands stage player before done output → PlayerHolds player printer gathered
-    → meaning.Play stamp found ≡ meaning_of stage raw → Went player after printer printer_after found end
-    → Played session_of_lines (PlayerStands (next_stage stage stamp) after (before + 1))
-    (PlayerHolds after printer_after) done raw output
-    gathered end
-line_told stage player after printer printer_after stamp found before done raw output gathered end s h is w =
+    → meaning.Play stamp found ≡ meaning_of stage raw → IsLed player after found end
+    → Watches player after printer printer_after
+    → Comes (next_stage stage stamp) after (before + 1) printer_after done raw output gathered end
+played_line stage player after printer printer_after stamp found before done raw output gathered end s h is led w =
     let full : Option ℕ = full_at (line_played player.limits found player.play) in
-    subst (Played session_of_lines (PlayerStands (next_stage stage stamp) after (before + 1))
-    (PlayerHolds after printer_after) done raw output
-    gathered) (sym w.full)
+    subst (Comes (next_stage stage stamp) after (before + 1) printer_after done raw output gathered) (sym led.full)
     (told_by stage player after printer printer_after stamp found before done raw output gathered full s h is refl
-    (subst (Went player after printer printer_after found) w.full w))
-
--- the same of a call that may have found no memory
-pub line_told_if : {E : Type 0} (stage : Stage) (player after : Playing) (printer printer_after : Printing)
-    (stamp : Stamp) (found : SessionLine)
-    (before : ℕ) (done : List (List ℕ)) (raw output gathered : List ℕ)
-    (r : Result (Option LastLine) E) → PlayerStands stage player before done output →
-    PlayerHolds player printer gathered
-    → meaning.Play stamp found ≡ meaning_of stage raw
-    → IfOk r (Went player after printer printer_after found)
-    → IfOk r (Played session_of_lines (PlayerStands (next_stage stage stamp) after (before + 1))
-    (PlayerHolds after printer_after) done raw output gathered)
-line_told_if stage player after printer printer_after stamp found before done raw output gathered (Ok end) s h is w =
-    line_told stage player after printer printer_after stamp found before done raw output gathered end s h is w
-line_told_if stage player after printer printer_after stamp found before done raw output gathered (Err e) s h is w = tt
+    (subst (IsLed player after found) led.full led) w)
 
 -- a line that ends the session without a step tells nothing before the last line
-pub ended : (stands : List (List ℕ) → List ℕ → Type 0) (player : Playing) (printer : Printing) (done : List (List ℕ))
-    (raw output gathered : List ℕ) (end : LastLine) → PlayerHolds player printer gathered
+ended : (stage : Stage) (player after : Playing) (printer printer_after : Printing) (before : ℕ)
+    (done : List (List ℕ)) (raw output gathered : List ℕ) (end : LastLine)
+    → PlayerHolds player printer gathered → after ≡ player → Watches player after printer printer_after
     → Settles session_of_lines (done ++ raw ∷ []) (with_front output (ending end))
-    → Played session_of_lines stands (PlayerHolds player printer) done raw output gathered (Some end)
-ended stands player printer done raw output gathered end h s = (
+    → Comes stage after before printer_after done raw output gathered (Some end)
+unfolding Comes
+ended stage player after printer printer_after before done raw output gathered end h same w s = (
   [],
-  subst (PlayerHolds player printer) (sym (append-nil gathered)) h,
+  subst (λ t. PlayerHolds after printer_after (gathered ++ t)) (gains_none player after same)
+      (holds_line player after printer printer_after gathered (ap (λ (p : Playing). p.limits) same) w h),
   subst (λ t. Settles session_of_lines (done ++ raw ∷ []) (with_front t (ending end))) (sym (append-nil output)) s,
 )
+
+-- any line, by what it means
+line_told : (stage : Stage) (player after : Playing) (printer printer_after : Printing) (before : ℕ)
+    (done : List (List ℕ)) (raw output gathered : List ℕ) (m : Meaning) (end : Option LastLine)
+    → PlayerStands stage player before done output → PlayerHolds player printer gathered
+    → m ≡ meaning_of stage raw → IsLedBy before player after m end → Watches player after printer printer_after
+    → Comes (stage_behind stage m) after (before + 1) printer_after done raw output gathered end
+line_told stage player after printer printer_after before done raw output gathered (meaning.Play stamp found) end s h
+    is led w =
+    played_line stage player after printer printer_after stamp found before done raw output gathered end s h is led w
+line_told stage player after printer printer_after before done raw output gathered meaning.End end s h is led w =
+    subst (Comes stage after (before + 1) printer_after done raw output gathered) (sym led.1)
+    (ended stage player after printer printer_after (before + 1) done raw output gathered
+    (last.End (length player.play.journal)) h led.0 w
+    (settles stage player before done output raw meaning.End (last.End (length player.play.journal)) s is
+    (λ rest. refl) refl))
+line_told stage player after printer printer_after before done raw output gathered meaning.Bad end s h is led w =
+    subst (Comes stage after (before + 1) printer_after done raw output gathered) (sym led.1)
+    (ended stage player after printer printer_after (before + 1) done raw output gathered (last.Bad (before + 1)) h
+    led.0 w (settles stage player before done output raw meaning.Bad (last.Bad (before + 1)) s is (λ rest. refl) refl))
+
+-- the same of a call that may have found no memory
+pub line_told_if : {E : Type 0} (stage next : Stage) (player after : Playing) (printer printer_after : Printing)
+    (before : ℕ) (done : List (List ℕ)) (raw output gathered : List ℕ) (r : Result (Option LastLine) E)
+    → PlayerStands stage player before done output → PlayerHolds player printer gathered
+    → OnOk r (next ≡ stage_behind stage (meaning_of stage raw))
+    → IfOk r (IsLedBy before player after (meaning_of stage raw))
+    → IsWatched MayPrint player.limits.store player.play.journal printer after.play.journal printer_after
+    → IfOk r (Played session_of_lines (PlayerStands next after (before + 1)) (PlayerHolds after printer_after) done
+    raw output gathered)
+unfolding Comes Watches
+line_told_if stage next player after printer printer_after before done raw output gathered (Ok end) s h at led w =
+    subst (λ (t : Stage). Comes t after (before + 1) printer_after done raw output gathered end) (sym at)
+    (line_told stage player after printer printer_after before done raw output gathered (meaning_of stage raw) end s h
+    refl led w)
+line_told_if stage next player after printer printer_after before done raw output gathered (Err e) s h at led w = tt
 
 -- the header
 pub header_stands : (opening : Opening) (raw : List ℕ) → Some opening ≡ opening_of raw

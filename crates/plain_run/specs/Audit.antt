@@ -1,5 +1,5 @@
 -- What is written for the lines of an audit, and the status.
-use Rattle.std.specs.Prelude.{ℕ, ◌+◌, Bool, true, false, nat_lt, min, if◌then◌else◌, List, [], ◌∷◌, ◌++◌, length, Option, Some, None}
+use Rattle.std.specs.Prelude.{ℕ, ◌+◌, Bool, true, false, nat_lt, min, if◌then◌else◌, List, [], ◌∷◌, length, Option, Some, None}
 use Rattle.broker_model.specs.Limits.{number_counted}
 use Rattle.session_play.specs.Played.{Played}
 use Rattle.audit_text.specs.declared.audit_line.AuditLine.{AuditLine}

@@ -15,7 +15,7 @@ pub mod Audit
 pub mod AuditPlayed
 pub mod ActScript
 pub mod MigrationScript
-pub mod Watching
+pub mod WhereLinesLead
 pub mod PlayerScript
 pub mod SessionScript
 pub mod SeatsScript

@@ -2,12 +2,11 @@
 use Rattle.std.specs.Prelude.{◌≡◌, ℕ, Bool, false, List, [], ◌++◌, length, None}
 use Rattle.seat_steps.specs.declared.limits.Limits.{Limits}
 use Rattle.broker_model.specs.declared.journal.Entry.{Entry}
-use Rattle.seat_printer.specs.Printed.{Printing}
+use Rattle.seat_printer.specs.Printed.{Printing, MayPrint, blank}
 use Rattle.seat_printer.specs.Transcribed.{journal_text}
-use Rattle.session_play.specs.Playing.{Playing}
+use Rattle.session_play.specs.Playing.{Playing, IsWatched}
 use Rattle.plain_run.specs.declared.session_line.Stage.{Stage}
 use Rattle.plain_run.specs.Session.{unplayed, session_from, session_of_lines}
-use Rattle.plain_run.specs.Watching.{Gathers}
 
 -- a player that played nothing
 abbrev pub fresh : Limits → Playing
@@ -25,6 +24,10 @@ pub record PlayerStands (stage : Stage) (player : Playing) (before : ℕ) (done 
   pub goes_on : (cut : Bool) (more : List (List ℕ))
       → session_of_lines cut (done ++ more)
       ≡ session_from player.limits cut before stage player.play more
+
+-- a printer watched each entry that the journal has more than what was written
+abbrev pub Gathers : ℕ → List Entry → List Entry → Printing → Type 0
+Gathers store written journal printer = IsWatched MayPrint store written blank journal printer
 
 -- what a player played since its journal was this, the printer has gathered
 pub record PlayerHolds (player : Playing) (printer : Printing) (gathered : List ℕ) : Type 0 where

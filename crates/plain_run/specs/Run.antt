@@ -42,7 +42,8 @@ task_named word =
 -- `gen N`, where N is a decimal number below 2 ^ 64 without a zero in front
 abbrev pub gen_named : (word number : List ℕ) → Option Task
 gen_named word number =
-    if bytes_eq word (codes "gen") then option_map (λ n. tasks.Gen n) (long_number_of number) else None
+    if bytes_eq word (codes "gen") then option_map (λ n. tasks.Gen n) (long_number_of number)
+    else None
 
 -- `gen N text`
 abbrev pub gen_text_named : (word number last : List ℕ) → Option Task

@@ -1,5 +1,5 @@
 -- Several seats as far as they are played.
-use Rattle.std.specs.Prelude.{◌≡◌, ℕ, ◌≤◌, Bool, false, List, [], ◌++◌, length, Option, Some, None, string_bytes}
+use Rattle.std.specs.Prelude.{◌≡◌, ℕ, ◌≤◌, Bool, List, ◌++◌, length, Option, Some, None, string_bytes}
 use Rattle.seat_set.specs.Seats.{Seats}
 use Rattle.plain_run.specs.declared.seats.SeatsPlay.{SeatsPlay}
 use Rattle.plain_run.specs.Endings.{Answer, with_front}

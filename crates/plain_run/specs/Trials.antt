@@ -4,7 +4,7 @@ use Rattle.trial_script.specs.declared.script.Script.{Script}
 use Rattle.trial_script.specs.declared.script.Ending.{Ending}
 use Rattle.trial_script.specs.declared.script.Ending.TheVariants as endings
 use Rattle.trial_script.specs.Scripts.{script_of_lines}
-use Rattle.trial_run.specs.Trial.{Ended, over, bad_line, journal_full, Shown, shown_by, trial_limits, trial_played}
+use Rattle.trial_run.specs.Trial.{Ended, over, bad_line, journal_full, shown_by, trial_limits, trial_played}
 use Rattle.plain_run.specs.declared.last_line.LastLine.{LastLine}
 use Rattle.plain_run.specs.declared.last_line.LastLine.TheVariants as last
 use Rattle.plain_run.specs.Endings.{Answer, with_front, ending}

@@ -1,20 +1,19 @@
 //! A session explained, line by line: the line of each entry says what it was, and what came of it.
-ghost use Rattle.std.specs.Prelude.{◌≡◌, ◌<◌, ◌+◌, ◌^◌, ℕ, [], false, List, length, IfOk};
-ghost use Rattle.session_text.specs.Steps.{IsSessionLine};
+ghost use Rattle.std.specs.Prelude.{◌≡◌, ◌<◌, ◌+◌, ◌^◌, ℕ, [], List, length, IfOk};
 ghost use Rattle.seat_explainer.specs.declared.explainer.Lines.{Lines as Which};
 ghost use Rattle.plain_run.specs.Scripts.{Played};
 ghost use Rattle.plain_run.specs.Explain.{explain_of_lines};
-ghost use Rattle.plain_run.specs.ExplainScript.{ExplainerStands, ExplainerHolds, IsSeen, Explains};
+ghost use Rattle.plain_run.specs.ExplainScript.{ExplainerStands, ExplainerHolds};
 ghost use Rattle.plain_run.specs.ExplainScript.{ExplainHoldsBy};
 ghost use Rattle.seat_explainer.specs.Explained.{blank};
 
 use crate::last_line::LastLine;
 use crate::script::Script;
-use crate::session_line::{Meaning, Stage, judge, read_opening};
+use crate::session_line::{Stage, read_opening};
+use crate::watched_line::play_line;
 use seat_explainer::{Explainer, Lines};
-use seat_steps::Stamp;
-use session_play::{Player, Stop};
-use session_text::{Form, SessionLine};
+use session_play::Player;
+use session_text::Form;
 use std::alloc::Global;
 use wio_core::NoMemory;
 
@@ -55,47 +54,8 @@ impl Wanted for BadLines {
     }
 }
 
-// Plays one line before the explainer. Tells how the output ends where the journal was full for a
-// step of it.
-fn watch(
-    player: &mut Player,
-    line: &SessionLine,
-    stamp: Stamp,
-    explainer: &mut Explainer,
-) -> Result<Option<LastLine>, NoMemory>
-    requires valid { IsSessionLine line.now }
-    ensures { player.old.is_spent ≡ false
-        → IfOk result (IsSeen player.old player.new explainer.old explainer.new line.now) }
-{
-    match player.line_watched(line, stamp, explainer) {
-        Ok(()) => Ok(None),
-        Err(Stop::Full(kept)) => Ok(Some(LastLine::Full(kept.entries))),
-        Err(Stop::NoMemory) => Err(NoMemory),
-    }
-}
-
-// Plays one line, and explains what it makes.
-fn play(
-    player: &mut Player,
-    line: &SessionLine,
-    stamp: Stamp,
-    explainer: &mut Explainer,
-) -> Result<Option<LastLine>, NoMemory>
-    requires valid { IsSessionLine line.now }
-    ensures { (which : Which) (gathered : List ℕ) → player.old.is_spent ≡ false
-        → ExplainerHolds which player.old explainer.old gathered
-        → IfOk result (Explains which player.old player.new gathered explainer.new line.now) }
-{
-    let end = watch(player, line, stamp, explainer)?;
-    explainer.close(player.relay());
-    if explainer.is_short() {
-        return Err(NoMemory);
-    }
-    Ok(end)
-}
-
-// Plays any line after so many.
-fn play_line(
+// Plays the line after so many, and explains what it makes.
+fn explain_line(
     alloc: Global,
     stage: &mut Stage,
     player: &mut Player,
@@ -110,14 +70,12 @@ fn play_line(
         (ExplainerStands which stage.new player.new (before + 1))
         (ExplainerHolds which player.new explainer.new) done raw.now output gathered) }
 {
-    match judge(alloc, *stage, raw)? {
-        Meaning::Play(stamp, line) => {
-            *stage = stage.after(stamp);
-            play(player, &line, stamp, explainer)
-        }
-        Meaning::End => Ok(Some(LastLine::End(player.entries()))),
-        Meaning::Bad => Ok(Some(LastLine::Bad(before.saturating_add(1)))),
+    let end = play_line(alloc, stage, player, explainer, before, raw)?;
+    explainer.close(player.relay());
+    if explainer.is_short() {
+        return Err(NoMemory);
     }
+    Ok(end)
 }
 
 // How many peers joined; before the header none.
@@ -181,7 +139,7 @@ impl<W: Wanted> Script for ExplainPlay<W> {
         let before = self.before;
         self.before = before.saturating_add(1);
         match &mut self.player {
-            Some(player) => play_line(
+            Some(player) => explain_line(
                 self.alloc,
                 &mut self.stage,
                 player,

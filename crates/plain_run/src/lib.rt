@@ -20,6 +20,7 @@ mod session;
 mod session_line;
 mod status;
 mod trial;
+mod watched_line;
 mod whole;
 mod writing;
 

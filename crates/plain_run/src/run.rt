@@ -124,23 +124,23 @@ fn run_task<S: Source, K: Sink>(alloc: Global, task: Task, input: &mut S, output
 }
 
 /// Runs the command that the words name over an input and an output: `replay` reads a session, and
-/// `replay-acts` an act list of at most 100,000 acts, and each writes its transcript; `replay-seats`
-/// reads the lines of several seats, and writes what each would by itself, behind its number;
-/// `explain` writes a line for people of each entry of a session, and with `--bad-only` those of batches
-/// that reached nobody alone;
-/// `migrate` writes a session of form 1 as one of form 2; `audit` says whether what another broker
-/// sent is what it owed. These work line by line. `trial` reads the whole script of a trial, runs
-/// it, and writes what it shows. `gen N` and `gen N text` read nothing: they write the counts of the
-/// session of the number, and the session. At most 4,294,967,296 bytes are read, and 1,073,741,824
-/// of a session that is migrated. Always returns. What status comes when is the clauses' to say;
-/// `NoMemory` alone may come at any time.
+/// `replay-acts` an act list of at most 100,000 acts, and each writes its transcript;
+/// `replay-seats` reads the lines of several seats, and writes what each would by itself, behind
+/// its number; `explain` writes a line for people of each entry of a session, and with `--bad-only`
+/// those alone of batches that reached nobody; `migrate` writes a session of form 1 as one of form
+/// 2; `audit` says whether what another broker sent is what it owed. These work line by line.
+/// `trial` reads the whole script of a trial, runs it, and writes what it shows. `gen N` and
+/// `gen N text` read nothing: they write the counts of the session of the number, and the session.
+/// At most 4,294,967,296 bytes are read, and 1,073,741,824 of a session that is migrated. Always
+/// returns. What status comes when is the clauses' to say; `NoMemory` alone may come at any time.
 pub fn run_plain<S: Source, K: Sink>(
     alloc: Global,
     words: &[String],
     input: &mut S,
     output: &mut K,
 ) -> Status
-    // The words are in no grammar exactly where the answer says so, and then nothing is read or written.
+    // The words are in no grammar exactly where the answer says so, and then nothing is read or
+    // written.
     ensures bad_words { (result ≡ Status.BadWords) ↔
         (is_command (map string_bytes words.now) ≡ false) }
     ensures untouched { is_command (map string_bytes words.now) ≡ false → (input.new ≡ input.old) ×
@@ -159,7 +159,8 @@ pub fn run_plain<S: Source, K: Sink>(
         GrowsByFront (K.held output.old) (K.held output.new)
         (output_of (map string_bytes words.now) bytes)) }
 
-    // A status that lines decide is that of words and bytes, and then the whole output was written, also beside faults.
+    // A status that lines decide is that of words and bytes, and then the whole output was written,
+    // also beside faults.
     ensures decided { IsDecided result → IfSome (S.left input.old)
         (λ bytes. (status_of (map string_bytes words.now) bytes ≡ result) ×
         Appends (K.held output.old) (K.held output.new)

@@ -1,114 +1,15 @@
 //! A session, played line by line.
-ghost use Rattle.std.specs.Prelude.{◌≡◌, ◌<◌, ◌+◌, ◌^◌, ℕ, [], false, List, length, IfOk};
-ghost use Rattle.session_text.specs.Steps.{IsSessionLine};
-ghost use Rattle.session_text.specs.declared.line.SessionLine.TheVariants as lines;
-ghost use Rattle.plain_run.specs.Scripts.{Played};
-ghost use Rattle.plain_run.specs.Session.{session_of_lines};
-ghost use Rattle.plain_run.specs.PlayerScript.{PlayerStands, PlayerHolds};
-ghost use Rattle.plain_run.specs.Watching.{Went};
+ghost use Rattle.std.specs.Prelude.{[]};
 
 use crate::last_line::LastLine;
 use crate::script::Script;
-use crate::session_line::{Meaning, Stage, judge, judge_piece, read_opening};
+use crate::session_line::{Stage, read_opening};
+use crate::watched_line::play_line;
 use seat_printer::Printer;
-use seat_steps::Stamp;
-use session_play::{Player, Stop};
-use session_text::{Form, SessionLine};
+use session_play::Player;
+use session_text::Form;
 use std::alloc::Global;
 use wio_core::NoMemory;
-
-// As many bytes as most lines of a peer have at most.
-const FEW: usize = 64;
-
-// Plays one line, and prints what it tells. Tells how the output ends where the journal was full
-// for a step of it.
-fn play(
-    player: &mut Player,
-    line: &SessionLine,
-    stamp: Stamp,
-    printer: &mut Printer,
-) -> Result<Option<LastLine>, NoMemory>
-    requires valid { IsSessionLine line.now }
-    ensures { player.old.is_spent ≡ false
-        → IfOk result (Went player.old player.new printer.old printer.new line.now) }
-{
-    match player.line_watched(line, stamp, printer) {
-        Ok(()) => Ok(None),
-        Err(Stop::Full(kept)) => Ok(Some(LastLine::Full(kept.entries))),
-        Err(Stop::NoMemory) => Err(NoMemory),
-    }
-}
-
-// Plays the line of a peer's bytes, as `play` does.
-fn play_bytes(
-    player: &mut Player,
-    number: u32,
-    piece: &[u8],
-    stamp: Stamp,
-    printer: &mut Printer,
-) -> Result<Option<LastLine>, NoMemory>
-    ensures { player.old.is_spent ≡ false
-        → IfOk result (Went player.old player.new printer.old printer.new
-        (lines.Bytes number piece.now)) }
-{
-    match player.bytes_watched(number, piece, stamp, printer) {
-        Ok(()) => Ok(None),
-        Err(Stop::Full(full)) => Ok(Some(LastLine::Full(full.entries))),
-        Err(Stop::NoMemory) => Err(NoMemory),
-    }
-}
-
-// Plays any line after so many. Stands apart, so that the line of a few bytes makes no room for
-// others.
-#[inline(never)]
-fn play_any(
-    alloc: Global,
-    stage: &mut Stage,
-    player: &mut Player,
-    printer: &mut Printer,
-    before: u64,
-    raw: &[u8],
-) -> Result<Option<LastLine>, NoMemory>
-    ensures { (done : List (List ℕ)) (output gathered : List ℕ) → length done < 2 ^ 33
-        → PlayerStands stage.old player.old before done output
-        → PlayerHolds player.old printer.old gathered
-        → IfOk result (Played session_of_lines (PlayerStands stage.new player.new (before + 1))
-        (PlayerHolds player.new printer.new) done raw.now output gathered) }
-{
-    match judge(alloc, *stage, raw)? {
-        Meaning::Play(stamp, line) => {
-            *stage = stage.after(stamp);
-            play(player, &line, stamp, printer)
-        }
-        Meaning::End => Ok(Some(LastLine::End(player.entries()))),
-        Meaning::Bad => Ok(Some(LastLine::Bad(before.saturating_add(1)))),
-    }
-}
-
-// Plays the line after so many.
-fn play_line(
-    alloc: Global,
-    stage: &mut Stage,
-    player: &mut Player,
-    printer: &mut Printer,
-    before: u64,
-    raw: &[u8],
-) -> Result<Option<LastLine>, NoMemory>
-    ensures { (done : List (List ℕ)) (output gathered : List ℕ) → length done < 2 ^ 33
-        → PlayerStands stage.old player.old before done output
-        → PlayerHolds player.old printer.old gathered
-        → IfOk result (Played session_of_lines (PlayerStands stage.new player.new (before + 1))
-        (PlayerHolds player.new printer.new) done raw.now output gathered) }
-{
-    let mut piece = [0u8; FEW];
-    match judge_piece(*stage, raw, &mut piece) {
-        Some((stamp, number, length)) => {
-            *stage = stage.after(stamp);
-            play_bytes(player, number, &piece[..length], stamp, printer)
-        }
-        None => play_any(alloc, stage, player, printer, before, raw),
-    }
-}
 
 /// The lines so far, and the output that they came to. Before the header no player is there.
 #[derive(Drop)]

@@ -89,9 +89,10 @@ pub fn judge(alloc: Global, stage: Stage, raw: &[u8]) -> Result<Meaning, NoMemor
     }
 }
 
-/// What the line of a peer's few bytes is, where it is played: its stamp, the peer's number, and how
-/// many bytes it sent, which stand at the front of the buffer. Where it finds none, `judge` says
-/// what the line is.
+/// What the line of a peer's few bytes is, where it is played: its stamp, the peer's number, and
+/// how many bytes it sent, which stand at the front of the buffer. Where it finds none, `judge`
+/// says what the line is.
+#[inline(always)]
 #[tactic(auto, unfolding(crate::specs::Session::meaning_of))]
 pub fn judge_piece(stage: Stage, raw: &[u8], piece: &mut [u8]) -> Option<(Stamp, u32, usize)>
     requires few { length piece.old ≤ 4096 }

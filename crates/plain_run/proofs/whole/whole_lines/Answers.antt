@@ -1,4 +1,4 @@
-use Rattle.std.proofs.Common.{◌-◌, arith}
+use Rattle.std.proofs.Common.{arith}
 use Rattle.plain_run.proofs.ScriptLines.{cut_long, cut_short}
 use Rattle.plain_run.proofs.whole.whole_lines.Goals as goal
 

@@ -15,10 +15,10 @@ returns-in-Some g c = λ done output gathered few stood held.
     let h = subst (λ o. ExplainHoldsBy which o c.args.self.now.explainer gathered) c.in-Some.is held in
     let next : c.args.self.now.before + 1 ≡ c.saturating_add-self.result =
     omega (arith, few, s.count, c.saturating_add-self.ensures) in
-    subst (λ n. IfOk c.play_line.result
-    (Played (explain_of_lines which) (ExplainerStands which c.play_line.new.stage c.play_line.new.player n)
-    (ExplainerHolds which c.play_line.new.player c.play_line.new.explainer) done c.args.raw.now output gathered))
-    next (c.play_line.ensures which done output gathered few s h)
+    subst (λ n. IfOk c.explain_line.result
+    (Played (explain_of_lines which) (ExplainerStands which c.explain_line.new.stage c.explain_line.new.player n)
+    (ExplainerHolds which c.explain_line.new.player c.explain_line.new.explainer) done c.args.raw.now output gathered))
+    next (c.explain_line.ensures which done output gathered few s h)
 
 pub new-requires : goal.new-requires
 new-requires g c =

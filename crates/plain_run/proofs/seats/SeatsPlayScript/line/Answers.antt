@@ -1,4 +1,4 @@
-use Rattle.std.proofs.Common.{◌≡◌, ◌+◌, Option, Some, None, refl, sym, subst, ◌∙◌, arith}
+use Rattle.std.proofs.Common.{◌≡◌, ◌+◌, Option, Some, refl, sym, subst, ◌∙◌, arith}
 use Rattle.std.specs.Prelude.{IfSome}
 use Rattle.session_text.specs.declared.seat_line.SeatsHeader.{SeatsHeader}
 use Rattle.session_text.specs.SeatLines.{IsSeatsHeader}

@@ -5,7 +5,7 @@ use Rattle.plain_run.specs.Session.{session_of_lines}
 use Rattle.plain_run.specs.PlayerScript.{PlayerStands, PlayerHolds}
 use Rattle.plain_run.specs.SessionScript.{StandsBy, HoldsBy}
 use Rattle.plain_run.proofs.SessionLines.{set}
-use Rattle.plain_run.proofs.SessionsPlayed.{begun}
+use Rattle.plain_run.proofs.SessionsPlayed.{begun, line_told_if}
 use Rattle.plain_run.proofs.session.SessionPlayScript.line.Goals as goal
 
 pub returns-in-Some : goal.returns-in-Some
@@ -16,8 +16,12 @@ returns-in-Some c = λ done output gathered few stood held.
     omega (arith, few, s.count, c.saturating_add-self.ensures) in
     subst (λ n. IfOk c.play_line.result
     (Played session_of_lines (PlayerStands c.play_line.new.stage c.play_line.new.player n)
-    (PlayerHolds c.play_line.new.player c.play_line.new.printer) done c.args.raw.now output gathered))
-    next (c.play_line.ensures done output gathered few s h)
+    (PlayerHolds c.play_line.new.player c.play_line.new.watch) done c.args.raw.now output gathered))
+    next
+    (line_told_if c.args.self.now.stage c.play_line.new.stage _ c.play_line.new.player c.args.self.now.printer
+    c.play_line.new.watch c.args.self.now.before done c.args.raw.now output gathered c.play_line.result s h
+    c.play_line.ensures.stage (c.play_line.ensures.led s.unspent (omega (arith, few, s.count)))
+    c.play_line.ensures.watched)
 
 pub new-requires : goal.new-requires
 new-requires c =
