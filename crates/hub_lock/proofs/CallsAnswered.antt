@@ -1,11 +1,10 @@
 -- What the calls of the shared state tell, said of histories
-use Rattle.std.proofs.Common.{◌≡◌, ℕ, ◌+◌, ◌≤◌, ◌<◌, List, [], ◌∷◌, ◌++◌, length, map, min, take, drop, Bool, true, false, Option, Some, None, Result, Ok, Err, IfSome, IfNone, IfOk, OnOk, OnErr, IsOkUnless, IsOk, refl, ap, sym, subst, ◌∙◌, inl, inr, arith, length-append}
+use Rattle.std.proofs.Common.{◌≡◌, ℕ, ◌+◌, ◌≤◌, List, [], ◌∷◌, ◌++◌, length, map, min, take, drop, false, Option, Some, None, Result, Ok, Err, IfSome, IfNone, IfOk, OnOk, OnErr, IsOkUnless, refl, ap, sym, subst, ◌∙◌, arith, length-append}
 use Rattle.std.proofs.lemmas.List.{take-append-le, length-take-le, length-map}
 use Rattle.std.proofs.Math.Seq.{take-append_seam}
 use borrow.Rule.Slice.PartMut.{put_mid, post_of}
 use Rattle.relay_core.specs.Stands.{route_told}
 use Rattle.relay_model.specs.declared.role.Role.{Role}
-use Rattle.relay_model.specs.declared.act.EndCause.TheVariants.{Gone}
 use Rattle.seat_steps.specs.declared.step.Step.{Step}
 use Rattle.seat_steps.specs.declared.step.Step.TheVariants as steps
 use Rattle.seat_steps.specs.declared.step.PeerStep.{PeerStep}
@@ -15,6 +14,8 @@ use Rattle.broker_model.specs.declared.journal.Entry.TheVariants as entries
 use Rattle.broker_model.specs.Out.{Outgoing, act_at, stored, tokens_taken}
 use Rattle.broker_model.specs.Resolve.{past_of, resolve}
 use Rattle.broker_model.specs.Stamps.{follows}
+use Rattle.broker_model.specs.Recorded.{entry_at}
+use Rattle.broker_core.specs.declared.letting_go.LetGo.{LetGo}
 use Rattle.broker_core.specs.declared.answers.Applied.{Applied}
 use Rattle.broker_core.specs.declared.answers.JoinRefusal.{JoinRefusal}
 use Rattle.broker_core.specs.declared.answers.JoinRefusal.TheVariants as join_refusals
@@ -22,14 +23,12 @@ use Rattle.broker_core.specs.declared.answers.Refused.{Refused}
 use Rattle.broker_core.specs.declared.answers.Refused.TheVariants as refusals
 use Rattle.broker_core.specs.declared.answers.Took.{Took}
 use Rattle.broker_core.specs.declared.answers.Took.TheVariants as took
-use Rattle.broker_core.specs.Broker.{Broker, with_step, join_refusal, entry_of, refusal, IsSaid, IsAccepted, take_refusal, take_refusal_from, IfBytes, IfNoBytes, IsBytesUnlessMemory}
+use Rattle.broker_core.specs.Broker.{Broker, with_step, join_refusal, entry_of, refusal, IsAccepted, take_refusal, take_refusal_from, IfBytes, IfNoBytes, IsBytesUnlessMemory}
 use Rattle.broker_core.specs.Taking.{out_at, IsTaken}
-use Rattle.turn_lock.specs.Pairs.{IsGrown}
 use Rattle.hub_lock.specs.declared.step.OuterStep.{OuterStep}
-use Rattle.hub_lock.specs.declared.session.Session.{Session}
 use Rattle.hub_lock.specs.Histories.{History, stamp_by, broker_of, reader_of, writer_of, only, joining}
-use Rattle.hub_lock.specs.Lawful.{IsKept, IsMadeBy, history_of}
-use Rattle.hub_lock.specs.Plays.{IsLonger, IsOwn, Joins, Applies, Takes, IsTakenInto, IsSessionOf, Copies}
+use Rattle.hub_lock.specs.Lawful.{IsKept, IsMadeBy, history_of, with_all}
+use Rattle.hub_lock.specs.Plays.{IsLonger, IsOwn, Joins, Applies, Takes, IsTakenInto, IsHandedOut}
 use Rattle.hub_lock.proofs.KeptAfterStep.{IsStamped, IsNoJoin, history-plain, kept-plain, history-join, kept-join, reader-join}
 
 take-whole : (xs ys : List ℕ) (k : ℕ) → length xs ≡ k → take k (xs ++ ys) ≡ xs
@@ -50,7 +49,7 @@ same-history b readers b' readers' e = ap (λ (x : Broker). history_of x readers
 
 module _ (b : Broker) (readers : List ℕ) (n : ℕ) (kept : IsKept b readers) (stamped : IsStamped b) where
   -- what is said of the state is said of the history's broker
-  is-here : (P : Broker → Type 0) → P b → P (broker_of b.limits (history_of b readers))
+  is-here : (P : Broker → Type 0) → P (with_all b) → P (broker_of b.limits (history_of b readers))
   is-here P p = subst P (sym kept.is) p
 
   joined-ok : (role : Role) (r q : ℕ) (b' : Broker) (readers' : List ℕ) → IsAfterJoin b readers n role r b' readers'
@@ -63,7 +62,7 @@ module _ (b : Broker) (readers : List ℕ) (n : ℕ) (kept : IsKept b readers) (
       let after : Broker = with_step (entries.Join role) (stamp_by n) b in
       let now : history_of b' readers' ≡ history_of after all =
       ap (λ (x : Broker). history_of x readers') a.0 ∙ ap (history_of after) a.1 in
-      let is : broker_of b.limits (history_of b' readers') ≡ after =
+      let is : broker_of b.limits (history_of b' readers') ≡ with_all after =
       ap (broker_of b.limits) now ∙ (kept-join b readers n kept stamped role r).is in
       let count : q ≡ length (past_of after.journal).joined =
       number ∙ ap (λ (x : Broker). length (past_of x.journal).joined) a.0 in (
@@ -293,3 +292,21 @@ module _ (b : Broker) (readers : List ℕ) (n : ℕ) (kept : IsKept b readers) (
 pub longer-length : (n : ℕ) (s : OuterStep) (before after : History) → IsLonger n s before after →
     length after ≡ length before + 1
 longer-length n s before after e = let l = ap length e in let a = length-append before ((n, s) ∷ []) in omega arith
+
+-- what is handed out of the state is told of the history's broker
+
+pub handed-by : (b : Broker) (readers : List ℕ) (given : ℕ) (r : Option LetGo) → IsKept b readers
+    → IfSome r (λ it. it.number ≡ given + 1)
+    → IfSome r (λ it. entry_at b.journal it.number ≡ Some it.entry)
+    → IfSome r (λ it. entry_at b.stamps it.number ≡ Some it.stamp)
+    → IfNone r (length b.journal ≤ given)
+    → IsHandedOut (broker_of b.limits (history_of b readers)) given r
+handed-by b readers given r kept number entry stamp none =
+    subst (λ (x : Broker). IsHandedOut x given r) (sym kept.is) (by r number entry stamp none) where
+      by : (r : Option LetGo) → IfSome r (λ it. it.number ≡ given + 1)
+          → IfSome r (λ it. entry_at b.journal it.number ≡ Some it.entry)
+          → IfSome r (λ it. entry_at b.stamps it.number ≡ Some it.stamp)
+          → IfNone r (length b.journal ≤ given) → IsHandedOut (with_all b) given r
+      by None number entry stamp none = record { next = tt; none = none }
+      by (Some it) number entry stamp none =
+          record { next = record { number = number; entry = entry; stamp = stamp }; none = tt }

@@ -1,5 +1,5 @@
 -- What one more step makes of a history, and of the broker that it makes
-use Rattle.std.proofs.Common.{◌≡◌, ℕ, zero, suc, ◌+◌, ◌<◌, ◌≤◌, List, [], ◌∷◌, ◌++◌, length, map, reverse, Bool, true, false, Option, Some, None, refl, ap, sym, ◌∙◌, arith, length-append}
+use Rattle.std.proofs.Common.{◌≡◌, ℕ, zero, suc, ◌≤◌, List, [], ◌∷◌, ◌++◌, length, map, reverse, Bool, true, false, Option, Some, None, refl, ap, sym, ◌∙◌, arith, length-append}
 use Rattle.std.specs.Prelude.{if◌then◌else◌}
 use Rattle.std.proofs.lemmas.List.{map-append, reverse-append}
 use Rattle.seat_steps.specs.declared.limits.Limits.{Limits}
@@ -33,7 +33,7 @@ end_by : (q : ℕ) (b : Bool) → follows (entries.End q (if b then Bad else Ful
 end_by q true = refl
 end_by q false = refl
 
-end_follows : (journal : List Entry) (q : ℕ) → follows (entries.End q (cause_of journal q)) ≡ true
+pub end_follows : (journal : List Entry) (q : ℕ) → follows (entries.End q (cause_of journal q)) ≡ true
 end_follows journal q = end_by q (refused journal q)
 
 -- the stamps of a settled journal are those of the journal before, and of the ends

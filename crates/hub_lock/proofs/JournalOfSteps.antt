@@ -1,15 +1,14 @@
 -- The journal of a history: its outer steps, what they count and take, and that it grows
-use Rattle.std.proofs.Common.{◌≡◌, ℕ, zero, suc, ◌+◌, ◌*◌, ◌<◌, ◌≤◌, List, [], ◌∷◌, ◌++◌, length, map, reverse, cond, eqb, Bool, true, false, Option, Some, None, refl, ap, sym, subst, ◌∙◌, arith, append_assoc, length-append}
+use Rattle.std.proofs.Common.{◌≡◌, ℕ, zero, suc, ◌+◌, ◌*◌, ◌≤◌, List, [], ◌∷◌, ◌++◌, length, map, reverse, cond, eqb, Bool, true, false, Option, Some, None, refl, ap, sym, subst, ◌∙◌, arith, length-append}
 use Rattle.std.specs.List.{sum_by}
-use Rattle.std.proofs.lemmas.List.{map-append, reverse-append, length-reverse}
+use Rattle.std.proofs.lemmas.List.{map-append, reverse-append}
 use Rattle.std.proofs.lemmas.List.Sums.{sum_by-cons, sum_by-append}
-use Rattle.relay_model.specs.declared.act.EndCause.{EndCause}
 use Rattle.relay_model.specs.declared.act.EndCause.TheVariants.{Gone, Bad, Full}
 use Rattle.seat_steps.specs.declared.limits.Limits.{Limits}
 use Rattle.broker_model.specs.declared.journal.Entry.{Entry}
 use Rattle.broker_model.specs.declared.journal.Entry.TheVariants as entries
 use Rattle.broker_model.specs.Limits.{is_counted, number_counted}
-use Rattle.broker_model.specs.Settle.{due, cause_of, with_end, settled, settle, number_alive, history, step_of, outer}
+use Rattle.broker_model.specs.Settle.{due, cause_of, with_end, settled, number_alive, history, step_of, outer}
 use Rattle.broker_model.proofs.SettlingEnds.{outer_settled}
 use Rattle.broker_core.proofs.AliveAfterEntry.{counted_cons, same_settled}
 use Rattle.turn_lock.specs.Pairs.{own, total, IsDistinct}

@@ -1,20 +1,18 @@
 -- The value behind the lock keeps what it keeps, and its history is longer by the step
-use Rattle.std.proofs.Common.{◌≡◌, ℕ, zero, suc, ◌+◌, ◌<◌, ◌≤◌, List, [], ◌∷◌, ◌++◌, length, Bool, false, Option, Some, None, refl, ap, sym, subst, ◌∙◌, arith, append-nil, length-append}
+use Rattle.std.proofs.Common.{◌≡◌, ℕ, suc, ◌+◌, List, [], ◌∷◌, ◌++◌, length, false, Option, Some, refl, ap, sym, subst, ◌∙◌, arith, append-nil, length-append}
 use Rattle.std.specs.List.{slice_get}
 use Rattle.relay_model.specs.declared.role.Role.{Role}
 use Rattle.seat_steps.specs.declared.limits.Limits.{Limits}
-use Rattle.seat_steps.specs.declared.stamp.Stamp.{Stamp}
 use Rattle.seat_steps.specs.Ranges.{IsLimits}
 use Rattle.broker_model.specs.declared.journal.Entry.{Entry}
 use Rattle.broker_model.specs.declared.journal.Entry.TheVariants as entries
-use Rattle.broker_model.specs.Ids.{Joined}
 use Rattle.broker_model.specs.Resolve.{past_of}
 use Rattle.broker_model.specs.Stamps.{follows, stamps, step_stamps}
 use Rattle.broker_core.specs.Broker.{Broker, begun, with_step}
 use Rattle.broker_core.proofs.AliveAfterEntry.{same_settled}
 use Rattle.hub_lock.specs.declared.step.OuterStep.{OuterStep}
-use Rattle.hub_lock.specs.Histories.{History, stamp_by, broker_of, readers_of, numbered_in, reader_of, only, joining, step_after, steps_in}
-use Rattle.hub_lock.specs.Lawful.{IsShared, IsMadeBy, AreMadeBy, IsLawful, IsKept, history_of}
+use Rattle.hub_lock.specs.Histories.{History, stamp_by, broker_of, readers_of, numbered_in, reader_of, only, joining, step_after}
+use Rattle.hub_lock.specs.Lawful.{IsShared, IsMadeBy, AreMadeBy, IsLawful, IsKept, history_of, with_all}
 use Rattle.hub_lock.proofs.HistoriesGrow.{broker-more, history-more}
 use Rattle.hub_lock.proofs.ReadersStay.{readers-append, made-more, steps-same, get-end}
 
@@ -119,15 +117,39 @@ module _ (b : Broker) (readers : List ℕ) (n : ℕ) (kept : IsKept b readers) (
       ∙ ap (λ rs. numbered_in rs q) (readers-join role r)
       ∙ ap (numbered_in (readers ++ r ∷ [])) (e ∙ joined-join role) ∙ get-end readers r
 
--- nothing was let go
-pub none_let_go : (b : Broker) (readers : List ℕ) → IsKept b readers → b.kept_from ≡ 0
-none_let_go b readers kept = ap (λ (x : Broker). x.kept_from) (sym kept.is)
+-- a shared state is one with all its entries
+pub shared-all : (b : Broker) → IsShared b → IsShared (with_all b)
+shared-all b s = record {
+  history = s.history;
+  stamped = s.stamped;
+  each = s.each;
+  nobody_is_due = s.nobody_is_due;
+  few_peers = s.few_peers;
+  counted = s.counted;
+  light = s.light;
+  stores = s.stores;
+  few_objects = s.few_objects;
+  few_keys = s.few_keys;
+  ends = s.ends;
+  one_end = s.one_end;
+}
+
+-- what is kept stays so where entries are let go
+pub kept-gone : (b : Broker) (readers : List ℕ) (from : ℕ) → IsKept b readers
+    → IsKept (record b { kept_from = from }) readers
+kept-gone b readers from kept = record {
+  limited = kept.limited;
+  is = kept.is;
+  joined = kept.joined;
+  stand = kept.stand;
+  made_by = kept.made_by;
+}
 
 -- what is behind the lock is lawful
 pub lawful : (b : Broker) (readers : List ℕ) → IsKept b readers → IsShared b → IsLawful b.limits (history_of b readers)
 lawful b readers kept shared = record {
   limited = kept.limited;
-  shared = subst IsShared (sym kept.is) shared;
+  shared = subst IsShared (sym kept.is) (shared-all b shared);
   readers = ap length kept.stand ∙ kept.joined ∙ ap (λ (x : Broker). length (past_of x.journal).joined) (sym kept.is);
   made_by = kept.made_by;
 }

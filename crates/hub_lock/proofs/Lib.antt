@@ -13,5 +13,12 @@ pub mod PlaysKeepRule
 pub mod LegalCalls
 pub mod TakesCopied
 pub mod SessionTotals
+pub mod OldestStay
+pub mod PairsLeftOut
+pub mod TalliesStay
+pub mod EventsMarked
+pub mod NotesTaken
+pub mod ShownCalls
+pub mod EntriesHandedOut
 pub mod SharedCrosses
 pub mod HubCrosses

@@ -1,13 +1,12 @@
 -- What the root counts once it took a pass back
-use Rattle.std.proofs.Common.{◌≡◌, ℕ, ◌+◌, ◌<◌, ◌≤◌, List, [], ◌∷◌, ◌++◌, length, Bool, true, false, max, Option, Some, refl, ap, sym, subst, ◌∙◌, ◌⊎◌, inl, inr, ⊎_elim, arith}
+use Rattle.std.proofs.Common.{◌≡◌, ℕ, ◌+◌, ◌≤◌, ◌∷◌, length, Bool, true, false, max, Some, refl, ap, sym, subst, ◌∙◌, ◌⊎◌, inl, inr, ⊎_elim, arith}
 use Rattle.std.specs.Prelude.{nat_lt, if◌then◌else◌}
 use Rattle.seat_steps.specs.declared.limits.Limits.{Limits}
-use Rattle.turn_lock.specs.Pairs.{own, HasSeen, IsIn, longer, total}
-use Rattle.turn_lock.specs.Sights.{Sight, IsMeeting, IsTallied, met_with}
+use Rattle.turn_lock.specs.Pairs.{own, HasSeen, longer, total}
+use Rattle.turn_lock.specs.Sights.{IsMeeting, IsTallied, met_with}
 use Rattle.turn_lock.proofs.PairsOfNumbers.{own-seen}
 use Rattle.turn_lock.proofs.OwnPairsAfterCalls.{total-meeting}
-use Rattle.hub_lock.specs.declared.step.OuterStep.{OuterStep}
-use Rattle.hub_lock.specs.Histories.{History, broker_of, bytes_taken, total_taken}
+use Rattle.hub_lock.specs.Histories.{History, broker_of, bytes_taken}
 use Rattle.hub_lock.specs.Lawful.{IsLawful}
 use Rattle.hub_lock.specs.Passes.{PassSeat, journal_seen, steps_of, bytes_of, total_steps, total_bytes, HasSeenLawful}
 use Rattle.hub_lock.proofs.StepsCounted.{taken-same}

@@ -1,7 +1,7 @@
 -- No step of a pass that came back stands past what the root had seen
-use Rattle.std.proofs.Common.{◌≡◌, ◌≢◌, ℕ, List, [], ◌∷◌, ◌++◌, sym, ◌∙◌, subst, ◌⊎◌, ⊎_elim, append_assoc}
-use Rattle.turn_lock.specs.Pairs.{NoneOf, HasSeen, IsIn}
-use Rattle.turn_lock.specs.Sights.{IsLegal, IsTallied, having_seen}
+use Rattle.std.proofs.Common.{◌≡◌, ◌≢◌, ℕ, [], ◌∷◌, ◌++◌, sym, ◌∙◌, subst, ⊎_elim, append_assoc}
+use Rattle.turn_lock.specs.Pairs.{HasSeen, IsIn}
+use Rattle.turn_lock.specs.Sights.{IsLegal}
 use Rattle.turn_lock.proofs.PairsOfNumbers.{own-else, none-append}
 use Rattle.hub_lock.specs.declared.step.OuterStep.{OuterStep}
 use Rattle.hub_lock.specs.declared.call.Call.{Call}

@@ -1,14 +1,13 @@
 -- A play of a call keeps to the rule
-use Rattle.std.proofs.Common.{◌≡◌, ℕ, List, [], ◌∷◌, length, refl, ap, sym, subst, ◌∙◌}
+use Rattle.std.proofs.Common.{◌≡◌, ℕ, length, ap, sym, subst, ◌∙◌}
 use Rattle.seat_steps.specs.declared.limits.Limits.{Limits}
 use Rattle.broker_core.specs.Broker.{Broker, IsWatched}
 use Rattle.broker_core.specs.Watched.{watched_since}
 use Rattle.hub_lock.specs.declared.call.Answer.{Answer}
 use Rattle.hub_lock.specs.declared.call.Call.{Call}
-use Rattle.hub_lock.specs.declared.call.Reply.{Reply}
 use Rattle.hub_lock.specs.declared.rings.Rings.{Rings}
-use Rattle.hub_lock.specs.Histories.{History, broker_of}
-use Rattle.hub_lock.specs.Lawful.{Held, IsShared, IsLawful, IsKept, history_of}
+use Rattle.hub_lock.specs.Histories.{broker_of}
+use Rattle.hub_lock.specs.Lawful.{Held, IsShared, IsLawful, IsKept, history_of, with_all}
 use Rattle.hub_lock.specs.Bells.{AreRung, IsRungBy}
 use Rattle.hub_lock.specs.Plays.{MayAsk, Answers, Plays}
 use Rattle.hub_lock.proofs.BellsRung.{all-rung}
@@ -30,8 +29,8 @@ pub plays-by : (h h' : Held) (call call' : Call) (answer : Answer) (rings rings'
     (record { answer = answer; rings = rings'.bits; entries = entries })
 plays-by h h' call call' answer rings rings' entries s s' l answers number none watched =
     let limits : Limits = h.broker.limits in
-    let before : broker_of limits (history_of h.broker h.readers) ≡ h.broker = s.kept.is in
-    let after : broker_of limits (history_of h'.broker h'.readers) ≡ h'.broker =
+    let before : broker_of limits (history_of h.broker h.readers) ≡ with_all h.broker = s.kept.is in
+    let after : broker_of limits (history_of h'.broker h'.readers) ≡ with_all h'.broker =
     ap (λ (x : Limits). broker_of x (history_of h'.broker h'.readers)) (sym l) ∙ s'.kept.is in
     let rung : AreRung rings'.bits (watched_since limits.store (length h.broker.journal) h'.broker.journal) =
     all-rung rings (watched_since limits.store (length h.broker.journal) h'.broker.journal) rings' none watched in

@@ -1,5 +1,5 @@
 -- How many steps a call makes, and how many bytes it takes, as its answer says
-use Rattle.std.proofs.Common.{◌≡◌, ◌≢◌, ℕ, zero, suc, ◌+◌, ◌<◌, ◌≤◌, List, [], ◌∷◌, ◌++◌, length, cond, eqb, Bool, true, false, Option, Some, None, Result, Ok, Err, refl, ap, sym, subst, ◌∙◌, inl, inr, arith, append-nil, length-append}
+use Rattle.std.proofs.Common.{◌≡◌, ℕ, suc, ◌+◌, ◌≤◌, List, [], ◌∷◌, ◌++◌, length, cond, eqb, Bool, true, false, Option, Some, None, Ok, Err, refl, ap, ◌∙◌, inl, inr, arith, append-nil, length-append}
 use Rattle.std.specs.Prelude.{option_map}
 use Rattle.std.proofs.lemmas.List.Sums.{sum_by-cons, sum_by-append}
 use Rattle.seat_steps.specs.declared.limits.Limits.{Limits}
@@ -10,18 +10,16 @@ use Rattle.seat_steps.specs.declared.step.PeerStep.TheVariants as peers
 use Rattle.broker_model.specs.declared.journal.Entry.TheVariants as entries
 use Rattle.broker_core.specs.declared.answers.Took.TheVariants as took
 use Rattle.broker_core.specs.Broker.{entry_of}
-use Rattle.turn_lock.specs.Pairs.{own, NoneOf, IsIn, IsDistinct, total}
-use Rattle.turn_lock.specs.Sights.{Sight, IsLegal}
+use Rattle.turn_lock.specs.Pairs.{own, NoneOf, IsIn}
 use Rattle.turn_lock.specs.Rule.{bit}
 use Rattle.turn_lock.proofs.PairsOfNumbers.{own-append, own-here}
-use Rattle.turn_lock.proofs.OwnPairsAfterCalls.{own-taken}
 use Rattle.hub_lock.specs.declared.step.OuterStep.{OuterStep}
 use Rattle.hub_lock.specs.declared.call.Ask.{Ask}
 use Rattle.hub_lock.specs.declared.call.Ask.TheVariants as asks
 use Rattle.hub_lock.specs.declared.call.Taking.{Taking}
 use Rattle.hub_lock.specs.declared.call.Answer.{Answer}
 use Rattle.hub_lock.specs.declared.call.Answer.TheVariants as answers
-use Rattle.hub_lock.specs.Histories.{History, bytes_by, bytes_taken, total_taken, writer_of, reader_of, only, joining}
+use Rattle.hub_lock.specs.Histories.{History, bytes_by, bytes_taken, total_taken, reader_of, only, joining}
 use Rattle.hub_lock.specs.Plays.{IsLonger, IsOwn, MayAsk, Answers, is_made, bytes_made}
 
 -- the history is longer by one step of the pass that takes so many bytes, or it is the same and nothing was taken
@@ -53,9 +51,13 @@ made-take limits before n t after (asks.Take u) (answers.Took took.NoMemory) p =
 made-take limits before n t after (asks.Take u) (answers.Joined r) p = absurd p
 made-take limits before n t after (asks.Take u) (answers.Applied r) p = absurd p
 made-take limits before n t after (asks.Take u) (answers.Copied r) p = absurd p
+made-take limits before n t after (asks.Take u) (answers.HandedOut r) p = absurd p
+made-take limits before n t after (asks.Take u) (answers.Named r) p = absurd p
 made-take limits before n t after (asks.Join role reader) a p = absurd p
 made-take limits before n t after (asks.Apply step) a p = absurd p
 made-take limits before n t after asks.Copy a p = absurd p
+made-take limits before n t after asks.HandOut a p = absurd p
+made-take limits before n t after (asks.Name m) a p = absurd p
 
 pub made : (limits : Limits) (before : History) (n : ℕ) (ask : Ask) (after : History) (ask' : Ask) (a : Answer) →
     MayAsk before n ask
@@ -66,17 +68,35 @@ made limits before n (asks.Join role reader) after ask' (answers.Joined (Err why
 made limits before n (asks.Join role reader) after ask' (answers.Applied r) may p = absurd p
 made limits before n (asks.Join role reader) after ask' (answers.Took r) may p = absurd p
 made limits before n (asks.Join role reader) after ask' (answers.Copied r) may p = absurd p
+made limits before n (asks.Join role reader) after ask' (answers.HandedOut r) may p = absurd p
+made limits before n (asks.Join role reader) after ask' (answers.Named r) may p = absurd p
 made limits before n (asks.Apply step) after ask' (answers.Joined r) may p = absurd p
 made limits before n (asks.Apply step) after ask' (answers.Applied (Ok x)) may p =
     (only (entry_of step), p.applied, takes-none before n step may)
 made limits before n (asks.Apply step) after ask' (answers.Applied (Err why)) may p = (p.same, refl)
 made limits before n (asks.Apply step) after ask' (answers.Took r) may p = absurd p
 made limits before n (asks.Apply step) after ask' (answers.Copied r) may p = absurd p
+made limits before n (asks.Apply step) after ask' (answers.HandedOut r) may p = absurd p
+made limits before n (asks.Apply step) after ask' (answers.Named r) may p = absurd p
 made limits before n (asks.Take t) after ask' a may p = made-take limits before n t after ask' a p
 made limits before n asks.Copy after ask' (answers.Joined r) may p = absurd p
 made limits before n asks.Copy after ask' (answers.Applied r) may p = absurd p
 made limits before n asks.Copy after ask' (answers.Took r) may p = absurd p
 made limits before n asks.Copy after ask' (answers.Copied r) may p = (p.same, refl)
+made limits before n asks.Copy after ask' (answers.HandedOut r) may p = absurd p
+made limits before n asks.Copy after ask' (answers.Named r) may p = absurd p
+made limits before n asks.HandOut after ask' (answers.Joined r) may p = absurd p
+made limits before n (asks.Name m) after ask' (answers.Joined r) may p = absurd p
+made limits before n asks.HandOut after ask' (answers.Applied r) may p = absurd p
+made limits before n (asks.Name m) after ask' (answers.Applied r) may p = absurd p
+made limits before n asks.HandOut after ask' (answers.Took r) may p = absurd p
+made limits before n (asks.Name m) after ask' (answers.Took r) may p = absurd p
+made limits before n asks.HandOut after ask' (answers.Copied r) may p = absurd p
+made limits before n (asks.Name m) after ask' (answers.Copied r) may p = absurd p
+made limits before n asks.HandOut after ask' (answers.HandedOut r) may p = (p, refl)
+made limits before n asks.HandOut after ask' (answers.Named r) may p = absurd p
+made limits before n (asks.Name m) after ask' (answers.Named r) may p = (p, refl)
+made limits before n (asks.Name m) after ask' (answers.HandedOut r) may p = absurd p
 
 -- the pass's own steps are one more, or as many as before
 
@@ -139,6 +159,8 @@ root-takes-none h (asks.Join role reader) may = tt
 root-takes-none h (asks.Apply step) may = tt
 root-takes-none h (asks.Take t) may = no-writer (reader_of h t.peer) may
 root-takes-none h asks.Copy may = tt
+root-takes-none h asks.HandOut may = tt
+root-takes-none h (asks.Name m) may = tt
 
 pub no-bytes : (limits : Limits) (before : History) (n : ℕ) (ask : Ask) (after : History) (ask' : Ask) (a : Answer) →
     NoTake ask
@@ -147,15 +169,33 @@ no-bytes limits before n (asks.Join role reader) after ask' (answers.Joined r) p
 no-bytes limits before n (asks.Join role reader) after ask' (answers.Applied r) plain p = absurd p
 no-bytes limits before n (asks.Join role reader) after ask' (answers.Took r) plain p = absurd p
 no-bytes limits before n (asks.Join role reader) after ask' (answers.Copied r) plain p = absurd p
+no-bytes limits before n (asks.Join role reader) after ask' (answers.HandedOut r) plain p = absurd p
+no-bytes limits before n (asks.Join role reader) after ask' (answers.Named r) plain p = absurd p
 no-bytes limits before n (asks.Apply step) after ask' (answers.Joined r) plain p = absurd p
 no-bytes limits before n (asks.Apply step) after ask' (answers.Applied r) plain p = refl
 no-bytes limits before n (asks.Apply step) after ask' (answers.Took r) plain p = absurd p
 no-bytes limits before n (asks.Apply step) after ask' (answers.Copied r) plain p = absurd p
+no-bytes limits before n (asks.Apply step) after ask' (answers.HandedOut r) plain p = absurd p
+no-bytes limits before n (asks.Apply step) after ask' (answers.Named r) plain p = absurd p
 no-bytes limits before n (asks.Take t) after ask' a plain p = absurd plain
 no-bytes limits before n asks.Copy after ask' (answers.Joined r) plain p = absurd p
 no-bytes limits before n asks.Copy after ask' (answers.Applied r) plain p = absurd p
 no-bytes limits before n asks.Copy after ask' (answers.Took r) plain p = absurd p
 no-bytes limits before n asks.Copy after ask' (answers.Copied r) plain p = refl
+no-bytes limits before n asks.Copy after ask' (answers.HandedOut r) plain p = absurd p
+no-bytes limits before n asks.Copy after ask' (answers.Named r) plain p = absurd p
+no-bytes limits before n asks.HandOut after ask' (answers.Joined r) plain p = absurd p
+no-bytes limits before n (asks.Name m) after ask' (answers.Joined r) plain p = absurd p
+no-bytes limits before n asks.HandOut after ask' (answers.Applied r) plain p = absurd p
+no-bytes limits before n (asks.Name m) after ask' (answers.Applied r) plain p = absurd p
+no-bytes limits before n asks.HandOut after ask' (answers.Took r) plain p = absurd p
+no-bytes limits before n (asks.Name m) after ask' (answers.Took r) plain p = absurd p
+no-bytes limits before n asks.HandOut after ask' (answers.Copied r) plain p = absurd p
+no-bytes limits before n (asks.Name m) after ask' (answers.Copied r) plain p = absurd p
+no-bytes limits before n asks.HandOut after ask' (answers.HandedOut r) plain p = refl
+no-bytes limits before n asks.HandOut after ask' (answers.Named r) plain p = absurd p
+no-bytes limits before n (asks.Name m) after ask' (answers.Named r) plain p = refl
+no-bytes limits before n (asks.Name m) after ask' (answers.HandedOut r) plain p = absurd p
 
 -- the totals of numbers whose own steps stay
 

@@ -1,5 +1,5 @@
 -- A take into the room of a call, copied into the buffers of the caller
-use Rattle.std.proofs.Common.{◌≡◌, ℕ, ◌+◌, ◌≤◌, List, [], ◌∷◌, ◌++◌, length, take, drop, Option, Some, None, IfSome, IfNone, refl, ap, sym, subst, ◌∙◌}
+use Rattle.std.proofs.Common.{◌≡◌, ℕ, List, ◌∷◌, ◌++◌, length, take, drop, Option, Some, None, IfSome, refl, ap, subst, ◌∙◌}
 use Rattle.seat_steps.specs.declared.limits.Limits.{Limits}
 use Rattle.broker_model.specs.declared.journal.Entry.{Entry}
 use Rattle.broker_model.specs.declared.journal.Entry.TheVariants as entries
@@ -76,6 +76,8 @@ room-of limits before n t after (asks.Take u) r p = (u, refl, p)
 room-of limits before n t after (asks.Join role reader) r p = absurd p
 room-of limits before n t after (asks.Apply step) r p = absurd p
 room-of limits before n t after asks.Copy r p = absurd p
+room-of limits before n t after asks.HandOut r p = absurd p
+room-of limits before n t after (asks.Name m) r p = absurd p
 
 -- what is said of a take with bytes, and of one without
 

@@ -1,18 +1,17 @@
 -- What a turn tells of a pass: that its call is legal, and what it counts then
-use Rattle.std.proofs.Common.{◌≡◌, ◌≢◌, ℕ, ◌+◌, ◌<◌, ◌≤◌, List, [], ◌∷◌, ◌++◌, length, Option, Some, refl, ap, sym, subst, ◌∙◌, inl, inr, arith}
+use Rattle.std.proofs.Common.{◌≡◌, ℕ, ◌+◌, ◌++◌, length, Option, Some, ap, sym, subst, ◌∙◌, arith}
 use Rattle.seat_steps.specs.declared.limits.Limits.{Limits}
 use Rattle.seat_steps.specs.declared.step.Step.{Step}
 use Rattle.seat_steps.specs.declared.step.Step.TheVariants as steps
-use Rattle.turn_lock.specs.Pairs.{own, IsIn, total}
-use Rattle.turn_lock.specs.Sights.{Sight, IsLegal, IsTallied, having_seen}
+use Rattle.turn_lock.specs.Pairs.{own, IsIn}
+use Rattle.turn_lock.specs.Sights.{IsLegal, IsTallied, having_seen}
 use Rattle.turn_lock.specs.Rule.{bit}
 use Rattle.turn_lock.proofs.OwnPairsAfterCalls.{own-taken, total-taken}
-use Rattle.hub_lock.specs.declared.step.OuterStep.{OuterStep}
 use Rattle.hub_lock.specs.declared.call.Ask.{Ask}
 use Rattle.hub_lock.specs.declared.call.Ask.TheVariants as asks
 use Rattle.hub_lock.specs.declared.call.Call.{Call}
 use Rattle.hub_lock.specs.declared.call.Reply.{Reply}
-use Rattle.hub_lock.specs.Histories.{History, broker_of, bytes_taken, total_taken}
+use Rattle.hub_lock.specs.Histories.{History, broker_of, bytes_taken}
 use Rattle.hub_lock.specs.Lawful.{IsLawful}
 use Rattle.hub_lock.specs.Plays.{IsOwn, MayAsk, Answers, Plays, is_made, bytes_made}
 use Rattle.hub_lock.specs.Passes.{PassSeat, journal_seen, journal_with, steps_of, bytes_of, total_steps, total_bytes, HasSeenLawful}
@@ -31,6 +30,8 @@ may-stays h more n (asks.Join role reader) may = may
 may-stays h more n (asks.Apply step) may = own-stays h more n step may
 may-stays h more n (asks.Take t) may = writer-stays h more t.peer n may
 may-stays h more n asks.Copy may = may
+may-stays h more n (asks.Name m) may = may
+may-stays h more n asks.HandOut may = may
 
 -- what was seen is lawful, and how many entries its journal has
 

@@ -1,5 +1,5 @@
 -- What the calls of a hub tell
-use Rattle.std.specs.Prelude.{◌≡◌, ◌⊎◌, ℕ, List, [], ◌∷◌, ◌++◌, length, Option, Some, None, Result, Ok, IfSome, IfNone}
+use Rattle.std.specs.Prelude.{◌≡◌, ◌⊎◌, ℕ, List, ◌∷◌, ◌++◌, Option, Some, None, Result, Ok, IfSome, IfNone}
 use Rattle.relay_model.specs.declared.role.Role.{Role}
 use Rattle.seat_steps.specs.declared.limits.Limits.{Limits}
 use Rattle.seat_steps.specs.declared.step.Step.{Step}
@@ -14,8 +14,8 @@ use Rattle.broker_core.specs.Broker.{take_refusal, IfBytes, IfNoBytes, IsBytesUn
 use Rattle.broker_core.specs.Taking.{out_at, IsTaken}
 use Rattle.turn_lock.specs.Pairs.{NoneOf, IsGrown}
 use Rattle.turn_lock.specs.Sights.{after_split, split_off, having_seen}
-use Rattle.wio_core.specs.declared.NoMemory.{NoMemory}
 use Rattle.hub_lock.specs.declared.session.Session.{Session}
+use Rattle.hub_lock.specs.declared.session.NoSession.{NoSession}
 use Rattle.hub_lock.specs.declared.call.Ask.{Ask}
 use Rattle.hub_lock.specs.declared.call.Answer.{Answer}
 use Rattle.hub_lock.specs.Histories.{History, broker_of, only}
@@ -50,7 +50,7 @@ abbrev pub LegalJoin : Limits → PassSeat → History → Role → Result ℕ J
 LegalJoin limits seat after role r =
     Legal limits seat after (λ before. Joins limits before 0 role seat.next after r)
 
-abbrev pub LegalCopy : Limits → PassSeat → History → Result Session NoMemory → Type 0
+abbrev pub LegalCopy : Limits → PassSeat → History → Result Session NoSession → Type 0
 LegalCopy limits seat after r = Legal limits seat after (λ before. Copies limits before after r)
 
 -- the pass, having seen this

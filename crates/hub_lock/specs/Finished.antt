@@ -8,3 +8,4 @@ abbrev pub seat_of : Pass → PassSeat
 seat_of (passes.Reader p) = p.seat
 seat_of (passes.Writer p) = p.seat
 seat_of (passes.Shell s) = s
+seat_of (passes.Recorder p) = p.seat

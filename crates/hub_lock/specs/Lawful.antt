@@ -16,7 +16,6 @@ use Rattle.broker_model.specs.Stamps.{stamps, step_stamps}
 use Rattle.broker_model.specs.Limits.{number_counted, weight}
 use Rattle.broker_core.specs.Broker.{Broker}
 use Rattle.broker_core.specs.Ends.{is_end_of}
-use Rattle.hub_lock.specs.declared.step.OuterStep.{OuterStep}
 use Rattle.hub_lock.specs.Histories.{History, broker_of, readers_of, reader_of, writer_of, steps_in}
 
 -- What a shared state promises between calls: its journal is the history of its outer steps, with
@@ -70,15 +69,21 @@ pub record IsLawful (limits : Limits) (h : History) : Type 0 where
 abbrev pub history_of : Broker → (readers : List ℕ) → History
 history_of b readers = steps_in readers b.journal b.stamps
 
--- the value behind the lock: the shared state, and the readers of those that joined, in order
+-- the value behind the lock: the shared state, the readers of those that joined, in order, and who
+-- records
 pub record Held : Type 0 where
   pub broker : Broker
   pub readers : List ℕ
+  pub recorder : Option ℕ
+
+-- the broker, as if none of its entries was let go
+abbrev pub with_all : Broker → Broker
+with_all b = record b { kept_from = 0 }
 
 -- what it keeps
 pub record IsKept (b : Broker) (readers : List ℕ) : Type 0 where
   pub limited : IsLimits b.limits
-  pub is : broker_of b.limits (history_of b readers) ≡ b
+  pub is : broker_of b.limits (history_of b readers) ≡ with_all b
   pub joined : length readers ≡ length (past_of b.journal).joined
   pub stand : readers_of (history_of b readers) ≡ readers
   pub made_by : AreMadeBy (history_of b readers) (history_of b readers)

@@ -3,5 +3,9 @@ pub mod Lawful
 pub mod Bells
 pub mod Plays
 pub mod Passes
+pub mod Shown
+pub mod Events
+pub mod Noted
 pub mod Calls
 pub mod Finished
+pub mod Recording

@@ -3,6 +3,7 @@ use Rattle.std.specs.Prelude.{◌≡◌, ℕ, List, [], ◌∷◌, length, Optio
 use Rattle.atomic_table.specs.Seated.{TableId}
 use Rattle.seat_steps.specs.declared.limits.Limits.{Limits}
 use Rattle.broker_model.specs.declared.journal.Entry.{Entry}
+use Rattle.broker_core.specs.declared.letting_go.LetGo.{LetGo}
 use Rattle.turn_lock.specs.Pairs.{own, total}
 use Rattle.turn_lock.specs.Sights.{Sight}
 use Rattle.hub_lock.specs.declared.step.OuterStep.{OuterStep}
@@ -28,6 +29,11 @@ IsOf hub s = (s.turn ≡ hub.turn) × (s.constant ≡ Some hub.limits)
 pub record PeerPass : Type 0 where
   pub seat : PassSeat
   pub peer : ℕ
+
+-- a recorder's pass, with what was handed out to it, the newest first
+pub record Recorder : Type 0 where
+  pub seat : PassSeat
+  pub handed : List LetGo
 
 -- the journal of the history that was seen, where the limits are those
 abbrev pub journal_with : Option Limits → History → List Entry

@@ -1,5 +1,5 @@
 -- What a call plays at a history, and what it answers there
-use Rattle.std.specs.Prelude.{◌≡◌, ℕ, ◌+◌, ◌≤◌, List, [], ◌∷◌, ◌++◌, length, map, min, take, Bool, true, false, Option, Some, None, Result, Ok, Err, IfSome, IfNone, IfOk, OnOk, OnErr, IsOkUnless}
+use Rattle.std.specs.Prelude.{◌≡◌, ℕ, ◌+◌, ◌≤◌, List, [], ◌∷◌, ◌++◌, length, map, min, take, Bool, true, false, Option, Some, Result, Err, IfSome, IfNone, IfOk, OnOk, OnErr, IsOkUnless}
 use Rattle.std.specs.Result.{is_ok}
 use Rattle.relay_core.specs.Stands.{route_told}
 use Rattle.relay_model.specs.declared.role.Role.{Role}
@@ -8,6 +8,7 @@ use Rattle.seat_steps.specs.declared.step.Step.{Step}
 use Rattle.seat_steps.specs.declared.step.Step.TheVariants as steps
 use Rattle.broker_model.specs.declared.journal.Entry.TheVariants as entries
 use Rattle.broker_model.specs.Out.{Outgoing, act_at, stored, tokens_taken}
+use Rattle.broker_model.specs.Recorded.{entry_at}
 use Rattle.broker_model.specs.Resolve.{past_of, resolve}
 use Rattle.broker_core.specs.declared.answers.Applied.{Applied}
 use Rattle.broker_core.specs.declared.answers.JoinRefusal.{JoinRefusal}
@@ -16,12 +17,13 @@ use Rattle.broker_core.specs.declared.answers.Refused.{Refused}
 use Rattle.broker_core.specs.declared.answers.Refused.TheVariants as refusals
 use Rattle.broker_core.specs.declared.answers.Took.{Took}
 use Rattle.broker_core.specs.declared.answers.Took.TheVariants as took
+use Rattle.broker_core.specs.declared.letting_go.LetGo.{LetGo}
 use Rattle.broker_core.specs.Broker.{Broker, join_refusal, entry_of, refusal, IsAccepted, take_refusal, IfBytes, IfNoBytes, IsBytesUnlessMemory}
 use Rattle.broker_core.specs.Taking.{out_at}
 use Rattle.broker_core.specs.Watched.{watched_since}
-use Rattle.wio_core.specs.declared.NoMemory.{NoMemory}
 use Rattle.hub_lock.specs.declared.step.OuterStep.{OuterStep}
 use Rattle.hub_lock.specs.declared.session.Session.{Session}
+use Rattle.hub_lock.specs.declared.session.NoSession.{NoSession}
 use Rattle.hub_lock.specs.declared.call.Ask.{Ask}
 use Rattle.hub_lock.specs.declared.call.Ask.TheVariants as asks
 use Rattle.hub_lock.specs.declared.call.Answer.{Answer}
@@ -96,9 +98,20 @@ pub record IsSessionOf (b : Broker) (s : Session) : Type 0 where
 
 -- a copy of it all
 pub record Copies (limits : Limits) (before after : History)
-    (r : Result Session NoMemory) : Type 0 where
+    (r : Result Session NoSession) : Type 0 where
   pub copied : IfOk r (λ s. IsSessionOf (broker_of limits before) s)
   pub same : after ≡ before
+
+-- the entry after so many, with its number and its stamp
+pub record IsNext (b : Broker) (given : ℕ) (it : LetGo) : Type 0 where
+  pub number : it.number ≡ given + 1
+  pub entry : entry_at b.journal it.number ≡ Some it.entry
+  pub stamp : entry_at b.stamps it.number ≡ Some it.stamp
+
+-- it is handed out after so many, or there are no more
+pub record IsHandedOut (b : Broker) (given : ℕ) (r : Option LetGo) : Type 0 where
+  pub next : IfSome r (IsNext b given)
+  pub none : IfNone r (length b.journal ≤ given)
 
 -- the pass with the number n may ask it: a step of the shell, or of the peer whose reader it is; a
 -- take for the peer whose writer it is
@@ -116,6 +129,8 @@ Answers limits before n (asks.Apply step) after ask (answers.Applied r) =
 Answers limits before n (asks.Take t) after (asks.Take u) (answers.Took r) =
     Takes limits before n t.peer t.most u.bytes u.tokens after r
 Answers limits before n asks.Copy after ask (answers.Copied r) = Copies limits before after r
+Answers limits before n (asks.Name m) after ask (answers.Named r) = after ≡ before
+Answers limits before n asks.HandOut after ask (answers.HandedOut r) = after ≡ before
 Answers limits before n _ after _ _ = ⊥
 
 -- a play of a call: what is behind the lock is lawful before and after

@@ -1,10 +1,10 @@
 //! What is asked of the value behind the lock, and what it answers. A call borrows nothing.
-use crate::session::Session;
-use broker_core::{Applied, JoinRefusal, Refused, Took};
+use crate::event::Note;
+use crate::session::{NoSession, Session};
+use broker_core::{Applied, JoinRefusal, LetGo, Refused, Took};
 use relay_model::Role;
 use seat_steps::Step;
 use std::marker::Model;
-use wio_core::NoMemory;
 
 /// A step of a peer or of the shell.
 #[derive(Drop)]
@@ -96,6 +96,10 @@ pub enum Ask {
     Take(Taking),
     /// A copy of it all.
     Copy,
+    /// The pass with this number is to record.
+    Name(u64),
+    /// The next entry for who records.
+    HandOut,
 }
 
 /// What is asked, and the number of the pass that asks.
@@ -111,7 +115,11 @@ pub enum Answer {
     Joined(Result<u32, JoinRefusal>),
     Applied(Result<Applied, Refused>),
     Took(Took),
-    Copied(Result<Session, NoMemory>),
+    Copied(Result<Session, NoSession>),
+    /// The pass that records from now on; none where one does, or the root didn't ask.
+    Named(Option<u64>),
+    /// The next entry, which the journal let go; none where there are no more, or another pass asks.
+    HandedOut(Option<LetGo>),
 }
 
 /// The answer, the bells to ring, and how many entries the journal then has.
@@ -125,6 +133,7 @@ pub struct Reply {
 impl Answer {
     ghost use Rattle.std.specs.Prelude.{◌≡◌};
     ghost use Rattle.hub_lock.specs.Plays.{is_made};
+    ghost use Rattle.hub_lock.specs.Noted.{note_of};
 
     /// Whether it says that a step was made.
     pub fn is_made(&self) -> bool
@@ -134,7 +143,18 @@ impl Answer {
             Answer::Joined(joined) => joined.is_ok(),
             Answer::Applied(applied) => applied.is_ok(),
             Answer::Took(Took::Bytes(_, _)) => true,
-            Answer::Took(_) | Answer::Copied(_) => false,
+            Answer::Took(_) | Answer::Copied(_) | Answer::Named(_) | Answer::HandedOut(_) => false,
+        }
+    }
+
+    /// What it notes of who records.
+    pub fn note(&self) -> Option<Note>
+        ensures { result ≡ note_of self.now }
+    {
+        match self {
+            Answer::Named(Some(number)) => Some(Note::Names(*number)),
+            Answer::HandedOut(Some(_)) => Some(Note::HandsOut),
+            _ => None,
         }
     }
 }

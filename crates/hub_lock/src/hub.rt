@@ -4,13 +4,15 @@ ghost use Rattle.seat_steps.specs.Ranges.{IsLimits};
 ghost use Rattle.turn_lock.specs.Pairs.{IsIn, HasSeen};
 ghost use Rattle.turn_lock.specs.Sights.{fresh_seat, having_seen, IsLegal, IsTallied};
 ghost use Rattle.hub_lock.specs.Passes.{IsOf, bytes_of};
-ghost use Rattle.hub_lock.specs.Plays.{Plays, MayAsk, bytes_made};
+ghost use Rattle.hub_lock.specs.Plays.{MayAsk, bytes_made};
+ghost use Rattle.hub_lock.specs.Events.{pass_seat};
+ghost use Rattle.hub_lock.specs.Noted.{PlaysEvents};
 ghost use Rattle.hub_lock.specs.Calls.{LegalAsk};
 
-use crate::bell::Bells;
+use crate::bell::{Bells, RecordBell};
 use crate::call::{Answer, Call, Reply};
+use crate::noted_state::NotedState;
 use crate::pass::{HubPass, Member};
-use crate::state::HubState;
 use seat_steps::Limits;
 use std::alloc::Global;
 use std::marker::Model;
@@ -22,9 +24,10 @@ use wio_core::NoMemory;
 /// Contracts see which hub it is, a `HubId`: its lock, and its limits.
 #[derive(Drop)]
 pub struct Hub {
-    pub(crate) turn: Turn<HubState>,
+    pub(crate) turn: Turn<NotedState>,
     pub(crate) limits: Limits,
     pub(crate) bells: Bells,
+    pub(crate) record_bell: RecordBell,
     pub(crate) alloc: Global,
 }
 
@@ -45,13 +48,14 @@ impl Hub {
         ensures root { IfOk result (λ made.
             made.1 ≡ fresh_seat made.0.turn 0 (Some limits) []) }
     {
-        let state = HubState::new(alloc, limits)?;
+        let state = NotedState::new(alloc, limits)?;
         let (turn, seat) = Turn::new(alloc, state)?;
         Ok((
             Hub {
                 turn,
                 limits,
                 bells: Bells::new(),
+                record_bell: RecordBell::new(),
                 alloc,
             },
             HubPass {
@@ -63,17 +67,25 @@ impl Hub {
         ))
     }
 
-    // Plays a call, and rings for those whom it told or ended.
-    fn play<R: Wait>(&self, rt: &R, seat: &mut Seat<HubState>, call: &mut Call) -> Reply
-        requires own { IsOf self.now seat.old }
+    // Plays a call, and rings for those whom it told or ended, and for who records.
+    pub(crate) fn play<R: Wait>(
+        &self,
+        rt: &R,
+        seat: &mut Seat<NotedState>,
+        call: &mut Call,
+    ) -> Reply
+        requires own { IsOf self.now (pass_seat seat.old) }
         requires number { call.old.number ≡ seat.old.number }
         ensures seat { seat.new ≡ having_seen seat.old seat.new.seen }
-        ensures legal { IsLegal Plays seat.old call.old seat.new.seen call.new result }
+        ensures legal { IsLegal PlaysEvents seat.old call.old seat.new.seen call.new result }
         ensures fits { length seat.new.seen < 2 ^ 64 }
         ensures tallied { seat.new.number ≡ 0 → IsTallied seat.new }
     {
         let reply = self.turn.turn(rt, seat, call);
         self.bells.ring(reply.rings);
+        if reply.answer.is_made() {
+            self.record_bell.ring();
+        }
         reply
     }
 

@@ -2,9 +2,11 @@
 ghost use Rattle.std.specs.Prelude.{◌≡◌, ◌+◌, length, Some};
 ghost use Rattle.hub_lock.specs.Histories.{reader_of, writer_of};
 ghost use Rattle.hub_lock.specs.Passes.{journal_seen, steps_of, bytes_of};
-ghost use Rattle.hub_lock.specs.Passes.{total_steps, total_bytes};
+ghost use Rattle.hub_lock.specs.Passes.{total_steps, total_bytes, HasSeenLawful};
 
-use crate::state::HubState;
+use crate::noted_state::NotedState;
+use broker_core::LetGo;
+use long_list::Past;
 use std::marker::Model;
 use turn_lock::Seat;
 
@@ -12,7 +14,7 @@ use turn_lock::Seat;
 /// had that it has seen.
 #[derive(Drop)]
 pub(crate) struct Member {
-    pub(crate) seat: Seat<HubState>,
+    pub(crate) seat: Seat<NotedState>,
     pub(crate) steps: u64,
     pub(crate) entries: u32,
 }
@@ -20,13 +22,15 @@ pub(crate) struct Member {
 impl Model for Member {
     ghost use Rattle.std.specs.Prelude.{◌≡◌, length};
     ghost use Rattle.hub_lock.specs.Passes.{PassSeat, HasSeenLawful, journal_seen, steps_of};
+    ghost use Rattle.hub_lock.specs.Events.{pass_seat};
 
     ghost Value = { PassSeat };
 
-    ghost view = { λ m. m.seat };
+    ghost view = { λ m. pass_seat m.seat };
 
-    ghost invariant = { λ m. (m.steps ≡ steps_of m.seat) ×
-        (m.entries ≡ length (journal_seen m.seat)) × HasSeenLawful m.seat };
+    ghost invariant = { λ m. (m.steps ≡ steps_of (pass_seat m.seat)) ×
+        (m.entries ≡ length (journal_seen (pass_seat m.seat))) ×
+        HasSeenLawful (pass_seat m.seat) };
 }
 
 /// The pass of a peer's reader: it gives the peer's steps.
@@ -87,10 +91,37 @@ impl Model for ShellPass {
     ghost invariant = { λ p. bytes_of p.member ≡ 0 };
 }
 
+/// The pass of who records: the entries are handed out to it. Contracts see which they are, the newest
+/// first; they aren't kept.
+#[derive(Drop)]
+pub struct RecorderPass {
+    pub(crate) seat: Seat<NotedState>,
+    pub(crate) entries: u32,
+    pub(crate) count: u32,
+    pub(crate) handed: Past<LetGo>,
+}
+
+impl Model for RecorderPass {
+    ghost use Rattle.std.specs.Prelude.{◌≡◌, length};
+    ghost use Rattle.hub_lock.specs.Passes.{Recorder, HasSeenLawful, journal_seen};
+    ghost use Rattle.hub_lock.specs.Events.{pass_seat};
+    ghost use Rattle.hub_lock.specs.Recording.{HasFront, Records, recorder};
+
+    ghost Value = { Recorder };
+
+    ghost view = { λ p. recorder (pass_seat p.seat) p.handed };
+
+    ghost invariant = { λ p. (p.count ≡ length p.handed) ×
+        (p.entries ≡ length (journal_seen (pass_seat p.seat))) ×
+        HasSeenLawful (pass_seat p.seat) ×
+        HasFront (recorder (pass_seat p.seat) p.handed) ×
+        Records p.seat p.handed };
+}
+
 /// The root of a hub's passes: peers join by it, and it makes the other passes and takes them back.
 #[derive(Drop)]
 pub struct HubPass {
-    pub(crate) seat: Seat<HubState>,
+    pub(crate) seat: Seat<NotedState>,
     pub(crate) steps: u64,
     pub(crate) bytes: u64,
     pub(crate) entries: u32,
@@ -100,14 +131,16 @@ impl Model for HubPass {
     ghost use Rattle.std.specs.Prelude.{◌≡◌, length};
     ghost use Rattle.hub_lock.specs.Passes.{PassSeat, HasSeenLawful, journal_seen};
     ghost use Rattle.hub_lock.specs.Passes.{total_steps, total_bytes};
+    ghost use Rattle.hub_lock.specs.Events.{pass_seat};
 
     ghost Value = { PassSeat };
 
-    ghost view = { λ p. p.seat };
+    ghost view = { λ p. pass_seat p.seat };
 
-    ghost invariant = { λ p. (p.seat.number ≡ 0) × (p.steps ≡ total_steps p.seat) ×
-        (p.bytes ≡ total_bytes p.seat) × (p.entries ≡ length (journal_seen p.seat)) ×
-        HasSeenLawful p.seat };
+    ghost invariant = { λ p. (p.seat.number ≡ 0) × (p.steps ≡ total_steps (pass_seat p.seat)) ×
+        (p.bytes ≡ total_bytes (pass_seat p.seat)) ×
+        (p.entries ≡ length (journal_seen (pass_seat p.seat))) ×
+        HasSeenLawful (pass_seat p.seat) };
 }
 
 /// A pass that is given back.
@@ -119,6 +152,8 @@ pub enum Pass {
     Writer(WriterPass),
     /// That of a shell's link.
     Shell(ShellPass),
+    /// That of who records.
+    Recorder(RecorderPass),
 }
 
 impl ReaderPass {
@@ -210,9 +245,10 @@ impl HubPass {
         self.bytes
     }
 
-    /// How many entries the journal had that it has seen. (no memory)
+    /// How many entries the journal had that it has seen, which is lawful. (no memory)
     pub fn seen(&self) -> u32
-        ensures { result ≡ length (journal_seen self.now) }
+        ensures number { result ≡ length (journal_seen self.now) }
+        ensures lawful { HasSeenLawful self.now }
     {
         self.entries
     }
@@ -243,6 +279,21 @@ impl Pass {
                 },
             ) => (member, bytes),
             Pass::Shell(ShellPass { member }) => (member, 0),
+            Pass::Recorder(
+                RecorderPass {
+                    seat,
+                    entries,
+                    count: _,
+                    handed: _,
+                },
+            ) => (
+                Member {
+                    seat,
+                    steps: 0,
+                    entries,
+                },
+                0,
+            ),
         }
     }
 }

@@ -3,6 +3,7 @@ ghost use Rattle.std.specs.Prelude.{◌≡◌, ◌+◌, ◌<◌, ◌≤◌, ◌^
 ghost use Rattle.broker_model.specs.Settle.{outer};
 ghost use Rattle.turn_lock.specs.Pairs.{NoneOf, IsIn, HasSeen};
 ghost use Rattle.turn_lock.specs.Sights.{after_split, split_off, met_with, having_seen, IsMeeting};
+ghost use Rattle.turn_lock.specs.Sights.{IsTallied};
 ghost use Rattle.hub_lock.specs.Histories.{taken_in};
 ghost use Rattle.hub_lock.specs.Finished.{seat_of};
 ghost use Rattle.hub_lock.specs.Passes.{IsOf, total_steps, total_bytes};
@@ -11,11 +12,10 @@ ghost use Rattle.hub_lock.specs.Calls.{LegalJoin, LegalCopy, IsJoined};
 use crate::call::{Answer, Ask, Call};
 use crate::hub::Hub;
 use crate::pass::{HubPass, Member, Pass, ReaderPass, ShellPass, WriterPass};
-use crate::session::Session;
+use crate::session::{NoSession, Session};
 use broker_core::JoinRefusal;
 use relay_model::Role;
 use std::sync::Wait;
-use wio_core::NoMemory;
 
 impl Hub {
     // A pass more.
@@ -95,6 +95,7 @@ impl Hub {
         requires back { IsOf self.now (seat_of pass) }
         ensures met { root.new ≡ met_with root.old (seat_of pass) }
         ensures both { IsMeeting root.old (seat_of pass) root.new.seen }
+        ensures tallied { IsTallied root.new }
     {
         let (member, bytes) = pass.into_parts();
         let Member {
@@ -111,8 +112,9 @@ impl Hub {
     /// A copy of the limits, of the whole journal as it stands, and of its stamps. Where no pass is
     /// out, the journal's outer steps are as many as the root counts, and they took as many bytes.
     /// It has no later step of a pass that was taken back.
-    /// `NoMemory` is its one error. (Wait: it promises what it does if it returns.)
-    pub fn session<R: Wait>(&self, rt: &R, root: &mut HubPass) -> Result<Session, NoMemory>
+    /// `HandedOut` comes where entries were handed out, else `NoMemory` may come. (Wait: it promises
+    /// what it does if it returns.)
+    pub fn session<R: Wait>(&self, rt: &R, root: &mut HubPass) -> Result<Session, NoSession>
         requires own { IsOf self.now root.old }
         ensures root { root.new ≡ having_seen root.old root.new.seen }
         ensures legal { LegalCopy self.now.limits root.old root.new.seen result }

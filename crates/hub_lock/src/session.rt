@@ -3,6 +3,18 @@ ghost use Rattle.std.specs.Prelude.{◌≡◌};
 
 use broker_model::{Journal, StampList};
 use seat_steps::Limits;
+use thiserror::Error;
+
+/// Why there is no session.
+#[derive(Clone, Copy, Debug, PartialEq, Eq, Error)]
+pub enum NoSession {
+    /// Entries were handed out, so that no copy of those that are kept is whole.
+    #[error("entries were handed out")]
+    HandedOut,
+    /// There was no memory.
+    #[error("there was no memory")]
+    NoMemory,
+}
 
 /// A copy of a hub's limits, of its whole journal and of the stamps of the journal's entries: none of
 /// them was let go. The author of a step's stamp is the number of the pass whose call made the step.

@@ -1,5 +1,5 @@
 //! The value behind the lock: the shared state of all peers, and who their readers are.
-ghost use Rattle.std.specs.Prelude.{◌≡◌, ◌≤◌, [], length, Some, IfOk, IsTrue, ◌↔◌};
+ghost use Rattle.std.specs.Prelude.{◌≡◌, ◌+◌, [], length, Some, None, IfOk, IsTrue, IsSome, ◌↔◌};
 ghost use Rattle.turn_lock.specs.Pairs.{IsGrown};
 ghost use Rattle.seat_steps.specs.declared.step.Step.{Step};
 ghost use Rattle.seat_steps.specs.Ranges.{IsLimits, IsStep};
@@ -8,21 +8,25 @@ ghost use Rattle.hub_lock.specs.declared.step.OuterStep.{OuterStep};
 ghost use Rattle.hub_lock.specs.Histories.{stamp_by, broker_of, reader_of, writer_of};
 ghost use Rattle.hub_lock.specs.Lawful.{IsShared, IsLawful, history_of};
 ghost use Rattle.hub_lock.specs.Bells.{IsRungBy};
-ghost use Rattle.hub_lock.specs.Plays.{IsOwn, MayAsk, Joins, Applies, Takes, IsSessionOf, Answers};
+ghost use Rattle.hub_lock.specs.Plays.{IsOwn, MayAsk, Joins, Applies, Takes, Answers, Plays};
+ghost use Rattle.hub_lock.specs.Plays.{IsSessionOf};
+ghost use Rattle.hub_lock.specs.Events.{notes_in};
+ghost use Rattle.hub_lock.specs.Noted.{tally_in, note_of, IsNoted, Hands};
+ghost use Rattle.hub_lock.specs.declared.call.Ask.TheVariants as asks;
+ghost use Rattle.hub_lock.specs.declared.call.Answer.TheVariants as answers;
 
 use crate::call::{Answer, Ask, Call, Reply, Taking};
 use crate::rings::Rings;
-use crate::session::Session;
-use crate::step::OuterStep;
-use broker_core::{Applied, JoinRefusal, Refused, Shared, Took};
+use crate::session::{NoSession, Session};
+use broker_core::{Applied, JoinRefusal, LetGo, Refused, Shared, Took};
 use relay_model::Role;
 use seat_steps::{Limits, Stamp, Step};
 use std::alloc::Global;
 use std::marker::Model;
-use turn_lock::Story;
 use wio_core::NoMemory;
 
-/// The shared state of all peers, and for each of them the number of its reader's pass.
+/// The shared state of all peers, for each of them the number of its reader's pass, and the number
+/// of the pass of who records.
 #[derive(Drop)]
 pub struct HubState {
     limits: Limits,
@@ -30,19 +34,25 @@ pub struct HubState {
     readers: Vec<u64>,
     // How many outer steps the journal has.
     steps: u64,
+    recorder: Option<u64>,
     alloc: Global,
 }
 
 impl Model for HubState {
-    ghost use Rattle.std.specs.Prelude.{◌≡◌, length};
+    ghost use Rattle.std.specs.Prelude.{◌≡◌, length, None};
     ghost use Rattle.hub_lock.specs.Lawful.{Held, IsKept, history_of};
 
     ghost Value = { Held };
 
-    ghost view = { λ s. record { broker = s.shared; readers = s.readers.items } };
+    ghost view = { λ s. record {
+      broker = s.shared;
+      readers = s.readers.items;
+      recorder = s.recorder;
+    } };
 
     ghost invariant = { λ s. IsKept s.shared s.readers.items × (s.limits ≡ s.shared.limits)
-        × (s.steps ≡ length (history_of s.shared s.readers.items)) };
+        × (s.steps ≡ length (history_of s.shared s.readers.items))
+        × (s.recorder ≡ None → s.shared.kept_from ≡ 0) };
 }
 
 // What the pass with the number gives with its step.
@@ -71,6 +81,7 @@ impl HubState {
         ensures limits { IfOk result (λ s. s.broker.limits ≡ limits) }
         ensures empty { IfOk result (λ s. history_of s.broker s.readers ≡ []) }
         ensures lawful { IfOk result (λ s. IsLawful limits []) }
+        ensures nobody { IfOk result (λ s. s.recorder ≡ None) }
     {
         let shared = Shared::new(alloc, limits)?;
         let _entries = entries(&shared);
@@ -79,6 +90,7 @@ impl HubState {
             shared,
             readers: Vec::new(alloc),
             steps: 0,
+            recorder: None,
             alloc,
         })
     }
@@ -138,6 +150,8 @@ impl HubState {
             (history_of self.old.broker self.old.readers) number role reader
             (history_of self.new.broker self.new.readers) result }
         ensures watched { IsWatched IsRungBy self.old.broker rings.old self.new.broker rings.new }
+        ensures kept { self.new.broker.kept_from ≡ self.old.broker.kept_from }
+        ensures recorder { self.new.recorder ≡ self.old.recorder }
     {
         let _entries = entries(&self.shared);
         if let Some(why) = self.shared.join_refusal(role) {
@@ -164,6 +178,8 @@ impl HubState {
         ensures grows { IsGrown number (history_of self.old.broker self.old.readers)
             (history_of self.new.broker self.new.readers) }
         ensures watched { IsWatched IsRungBy self.old.broker rings.old self.new.broker rings.new }
+        ensures kept { self.new.broker.kept_from ≡ self.old.broker.kept_from }
+        ensures recorder { self.new.recorder ≡ self.old.recorder }
     {
         let _entries = entries(&self.shared);
         if !self.is_own(number, step) {
@@ -185,6 +201,8 @@ impl HubState {
         ensures grows { IsGrown number (history_of self.old.broker self.old.readers)
             (history_of self.new.broker self.new.readers) }
         ensures watched { IsWatched IsRungBy self.old.broker rings.old self.new.broker rings.new }
+        ensures kept { self.new.broker.kept_from ≡ self.old.broker.kept_from }
+        ensures recorder { self.new.recorder ≡ self.old.recorder }
     {
         let _entries = entries(&self.shared);
         let peer = room.peer;
@@ -207,17 +225,60 @@ impl HubState {
         took
     }
 
-    // A copy of it all. `NoMemory` is its one error.
-    #[tactic(auto, using(crate::proofs::KeptAfterStep::none_let_go))]
-    fn copy(&self) -> Result<Session, NoMemory>
+    // A copy of it all, where nothing was handed out.
+    fn copy(&self) -> Result<Session, NoSession>
         ensures { IfOk result (λ s. IsSessionOf (broker_of self.now.broker.limits
             (history_of self.now.broker self.now.readers)) s) }
     {
+        if self.shared.journal().kept_from() != 0 {
+            return Err(NoSession::HandedOut);
+        }
+        let Ok(journal) = self.shared.journal().copy(self.alloc) else {
+            return Err(NoSession::NoMemory);
+        };
+        let Ok(stamps) = self.shared.stamps().copy(self.alloc) else {
+            return Err(NoSession::NoMemory);
+        };
         Ok(Session {
             limits: self.limits,
-            journal: self.shared.journal().copy(self.alloc)?,
-            stamps: self.shared.stamps().copy(self.alloc)?,
+            journal,
+            stamps,
         })
+    }
+
+    // The root names who records, where nobody does.
+    fn name(&mut self, number: u64, recorder: u64) -> Option<u64>
+        ensures broker { self.new.broker ≡ self.old.broker }
+        ensures readers { self.new.readers ≡ self.old.readers }
+        ensures noted { IsNoted number (answers.Named result) (tally_in self.old)
+            (tally_in self.new) }
+        ensures hands { Hands number (asks.Name recorder) (answers.Named result)
+            (broker_of self.old.broker.limits
+            (history_of self.old.broker self.old.readers)) (tally_in self.old) }
+    {
+        if number != 0 || self.recorder.is_some() {
+            return None;
+        }
+        self.recorder = Some(recorder);
+        Some(recorder)
+    }
+
+    // The next entry, for who records. It is then let go.
+    fn hand_out(&mut self, number: u64) -> Option<LetGo>
+        ensures limits { self.new.broker.limits ≡ self.old.broker.limits }
+        ensures journal { self.new.broker.journal ≡ self.old.broker.journal }
+        ensures same { history_of self.new.broker self.new.readers ≡
+            history_of self.old.broker self.old.readers }
+        ensures noted { IsNoted number (answers.HandedOut result) (tally_in self.old)
+            (tally_in self.new) }
+        ensures hands { Hands number asks.HandOut (answers.HandedOut result)
+            (broker_of self.old.broker.limits
+            (history_of self.old.broker self.old.readers)) (tally_in self.old) }
+    {
+        if self.recorder != Some(number) {
+            return None;
+        }
+        self.shared.pop_oldest()
     }
 
     // Plays what is asked by the pass with the number.
@@ -230,39 +291,41 @@ impl HubState {
         ensures grows { IsGrown number (history_of self.old.broker self.old.readers)
             (history_of self.new.broker self.new.readers) }
         ensures watched { IsWatched IsRungBy self.old.broker rings.old self.new.broker rings.new }
+        ensures noted { IsNoted number result (tally_in self.old) (tally_in self.new) }
+        ensures hands { Hands number ask.old result (broker_of self.old.broker.limits
+            (history_of self.old.broker self.old.readers)) (tally_in self.old) }
+        ensures same { IsSome (note_of result) →
+            history_of self.new.broker self.new.readers ≡
+            history_of self.old.broker self.old.readers }
     {
         match ask {
             Ask::Join(role, reader) => Answer::Joined(self.join(number, *role, *reader, rings)),
             Ask::Apply(applying) => Answer::Applied(self.apply(number, applying.step(), rings)),
             Ask::Take(room) => Answer::Took(self.take(number, room, rings)),
             Ask::Copy => Answer::Copied(self.copy()),
+            Ask::Name(recorder) => Answer::Named(self.name(number, *recorder)),
+            Ask::HandOut => Answer::HandedOut(self.hand_out(number)),
         }
     }
-}
 
-impl Story for HubState {
-    ghost use Rattle.seat_steps.specs.declared.limits.Limits.{Limits};
-    ghost use Rattle.hub_lock.specs.declared.step.OuterStep.{OuterStep};
-    ghost use Rattle.hub_lock.specs.Lawful.{history_of};
-    ghost use Rattle.hub_lock.specs.Plays.{Plays};
-
-    type Constant = Limits;
-
-    type Entry = OuterStep;
-
-    type Call = Call;
-
-    type Reply = Reply;
-
-    ghost constant = { λ s. s.broker.limits };
-
-    ghost history = { λ s. history_of s.broker s.readers };
-
-    ghost number = { λ call. call.number };
-
-    ghost plays = { Plays };
-
-    fn play(&mut self, call: &mut Call) -> Reply {
+    /// Plays a call.
+    pub fn play(&mut self, call: &mut Call) -> Reply
+        ensures number { call.new.number ≡ call.old.number }
+        ensures limits { self.new.broker.limits ≡ self.old.broker.limits }
+        ensures plays { Plays self.old.broker.limits
+            (history_of self.old.broker self.old.readers) call.old
+            (history_of self.new.broker self.new.readers) call.new result }
+        ensures grows { IsGrown call.old.number (history_of self.old.broker self.old.readers)
+            (history_of self.new.broker self.new.readers) }
+        ensures noted { IsNoted call.old.number result.answer (tally_in self.old)
+            (tally_in self.new) }
+        ensures hands { Hands call.old.number call.old.ask result.answer
+            (broker_of self.old.broker.limits
+            (history_of self.old.broker self.old.readers)) (tally_in self.old) }
+        ensures same { IsSome (note_of result.answer) →
+            history_of self.new.broker self.new.readers ≡
+            history_of self.old.broker self.old.readers }
+    {
         let _before = entries(&self.shared);
         let mut rings = Rings::new();
         let answer = self.answer(call.number, &mut call.ask, &mut rings);
@@ -273,11 +336,22 @@ impl Story for HubState {
         }
     }
 
-    fn length(&self) -> u64 {
+    /// How many steps its history has.
+    pub fn steps(&self) -> u64
+        ensures { result ≡ length (history_of self.now.broker self.now.readers) }
+    {
         self.steps
     }
 
-    fn number(call: &Call) -> u64 {
-        call.number
+    /// How many steps its history has, and how much was noted of who records.
+    pub fn events(&self) -> u64
+        ensures { result ≡ length (history_of self.now.broker self.now.readers)
+            + notes_in (tally_in self.now) }
+    {
+        let _entries = entries(&self.shared);
+        match self.recorder {
+            Some(_) => self.steps + u64::from(self.shared.journal().kept_from()) + 1,
+            None => self.steps,
+        }
     }
 }

@@ -1,5 +1,5 @@
-//! The tests of the hub: each call once on its happy path, writers that sleep until a bell rings, alone and two at once, and
-//! readers that race.
+//! The tests of the hub: each call once on its happy path, writers that sleep until a bell rings, alone and two at once,
+//! readers that race, and who records beside peers.
 #![tactic(auto)]
 
 #[cfg(test)]
@@ -12,6 +12,8 @@ mod link;
 mod memory_tests;
 #[cfg(test)]
 mod race_tests;
+#[cfg(test)]
+mod recording_tests;
 #[cfg(test)]
 mod together_tests;
 #[cfg(test)]

@@ -7,7 +7,7 @@ ghost use Rattle.hub_lock.specs.Passes.{IsOf};
 use crate::equal::equal;
 use crate::link::{LIMITS, Link, ask, join};
 use broker_core::{Applied, Refused, Took};
-use hub_lock::{Hub, HubPass, ReaderPass, WriterPass};
+use hub_lock::{Hub, HubPass, NoSession, ReaderPass, WriterPass};
 use seat_steps::PeerStep;
 use std::alloc::Global;
 use std::process::Abort;
@@ -70,11 +70,11 @@ fn take_again<R: Wait>(rt: &R, hub: &Hub, pass: &mut WriterPass) -> Took
 }
 
 // How many entries the journal has.
-fn entries<R: Wait>(rt: &R, hub: &Hub, root: &mut HubPass) -> Result<u32, NoMemory>
+fn entries<R: Wait>(rt: &R, hub: &Hub, root: &mut HubPass) -> Result<u32, NoSession>
     requires own { IsOf hub.now root.old }
 {
     match hub.session(rt, root) {
-        Err(NoMemory) => Ok(hub.session(rt, root)?.journal.len()),
+        Err(_refused) => Ok(hub.session(rt, root)?.journal.len()),
         Ok(session) => Ok(session.journal.len()),
     }
 }

@@ -2,13 +2,13 @@
 use Rattle.std.proofs.Common.{◌≡◌, ◌-◌, ◌<◌, ◌≤◌, ◌++◌, ◌∷◌, [], ℕ, zero, suc, List, length, get_or, Option, Some, None, Result, Ok, refl, sym, ap, ◌∙◌, subst, arith, append-nil}
 use Rattle.std.specs.List.{slice_get}
 use Rattle.std.specs.Io.KnownBytes.{Appends}
-use Rattle.wio_core.specs.declared.NoMemory.{NoMemory}
 use Rattle.seat_steps.specs.declared.limits.Limits.{Limits}
 use Rattle.broker_model.specs.declared.journal.Entry.{Entry}
 use Rattle.broker_model.specs.Settle.{outer}
 use Rattle.turn_lock.specs.Pairs.{NoneOf, HasSeen, total}
 use Rattle.turn_lock.specs.Sights.{fresh_seat, having_seen}
 use Rattle.hub_lock.specs.declared.session.Session.{Session}
+use Rattle.hub_lock.specs.declared.session.NoSession.{NoSession}
 use Rattle.hub_lock.specs.Histories.{History, broker_of}
 use Rattle.hub_lock.specs.Passes.{HubId, PassSeat, total_steps}
 use Rattle.hub_lock.proofs.JournalOfSteps.{outer-journal, length-entries}
@@ -57,7 +57,7 @@ ours_of hub n started more jobs many are i t behind is =
 
 -- the copy
 
-pub copied_seen : (limits : Limits) (root : PassSeat) (h : History) (r : Result Session NoMemory) → root.number ≡ 0
+pub copied_seen : (limits : Limits) (root : PassSeat) (h : History) (r : Result Session NoSession) → root.number ≡ 0
     → LegalCopy limits root h r → HasSeen h 0 root.seen
 copied_seen limits root h r is legal =
     (legal.rest, legal.answer.same, subst (λ n. NoneOf n legal.rest) is legal.apart)

@@ -27,7 +27,7 @@ use serve_record::{RecordStop, write_record};
 use serve_words::{Serving, WordsRefusal, serve_of};
 use std::alloc::Global;
 use std::sync::{Arc, Wait};
-use wio_core::{NoMemory, Sink};
+use wio_core::Sink;
 
 // Opens the doors, and accepts and starts the links.
 fn serve_links<R: Wait, N: Net, G: Gate + Drop, W: Spawner<LinkJob<N::In, N::Out, G>>>(
@@ -118,7 +118,7 @@ fn serve_by<R: Wait, N: Net, W: Spawner<LinkJob<N::In, N::Out, G>>, G: Gate + Dr
     let trouble = collect(&**hub, root, spawner);
     match hub.session(rt, root) {
         Ok(session) => write_session(alloc, &session, accepted, trouble, output),
-        Err(NoMemory) => ServeStatus::NoMemory,
+        Err(_nothing_was_handed_out) => ServeStatus::NoMemory,
     }
 }
 

@@ -1,9 +1,11 @@
-use Rattle.std.proofs.Common.{rules, ◌≡◌, ◌≤◌, ◌<◌, ◌+◌, ◌∙◌, ap, sym, subst, refl, arith, length, max, Some}
+use Rattle.std.proofs.Common.{◌≡◌, ◌+◌, ◌∙◌, ap, sym, subst, arith, length, max, Some}
 use Rattle.seat_steps.specs.declared.limits.Limits.{Limits}
 use Rattle.turn_lock.specs.Sights.{IsMeeting, IsTallied, met_with}
 use Rattle.hub_lock.specs.Lawful.{IsLawful}
-use Rattle.hub_lock.specs.Passes.{PassSeat, steps_of, bytes_of, total_steps, total_bytes, journal_seen, HasSeenLawful}
+use Rattle.hub_lock.specs.Passes.{PassSeat, bytes_of, total_steps, total_bytes, journal_seen, HasSeenLawful}
 use Rattle.hub_lock.specs.Finished.{seat_of}
+use Rattle.hub_lock.specs.Events.{EventSeat, step_of, pass_seat}
+use Rattle.hub_lock.proofs.PairsLeftOut.{met_shown, meeting-shown, tallied-shown}
 use Rattle.hub_lock.proofs.MeetingsCounted.{met-steps, met-bytes, met-few, met-entries, seen-lawful}
 use Rattle.hub_lock.proofs.hub.Hub.finish.Goals as goal
 use Rattle.hub_lock.proofs.hub.Hub.finish.Goals.{After-meet}
@@ -11,10 +13,13 @@ use Rattle.hub_lock.proofs.hub.Hub.finish.Goals.at
 
 module _ (c : After-meet) where
   abbrev root : PassSeat
-  root = c.root.inside.seat
+  root = pass_seat c.root.inside.seat
 
   abbrev pass : PassSeat
-  pass = c.member.inside.seat
+  pass = pass_seat c.member.inside.seat
+
+  abbrev now : PassSeat
+  now = pass_seat c.meet.new.seat
 
   abbrev limits : Limits
   limits = c.args.self.now.limits
@@ -34,19 +39,31 @@ module _ (c : After-meet) where
   theirs : IsLawful limits pass.seen
   theirs = c.member.invariant.2 limits of'
 
-  met : c.meet.new.seat ≡ met_with root pass
-  met = c.meet.ensures.met
+  raw : IsMeeting c.root.inside.seat c.member.inside.seat (met_with c.root.inside.seat c.member.inside.seat).seen
+  raw = subst (λ (s : EventSeat). IsMeeting c.root.inside.seat c.member.inside.seat s.seen) c.meet.ensures.met
+      c.meet.ensures.both
+
+  both : pass_seat (met_with c.root.inside.seat c.member.inside.seat) ≡ met_with root pass
+  both = met_shown step_of c.root.inside.seat c.member.inside.seat raw
+
+  met : now ≡ met_with root pass
+  met = ap pass_seat c.meet.ensures.met ∙ both
 
   k : IsMeeting root pass (met_with root pass).seen
-  k = subst (λ (s : PassSeat). IsMeeting root pass s.seen) met c.meet.ensures.both
+  k = subst (λ (s : PassSeat). IsMeeting root pass s.seen) both
+      (meeting-shown step_of c.root.inside.seat c.member.inside.seat
+      (met_with c.root.inside.seat c.member.inside.seat).seen raw)
 
-  steps : c.root.inside.steps + c.member.inside.steps ≡ total_steps c.meet.new.seat
+  tallied : IsTallied now
+  tallied = tallied-shown step_of c.meet.new.seat c.meet.ensures.tallied
+
+  steps : c.root.inside.steps + c.member.inside.steps ≡ total_steps now
   steps =
       let m = ap total_steps met ∙ met-steps limits root pass c.root.invariant.0 of of' k mine theirs in
       let a = c.root.invariant.1 in
       let b = c.member.invariant.0 in omega arith
 
-  bytes : c.root.inside.bytes + c.into_parts-member.result.1 ≡ total_bytes c.meet.new.seat
+  bytes : c.root.inside.bytes + c.into_parts-member.result.1 ≡ total_bytes now
   bytes =
       let m = ap total_bytes met ∙ met-bytes limits root pass c.root.invariant.0 of of' k mine theirs in
       let a = c.root.invariant.2 in
@@ -55,8 +72,9 @@ module _ (c : After-meet) where
 
 pub overflow_add-root : goal.overflow_add-root
 overflow_add-root c =
-    let s = steps (at.overflow_add-root c).After-meet in
-    let few = c.meet.ensures.tallied.few in omega arith
+    let a = (at.overflow_add-root c).After-meet in
+    let s = steps a in
+    let few = (tallied a).few in omega arith
 
 pub overflow_add-root-2 : goal.overflow_add-root-2
 overflow_add-root-2 c =
@@ -64,7 +82,7 @@ overflow_add-root-2 c =
     let s = bytes a in
     let same = ap total_bytes (met a) in
     let few = met-few (limits a) (root a) (pass a) c.root.invariant.0 (of a) (of' a) (k a) (mine a) (theirs a)
-    (subst IsTallied (met a) c.meet.ensures.tallied) in omega arith
+    (subst IsTallied (met a) (tallied a)) in omega arith
 
 pub invariant_of-root : goal.invariant_of-root
 invariant_of-root c =
@@ -79,3 +97,18 @@ invariant_of-root c =
       subst HasSeenLawful (sym (met a))
           (seen-lawful (limits a) (root a) (pass a) c.root.invariant.0 (of a) (of' a) (k a) (mine a) (theirs a)),
     )
+
+pub returns-clause-met : goal.returns-clause-met
+returns-clause-met c =
+    let a = (at.returns-clause-met c).After-meet in
+    met a ∙ ap (λ (s : PassSeat). met_with s (pass a)) c.root.view_is ∙ ap (met_with c.args.root.now) (back a)
+
+pub returns-clause-both : goal.returns-clause-both
+returns-clause-both c =
+    let a = (at.returns-clause-both c).After-meet in
+    subst (λ (s : PassSeat). IsMeeting s (seat_of c.args.pass) (now a).seen) c.root.view_is
+    (subst (λ (s : PassSeat). IsMeeting (root a) s (now a).seen) (back a)
+    (subst (λ (s : PassSeat). IsMeeting (root a) (pass a) s.seen) (sym (met a)) (k a)))
+
+pub returns-clause-tallied : goal.returns-clause-tallied
+returns-clause-tallied c = tallied (at.returns-clause-tallied c).After-meet

@@ -1,12 +1,15 @@
-use Rattle.std.proofs.Common.{rules, ◌≡◌, ◌≤◌, ◌<◌, ◌+◌, ◌∙◌, ap, sym, subst, refl, arith, length, true, false, ℕ}
+use Rattle.std.proofs.Common.{rules, ◌≡◌, ◌+◌, ◌∙◌, ap, sym, subst, arith, length, true, false, ℕ}
 use Rattle.turn_lock.specs.Pairs.{HasSeen, IsIn}
 use Rattle.turn_lock.specs.Rule.{bit}
 use Rattle.turn_lock.specs.Sights.{IsLegal, IsTallied, having_seen}
-use Rattle.hub_lock.specs.Passes.{PassSeat, steps_of, bytes_of, total_steps, total_bytes, journal_seen, HasSeenLawful}
+use Rattle.hub_lock.specs.Passes.{PassSeat, total_steps, total_bytes, journal_seen, HasSeenLawful}
 use Rattle.hub_lock.specs.Plays.{MayAsk, Plays, is_made}
 use Rattle.hub_lock.specs.Calls.{LegalAsk}
 use Rattle.hub_lock.proofs.TurnsCounted.{legal, entries-after, lawful-after, total-after, total-bytes-after}
+use Rattle.hub_lock.specs.Events.{step_of, pass_seat}
 use Rattle.hub_lock.proofs.PassesSettled.{settled-after}
+use Rattle.hub_lock.proofs.PairsLeftOut.{tallied-shown}
+use Rattle.hub_lock.proofs.ShownCalls.{shown-legal}
 use Rattle.hub_lock.proofs.hub.Hub.play_root.Goals as goal
 use Rattle.hub_lock.proofs.hub.Hub.play_root.Goals.{After-play-answer}
 use Rattle.hub_lock.proofs.hub.Hub.play_root.Goals.at
@@ -15,20 +18,26 @@ module _ (g : _) (c : After-play-answer g) where
   abbrev was : PassSeat
   was = c.args.root.now
 
-  k : IsLegal Plays was c.args.call.now c.play-answer.new.seat.seen c.play-answer.new.call c.play-answer.result
-  k = subst (λ
-      (s : PassSeat). IsLegal Plays s c.args.call.now c.play-answer.new.seat.seen c.play-answer.new.call
-      c.play-answer.result)
-      c.root.view_is c.play-answer.ensures.legal
+  abbrev now : PassSeat
+  now = pass_seat c.play-answer.new.seat
 
-  is : c.play-answer.new.seat ≡ having_seen was c.play-answer.new.seat.seen
-  is = c.play-answer.ensures.seat ∙ ap (λ (s : PassSeat). having_seen s c.play-answer.new.seat.seen) c.root.view_is
+  k : IsLegal Plays was c.args.call.now now.seen c.play-answer.new.call c.play-answer.result
+  k = subst (λ
+      (s : PassSeat). IsLegal Plays s c.args.call.now now.seen c.play-answer.new.call c.play-answer.result)
+      c.root.view_is
+      (shown-legal c.root.inside.seat c.args.call.now c.play-answer.new.seat.seen c.play-answer.new.call
+      c.play-answer.result c.play-answer.ensures.legal)
+
+  is : now ≡ having_seen was now.seen
+  is = ap pass_seat c.play-answer.ensures.seat ∙ ap (λ (s : PassSeat). having_seen s now.seen) c.root.view_is
 
   zero : was.number ≡ 0
   zero = sym (ap (λ (s : PassSeat). s.number) c.root.view_is) ∙ c.root.invariant.0
 
-  tallied : IsTallied c.play-answer.new.seat
-  tallied = c.play-answer.ensures.tallied (ap (λ (s : PassSeat). s.number) is ∙ zero)
+  tallied : IsTallied now
+  tallied =
+      tallied-shown step_of c.play-answer.new.seat
+      (c.play-answer.ensures.tallied (ap (λ (s : PassSeat). s.number) is ∙ zero))
 
   number : c.args.call.now.number ≡ was.number
   number = c.requires.number ∙ sym zero
@@ -36,39 +45,39 @@ module _ (g : _) (c : After-play-answer g) where
   may : MayAsk was.seen was.number c.args.call.now.ask
   may = subst (λ n. MayAsk was.seen n c.args.call.now.ask) (sym zero) c.requires.may
 
-  steps : total_steps c.play-answer.new.seat ≡ c.root.inside.steps + bit (is_made c.play-answer.result.answer)
+  steps : total_steps now ≡ c.root.inside.steps + bit (is_made c.play-answer.result.answer)
   steps =
-      let a = total-after c.args.self.now.limits was c.args.call.now c.play-answer.new.seat.seen c.play-answer.new.call
-      c.play-answer.result k c.requires.own.1 number may c.play-answer.new.seat is zero tallied in
+      let a = total-after c.args.self.now.limits was c.args.call.now now.seen c.play-answer.new.call
+      c.play-answer.result k c.requires.own.1 number may now is zero tallied in
       let b : c.root.inside.steps ≡ total_steps was = c.root.invariant.1 ∙ ap total_steps c.root.view_is in omega arith
 
-  bytes : c.root.inside.bytes ≡ total_bytes c.play-answer.new.seat
+  bytes : c.root.inside.bytes ≡ total_bytes now
   bytes = c.root.invariant.2 ∙ ap total_bytes c.root.view_is
       ∙ sym (total-bytes-after c.args.self.now.limits was c.args.call.now
-      c.play-answer.new.seat.seen c.play-answer.new.call c.play-answer.result k c.requires.own.1 number may
-      c.play-answer.new.seat is zero tallied)
+      now.seen c.play-answer.new.call c.play-answer.result k c.requires.own.1 number may
+      now is zero tallied)
 
-  entries : c.play-answer.result.entries ≡ length (journal_seen c.play-answer.new.seat)
-  entries = entries-after c.args.self.now.limits was c.args.call.now c.play-answer.new.seat.seen c.play-answer.new.call
-      c.play-answer.result k c.requires.own.1 number may c.play-answer.new.seat is
+  entries : c.play-answer.result.entries ≡ length (journal_seen now)
+  entries = entries-after c.args.self.now.limits was c.args.call.now now.seen c.play-answer.new.call
+      c.play-answer.result k c.requires.own.1 number may now is
 
-  lawful : HasSeenLawful c.play-answer.new.seat
-  lawful = lawful-after c.args.self.now.limits was c.args.call.now c.play-answer.new.seat.seen c.play-answer.new.call
-      c.play-answer.result k c.requires.own.1 number may c.play-answer.new.seat is
+  lawful : HasSeenLawful now
+  lawful = lawful-after c.args.self.now.limits was c.args.call.now now.seen c.play-answer.new.call
+      c.play-answer.result k c.requires.own.1 number may now is
 
-  first : c.play-answer.new.seat.number ≡ 0
+  first : now.number ≡ 0
   first = ap (λ (s : PassSeat). s.number) is ∙ zero
 
-  told : LegalAsk c.args.self.now.limits was c.play-answer.new.seat.seen 0 c.args.call.now.ask
+  told : LegalAsk c.args.self.now.limits was now.seen 0 c.args.call.now.ask
       c.play-answer.new.call.ask
       c.play-answer.result.answer
-  told = subst (λ n. LegalAsk c.args.self.now.limits was c.play-answer.new.seat.seen n c.args.call.now.ask
+  told = subst (λ n. LegalAsk c.args.self.now.limits was now.seen n c.args.call.now.ask
       c.play-answer.new.call.ask c.play-answer.result.answer) zero
-      (legal c.args.self.now.limits was c.args.call.now c.play-answer.new.seat.seen c.play-answer.new.call
+      (legal c.args.self.now.limits was c.args.call.now now.seen c.play-answer.new.call
       c.play-answer.result k c.requires.own.1 number may)
 
-  settled : (n : ℕ) → IsIn n was.taken → HasSeen c.play-answer.new.seat.seen n was.seen
-  settled = settled-after was c.args.call.now c.play-answer.new.seat.seen c.play-answer.new.call c.play-answer.result k
+  settled : (n : ℕ) → IsIn n was.taken → HasSeen now.seen n was.seen
+  settled = settled-after was c.args.call.now now.seen c.play-answer.new.call c.play-answer.result k
       (subst (λ n. IsIn n was.taken → ⊥) (sym zero) (subst (λ (s : PassSeat). IsIn 0 s.taken → ⊥) is tallied.apart))
 
 pub overflow_add-root : goal.overflow_add-root
@@ -104,3 +113,9 @@ returns-then-is_made-clause-settled g c = settled g (at.returns-then-is_made-cla
 
 pub returns-else-is_made-clause-settled : goal.returns-else-is_made-clause-settled
 returns-else-is_made-clause-settled g c = settled g (at.returns-else-is_made-clause-settled g c).After-play-answer
+
+pub returns-then-is_made-clause-tallied : goal.returns-then-is_made-clause-tallied
+returns-then-is_made-clause-tallied g c = tallied g (at.returns-then-is_made-clause-tallied g c).After-play-answer
+
+pub returns-else-is_made-clause-tallied : goal.returns-else-is_made-clause-tallied
+returns-else-is_made-clause-tallied g c = tallied g (at.returns-else-is_made-clause-tallied g c).After-play-answer

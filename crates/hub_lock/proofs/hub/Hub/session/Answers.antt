@@ -1,4 +1,4 @@
-use Rattle.std.proofs.Common.{rules, ◌≡◌, ◌∙◌, ap}
+use Rattle.std.proofs.Common.{◌∙◌, ap}
 use Rattle.hub_lock.specs.Passes.{PassSeat}
 use Rattle.hub_lock.proofs.SessionTotals.{session-steps, session-bytes}
 use Rattle.hub_lock.proofs.hub.Hub.session.Goals as goal

@@ -1,4 +1,4 @@
-use Rattle.std.proofs.Common.{rules, ◌≡◌, ◌+◌, ◌∙◌, ap, sym, subst, arith, Some}
+use Rattle.std.proofs.Common.{rules, ◌≡◌, ◌∙◌, ap, sym, subst, arith, Some}
 use Rattle.seat_steps.specs.declared.step.Step.TheVariants as steps
 use Rattle.hub_lock.specs.declared.call.Ask.TheVariants as asks
 use Rattle.hub_lock.specs.declared.call.Answer.TheVariants as answers

@@ -1,6 +1,6 @@
-use Rattle.std.proofs.Common.{rules, ◌≡◌, ◌++◌, ◌∙◌, ap, sym, subst, refl}
+use Rattle.std.proofs.Common.{rules, ◌≡◌, ◌++◌, ◌∙◌, ap}
 use Rattle.turn_lock.specs.Sights.{having_seen}
-use Rattle.hub_lock.specs.Passes.{PassSeat, PeerPass}
+use Rattle.hub_lock.specs.Passes.{PeerPass}
 use Rattle.hub_lock.specs.Calls.{pass_having_seen}
 use Rattle.hub_lock.proofs.LegalCalls.{waited-more, wait-legal}
 use Rattle.hub_lock.proofs.hub.Hub.wait_take.Goals as goal

@@ -1,7 +1,7 @@
-use Rattle.std.proofs.Common.{rules, ◌+◌, ◌≡◌, ◌≤◌, ◌∙◌, ap, sym, subst, refl, arith, inl, inr, Err, Ok, length, IsTrue}
-use Rattle.broker_core.specs.Broker.{entry_of}
+use Rattle.std.proofs.Common.{rules, ◌+◌, ◌≡◌, ◌∙◌, ap, sym, subst, refl, arith, inr, Ok}
+use Rattle.broker_core.specs.Broker.{Broker, entry_of, with_step}
 use Rattle.hub_lock.specs.Bells.{IsRungBy}
-use Rattle.hub_lock.specs.Histories.{History, only}
+use Rattle.hub_lock.specs.Histories.{only, stamp_by}
 use Rattle.hub_lock.specs.Plays.{IsOwn}
 use Rattle.hub_lock.specs.Lawful.{Held, history_of}
 use Rattle.hub_lock.proofs.HistoriesGrow.{steps_few}
@@ -36,6 +36,8 @@ invariant_of-self-2 c =
     let b = c.self.inside.shared in
     let readers = c.self.inside.readers.items in
     let s = c.entries-entries.ensures.shared.stamped in
+    let e : c.apply_watched.new.self
+    ≡ with_step (entry_of c.args.step.now) (stamp_by c.args.number) c.self.inside.shared = search rules in
     let o = outer (at.invariant_of-self-2 c).After-apply_watched in (
       kept-by b readers c.args.number c.self.invariant.0 s (entry_of c.args.step.now) c.apply_watched.new.self o
           (search rules),
@@ -43,6 +45,7 @@ invariant_of-self-2 c =
       ap (λ n. n + 1) c.self.invariant.2 ∙ sym (longer-length _ _ _ _
           (longer-by b readers c.args.number c.self.invariant.0 s (entry_of c.args.step.now) c.apply_watched.new.self o
           (search rules))),
+      λ none. ap (λ (x : Broker). x.kept_from) e ∙ c.self.invariant.3 none,
     )
 
 pub returns-clause-applies : goal.returns-clause-applies

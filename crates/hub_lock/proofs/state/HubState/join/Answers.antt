@@ -1,6 +1,7 @@
-use Rattle.std.proofs.Common.{rules, ◌≡◌, ◌≤◌, ◌+◌, ◌∙◌, ap, sym, subst, refl, arith, Err, Ok, length, ◌++◌, ◌∷◌, []}
+use Rattle.std.proofs.Common.{rules, ◌+◌, ◌∙◌, ap, sym, refl, arith, Err, Ok}
+use Rattle.broker_core.specs.Broker.{Broker}
 use Rattle.hub_lock.specs.Bells.{IsRungBy}
-use Rattle.hub_lock.specs.Lawful.{Held, history_of}
+use Rattle.hub_lock.specs.Lawful.{Held}
 use Rattle.hub_lock.proofs.HistoriesGrow.{steps_few}
 use Rattle.hub_lock.proofs.CallsAnswered.{IsAfterJoin, joins-by, join-kept, join-longer, longer-length}
 use Rattle.hub_lock.proofs.NothingWatched.{nothing-watched}
@@ -45,6 +46,7 @@ invariant_of-self-2 c =
       ap (λ n. n + 1) c.self.invariant.2 ∙ sym (longer-length _ _ _ _
           (join-longer b readers c.args.number c.self.invariant.0 s c.args.role c.args.reader c.join_watched.new.self
           c.push.new.self.items a)),
+      λ none. ap (λ (x : Broker). x.kept_from) a.0 ∙ c.self.invariant.3 none,
     )
 
 pub returns-clause-joins : goal.returns-clause-joins

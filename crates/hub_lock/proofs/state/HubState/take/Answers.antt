@@ -1,10 +1,10 @@
-use Rattle.std.proofs.Common.{rules, ◌≡◌, ◌≤◌, ◌+◌, ◌∙◌, ap, sym, subst, refl, arith, inl, inr, length, take, Some, IfSome}
+use Rattle.std.proofs.Common.{rules, ◌≡◌, ◌≤◌, ◌+◌, ◌∙◌, ap, sym, subst, refl, arith, inr, take, Some, IfSome}
 use Rattle.broker_model.specs.declared.journal.Entry.TheVariants as entries
 use borrow.Rule.Slice.PartMut.{put_mid}
-use Rattle.broker_core.specs.Broker.{IfBytes}
+use Rattle.broker_core.specs.Broker.{Broker, IfBytes, with_step}
 use Rattle.broker_core.specs.Taking.{out_at}
 use Rattle.hub_lock.specs.Bells.{IsRungBy}
-use Rattle.hub_lock.specs.Histories.{writer_of, only}
+use Rattle.hub_lock.specs.Histories.{writer_of, only, stamp_by}
 use Rattle.hub_lock.specs.Plays.{IsTakenInto}
 use Rattle.hub_lock.specs.Lawful.{Held, history_of}
 use Rattle.hub_lock.proofs.HistoriesGrow.{steps_few}
@@ -53,6 +53,13 @@ outer c = own-take c.self.inside.shared c.self.inside.readers.items c.args.numbe
     c.entries-entries.ensures.shared.stamped c.args.room.now.peer c.in-Bytes.field-0 (own c)
     (subst (λ r. IfBytes r (λ counts. counts.0 ≤ 4096)) c.in-Bytes.is (few c))
 
+kept : (c : In-Bytes) → c.take_watched-took.new.self.kept_from ≡ c.self.inside.shared.kept_from
+kept c =
+    let e : c.take_watched-took.new.self
+    ≡ with_step (entries.Took c.args.room.now.peer c.in-Bytes.field-0) (stamp_by c.args.number) c.self.inside.shared =
+    search rules in
+    ap (λ (x : Broker). x.kept_from) e
+
 pub invariant_of-self : goal.invariant_of-self
 invariant_of-self c =
     let b = c.self.inside.shared in
@@ -64,6 +71,7 @@ invariant_of-self c =
       search rules,
       ap (λ n. n + 1) c.self.invariant.2 ∙ sym (longer-length _ _ _ _
           (longer-by b readers c.args.number c.self.invariant.0 s e c.take_watched-took.new.self o (search rules))),
+      λ none. kept (at.invariant_of-self c).In-Bytes ∙ c.self.invariant.3 none,
     )
 
 pub returns-in-Bytes-clause-takes : goal.returns-in-Bytes-clause-takes

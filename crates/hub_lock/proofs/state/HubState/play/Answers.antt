@@ -1,11 +1,10 @@
-use Rattle.std.proofs.Common.{rules, ◌≡◌, ap, sym, subst, ◌∙◌, length}
-use Rattle.broker_core.specs.Broker.{Broker}
-use Rattle.hub_lock.specs.Lawful.{Held, IsShared}
+use Rattle.std.proofs.Common.{ap, subst, ◌∙◌, length}
+use Rattle.hub_lock.specs.Lawful.{Held}
 use Rattle.hub_lock.proofs.PlaysKeepRule.{IsSound, plays-by}
-use Rattle.hub_lock.proofs.state.HubStateStory.play.Goals as goal
+use Rattle.hub_lock.proofs.state.HubState.play.Goals as goal
 
-pub returns-clause-rule : goal.returns-clause-rule
-returns-clause-rule c =
+pub returns-clause-plays : goal.returns-clause-plays
+returns-clause-plays c =
     let was : IsSound c.args.self.now = subst IsSound c.self.view_is
     (record { kept = c.self.invariant.0; shared = c.entries-before.ensures.shared }) in
     let now : IsSound c.answer-answer.new.self = subst IsSound c.self-2.view_is
