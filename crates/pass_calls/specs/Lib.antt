@@ -1,0 +1,5 @@
+pub mod Made
+pub mod Taken
+pub mod Submitted
+pub mod Ordered
+pub mod Counted
