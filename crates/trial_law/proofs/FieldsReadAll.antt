@@ -160,7 +160,7 @@ record Asks (p : ℕ) (journal : List Entry) : Type 0 where
   short : AreShortBodies journal
   bytes : AreBytes journal
 
-in_older : (new made : List Made) (m : Made) → IsIn made m → IsIn (new ++ made) m
+pub in_older : (new made : List Made) (m : Made) → IsIn made m → IsIn (new ++ made) m
 in_older [] made m i = i
 in_older (x ∷ new) made m i = inr (in_older new made m i)
 

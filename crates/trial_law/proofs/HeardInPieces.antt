@@ -182,7 +182,7 @@ good_is : (n : ℕ) → IsGoodSize n → is_good n ≡ true
 good_is n h = rw (le-leb 8 n h.0, le-leb n 4096 h.1, eq-eqb (n % 4) 0 h.2) refl
 
 -- behind a bad size there is no message, whatever comes
-bad_on : (rest more : List ℕ) → has_bad_size rest ≡ true → messages (rest ++ more) ≡ []
+pub bad_on : (rest more : List ℕ) → has_bad_size rest ≡ true → messages (rest ++ more) ≡ []
 bad_on rest more e = bad_none (rest ++ more) (stays (is_bad rest e))
   where
     is_bad : (bytes : List ℕ) → has_bad_size bytes ≡ true → IsBad bytes

@@ -18,7 +18,7 @@ use Rattle.trial_law.specs.TrialLaws.{UnpausedHearAll}
 use Rattle.trial_law.proofs.RoundsEnd.{rounds_end_quiet}
 use Rattle.trial_law.proofs.TextsFolded.{within_list, limits_same}
 
-not_is : (b : Bool) → not b ≡ true → b ≡ false
+pub not_is : (b : Bool) → not b ≡ true → b ≡ false
 not_is true e = cc
 not_is false e = refl
 
@@ -44,7 +44,7 @@ none_stored k t field is going due =
     sym (ap (λ (b : Bool). not b && has_stored (k + 2) t.broker)
     (ap (λ (o : Option FieldPlay). pause_in o) is ∙ going)) ∙ due
 
-all_taken : (t : TrialPlay) (q : ℕ) (peer : Joined) → peer_at (past_of t.broker.journal) q ≡ Some peer →
+pub all_taken : (t : TrialPlay) (q : ℕ) (peer : Joined) → peer_at (past_of t.broker.journal) q ≡ Some peer →
     has_stored q t.broker ≡ false →
     bytes_taken t.broker.limits.store t.broker.journal peer.label
     ≡ (out_for t.broker.limits.store t.broker.journal peer.label).put.bytes

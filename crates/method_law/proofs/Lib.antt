@@ -1,0 +1,15 @@
+pub mod KeysShort
+pub mod RequestsShort
+pub mod MethodHears
+pub mod TrialSteps
+pub mod StepsSent
+pub mod PhasesGo
+pub mod MethodTyped
+pub mod MethodLogged
+pub mod MethodHeardAll
+pub mod ScriptsWritten
+pub mod NoKeymaps
+pub mod MethodIds
+pub mod ToldHeard
+pub mod MethodReads
+pub mod TrialsTyped

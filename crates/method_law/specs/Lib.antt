@@ -1,0 +1,3 @@
+pub mod TypedLogs
+pub mod ToldEvents
+pub mod MethodLaws
