@@ -1,0 +1,13 @@
+pub mod QuietSteps
+pub mod StepsRecorded
+pub mod LinesLead
+pub mod LinesAnswered
+pub mod LinesLackFeeds
+pub mod LinesRead
+pub mod JournalsWithin
+pub mod TextsShort
+pub mod RecordedReplays
+pub mod HubReplays
+pub mod GeneratedLines
+pub mod GeneratedReplays
+pub mod FewLegal

@@ -1,0 +1,47 @@
+//! A recorded session replays to its journal, over the definitions alone. The bodies do nothing:
+//! the laws are the contracts.
+#![tactic(auto)]
+
+ghost use Rattle.record_law.specs.RecordLaws.{RecordedIsRead, RecordedLeadsBack, RecordedReplays};
+ghost use Rattle.record_law.specs.GeneratedLaw.{GeneratedReplays};
+ghost use Rattle.record_law.specs.HubLaw.{HubReplays};
+ghost use Rattle.record_law.specs.Rows.{FewAreLegal};
+
+/// The recorded session of legal steps is read line by line: its header, a line of each step with
+/// the stamp of its entry, and the end. An end that follows from a step has no line.
+pub fn recorded_session_is_read()
+    ensures law { RecordedIsRead }
+{}
+
+/// Those lines, played one after the other, lead to the journal itself, with the ends that follow,
+/// and to its stamps: none meets a full journal, and no byte is left unread.
+pub fn recorded_session_leads_back()
+    ensures law { RecordedLeadsBack }
+{}
+
+/// So `replay` of a recorded session writes the transcript of the journal that was recorded and
+/// `end N`, where N is how many entries it has, and its status is Ok. It reads all of it: no limits
+/// allow a recorded session that is longer than its input may be.
+pub fn recorded_session_replays()
+    ensures law { RecordedReplays }
+{}
+
+/// So it is with the recorded session of what stands behind a hub's lock, as a server writes it,
+/// where lines give its steps again: that the journal wasn't full for them follows from its limits.
+pub fn hub_session_replays()
+    ensures law { HubReplays }
+{}
+
+/// `replay` of a generated session, as `gen N text` writes it, writes the transcript of its journal
+/// and `end E`, where E is the number of entries that `gen N` tells, and its status is Ok.
+pub fn generated_session_replays()
+    ensures law { GeneratedReplays }
+{
+    gen_run::lines_replay();
+}
+
+/// A small session is legal: an application joins, tokens come, a key passes, it asks for the
+/// registry, takes a part of what it is told, and its link ends.
+pub fn few_steps_are_legal()
+    ensures row { FewAreLegal }
+{}
