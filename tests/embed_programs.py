@@ -13,43 +13,19 @@ import sys
 import tempfile
 import time
 
-ROWS = {16: "qwertyuiop", 30: "asdfghjkl", 44: "zxcvbnm", 57: " ", 28: "\n"}
-KEYS = {letter: first + at for first, row in ROWS.items() for at, letter in enumerate(row)}
-PROFILE = """[Groups/0]
-Name=Default
-Default Layout=us
-DefaultIM=pinyin
+from pinyin_desk import FCITX5, Programs, keys_of, until
 
-[Groups/0/Items/0]
-Name=pinyin
-Layout=
-
-[GroupOrder]
-0=Default
-"""
-OFF = "notificationitem,kimpanel,xim,xcb,cloudpinyin,notifications"
+KEYS = keys_of({16: "qwertyuiop", 30: "asdfghjkl", 44: "zxcvbnm", 57: " ", 28: "\n"})
 WINDOWS = {"term": "term.out", "entry": "entry.out"}
 
 
-class Desk:
+class Desk(Programs):
     """The compositor, and the programs that were started under it; all end with it."""
 
     def __init__(self, built, work):
-        self.built, self.work, self.started, self.focused = built, work, [], None
-        self.env = dict(os.environ, XDG_RUNTIME_DIR=work, HOME=work, LC_ALL="C.UTF-8", GTK_IM_MODULE="wayland",
-                        GSK_RENDERER="cairo", GDK_BACKEND="wayland", GTK_A11Y="none", XDG_CONFIG_HOME=work + "/config",
-                        ASAN_OPTIONS="detect_leaks=0")
-        for unset in ("DISPLAY", "WAYLAND_DISPLAY", "DBUS_SESSION_BUS_ADDRESS", "XMODIFIERS"):
-            self.env.pop(unset, None)
+        super().__init__(work, ASAN_OPTIONS="detect_leaks=0")
         self.compositor = self.start(built + "/compositor", stdin=subprocess.PIPE, stdout=subprocess.PIPE, text=True)
         self.env["WAYLAND_DISPLAY"] = self.compositor.stdout.readline().split()[1]
-
-    def start(self, *command, **pipes):
-        log = open(f"{self.work}/log.{len(self.started)}", "wb")
-        process = subprocess.Popen(command, env=self.env, stderr=log, cwd=self.work, start_new_session=True,
-                                   **{"stdin": subprocess.DEVNULL, "stdout": log} | pipes)
-        self.started.append(process)
-        return process
 
     def ask(self, line):
         self.compositor.stdin.write(line + "\n")
@@ -79,13 +55,6 @@ class Desk:
         self.ask("unfocus")
         self.focused = None
 
-    def read(self, name):
-        try:
-            with open(f"{self.work}/{name}", encoding="utf-8", newline="") as file:
-                return file.read()
-        except FileNotFoundError:
-            return ""
-
     def got(self, window):
         return self.read(WINDOWS[window])
 
@@ -114,20 +83,11 @@ def out_of_time(*_):
     raise TimeoutError("out of time")
 
 
-def until(what, holds, seconds=20):
-    """Waits till it holds. What never comes fails the test."""
-    ends = time.monotonic() + seconds
-    while not holds():
-        if time.monotonic() > ends:
-            raise TimeoutError(what)
-        time.sleep(0.02)
-
-
-def start_fcitx5(desk, bus):
+def start_fcitx5(desk):
     """It has loaded pinyin once a field is focused; before, it gives all keys back."""
-    fcitx5 = desk.start("env", f"DBUS_SESSION_BUS_ADDRESS={bus}", "fcitx5", f"--disable={OFF}")
+    fcitx5 = desk.start("env", f"DBUS_SESSION_BUS_ADDRESS=unix:path={desk.path('bus')}", *FCITX5)
     until("fcitx5", lambda: desk.look()[1])
-    until("pinyin", lambda: "addon pinyin" in desk.read(f"log.{len(desk.started) - 1}"))
+    until("pinyin", lambda: "addon pinyin" in desk.read(fcitx5.log))
     desk.unfocus()
     return fcitx5
 
@@ -176,29 +136,24 @@ def main():
         signal.signal(end, out_of_time)
     signal.alarm(180)
     with tempfile.TemporaryDirectory() as work:
-        os.makedirs(work + "/config/fcitx5")
-        with open(work + "/config/fcitx5/profile", "w", encoding="utf-8") as file:
-            file.write(PROFILE)
         desk = Desk(built, work)
         try:
-            bus = f"unix:path={work}/bus"
-            desk.start("dbus-daemon", "--session", "--nofork", "--nopidfile", f"--address={bus}")
-            until("a bus", lambda: os.path.exists(work + "/bus"))
+            desk.start_bus()
             desk.start("foot", "-c", "/dev/null", "-a", "term", "sh", "-c", "stty raw -echo; exec cat > term.out")
             desk.start(built + "/entry", "entry.out")
             until("both windows", lambda: set(desk.ask("windows").split()) == set(WINDOWS))
-            fcitx5 = start_fcitx5(desk, bus)
+            fcitx5 = start_fcitx5(desk)
             typed(desk, "term", "nihao ", "你好")
             typed(desk, "entry", "shijie ", "世界")
             typed(desk, "term", "\n", "\r")
             moved(desk, rounds)
             killed(desk, fcitx5)
-            start_fcitx5(desk, bus)
+            start_fcitx5(desk)
             typed(desk, "term", "nihao ", "你好")
         except (TimeoutError, AssertionError) as error:
             print(f"failed: {error}; what they have: {[desk.got(window) for window in WINDOWS]}")
-            for at in range(len(desk.started)):
-                print(f"-- {desk.started[at].args}\n{desk.read(f'log.{at}')[-1500:]}")
+            for process in desk.started:
+                print(f"-- {process.args}\n{desk.read(process.log)[-1500:]}")
             return 1
         finally:
             code = desk.end()

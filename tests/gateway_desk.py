@@ -8,27 +8,14 @@ import shutil
 import signal
 import socket
 import struct
-import subprocess
 import time
 
 from gateway_client import Typist, Window, tables
+from pinyin_desk import FCITX5, Programs, keys_of, until
 
-ROWS = {2: "1234567890", 16: "qwertyuiop", 30: "asdfghjkl", 44: "zxcvbnm", 57: " ", 28: "\n", 14: "\b", 15: "\t"}
-KEYS = {letter: first + at for first, row in ROWS.items() for at, letter in enumerate(row)}
+KEYS = keys_of({2: "1234567890", 16: "qwertyuiop", 30: "asdfghjkl", 44: "zxcvbnm", 57: " ", 28: "\n", 14: "\b",
+                15: "\t"})
 CONTROL, CONTROL_MASK = 29, 4
-PROFILE = """[Groups/0]
-Name=Default
-Default Layout=us
-DefaultIM=pinyin
-
-[Groups/0/Items/0]
-Name=pinyin
-Layout=
-
-[GroupOrder]
-0=Default
-"""
-OFF = "notificationitem,kimpanel,xim,xcb,cloudpinyin,notifications"
 SWAY = "output * resolution 1280x720\ndefault_border none\nfocus_follows_mouse no\nfocus_on_window_activation none\n"
 PAUSE = 0.05  # between keys, in seconds: foot 1.13 drops a batch that crosses a commit of its own
 RAW = "stty raw -echo; exec cat > {}.out"
@@ -42,32 +29,16 @@ def interfaces(protocols):
     return tables(files + ["/usr/share/wayland/wayland.xml"] + glob.glob(protocols + "/*.xml"))
 
 
-def until(what, holds, seconds=20):
-    """Waits till it holds. What never comes fails the test."""
-    ends = time.monotonic() + seconds
-    while not holds():
-        if time.monotonic() > ends:
-            raise TimeoutError(what)
-        time.sleep(0.01)
-
-
-class Desk:
+class Desk(Programs):
     """All that is started ends with it."""
 
     def __init__(self, built, work):
-        self.built, self.work, self.started, self.focused, self.gateways = built, work, [], None, 0
-        self.env = dict(os.environ, XDG_RUNTIME_DIR=work, HOME=work, LC_ALL="C.UTF-8", GTK_IM_MODULE="wayland",
-                        GSK_RENDERER="cairo", GDK_BACKEND="wayland", GTK_A11Y="none", XDG_CONFIG_HOME=work + "/config",
-                        WLR_BACKENDS="headless", WLR_LIBINPUT_NO_DEVICES="1", WLR_RENDERER="pixman",
-                        SWAYSOCK=work + "/sway", DBUS_SESSION_BUS_ADDRESS=f"unix:path={work}/bus")
-        for unset in ("DISPLAY", "WAYLAND_DISPLAY", "XMODIFIERS"):
-            self.env.pop(unset, None)
+        super().__init__(work, WLR_BACKENDS="headless", WLR_LIBINPUT_NO_DEVICES="1", WLR_RENDERER="pixman",
+                         SWAYSOCK=work + "/sway", DBUS_SESSION_BUS_ADDRESS=f"unix:path={work}/bus")
+        self.built, self.gateways = built, 0
         self.interfaces = interfaces(built + "/protocols")
-        os.makedirs(work + "/config/fcitx5")
-        self.write("config/fcitx5/profile", PROFILE)
         self.write("sway.conf", SWAY)
-        self.start("dbus-daemon", "--session", "--nofork", "--nopidfile", f"--address=unix:path={work}/bus")
-        until("a bus", lambda: os.path.exists(self.path("bus")))
+        self.start_bus()
         self.start_compositor()
         self.start_typist()
 
@@ -81,29 +52,6 @@ class Desk:
 
     def start_typist(self):
         self.typist = Typist(self.path("wayland-1"), self.interfaces)
-
-    def path(self, name):
-        return f"{self.work}/{name}"
-
-    def write(self, name, text):
-        with open(self.path(name), "w", encoding="utf-8") as file:
-            file.write(text)
-
-    def read(self, name):
-        try:
-            with open(self.path(name), encoding="utf-8", newline="", errors="replace") as file:
-                return file.read()
-        except FileNotFoundError:
-            return ""
-
-    def start(self, *command, display=None, **pipes):
-        log = open(self.path(f"log.{len(self.started)}"), "wb")
-        env = dict(self.env, WAYLAND_DISPLAY=display) if display else self.env
-        process = subprocess.Popen(command, env=env, stderr=log, cwd=self.work, start_new_session=True,
-                                   **{"stdin": subprocess.DEVNULL, "stdout": log} | pipes)
-        process.log = f"log.{len(self.started)}"
-        self.started.append(process)
-        return process
 
     def start_gateway(self, *words, logs=True, records=True):
         """With a log, and a record of its own."""
@@ -124,7 +72,7 @@ class Desk:
 
     def start_method(self):
         """fcitx5, which has loaded pinyin once a field is focused; before, it gives all keys back."""
-        fcitx5 = self.start("fcitx5", f"--disable={OFF}", display="wlim-methods")
+        fcitx5 = self.start(*FCITX5, display="wlim-methods")
         until("fcitx5's method", lambda: "get_input_method(" in self.read(self.gateway.log))
         return fcitx5
 
