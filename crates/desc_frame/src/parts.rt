@@ -1,5 +1,5 @@
 //! The parts of a frame, each read whole.
-ghost use Rattle.std.specs.Prelude.{◌≡◌, ℕ, ◌+◌, ◌*◌, ◌^◌, ◌<◌, ◌≤◌, ◌++◌, List, [], length, take};
+ghost use Rattle.std.specs.Prelude.{◌≡◌, ◌≢◌, ℕ, ◌+◌, ◌*◌, ◌^◌, ◌<◌, ◌≤◌, ◌++◌, List, [], length, take};
 ghost use Rattle.std.specs.Prelude.{IfOk, IfErr, OnOk, OnErr, IsTrue, ◌↔◌};
 ghost use Rattle.wio_core.specs.Io.{Rose, StaysQuiet};
 ghost use Rattle.desc_frame.specs.Frames.{WithinLimits, header, spelled_tokens};
@@ -25,6 +25,8 @@ fn read_some<S: Source>(source: &mut S, part: &mut [u8], before: usize) -> Resul
     ensures never_falls { S.fault_count source.old ≤ S.fault_count source.new }
     ensures cause { result ≡ Err Got.ReadFault →
         Rose (S.fault_count source.old) (S.fault_count source.new) }
+    ensures no_fault { result ≢ Err Got.ReadFault →
+        S.fault_count source.new ≡ S.fault_count source.old }
 {
     match source.read(part) {
         Ok(0) if before == 0 => Err(Got::End),
@@ -48,6 +50,8 @@ fn fill<S: Source>(source: &mut S, part: &mut [u8], before: usize) -> Result<(),
     ensures never_falls { S.fault_count source.old ≤ S.fault_count source.new }
     ensures cause { result ≡ Err Got.ReadFault →
         Rose (S.fault_count source.old) (S.fault_count source.new) }
+    ensures no_fault { result ≢ Err Got.ReadFault →
+        S.fault_count source.new ≡ S.fault_count source.old }
 {
     let mut at = 0;
     while at < part.len() {
@@ -77,6 +81,8 @@ fn read_header<S: Source>(source: &mut S) -> Result<(usize, usize), Got>
     ensures never_falls { S.fault_count source.old ≤ S.fault_count source.new }
     ensures cause { result ≡ Err Got.ReadFault →
         Rose (S.fault_count source.old) (S.fault_count source.new) }
+    ensures no_fault { result ≢ Err Got.ReadFault →
+        S.fault_count source.new ≡ S.fault_count source.old }
 {
     let mut bytes = [0; 4];
     fill(source, &mut bytes, 0)?;
@@ -103,6 +109,8 @@ fn read_tokens<S: Source>(source: &mut S, tokens: &mut [u32]) -> Result<(), Got>
     ensures never_falls { S.fault_count source.old ≤ S.fault_count source.new }
     ensures cause { result ≡ Err Got.ReadFault →
         Rose (S.fault_count source.old) (S.fault_count source.new) }
+    ensures no_fault { result ≢ Err Got.ReadFault →
+        S.fault_count source.new ≡ S.fault_count source.old }
 {
     let mut bytes = [0; 4 * MAX_TOKENS];
     let part = &mut bytes[..4 * tokens.len()];
@@ -128,6 +136,8 @@ pub fn read_frame<S: Source>(
     ensures never_falls { S.fault_count source.old ≤ S.fault_count source.new }
     ensures cause { result ≡ Err Got.ReadFault →
         Rose (S.fault_count source.old) (S.fault_count source.new) }
+    ensures no_fault { result ≢ Err Got.ReadFault →
+        S.fault_count source.new ≡ S.fault_count source.old }
 {
     let (n, t) = read_header(source)?;
     read_tokens(source, &mut tokens[..t])?;

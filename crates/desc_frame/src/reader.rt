@@ -58,6 +58,8 @@ impl FrameReader {
         ensures never_falls { S.fault_count source.old ≤ S.fault_count source.new }
         ensures cause { result ≡ Got.ReadFault →
             Rose (S.fault_count source.old) (S.fault_count source.new) }
+        ensures no_fault { result ≢ Got.ReadFault →
+            S.fault_count source.new ≡ S.fault_count source.old }
     {
         if let Some(got) = self.last {
             return got;

@@ -31,6 +31,7 @@ impl FrameWriter {
         ensures quiet { StaysQuiet (K.held sink.old) (K.held sink.new) }
         ensures never_falls { K.fault_count sink.old ≤ K.fault_count sink.new }
         ensures cause { OnErr result (Rose (K.fault_count sink.old) (K.fault_count sink.new)) }
+        ensures no_fault { OnOk result (K.fault_count sink.new ≡ K.fault_count sink.old) }
     {
         if bytes.len() <= FEW_BYTES {
             put_few(sink, bytes, tokens)
@@ -52,6 +53,7 @@ fn put_few<K: Sink>(sink: &mut K, bytes: &[u8], tokens: &[u32]) -> Result<(), Fa
     ensures quiet { StaysQuiet (K.held sink.old) (K.held sink.new) }
     ensures never_falls { K.fault_count sink.old ≤ K.fault_count sink.new }
     ensures cause { OnErr result (Rose (K.fault_count sink.old) (K.fault_count sink.new)) }
+    ensures no_fault { OnOk result (K.fault_count sink.new ≡ K.fault_count sink.old) }
 {
     let mut all = [0; MAX_HEAD + FEW_BYTES];
     let size = spell(&mut all, bytes, tokens);
@@ -69,6 +71,7 @@ fn put_many<K: Sink>(sink: &mut K, bytes: &[u8], tokens: &[u32]) -> Result<(), F
     ensures quiet { StaysQuiet (K.held sink.old) (K.held sink.new) }
     ensures never_falls { K.fault_count sink.old ≤ K.fault_count sink.new }
     ensures cause { OnErr result (Rose (K.fault_count sink.old) (K.fault_count sink.new)) }
+    ensures no_fault { OnOk result (K.fault_count sink.new ≡ K.fault_count sink.old) }
 {
     let mut head = [0; MAX_HEAD];
     let size = spell_head(&mut head, bytes.len(), tokens);

@@ -74,7 +74,7 @@ Answers before after given_before given_after left_before left_after result =
     × GoesOn before after given_before given_after left_before left_after result read)
     (λ why. (stop_of result ≡ Some why) × (after ≡ before))
 
--- a failed read is counted by the source
+-- a failed read is counted by the source, and for no other answer is one counted
 abbrev pub HasFaultCause : NextLine → ℕ → ℕ → Type 0
 HasFaultCause answer.ReadFault before after = Rose before after
-HasFaultCause _ before after = Unit {0}
+HasFaultCause _ before after = after ≡ before

@@ -56,7 +56,7 @@ pub trait Source {
 
     /// Moves the first bytes that are left into the front of the buffer, and says how many; 0 says
     /// that nothing is left. The buffer behind them holds anything. After `Failed` nothing was
-    /// given, and the next call goes on as if this one hadn't been.
+    /// given, and the next call goes on as if this one hadn't been. No other call counts a fault.
     fn read(&mut self, buf: &mut [u8]) -> Result<usize, Failed>
         requires { 0 < length buf.old }
         ensures moved { IfOk result (λ n. Reads (given self.old) (given self.new) (left self.old)
@@ -69,7 +69,8 @@ pub trait Source {
         ensures left_quiet { StaysQuiet (left self.old) (left self.new) }
 
         ensures never_falls { fault_count self.old ≤ fault_count self.new }
-        ensures cause { OnErr result (Rose (fault_count self.old) (fault_count self.new)) };
+        ensures cause { OnErr result (Rose (fault_count self.old) (fault_count self.new)) }
+        ensures no_fault { OnOk result (fault_count self.new ≡ fault_count self.old) };
 
     /// How many reads failed so far, up to the greatest `u64`, where the count stands still.
     fn faults(&self) -> u64
@@ -84,7 +85,8 @@ pub trait Sink {
     /// How often it failed.
     ghost fault_count: { Self → ℕ };
 
-    /// Appends the first bytes of the piece, at least one, and says how many. After `Failed` none were appended.
+    /// Appends the first bytes of the piece, at least one, and says how many. After `Failed` none
+    /// were appended. No other call counts a fault.
     fn write(&mut self, piece: &[u8]) -> Result<usize, Failed>
         requires { 0 < length piece.now }
         ensures some { IfOk result (λ n. 0 < n) }
@@ -96,7 +98,8 @@ pub trait Sink {
         ensures quiet { StaysQuiet (held self.old) (held self.new) }
 
         ensures never_falls { fault_count self.old ≤ fault_count self.new }
-        ensures cause { OnErr result (Rose (fault_count self.old) (fault_count self.new)) };
+        ensures cause { OnErr result (Rose (fault_count self.old) (fault_count self.new)) }
+        ensures no_fault { OnOk result (fault_count self.new ≡ fault_count self.old) };
 
     /// How many writes failed so far, up to the greatest `u64`, where the count stands still.
     fn faults(&self) -> u64
@@ -111,6 +114,7 @@ pub fn write_all<K: Sink>(sink: &mut K, piece: &[u8]) -> Result<(), Failed>
     ensures quiet { StaysQuiet (K.held sink.old) (K.held sink.new) }
     ensures never_falls { K.fault_count sink.old ≤ K.fault_count sink.new }
     ensures cause { OnErr result (Rose (K.fault_count sink.old) (K.fault_count sink.new)) }
+    ensures no_fault { OnOk result (K.fault_count sink.new ≡ K.fault_count sink.old) }
 {
     let mut at = 0;
     while at < piece.len() {

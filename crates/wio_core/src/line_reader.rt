@@ -93,6 +93,8 @@ fn read_more<S: Source>(
     ensures never_falls { S.fault_count source.old ≤ S.fault_count source.new }
     ensures cause { result ≡ Err LineStop.ReadFault
         → Rose (S.fault_count source.old) (S.fault_count source.new) }
+    ensures no_fault { result ≢ Err LineStop.ReadFault
+        → S.fault_count source.new ≡ S.fault_count source.old }
 {
     let most = most_of(*room);
     if most == 0 {
@@ -129,6 +131,8 @@ fn find_line<S: Source>(
     ensures never_falls { S.fault_count source.old ≤ S.fault_count source.new }
     ensures cause { result ≡ Err LineStop.ReadFault
         → Rose (S.fault_count source.old) (S.fault_count source.new) }
+    ensures no_fault { result ≢ Err LineStop.ReadFault
+        → S.fault_count source.new ≡ S.fault_count source.old }
 {
     let mut seen = 0;
     'reading: loop {
@@ -163,6 +167,8 @@ fn front_line<S: Source>(
     ensures never_falls { S.fault_count source.old ≤ S.fault_count source.new }
     ensures cause { result ≡ Err LineStop.ReadFault
         → Rose (S.fault_count source.old) (S.fault_count source.new) }
+    ensures no_fault { result ≢ Err LineStop.ReadFault
+        → S.fault_count source.new ≡ S.fault_count source.old }
 {
     match known {
         Some(n) => {
@@ -213,6 +219,8 @@ fn turn<S: Source>(
     ensures never_falls { S.fault_count source.old ≤ S.fault_count source.new }
     ensures cause { result ≡ Err LineStop.ReadFault
         → Rose (S.fault_count source.old) (S.fault_count source.new) }
+    ensures no_fault { result ≢ Err LineStop.ReadFault
+        → S.fault_count source.new ≡ S.fault_count source.old }
 {
     window.consume(*lent);
     *lent = 0;
@@ -239,7 +247,7 @@ fn settle<'a>(
         → Tells result window.now (record
         { held = drop lent.new window.now; room = room; settled = Some why }) left }
     ensures cause { (before after : ℕ) → (why ≡ LineStop.ReadFault → Rose before after)
-        → HasFaultCause result before after }
+        → (why ≢ LineStop.ReadFault → after ≡ before) → HasFaultCause result before after }
 {
     *settled = Some(why);
     let rest = window.held().len();

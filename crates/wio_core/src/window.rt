@@ -1,6 +1,6 @@
 //! The bytes that a reader of lines holds, in one buffer that never grows.
 ghost use Rattle.std.specs.Prelude.{◌≡◌, ◌<◌, ◌≤◌, ◌++◌, ℕ, List, [], drop, length, slice_range};
-ghost use Rattle.std.specs.Prelude.{vec_len, IfOk, OnErr};
+ghost use Rattle.std.specs.Prelude.{vec_len, IfOk, OnOk, OnErr};
 ghost use Rattle.std.specs.Io.KnownBytes.{IsAtEnd};
 ghost use Rattle.wio_core.specs.Io.{Rose, StaysQuiet};
 ghost use Rattle.wio_core.specs.Lines.{TookFrom};
@@ -82,6 +82,7 @@ impl Window {
         ensures left_quiet { StaysQuiet (S.left source.old) (S.left source.new) }
         ensures never_falls { S.fault_count source.old ≤ S.fault_count source.new }
         ensures cause { OnErr result (Rose (S.fault_count source.old) (S.fault_count source.new)) }
+        ensures no_fault { OnOk result (S.fault_count source.new ≡ S.fault_count source.old) }
     {
         make_room(&mut self.buffer, &mut self.start, &mut self.end);
         let end = SIZE.min(self.end.saturating_add(most));

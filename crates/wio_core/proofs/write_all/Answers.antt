@@ -1,4 +1,4 @@
-use Rattle.std.proofs.Common.{arith, rules, length-drop}
+use Rattle.std.proofs.Common.{◌∙◌, arith, rules, length-drop}
 use Rattle.std.proofs.lemmas.List.{take_rest}
 use Rattle.wio_core.proofs.PiecesMove.{Appends-take}
 use Rattle.wio_core.proofs.write_all.Goals as goal
@@ -10,4 +10,5 @@ loop-at-preserved g c =
       gained = Appends-take _ _ _ _ _ _ c.loop-at.invariant.gained (rw take_rest at told.gained);
       quiet = λ none. told.quiet (c.loop-at.invariant.quiet none);
       never_falls = search rules;
+      no_fault = told.no_fault ∙ c.loop-at.invariant.no_fault;
     }

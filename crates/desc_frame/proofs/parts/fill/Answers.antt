@@ -1,4 +1,4 @@
-use Rattle.std.proofs.Common.{arith, length, ◌-◌}
+use Rattle.std.proofs.Common.{◌∙◌, arith, length, ◌-◌}
 use Rattle.std.proofs.Math.Facts.{Fits-lt-pow}
 use Rattle.desc_frame.proofs.FrameParts.{Gave-trans, take-filled, length-filled}
 use Rattle.desc_frame.proofs.parts.fill.Goals as goal
@@ -21,4 +21,5 @@ loop-at-preserved g c =
       given_quiet = λ none. told.given_quiet (c.loop-at.invariant.given_quiet none);
       left_quiet = λ none. told.left_quiet (c.loop-at.invariant.left_quiet none);
       never_falls = omega (arith, told.never_falls);
+      no_fault = told.no_fault (λ e. cc e) ∙ c.loop-at.invariant.no_fault;
     }

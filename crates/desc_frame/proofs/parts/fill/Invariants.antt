@@ -1,4 +1,4 @@
-use Rattle.std.proofs.Common.{length, ◌-◌, ◌≤◌, take}
+use Rattle.std.proofs.Common.{◌≡◌, length, ◌-◌, ◌≤◌, take}
 use Rattle.wio_core.specs.Io.{StaysQuiet}
 use Rattle.desc_frame.specs.Answers.{Gave}
 use Rattle.desc_frame.specs.Fills.{AreBytes}
@@ -14,6 +14,7 @@ invariant-loop-at g l = record {
   given_quiet : StaysQuiet (g.S.Source.given l.initial.source) (g.S.Source.given l.source);
   left_quiet : StaysQuiet (g.S.Source.left l.initial.source) (g.S.Source.left l.source);
   never_falls : g.S.Source.fault_count l.initial.source ≤ g.S.Source.fault_count l.source;
+  no_fault : g.S.Source.fault_count l.source ≡ g.S.Source.fault_count l.initial.source;
 }
 
 abbrev pub decreases-loop-at : goal.decreases-loop-at

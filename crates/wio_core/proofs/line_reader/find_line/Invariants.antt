@@ -16,6 +16,7 @@ invariant-reading g l = record {
   given_quiet : StaysQuiet (g.S.Source.given l.initial.source) (g.S.Source.given l.source);
   left_quiet : StaysQuiet (g.S.Source.left l.initial.source) (g.S.Source.left l.source);
   never_falls : g.S.Source.fault_count l.initial.source ≤ g.S.Source.fault_count l.source;
+  no_fault : g.S.Source.fault_count l.source ≡ g.S.Source.fault_count l.initial.source;
 }
 
 abbrev pub decreases-reading : goal.decreases-reading

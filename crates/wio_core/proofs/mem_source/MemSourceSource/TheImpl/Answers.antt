@@ -12,4 +12,5 @@ read-tells c = record {
   left_quiet = search rules;
   never_falls = search rules;
   cause = search rules;
+  no_fault = search rules;
 }
