@@ -1,8 +1,11 @@
 //! Batches of edits, as they gather and are applied.
 use crate::equal::equal;
 use edit_batch::{Edits, Pending};
+use std::alloc::Global;
 use std::process::Abort;
 use std::test::Fail;
+use wio_core::NoMemory;
+use wl_wire::Text;
 
 const INITIAL: Edits<'static> = Edits {
     before: 0,
@@ -36,24 +39,25 @@ fn holds(rt: &impl Abort, pending: &Pending, want: &Edits<'_>) {
 }
 
 // Twice each kind.
-fn ask_twice(pending: &mut Pending) {
+fn ask_twice(alloc: Global, pending: &mut Pending) -> Result<(), NoMemory> {
     pending.delete(5, 1);
-    pending.string("longer than what comes next");
-    pending.preedit("né", 0, 3);
+    pending.string(&Text::of(alloc, "longer than what comes next")?);
+    pending.preedit(&Text::of(alloc, "né")?, 0, 3);
     pending.delete(2, 0);
-    pending.preedit("b", -1, -1);
-    pending.string("é");
+    pending.preedit(&Text::of(alloc, "b")?, -1, -1);
+    pending.string(&Text::of(alloc, "é")?);
+    Ok(())
 }
 
 #[test]
 fn gives_the_last_of_each_kind_until_a_reset(rt: HostRuntime) -> Result<(), Fail> {
     let mut pending = Pending::new(rt.alloc())?;
     holds(&rt, &pending, &INITIAL);
-    ask_twice(&mut pending);
+    ask_twice(rt.alloc(), &mut pending)?;
     holds(&rt, &pending, &LAST);
     pending.reset();
     holds(&rt, &pending, &INITIAL);
-    pending.string("c");
+    pending.string(&Text::of(rt.alloc(), "c")?);
     holds(&rt, &pending, &STRING_ALONE);
     Ok(())
 }

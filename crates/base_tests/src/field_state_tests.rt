@@ -6,6 +6,7 @@ use std::alloc::Global;
 use std::process::Abort;
 use std::test::Fail;
 use wio_core::NoMemory;
+use wl_wire::Text;
 
 // A call with what it has to answer, or what a reader has to give.
 #[derive(Clone, Copy)]
@@ -45,18 +46,22 @@ const LOW: Rect = Rect {
     height: -1,
 };
 
-// Whether the text has an effect, where it is short enough to be told and there is memory for it.
+// Whether the text has an effect, where it has no zero byte, is short enough to be told, and there
+// is memory for it.
 fn surround(
     field: &mut Field,
+    alloc: Global,
     text: &str,
-    cursor: i32,
-    anchor: i32,
+    (cursor, anchor): (i32, i32),
     room: &mut Option<Room>,
-) -> Option<bool> {
+) -> Result<Option<bool>, NoMemory> {
+    let Ok(text) = Text::from_bytes(Vec::from_slice(alloc, text.as_bytes())?) else {
+        return Ok(None);
+    };
     if text.len() > SURROUNDING_LIMIT || room.is_none() {
-        return None;
+        return Ok(None);
     }
-    Some(field.set_surrounding(text, cursor, anchor, room))
+    Ok(Some(field.set_surrounding(&text, cursor, anchor, room)))
 }
 
 fn shows(
@@ -73,7 +78,13 @@ fn shows(
     equal(rt, field.rect(), rect);
 }
 
-fn take(rt: &impl Abort, field: &mut Field, room: &mut Option<Room>, step: Step) {
+fn take(
+    rt: &impl Abort,
+    alloc: Global,
+    field: &mut Field,
+    room: &mut Option<Room>,
+    step: Step,
+) -> Result<(), NoMemory> {
     match step {
         Step::Enter => field.enter(),
         Step::Leave => field.leave(),
@@ -82,7 +93,7 @@ fn take(rt: &impl Abort, field: &mut Field, room: &mut Option<Room>, step: Step)
         Step::Surround(text, cursor, anchor, has_effect) => {
             equal(
                 rt,
-                surround(field, text, cursor, anchor, room),
+                surround(field, alloc, text, (cursor, anchor), room)?,
                 Some(has_effect),
             );
         }
@@ -101,6 +112,7 @@ fn take(rt: &impl Abort, field: &mut Field, room: &mut Option<Room>, step: Step)
         ),
         Step::Count(count) => equal(rt, field.count(), count),
     }
+    Ok(())
 }
 
 fn play(rt: &impl Abort, alloc: Global, steps: &[Step]) -> Result<(), NoMemory> {
@@ -110,7 +122,7 @@ fn play(rt: &impl Abort, alloc: Global, steps: &[Step]) -> Result<(), NoMemory> 
         if room.is_none() {
             room = Some(Room::new(alloc)?);
         }
-        take(rt, &mut field, &mut room, *step);
+        take(rt, alloc, &mut field, &mut room, *step)?;
     }
     Ok(())
 }
@@ -222,15 +234,28 @@ fn each_list_of_steps_is_answered(rt: HostRuntime) -> Result<(), Fail> {
 
 #[test]
 fn the_first_text_takes_the_room(rt: HostRuntime) -> Result<(), Fail> {
-    let mut field = Field::new(rt.alloc());
-    let mut room = Some(Room::new(rt.alloc())?);
-    equal(&rt, surround(&mut field, "a", 0, 0, &mut room), Some(false));
+    let alloc = rt.alloc();
+    let mut field = Field::new(alloc);
+    let mut room = Some(Room::new(alloc)?);
+    equal(
+        &rt,
+        surround(&mut field, alloc, "a", (0, 0), &mut room)?,
+        Some(false),
+    );
     assert!(rt; room.is_some());
     field.enter();
-    equal(&rt, surround(&mut field, "a", 0, 0, &mut room), Some(true));
+    equal(
+        &rt,
+        surround(&mut field, alloc, "a", (0, 0), &mut room)?,
+        Some(true),
+    );
     assert!(rt; room.is_none());
-    room = Some(Room::new(rt.alloc())?);
-    equal(&rt, surround(&mut field, "b", 1, 1, &mut room), Some(true));
+    room = Some(Room::new(alloc)?);
+    equal(
+        &rt,
+        surround(&mut field, alloc, "b", (1, 1), &mut room)?,
+        Some(true),
+    );
     assert!(rt; room.is_some());
     Ok(())
 }

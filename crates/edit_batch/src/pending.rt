@@ -1,11 +1,13 @@
 //! A method's pending edits: a slot for each kind, whose texts have their room from the beginning.
-ghost use Rattle.std.specs.Prelude.{◌≡◌, ◌≤◌, List, [], ◌∷◌, length, IfOk};
+ghost use Rattle.std.specs.Prelude.{◌≡◌, ◌≤◌, List, [], ◌∷◌, length, IfOk, IsTrue};
 ghost use Rattle.std.specs.String.{string_bytes, string_capacity};
+ghost use Rattle.wl_wire.specs.Texts.{has_no_zero};
 ghost use Rattle.edit_batch.specs.Calls.{Call, String, Preedit, Delete, Reset, last_edits};
 
 use std::alloc::Global;
 use std::marker::Model;
 use wio_core::NoMemory;
+use wl_wire::Text;
 
 /// The longest text of a `zwp_input_method_v2.commit_string`, in bytes: what fits a message of 4,096 bytes beside its
 /// header, the text's length and its zero byte.
@@ -43,8 +45,9 @@ pub struct Pending {
 }
 
 impl Model for Pending {
-    ghost use Rattle.std.specs.Prelude.{◌≤◌};
+    ghost use Rattle.std.specs.Prelude.{◌≤◌, IsTrue};
     ghost use Rattle.std.specs.String.{string_bytes, string_capacity};
+    ghost use Rattle.wl_wire.specs.Texts.{has_no_zero};
     ghost use Rattle.edit_batch.specs.Calls.{LastEdits};
     ghost use Rattle.edit_batch.specs.declared.pending.TheConstants.{STRING_LIMIT, PREEDIT_LIMIT};
 
@@ -56,18 +59,21 @@ impl Model for Pending {
       preedit = record { text = string_bytes p.preedit; begin = p.begin; end = p.end };
     } };
 
-    ghost invariant = { λ p. (STRING_LIMIT ≤ string_capacity p.string)
-        × (PREEDIT_LIMIT ≤ string_capacity p.preedit) };
+    ghost invariant = { λ p.
+        ((STRING_LIMIT ≤ string_capacity p.string) × IsTrue (has_no_zero (string_bytes p.string)))
+        × ((PREEDIT_LIMIT ≤ string_capacity p.preedit)
+        × IsTrue (has_no_zero (string_bytes p.preedit))) };
 }
 
 // Puts a text in the place of the one that is kept, within the room that it has.
-fn replace_text(kept: &mut String, text: &str)
+fn replace_text(kept: &mut String, text: &Text)
     requires { length text.now ≤ string_capacity kept.old }
     ensures bytes { string_bytes kept.new ≡ text.now }
+    ensures clean { IsTrue (has_no_zero (string_bytes kept.new)) }
     ensures capacity { string_capacity kept.old ≤ string_capacity kept.new }
 {
     kept.clear();
-    let pushed = kept.push_str(text);
+    let pushed = kept.push_str(text.as_str());
     let holds = pushed.is_ok();
     prove!(holds);
 }
@@ -90,7 +96,7 @@ impl Pending {
     }
 
     /// `zwp_input_method_v2.commit_string`: the text to insert at the next commit.
-    pub fn string(&mut self, text: &str)
+    pub fn string(&mut self, text: &Text)
         requires { length text.now ≤ STRING_LIMIT }
         ensures replaced { self.new ≡ record self.old { string = text.now } }
         ensures last { (calls : List Call) → self.old ≡ last_edits calls →
@@ -101,7 +107,7 @@ impl Pending {
 
     /// `zwp_input_method_v2.set_preedit_string`: the text being composed from the next commit on,
     /// and the bytes where its cursor begins and ends. The cursors are kept as they are given.
-    pub fn preedit(&mut self, text: &str, begin: i32, end: i32)
+    pub fn preedit(&mut self, text: &Text, begin: i32, end: i32)
         requires { length text.now ≤ PREEDIT_LIMIT }
         ensures replaced { self.new ≡ record self.old {
           preedit = record
@@ -149,6 +155,8 @@ impl Pending {
           begin = result.begin;
           end = result.end;
         } ≡ self.now.preedit }
+        ensures string_clean { IsTrue (has_no_zero result.string.now) }
+        ensures preedit_clean { IsTrue (has_no_zero result.preedit.now) }
     {
         Edits {
             before: self.before,

@@ -1,7 +1,8 @@
 //! One text field: its requests set what is pending, and a commit makes that current where the field holds the seat.
 //! What is current is defined by looking back over the calls; here it is kept in two sets of slots.
 ghost use Rattle.std.specs.Prelude.{◌≡◌, ◌≤◌, List, [], ◌∷◌, length, true, false, Option, None};
-ghost use Rattle.std.specs.Prelude.{option_map, is_some, if◌then◌else◌};
+ghost use Rattle.std.specs.Prelude.{option_map, is_some, if◌then◌else◌, IsTrue, IfSome};
+ghost use Rattle.wl_wire.specs.Texts.{has_no_zero};
 ghost use Rattle.field_state.specs.Calls.{Call, Enter, Leave, Enable, Disable, Surround, Cause};
 ghost use Rattle.field_state.specs.Calls.{Content, Rectangle, Commit, Displace, initial, is_place};
 ghost use Rattle.field_state.specs.Hold.{entered, answer, holds_after, has_effect, taken};
@@ -17,6 +18,7 @@ use crate::slots::{SURROUNDING_LIMIT, Slots};
 use popup_place::Rect;
 use std::alloc::Global;
 use std::marker::Model;
+use wl_wire::Text;
 
 /// One `zwp_text_input_v3`. Contracts speak of the calls on it so far, the newest first.
 #[derive(Drop)]
@@ -202,7 +204,7 @@ impl Field {
     /// other call takes memory.
     pub fn set_surrounding(
         &mut self,
-        text: &str,
+        text: &Text,
         cursor: i32,
         anchor: i32,
         room: &mut Option<Room>,
@@ -215,7 +217,8 @@ impl Field {
         ensures effect { (calls : List Call) → Stands calls self.old →
             result ≡ has_effect calls (Surround text.now cursor anchor) }
     {
-        let has_effect = self.entered && is_place(text, cursor) && is_place(text, anchor);
+        let shown = text.as_str();
+        let has_effect = self.entered && is_place(shown, cursor) && is_place(shown, anchor);
         if has_effect {
             take_room(&mut self.pending, &mut self.current, room);
             self.pending.set_surrounding(text, cursor, anchor);
@@ -309,6 +312,7 @@ impl Field {
         ensures history { (calls : List Call) → Stands calls self.now →
             option_map (λ s. record { text = s.0.now; cursor = s.1; anchor = s.2 }) result
             ≡ (pending_of calls).surrounding }
+        ensures clean { IfSome result (λ s. IsTrue (has_no_zero s.0.now)) }
     {
         self.pending.surrounding()
     }
@@ -329,6 +333,7 @@ impl Field {
         ensures history { (calls : List Call) → Stands calls self.now →
             option_map (λ s. record { text = s.0.now; cursor = s.1; anchor = s.2 }) result ≡
             (current calls).surrounding }
+        ensures clean { IfSome result (λ s. IsTrue (has_no_zero s.0.now)) }
     {
         self.current.surrounding()
     }

@@ -83,7 +83,7 @@ impl Machine {
         ensures { state self.new ≡ moved (acts.MString method text.now) (state self.old) }
     {
         if self.is_editing(method) {
-            self.pending.string(text.as_str());
+            self.pending.string(text);
         }
     }
 
@@ -93,7 +93,7 @@ impl Machine {
             self.old) }
     {
         if self.is_editing(method) {
-            self.pending.preedit(text.as_str(), begin, end);
+            self.pending.preedit(text, begin, end);
         }
     }
 

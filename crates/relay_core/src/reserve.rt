@@ -1,5 +1,6 @@
 //! What is made before an act.
-ghost use Rattle.std.specs.Prelude.{◌≡◌, ◌-◌, ◌<◌, Some, None, OnOk};
+ghost use Rattle.std.specs.Prelude.{◌≡◌, ◌-◌, ◌<◌, Some, None, OnOk, IsTrue};
+ghost use Rattle.wl_wire.specs.Texts.{has_no_zero};
 ghost use Rattle.relay_model.specs.declared.act.Act.{Act};
 ghost use Rattle.seat_objects.specs.Objects.{find, field_in};
 ghost use Rattle.relay_core.specs.Kept.{state, HasSpare, text_pending};
@@ -11,7 +12,8 @@ use relay_model::{Act, Label};
 use wio_core::NoMemory;
 
 fn surrounding_text(field: &Field) -> &str
-    ensures { result.now ≡ text_around field.now.current.surrounding }
+    ensures text { result.now ≡ text_around field.now.current.surrounding }
+    ensures clean { IsTrue (has_no_zero result.now) }
 {
     match field.surrounding() {
         Some((text, _, _)) => text,
@@ -20,7 +22,8 @@ fn surrounding_text(field: &Field) -> &str
 }
 
 fn pending_text(field: &Field) -> &str
-    ensures { result.now ≡ text_around field.now.pending.surrounding }
+    ensures text { result.now ≡ text_around field.now.pending.surrounding }
+    ensures clean { IsTrue (has_no_zero result.now) }
 {
     match field.pending_surrounding() {
         Some((text, _, _)) => text,

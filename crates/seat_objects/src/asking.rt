@@ -21,7 +21,7 @@ pub fn ask(field: &mut Field, act: &Act, room: &mut Option<Room>)
             anchor,
             ..
         } => {
-            let _ = field.set_surrounding(text.as_str(), *cursor, *anchor, room);
+            let _ = field.set_surrounding(text, *cursor, *anchor, room);
         }
         Act::Cause { cause, .. } => field.set_cause(*cause),
         Act::Content { hint, purpose, .. } => field.set_content(*hint, *purpose),

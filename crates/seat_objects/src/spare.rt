@@ -1,5 +1,5 @@
 //! What is made before an act, so that the act takes no memory.
-ghost use Rattle.std.specs.Prelude.{◌≡◌, [], Some, None, OnOk, IfOk};
+ghost use Rattle.std.specs.Prelude.{◌≡◌, [], Some, None, OnOk, IsTrue};
 ghost use Rattle.wl_wire.specs.Texts.{has_no_zero};
 
 use field_state::Room;
@@ -19,22 +19,6 @@ pub struct Spare {
     pub room: Option<Room>,
 }
 
-fn has_no_zero(bytes: &[u8]) -> bool
-    ensures { result ≡ has_no_zero bytes.now }
-{
-    bytes.iter().all(|b| *b != 0)
-}
-
-// A copy of a text that some `Text` was copied from, so it has no zero byte.
-fn copy(alloc: Global, text: &str) -> Result<Text, NoMemory>
-    ensures { IfOk result (λ t. t ≡ text.now) }
-{
-    if !has_no_zero(text.as_bytes()) {
-        return Err(NoMemory);
-    }
-    Text::of(alloc, text)
-}
-
 impl Spare {
     /// Nothing is copied, and no memory is made.
     pub fn new(alloc: Global) -> Spare
@@ -49,17 +33,19 @@ impl Spare {
 
     /// Copies a surrounding text, or the string of a batch. `NoMemory` is its one error.
     pub fn copy_text(&mut self, alloc: Global, text: &str) -> Result<(), NoMemory>
+        requires { IsTrue (has_no_zero text.now) }
         ensures { OnOk result (self.new ≡ record self.old { text = text.now }) }
     {
-        self.text = copy(alloc, text)?;
+        self.text = Text::of(alloc, text)?;
         Ok(())
     }
 
     /// Copies the preedit of a batch. `NoMemory` is its one error.
     pub fn copy_preedit(&mut self, alloc: Global, text: &str) -> Result<(), NoMemory>
+        requires { IsTrue (has_no_zero text.now) }
         ensures { OnOk result (self.new ≡ record self.old { preedit = text.now }) }
     {
-        self.preedit = copy(alloc, text)?;
+        self.preedit = Text::of(alloc, text)?;
         Ok(())
     }
 
