@@ -6,6 +6,11 @@ use Rattle.relay_model.specs.declared.said.Told.{Told}
 use Rattle.relay_model.specs.Told.{told}
 use Rattle.broker_model.specs.declared.journal.Entry.{Entry}
 use Rattle.broker_model.specs.Ids.{Made, log_of}
+use Rattle.living_labels.specs.Enough.{made_at}
+use Rattle.living_labels.specs.Kept.{kept_of}
+use Rattle.living_labels.proofs.EnoughIsTold.{enough_told}
+use Rattle.living_labels.proofs.KeptIsEnough.{kept_enough}
+use Rattle.broker_core.proofs.KeptTellsAll.{told_live_alike}
 use Rattle.broker_model.specs.Resolve.{past_of, resolve}
 use Rattle.broker_model.specs.Groups.{Piece, nothing, group_for}
 use Rattle.broker_model.specs.Out.{Outgoing, fits, act_at, group_at, before_group, out_for}
@@ -127,6 +132,8 @@ pub told_is_watched : (e : Entry) (s : State) → IsReadyFor e s →
     ≡ told_of s.capacity e s.journal.entries
 told_is_watched e s r =
     ap (λ (m : List Made). told_live n m live all) r.made
+    ∙ told_live_alike n made (made_at e J ++ kept_of J) live all
+    (enough_told e J (made_at e J ++ kept_of J) (kept_enough e J)).each
     ∙ ap₂ (λ (a b : List Watched). a ++ b)
     (ap (λ (peers : List Numbered). shown_by n made peers all) r.who
     ∙ sym (same_shown n (act_at e J) (resolve J) made (numbered 1 (past_of (e ∷ J)).joined) (roster (e ∷ J))

@@ -15,6 +15,7 @@ pub mod TableAfterAct
 pub mod LiveObjectKinds
 pub mod MessageCalls
 pub mod LivePeersKept
+pub mod KeptTellsAll
 pub mod ReadyEntryStands
 pub mod ReadyForEnd
 pub mod ReadyForMessage

@@ -1,12 +1,12 @@
 -- Nothing is out for a label beyond the journal.
-use Rattle.std.proofs.Common.{◌≡◌, ℕ, ◌+◌, ◌<◌, ◌≤◌, List, [], ◌∷◌, length, Bool, false, if◌then◌else◌, Option, Some, None, refl, ap, ◌∙◌, arith, ◌++◌, true, sym, subst, inl, inr, ◌⊎◌}
+use Rattle.std.proofs.Common.{if◌then◌else◌, ◌≡◌, ℕ, ◌+◌, ◌<◌, ◌≤◌, List, [], ◌∷◌, length, Bool, false, Option, Some, None, refl, ap, ◌∙◌, arith, true, inl}
 use Rattle.std.proofs.lemmas.Bool.{ne_eqb}
 use Rattle.relay_model.specs.Objects.{is_peer_kind, is_kind, is_peer}
 use Rattle.relay_model.proofs.ObjectLaws.{object_beyond}
 use Rattle.broker_model.specs.declared.journal.Entry.{Entry}
 use Rattle.broker_model.specs.declared.journal.Entry.TheVariants as entries
 use Rattle.broker_model.specs.Ids.{Joined, log_of, peer_at, Made}
-use Rattle.broker_model.specs.Resolve.{past_of, means}
+use Rattle.broker_model.specs.Resolve.{past_of}
 use Rattle.broker_model.specs.Groups.{nothing}
 use Rattle.broker_model.specs.Out.{Outgoing, group_at, is_label, took_at, before_group, out_for}
 use Rattle.broker_model.proofs.LivePeersJoined.{length_log}
@@ -14,13 +14,13 @@ use Rattle.broker_model.proofs.LabelsRiseByNumber.{label_within}
 use Rattle.broker_model.proofs.QuietStoresStay.{quiet_out}
 use Rattle.std.specs.FinMap as map
 use Rattle.im_objects.specs.Objects.{Objects, Stands}
-use Rattle.relay_model.specs.declared.act.Act.{Act}
 use Rattle.broker_model.specs.Tables.{calls_for, live_id}
 use Rattle.broker_model.proofs.IdsAreNames.{IsIn}
-use Rattle.broker_model.proofs.MadeAtMostOne.{IsOne, one_entry}
 use Rattle.broker_model.proofs.MadeObjectsStand.{sound}
 use Rattle.broker_model.proofs.LabelsAreIds.{unmade, found_by_label}
-use Rattle.seat_audience.specs.Directed.{IsNewest, AreFalling}
+use Rattle.living_labels.specs.Kept.{kept_of}
+use Rattle.living_labels.proofs.KeptIsEnough.{kept_in}
+use Rattle.seat_audience.specs.Directed.{IsNewest}
 
 -- an entry tells nothing to who was no peer before it and does not join by it
 abbrev pub TellsPeersAlone : Type 0
@@ -61,7 +61,7 @@ unborn quiet capacity (e ∷ older) p h =
     ∙ ap (before_group e older p) (unborn quiet capacity older p more)
     ∙ ap (λ (n : ℕ). after_taking (0 + n)) none
 
--- The label of an entry to come is new, and labels fall from the newest object on.
+-- The label of an entry to come is new.
 
 -- no live peer's table has it
 pub label_unused : (older : List Entry) (p : ℕ) (table : Objects) → is_peer (log_of (past_of older)) p ≡ true →
@@ -75,23 +75,8 @@ newest_of : (n : ℕ) (made : List Made) → ((m : Made) → IsIn made m → m.l
 newest_of n [] h = tt
 newest_of n (m ∷ made) h = h m (inl refl)
 
--- it is above all that were made
-pub newest : (older : List Entry) → IsNewest (length older + 1) (past_of older).made
+-- it is above all that are kept
+pub newest : (older : List Entry) → IsNewest (length older + 1) (kept_of older)
 newest older =
-    newest_of (length older + 1) (past_of older).made
-    (λ m i. (let w : m.label ≤ length older = (sound older m i).within in omega arith))
-
-falls : (log : List Act) (n : ℕ) (act : Act) (new made : List Made) → (new ≡ []) ⊎ IsOne log made n act new →
-    IsNewest n made → AreFalling made →
-    AreFalling (new ++ made)
-falls log n act new made (inl none) w f = subst (λ ms. AreFalling (ms ++ made)) (sym none) f
-falls log n act new made (inr o) w f =
-    subst (λ ms. AreFalling (ms ++ made)) (sym o.is) (subst (λ (k : ℕ). IsNewest k made) (sym o.label) w, f)
-
--- what was made later has the higher label
-pub falling : (journal : List Entry) → AreFalling (past_of journal).made
-falling [] = tt
-falling (e ∷ older) =
-    falls (log_of (past_of older)) (length older + 1) (means e (length older + 1) (past_of older)).act
-    (means e (length older + 1) (past_of older)).made
-    (past_of older).made (one_entry e older (sound older)) (newest older) (falling older)
+    newest_of (length older + 1) (kept_of older)
+    (λ m i. (let w : m.label ≤ length older = (sound older m (kept_in older m i)).within in omega arith))

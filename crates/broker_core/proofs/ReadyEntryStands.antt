@@ -1,5 +1,5 @@
 -- A state that is ready for an entry stands for the journal with it, once its act is told.
-use Rattle.std.proofs.Common.{◌≡◌, ℕ, ◌+◌, ◌<◌, ◌≤◌, List, ◌∷◌, length, map, ap, sym, subst, ◌∙◌, arith}
+use Rattle.std.proofs.Common.{◌≡◌, ℕ, ◌+◌, ◌<◌, ◌≤◌, List, ◌∷◌, ◌++◌, length, map, ap, sym, subst, ◌∙◌, arith}
 use Rattle.std.specs.List.{AllByRecursion}
 use Rattle.std.proofs.lemmas.List.{length-map}
 use Rattle.relay_model.specs.declared.said.Told.{Told}
@@ -9,6 +9,11 @@ use Rattle.relay_model.proofs.ActsOrIdle.{length_history}
 use Rattle.relay_core.specs.Stands as relay
 use Rattle.broker_model.specs.declared.journal.Entry.{Entry}
 use Rattle.broker_model.specs.Ids.{Made}
+use Rattle.living_labels.specs.Enough.{made_at}
+use Rattle.living_labels.specs.Kept.{kept_by, kept_of}
+use Rattle.living_labels.proofs.EnoughIsTold.{enough_told}
+use Rattle.living_labels.proofs.KeptIsEnough.{kept_enough}
+use Rattle.broker_core.proofs.KeptTellsAll.{all_told_alike}
 use Rattle.broker_model.specs.Resolve.{past_of, resolve}
 use Rattle.broker_model.specs.Out.{act_at}
 use Rattle.broker_model.proofs.LivePeersJoined.{length_resolve}
@@ -43,7 +48,8 @@ pub record IsEntered (e : Entry) (s t : State) : Type 0 where
       t.audience.live.items
       ≡ map (told_all s.audience.directory.made (told (act_at e s.journal.entries) (resolve s.journal.entries)))
       s.audience.live.items
-  pub directory : t.audience.directory ≡ s.audience.directory
+  pub kept : t.audience.directory.made
+      ≡ kept_by (act_at e s.journal.entries) (length s.journal.entries + 1) s.audience.directory.made
   pub labels : t.labels ≡ s.labels
   pub ended : t.ended ≡ s.ended
   pub capacity : t.capacity ≡ s.capacity
@@ -56,13 +62,15 @@ stands_entered e s t r n =
     let J : List Entry = s.journal.entries in
     let all : List Told = told (act_at e J) (resolve J) in
     let now : t.audience.live.items ≡ map (told_all (past_of (e ∷ J)).made all) s.audience.live.items =
-    n.live ∙ ap (λ (made : List Made). map (told_all made all) s.audience.live.items) r.made in
+    n.live ∙ ap (λ (made : List Made). map (told_all made all) s.audience.live.items) r.made
+    ∙ all_told_alike (past_of (e ∷ J)).made (made_at e J ++ kept_of J) all s.audience.live.items
+    (enough_told e J (made_at e J ++ kept_of J) (kept_enough e J)).each in
     let many : length t.audience.live.items ≡ length s.audience.live.items =
     ap length now ∙ length-map s.audience.live.items (told_all (past_of (e ∷ J)).made all) in
     let for_it : StandsFor s.capacity (e ∷ J) t = record {
       recorded = n.entered;
       relayed = n.relayed;
-      made = ap (λ d. d.made) n.directory ∙ r.made;
+      made = n.kept ∙ ap (kept_by (act_at e J) (length J + 1)) r.made;
       who = ap (map who) now ∙ same_who (past_of (e ∷ J)).made all s.audience.live.items ∙ r.who;
       live = subst (λ (l : List Live). AllByRecursion (IsLive s.capacity (e ∷ J)) l) (sym now)
           (all_played s.capacity e J s.audience.live.items r.live);

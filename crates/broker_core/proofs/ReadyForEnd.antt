@@ -14,6 +14,8 @@ use Rattle.relay_core.specs.Stands as relay
 use Rattle.broker_model.specs.declared.journal.Entry.{Entry}
 use Rattle.broker_model.specs.declared.journal.Entry.TheVariants as entries
 use Rattle.broker_model.specs.Ids.{Joined, log_of, peer_in, peer_at}
+use Rattle.living_labels.specs.Enough.{made_at}
+use Rattle.living_labels.specs.Kept.{kept_of}
 use Rattle.broker_model.specs.Resolve.{of_peer, only, past_of, resolve}
 use Rattle.broker_model.specs.Out.{act_at, out_for}
 use Rattle.broker_model.proofs.SettlingEnds.{end_act}
@@ -80,8 +82,8 @@ of_number P q l (x ∷ rest) p e = of_here P q l x rest (is_number q x) p.0 (of_
 
 -- what its end makes is nothing
 end_makes : (q : ℕ) (why : EndCause) (older : List Entry) (peer : Joined) → peer_at (past_of older) q ≡ Some peer →
-    (past_of (entries.End q why ∷ older)).made ≡ (past_of older).made
-end_makes q why older peer e = ap (λ o. (of_peer o (λ p. only (acts.Gone p.label why))).made ++ (past_of older).made) e
+    made_at (entries.End q why) older ++ kept_of older ≡ kept_of older
+end_makes q why older peer e = ap (λ o. (of_peer o (λ p. only (acts.Gone p.label why))).made ++ kept_of older) e
 
 gone_reserved : (relay : Shown) (p : ℕ) (why : EndCause) → IsReserved relay (acts.Gone p why)
 gone_reserved relay p why = record { room = tt; spare = tt; board = tt; fits = tt }

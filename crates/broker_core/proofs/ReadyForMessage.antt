@@ -10,6 +10,8 @@ use Rattle.relay_core.specs.Stands as relay
 use Rattle.broker_model.specs.declared.journal.Entry.{Entry}
 use Rattle.broker_model.specs.declared.journal.Entry.TheVariants as entries
 use Rattle.broker_model.specs.Ids.{object_at, Joined, Made, peer_at}
+use Rattle.living_labels.specs.Enough.{made_at}
+use Rattle.living_labels.specs.Kept.{kept_of}
 use Rattle.broker_model.specs.Resolve.{past_of, resolve, Meaning, of_peer, refused_for, means, made_new}
 use Rattle.broker_model.specs.Out.{act_at, is_label}
 use Rattle.broker_model.specs.Limits.{is_counted, number_counted}
@@ -92,7 +94,7 @@ one_more (entries.Took q n) older h = absurd h
 pub ready_spoken : (e : Entry) (s t : State) → Stands s → IsSpoken e → CanTake e s.journal.entries →
     IsPrepared (act_at e s.journal.entries) s t →
     FitsMessage (act_at e s.journal.entries) →
-    t.audience.directory.made ≡ (past_of (e ∷ s.journal.entries)).made →
+    t.audience.directory.made ≡ made_at e s.journal.entries ++ kept_of s.journal.entries →
     map who t.audience.live.items ≡ map who s.audience.live.items →
     AllByRecursion (IsReady s.capacity e s.journal.entries) t.audience.live.items →
     IsReadyFor e t
@@ -203,9 +205,9 @@ pub bad_act : (q : ℕ) (head : List ℕ) (older : List Entry) (peer : Joined) �
 bad_act q head older peer e = ap (λ o. (of_peer o (λ (p : Joined). refused_for p.label p.label faults.Size)).act) e
 
 bad_makes : (q : ℕ) (head : List ℕ) (older : List Entry) (peer : Joined) → peer_at (past_of older) q ≡ Some peer →
-    (past_of (entries.BadSize q head ∷ older)).made ≡ (past_of older).made
+    made_at (entries.BadSize q head) older ++ kept_of older ≡ kept_of older
 bad_makes q head older peer e =
-    ap (λ o. (of_peer o (λ (p : Joined). refused_for p.label p.label faults.Size)).made ++ (past_of older).made) e
+    ap (λ o. (of_peer o (λ (p : Joined). refused_for p.label p.label faults.Size)).made ++ kept_of older) e
 
 bad_refused : (q : ℕ) (head : List ℕ) (older : List Entry) (peer : Joined) (k : ℕ) →
     peer_at (past_of older) q ≡ Some peer → k ≡ q →
@@ -270,9 +272,9 @@ message_others q id opcode body older k d = rw d refl
 
 message_makes : (q id opcode : ℕ) (body : List ℕ) (older : List Entry) (p : ℕ) (m : declared.Meaning) →
     meant p (length older + 1) m ≡ means (entries.Message q id opcode body) (length older + 1) (past_of older) →
-    (past_of (entries.Message q id opcode body ∷ older)).made
-    ≡ made_new p (length older + 1) (option_map asked m.made) ++ (past_of older).made
-message_makes q id opcode body older p m e = ap (λ (k : Meaning). k.made ++ (past_of older).made) (sym e)
+    made_at (entries.Message q id opcode body) older ++ kept_of older
+    ≡ made_new p (length older + 1) (option_map asked m.made) ++ kept_of older
+message_makes q id opcode body older p m e = ap (λ (k : Meaning). k.made ++ kept_of older) (sym e)
 
 -- it isn't from any other live peer
 not_from : (q id opcode : ℕ) (body : List ℕ) (older : List Entry) (peer : Joined) (x : Live) →

@@ -17,6 +17,8 @@ use Rattle.relay_core.specs.Stands as relay
 use Rattle.broker_model.specs.declared.journal.Entry.{Entry}
 use Rattle.broker_model.specs.declared.journal.Entry.TheVariants as entries
 use Rattle.broker_model.specs.Ids.{Joined, log_of, peer_at}
+use Rattle.living_labels.specs.Enough.{made_at}
+use Rattle.living_labels.specs.Kept.{kept_of}
 use Rattle.broker_model.specs.Resolve.{of_peer, only, past_of, resolve}
 use Rattle.broker_model.specs.Out.{Outgoing, act_at, stored, is_label, took_at, out_for}
 use Rattle.broker_model.specs.Stored.{cells_out}
@@ -207,8 +209,8 @@ ready_took q n peer s t v k joined whos live left it =
     let now : Entry = entries.Took q n in
     let act : act_at now J ≡ acts.Took peer.label n =
     ap (λ o. (of_peer o (λ p. only (acts.Took p.label n))).act) joined in
-    let makes : (past_of (now ∷ J)).made ≡ (past_of J).made =
-    ap (λ o. (of_peer o (λ p. only (acts.Took p.label n))).made ++ (past_of J).made) joined in
+    let makes : made_at now J ++ kept_of J ≡ kept_of J =
+    ap (λ o. (of_peer o (λ p. only (acts.Took p.label n))).made ++ kept_of J) joined in
     let short : length J < 8000000 = few_entries s v k.few in
     let many : length t.audience.live.items ≡ length s.audience.live.items =
     sym (length-map t.audience.live.items who) ∙ ap length whos ∙ length-map s.audience.live.items who in

@@ -153,6 +153,7 @@ impl State {
         let number = self.journal.len() + 1;
         watch.entered(number, &entry, act, &self.relay);
         let route = self.play(number, act, watch);
+        self.audience.directory.let_go(act, number);
         let stamp = self.stamps.next(&entry, given);
         self.stamps.push(stamp);
         self.journal.push(entry);

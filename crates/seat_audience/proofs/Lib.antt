@@ -1,6 +1,7 @@
 pub mod GatheredTokens
 pub mod OneOfPeersChanges
 pub mod SearchByLabel
+pub mod ForgottenObjects
 pub mod PlaceByNumber
 pub mod ToldToAll
 pub mod MarkedPlaces

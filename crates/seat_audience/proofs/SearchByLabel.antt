@@ -17,7 +17,7 @@ first_with label [] = None
 first_with label (o ∷ rest) = (if o.label == label then Some (made_of o) else first_with label rest)
 
 -- each label is below all that follow
-abbrev AreOrdered : List Named → Type 0
+abbrev pub AreOrdered : List Named → Type 0
 AreOrdered [] = Unit {0}
 AreOrdered (o ∷ rest) = AllByRecursion (λ r. o.label < r.label) rest × AreOrdered rest
 
@@ -39,7 +39,7 @@ last_is_least (n ∷ ms) m h = step ms n m h.0 h.1 (last_is_least ms m h.1)
     step (k ∷ ms) n m h falls rest = ((omega (arith, h, rest.0.0), rest.0), (h, rest.1))
 
 -- the oldest is the last
-front : (o : Named) (objects : List Named) → made_from (o ∷ objects) ≡ made_from objects ++ made_of o ∷ []
+pub front : (o : Named) (objects : List Named) → made_from (o ∷ objects) ≡ made_from objects ++ made_of o ∷ []
 front o objects = reverse-append (made_of o ∷ []) (map made_of objects)
 
 all_reversed : (P : ℕ → Type 0) (objects : List Named) → AllByRecursion (λ (m : Made). P m.label) (made_from objects) →
@@ -54,7 +54,7 @@ all_reversed P (o ∷ objects) h = let parts =
     split P [] m h = (tt, h.0)
     split P (n ∷ ms) m h = let rest = split P ms m h.1 in ((h.0, rest.0), rest.1)
 
-ordered : (objects : List Named) → AreFalling (made_from objects) → AreOrdered objects
+pub ordered : (objects : List Named) → AreFalling (made_from objects) → AreOrdered objects
 ordered [] h = tt
 ordered (o ∷ objects) h =
     let parts = last_is_least (made_from objects) (made_of o) (subst AreFalling (front o objects) h) in

@@ -1,5 +1,9 @@
 //! Whose each label is.
-use relay_model::Label;
+ghost use Rattle.std.specs.Prelude.{◌≡◌, ◌==◌, ◌≤◌, not, filter, vec_len, vec_capacity};
+ghost use Rattle.living_labels.specs.Kept.{is_object};
+ghost use Rattle.seat_audience.specs.Directed.{made_of, made_from, AreFalling};
+
+use relay_model::{Act, Label};
 use std::alloc::Global;
 use std::marker::Model;
 use wio_core::NoMemory;
@@ -18,13 +22,49 @@ pub struct Named {
     pub interface: Interface,
 }
 
-/// All objects that were made under ids, found by their labels. A look-up costs the logarithm of their number.
+/// Objects that were made under ids and weren't let go, found by their labels. A look-up costs the
+/// logarithm of their number.
 ///
-/// In contracts it is what was made, the newest first, and for how many more there is room.
+/// In contracts it is what they were made as, the newest first, and for how many more there is
+/// room.
 #[derive(Drop)]
 pub struct Directory {
     // By rising label.
     objects: Vec<Named>,
+}
+
+// It is the object with the label, and no display.
+fn is_object(object: &Named, label: Label) -> bool
+    ensures { result ≡ is_object label (made_of object.now) }
+{
+    label == object.label && object.peer != object.label
+}
+
+// Lets go of the object with the label, if it is there and no display.
+fn forget(objects: &mut Vec<Named>, label: Label)
+    requires falling { AreFalling (made_from objects.old.items) }
+    ensures left { made_from objects.new.items ≡ filter (λ m. not (is_object label m))
+        (made_from objects.old.items) }
+    ensures len { vec_len objects.new ≤ vec_len objects.old }
+    ensures capacity { vec_capacity objects.new ≡ vec_capacity objects.old }
+{
+    let place = objects.partition_point(|object| object.label < label);
+    let Some(object) = objects.get(place) else {
+        return;
+    };
+    if is_object(object, label) {
+        let _ = objects.remove(place);
+    }
+}
+
+// Lets go of all that the peer made.
+fn forget_peer(objects: &mut Vec<Named>, peer: Label)
+    ensures left { made_from objects.new.items ≡ filter (λ m. not (m.peer == peer))
+        (made_from objects.old.items) }
+    ensures len { vec_len objects.new ≤ vec_len objects.old }
+    ensures capacity { vec_capacity objects.new ≡ vec_capacity objects.old }
+{
+    objects.retain(|object| object.peer != peer);
 }
 
 impl Model for Directory {
@@ -43,6 +83,7 @@ impl Model for Directory {
 
 impl Directory {
     ghost use Rattle.std.specs.Prelude.{◌≡◌, ◌+◌, ◌<◌, ◌≤◌, [], ◌∷◌, option_map, OnOk};
+    ghost use Rattle.living_labels.specs.Kept.{kept_by};
     ghost use Rattle.broker_model.specs.Ids.{made_as};
     ghost use Rattle.seat_audience.specs.Directed.{made_of, IsNewest};
 
@@ -86,5 +127,20 @@ impl Directory {
         ensures room_left { self.old.room ≤ self.new.room + 1 }
     {
         let _ = self.objects.push(object);
+    }
+
+    /// Lets go of what the act, which has this number, leaves dead: what it drops, all of a peer
+    /// that it ends, or the callback of a sync. Costs a look-up and the move of what is newer, and
+    /// at the end of a peer a pass over all. Takes no memory.
+    pub fn let_go(&mut self, act: &Act, number: Label)
+        ensures left { self.new.made ≡ kept_by act.now number self.old.made }
+        ensures room { self.old.room ≤ self.new.room }
+    {
+        match act {
+            Act::Drop { label } => forget(&mut self.objects, *label),
+            Act::Gone { peer, .. } => forget_peer(&mut self.objects, *peer),
+            Act::Sync { .. } => forget(&mut self.objects, number),
+            _ => {}
+        }
     }
 }

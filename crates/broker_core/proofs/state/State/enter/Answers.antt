@@ -6,6 +6,8 @@ use Rattle.relay_core.specs.Stands as relay
 use Rattle.broker_model.specs.Resolve.{resolve}
 use Rattle.broker_model.specs.Out.{act_at}
 use Rattle.broker_core.specs.declared.state.State.{State}
+use Rattle.living_labels.specs.Kept.{kept_by}
+use Rattle.seat_audience.specs.Directed.{Directed}
 use Rattle.seat_audience.specs.Lives.{told_all}
 use Rattle.seat_audience.specs.Tells.{IsShort}
 use Rattle.seat_objects.specs.Reached.{Reached}
@@ -36,7 +38,12 @@ returns-clause-stands g c =
       live = c.play-route.ensures.live (resolve s.journal.entries) here shorts
           ∙ ap (λ (a : Act). map
           (told_all s.audience.directory.made (told a (resolve s.journal.entries))) s.audience.live.items) act;
-      directory = c.play-route.ensures.directory (resolve s.journal.entries) here shorts;
+      kept = c.let_go.ensures.left
+          ∙ ap (λ (n : ℕ). kept_by c.args.act.now (n + 1) c.play-route.new.self.audience.directory.made)
+          c.len-number.ensures.number
+          ∙ ap (λ (d : Directed). kept_by c.args.act.now (length s.journal.entries + 1) d.made)
+          (c.play-route.ensures.directory (resolve s.journal.entries) here shorts)
+          ∙ ap (λ (a : Act). kept_by a (length s.journal.entries + 1) s.audience.directory.made) act;
       labels = c.play-route.ensures.labels;
       ended = c.play-route.ensures.ended;
       capacity = c.play-route.ensures.capacity;
