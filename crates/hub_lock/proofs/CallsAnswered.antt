@@ -1,5 +1,5 @@
 -- What the calls of the shared state tell, said of histories
-use Rattle.std.proofs.Common.{◌≡◌, ℕ, ◌+◌, ◌≤◌, List, [], ◌∷◌, ◌++◌, length, map, min, take, drop, false, Option, Some, None, Result, Ok, Err, IfSome, IfNone, IfOk, OnOk, OnErr, IsOkUnless, refl, ap, sym, subst, ◌∙◌, arith, length-append}
+use Rattle.std.proofs.Common.{◌≡◌, ℕ, ◌+◌, ◌^◌, ◌<◌, ◌≤◌, List, [], ◌∷◌, ◌++◌, length, map, min, take, drop, false, Option, Some, None, Result, Ok, Err, IfSome, IfNone, IfOk, OnOk, OnErr, IsOkUnless, refl, ap, sym, subst, ◌∙◌, arith, length-append}
 use Rattle.std.proofs.lemmas.List.{take-append-le, length-take-le, length-map}
 use Rattle.std.proofs.Math.Seq.{take-append_seam}
 use borrow.Rule.Slice.PartMut.{put_mid, post_of}
@@ -13,6 +13,7 @@ use Rattle.broker_model.specs.declared.journal.Entry.{Entry}
 use Rattle.broker_model.specs.declared.journal.Entry.TheVariants as entries
 use Rattle.broker_model.specs.Out.{Outgoing, act_at, stored, tokens_taken}
 use Rattle.broker_model.specs.Resolve.{past_of, resolve}
+use Rattle.broker_model.specs.Settle.{number_alive}
 use Rattle.broker_model.specs.Stamps.{follows}
 use Rattle.broker_model.specs.Recorded.{entry_at}
 use Rattle.broker_core.specs.declared.letting_go.LetGo.{LetGo}
@@ -29,7 +30,7 @@ use Rattle.hub_lock.specs.declared.step.OuterStep.{OuterStep}
 use Rattle.hub_lock.specs.Histories.{History, stamp_by, broker_of, reader_of, writer_of, only, joining}
 use Rattle.hub_lock.specs.Lawful.{IsKept, IsMadeBy, history_of, with_all}
 use Rattle.hub_lock.specs.Plays.{IsLonger, IsOwn, Joins, Applies, Takes, IsTakenInto, IsHandedOut}
-use Rattle.hub_lock.proofs.KeptAfterStep.{IsStamped, IsNoJoin, history-plain, kept-plain, history-join, kept-join, reader-join}
+use Rattle.hub_lock.proofs.KeptAfterStep.{IsStamped, IsNoJoin, IsLegalStep, history-plain, kept-plain, history-join, is-join, kept-join, reader-join}
 
 take-whole : (xs ys : List ℕ) (k : ℕ) → length xs ≡ k → take k (xs ++ ys) ≡ xs
 take-whole xs ys k e = ap (λ m. take m (xs ++ ys)) (sym e) ∙ take-append_seam xs ys
@@ -63,7 +64,7 @@ module _ (b : Broker) (readers : List ℕ) (n : ℕ) (kept : IsKept b readers) (
       let now : history_of b' readers' ≡ history_of after all =
       ap (λ (x : Broker). history_of x readers') a.0 ∙ ap (history_of after) a.1 in
       let is : broker_of b.limits (history_of b' readers') ≡ with_all after =
-      ap (broker_of b.limits) now ∙ (kept-join b readers n kept stamped role r).is in
+      ap (broker_of b.limits) now ∙ is-join b readers n kept stamped role r in
       let count : q ≡ length (past_of after.journal).joined =
       number ∙ ap (λ (x : Broker). length (past_of x.journal).joined) a.0 in (
         now ∙ history-join b readers n kept stamped role r,
@@ -99,10 +100,11 @@ module _ (b : Broker) (readers : List ℕ) (n : ℕ) (kept : IsKept b readers) (
       }
 
   pub join-kept : (role : Role) (r : ℕ) (b' : Broker) (readers' : List ℕ) → IsAfterJoin b readers n role r b' readers' →
-      IsKept b' readers'
-  join-kept role r b' readers' a =
+      number_alive b.journal < 64 → n < 2 ^ 64 → IsKept b' readers'
+  join-kept role r b' readers' a few author =
       subst (λ rs. IsKept b' rs) (sym a.1)
-      (subst (λ (x : Broker). IsKept x (readers ++ r ∷ [])) (sym a.0) (kept-join b readers n kept stamped role r))
+      (subst (λ (x : Broker). IsKept x (readers ++ r ∷ [])) (sym a.0)
+      (kept-join b readers n kept stamped role r few author))
 
   pub join-longer : (role : Role) (r : ℕ) (b' : Broker) (readers' : List ℕ) → IsAfterJoin b readers n role r b' readers'
       → IsLonger n (joining (entries.Join role) r) (history_of b readers) (history_of b' readers')
@@ -136,10 +138,11 @@ module _ (b : Broker) (readers : List ℕ) (n : ℕ) (kept : IsKept b readers) (
       ap (λ (x : Broker). history_of x readers) same
       ∙ history-plain b readers n kept stamped e outer.follows outer.plain
 
-  pub kept-by : (e : Entry) (b' : Broker) → IsOuter e → b' ≡ with_step e (stamp_by n) b → IsKept b' readers
-  kept-by e b' outer same =
+  pub kept-by : (e : Entry) (b' : Broker) → IsOuter e → IsLegalStep b n e → b' ≡ with_step e (stamp_by n) b
+      → IsKept b' readers
+  kept-by e b' outer legal same =
       subst (λ (x : Broker). IsKept x readers) (sym same)
-      (kept-plain b readers n kept stamped e outer.follows outer.plain outer.mine)
+      (kept-plain b readers n kept stamped e outer.follows outer.plain outer.mine legal)
 
   applied-by : (e : Entry) (res : Result Applied Refused) (b' : Broker) → IsOuter e →
       OnOk res (b' ≡ with_step e (stamp_by n) b)

@@ -1,5 +1,5 @@
 -- The value behind the lock keeps what it keeps, and its history is longer by the step
-use Rattle.std.proofs.Common.{◌≡◌, ℕ, suc, ◌+◌, List, [], ◌∷◌, ◌++◌, length, false, Option, Some, refl, ap, sym, subst, ◌∙◌, arith, append-nil, length-append}
+use Rattle.std.proofs.Common.{◌≡◌, ℕ, suc, ◌+◌, ◌<◌, ◌^◌, List, [], ◌∷◌, ◌++◌, length, false, Option, Some, refl, ap, sym, subst, ◌∙◌, arith, append-nil, length-append}
 use Rattle.std.specs.List.{slice_get}
 use Rattle.relay_model.specs.declared.role.Role.{Role}
 use Rattle.seat_steps.specs.declared.limits.Limits.{Limits}
@@ -7,13 +7,16 @@ use Rattle.seat_steps.specs.Ranges.{IsLimits}
 use Rattle.broker_model.specs.declared.journal.Entry.{Entry}
 use Rattle.broker_model.specs.declared.journal.Entry.TheVariants as entries
 use Rattle.broker_model.specs.Resolve.{past_of}
+use Rattle.broker_model.specs.Settle.{number_alive}
 use Rattle.broker_model.specs.Stamps.{follows, stamps, step_stamps}
+use Rattle.broker_model.proofs.EachElement.{each_append}
 use Rattle.broker_core.specs.Broker.{Broker, begun, with_step}
 use Rattle.broker_core.proofs.AliveAfterEntry.{same_settled}
 use Rattle.hub_lock.specs.declared.step.OuterStep.{OuterStep}
-use Rattle.hub_lock.specs.Histories.{History, stamp_by, broker_of, readers_of, numbered_in, reader_of, only, joining, step_after}
+use Rattle.hub_lock.specs.Histories.{History, stamp_by, entries_of, broker_of, readers_of, numbered_in, reader_of, only, joining, step_after}
+use Rattle.hub_lock.specs.Steps.{IsLegalEntry, AreLegalEntries, HaveAuthors, HasLegalSteps}
 use Rattle.hub_lock.specs.Lawful.{IsShared, IsMadeBy, AreMadeBy, IsLawful, IsKept, history_of, with_all}
-use Rattle.hub_lock.proofs.HistoriesGrow.{broker-more, history-more}
+use Rattle.hub_lock.proofs.HistoriesGrow.{entries-more, broker-more, history-more}
 use Rattle.hub_lock.proofs.ReadersStay.{readers-append, made-more, steps-same, get-end}
 
 -- the stamps give themselves again
@@ -42,6 +45,19 @@ joined-plain (entries.End q cause) older plain = refl
 joined-plain (entries.Shell step) older plain = refl
 joined-plain (entries.Took q bytes) older plain = refl
 
+-- steps stay legal with one more, which is legal behind the journal
+pub record IsLegalStep (b : Broker) (n : ℕ) (e : Entry) : Type 0 where
+  pub entry : IsLegalEntry b.limits b.journal e
+  pub author : n < 2 ^ 64
+
+legal-more : (b : Broker) (h : History) (n : ℕ) (s : OuterStep) → broker_of b.limits h ≡ with_all b
+    → HasLegalSteps b.limits h → IsLegalStep b n s.entry → HasLegalSteps b.limits (h ++ (n, s) ∷ [])
+legal-more b h n s is legal step = record {
+  entries = subst (AreLegalEntries b.limits) (sym (entries-more h n s))
+      (subst (λ (x : Broker). IsLegalEntry b.limits x.journal s.entry) (sym is) step.entry, legal.entries);
+  authors = each_append (λ (x : ℕ × OuterStep). x.0 < 2 ^ 64) h ((n, s) ∷ []) legal.authors (step.author, tt);
+}
+
 module _ (b : Broker) (readers : List ℕ) (n : ℕ) (kept : IsKept b readers) (stamped : IsStamped b) where
   -- a step that isn't a join
   pub history-plain : (e : Entry) → follows e ≡ false → IsNoJoin e
@@ -51,8 +67,8 @@ module _ (b : Broker) (readers : List ℕ) (n : ℕ) (kept : IsKept b readers) (
       ∙ ap (λ (s : OuterStep). history_of b readers ++ (n, s) ∷ []) (step-plain readers b.journal e plain)
 
   pub kept-plain : (e : Entry) → follows e ≡ false → IsNoJoin e → IsMadeBy (history_of b readers) n e
-      → IsKept (with_step e (stamp_by n) b) readers
-  kept-plain e f plain mine =
+      → IsLegalStep b n e → IsKept (with_step e (stamp_by n) b) readers
+  kept-plain e f plain mine legal =
       let h : History = history_of b readers in
       let now = history-plain e f plain in
       record {
@@ -63,6 +79,7 @@ module _ (b : Broker) (readers : List ℕ) (n : ℕ) (kept : IsKept b readers) (
             ∙ sym (ap length ((same_settled b.limits.store (e ∷ b.journal)).joined ∙ joined-plain e b.journal plain));
         stand = ap readers_of now ∙ readers-append h ((n, only e) ∷ []) ∙ append-nil (readers_of h) ∙ kept.stand;
         made_by = subst (λ x. AreMadeBy x x) (sym now) (made-more h n (only e) kept.made_by mine);
+        legal = subst (HasLegalSteps b.limits) (sym now) (legal-more b h n (only e) kept.is kept.legal legal);
       }
 
   -- a join, of a peer whose reader's pass has the number r
@@ -92,20 +109,33 @@ module _ (b : Broker) (readers : List ℕ) (n : ℕ) (kept : IsKept b readers) (
       let j = kept.joined in
       let s = ap length (same_settled b.limits.store (entries.Join role ∷ b.journal)).joined in omega arith
 
-  pub kept-join : (role : Role) (r : ℕ) → IsKept (with_step (entries.Join role) (stamp_by n) b) (readers ++ r ∷ [])
-  kept-join role r =
+  pub is-join : (role : Role) (r : ℕ) →
+      let after = with_step (entries.Join role) (stamp_by n) b in
+      broker_of b.limits (history_of after (readers ++ r ∷ [])) ≡ with_all after
+  is-join role r =
+      ap (broker_of b.limits) (history-join role r)
+      ∙ sym (broker-more b.limits (history_of b readers) n (joining (entries.Join role) r) refl)
+      ∙ ap (with_step (entries.Join role) (stamp_by n)) kept.is
+
+  pub kept-join : (role : Role) (r : ℕ) → number_alive b.journal < 64 → n < 2 ^ 64
+      → IsKept (with_step (entries.Join role) (stamp_by n) b) (readers ++ r ∷ [])
+  kept-join role r few author =
       let h : History = history_of b readers in
       let s : OuterStep = joining (entries.Join role) r in
       let now = history-join role r in
       let more = joined-join role in
       let one = length-append readers (r ∷ []) in
+      let legal : IsLegalStep b n (entries.Join role) = record {
+        entry = record { given = tt; finds = few };
+        author = author;
+      } in
       record {
         limited = kept.limited;
-        is = ap (broker_of b.limits) now ∙ sym (broker-more b.limits h n s refl)
-            ∙ ap (with_step (entries.Join role) (stamp_by n)) kept.is;
+        is = is-join role r;
         joined = omega arith;
         stand = ap readers_of now ∙ readers-join role r;
         made_by = subst (λ x. AreMadeBy x x) (sym now) (made-more h n s kept.made_by tt);
+        legal = subst (HasLegalSteps b.limits) (sym now) (legal-more b h n s kept.is kept.legal legal);
       }
 
   -- the peer that joined has its reader
@@ -143,6 +173,7 @@ kept-gone b readers from kept = record {
   joined = kept.joined;
   stand = kept.stand;
   made_by = kept.made_by;
+  legal = kept.legal;
 }
 
 -- what is behind the lock is lawful
@@ -152,10 +183,16 @@ lawful b readers kept shared = record {
   shared = subst IsShared (sym kept.is) (shared-all b shared);
   readers = ap length kept.stand ∙ kept.joined ∙ ap (λ (x : Broker). length (past_of x.journal).joined) (sym kept.is);
   made_by = kept.made_by;
+  legal = kept.legal;
 }
 
 -- so is the empty history
 pub lawful-empty : (limits : Limits) (b : Broker) → IsLimits limits →
     b ≡ begun limits → IsShared b → IsLawful limits []
-lawful-empty limits b limited is shared =
-    record { limited = limited; shared = subst IsShared is shared; readers = refl; made_by = tt }
+lawful-empty limits b limited is shared = record {
+  limited = limited;
+  shared = subst IsShared is shared;
+  readers = refl;
+  made_by = tt;
+  legal = record { entries = tt; authors = tt };
+}

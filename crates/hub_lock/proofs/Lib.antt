@@ -3,6 +3,7 @@ pub mod ReadersStay
 pub mod KeptAfterStep
 pub mod BellsRung
 pub mod CallsAnswered
+pub mod StepsFind
 pub mod NothingWatched
 pub mod JournalOfSteps
 pub mod StepsCounted
@@ -20,5 +21,6 @@ pub mod EventsMarked
 pub mod NotesTaken
 pub mod ShownCalls
 pub mod EntriesHandedOut
+pub mod TakersRung
 pub mod SharedCrosses
 pub mod HubCrosses

@@ -17,6 +17,7 @@ use Rattle.broker_model.specs.Limits.{number_counted, weight}
 use Rattle.broker_core.specs.Broker.{Broker}
 use Rattle.broker_core.specs.Ends.{is_end_of}
 use Rattle.hub_lock.specs.Histories.{History, broker_of, readers_of, reader_of, writer_of, steps_in}
+use Rattle.hub_lock.specs.Steps.{HasLegalSteps}
 
 -- What a shared state promises between calls: its journal is the history of its outer steps, with
 -- their stamps; no live peer has a refused last message or was left out of what it is told; and all
@@ -58,12 +59,13 @@ AreMadeBy h [] = Unit {0}
 AreMadeBy h (s ∷ rest) = IsMadeBy h s.0 s.1.entry × AreMadeBy h rest
 
 -- what a hub's history keeps: the journal that it makes is a shared state's, each peer has its
--- reader, and each step is made by whose it is
+-- reader, each step is made by whose it is, and each is legal
 pub record IsLawful (limits : Limits) (h : History) : Type 0 where
   pub limited : IsLimits limits
   pub shared : IsShared (broker_of limits h)
   pub readers : length (readers_of h) ≡ length (past_of (broker_of limits h).journal).joined
   pub made_by : AreMadeBy h h
+  pub legal : HasLegalSteps limits h
 
 -- the history of a broker whose peers have these readers
 abbrev pub history_of : Broker → (readers : List ℕ) → History
@@ -87,3 +89,4 @@ pub record IsKept (b : Broker) (readers : List ℕ) : Type 0 where
   pub joined : length readers ≡ length (past_of b.journal).joined
   pub stand : readers_of (history_of b readers) ≡ readers
   pub made_by : AreMadeBy (history_of b readers) (history_of b readers)
+  pub legal : HasLegalSteps b.limits (history_of b readers)

@@ -1,7 +1,9 @@
 pub mod Histories
+pub mod Steps
 pub mod Lawful
 pub mod Bells
 pub mod Plays
+pub mod BellLaw
 pub mod Passes
 pub mod Shown
 pub mod Events

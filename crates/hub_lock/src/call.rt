@@ -1,5 +1,6 @@
 //! What is asked of the value behind the lock, and what it answers. A call borrows nothing.
 use crate::event::Note;
+use crate::given::is_given;
 use crate::session::{NoSession, Session};
 use broker_core::{Applied, JoinRefusal, LetGo, Refused, Took};
 use relay_model::Role;
@@ -15,30 +16,34 @@ pub struct Applying {
 impl Model for Applying {
     ghost use Rattle.seat_steps.specs.declared.step.Step.{Step};
     ghost use Rattle.seat_steps.specs.Ranges.{IsStep};
-    ghost use Rattle.broker_core.specs.Broker.{IsSaid};
+    ghost use Rattle.broker_core.specs.Broker.{IsSaid, entry_of};
+    ghost use Rattle.hub_lock.specs.Steps.{IsGiven};
 
     ghost Value = { Step };
 
     ghost view = { λ a. a.step };
 
-    ghost invariant = { λ a. IsStep a.step × IsSaid a.step };
+    ghost invariant = { λ a. IsStep a.step × IsSaid a.step × IsGiven (entry_of a.step) };
 }
 
 impl Applying {
     ghost use Rattle.std.specs.Prelude.{◌≡◌};
     ghost use Rattle.seat_steps.specs.Ranges.{IsStep};
-    ghost use Rattle.broker_core.specs.Broker.{IsSaid};
+    ghost use Rattle.broker_core.specs.Broker.{IsSaid, entry_of};
+    ghost use Rattle.hub_lock.specs.Steps.{IsGiven};
 
     pub fn new(step: Step) -> Applying
         requires { IsStep step × IsSaid step }
         ensures { result ≡ step }
     {
+        is_given(&step);
         Applying { step }
     }
 
     pub fn step(&self) -> &Step
         ensures same { result.now ≡ self.now }
         ensures fits { IsStep result.now × IsSaid result.now }
+        ensures given { IsGiven (entry_of result.now) }
     {
         &self.step
     }

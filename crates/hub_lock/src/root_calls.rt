@@ -6,7 +6,7 @@ ghost use Rattle.turn_lock.specs.Sights.{after_split, split_off, met_with, havin
 ghost use Rattle.turn_lock.specs.Sights.{IsTallied};
 ghost use Rattle.hub_lock.specs.Histories.{taken_in};
 ghost use Rattle.hub_lock.specs.Finished.{seat_of};
-ghost use Rattle.hub_lock.specs.Passes.{IsOf, total_steps, total_bytes};
+ghost use Rattle.hub_lock.specs.Passes.{IsOf, steps_of, bytes_of, total_steps, total_bytes};
 ghost use Rattle.hub_lock.specs.Calls.{LegalJoin, LegalCopy, IsJoined};
 
 use crate::call::{Answer, Ask, Call};
@@ -36,7 +36,8 @@ impl Hub {
     /// A peer joins: the passes of its reader and its writer. They have the root's next two numbers.
     ///
     /// `TooManyPeers` comes where 64 peers are alive, else `JournalFull` where the journal is full
-    /// for a join, else `NoMemory` may come. (Wait: it promises what it does if it returns.)
+    /// for a join, else `NoMemory` may come. What the root then has seen has no later step of a pass
+    /// that was taken back. (Wait: it promises what it does if it returns.)
     pub fn join<R: Wait>(
         &self,
         rt: &R,
@@ -51,6 +52,7 @@ impl Hub {
             NoneOf both.1.seat.number both.1.seat.seen) }
         ensures refused { IfErr result (λ why. (root.new ≡ having_seen root.old root.new.seen) ×
             LegalJoin self.now.limits root.old root.new.seen role (Err why)) }
+        ensures settled { (n : ℕ) → IsIn n root.old.taken → HasSeen root.new.seen n root.old.seen }
     {
         let mut call = Call {
             number: 0,
@@ -96,6 +98,8 @@ impl Hub {
         ensures met { root.new ≡ met_with root.old (seat_of pass) }
         ensures both { IsMeeting root.old (seat_of pass) root.new.seen }
         ensures tallied { IsTallied root.new }
+        ensures steps { total_steps root.new ≡ total_steps root.old + steps_of (seat_of pass) }
+        ensures bytes { total_bytes root.new ≡ total_bytes root.old + bytes_of (seat_of pass) }
     {
         let (member, bytes) = pass.into_parts();
         let Member {

@@ -3,9 +3,10 @@ ghost use Rattle.std.specs.Prelude.{◌≡◌, ◌+◌, [], length, Some, None, 
 ghost use Rattle.turn_lock.specs.Pairs.{IsGrown};
 ghost use Rattle.seat_steps.specs.declared.step.Step.{Step};
 ghost use Rattle.seat_steps.specs.Ranges.{IsLimits, IsStep};
-ghost use Rattle.broker_core.specs.Broker.{IsSaid, IsWatched};
+ghost use Rattle.broker_core.specs.Broker.{IsSaid, IsWatched, entry_of, refusal};
 ghost use Rattle.hub_lock.specs.declared.step.OuterStep.{OuterStep};
 ghost use Rattle.hub_lock.specs.Histories.{stamp_by, broker_of, reader_of, writer_of};
+ghost use Rattle.hub_lock.specs.Steps.{IsGiven, Finds};
 ghost use Rattle.hub_lock.specs.Lawful.{IsShared, IsLawful, history_of};
 ghost use Rattle.hub_lock.specs.Bells.{IsRungBy};
 ghost use Rattle.hub_lock.specs.Plays.{IsOwn, MayAsk, Joins, Applies, Takes, Answers, Plays};
@@ -62,6 +63,20 @@ fn stamp_by(number: u64) -> Stamp
     Stamp {
         moment: 0,
         author: number,
+    }
+}
+
+// What a step finds that isn't refused.
+fn finds(shared: &Shared, step: &Step)
+    requires { IsSaid step.now }
+    ensures { refusal shared.now step.now ≡ None →
+        Finds shared.now.limits shared.now.journal (entry_of step.now) }
+{
+    match step {
+        Step::Peer(peer, _) => {
+            let _standing = shared.standing(*peer);
+        }
+        Step::Shell(_) | Step::Join(_) | Step::Take(_, _) => {}
     }
 }
 
@@ -170,6 +185,7 @@ impl HubState {
     fn apply(&mut self, number: u64, step: &Step, rings: &mut Rings) -> Result<Applied, Refused>
         requires step { IsStep step.now }
         requires said { IsSaid step.now }
+        requires given { IsGiven (entry_of step.now) }
         ensures limits { self.new.broker.limits ≡ self.old.broker.limits }
         ensures applies { IsOwn (history_of self.old.broker self.old.readers) number step.now →
             Applies self.old.broker.limits
@@ -185,6 +201,7 @@ impl HubState {
         if !self.is_own(number, step) {
             return Err(Refused::NoPeer);
         }
+        finds(&self.shared, step);
         let applied = self.shared.apply_watched(step, stamp_by(number), rings)?;
         self.steps += 1;
         Ok(applied)

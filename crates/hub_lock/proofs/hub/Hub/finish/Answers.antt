@@ -2,7 +2,7 @@ use Rattle.std.proofs.Common.{◌≡◌, ◌+◌, ◌∙◌, ap, sym, subst, ari
 use Rattle.seat_steps.specs.declared.limits.Limits.{Limits}
 use Rattle.turn_lock.specs.Sights.{IsMeeting, IsTallied, met_with}
 use Rattle.hub_lock.specs.Lawful.{IsLawful}
-use Rattle.hub_lock.specs.Passes.{PassSeat, bytes_of, total_steps, total_bytes, journal_seen, HasSeenLawful}
+use Rattle.hub_lock.specs.Passes.{PassSeat, steps_of, bytes_of, total_steps, total_bytes, journal_seen, HasSeenLawful}
 use Rattle.hub_lock.specs.Finished.{seat_of}
 use Rattle.hub_lock.specs.Events.{EventSeat, step_of, pass_seat}
 use Rattle.hub_lock.proofs.PairsLeftOut.{met_shown, meeting-shown, tallied-shown}
@@ -112,3 +112,24 @@ returns-clause-both c =
 
 pub returns-clause-tallied : goal.returns-clause-tallied
 returns-clause-tallied c = tallied (at.returns-clause-tallied c).After-meet
+
+-- what is said of the pass inside is said of the pass, and of the root as it was
+module _ (c : After-meet) (P : PassSeat → PassSeat → Type 0) where
+  outside : P (root c) (pass c) → P c.args.root.now (seat_of c.args.pass)
+  outside p =
+      subst (λ (s : PassSeat). P s (seat_of c.args.pass)) c.root.view_is
+      (subst (λ (s : PassSeat). P (root c) s) (back c) p)
+
+pub returns-clause-steps : goal.returns-clause-steps
+returns-clause-steps c =
+    let a = (at.returns-clause-steps c).After-meet in
+    outside a (λ r p. total_steps (now a) ≡ total_steps r + steps_of p)
+    (ap total_steps (met a)
+    ∙ met-steps (limits a) (root a) (pass a) c.root.invariant.0 (of a) (of' a) (k a) (mine a) (theirs a))
+
+pub returns-clause-bytes : goal.returns-clause-bytes
+returns-clause-bytes c =
+    let a = (at.returns-clause-bytes c).After-meet in
+    outside a (λ r p. total_bytes (now a) ≡ total_bytes r + bytes_of p)
+    (ap total_bytes (met a)
+    ∙ met-bytes (limits a) (root a) (pass a) c.root.invariant.0 (of a) (of' a) (k a) (mine a) (theirs a))

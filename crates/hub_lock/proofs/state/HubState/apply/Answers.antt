@@ -1,10 +1,13 @@
-use Rattle.std.proofs.Common.{rules, ◌+◌, ◌≡◌, ◌∙◌, ap, sym, subst, refl, arith, inr, Ok}
-use Rattle.broker_core.specs.Broker.{Broker, entry_of, with_step}
+use Rattle.std.proofs.Common.{rules, ◌+◌, ◌≡◌, ◌∙◌, ap, sym, subst, refl, arith, inr, Ok, None}
+use Rattle.broker_core.specs.declared.answers.Applied.{Applied}
+use Rattle.broker_core.specs.Broker.{Broker, entry_of, refusal, with_step}
 use Rattle.hub_lock.specs.Bells.{IsRungBy}
 use Rattle.hub_lock.specs.Histories.{only, stamp_by}
 use Rattle.hub_lock.specs.Plays.{IsOwn}
 use Rattle.hub_lock.specs.Lawful.{Held, history_of}
 use Rattle.hub_lock.proofs.HistoriesGrow.{steps_few}
+use Rattle.hub_lock.proofs.KeptAfterStep.{IsLegalStep}
+use Rattle.hub_lock.proofs.StepsFind.{not-refused}
 use Rattle.hub_lock.proofs.CallsAnswered.{IsOuter, applies-by, own-step, kept-by, longer-by, longer-length}
 use Rattle.hub_lock.proofs.NothingWatched.{nothing-watched}
 use Rattle.hub_lock.proofs.state.HubState.apply.Goals as goal
@@ -31,6 +34,17 @@ outer : (c : After-apply_watched) → IsOuter c.self.inside.shared c.self.inside
 outer c = own-step c.self.inside.shared c.self.inside.readers.items c.args.number c.self.invariant.0
     c.entries-entries.ensures.shared.stamped c.args.step.now (own c)
 
+legal : (c : After-apply_watched) → (applied : Applied) → c.apply_watched.result ≡ Ok applied →
+    IsLegalStep c.self.inside.shared c.args.number (entry_of c.args.step.now)
+legal c applied is =
+    let none : refusal c.self.inside.shared c.args.step.now ≡ None =
+    not-refused (refusal c.self.inside.shared c.args.step.now) c.apply_watched.result applied
+    c.apply_watched.ensures.refused is in
+    record {
+      entry = record { given = c.requires.given; finds = c.finds.ensures none };
+      author = search rules;
+    }
+
 pub invariant_of-self-2 : goal.invariant_of-self-2
 invariant_of-self-2 c =
     let b = c.self.inside.shared in
@@ -38,8 +52,9 @@ invariant_of-self-2 c =
     let s = c.entries-entries.ensures.shared.stamped in
     let e : c.apply_watched.new.self
     ≡ with_step (entry_of c.args.step.now) (stamp_by c.args.number) c.self.inside.shared = search rules in
-    let o = outer (at.invariant_of-self-2 c).After-apply_watched in (
-      kept-by b readers c.args.number c.self.invariant.0 s (entry_of c.args.step.now) c.apply_watched.new.self o
+    let o = outer (at.invariant_of-self-2 c).After-apply_watched in
+    let l = legal (at.invariant_of-self-2 c).After-apply_watched c.in_ok-applied.applied (search rules) in (
+      kept-by b readers c.args.number c.self.invariant.0 s (entry_of c.args.step.now) c.apply_watched.new.self o l
           (search rules),
       search rules,
       ap (λ n. n + 1) c.self.invariant.2 ∙ sym (longer-length _ _ _ _

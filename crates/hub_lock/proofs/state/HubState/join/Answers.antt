@@ -5,6 +5,7 @@ use Rattle.hub_lock.specs.Lawful.{Held}
 use Rattle.hub_lock.proofs.HistoriesGrow.{steps_few}
 use Rattle.hub_lock.proofs.CallsAnswered.{IsAfterJoin, joins-by, join-kept, join-longer, longer-length}
 use Rattle.hub_lock.proofs.NothingWatched.{nothing-watched}
+use Rattle.hub_lock.proofs.StepsFind.{few-alive}
 use Rattle.hub_lock.proofs.state.HubState.join.Goals as goal
 use Rattle.hub_lock.proofs.state.HubState.join.Goals.{After-push}
 use Rattle.hub_lock.proofs.state.HubState.join.Goals.at
@@ -41,7 +42,8 @@ invariant_of-self-2 c =
     let readers = c.self.inside.readers.items in
     let s = c.entries-entries.ensures.shared.stamped in
     let a = after (at.invariant_of-self-2 c).After-push in (
-      join-kept b readers c.args.number c.self.invariant.0 s c.args.role c.args.reader _ _ a,
+      join-kept b readers c.args.number c.self.invariant.0 s c.args.role c.args.reader _ _ a
+          (few-alive b c.args.role (search rules)) (search rules),
       search rules,
       ap (λ n. n + 1) c.self.invariant.2 ∙ sym (longer-length _ _ _ _
           (join-longer b readers c.args.number c.self.invariant.0 s c.args.role c.args.reader c.join_watched.new.self

@@ -10,6 +10,8 @@ use Rattle.hub_lock.specs.Lawful.{Held, history_of}
 use Rattle.hub_lock.proofs.HistoriesGrow.{steps_few}
 use Rattle.hub_lock.proofs.CallsAnswered.{IsOuter, into-by, few-by, own-take, takes-by, kept-by, longer-by, longer-length}
 use Rattle.hub_lock.proofs.NothingWatched.{nothing-watched}
+use Rattle.hub_lock.proofs.KeptAfterStep.{IsLegalStep}
+use Rattle.hub_lock.proofs.StepsFind.{IsTaking, taking}
 use Rattle.hub_lock.proofs.state.HubState.take.Goals as goal
 use Rattle.hub_lock.proofs.state.HubState.take.Goals.{In-Bytes}
 use Rattle.hub_lock.proofs.state.HubState.take.Goals.at
@@ -53,6 +55,19 @@ outer c = own-take c.self.inside.shared c.self.inside.readers.items c.args.numbe
     c.entries-entries.ensures.shared.stamped c.args.room.now.peer c.in-Bytes.field-0 (own c)
     (subst (λ r. IfBytes r (λ counts. counts.0 ≤ 4096)) c.in-Bytes.is (few c))
 
+legal : (c : In-Bytes) →
+    IsLegalStep c.self.inside.shared c.args.number (entries.Took c.args.room.now.peer c.in-Bytes.field-0)
+legal c =
+    let b = c.self.inside.shared in
+    let t : IsTaking b.limits b.journal c.args.room.now.peer c.in-Bytes.field-0 =
+    taking b c.args.room.now.peer c.bytes-most.result _ _ c.take_watched-took.result c.in-Bytes.field-0
+    c.in-Bytes.field-1 c.in-Bytes.is c.bytes-most.ensures.within.0 c.bytes-most.ensures.within.1
+    c.take_watched-took.ensures.refused (into c) in
+    record {
+      entry = record { given = (search rules, t.within); finds = t.stored };
+      author = search rules;
+    }
+
 kept : (c : In-Bytes) → c.take_watched-took.new.self.kept_from ≡ c.self.inside.shared.kept_from
 kept c =
     let e : c.take_watched-took.new.self
@@ -66,8 +81,9 @@ invariant_of-self c =
     let readers = c.self.inside.readers.items in
     let s = c.entries-entries.ensures.shared.stamped in
     let e = entries.Took c.args.room.now.peer c.in-Bytes.field-0 in
-    let o = outer (at.invariant_of-self c).In-Bytes in (
-      kept-by b readers c.args.number c.self.invariant.0 s e c.take_watched-took.new.self o (search rules),
+    let o = outer (at.invariant_of-self c).In-Bytes in
+    let l = legal (at.invariant_of-self c).In-Bytes in (
+      kept-by b readers c.args.number c.self.invariant.0 s e c.take_watched-took.new.self o l (search rules),
       search rules,
       ap (λ n. n + 1) c.self.invariant.2 ∙ sym (longer-length _ _ _ _
           (longer-by b readers c.args.number c.self.invariant.0 s e c.take_watched-took.new.self o (search rules))),
