@@ -26,6 +26,7 @@ pub fn run_reader<R: Wait, S: Source + Drop, G: Gate + Drop>(
         gate,
     } = job;
     let end = read_peer(rt, alloc, &*hub, &mut pass, &mut source, &*gate);
+    hub.leave();
     ReaderDone { pass, source, end }
 }
 
@@ -39,6 +40,7 @@ pub fn run_writer<R: Wait, K: LinkSink>(rt: &R, job: WriterJob<K>) -> WriterDone
         mut sink,
     } = job;
     let end = write_peer(rt, &*hub, &mut pass, &mut sink);
+    hub.leave();
     sink.hang_up();
     WriterDone { pass, sink, end }
 }
@@ -58,6 +60,7 @@ pub fn run_shell<R: Wait, S: Source + Drop, K: LinkSink>(
         mut sink,
     } = job;
     let end = read_shell(rt, alloc, &*hub, &mut pass, &mut source, &mut sink);
+    hub.leave();
     sink.hang_up();
     ShellDone {
         pass,

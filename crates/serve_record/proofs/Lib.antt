@@ -1,2 +1,4 @@
 pub mod RecordGrows
 pub mod StepsText
+pub mod HandedText
+pub mod HandedWritten

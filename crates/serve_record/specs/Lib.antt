@@ -1,2 +1,3 @@
 pub mod Recorded
 pub mod Lines
+pub mod Handed

@@ -47,7 +47,7 @@ const PIECE: usize = 65_536;
 
 // Writes what waits, if it is a whole piece.
 #[tactic(auto, using(crate::proofs::RecordGrows::cut_is_front))]
-fn write_piece<K: Sink>(text: &mut Vec<u8>, output: &mut K) -> Result<(), Failed>
+pub(crate) fn write_piece<K: Sink>(text: &mut Vec<u8>, output: &mut K) -> Result<(), Failed>
     ensures whole { OnOk result (Holds (K.held output.old) (K.held output.new)
         text.new.items text.old.items) }
     ensures front { OnErr result (GainsFront (K.held output.old) (K.held output.new)
@@ -64,7 +64,7 @@ fn write_piece<K: Sink>(text: &mut Vec<u8>, output: &mut K) -> Result<(), Failed
 }
 
 // The header and its line feed.
-fn header(alloc: Global, limits: &Limits) -> Result<Vec<u8>, NoMemory>
+pub(crate) fn header(alloc: Global, limits: &Limits) -> Result<Vec<u8>, NoMemory>
     ensures { IfOk result (λ text. text.items ≡ text_line (Header limits.now)) }
 {
     let (entries, store, weight) = (limits.entries, limits.store, limits.weight);

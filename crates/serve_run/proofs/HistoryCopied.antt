@@ -1,14 +1,14 @@
--- What a run begins with, and what the copy of its history tells
+-- What a run begins with
 use Rattle.std.proofs.Common.{◌≡◌, ◌-◌, ◌<◌, ◌≤◌, ◌++◌, ◌∷◌, [], ℕ, zero, suc, List, length, get_or, Option, Some, None, Result, Ok, refl, sym, ap, ◌∙◌, subst, arith, append-nil}
 use Rattle.std.specs.List.{slice_get}
 use Rattle.std.specs.Io.KnownBytes.{Appends}
+use Rattle.wio_core.specs.declared.NoMemory.{NoMemory}
 use Rattle.seat_steps.specs.declared.limits.Limits.{Limits}
 use Rattle.broker_model.specs.declared.journal.Entry.{Entry}
 use Rattle.broker_model.specs.Settle.{outer}
 use Rattle.turn_lock.specs.Pairs.{NoneOf, HasSeen, total}
 use Rattle.turn_lock.specs.Sights.{fresh_seat, having_seen}
 use Rattle.hub_lock.specs.declared.session.Session.{Session}
-use Rattle.hub_lock.specs.declared.session.NoSession.{NoSession}
 use Rattle.hub_lock.specs.Histories.{History, broker_of}
 use Rattle.hub_lock.specs.Passes.{HubId, PassSeat, total_steps}
 use Rattle.hub_lock.proofs.JournalOfSteps.{outer-journal, length-entries}
@@ -55,31 +55,6 @@ ours_of hub n started more jobs many are i t behind is =
     let at = past started are.tags i t (omega arith) (ap (λ tags. slice_get tags i) (sym are.are) ∙ is) in
     subst (IsOnHub hub) (get_is are.tags k t t at) (are.on_hub k t (is_within are.tags k t at))
 
--- the copy
-
-pub copied_seen : (limits : Limits) (root : PassSeat) (h : History) (r : Result Session NoSession) → root.number ≡ 0
-    → LegalCopy limits root h r → HasSeen h 0 root.seen
-copied_seen limits root h r is legal =
-    (legal.rest, legal.answer.same, subst (λ n. NoneOf n legal.rest) is legal.apart)
-
-pub copied_each : (limits : Limits) (root : PassSeat) (h : History) (s : Session) → LegalCopy limits root h (Ok s)
-    → length s.stamps.stamps ≡ length s.journal.entries
-copied_each limits root h s legal =
-    let is = legal.answer.copied in
-    ap length is.stamps ∙ (legal.lawful.shared.each ∙ sym (ap length is.journal))
-
-pub copied_text : (asked : Serving) (limits : Limits) (root : PassSeat) (h : History) (s : Session) →
-    limits ≡ asked.limits
-    → LegalCopy limits root h (Ok s) → recorded s.limits s.journal.entries s.stamps.stamps ≡ text_of asked h
-copied_text asked limits root h s same legal =
-    let is = legal.answer.copied in
-    let before : History = root.seen ++ legal.rest in
-    ap (λ l. recorded l s.journal.entries s.stamps.stamps) is.limits
-    ∙ (ap (λ entries. recorded limits entries s.stamps.stamps) is.journal
-    ∙ (ap (λ stamps. recorded limits (broker_of limits before).journal stamps) is.stamps
-    ∙ (ap (λ g. recorded limits (broker_of limits g).journal (broker_of limits g).stamps) (sym legal.answer.same)
-    ∙ ap (λ l. recorded l (broker_of l h).journal (broker_of l h).stamps) same)))
-
 -- nothing was written yet
 pub nothing_written : (held : Option (List ℕ)) (text : List ℕ) → GainsFront held held text
 nothing_written held text = ([], text, appends_none held, refl)
@@ -87,15 +62,3 @@ nothing_written held text = ([], text, appends_none held, refl)
     appends_none : (a : Option (List ℕ)) → Appends a a []
     appends_none None = tt
     appends_none (Some xs) = sym (append-nil xs)
-
--- where there was memory for it, the steps of the passes that came back, and the root's, are all steps
-pub copied_owned : (limits : Limits) (root after : PassSeat) (s : Session) → after ≡ having_seen root after.seen
-    → LegalCopy limits root after.seen (Ok s) → length (outer s.journal.entries) ≡ total_steps after
-    → total (0 ∷ root.taken) after.seen ≡ length after.seen
-copied_owned limits root after s is legal counted =
-    let h : History = after.seen in
-    ap (λ (t : PassSeat). total (0 ∷ t.taken) h) (sym is)
-    ∙ (sym counted
-    ∙ (ap (λ (entries : List Entry). length (outer entries)) legal.answer.copied.journal
-    ∙ (ap (λ g. length (outer (broker_of limits g).journal)) (sym legal.answer.same)
-    ∙ (ap length (outer-journal limits h legal.lawful_after) ∙ length-entries h))))

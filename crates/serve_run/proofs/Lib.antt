@@ -1,4 +1,6 @@
 pub mod GoneAlone
+pub mod HandedEnds
+pub mod HandedRecorded
 pub mod HistoryCopied
 pub mod JobsInOrder
 pub mod JoinsRefused
@@ -9,6 +11,8 @@ pub mod LinksStart
 pub mod NumbersTaken
 pub mod OnlyRootJoins
 pub mod PassesBack
+pub mod RecorderOut
 pub mod ResultsInOrder
 pub mod RootKept
 pub mod StartsCounted
+pub mod StatusWritten

@@ -5,3 +5,5 @@ pub mod ServerLaw
 pub mod Started
 pub mod Statuses
 pub mod Unserved
+pub mod Written
+pub mod Ended

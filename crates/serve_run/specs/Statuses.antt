@@ -1,5 +1,7 @@
 -- The statuses: their numbers, and what brings them
 use Rattle.std.specs.Prelude.{ℕ, List, [], ◌∷◌, Result, Ok, Err}
+use Rattle.serve_record.specs.declared.record.RecordStop.{RecordStop}
+use Rattle.serve_record.specs.declared.record.RecordStop.TheVariants as record_stops
 use Rattle.serve_run.specs.declared.status.ServeStatus.{ServeStatus}
 use Rattle.serve_run.specs.declared.status.ServeStatus.TheVariants as statuses
 use Rattle.serve_run.specs.declared.stop.Stop.{Stop}
@@ -60,3 +62,10 @@ status_by accepted troubles.JournalFull = statuses.JournalFull
 status_by (Err stops.NetFault) troubles.None = statuses.NetFault
 status_by (Err stops.NoThread) troubles.None = statuses.NoThread
 status_by (Ok done) troubles.None = statuses.Ok
+
+-- the status of a run whose record ended so
+abbrev pub status_with : Result (Unit {0}) RecordStop → Result (Unit {0}) Stop → Trouble →
+    ServeStatus
+status_with (Ok done) accepted trouble = status_by accepted trouble
+status_with (Err record_stops.WriteFault) accepted trouble = statuses.WriteFault
+status_with (Err record_stops.NoMemory) accepted trouble = statuses.NoMemory

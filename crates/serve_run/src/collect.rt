@@ -62,18 +62,20 @@ fn take_result<S: Source + Drop, K: LinkSink>(hub: &Hub, root: &mut HubPass, don
     }
 }
 
-/// Takes all results, takes their passes back, and says what they brought.
+/// Takes all results, takes their passes back, and says what they brought. So many other passes stay
+/// out.
 pub(crate) fn collect<S: Source + Drop, K: LinkSink, G: Gate + Drop, W: Spawner<LinkJob<S, K, G>>>(
     hub: &Hub,
     root: &mut HubPass,
     spawner: &mut W,
+    others: u32,
 ) -> Trouble
     requires root { IsRootOf hub.now root.old }
     requires ours { AreOnHub hub.now (length (W.reports spawner.old)) (W.started spawner.old) }
     requires balance { root.old.out + length (W.reports spawner.old)
-        ≡ length (W.started spawner.old) }
+        ≡ length (W.started spawner.old) + others }
     ensures root { IsRootOf hub.now root.new }
-    ensures out { root.new.out ≡ 0 }
+    ensures out { root.new.out ≡ others }
     ensures next { root.new.next ≡ root.old.next }
     ensures mine { HasSeen root.new.seen 0 root.old.seen }
     ensures settled { (n : ℕ) → IsIn n root.old.taken →

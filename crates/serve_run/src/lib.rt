@@ -3,7 +3,9 @@
 
 mod accept;
 mod collect;
+mod finish;
 mod open;
+mod record;
 mod serve;
 mod start;
 mod status;

@@ -10,20 +10,17 @@ ghost use Rattle.serve_words.specs.Words.{doors_of};
 ghost use Rattle.serve_words.specs.Words as grammar;
 ghost use Rattle.serve_words.specs.Asked.{asked as asked'};
 ghost use Rattle.serve_run.specs.Started.{IsRootOf, LinksStarted};
-ghost use Rattle.serve_run.specs.ServerLaw.{ServerLaw, IsWritten, sides};
-ghost use Rattle.serve_run.specs.Statuses.{status_by};
-ghost use Rattle.serve_record.specs.Recorded.{recorded};
+ghost use Rattle.serve_run.specs.ServerLaw.{ServerLaw, sides};
 ghost use Rattle.turn_lock.specs.Sights.{fresh_seat};
 
 use crate::accept::accept_all;
-use crate::collect::collect;
+use crate::finish::finish_run;
 use crate::open::open_all;
 use crate::status::ServeStatus;
-use crate::stop::{Stop, Trouble, status_of};
-use hub_lock::{Gate, Hub, HubPass, Session};
+use crate::stop::Stop;
+use hub_lock::{Gate, Hub, HubPass};
 use link_jobs::{LinkJob, Spawner};
 use link_nets::Net;
-use serve_record::{RecordStop, write_record};
 use serve_words::{Serving, WordsRefusal, serve_of};
 use std::alloc::Global;
 use std::sync::{Arc, Wait};
@@ -65,29 +62,6 @@ fn serve_links<R: Wait, N: Net, G: Gate + Drop, W: Spawner<LinkJob<N::In, N::Out
     accept_all(rt, alloc, hub, root, net, spawner, gate, asked.order)
 }
 
-// Writes the recorded session, and says how the run ended.
-fn write_session<K: Sink>(
-    alloc: Global,
-    session: &Session,
-    accepted: Result<(), Stop>,
-    trouble: Trouble,
-    output: &mut K,
-) -> ServeStatus
-    requires each { length session.now.stamps.stamps ≡ length session.now.journal.entries }
-    ensures written { IsWritten result (K.held output.old) (K.held output.new)
-        (recorded session.now.limits session.now.journal.entries session.now.stamps.stamps) }
-    ensures cause { result ≡ ServeStatus.WriteFault →
-        Rose (K.fault_count output.old) (K.fault_count output.new) }
-    ensures status { (result ≡ status_by accepted trouble)
-        ⊎ ((result ≡ ServeStatus.WriteFault) ⊎ (result ≡ ServeStatus.NoMemory)) }
-{
-    match write_record(alloc, session, output) {
-        Ok(()) => status_of(accepted, trouble),
-        Err(RecordStop::WriteFault) => ServeStatus::WriteFault,
-        Err(RecordStop::NoMemory) => ServeStatus::NoMemory,
-    }
-}
-
 // Serves what the words ask for, by a hub that nobody joined yet.
 fn serve_by<R: Wait, N: Net, W: Spawner<LinkJob<N::In, N::Out, G>>, G: Gate + Drop, K: Sink>(
     rt: &R,
@@ -115,11 +89,16 @@ fn serve_by<R: Wait, N: Net, W: Spawner<LinkJob<N::In, N::Out, G>>, G: Gate + Dr
         (W.refusal_count spawner.new) (K.held output.new) (K.fault_count output.new)) result }
 {
     let accepted = serve_links(rt, alloc, asked, hub, root, net, spawner, gate);
-    let trouble = collect(&**hub, root, spawner);
-    match hub.session(rt, root) {
-        Ok(session) => write_session(alloc, &session, accepted, trouble, output),
-        Err(_nothing_was_handed_out) => ServeStatus::NoMemory,
-    }
+    finish_run(
+        rt,
+        alloc,
+        &asked.limits,
+        &**hub,
+        root,
+        spawner,
+        accepted,
+        output,
+    )
 }
 
 // Serves what the words ask for.
@@ -160,9 +139,9 @@ fn serve<R: Wait, N: Net, W: Spawner<LinkJob<N::In, N::Out, G>>, G: Gate + Drop,
 /// Serves the links that the words ask for over one hub. It opens the three doors, accepts one link
 /// per letter of the order, joins those of applications and methods, and starts a reader and a
 /// writer for each, or one job for a shell. Where a door, a link, a join or a start fails it accepts
-/// no further links, and lets the jobs that run go on to their ends. When all are done it writes the
-/// hub's recorded session. The spawner has given the results of all that it started before. (Wait:
-/// it promises what it does if it returns.)
+/// no further links, and lets the jobs that run go on to their ends. It then writes the hub's
+/// recorded session as its entries come, and its end when all are done. The spawner has given the
+/// results of all that it started before. (Wait: it promises what it does if it returns.)
 pub fn run_serve<R: Wait, N: Net, W: Spawner<LinkJob<N::In, N::Out, G>>, G: Gate + Drop, K: Sink>(
     rt: &R,
     alloc: Global,

@@ -36,6 +36,7 @@ fn take_back(hub: &Hub, root: &mut HubPass, pass: Pass)
     ensures theirs { HasSeen root.new.seen (seat_of pass).number (seat_of pass).seen }
 {
     hub.finish(root, pass);
+    hub.leave();
 }
 
 // Says that the link of a reader is gone that doesn't run.

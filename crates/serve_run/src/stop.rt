@@ -4,13 +4,14 @@ ghost use Rattle.link_jobs.specs.Tags.End.{read, wrote, ordered};
 ghost use Rattle.link_jobs.specs.LinkTags.{done_report};
 ghost use Rattle.serve_run.specs.Refused.{stop_of};
 ghost use Rattle.serve_run.specs.Started.{IsRefusal};
-ghost use Rattle.serve_run.specs.Statuses.{brought_by, worse, status_by};
+ghost use Rattle.serve_run.specs.Statuses.{brought_by, worse, status_by, status_with};
 
 use crate::status::ServeStatus;
 use broker_core::JoinRefusal;
 use link_jobs::LinkDone;
 use link_nets::LinkSink;
 use peer_link::{ReadEnd, ShellEnd, WriteEnd};
+use serve_record::RecordStop;
 use thiserror::Error;
 use wio_core::Source;
 
@@ -123,5 +124,20 @@ pub(crate) fn status_of(accepted: Result<(), Stop>, trouble: Trouble) -> ServeSt
         (Err(Stop::NetFault), Trouble::None) => ServeStatus::NetFault,
         (Err(Stop::NoThread), Trouble::None) => ServeStatus::NoThread,
         (Ok(()), Trouble::None) => ServeStatus::Ok,
+    }
+}
+
+/// The status of a run whose record ended so.
+pub(crate) fn status_with(
+    written: Result<(), RecordStop>,
+    accepted: Result<(), Stop>,
+    trouble: Trouble,
+) -> ServeStatus
+    ensures { result ≡ status_with written accepted trouble }
+{
+    match written {
+        Ok(()) => status_of(accepted, trouble),
+        Err(RecordStop::WriteFault) => ServeStatus::WriteFault,
+        Err(RecordStop::NoMemory) => ServeStatus::NoMemory,
     }
 }

@@ -1,5 +1,8 @@
 //! Gates that hold a reader.
+use crate::live_net::Shared;
 use hub_lock::Gate;
+use std::alloc::{AllocError, Global};
+use std::sync::Arc;
 use std::sync::atomic::{AtomicU64, Ordering};
 use std::thread;
 
@@ -57,4 +60,28 @@ impl Gate for HoldsFirst {
             self.answered.store(1, Ordering::SeqCst);
         }
     }
+}
+
+/// Holds peer 1's first step until bytes of the record went out.
+#[derive(Drop)]
+pub(crate) struct AwaitsRecord {
+    record: Arc<Shared, Global>,
+}
+
+impl AwaitsRecord {
+    pub(crate) fn new(record: &Arc<Shared, Global>) -> Result<AwaitsRecord, AllocError> {
+        Ok(AwaitsRecord {
+            record: Arc::try_clone(record)?,
+        })
+    }
+}
+
+impl Gate for AwaitsRecord {
+    fn before(&self, peer: u32, step: u64) {
+        if peer == 1 && step == 1 {
+            self.record.wait();
+        }
+    }
+
+    fn after(&self, _peer: u32, _step: u64) {}
 }

@@ -14,6 +14,8 @@ mod live_net;
 #[cfg(test)]
 mod order_tests;
 #[cfg(test)]
+mod record_tests;
+#[cfg(test)]
 mod row_tests;
 #[cfg(test)]
 mod unix_tests;

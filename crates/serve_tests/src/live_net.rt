@@ -43,7 +43,8 @@ impl Shared {
         self.late.load(Ordering::SeqCst) > 0
     }
 
-    fn wait(&self) {
+    /// Waits until the sink has gained bytes, or was hung up.
+    pub(crate) fn wait(&self) {
         for _ in 0..TURNS {
             if self.gained() > 0 || self.was_hung_up() {
                 return;
@@ -87,6 +88,14 @@ pub(crate) struct LiveSink {
     shared: Arc<Shared, Global>,
 }
 
+impl LiveSink {
+    pub(crate) fn new(shared: &Arc<Shared, Global>) -> Result<LiveSink, AllocError> {
+        Ok(LiveSink {
+            shared: Arc::try_clone(shared)?,
+        })
+    }
+}
+
 impl Sink for LiveSink {
     ghost held = { λ _. None };
 
@@ -122,10 +131,7 @@ fn link_of(
         bytes: MemSource::new(bytes.to_vec(alloc)?, 4096, Vec::new(alloc)),
         shared: Arc::try_clone(shared)?,
     };
-    let sink = LiveSink {
-        shared: Arc::try_clone(shared)?,
-    };
-    Ok((source, sink))
+    Ok((source, LiveSink::new(shared)?))
 }
 
 /// A net with the link that is accepted next, and the one behind it.

@@ -1,0 +1,92 @@
+//! A recorded session as its entries come.
+ghost use Rattle.std.specs.Prelude.{◌≡◌, ◌≤◌, ◌++◌, [], Some, Err, IfOk, OnOk, OnErr};
+ghost use Rattle.std.specs.Io.KnownBytes.{Appends};
+ghost use Rattle.wio_core.specs.Io.{Rose};
+ghost use Rattle.session_text.specs.declared.line.Line.TheVariants.{Header, End};
+ghost use Rattle.serve_record.specs.Recorded.{text_line};
+ghost use Rattle.serve_record.specs.Lines.{lines_text, Holds, GainsFront};
+
+use crate::entry_lines::add_entry;
+use crate::record::{RecordStop, header, write_piece};
+use broker_core::LetGo;
+use seat_steps::Limits;
+use std::alloc::Global;
+use std::marker::Model;
+use wio_core::{NoMemory, Sink, write_all};
+
+/// The text of a recorded session, of which a last piece waits. Contracts see the bytes that wait.
+#[derive(Drop)]
+pub struct RecordText {
+    waiting: Vec<u8>,
+}
+
+impl Model for RecordText {
+    ghost use Rattle.std.specs.Prelude.{List, ℕ};
+
+    ghost Value = { List ℕ };
+
+    ghost view = { λ t. t.waiting.items };
+}
+
+impl RecordText {
+    /// The header waits. `NoMemory` is its one error.
+    pub fn new(alloc: Global, limits: &Limits) -> Result<RecordText, NoMemory>
+        ensures { IfOk result (λ text. text ≡ text_line (Header limits.now)) }
+    {
+        Ok(RecordText {
+            waiting: header(alloc, limits)?,
+        })
+    }
+
+    /// Adds the line of an entry behind its stamp, if it has one, and writes what waits, if it is a
+    /// whole piece. After `RecordStop` a front of it was written.
+    pub fn add<K: Sink>(
+        &mut self,
+        alloc: Global,
+        next: &LetGo,
+        output: &mut K,
+    ) -> Result<(), RecordStop>
+        ensures whole { OnOk result (Holds (K.held output.old) (K.held output.new) self.new
+            (self.old ++ lines_text (Some next.now.entry) (Some next.now.stamp))) }
+        ensures front { OnErr result (GainsFront (K.held output.old) (K.held output.new)
+            (self.old ++ lines_text (Some next.now.entry) (Some next.now.stamp))) }
+        ensures never_falls { K.fault_count output.old ≤ K.fault_count output.new }
+        ensures cause { result ≡ Err RecordStop.WriteFault →
+            Rose (K.fault_count output.old) (K.fault_count output.new) }
+    {
+        add_entry(alloc, &mut self.waiting, next.stamp, &next.entry)?;
+        write_piece(&mut self.waiting, output)?;
+        Ok(())
+    }
+
+    /// Writes what waits. After `RecordStop` a front of it was written.
+    pub fn write<K: Sink>(&mut self, output: &mut K) -> Result<(), RecordStop>
+        ensures whole { OnOk result (Appends (K.held output.old) (K.held output.new) self.old) }
+        ensures none { OnOk result (self.new ≡ []) }
+        ensures front { OnErr result (GainsFront (K.held output.old) (K.held output.new)
+            self.old) }
+        ensures never_falls { K.fault_count output.old ≤ K.fault_count output.new }
+        ensures cause { result ≡ Err RecordStop.WriteFault →
+            Rose (K.fault_count output.old) (K.fault_count output.new) }
+    {
+        write_all(output, self.waiting.as_slice())?;
+        self.waiting.clear();
+        Ok(())
+    }
+
+    /// Writes what waits, and the end. After `RecordStop` a front of it was written.
+    pub fn end<K: Sink>(self, output: &mut K) -> Result<(), RecordStop>
+        ensures whole { OnOk result (Appends (K.held output.old) (K.held output.new)
+            (self ++ text_line End)) }
+        ensures front { OnErr result (GainsFront (K.held output.old) (K.held output.new)
+            (self ++ text_line End)) }
+        ensures never_falls { K.fault_count output.old ≤ K.fault_count output.new }
+        ensures cause { result ≡ Err RecordStop.WriteFault →
+            Rose (K.fault_count output.old) (K.fault_count output.new) }
+    {
+        let RecordText { mut waiting } = self;
+        waiting.extend_from_slice(b"end\n").map_err(NoMemory::from)?;
+        write_all(output, waiting.as_slice())?;
+        Ok(())
+    }
+}

@@ -1,0 +1,67 @@
+//! A run is brought to its end: the record is written while links run, and the results come back.
+ghost use Rattle.std.specs.Prelude.{◌≡◌, ◌≤◌, ◌+◌, ◌^◌, length};
+ghost use Rattle.serve_run.specs.Ended.{IsEnded};
+ghost use Rattle.serve_run.specs.LinkJobs.{AreOnHub};
+ghost use Rattle.serve_run.specs.Started.{IsRootOf};
+
+use crate::collect::collect;
+use crate::record::{record_first, record_last};
+use crate::status::ServeStatus;
+use crate::stop::{Stop, status_with};
+use hub_lock::{Gate, Hub, HubPass};
+use link_jobs::{LinkJob, Spawner};
+use link_nets::LinkSink;
+use seat_steps::Limits;
+use std::alloc::Global;
+use std::sync::Wait;
+use wio_core::{Sink, Source};
+
+/// Writes the recorded session as its entries come while the jobs run, and takes all results.
+pub(crate) fn finish_run<
+    R: Wait,
+    S: Source + Drop,
+    L: LinkSink,
+    G: Gate + Drop,
+    W: Spawner<LinkJob<S, L, G>>,
+    K: Sink,
+>(
+    rt: &R,
+    alloc: Global,
+    limits: &Limits,
+    hub: &Hub,
+    root: &mut HubPass,
+    spawner: &mut W,
+    accepted: Result<(), Stop>,
+    output: &mut K,
+) -> ServeStatus
+    requires root { IsRootOf hub.now root.old }
+    requires limits { hub.now.limits ≡ limits.now }
+    requires room { root.old.next ≤ 2 ^ 63 }
+    requires ours { AreOnHub hub.now (length (W.reports spawner.old)) (W.started spawner.old) }
+    requires balance { root.old.out + length (W.reports spawner.old)
+        ≡ length (W.started spawner.old) }
+    ensures ended { IsEnded hub.now root.old (W.started spawner.old) (W.reports spawner.old)
+        (W.reports spawner.new) (K.held output.old) (K.held output.new)
+        (K.fault_count output.old) (K.fault_count output.new) accepted result }
+    ensures all { length (W.reports spawner.new) ≡ length (W.started spawner.old) }
+    ensures started { W.started spawner.new ≡ W.started spawner.old }
+    ensures before { W.before_start spawner.new ≡ W.before_start spawner.old }
+    ensures never_falls { W.refusal_count spawner.old ≤ W.refusal_count spawner.new }
+{
+    let users = root.made();
+    match hub.recorder(rt, root) {
+        Some(mut pass) => {
+            hub.end_record(users);
+            let first = record_first(rt, alloc, limits, hub, &mut pass, output);
+            let trouble = collect(hub, root, spawner, 1);
+            let written = record_last(rt, alloc, hub, root, pass, first, output);
+            status_with(written, accepted, trouble)
+        }
+        None => {
+            // Nobody records yet, so this never comes.
+            let _trouble = collect(hub, root, spawner, 0);
+            let _entries = root.seen();
+            ServeStatus::NoMemory
+        }
+    }
+}
