@@ -33,7 +33,7 @@ bytes_are [] h i = omega arith
 bytes_are (x ∷ xs) h zero = h.0
 bytes_are (x ∷ xs) h (suc i) = bytes_are xs h.1 i
 
-word_is : (n : ℕ) → AreBytes (word_bytes n)
+pub word_is : (n : ℕ) → AreBytes (word_bytes n)
 word_is n = (omega arith, (omega arith, (omega arith, (omega arith, tt))))
 
 none_are : (k : ℕ) → AreBytes (take k [])

@@ -26,8 +26,8 @@ pub fn recorded_session_replays()
     ensures law { RecordedReplays }
 {}
 
-/// So it is with the recorded session of what stands behind a hub's lock, as a server writes it,
-/// where lines give its steps again: that the journal wasn't full for them follows from its limits.
+/// So it is with the recorded session of what stands behind a hub's lock, as a server writes it: it
+/// is lawful, and so are its steps legal.
 pub fn hub_session_replays()
     ensures law { HubReplays }
 {}
