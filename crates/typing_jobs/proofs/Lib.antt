@@ -1,0 +1,10 @@
+pub mod RequestsWhole
+pub mod FieldHeard
+pub mod FieldHears
+pub mod FieldSent
+pub mod FieldSubmits
+pub mod FieldGoesOn
+pub mod FieldKept
+pub mod FieldDone
+pub mod FieldEdited
+pub mod OrdersGiven

@@ -1,0 +1,13 @@
+use Rattle.std.proofs.Common.{◌≡◌, take}
+use Rattle.turn_lock.specs.Sights.{having_seen}
+use Rattle.pass_calls.specs.Made.{entries_by, SawMore}
+use Rattle.typing_jobs.specs.ShellLaw.{ordered}
+use Rattle.typing_jobs.proofs.shell_job.give_orders.Given as goal
+
+-- the orders so far were given
+abbrev pub invariant-loop-step : goal.invariant-loop-step
+invariant-loop-step g l = record {
+  pass : l.pass ≡ having_seen l.initial.pass l.pass.seen;
+  saw : SawMore l.hub.limits l.initial.pass.seen l.pass.seen;
+  given : entries_by l.pass ≡ ordered (take l.step-index l.step-items);
+}

@@ -1,0 +1,9 @@
+pub mod Ends
+pub mod Fronts
+pub mod Happened
+pub mod FieldHearing
+pub mod FieldAsked
+pub mod Sending
+pub mod FieldLaw
+pub mod FieldGoing
+pub mod ShellLaw
