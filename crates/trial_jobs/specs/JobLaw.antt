@@ -1,0 +1,23 @@
+-- The law of a job
+use Rattle.std.specs.Prelude.{Result}
+use Rattle.seat_steps.specs.declared.limits.Limits.{Limits}
+use Rattle.hub_lock.specs.Passes.{HubId}
+use Rattle.typing_jobs.specs.declared.job_end.JobEnd.{JobEnd}
+use Rattle.typing_jobs.specs.FieldLaw.{IsFieldReady, FieldRuns}
+use Rattle.typing_jobs.specs.ShellLaw.{IsShellReady, ShellRuns}
+use Rattle.trial_jobs.specs.declared.job.TrialJob.{TrialJob}
+use Rattle.trial_jobs.specs.declared.job.TrialJob.TheVariants as jobs
+use Rattle.trial_jobs.specs.MethodLaw.{IsMethodReady, MethodRuns}
+
+-- the job is as its user's peer joined and sent its set-up, or as the shell's pass was made
+abbrev pub IsReady : HubId → TrialJob → Type 0
+IsReady hub (jobs.Field job) = IsFieldReady hub job
+IsReady hub (jobs.Method job) = IsMethodReady hub job
+IsReady hub (jobs.Shell job) = IsShellReady hub job
+
+-- what running it makes of it
+abbrev pub Runs : Limits → TrialJob → TrialJob → Result (Unit {0}) JobEnd → Type 0
+Runs limits (jobs.Field before) (jobs.Field after) result = FieldRuns limits before after result
+Runs limits (jobs.Method before) (jobs.Method after) result = MethodRuns limits before after result
+Runs limits (jobs.Shell before) (jobs.Shell after) result = ShellRuns limits before after result
+Runs limits _ _ result = ⊥

@@ -1,0 +1,5 @@
+pub mod MethodAsked
+pub mod MethodHearing
+pub mod MethodLaw
+pub mod MethodGoing
+pub mod JobLaw

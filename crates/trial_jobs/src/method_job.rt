@@ -1,0 +1,60 @@
+//! The method's job.
+ghost use Rattle.trial_jobs.specs.MethodLaw.{IsMethodReady, MethodRuns};
+
+use crate::batch_list::BatchList;
+use crate::method_batches::make_batch;
+use crate::method_turns::answer_all;
+use client_logs::MethodLog;
+use client_side::MethodClient;
+use hub_lock::{Hub, ReaderPass, WriterPass};
+use std::alloc::Global;
+use std::sync::Wait;
+use trial_run::TrialTypist;
+use typing_jobs::JobEnd;
+
+/// How many rounds the method's job makes: in each it takes and answers until nothing is stored, and
+/// commits one batch of its script.
+pub const ROUNDS: usize = 1_000;
+
+/// The method as a peer of a hub: its passes, what its user commits, its client, and what happened.
+#[derive(Drop)]
+pub struct MethodJob {
+    /// The pass of the peer's reader.
+    pub reader: ReaderPass,
+    /// The pass of the same peer's writer.
+    pub writer: WriterPass,
+    /// What the method's user commits.
+    pub batches: BatchList,
+    /// The client.
+    pub client: MethodClient<TrialTypist>,
+    /// What happened so far.
+    pub log: MethodLog,
+}
+
+/// In each of a thousand rounds the method takes and answers until nothing is stored, and then
+/// commits the next batch of its script. It stops where its peer has ended.
+///
+/// `JournalFull` comes where the journal is full for the job's next step, `BadEvent` where the
+/// method was told what its client can't read, `NoMemory` may come. (Wait: it promises what it does
+/// if it returns.)
+pub fn run_method<R: Wait>(
+    rt: &R,
+    alloc: Global,
+    hub: &Hub,
+    job: &mut MethodJob,
+) -> Result<(), JobEnd>
+    requires ready { IsMethodReady hub.now job.old }
+    ensures { MethodRuns hub.now.limits job.old job.new result }
+{
+    for round in 0..ROUNDS {
+        let still_here = answer_all(rt, alloc, hub, job)?;
+        if !still_here {
+            return Ok(());
+        }
+        let goes_on = make_batch(rt, alloc, hub, job, round)?;
+        if !goes_on {
+            return Ok(());
+        }
+    }
+    Ok(())
+}
