@@ -2,7 +2,9 @@
  *
  * An app and a method type through Unix sockets. Measured are batches a second and processor time a batch where the method
  * doesn't wait, the time of one batch at a time with 2 and with 64 links, and what 64 idle links cost in ten seconds. The
- * plain relay is this program itself: a thread that reads a frame of the method's and writes a frame of as many bytes.
+ * plain relay is this program itself: a thread that reads a frame of the method's and writes a frame of as many bytes;
+ * then the same by two threads, as a server has that keeps nobody waiting for a slow peer: one reads, and wakes one that
+ * writes.
  */
 #define _GNU_SOURCE
 #include <pthread.h>
@@ -271,18 +273,68 @@ static void *relay(void *data) {
     }
 }
 
-static void bare(long count) {
+static void bare(const char *what, void *(*run)(void *), long count) {
     int in[2], out[2];
     socketpair(AF_UNIX, SOCK_STREAM, 0, in);
     socketpair(AF_UNIX, SOCK_STREAM, 0, out);
     int links[2] = {in[1], out[0]};
     pthread_t thread;
-    pthread_create(&thread, NULL, relay, links);
+    pthread_create(&thread, NULL, run, links);
     double seconds = pipelined(in[0], out[1], count);
-    printf("plain relay: %.0f batches a second, %.2f us a batch\n", count / seconds, seconds / count * 1e6);
-    one_by_one("plain relay", in[0], out[1]);
+    printf("%s: %.0f batches a second, %.2f us a batch\n", what, count / seconds, seconds / count * 1e6);
+    one_by_one(what, in[0], out[1]);
     shutdown(in[0], SHUT_RDWR);
     pthread_join(thread, NULL);
+}
+
+/* What the thread that reads leaves for the one that writes. */
+struct store {
+    int link;
+    pthread_mutex_t lock;
+    pthread_cond_t woken;
+    size_t size;
+    int ended;
+    uint8_t bytes[1 << 20];
+};
+
+static void *write_stored(void *data) {
+    struct store *s = data;
+    static uint8_t bytes[4096];
+    for (;;) {
+        pthread_mutex_lock(&s->lock);
+        while (s->size == 0 && !s->ended)
+            pthread_cond_wait(&s->woken, &s->lock);
+        size_t size = s->size < sizeof bytes ? s->size : sizeof bytes;
+        memcpy(bytes, s->bytes, size);
+        memmove(s->bytes, s->bytes + size, s->size - size);
+        s->size -= size;
+        pthread_mutex_unlock(&s->lock);
+        if (size == 0)
+            return NULL;
+        write_all(s->link, bytes, size);
+    }
+}
+
+static void *relay_by_two(void *data) {
+    int *links = data;
+    static struct store s;
+    s = (struct store){.link = links[1], .lock = PTHREAD_MUTEX_INITIALIZER, .woken = PTHREAD_COND_INITIALIZER};
+    uint8_t bytes[4100];
+    pthread_t thread;
+    pthread_create(&thread, NULL, write_stored, &s);
+    for (ssize_t got; (got = read(links[0], bytes, sizeof bytes)) > 0;) {
+        pthread_mutex_lock(&s.lock);
+        memcpy(s.bytes + s.size, bytes, got);
+        s.size += got;
+        pthread_cond_signal(&s.woken);
+        pthread_mutex_unlock(&s.lock);
+    }
+    pthread_mutex_lock(&s.lock);
+    s.ended = 1;
+    pthread_cond_signal(&s.woken);
+    pthread_mutex_unlock(&s.lock);
+    pthread_join(thread, NULL);
+    return NULL;
 }
 
 static void served(const char *program, long count) {
@@ -312,7 +364,8 @@ int main(int count, char **words) {
     signal(SIGPIPE, SIG_IGN);
     if (!program || chdir(mkdtemp(folder)) != 0)
         give_up("no program, or no folder");
-    bare(batches);
+    bare("plain relay", relay, batches);
+    bare("plain relay by two threads", relay_by_two, batches);
     served(program, batches);
     return chdir("/") || rmdir(folder);
 }
