@@ -5,7 +5,7 @@
    whose README it is, else of those that the row names, else of any; of its type, where the row says `Type::call` or
    did before. Each clause is the name of an `ensures` of one of the row's calls, or of a ghost member or a definition
    of these crates or of those below them, where none of theirs has a clause of that name (a crate's own README may
-   name a field of its own records all the same). `its ensures` and `definitions` name no clause.
+   name a field of its own records all the same). `ensures` and `definitions` name no clause.
 2. Links resolve. Words in back quotes that are a path or a file's name are there; those that are a name with `_`, a
    path with `::` or a word `InThisForm` stand somewhere in the sources.
 3. docs/AUDIT.md tells how many must-fail edits there are. All documents together have at most so many words, and none
