@@ -231,6 +231,21 @@ def compare(program, session, run, whole=True):
                 raise SystemExit(f"peer {number} got {len(peer.got)} bytes, and is sent {sent}")
 
 
+def compare_front(program, run):
+    """What a killed server left replays, and tells each peer what it got, as far as both go. How many entries it has."""
+    with open(f"{run.server.folder}/session", "rb") as file:
+        left = file.read()
+    lines = left[: left.rfind(b"\n") + 1]
+    check("an end is left", lines.endswith(b"\nend\n"), False)
+    check("something is left", lines.count(b" bytes ") > 0, True)
+    told, _ = told_and_taken(program, lines + b"end\n")
+    for number, peer in enumerate(run.peers, 1):
+        wanted = told.get(number, b"")
+        both = min(len(wanted), len(peer.got))
+        check(f"what peer {number} got", peer.got[:both], wanted[:both])
+    return lines.count(b"\n") - 1
+
+
 # ---- the cases
 
 
@@ -318,7 +333,8 @@ def second_start(program):
 
 
 def killed_server(program):
-    """A server that is told to end: each link ends, the session is lost, and the next server takes its doors over."""
+    """A server that is told to end: each link ends, a front of its session is left, and the next server takes its doors
+    over."""
     run = Run(program)
     with bounded(run, PATIENCE * 3):
         run.type_on()
@@ -330,13 +346,13 @@ def killed_server(program):
         check("a link is left", [link for link in run.links if link.is_alive()], [])
         left = sorted(os.listdir(run.server.folder))
         check("what is left", left, ["app", "app.lock", "method", "method.lock", "session", "shell", "shell.lock"])
-        check("the session", os.path.getsize(f"{run.server.folder}/session"), 0)
+        entries = compare_front(program, run)
         run.server.session.close()
     after = Run(program, folder=run.server.folder)
     with bounded(after, PATIENCE * 3):
         after.type_on()
         compare(program, after.finish(OK), after)
-    return "its session is lost, its doors are taken over"
+    return f"{entries} entries of its session are left, its doors are taken over"
 
 
 def be_a_victim(path):
