@@ -9,4 +9,5 @@ pub mod VisitIsPass
 pub mod PeersInOrder
 pub mod UnmarkedAreQuiet
 pub mod SlabIsList
+pub mod NamesStay
 mod TokensFit

@@ -1,19 +1,16 @@
 -- Live peers in order: what a search finds, and that each change keeps the order.
-use Rattle.std.proofs.Common.{◌≡◌, ℕ, zero, suc, ◌<◌, ◌≤◌, List, [], ◌∷◌, ◌++◌, length, get_or, map, Bool, true, false, if◌then◌else◌, Result, Ok, Err, IfOk, IfErr, sym, ap, refl, arith}
+use Rattle.std.proofs.Common.{◌≡◌, ℕ, zero, suc, ◌<◌, ◌≤◌, List, [], ◌∷◌, ◌++◌, length, get_or, map, Bool, true, false, if◌then◌else◌, Result, Ok, Err, IfOk, IfErr, sym, ap, refl, ◌∙◌, arith}
 use Rattle.std.specs.List.{AllByRecursion, remove}
 use Rattle.std.specs.List.Sorted.{IsSearchInRange, IsBinarySearchResult, IsNonDecreasingBy}
 use Rattle.std.specs.Ordering.{nat_cmp, ordering_index}
 use Rattle.std.proofs.lemmas.Cmp.{ranked}
 use Rattle.std.proofs.lemmas.List.Sorted.{IsNonDecreasingBy-from_default}
 use Rattle.std.proofs.lemmas.Bool.Decides.{nat_tests}
-use Rattle.std.specs.Prelude.{◌==◌}
+use Rattle.std.proofs.lemmas.List.{get_or-map, length-map}
 use Rattle.out_store.specs.Queue.{queue, cells_of}
-use Rattle.wl_proto.specs.Rows.{Message}
 use Rattle.broker_model.specs.Groups.{pair_of}
-use Rattle.seat_audience.specs.declared.directory.Named.{Named}
 use Rattle.seat_audience.specs.declared.live.Live.{Live}
-use Rattle.seat_audience.specs.Gathered.{with_message}
-use Rattle.seat_audience.specs.Lives.{AreOver, hears_message, delivered, has_room}
+use Rattle.seat_audience.specs.Lives.{AreOver, delivered, has_room}
 use Rattle.seat_audience.specs.Visits.{IsAt, HasNone}
 
 module _ {X : Type 0} (key : X → ℕ) where
@@ -53,6 +50,42 @@ module _ {X : Type 0} (key : X → ℕ) where
   over_pushed x [] q over lt all = (lt, tt)
   over_pushed x (l ∷ live) q over lt all = (over.0, over_pushed x live (key l) over.1 all.0 all.1)
 
+  -- a list and what is counted of each of it: one is in order as the other is
+  pub over_mapped : (live : List X) (q : ℕ) → AreOver key q live → AreOver (λ n. n) q (map key live)
+  over_mapped [] q over = tt
+  over_mapped (l ∷ live) q over = (over.0, over_mapped live (key l) over.1)
+
+  pub over_unmapped : (live : List X) (q : ℕ) → AreOver (λ n. n) q (map key live) → AreOver key q live
+  over_unmapped [] q over = tt
+  over_unmapped (l ∷ live) q over = (over.0, over_unmapped live (key l) over.1)
+
+  pub removed_mapped : (live : List X) (place : ℕ) → remove (map key live) place ≡ map key (remove live place)
+  removed_mapped [] zero = refl
+  removed_mapped [] (suc place) = refl
+  removed_mapped (l ∷ live) zero = refl
+  removed_mapped (l ∷ live) (suc place) = ap (λ ns. key l ∷ ns) (removed_mapped live place)
+
+  -- and what is found in one is found in the other
+  pub at_mapped : (live : List X) (x place : ℕ) (none : X) → IsAt key x live place → IsAt (λ n. n) x (map key live) place
+  at_mapped live x place none at = record {
+    within = rw (length-map live key) at.within;
+    has = λ d. get_or-map key live place none d at.within ∙ at.has none;
+  }
+
+  pub at_unmapped : (live : List X) (x place : ℕ) → IsAt (λ n. n) x (map key live) place → IsAt key x live place
+  at_unmapped live x place at =
+      let within : place < length live = rw (length-map live key) at at.within in
+      record { within = within; has = λ d. sym (get_or-map key live place d 0 within) ∙ at.has 0 }
+
+  pub none_mapped : (live : List X) (x : ℕ) (d : X) → HasNone key x live → HasNone (λ n. n) x (map key live)
+  none_mapped live x d none k e lt same =
+      let within : k < length live = rw (length-map live key) at lt in
+      none k d within (sym (get_or-map key live k d e within) ∙ same)
+
+  pub none_unmapped : (live : List X) (x : ℕ) → HasNone (λ n. n) x (map key live) → HasNone key x live
+  none_unmapped live x none k d lt same =
+      none k 0 (rw (length-map live key) lt) (get_or-map key live k d 0 lt ∙ same)
+
   module _ (live : List X) (over : AreOver key 0 live) (x : ℕ) (none : X) where
     comparisons_rise : IsNonDecreasingBy (λ l. ordering_index (nat_cmp (key l) x)) live
     comparisons_rise =
@@ -77,21 +110,7 @@ module _ {X : Type 0} (key : X → ℕ) where
         grind (arith, below, above);
   }
 
--- what an event and a delivery leave as it was
-
-pub hears_number : (to : Named) (m : Message) (l : Live) → (hears_message to m l).number ≡ l.number
-hears_number to m l = step (l.label == to.peer)
-  where
-    step : (b : Bool) → (if b then record l { gathering = with_message to.id m l.gathering } else l).number ≡ l.number
-    step true = refl
-    step false = refl
-
-pub hears_label : (to : Named) (m : Message) (l : Live) → (hears_message to m l).label ≡ l.label
-hears_label to m l = step (l.label == to.peer)
-  where
-    step : (b : Bool) → (if b then record l { gathering = with_message to.id m l.gathering } else l).label ≡ l.label
-    step true = refl
-    step false = refl
+-- what a delivery leaves as it was
 
 pub delivered_number : (l : Live) → (delivered l).number ≡ l.number
 delivered_number l = step (has_room l)

@@ -339,6 +339,11 @@ number_nowhere q [] none = refl
 number_nowhere q (l ∷ live) none =
     rw (ne_eqb l.number q (none 0 l (omega arith))) (number_nowhere q live (λ k d lt. none (suc k) d (omega arith)))
 
+-- an event to an object of this peer
+pub hears_own : (to : Named) (m : Message) (l : Live) → l.label ≡ to.peer →
+    record l { gathering = with_message to.id m l.gathering } ≡ hears_message to m l
+hears_own to m l same = rw (eq-eqb l.label to.peer same) refl
+
 -- an event that no other hears
 pub heard_there : (to : Named) (m : Message) (place : ℕ) (live : List Live) → AreInOrder live →
     IsAt (λ l. l.label) to.peer live place →

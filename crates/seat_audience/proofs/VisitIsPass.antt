@@ -1,7 +1,8 @@
 -- A visit to marked places makes what a pass over all would.
-use Rattle.std.proofs.Common.{◌≡◌, ℕ, zero, suc, ◌+◌, ◌<◌, ◌≤◌, Bool, true, false, ◌||◌, eqb, List, [], ◌∷◌, length, get_or, set, take, map, if◌then◌else◌, refl, sym, ap, ◌∙◌, arith}
+use Rattle.std.proofs.Common.{◌≡◌, ℕ, zero, suc, ◌+◌, ◌<◌, ◌≤◌, Bool, true, false, ◌||◌, eqb, List, [], ◌∷◌, length, get_or, set, take, map, Some, slice_get, if◌then◌else◌, refl, sym, ap, ◌∙◌, arith}
 use Rattle.std.proofs.lemmas.Bool.{eq-eqb, ne_eqb}
 use Rattle.std.proofs.lemmas.List.{take_more}
+use Rattle.std.proofs.lemmas.Option.{get_or_from_slice_get}
 use Rattle.seat_audience.specs.declared.live.Live.{Live}
 use Rattle.seat_audience.specs.Marks.{is_marked, AreWithin}
 use Rattle.seat_audience.specs.Visits.{map_at, at_marked, changed_at}
@@ -14,6 +15,11 @@ pub changed_set : (f : Live → Live) (place : ℕ) (live : List Live) (l : Live
 changed_set f place [] l lt read = refl
 changed_set f zero (x ∷ live) l lt read = rw read refl
 changed_set f (suc place) (x ∷ live) l lt read = ap (λ ls. x ∷ ls) (changed_set f place live l (omega arith) read)
+
+pub written_at : (f : Live → Live) (place : ℕ) (live : List Live) (l new : Live) → place < length live →
+    slice_get live place ≡ Some l → new ≡ f l → set live place new ≡ changed_at place f live
+written_at f place live l new lt there is =
+    ap (set live place) is ∙ changed_set f place live l lt (sym (get_or_from_slice_get live place l l there))
 
 pub changed_length : (f : Live → Live) (place : ℕ) (live : List Live) → length (changed_at place f live) ≡ length live
 changed_length f place [] = refl

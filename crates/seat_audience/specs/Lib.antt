@@ -7,3 +7,4 @@ pub mod Changes
 pub mod Marks
 pub mod Visits
 pub mod Seated
+pub mod Lent

@@ -103,8 +103,9 @@ impl Audience {
         let Some(event) = event_of(&told.event, id) else {
             return;
         };
-        if event_len(&event) <= LONGEST {
-            self.live.hear(&to, &event, token_of(&told.event));
+        let len = event_len(&event);
+        if len <= LONGEST {
+            self.live.hear(&to, &event, len, token_of(&told.event));
         }
     }
 }

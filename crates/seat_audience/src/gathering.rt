@@ -110,7 +110,16 @@ impl Gathering {
         requires token { tokens_in (event_message event.now).values ≡ first_token token }
         ensures put { self.new ≡ with_message id (event_message event.now) self.old }
     {
-        let len = event_len(event);
+        self.put_measured(id, event, event_len(event), token);
+    }
+
+    // As `put`, of an event of which it is known that it has `len` bytes.
+    pub(crate) fn put_measured(&mut self, id: u32, event: &Event, len: usize, token: Option<u32>)
+        requires short { message_len (event_message event.now) ≤ 4096 }
+        requires len { len ≡ message_len (event_message event.now) }
+        requires token { tokens_in (event_message event.now).values ≡ first_token token }
+        ensures put { self.new ≡ with_message id (event_message event.now) self.old }
+    {
         if self.is_over || len > self.bytes.len() - self.len {
             self.is_over = true;
             return;

@@ -9,8 +9,8 @@ mod gathering;
 mod listeners;
 mod live;
 mod marks;
-mod peers;
 mod place;
+mod roster;
 
 pub use audience::Audience;
 pub use directory::{Directory, Named};

@@ -23,7 +23,7 @@ ghost use Rattle.seat_audience.specs.Visits.{IsNew, IsQuiet};
 use crate::directory::Named;
 use crate::live::Live;
 use crate::marks::Marks;
-use crate::peers::Peers;
+use crate::roster::Roster;
 use relay_model::{EndCause, Label};
 use seat_steps::TokenList;
 use seat_wire::Meaning;
@@ -38,7 +38,7 @@ use wl_proto::Event;
 /// In contracts it is the list of them, and for how many more there is room.
 #[derive(Drop)]
 pub struct Listeners {
-    peers: Peers,
+    peers: Roster,
     // The places of those for whom something may be gathered.
     told: Marks,
     // The places of those who may have to be ended.
@@ -47,6 +47,7 @@ pub struct Listeners {
 
 impl Model for Listeners {
     ghost use Rattle.std.specs.Prelude.{◌-◌, ◌≤◌, length, min};
+    ghost use Rattle.seat_audience.specs.Seated.{AreNamed};
     ghost use Rattle.seat_audience.specs.Visits.{Peers, peers_code, AreListening};
 
     ghost Value = { Peers };
@@ -61,34 +62,35 @@ impl Model for Listeners {
 
     ghost invariant = { λ l. (AreListening l.peers.items l.told.places l.due.places)
         × (length l.peers.items ≤ l.told.bound)
-        × (length l.peers.items ≤ l.due.bound) };
+        × (length l.peers.items ≤ l.due.bound)
+        × AreNamed l.peers };
 }
 
 // Nothing is gathered any more for the peers at the places.
-fn clear_each(peers: &mut Peers, told: &[usize])
+fn clear_each(peers: &mut Roster, told: &[usize])
     requires within { AreWithin 0 (length peers.old.items) told.now }
     ensures items { peers.new.items ≡ map_at (at_marked told.now cleared) 0 peers.old.items }
-    ensures room { peers.new.room ≡ peers.old.room }
+    ensures rest { peers.new ≡ record peers.old { items = peers.new.items } }
 {
     for place in told {
-        peers.clear(*place);
+        peers.at_mut(*place).gathering.clear();
     }
 }
 
 // What is gathered for the peers at the places goes into their stores, or is left out.
 #[inline(always)]
-fn deliver_each(peers: &mut Peers, told: &[usize])
+fn deliver_each(peers: &mut Roster, told: &[usize])
     requires within { AreWithin 0 (length peers.old.items) told.now }
     ensures items { peers.new.items ≡ map_at (at_marked told.now delivered) 0 peers.old.items }
-    ensures room { peers.new.room ≡ peers.old.room }
+    ensures rest { peers.new ≡ record peers.old { items = peers.new.items } }
 {
     for place in told {
-        peers.deliver(*place);
+        peers.at_mut(*place).deliver();
     }
 }
 
 // Marks those among the peers at the places for whom a group was left out.
-fn note_choked(peers: &Peers, told: &[usize], due: &mut Marks)
+fn note_choked(peers: &Roster, told: &[usize], due: &mut Marks)
     requires within { AreWithin 0 (length peers.now.items) told.now }
     requires room { length peers.now.items ≤ due.old.bound }
     ensures kept { (k : ℕ) → is_marked k due.new.places ≡ false →
@@ -123,7 +125,7 @@ impl Listeners {
         ensures nobody { result.items ≡ [] }
     {
         Listeners {
-            peers: Peers::new(alloc),
+            peers: Roster::new(alloc),
             told: Marks::new(alloc),
             due: Marks::new(alloc),
         }
@@ -205,15 +207,20 @@ impl Listeners {
         self.told.clear();
     }
 
-    /// The peer of the object gathers the event for it, with the token of its descriptor, if it has one.
-    pub(crate) fn hear(&mut self, to: &Named, event: &Event, token: Option<u32>)
+    /// The peer of the object gathers the event for it, which has `len` bytes, with the token of its
+    /// descriptor, if it has one.
+    pub(crate) fn hear(&mut self, to: &Named, event: &Event, len: usize, token: Option<u32>)
         requires short { message_len (event_message event.now) ≤ 4096 }
+        requires len { len ≡ message_len (event_message event.now) }
         requires token { tokens_in (event_message event.now).values ≡ first_token token }
         ensures items { self.new.items ≡ map (hears_message to.now
             (event_message event.now)) self.old.items }
     {
         if let Some(place) = self.peers.place_with(to.peer) {
-            self.peers.hear(place, to, event, token);
+            self.peers
+                .at_mut(place)
+                .gathering
+                .put_measured(to.id, event, len, token);
             self.told.mark(place);
         }
     }
@@ -253,7 +260,7 @@ impl Listeners {
         requires place { place < length self.old.items }
         ensures items { self.new.items ≡ changed_at place refusing self.old.items }
     {
-        self.peers.refuse(place);
+        self.peers.at_mut(place).is_refused = true;
         self.due.mark(place);
     }
 
@@ -262,7 +269,7 @@ impl Listeners {
         requires place { place < length self.old.items }
         ensures items { self.new.items ≡ changed_at place (waits tokens) self.old.items }
     {
-        self.peers.wait(place, tokens);
+        self.peers.at_mut(place).waiting = tokens;
     }
 
     /// What a message to the object with the id makes of the peer at the place, and whether it was
@@ -285,8 +292,9 @@ impl Listeners {
             meaning.now.act (option_map asked meaning.now.made) self.old.items self.new.items) }
         ensures err { OnErr result (self.new.items ≡ self.old.items) }
     {
-        self.peers.change(place, id, label, meaning)?;
-        let is_refused = self.peers.at(place).is_refused;
+        let peer = self.peers.at_mut(place);
+        peer.change(id, label, meaning)?;
+        let is_refused = peer.is_refused;
         self.due.mark_if(place, is_refused);
         Ok(())
     }
@@ -306,6 +314,6 @@ impl Listeners {
             ≡ tokens_of (take result.0 l.store.cells) ++ drop result.1 tokens.old) }
         ensures rest { self.new.items ≡ changed_at place (taken result.0) self.old.items }
     {
-        self.peers.take(place, buf, tokens)
+        self.peers.at_mut(place).store.take(buf, tokens)
     }
 }

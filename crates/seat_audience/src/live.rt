@@ -2,18 +2,13 @@
 ghost use Rattle.std.specs.Prelude.{◌≡◌, ◌≤◌, length, None, option_map, IfSome, IfOk, OnOk, OnErr};
 ghost use Rattle.std.specs.FinMap as finite;
 ghost use Rattle.im_objects.specs.Objects.{refusal_of};
-ghost use Rattle.wl_proto.specs.Rows.{event_message};
-ghost use Rattle.wl_proto.specs.Spelling.{message_len};
-ghost use Rattle.broker_model.specs.Groups.{tokens_in};
 ghost use Rattle.broker_model.specs.Waiting.{without_taken, with_tokens};
-ghost use Rattle.seat_wire.specs.Events.{first_token};
 ghost use Rattle.seat_wire.specs.Asked.{asked};
-ghost use Rattle.seat_audience.specs.Lives.{cleared, hears_message, delivered};
+ghost use Rattle.seat_audience.specs.Lives.{delivered};
 ghost use Rattle.seat_audience.specs.Changes.{IsChanged, IsNewcomer};
 ghost use Rattle.seat_audience.specs.Visits.{rewritten};
 
 use crate::changes::change;
-use crate::directory::Named;
 use crate::gathering::Gathering;
 use im_objects::Table;
 use out_store::Store;
@@ -22,7 +17,6 @@ use seat_steps::{TOKEN_LIMIT, TokenList};
 use seat_wire::Meaning;
 use std::alloc::Global;
 use wio_core::NoMemory;
-use wl_proto::Event;
 
 /// A live peer: its objects, what is stored for it, and what is gathered for it while an act is told.
 #[derive(Drop)]
@@ -112,22 +106,8 @@ impl Live {
         Ok(waiting)
     }
 
-    pub(crate) fn clear(&mut self)
-        ensures { self.new ≡ cleared self.old }
-    {
-        self.gathering.clear();
-    }
-
-    pub(crate) fn hear(&mut self, to: &Named, event: &Event, token: Option<u32>)
-        requires short { message_len (event_message event.now) ≤ 4096 }
-        requires token { tokens_in (event_message event.now).values ≡ first_token token }
-        ensures { self.new ≡ hears_message to.now (event_message event.now) self.old }
-    {
-        if self.label == to.peer {
-            self.gathering.put(to.id, event, token);
-        }
-    }
-
+    /// What is gathered goes whole into the store, or is left out whole, which chokes it.
+    #[inline(never)]
     pub(crate) fn deliver(&mut self)
         ensures { self.new ≡ delivered self.old }
     {

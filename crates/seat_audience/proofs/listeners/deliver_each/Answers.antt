@@ -1,16 +1,18 @@
-use Rattle.std.proofs.Common.{ℕ, List, length, get_or, take, refl, ap, ◌∙◌}
+use Rattle.std.proofs.Common.{◌≡◌, ◌<◌, ℕ, List, length, get_or, set, take, refl, ap, ◌∙◌}
 use Rattle.std.proofs.lemmas.List.{take_all}
+use Rattle.seat_audience.specs.declared.live.Live.{Live}
 use Rattle.seat_audience.specs.Lives.{delivered}
+use Rattle.seat_audience.specs.Seated.{Roster}
 use Rattle.seat_audience.specs.Visits.{map_at, at_marked, changed_at}
 use Rattle.seat_audience.proofs.MarkedPlaces.{below}
-use Rattle.seat_audience.proofs.VisitIsPass.{map_at_length, none_visited, visited_more}
+use Rattle.seat_audience.proofs.VisitIsPass.{map_at_length, none_visited, visited_more, written_at}
 use Rattle.seat_audience.proofs.listeners.deliver_each.Goals as goal
 
 pub loop-place-init : goal.loop-place-init
-loop-place-init c = record { items = none_visited delivered 0 c.args.peers.now.items; room = refl }
+loop-place-init c = record { items = none_visited delivered 0 c.args.peers.now.items; rest = refl }
 
-pub deliver-requires : goal.deliver-requires
-deliver-requires c =
+pub at_mut-requires : goal.at_mut-requires
+at_mut-requires c =
     let same = map_at_length
     (at_marked (take c.loop-place.place-index c.args.told.now) delivered) 0 c.args.peers.now.items in
     let within =
@@ -20,12 +22,24 @@ deliver-requires c =
 
 pub loop-place-preserved : goal.loop-place-preserved
 loop-place-preserved c =
+    let old : List Live = c.loop-place.peers.items in
+    let p = get_or c.args.told.now c.loop-place.place-index 0 in
+    let new : Live = c.deliver.new.self in
+    let same = map_at_length
+    (at_marked (take c.loop-place.place-index c.args.told.now) delivered) 0 c.args.peers.now.items in
+    let within : p < length old =
+    rw (c.loop-place.invariant.items, same)
+    (below c.args.told.now 0
+    (length c.args.peers.now.items) c.loop-place.place-index 0 c.requires.within c.loop-place-test.true) in
+    let written : set old p new ≡ changed_at p delivered old =
+    written_at delivered p old c.at_mut.result.now new within c.at_mut.ensures.value
+    c.deliver.ensures in
     record {
-      items = c.deliver.ensures.items
-          ∙ ap (changed_at (get_or c.args.told.now c.loop-place.place-index 0) delivered) c.loop-place.invariant.items
+      items = written
+          ∙ ap (changed_at p delivered) c.loop-place.invariant.items
           ∙ visited_more delivered c.args.told.now c.args.peers.now.items c.loop-place.place-index 0 c.requires.within
           c.loop-place-test.true;
-      room = c.deliver.ensures.room ∙ c.loop-place.invariant.room;
+      rest = ap (λ (r : Roster). record r { items = set old p new }) c.loop-place.invariant.rest;
     }
 
 pub returns : goal.returns
@@ -34,5 +48,5 @@ returns c =
       items = c.loop-place.invariant.items
           ∙ ap (λ (ms : List ℕ). map_at (at_marked ms delivered) 0 c.args.peers.now.items)
           (take_all c.loop-place.place-index c.args.told.now c.loop-place-test.false);
-      room = c.loop-place.invariant.room;
+      rest = c.loop-place.invariant.rest;
     }

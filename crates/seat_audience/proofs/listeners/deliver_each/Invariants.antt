@@ -7,5 +7,5 @@ use Rattle.seat_audience.proofs.listeners.deliver_each.Given as goal
 abbrev pub invariant-loop-place : goal.invariant-loop-place
 invariant-loop-place l = record {
   items : l.peers.items ≡ map_at (at_marked (take l.place-index l.told) delivered) 0 l.fn.peers.items;
-  room : l.peers.room ≡ l.fn.peers.room;
+  rest : l.peers ≡ record l.fn.peers { items = l.peers.items };
 }

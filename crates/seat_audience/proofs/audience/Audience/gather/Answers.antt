@@ -24,8 +24,8 @@ hear-requires-clause-token c =
     c.in-Some-event_of.ensures made c.id_named-id.ensures in
     ap tokens_with what ∙ c.token_of.ensures made
 
-pub returns-then-event_len-le-LONGEST-clause-live : goal.returns-then-event_len-le-LONGEST-clause-live
-returns-then-event_len-le-LONGEST-clause-live c =
+pub returns-then-len-le-LONGEST-clause-live : goal.returns-then-len-le-LONGEST-clause-live
+returns-then-len-le-LONGEST-clause-live c =
     let made = c.args.self.now.directory.made in
     let what : Some (event_message c.in-Some-event_of.event) ≡ message_of made c.args.told.now.event =
     c.in-Some-event_of.ensures made c.id_named-id.ensures in
@@ -33,12 +33,12 @@ returns-then-event_len-le-LONGEST-clause-live c =
     ∙ heard_by made c.args.told.now c.in-Some.to (event_message c.in-Some-event_of.event) c.args.self.now.live.items
     (sym c.in-Some.ensures.value) (sym what)
 
-pub returns-else-event_len-le-LONGEST-clause-live : goal.returns-else-event_len-le-LONGEST-clause-live
-returns-else-event_len-le-LONGEST-clause-live c =
+pub returns-else-len-le-LONGEST-clause-live : goal.returns-else-len-le-LONGEST-clause-live
+returns-else-len-le-LONGEST-clause-live c =
     let made = c.args.self.now.directory.made in
     let what : Some (event_message c.in-Some-event_of.event) ≡ message_of made c.args.told.now.event =
     c.in-Some-event_of.ensures made c.id_named-id.ensures in
     λ short.
     let fits : message_len (event_message c.in-Some-event_of.event) ≤ 4096 =
     subst (λ (o : Option Message). IfSome o (λ m. message_len m ≤ 4096)) (sym what) (short made) in
-    absurd (omega (arith, c.event_len.ensures.len))
+    absurd (omega (arith, c.event_len-len.ensures.len))

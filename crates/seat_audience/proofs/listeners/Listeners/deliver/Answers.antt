@@ -4,6 +4,8 @@ use Rattle.std.proofs.lemmas.List.{length-map}
 use Rattle.seat_audience.specs.declared.live.Live.{Live}
 use Rattle.seat_audience.specs.Lives.{delivered}
 use Rattle.seat_audience.specs.Marks.{is_marked, AreWithin}
+use Rattle.seat_audience.proofs.NamesStay.{named_mapped}
+use Rattle.seat_audience.proofs.PeersInOrder.{delivered_number, delivered_label}
 use Rattle.seat_audience.proofs.VisitIsPass.{map_at_length, all_visited}
 use Rattle.seat_audience.proofs.UnmarkedAreQuiet.{listening_delivered, unmarked_stays}
 use Rattle.seat_audience.proofs.listeners.Listeners.deliver.Goals as goal
@@ -40,8 +42,13 @@ invariant_of-self c =
     (subst (λ n. AreWithin 0 n c.self.inside.due.places) (sym there) c.self.invariant.0.due_within)))
     c.note_choked.ensures.kept
     (λ k d on off. subst (λ (ls : List Live). (get_or ls k d).is_choked ≡ false) items
-    (c.note_choked.ensures.choked k d (ap (is_marked k) c.places-2.ensures.places ∙ on) off)) in
-    rw (items, same) (listening, c.self.invariant.1, omega (arith, c.self.invariant.2, c.note_choked.ensures.bound))
+    (c.note_choked.ensures.choked k d (ap (is_marked k) c.places-2.ensures.places ∙ on) off)) in (
+      rw items listening,
+      omega (arith, there, c.self.invariant.1),
+      omega (arith, there, c.self.invariant.2, c.note_choked.ensures.bound),
+      named_mapped c.self.inside.peers c.deliver_each.new.peers delivered delivered_number delivered_label
+          c.self.invariant.3 c.deliver_each.ensures.rest items,
+    )
 
 pub returns : goal.returns
 returns c = record { items = all c ∙ ap (λ (v : Peers). map delivered v.items) c.self.view_is }

@@ -1,4 +1,4 @@
-use Rattle.std.proofs.Common.{◌≡◌, ◌≤◌, length, arith}
+use Rattle.std.proofs.Common.{◌≡◌, arith}
 use Rattle.seat_audience.proofs.TokensFit.{with_more}
 use Rattle.seat_audience.proofs.live.Live.waiting_with.Goals as goal
 

@@ -4,7 +4,7 @@ use Rattle.wl_proto.specs.Rows.{event_message}
 use Rattle.wl_proto.specs.Spelling.{message_bytes}
 use Rattle.broker_model.specs.Groups.{Piece, token_of_pair, later, tokens_in}
 use Rattle.seat_audience.proofs.GatheredTokens.{spaced_put}
-use Rattle.seat_audience.proofs.gathering.Gathering.put.Goals as goal
+use Rattle.seat_audience.proofs.gathering.Gathering.put_measured.Goals as goal
 
 pub invariant_of-self-2 : goal.invariant_of-self-2
 invariant_of-self-2 c =
@@ -16,7 +16,7 @@ invariant_of-self-2 c =
     let after : Piece =
     record {
       bytes =
-          take (c.self.inside.len + c.event_len-len.result)
+          take (c.self.inside.len + c.args.len)
           (take c.self.inside.bytes.len
           (c.write_behind.new.bytes ++ drop (length c.write_behind.new.bytes) c.self.inside.bytes.items));
       tokens = map token_of_pair c.add_token.new.tokens.items;
