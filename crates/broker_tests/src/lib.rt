@@ -9,6 +9,8 @@ mod broker_model_tests;
 #[cfg(test)]
 mod byte_seat_tests;
 #[cfg(test)]
+mod ended_peers_tests;
+#[cfg(test)]
 mod equal;
 #[cfg(test)]
 mod seat_audience_tests;

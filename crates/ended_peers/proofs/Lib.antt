@@ -1,0 +1,2 @@
+pub mod StoresLeft
+pub mod PeersLeft
