@@ -44,3 +44,4 @@ pub mod NewestPeer
 pub mod AcceptedIds
 mod TokensThatWait
 pub mod StampsOfCalls
+pub mod StoresGivenBack

@@ -22,7 +22,7 @@ use Rattle.broker_model.proofs.SettlingEnds.{end_act}
 use Rattle.broker_model.proofs.LabelsRiseByNumber.{label_within}
 use Rattle.seat_audience.specs.declared.live.Live.{Live}
 use Rattle.broker_core.specs.declared.state.State.{State}
-use Rattle.broker_core.specs.declared.state.Ended.{Ended}
+use Rattle.ended_peers.specs.Ends.{Ended}
 use Rattle.seat_audience.specs.Lives.{Numbered, is_number, number_of, who}
 use Rattle.broker_core.specs.Stands.{Holds, IsKept, Stands, AreLeft, IsLive, IsReady, Ready, IsReadyFor, store_of}
 use Rattle.broker_core.proofs.TableAfterAct.{calls_other}

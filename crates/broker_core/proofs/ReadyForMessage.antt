@@ -15,7 +15,7 @@ use Rattle.living_labels.specs.Kept.{kept_of}
 use Rattle.broker_model.specs.Resolve.{past_of, resolve, Meaning, of_peer, refused_for, means, made_new}
 use Rattle.broker_model.specs.Out.{act_at, is_label}
 use Rattle.broker_model.specs.Limits.{is_counted, number_counted}
-use Rattle.broker_core.specs.declared.state.Ended.{Ended}
+use Rattle.ended_peers.specs.Ends.{Ended}
 use Rattle.broker_core.specs.declared.state.State.{State}
 use Rattle.seat_audience.specs.Lives.{who, number_of, AreAbove}
 use Rattle.broker_core.specs.Stands.{CanTake, Stands, AreLeft, IsReady, Ready, IsReadyFor, IsLive}

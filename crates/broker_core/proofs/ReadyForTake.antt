@@ -28,7 +28,7 @@ use Rattle.broker_model.proofs.StoresAreOut.{length_out, take_cells}
 use Rattle.broker_model.proofs.TakenCells.{bytes_out}
 use Rattle.seat_audience.specs.declared.live.Live.{Live}
 use Rattle.broker_core.specs.declared.state.State.{State}
-use Rattle.broker_core.specs.declared.state.Ended.{Ended}
+use Rattle.ended_peers.specs.Ends.{Ended}
 use Rattle.seat_audience.specs.Lives.{number_of, who, AreAbove}
 use Rattle.broker_core.specs.Stands.{Holds, IsKept, Stands, AreLeft, IsLive, IsReady, IsLeft, CanTake, Ready, IsReadyFor, store_of}
 use Rattle.broker_core.proofs.TableAfterAct.{calls_other}

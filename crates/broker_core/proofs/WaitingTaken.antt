@@ -1,22 +1,24 @@
 -- What waits for a peer with a number, and where it waits.
-use Rattle.std.proofs.Common.{◌≡◌, ℕ, zero, suc, ◌-◌, ◌<◌, ◌≤◌, List, [], ◌∷◌, length, get_or, Option, Some, None, IsSome, IfSome, IfNone, option_map, unwrap_or, ap, refl, sym, subst, ◌∙◌, arith, ◌++◌, map, take, drop, min, set, length-drop}
+use Rattle.std.proofs.Common.{◌≡◌, ℕ, zero, suc, ◌-◌, ◌<◌, ◌≤◌, List, [], ◌∷◌, length, Option, Some, None, true, false, IsSome, IfSome, IfNone, option_map, unwrap_or, ap, refl, sym, subst, ◌∙◌, arith, ◌++◌, map, take, drop, min, set, length-drop}
 use Rattle.std.specs.Prelude.{IsSomeAnd}
 use Rattle.std.specs.List.{slice_get}
 use Rattle.std.proofs.lemmas.List.{length-map, take-map}
-use Rattle.std.proofs.lemmas.Option.{slice_get_within, slice_get_read, slice_get-map, same_Some}
+use Rattle.std.proofs.lemmas.Option.{slice_get_within, slice_get-map, same_Some}
 use Rattle.out_store.specs.Queue.{Queue, queue, Cell, bytes_of, tokens_of}
 use Rattle.broker_model.specs.declared.journal.Entry.{Entry}
-use Rattle.broker_model.specs.Ids.{Joined, peer_at}
+use Rattle.broker_model.specs.Ids.{Joined, log_of, peer_at}
 use Rattle.broker_model.specs.Resolve.{past_of, of_peer, only}
 use Rattle.broker_model.specs.Out.{Outgoing, out_for, act_at, stored, tokens_taken}
 use Rattle.broker_model.specs.Stored.{cells_out}
 use Rattle.seat_audience.specs.declared.live.Live.{Live}
-use Rattle.broker_core.specs.declared.state.Ended.{Ended}
+use Rattle.relay_model.specs.declared.act.EndCause.{EndCause}
+use Rattle.relay_model.specs.Objects.{is_peer}
+use Rattle.ended_peers.specs.Ends.{Ended, ended_in, ended_with, cells_left, after_take, rest_of}
 use Rattle.broker_core.specs.declared.state.State.{State}
 use Rattle.seat_audience.specs.Lives.{number_of, who}
 use Rattle.broker_core.specs.Stands.{Stands, IsLeft, store_of, CanTake, IsReadyFor}
 use Rattle.broker_core.specs.Taking.{out_at, IsTaken}
-use Rattle.broker_core.proofs.ReadyForEnd.{place_in_joined}
+use Rattle.broker_core.proofs.StoresGivenBack.{cells_of_store, rest_holds, rest_filled}
 use Rattle.broker_core.proofs.ReadyForTake.{live_cells, ended_left, ended_cells, IsTaking, ready_took_live, ready_took_ended}
 use Rattle.broker_core.proofs.RosterAfterEntry.{at_number, is_there}
 use Rattle.relay_model.specs.declared.act.Act.TheVariants as acts
@@ -101,21 +103,80 @@ left_at s v (suc k) peer e = by s.ended.items (suc k - 1) within
     by (x ∷ rest) zero l = (x, refl)
     by (x ∷ rest) (suc i) l = by rest i (omega arith)
 
--- what is read there
-entry_at : (s : State) → Stands s → (q : ℕ) (peer : Joined) → peer_at (past_of s.journal.entries) q ≡ Some peer →
-    (o : Option Ended) →
-    o ≡ get_or s.ended.items (q - 1) o → slice_get s.ended.items (q - 1) ≡ Some o
-entry_at s v q peer e o read =
-    let place = place_in_joined (past_of s.journal.entries).joined q peer e in
-    let many : length s.ended.items ≡ length (past_of s.journal.entries).joined = v.left.number in
-    slice_get_read s.ended.items (length s.ended.items) (q - 1) o refl (omega (arith, place.0, place.1, many)) read
+-- where one ended, and where one didn't
+pub over_at : (s : State) → Stands s → (q : ℕ) → (q ≡ 0 → ⊥) → q ≤ length s.labels.items → (cause : EndCause) →
+    Some cause ≡ option_map (λ e. e.cause) (ended_with q s.ended.items) →
+    (peer : Joined) × (peer_at (past_of s.journal.entries) q ≡ Some peer)
+    × (was : Ended) × (slice_get s.ended.items (q - 1) ≡ Some (Some was)) × (cause ≡ was.cause)
+over_at s v q d w cause h = by at.0 at.1
+  where
+    joined : (peer : Joined) × (peer_at (past_of s.journal.entries) q ≡ Some peer)
+    joined = joined_at s v q d w
 
-pub entry_of : (s : State) → Stands s → (q : ℕ) → (q ≡ 0 → ⊥) → q ≤ length s.labels.items → (read o : Option Ended) →
-    read ≡ get_or s.ended.items (q - 1) read → read ≡ o →
-    (peer : Joined) × (peer_at (past_of s.journal.entries) q ≡ Some peer) × (slice_get s.ended.items (q - 1) ≡ Some o)
-entry_of s v q d w read o is same =
-    let joined = joined_at s v q d w in
-    (joined.0, joined.1, entry_at s v q joined.0 joined.1 read is ∙ ap (λ (e : Option Ended). Some e) same)
+    at : (o : Option Ended) × (slice_get s.ended.items (q - 1) ≡ Some o)
+    at = left_at s v q joined.0 joined.1
+
+    by : (o : Option Ended) → slice_get s.ended.items (q - 1) ≡ Some o →
+        (peer : Joined) × (peer_at (past_of s.journal.entries) q ≡ Some peer)
+        × (was : Ended) × (slice_get s.ended.items (q - 1) ≡ Some (Some was)) × (cause ≡ was.cause)
+    by None e =
+        let none : Some cause ≡ None =
+        h ∙ ap (λ (o : Option (Option Ended)). option_map (λ e. e.cause) (ended_in o)) e in
+        absurd (cc)
+    by (Some was) e =
+        let some : Some cause ≡ Some was.cause =
+        h ∙ ap (λ (o : Option (Option Ended)). option_map (λ e. e.cause) (ended_in o)) e in
+        (joined.0, joined.1, was, e, same_Some cause was.cause some)
+
+pub still_at : (s : State) → Stands s → (q : ℕ) → (q ≡ 0 → ⊥) → q ≤ length s.labels.items →
+    None ≡ option_map (λ e. e.cause) (ended_with q s.ended.items) →
+    (peer : Joined) × (peer_at (past_of s.journal.entries) q ≡ Some peer)
+    × (slice_get s.ended.items (q - 1) ≡ Some None)
+still_at s v q d w h = by at.0 at.1
+  where
+    joined : (peer : Joined) × (peer_at (past_of s.journal.entries) q ≡ Some peer)
+    joined = joined_at s v q d w
+
+    at : (o : Option Ended) × (slice_get s.ended.items (q - 1) ≡ Some o)
+    at = left_at s v q joined.0 joined.1
+
+    by : (o : Option Ended) → slice_get s.ended.items (q - 1) ≡ Some o →
+        (peer : Joined) × (peer_at (past_of s.journal.entries) q ≡ Some peer)
+        × (slice_get s.ended.items (q - 1) ≡ Some None)
+    by None e = (joined.0, joined.1, e)
+    by (Some was) e =
+        let some : None ≡ Some was.cause =
+        h ∙ ap (λ (o : Option (Option Ended)). option_map (λ e. e.cause) (ended_in o)) e in
+        absurd (cc)
+
+-- there is a place for each label
+pub places_left : (s : State) → Stands s → length s.ended.items ≡ length s.labels.items
+places_left s v =
+    v.left.number
+    ∙ sym (ap length v.labels ∙ length-map (past_of s.journal.entries).joined (λ (peer : Joined). peer.label))
+
+-- one that is alive didn't end
+pub none_over : (s : State) → Stands s → (q : ℕ) (l : Live) → number_of q s.audience.live.items ≡ Some l →
+    slice_get s.ended.items (q - 1) ≡ Some None
+none_over s v q l n = by at.0 at.1
+  where
+    peer : Joined
+    peer = record { label = l.label; role = l.role }
+
+    own : (peer_at (past_of s.journal.entries) q ≡ Some peer)
+        × (is_peer (log_of (past_of s.journal.entries)) l.label ≡ true) × (l.number ≡ q)
+    own = at_number s.journal.entries s.audience.live.items v.who q l n
+
+    at : (o : Option Ended) × (slice_get s.ended.items (q - 1) ≡ Some o)
+    at = left_at s v q peer own.0
+
+    by : (o : Option Ended) → slice_get s.ended.items (q - 1) ≡ Some o → slice_get s.ended.items (q - 1) ≡ Some None
+    by None e = e
+    by (Some was) e =
+        let left : IsLeft s.capacity s.journal.entries q peer (Some was) = ended_left s v q peer (Some was) own.0 e in
+        let dead : is_peer (log_of (past_of s.journal.entries)) l.label ≡ false = left.0 in
+        let lives : is_peer (log_of (past_of s.journal.entries)) l.label ≡ true = own.1 in
+        absurd (cc)
 
 -- one that didn't end is alive
 pub alive_at : (s : State) → Stands s → (q : ℕ) (peer : Joined) → peer_at (past_of s.journal.entries) q ≡ Some peer →
@@ -305,28 +366,29 @@ pub left_in : (q : ℕ) (store : Queue) (live : List Live) (ended : List (Option
     IfNone (number_of q live) (Left q store ended) → Left q store ended
 left_in q store live ended none h = subst (λ (o : Option Live). IfNone o (Left q store ended)) none h
 
--- what stays has a place
-pub left_within : (q : ℕ) (store : Queue) (ended : List (Option Ended)) → Left q store ended → q - 1 < length ended
-left_within q store ended h = by (slice_get ended (q - 1)) refl h
-  where
-    by : (o : Option (Option Ended)) → slice_get ended (q - 1) ≡ o → IsRest store o → q - 1 < length ended
-    by None e i = absurd i
-    by (Some x) e i = slice_get_within ended (q - 1) x e
+-- something stays
+pub is_left : (store : Queue) (entry : Option (Option Ended)) → IsRest store entry → IsSome (ended_in entry)
+is_left store None i = absurd i
+is_left store (Some None) i = absurd i
+is_left store (Some (Some was)) i = refl
 
--- and it stands there
-pub left_there : (q : ℕ) (store : Queue) (ended : List (Option Ended)) (o : Option Ended) → Left q store ended →
-    slice_get ended (q - 1) ≡ Some o →
-    IsRest store (Some o)
-left_there q store ended o h e = subst (IsRest store) e h
+-- its cells
+pub left_cells : (store : Queue) (entry : Option (Option Ended)) → IsRest store entry →
+    cells_left (ended_in entry) ≡ store.cells
+left_cells store None i = absurd i
+left_cells store (Some None) i = absurd i
+left_cells store (Some (Some was)) i =
+    cells_of_store store.capacity was.store ∙ ap (λ (w : Queue). w.cells) i
 
 -- what becomes of it
-pub takes_ended : (q n : ℕ) (store : Queue) (ended after : List (Option Ended)) (found : Option Live) (was : Ended)
-    (rest : Option Queue) →
-    slice_get ended (q - 1) ≡ Some (Some was) →
-    store_of store.capacity rest ≡ queue (drop n store.cells) store.capacity →
-    IfSome rest (λ stays. ¬ (stays.cells ≡ [])) →
-    after ≡ set ended (q - 1) (Some (record { cause = was.cause; store = rest })) →
+pub takes_ended : (q n : ℕ) (store : Queue) (ended after : List (Option Ended)) (found : Option Live) →
+    Left q store ended → after ≡ set ended (q - 1) (after_take n (ended_with q ended)) →
     TakesEnded q n store ended after found
-takes_ended q n store ended after None was rest at stays some new =
-    subst (TakesRest q n store ended after) (sym at) (rest, stays, some, new)
-takes_ended q n store ended after (Some l) was rest at stays some new = tt
+takes_ended q n store ended after (Some l) left new = tt
+takes_ended q n store ended after None left new = by (slice_get ended (q - 1)) left new
+  where
+    by : (entry : Option (Option Ended)) → IsRest store entry →
+        after ≡ set ended (q - 1) (after_take n (ended_in entry)) → TakesRest q n store ended after entry
+    by None i k = absurd i
+    by (Some None) i k = absurd i
+    by (Some (Some was)) i k = (rest_of n was.store, rest_holds n was.store store i, rest_filled n was.store, k)

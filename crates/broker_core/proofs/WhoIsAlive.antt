@@ -8,7 +8,7 @@ use Rattle.broker_model.specs.declared.journal.Entry.{Entry}
 use Rattle.broker_model.specs.Ids.{Joined, log_of, peer_at}
 use Rattle.broker_model.specs.Resolve.{past_of}
 use Rattle.seat_audience.specs.declared.live.Live.{Live}
-use Rattle.broker_core.specs.declared.state.Ended.{Ended}
+use Rattle.ended_peers.specs.Ends.{Ended}
 use Rattle.broker_core.specs.declared.state.State.{State}
 use Rattle.broker_core.specs.declared.taking.Standing.TheVariants.{Alive}
 use Rattle.seat_audience.specs.Lives.{number_of}

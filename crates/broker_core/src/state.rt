@@ -15,7 +15,7 @@ ghost use Rattle.seat_steps.specs.declared.stamp.Stamp.{Stamp};
 ghost use Rattle.broker_model.specs.Resolve.{past_of, resolve};
 ghost use Rattle.broker_model.specs.Out.{act_at};
 ghost use Rattle.seat_audience.specs.Lives.{told_all, number_of};
-ghost use Rattle.broker_core.specs.Stands.{Stands, IsReadyFor, store_of};
+ghost use Rattle.broker_core.specs.Stands.{Stands, IsReadyFor};
 ghost use Rattle.broker_core.specs.Broker.{gone};
 ghost use Rattle.seat_objects.specs.Reached.{Reached};
 ghost use Rattle.seat_audience.specs.Tells.{IsShort};
@@ -24,7 +24,7 @@ ghost use Rattle.broker_core.specs.Watched.{told_live, watched, watched_since};
 use crate::letting_go::LetGo;
 use crate::watch::{Watch, show_groups, speak};
 use broker_model::{Entry, Journal, StampList};
-use out_store::Store;
+use ended_peers::EndedPeers;
 use relay_core::{Relay, Route};
 use relay_model::{Act, EndCause, Label};
 use seat_audience::{Audience, Directory, Listeners};
@@ -37,21 +37,6 @@ const NOT_GIVEN: Stamp = Stamp {
     moment: 0,
     author: 0,
 };
-
-/// What stays of a peer that ended.
-#[derive(Drop)]
-pub(crate) struct Ended {
-    pub cause: EndCause,
-    /// Nothing once all that was stored is taken.
-    pub store: Option<Store>,
-}
-
-// What stays of a store: nothing where it is empty.
-fn kept(store: Store) -> Option<Store>
-    ensures { store_of store.capacity result ≡ store }
-{
-    if store.is_empty() { None } else { Some(store) }
-}
 
 /// All that is kept beside the journal is what the journal comes to: `StandsFor` says how.
 #[derive(Drop)]
@@ -66,8 +51,8 @@ pub(crate) struct State {
     pub audience: Audience,
     /// By the number of each peer that joined.
     pub labels: Vec<Label>,
-    /// The same: nothing while the peer is alive.
-    pub ended: Vec<Option<Ended>>,
+    /// By the same numbers.
+    pub ended: EndedPeers,
 }
 
 impl State {
@@ -90,7 +75,7 @@ impl State {
                 directory: Directory::new(alloc),
             },
             labels: Vec::new(alloc),
-            ended: Vec::new(alloc),
+            ended: EndedPeers::new(alloc),
         })
     }
 
@@ -186,10 +171,7 @@ impl State {
         let Some(live) = self.audience.live.take_away(number) else {
             unreachable!()
         };
-        self.ended[number as usize - 1] = Some(Ended {
-            cause,
-            store: kept(live.store),
-        });
+        self.ended.end(number, cause, live.store);
         let act = Act::Gone {
             peer: live.label,
             cause,

@@ -91,7 +91,7 @@ impl State {
         self.make_room(&Act::Peer)?;
         self.audience.live.reserve()?;
         self.labels.reserve(1)?;
-        self.ended.reserve(1)?;
+        self.ended.reserve()?;
         let live = Live::new(self.alloc, self.capacity, number, label, role)?;
         self.audience.directory.push(Named {
             peer: label,
@@ -101,7 +101,7 @@ impl State {
         });
         self.audience.live.push(live);
         let _ = self.labels.push(label);
-        let _ = self.ended.push(None);
+        self.ended.push();
         let _ = self.enter(Entry::Join(role), &Act::Peer, given, watch);
         Ok(number)
     }

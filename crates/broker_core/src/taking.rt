@@ -18,7 +18,6 @@ ghost use Rattle.broker_core.specs.Taking.{out_at, IsTaken, standing_of};
 use crate::state::State;
 use crate::watch::Watch;
 use broker_model::Entry;
-use out_store::Store;
 use relay_model::{Act, EndCause};
 use seat_steps::Stamp;
 use wio_core::NoMemory;
@@ -44,8 +43,8 @@ impl State {
         if number == 0 || number as usize > self.labels.len() {
             return Standing::Nobody;
         }
-        match &self.ended[number as usize - 1] {
-            Some(ended) => Standing::Over(ended.cause),
+        match self.ended.cause(number) {
+            Some(cause) => Standing::Over(cause),
             None => Standing::Alive,
         }
     }
@@ -59,11 +58,8 @@ impl State {
         if number == 0 || number as usize > self.labels.len() {
             return None;
         }
-        match &self.ended[number as usize - 1] {
-            Some(ended) => match &ended.store {
-                Some(store) => Some(store.len()),
-                None => Some(0),
-            },
+        match self.ended.cause(number) {
+            Some(_cause) => Some(self.ended.stored(number)),
             None => {
                 let place = self.audience.live.place_of(number)?;
                 Some(self.audience.live.at(place).store.len())
@@ -120,7 +116,7 @@ impl State {
         Ok(counts)
     }
 
-    // Takes from the peer's store, which is `store` before; an ended peer's is given back once it is empty.
+    // Takes from the peer's store, which is `store` before; an ended peer's goes once it is empty.
     fn take_from(&mut self, number: u32, buf: &mut [u8], tokens: &mut [u32]) -> (usize, usize)
         ghost store: { Queue }
         requires piece { length buf.old ≤ 4096 }
@@ -161,36 +157,6 @@ impl State {
         if let Some(place) = self.audience.live.place_of(number) {
             return self.audience.live.take(place, buf, tokens);
         }
-        match &mut self.ended[number as usize - 1] {
-            Some(ended) => take_rest(&mut ended.store, buf, tokens),
-            None => (0, 0),
-        }
-    }
-}
-
-// Takes from what stays of a store, which comes to `store` before. Nothing stays once it is empty.
-fn take_rest(rest: &mut Option<Store>, buf: &mut [u8], tokens: &mut [u32]) -> (usize, usize)
-    ghost store: { Queue }
-    requires piece { length buf.old ≤ 4096 }
-    requires places { 256 ≤ length tokens.old }
-    requires rest { store_of store.capacity rest.old ≡ store }
-    ensures count { result.0 ≡ min (length buf.old) (length store.cells) }
-    ensures bytes { buf.new ≡ bytes_of (take result.0 store.cells) ++ drop result.0 buf.old }
-    ensures token_count { result.1 ≡ length (tokens_of (take result.0 store.cells)) }
-    ensures tokens { tokens.new ≡ tokens_of (take result.0 store.cells) ++ drop result.1
-        tokens.old }
-    ensures rest { store_of store.capacity rest.new ≡ queue (drop result.0 store.cells)
-        store.capacity }
-    ensures given_back { IfSome rest.new (λ stays. ¬ (stays.cells ≡ [])) }
-{
-    match rest {
-        Some(store) => {
-            let counts = store.take(buf, tokens);
-            if store.is_empty() {
-                *rest = None;
-            }
-            counts
-        }
-        None => (0, 0),
+        self.ended.take(number, buf, tokens)
     }
 }

@@ -57,7 +57,7 @@ enter-requires-clause-ready g c =
     let labels : c.push-3.new.self.items ≡ s.labels.items ++ (c.len-label.result + 1) ∷ [] =
     grind (arith, common_steps, c.push-3.ensures.items, c.push-3.ensures.full, c.in_ok-reserve-2.ensures) in
     let ended : c.push-4.new.self.items ≡ s.ended.items ++ None ∷ [] =
-    grind (arith, common_steps, c.push-4.ensures.items, c.push-4.ensures.full, c.in_ok-reserve-3.ensures) in
+    c.push-4.ensures.put ∙ ap (λ es. es ++ None ∷ []) c.reserve-3.ensures.same in
     let t : State = record s {
       audience = record { live = c.push-2.new.self; directory = c.push.new.self };
       labels = c.push-3.new.self;
@@ -100,9 +100,9 @@ returns-in_err-reserve-2-clause-stands g c =
 pub returns-in_err-reserve-3-clause-stands : goal.returns-in_err-reserve-3-clause-stands
 returns-in_err-reserve-3-clause-stands g c =
     still_stands c.make_room.new.self _ c.make_room.ensures.stands refl refl refl refl refl c.reserve.ensures.same
-    c.reserve-2.ensures.items c.reserve-3.ensures.items
+    c.reserve-2.ensures.items c.reserve-3.ensures.same
 
 pub returns-in_err-live-clause-stands : goal.returns-in_err-live-clause-stands
 returns-in_err-live-clause-stands g c =
     still_stands c.make_room.new.self _ c.make_room.ensures.stands refl refl refl refl refl c.reserve.ensures.same
-    c.reserve-2.ensures.items c.reserve-3.ensures.items
+    c.reserve-2.ensures.items c.reserve-3.ensures.same
