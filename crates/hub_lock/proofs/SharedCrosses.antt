@@ -2,7 +2,6 @@
 -- parts, since a search through all of them would stop at its limits.
 use denote.Param.Send.{IsSend, sendable}
 use Rattle.std.proofs.Crossing.{crosses}
-use Rattle.out_store.proofs.Store.TheSendSync as store
 use Rattle.seat_steps.proofs.stamp.Stamp.TheSendSync as stamp
 use Rattle.relay_core.proofs.relay.Relay.TheSendSync as relay
 use Rattle.seat_audience.proofs.directory.Directory.TheSendSync as directory
@@ -11,7 +10,7 @@ use Rattle.seat_audience.specs.contracts.audience.Audience as Audience
 use Rattle.broker_model.proofs.journal.Entry.TheSendSync as entry
 use Rattle.broker_model.specs.contracts.journal.Journal as Journal
 use Rattle.broker_model.specs.contracts.stamps.StampList as StampList
-use Rattle.broker_core.specs.contracts.state.Ended as Ended
+use Rattle.ended_peers.proofs.ended_peers.EndedPeers.TheSendSync as ended
 use Rattle.broker_core.specs.contracts.state.State as State
 use Rattle.broker_core.specs.contracts.shared.Shared as Shared
 
@@ -24,12 +23,9 @@ stamps_send = search (sendable, crosses, stamp.the_send) depth 20
 audience_send : IsSend Audience.the_field.row
 audience_send = search (sendable, crosses, directory.the_send, listeners.the_send) depth 20
 
-ended_send : IsSend Ended.the_field.row
-ended_send = search (sendable, crosses, store.the_send) depth 20
-
 state_send : IsSend State.the_field.row
 state_send =
-    search (sendable, crosses, relay.the_send, audience_send, ended_send, journal_send, stamps_send) depth 40
+    search (sendable, crosses, relay.the_send, audience_send, ended.the_send, journal_send, stamps_send) depth 40
 
 pub shared_send : IsSend Shared.the_field.row
 shared_send = search (sendable, crosses, state_send) depth 20
