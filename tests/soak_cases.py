@@ -1,9 +1,10 @@
-"""What operators meet: floods, peers that hardly read, half frames, lack of descriptors, second starts and kills.
+"""What operators meet: floods, peers that hardly read, half frames, lack of descriptors, second starts, kills, guests.
 
     soak_cases.py PROGRAM [SECONDS]
 
 Each case has a server of its own, honest peers that type through it all the while, and a bound of time. Whatever else
 happens, each honest peer gets what the recorded session says. SECONDS is how long the flood lasts: 60, if not given.
+The guests come and go in a replay.
 """
 import contextlib
 import os
@@ -17,7 +18,7 @@ import sys
 import threading
 import time
 
-from soak_peers import APP, Field, Hostile, Method, Reactive, Shell, frame, frames_of, message, word
+from soak_peers import APP, REGISTRY, Field, Hostile, Method, Reactive, Shell, frame, frames_of, message, word
 from frames import Server
 
 PATIENCE = 120.0  # seconds for something that comes at once on a machine that does nothing else
@@ -25,6 +26,8 @@ PACE = 0.01  # seconds before an honest answer
 APPS = 3
 HONEST = "sm" + "a" * APPS
 OK, JOURNAL_FULL, NET_FAULT = 0, 7, 8
+GUESTS = 100_000
+GUESTS_ROOM = 8 << 20  # bytes for all that a replay keeps of them
 
 
 class PacedShell(Shell):
@@ -355,6 +358,20 @@ def killed_server(program):
     return f"{entries} entries of its session are left, its doors are taken over"
 
 
+def guests(program):
+    """Peers that come and go, each with something stored that is taken only then: next to nothing is kept of them."""
+    lines = ["session 1 1000000 65536\n"]
+    for number in range(1, GUESTS + 1):
+        lines.append(f"join app\nbytes {number} {REGISTRY.hex()}\ngone {number}\ntake {number} 4096\n")
+    lines.append("end\n")
+    replay = subprocess.run([program, "replay"], input="".join(lines).encode(), stdout=subprocess.PIPE, check=False,
+                            preexec_fn=lambda: resource.setrlimit(resource.RLIMIT_DATA, (GUESTS_ROOM, GUESTS_ROOM)))
+    check("the status of their replay", replay.returncode, OK)
+    check("their ends", replay.stdout.count(b" ended "), GUESTS)
+    check("their takes", replay.stdout.count(b" took "), GUESTS)
+    return f"{GUESTS} of them in {GUESTS_ROOM >> 20} MB"
+
+
 def be_a_victim(path):
     """An app that sends commits, cut in mid-message and in mid-frame, until somebody kills it."""
     link = socket.socket(socket.AF_UNIX)
@@ -380,6 +397,7 @@ def main():
         ("no descriptor at all", lambda: no_descriptors_at_all(program)),
         ("a second start", lambda: second_start(program)),
         ("a killed server", lambda: killed_server(program)),
+        ("peers that come and go", lambda: guests(program)),
     ]
     for name, case in cases:
         print(f"{name}: {case()}", flush=True)
