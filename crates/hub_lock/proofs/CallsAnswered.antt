@@ -100,11 +100,11 @@ module _ (b : Broker) (readers : List ℕ) (n : ℕ) (kept : IsKept b readers) (
       }
 
   pub join-kept : (role : Role) (r : ℕ) (b' : Broker) (readers' : List ℕ) → IsAfterJoin b readers n role r b' readers' →
-      number_alive b.journal < 64 → n < 2 ^ 64 → IsKept b' readers'
-  join-kept role r b' readers' a few author =
+      n ≡ 0 → number_alive b.journal < 64 → n < 2 ^ 64 → IsKept b' readers'
+  join-kept role r b' readers' a root few author =
       subst (λ rs. IsKept b' rs) (sym a.1)
       (subst (λ (x : Broker). IsKept x (readers ++ r ∷ [])) (sym a.0)
-      (kept-join b readers n kept stamped role r few author))
+      (kept-join b readers n kept stamped role r root few author))
 
   pub join-longer : (role : Role) (r : ℕ) (b' : Broker) (readers' : List ℕ) → IsAfterJoin b readers n role r b' readers'
       → IsLonger n (joining (entries.Join role) r) (history_of b readers) (history_of b' readers')

@@ -117,9 +117,9 @@ module _ (b : Broker) (readers : List ℕ) (n : ℕ) (kept : IsKept b readers) (
       ∙ sym (broker-more b.limits (history_of b readers) n (joining (entries.Join role) r) refl)
       ∙ ap (with_step (entries.Join role) (stamp_by n)) kept.is
 
-  pub kept-join : (role : Role) (r : ℕ) → number_alive b.journal < 64 → n < 2 ^ 64
+  pub kept-join : (role : Role) (r : ℕ) → n ≡ 0 → number_alive b.journal < 64 → n < 2 ^ 64
       → IsKept (with_step (entries.Join role) (stamp_by n) b) (readers ++ r ∷ [])
-  kept-join role r few author =
+  kept-join role r root few author =
       let h : History = history_of b readers in
       let s : OuterStep = joining (entries.Join role) r in
       let now = history-join role r in
@@ -134,7 +134,7 @@ module _ (b : Broker) (readers : List ℕ) (n : ℕ) (kept : IsKept b readers) (
         is = is-join role r;
         joined = omega arith;
         stand = ap readers_of now ∙ readers-join role r;
-        made_by = subst (λ x. AreMadeBy x x) (sym now) (made-more h n s kept.made_by tt);
+        made_by = subst (λ x. AreMadeBy x x) (sym now) (made-more h n s kept.made_by root);
         legal = subst (HasLegalSteps b.limits) (sym now) (legal-more b h n s kept.is kept.legal legal);
       }
 

@@ -20,6 +20,9 @@ pub mod TalliesStay
 pub mod EventsMarked
 pub mod NotesTaken
 pub mod ShownCalls
+pub mod NobodyNamed
+pub mod RootJoins
+pub mod LinesOfEntries
 pub mod EntriesHandedOut
 pub mod TakersRung
 pub mod SharedCrosses

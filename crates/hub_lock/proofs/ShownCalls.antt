@@ -1,5 +1,6 @@
 -- What a call at the lock's history tells, as passes show it
 use Rattle.std.proofs.Common.{◌≡◌, ℕ, ◌+◌, List, ◌∷◌, ◌++◌, length, Option, Some, None, refl, ap, sym, subst, ◌∙◌, arith}
+use Rattle.std.specs.Prelude.{IsSome}
 use Rattle.seat_steps.specs.declared.limits.Limits.{Limits}
 use Rattle.broker_core.specs.declared.letting_go.LetGo.{LetGo}
 use Rattle.turn_lock.specs.Pairs.{NoneOf, IsGrown}
@@ -79,6 +80,15 @@ module _ (limits : Limits) (seat : EventSeat) (call : Call) (after : Events) (ca
 
     pub named-look : LegalLook limits (pass_seat seat) (steps_of_events after)
     named-look = legal-by (λ before. steps_of_events after ≡ before) named-same
+
+    pub named-some : call.number ≡ 0 → tally_of (seat.seen ++ k.rest) ≡ None → IsSome r
+    named-some zero none =
+        let t : Tally = tally_of (seat.seen ++ k.rest) in
+        let b = broker_of limits (steps_of_events (seat.seen ++ k.rest)) in
+        let h : Hands call.number (asks.Name m) (answers.Named r) b t =
+        subst (λ a. Hands call.number (asks.Name m) a b t) told
+        (subst (λ q. Hands call.number q reply.answer b t) asked played.hands) in
+        h.1 zero none
 
   first-named : (x : ℕ) (t t' : Tally) → t' ≡ tally_noted 0 (notes.Names x) t → notes_in t' ≡ notes_in t + 1
       → t' ≡ Some (x, 0)

@@ -41,10 +41,11 @@ pub record IsShared (b : Broker) : Type 0 where
       + length (past_of b.journal).joined
   pub one_end : (q : ℕ) → count_by (is_end_of q) b.journal ≤ 1
 
--- A pair with a take has the number of its peer's writer's pass, and that with any other step of a
--- peer, but its join, the number of its reader's pass. A take takes at most 4,096 bytes, and an end
--- is that of the peer's link.
+-- A pair with a join has the number of the root, one with a take that of its peer's writer's pass,
+-- and one with any other step of a peer that of its reader's pass. A take takes at most 4,096 bytes,
+-- and an end is that of the peer's link.
 abbrev pub IsMadeBy : History → ℕ → Entry → Type 0
+IsMadeBy h n (entries.Join role) = n ≡ 0
 IsMadeBy h n (entries.Message q id opcode body) = reader_of h q ≡ Some n
 IsMadeBy h n (entries.Tokens q tokens) = reader_of h q ≡ Some n
 IsMadeBy h n (entries.BadSize q head) = reader_of h q ≡ Some n

@@ -1,5 +1,6 @@
 pub mod Histories
 pub mod Steps
+pub mod Asked
 pub mod Lawful
 pub mod Bells
 pub mod Plays

@@ -1,7 +1,8 @@
 -- What a play notes of who records
-use Rattle.std.specs.Prelude.{◌≡◌, ◌+◌, ℕ, Option, Some, None, option_map, IfSome, IsSome}
+use Rattle.std.specs.Prelude.{◌≡◌, ◌↔◌, ◌+◌, ◌≤◌, ℕ, Option, Some, None, option_map, Err, IfSome, IsSome}
 use Rattle.seat_steps.specs.declared.limits.Limits.{Limits}
 use Rattle.broker_core.specs.Broker.{Broker}
+use Rattle.hub_lock.specs.declared.session.NoSession.TheVariants as sessions
 use Rattle.hub_lock.specs.declared.call.Ask.{Ask}
 use Rattle.hub_lock.specs.declared.call.Ask.TheVariants as asks
 use Rattle.hub_lock.specs.declared.call.Answer.{Answer}
@@ -26,12 +27,25 @@ pub record IsNoted (n : ℕ) (a : Answer) (before after : Tally) : Type 0 where
   pub tally : after ≡ tally_after n (note_of a) before
   pub count : notes_in after ≡ notes_in before + count_of (note_of a)
 
--- who records is handed the next entry; the root names who records where nobody does
+-- an entry was handed out
+abbrev pub HasHanded : Tally → Type 0
+HasHanded None = ⊥
+HasHanded (Some t) = 1 ≤ t.1
+
+-- who records is handed the next entry; the root names who records where nobody does; and there is
+-- no copy just where an entry was handed out, or where memory lacks
 abbrev pub Hands : ℕ → Ask → Answer → Broker → Tally → Type 0
 Hands n (asks.Name m) (answers.Named r) b t =
     IfSome r (λ named. named ≡ m) × (n ≡ 0 → t ≡ None → IsSome r)
 Hands n asks.HandOut (answers.HandedOut r) b t = (given : ℕ) → t ≡ Some (n, given) → IsHandedOut b given r
+Hands n asks.Copy (answers.Copied r) b t = (r ≡ Err sessions.HandedOut) ↔ HasHanded t
 Hands n _ _ b t = Unit {0}
+
+-- what the root asks but to name who records
+abbrev pub IsOfRoot : Ask → Type 0
+IsOfRoot (asks.Join role reader) = Unit {0}
+IsOfRoot asks.Copy = Unit {0}
+IsOfRoot _ = ⊥
 
 -- the tally of the value behind the lock
 abbrev pub tally_in : Held → Tally

@@ -52,6 +52,20 @@ IsGiven (entries.End q cause) = IsWord q
 IsGiven (entries.Shell step) = HasWidths step × IsShellStep step
 IsGiven (entries.Took q bytes) = IsWord q × IsWithin piece_limit bytes
 
+-- what a line needs of an entry beside the widths of its numbers, which are those of their types; a
+-- join and an end need nothing
+abbrev pub FitsLine : Entry → Type 0
+FitsLine (entries.Message q id opcode body) = IsBody body
+FitsLine (entries.Tokens q tokens) = IsWithin token_limit (length tokens)
+FitsLine (entries.BadSize q head) = IsBad head
+FitsLine (entries.Shell step) = IsShellStep step
+FitsLine (entries.Took q bytes) = IsWithin piece_limit bytes
+FitsLine _ = Unit {0}
+
+-- so it is with each of these
+abbrev pub HaveLines : List Entry → Type 0
+HaveLines es = AllByRecursion FitsLine es
+
 -- as many bytes are stored for the peer
 pub record IsStored (limits : Limits) (journal : List Entry) (q bytes : ℕ) : Type 0 where
   pub out : Outgoing

@@ -1,4 +1,7 @@
 //! What is asked of the value behind the lock, and what it answers. A call borrows nothing.
+ghost use Rattle.std.specs.Prelude.{◌≡◌, true};
+ghost use Rattle.hub_lock.specs.Asked.{joins_as_root};
+
 use crate::event::Note;
 use crate::given::is_given;
 use crate::session::{NoSession, Session};
@@ -112,6 +115,8 @@ pub enum Ask {
 pub struct Call {
     pub number: u64,
     pub ask: Ask,
+    /// The root alone asks for a join.
+    pub ghost joins: { joins_as_root number ask ≡ true },
 }
 
 /// What is answered, each to its ask.

@@ -1,12 +1,13 @@
 //! The hub, and a turn at its lock.
-ghost use Rattle.std.specs.Prelude.{◌≡◌, ◌+◌, ◌<◌, ◌^◌, ℕ, [], Some, IfOk, length, true};
+ghost use Rattle.std.specs.Prelude.{◌≡◌, ◌+◌, ◌<◌, ◌≤◌, ◌^◌, ℕ, [], Some, None, IfOk, length, true};
+ghost use Rattle.broker_core.specs.Broker.{Broker};
 ghost use Rattle.seat_steps.specs.Ranges.{IsLimits};
 ghost use Rattle.turn_lock.specs.Pairs.{IsIn, HasSeen};
 ghost use Rattle.turn_lock.specs.Sights.{fresh_seat, having_seen, IsLegal, IsTallied};
 ghost use Rattle.hub_lock.specs.Passes.{IsOf, bytes_of};
 ghost use Rattle.hub_lock.specs.Plays.{MayAsk, bytes_made};
 ghost use Rattle.hub_lock.specs.Events.{pass_seat};
-ghost use Rattle.hub_lock.specs.Noted.{PlaysEvents};
+ghost use Rattle.hub_lock.specs.Noted.{IsOfRoot, Hands, PlaysEvents};
 ghost use Rattle.hub_lock.specs.Calls.{LegalAsk};
 
 use crate::bell::{Bells, RecordBell};
@@ -116,11 +117,15 @@ impl Hub {
         requires own { IsOf self.now root.old }
         requires number { call.old.number ≡ 0 }
         requires may { MayAsk root.old.seen 0 call.old.ask }
+        requires asks { IsOfRoot call.old.ask }
+        ensures first { root.old.number ≡ 0 }
         ensures root { root.new ≡ having_seen root.old root.new.seen }
         ensures legal { LegalAsk self.now.limits root.old root.new.seen 0
             call.old.ask call.new.ask result }
         ensures tallied { IsTallied root.new }
         ensures settled { (n : ℕ) → IsIn n root.old.taken → HasSeen root.new.seen n root.old.seen }
+        ensures unnamed { root.old.next ≤ 1 →
+            (b : Broker) × Hands 0 call.old.ask result b None }
     {
         let Reply {
             answer,

@@ -1,7 +1,7 @@
 //! The calls of the root: peers join, passes are made and come back, and all is copied.
 ghost use Rattle.std.specs.Prelude.{◌≡◌, ◌+◌, ◌<◌, ◌≤◌, ◌^◌, ℕ, IfOk, IfErr, Err, length};
 ghost use Rattle.broker_model.specs.Settle.{outer};
-ghost use Rattle.turn_lock.specs.Pairs.{NoneOf, IsIn, HasSeen};
+ghost use Rattle.turn_lock.specs.Pairs.{own, NoneOf, IsIn, HasSeen};
 ghost use Rattle.turn_lock.specs.Sights.{after_split, split_off, met_with, having_seen, IsMeeting};
 ghost use Rattle.turn_lock.specs.Sights.{IsTallied};
 ghost use Rattle.hub_lock.specs.Histories.{taken_in};
@@ -35,8 +35,8 @@ impl Hub {
 
     /// A peer joins: the passes of its reader and its writer. They have the root's next two numbers.
     ///
-    /// `TooManyPeers` comes where 64 peers are alive, else `JournalFull` where the journal is full
-    /// for a join, else `NoMemory` may come. What the root then has seen has no later step of a pass
+    /// `TooManyPeers` comes where 64 peers are alive, so not before 64 joined, else `JournalFull` where
+    /// the journal is full for a join, else `NoMemory` may come. What the root then has seen has no later step of a pass
     /// that was taken back. (Wait: it promises what it does if it returns.)
     pub fn join<R: Wait>(
         &self,
@@ -53,6 +53,8 @@ impl Hub {
         ensures refused { IfErr result (λ why. (root.new ≡ having_seen root.old root.new.seen) ×
             LegalJoin self.now.limits root.old root.new.seen role (Err why)) }
         ensures settled { (n : ℕ) → IsIn n root.old.taken → HasSeen root.new.seen n root.old.seen }
+        ensures few { length (own 0 root.old.seen) < 64 →
+            (n : ℕ) → ¬ (result ≡ Err (JoinRefusal.TooManyPeers n)) }
     {
         let mut call = Call {
             number: 0,
@@ -116,8 +118,8 @@ impl Hub {
     /// A copy of the limits, of the whole journal as it stands, and of its stamps. Where no pass is
     /// out, the journal's outer steps are as many as the root counts, and they took as many bytes.
     /// It has no later step of a pass that was taken back.
-    /// `HandedOut` comes where entries were handed out, else `NoMemory` may come. (Wait: it promises
-    /// what it does if it returns.)
+    /// `HandedOut` comes where entries were handed out, so not before the root has made a pass; else
+    /// `NoMemory` may come. (Wait: it promises what it does if it returns.)
     pub fn session<R: Wait>(&self, rt: &R, root: &mut HubPass) -> Result<Session, NoSession>
         requires own { IsOf self.now root.old }
         ensures root { root.new ≡ having_seen root.old root.new.seen }
@@ -127,6 +129,7 @@ impl Hub {
             length (outer s.journal.entries) ≡ total_steps root.new) }
         ensures bytes { root.old.out ≡ 0 → IfOk result (λ s.
             taken_in s.journal.entries ≡ total_bytes root.new) }
+        ensures unhanded { root.old.next ≡ 1 → ¬ (result ≡ Err NoSession.HandedOut) }
     {
         let mut call = Call {
             number: 0,

@@ -1,18 +1,19 @@
 //! The value behind the lock: the shared state of all peers, and who their readers are.
-ghost use Rattle.std.specs.Prelude.{◌≡◌, ◌+◌, [], length, Some, None, IfOk, IsTrue, IsSome, ◌↔◌};
+ghost use Rattle.std.specs.Prelude.{◌≡◌, ◌+◌, [], length, Some, None, Err, IfOk, IsTrue, IsSome, ◌↔◌, true};
 ghost use Rattle.turn_lock.specs.Pairs.{IsGrown};
 ghost use Rattle.seat_steps.specs.declared.step.Step.{Step};
 ghost use Rattle.seat_steps.specs.Ranges.{IsLimits, IsStep};
 ghost use Rattle.broker_core.specs.Broker.{IsSaid, IsWatched, entry_of, refusal};
 ghost use Rattle.hub_lock.specs.declared.step.OuterStep.{OuterStep};
 ghost use Rattle.hub_lock.specs.Histories.{stamp_by, broker_of, reader_of, writer_of};
+ghost use Rattle.hub_lock.specs.Asked.{joins_as_root};
 ghost use Rattle.hub_lock.specs.Steps.{IsGiven, Finds};
 ghost use Rattle.hub_lock.specs.Lawful.{IsShared, IsLawful, history_of};
 ghost use Rattle.hub_lock.specs.Bells.{IsRungBy};
 ghost use Rattle.hub_lock.specs.Plays.{IsOwn, MayAsk, Joins, Applies, Takes, Answers, Plays};
 ghost use Rattle.hub_lock.specs.Plays.{IsSessionOf};
 ghost use Rattle.hub_lock.specs.Events.{notes_in};
-ghost use Rattle.hub_lock.specs.Noted.{tally_in, note_of, IsNoted, Hands};
+ghost use Rattle.hub_lock.specs.Noted.{tally_in, note_of, IsNoted, Hands, HasHanded};
 ghost use Rattle.hub_lock.specs.declared.call.Ask.TheVariants as asks;
 ghost use Rattle.hub_lock.specs.declared.call.Answer.TheVariants as answers;
 
@@ -152,7 +153,7 @@ impl HubState {
         }
     }
 
-    // A peer joins, whose reader's pass has that number.
+    // A peer joins by the root, whose reader's pass has that number.
     fn join(
         &mut self,
         number: u64,
@@ -160,6 +161,7 @@ impl HubState {
         reader: u64,
         rings: &mut Rings,
     ) -> Result<u32, JoinRefusal>
+        requires root { number ≡ 0 }
         ensures limits { self.new.broker.limits ≡ self.old.broker.limits }
         ensures joins { Joins self.old.broker.limits
             (history_of self.old.broker self.old.readers) number role reader
@@ -244,8 +246,9 @@ impl HubState {
 
     // A copy of it all, where nothing was handed out.
     fn copy(&self) -> Result<Session, NoSession>
-        ensures { IfOk result (λ s. IsSessionOf (broker_of self.now.broker.limits
+        ensures copied { IfOk result (λ s. IsSessionOf (broker_of self.now.broker.limits
             (history_of self.now.broker self.now.readers)) s) }
+        ensures handed { (result ≡ Err NoSession.HandedOut) ↔ HasHanded (tally_in self.now) }
     {
         if self.shared.journal().kept_from() != 0 {
             return Err(NoSession::HandedOut);
@@ -300,6 +303,8 @@ impl HubState {
 
     // Plays what is asked by the pass with the number.
     fn answer(&mut self, number: u64, ask: &mut Ask, rings: &mut Rings) -> Answer
+        requires asked { joins_as_root number ask.old ≡ true }
+        ensures asked { joins_as_root number ask.new ≡ true }
         ensures limits { self.new.broker.limits ≡ self.old.broker.limits }
         ensures answers { MayAsk (history_of self.old.broker self.old.readers) number ask.old →
             Answers self.old.broker.limits

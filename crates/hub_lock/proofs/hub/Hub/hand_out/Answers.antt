@@ -27,7 +27,7 @@ module _ (g : _) (c : After-play-answer g) where
   now = pass_seat c.play-answer.new.seat
 
   abbrev call : Call
-  call = record { number = c.number.result; ask = asks.HandOut }
+  call = record { number = c.number.result; ask = asks.HandOut; joins = c.call-1.given.0 }
 
   of : c.pass.inside.seat.constant ≡ Some limits
   of = ap (λ (p : Recorder). p.seat.constant) c.pass.view_is ∙ c.requires.own.1

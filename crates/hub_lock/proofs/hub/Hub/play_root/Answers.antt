@@ -1,4 +1,5 @@
-use Rattle.std.proofs.Common.{rules, ◌≡◌, ◌+◌, ◌∙◌, ap, sym, subst, arith, length, true, false, ℕ}
+use Rattle.std.proofs.Common.{rules, ◌≡◌, ◌+◌, ◌≤◌, ◌++◌, ◌∙◌, ap, sym, subst, arith, length, true, false, ℕ, None}
+use Rattle.broker_core.specs.Broker.{Broker}
 use Rattle.turn_lock.specs.Pairs.{HasSeen, IsIn}
 use Rattle.turn_lock.specs.Rule.{bit}
 use Rattle.turn_lock.specs.Sights.{IsLegal, IsTallied, having_seen}
@@ -6,7 +7,9 @@ use Rattle.hub_lock.specs.Passes.{PassSeat, total_steps, total_bytes, journal_se
 use Rattle.hub_lock.specs.Plays.{MayAsk, Plays, is_made}
 use Rattle.hub_lock.specs.Calls.{LegalAsk}
 use Rattle.hub_lock.proofs.TurnsCounted.{legal, entries-after, lawful-after, total-after, total-bytes-after}
-use Rattle.hub_lock.specs.Events.{step_of, pass_seat}
+use Rattle.hub_lock.specs.Events.{EventSeat, IsUnnamed, step_of, pass_seat, tally_of}
+use Rattle.hub_lock.specs.Noted.{Hands, note_of}
+use Rattle.hub_lock.proofs.NobodyNamed.{root-quiet, after-unnamed, hands-unnamed}
 use Rattle.hub_lock.proofs.PassesSettled.{settled-after}
 use Rattle.hub_lock.proofs.PairsLeftOut.{tallied-shown}
 use Rattle.hub_lock.proofs.ShownCalls.{shown-legal}
@@ -80,6 +83,24 @@ module _ (g : _) (c : After-play-answer g) where
   settled = settled-after was c.args.call.now now.seen c.play-answer.new.call c.play-answer.result k
       (subst (λ n. IsIn n was.taken → ⊥) (sym zero) (subst (λ (s : PassSeat). IsIn 0 s.taken → ⊥) is tallied.apart))
 
+  quiet : note_of c.play-answer.result.answer ≡ None
+  quiet = root-quiet c.args.self.now.limits (was.seen ++ told.rest) now.seen 0 c.args.call.now.ask
+      c.play-answer.new.call.ask c.play-answer.result.answer c.requires.asks told.answer
+
+  nobody : c.root.inside.seat.next ≤ 1 → tally_of c.root.inside.seat.seen ≡ None
+  nobody = c.root.invariant.5
+
+  unnamed : IsUnnamed c.play-answer.new.seat
+  unnamed few = after-unnamed c.root.inside.seat c.args.call.now c.play-answer.new.seat.seen c.play-answer.new.call
+      c.play-answer.result c.play-answer.ensures.legal c.root.invariant.0
+      (nobody (subst (λ (s : EventSeat). s.next ≤ 1) c.play-answer.ensures.seat few)) quiet
+
+  hands : c.args.root.now.next ≤ 1
+      → (b : Broker) × Hands 0 c.args.call.now.ask c.play-answer.result.answer b None
+  hands few = hands-unnamed c.root.inside.seat c.args.call.now c.play-answer.new.seat.seen c.play-answer.new.call
+      c.play-answer.result c.play-answer.ensures.legal c.root.invariant.0
+      (nobody (subst (λ (s : PassSeat). s.next ≤ 1) (sym c.root.view_is) few)) c.requires.number
+
 pub overflow_add-root : goal.overflow_add-root
 overflow_add-root g c =
     let a = (at.overflow_add-root g c).After-play-answer in
@@ -93,14 +114,14 @@ invariant_of-root g c =
     let a = (at.invariant_of-root g c).After-play-answer in
     let s = steps g a in
     let made : is_made c.play-answer.result.answer ≡ true = search rules in
-    let one = ap bit made in (first g a, omega arith, bytes g a, entries g a, lawful g a)
+    let one = ap bit made in (first g a, omega arith, bytes g a, entries g a, lawful g a, unnamed g a)
 
 pub invariant_of-root-else-is_made : goal.invariant_of-root-else-is_made
 invariant_of-root-else-is_made g c =
     let a = (at.invariant_of-root-else-is_made g c).After-play-answer in
     let s = steps g a in
     let made : is_made c.play-answer.result.answer ≡ false = search rules in
-    let none = ap bit made in (first g a, omega arith, bytes g a, entries g a, lawful g a)
+    let none = ap bit made in (first g a, omega arith, bytes g a, entries g a, lawful g a, unnamed g a)
 
 pub returns-then-is_made-clause-legal : goal.returns-then-is_made-clause-legal
 returns-then-is_made-clause-legal g c = told g (at.returns-then-is_made-clause-legal g c).After-play-answer
@@ -119,3 +140,15 @@ returns-then-is_made-clause-tallied g c = tallied g (at.returns-then-is_made-cla
 
 pub returns-else-is_made-clause-tallied : goal.returns-else-is_made-clause-tallied
 returns-else-is_made-clause-tallied g c = tallied g (at.returns-else-is_made-clause-tallied g c).After-play-answer
+
+pub returns-then-is_made-clause-unnamed : goal.returns-then-is_made-clause-unnamed
+returns-then-is_made-clause-unnamed g c = hands g (at.returns-then-is_made-clause-unnamed g c).After-play-answer
+
+pub returns-else-is_made-clause-unnamed : goal.returns-else-is_made-clause-unnamed
+returns-else-is_made-clause-unnamed g c = hands g (at.returns-else-is_made-clause-unnamed g c).After-play-answer
+
+pub returns-then-is_made-clause-first : goal.returns-then-is_made-clause-first
+returns-then-is_made-clause-first g c = zero g (at.returns-then-is_made-clause-first g c).After-play-answer
+
+pub returns-else-is_made-clause-first : goal.returns-else-is_made-clause-first
+returns-else-is_made-clause-first g c = zero g (at.returns-else-is_made-clause-first g c).After-play-answer

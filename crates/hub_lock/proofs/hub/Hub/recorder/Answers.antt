@@ -1,4 +1,5 @@
-use Rattle.std.proofs.Common.{◌≡◌, ◌+◌, ◌∙◌, ap, sym, subst, refl, length, List, ℕ, false, Option, Some, arith}
+use Rattle.std.proofs.Common.{rules, ◌≡◌, ◌+◌, ◌≤◌, ◌∙◌, ap, sym, subst, refl, length, List, ℕ, false, Option, Some, None, arith}
+use Rattle.std.specs.Prelude.{IsSome}
 use Rattle.seat_steps.specs.declared.limits.Limits.{Limits}
 use Rattle.broker_core.specs.declared.letting_go.LetGo.{LetGo}
 use Rattle.turn_lock.specs.Pairs.{HasSeen, IsIn}
@@ -9,12 +10,14 @@ use Rattle.hub_lock.specs.declared.call.Answer.TheVariants as answers
 use Rattle.hub_lock.specs.declared.call.Call.{Call}
 use Rattle.hub_lock.specs.Passes.{PassSeat, journal_seen, total_steps, total_bytes, HasSeenLawful}
 use Rattle.hub_lock.specs.Plays.{Plays, is_made}
-use Rattle.hub_lock.specs.Events.{EventSeat, step_of, pass_seat, tally_of}
+use Rattle.hub_lock.specs.Events.{EventSeat, IsUnnamed, step_of, pass_seat, tally_of}
+use Rattle.hub_lock.specs.Noted.{note_of}
+use Rattle.hub_lock.proofs.NobodyNamed.{before-unnamed, after-unnamed}
 use Rattle.hub_lock.specs.Recording.{HasFront, recorder, LegalLook}
 use Rattle.hub_lock.proofs.TurnsCounted.{entries-after, lawful-after, total-after, total-bytes-after}
 use Rattle.hub_lock.proofs.PassesSettled.{settled-after}
 use Rattle.hub_lock.proofs.PairsLeftOut.{none-shown, tallied-shown}
-use Rattle.hub_lock.proofs.ShownCalls.{shown-legal, named-look, named-tally}
+use Rattle.hub_lock.proofs.ShownCalls.{shown-legal, named-look, named-some, named-tally}
 use Rattle.hub_lock.proofs.hub.Hub.recorder.Goals as goal
 use Rattle.hub_lock.proofs.hub.Hub.recorder.Goals.{After-play-answer}
 use Rattle.hub_lock.proofs.hub.Hub.recorder.Goals.at
@@ -36,7 +39,7 @@ module _ (g : _) (c : After-play-answer g) where
   now = pass_seat c.play-answer.new.seat
 
   abbrev call : Call
-  call = record { number = 0; ask = asks.Name (c.made.result + 1) }
+  call = record { number = 0; ask = asks.Name (c.made.result + 1); joins = c.call-1.given.0 }
 
   of : was.constant ≡ Some limits
   of = ap (λ (s : PassSeat). s.constant) c.root.view_is ∙ c.requires.own.1
@@ -86,8 +89,35 @@ module _ (g : _) (c : After-play-answer g) where
       lawful-after limits was call now.seen c.play-answer.new.call c.play-answer.result shown of (sym zero) tt now is,
     )
 
+  nobody : c.root.inside.seat.next ≤ 1 → tally_of c.root.inside.seat.seen ≡ None
+  nobody = c.root.invariant.5
+
+  unnamed : c.play-answer.result.answer ≡ answers.Named None → IsUnnamed c.play-answer.new.seat
+  unnamed told few = after-unnamed c.root.inside.seat call c.play-answer.new.seat.seen c.play-answer.new.call
+      c.play-answer.result c.play-answer.ensures.legal zero
+      (nobody (subst (λ (s : EventSeat). s.next ≤ 1) c.play-answer.ensures.seat few)) (ap note_of told)
+
+  named : c.args.root.now.next ≡ 1 → (r : Option ℕ) → c.play-answer.result.answer ≡ answers.Named r → IsSome r
+  named one r told =
+      let few : c.root.inside.seat.next ≤ 1 =
+      (let n = ap (λ (s : PassSeat). s.next) c.root.view_is in omega (arith, n, one)) in
+      named-some limits c.root.inside.seat call c.play-answer.new.seat.seen c.play-answer.new.call
+      c.play-answer.result c.play-answer.ensures.legal of (c.made.result + 1) r refl told refl
+      (before-unnamed c.root.inside.seat call c.play-answer.new.seat.seen c.play-answer.new.call
+      c.play-answer.result c.play-answer.ensures.legal zero (nobody few))
+
 pub invariant_of-root : goal.invariant_of-root
-invariant_of-root g c = root-is g (at.invariant_of-root g c).After-play-answer c.in-Named.named c.in-Named.is
+invariant_of-root g c =
+    let a = (at.invariant_of-root g c).After-play-answer in
+    let r = root-is g a c.in-Named.named c.in-Named.is in
+    let none : c.in-Named.named ≡ None = search rules in
+    (r.0, r.1, r.2, r.3, r.4, unnamed g a (c.in-Named.is ∙ ap answers.Named none))
+
+pub returns-in_err-_number-clause-first : goal.returns-in_err-_number-clause-first
+returns-in_err-_number-clause-first g c one =
+    let none : c.in-Named.named ≡ None = search rules in
+    let some = named g (at.returns-in_err-_number-clause-first g c).After-play-answer one None
+    (c.in-Named.is ∙ ap answers.Named none) in cc
 
 pub returns-in_err-_number-clause-legal : goal.returns-in_err-_number-clause-legal
 returns-in_err-_number-clause-legal g c =
@@ -122,8 +152,13 @@ invariant_of-result g c =
 
 pub invariant_of-root-2 : goal.invariant_of-root-2
 invariant_of-root-2 g c =
-    subst (IsRoot c.root.inside.steps c.root.inside.bytes c.play-answer.result.entries) (sym c.split.ensures.left)
-    (root-is g (at.invariant_of-root-2 g c).After-play-answer c.in-Named.named c.in-Named.is)
+    let r = subst (IsRoot c.root.inside.steps c.root.inside.bytes c.play-answer.result.entries)
+    (sym c.split.ensures.left)
+    (root-is g (at.invariant_of-root-2 g c).After-play-answer c.in-Named.named c.in-Named.is) in
+    let next : c.split.new.seat.next ≡ c.made.result + 1 + 1 =
+    ap (λ (s : EventSeat). s.next) c.split.ensures.left
+    ∙ ap (λ (s : EventSeat). s.next + 1) c.play-answer.ensures.seat ∙ ap (λ n. n + 1) c.made.ensures in
+    (r.0, r.1, r.2, r.3, r.4, λ few. absurd (omega (arith, next, few)))
 
 pub returns-clause-fresh : goal.returns-clause-fresh
 returns-clause-fresh g c = none-shown step_of c.split.result.number c.split.result.seen c.split.ensures.fresh

@@ -1,4 +1,4 @@
-use Rattle.std.proofs.Common.{◌∙◌, ap}
+use Rattle.std.proofs.Common.{◌≤◌, ◌∙◌, ap, arith}
 use Rattle.hub_lock.specs.Passes.{PassSeat}
 use Rattle.hub_lock.proofs.SessionTotals.{session-steps, session-bytes}
 use Rattle.hub_lock.proofs.hub.Hub.session.Goals as goal
@@ -14,3 +14,7 @@ returns-clause-bytes g c none =
     session-bytes c.args.self.now.limits c.args.root.now c.play_root.new.root c.in-Copied.copied
     c.in-Copied.ensures.legal
     c.play_root.ensures.tallied (ap (λ (s : PassSeat). s.out) c.play_root.ensures.root ∙ none)
+
+pub returns-clause-unhanded : goal.returns-clause-unhanded
+returns-clause-unhanded g c one none =
+    let h = c.in-Copied.ensures.unnamed (omega (arith, one)) in h.1.0 none

@@ -1,6 +1,6 @@
-use Rattle.std.proofs.Common.{◌∙◌, ap, sym, subst, length}
-use Rattle.hub_lock.specs.Passes.{journal_seen, HasSeenLawful}
-use Rattle.hub_lock.specs.Events.{EventSeat, step_of, pass_seat}
+use Rattle.std.proofs.Common.{◌≡◌, ◌+◌, ◌≤◌, ◌∙◌, ap, sym, subst, arith, length}
+use Rattle.hub_lock.specs.Passes.{journal_seen, total_steps, total_bytes, HasSeenLawful}
+use Rattle.hub_lock.specs.Events.{EventSeat, IsUnnamed, step_of, pass_seat}
 use Rattle.hub_lock.proofs.PairsLeftOut.{none-shown}
 use Rattle.hub_lock.proofs.hub.Hub.split.Goals as goal
 
@@ -10,6 +10,20 @@ invariant_of-result c =
       sym (ap length (none-shown step_of c.split.result.number c.split.result.seen c.split.ensures.fresh)),
       c.root.invariant.3 ∙ sym (ap (λ (s : EventSeat). length (journal_seen (pass_seat s))) right),
       subst (λ (s : EventSeat). HasSeenLawful (pass_seat s)) (sym right) c.root.invariant.4,
+    )
+
+pub invariant_of-root : goal.invariant_of-root
+invariant_of-root c =
+    let left = c.split.ensures.left in
+    subst (λ (s : EventSeat). (s.number ≡ 0) × (c.root.inside.steps ≡ total_steps (pass_seat s))
+    × (c.root.inside.bytes ≡ total_bytes (pass_seat s)) × (c.root.inside.entries ≡ length (journal_seen (pass_seat s)))
+    × HasSeenLawful (pass_seat s) × IsUnnamed s) (sym left) (
+      c.root.invariant.0,
+      c.root.invariant.1,
+      c.root.invariant.2,
+      c.root.invariant.3,
+      c.root.invariant.4,
+      λ few. c.root.invariant.5 (omega (arith, few)),
     )
 
 pub returns-clause-fresh : goal.returns-clause-fresh

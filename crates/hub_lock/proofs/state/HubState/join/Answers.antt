@@ -42,7 +42,7 @@ invariant_of-self-2 c =
     let readers = c.self.inside.readers.items in
     let s = c.entries-entries.ensures.shared.stamped in
     let a = after (at.invariant_of-self-2 c).After-push in (
-      join-kept b readers c.args.number c.self.invariant.0 s c.args.role c.args.reader _ _ a
+      join-kept b readers c.args.number c.self.invariant.0 s c.args.role c.args.reader _ _ a c.requires.root
           (few-alive b c.args.role (search rules)) (search rules),
       search rules,
       ap (λ n. n + 1) c.self.invariant.2 ∙ sym (longer-length _ _ _ _
