@@ -13,8 +13,8 @@ use Rattle.broker_model.proofs.EachElement.{each_append}
 use Rattle.broker_core.specs.Broker.{Broker, begun, with_step}
 use Rattle.broker_core.proofs.AliveAfterEntry.{same_settled}
 use Rattle.hub_lock.specs.declared.step.OuterStep.{OuterStep}
-use Rattle.hub_lock.specs.Histories.{History, stamp_by, entries_of, broker_of, readers_of, numbered_in, reader_of, only, joining, step_after}
-use Rattle.hub_lock.specs.Steps.{IsLegalEntry, AreLegalEntries, HaveAuthors, HasLegalSteps}
+use Rattle.hub_lock.specs.Histories.{History, stamp_by, broker_of, readers_of, numbered_in, reader_of, only, joining, step_after}
+use Rattle.hub_lock.specs.Steps.{IsLegalEntry, AreLegalEntries, HasLegalSteps}
 use Rattle.hub_lock.specs.Lawful.{IsShared, IsMadeBy, AreMadeBy, IsLawful, IsKept, history_of, with_all}
 use Rattle.hub_lock.proofs.HistoriesGrow.{entries-more, broker-more, history-more}
 use Rattle.hub_lock.proofs.ReadersStay.{readers-append, made-more, steps-same, get-end}

@@ -1,16 +1,19 @@
 -- Each entry of a lawful journal is such that its line can give it
-use Rattle.std.proofs.Common.{◌≡◌, ℕ, zero, suc, ◌+◌, List, [], ◌∷◌, ◌++◌, length, Bool, true, false, Option, Some, None, refl, ap, subst, ◌∙◌}
+use Rattle.std.proofs.Common.{◌≡◌, ℕ, zero, suc, ◌+◌, List, [], ◌∷◌, ◌++◌, length, Bool, true, false, Option, Some, None, Result, Ok, Err, IfOk, ap, sym, subst}
 use Rattle.std.specs.Prelude.{◌==◌, if◌then◌else◌}
 use Rattle.seat_steps.specs.declared.limits.Limits.{Limits}
 use Rattle.broker_model.specs.declared.journal.Entry.{Entry}
 use Rattle.broker_model.specs.declared.journal.Entry.TheVariants as entries
 use Rattle.broker_model.specs.Recorded.{entry_at}
-use Rattle.broker_model.specs.Settle.{due, cause_of, with_end, settled, settle, number_alive, history}
+use Rattle.broker_model.specs.Settle.{due, cause_of, with_end, settled, number_alive, history}
 use Rattle.broker_core.specs.Broker.{Broker}
 use Rattle.broker_core.specs.declared.letting_go.LetGo.{LetGo}
 use Rattle.hub_lock.specs.Histories.{History, entries_of, broker_of}
 use Rattle.hub_lock.specs.Lawful.{IsKept, history_of}
-use Rattle.hub_lock.specs.Passes.{Recorder}
+use Rattle.hub_lock.specs.declared.session.Session.{Session}
+use Rattle.hub_lock.specs.declared.session.NoSession.{NoSession}
+use Rattle.hub_lock.specs.Passes.{PassSeat, Recorder}
+use Rattle.hub_lock.specs.Calls.{LegalCopy}
 use Rattle.hub_lock.specs.Recording.{LegalHandOut}
 use Rattle.hub_lock.specs.Steps.{IsGiven, FitsLine, HaveLines, AreLegalEntries, HasLegalSteps}
 
@@ -71,3 +74,9 @@ handed-fits limits p after it k =
     let before : History = p.seat.seen ++ k.rest in
     entry-fits (broker_of limits before).journal it.number it.entry (journal-fits limits before k.lawful.legal)
     k.answer.out.next.entry
+
+pub session-fits : (limits : Limits) (root : PassSeat) (after : History) (r : Result Session NoSession)
+    → LegalCopy limits root after r → IfOk r (λ s. HaveLines s.journal.entries)
+session-fits limits root after (Ok s) k =
+    subst HaveLines (sym k.answer.copied.journal) (journal-fits limits (root.seen ++ k.rest) k.lawful.legal)
+session-fits limits root after (Err why) k = tt

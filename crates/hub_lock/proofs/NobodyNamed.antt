@@ -1,6 +1,5 @@
 -- As long as no pass was made from the root, nobody records
-use Rattle.std.proofs.Common.{◌≡◌, ◌≢◌, ℕ, ◌+◌, ◌≤◌, ◌++◌, Option, Some, None, Result, Ok, Err, refl, ap, subst, ◌∙◌, arith}
-use Rattle.std.specs.Prelude.{◌↔◌, option_map}
+use Rattle.std.proofs.Common.{◌≡◌, ℕ, ◌++◌, None, refl, ap, subst, ◌∙◌}
 use Rattle.seat_steps.specs.declared.limits.Limits.{Limits}
 use Rattle.turn_lock.specs.Pairs.{NoneOf, HasSeen}
 use Rattle.turn_lock.specs.Sights.{IsLegal}
@@ -13,8 +12,8 @@ use Rattle.hub_lock.specs.declared.call.Call.{Call}
 use Rattle.hub_lock.specs.declared.call.Reply.{Reply}
 use Rattle.hub_lock.specs.Histories.{History, broker_of}
 use Rattle.hub_lock.specs.Plays.{Answers}
-use Rattle.hub_lock.specs.Events.{Events, EventSeat, Tally, tally_of, tally_after, steps_of_events}
-use Rattle.hub_lock.specs.Noted.{PlaysEvents, Hands, HasHanded, IsOfRoot, note_of}
+use Rattle.hub_lock.specs.Events.{Events, EventSeat, tally_of, tally_after, steps_of_events}
+use Rattle.hub_lock.specs.Noted.{PlaysEvents, Hands, IsOfRoot, note_of}
 use Rattle.hub_lock.proofs.TalliesStay.{tally-seen}
 
 -- what the root asks but to name who records notes nothing
@@ -60,23 +59,3 @@ module _ (seat : EventSeat) (call : Call) (after : Events) (call' : Call) (reply
           subst (λ n. Hands n call.ask reply.answer b None) is
               (subst (λ t. Hands call.number call.ask reply.answer b t) before-unnamed k.plays.hands),
         )
-
--- nothing was handed out where all is kept
-
-handed-by : (recorder : Option ℕ) (kept : ℕ) → (recorder ≡ None → kept ≡ 0) → kept ≢ 0
-    → HasHanded (option_map (λ n. (n, kept)) recorder)
-handed-by None kept none some = some (none refl)
-handed-by (Some n) kept none some = omega (arith, some)
-
-kept-by : (recorder : Option ℕ) (kept : ℕ) → kept ≡ 0 → HasHanded (option_map (λ n. (n, kept)) recorder) → ⊥
-kept-by None kept zero h = h
-kept-by (Some n) kept zero h = omega (arith, zero, h)
-
-pub handed-copy : {T E : Type 0} (recorder : Option ℕ) (kept : ℕ) (r : Result T E) (e : E)
-    → (recorder ≡ None → kept ≡ 0) → kept ≢ 0 → r ≡ Err e
-    → (r ≡ Err e) ↔ HasHanded (option_map (λ n. (n, kept)) recorder)
-handed-copy recorder kept r e none some is = (λ x. handed-by recorder kept none some, λ h. is)
-
-pub kept-copy : {T E : Type 0} (recorder : Option ℕ) (kept : ℕ) (r : Result T E) (e : E)
-    → kept ≡ 0 → (r ≡ Err e → ⊥) → (r ≡ Err e) ↔ HasHanded (option_map (λ n. (n, kept)) recorder)
-kept-copy recorder kept r e zero other = (λ x. absurd (other x), λ h. absurd (kept-by recorder kept zero h))

@@ -15,8 +15,6 @@ use Rattle.broker_model.specs.Out.{Outgoing, stored}
 use Rattle.broker_model.specs.Settle.{number_alive}
 use Rattle.broker_core.specs.declared.answers.JoinRefusal.{JoinRefusal}
 use Rattle.broker_core.specs.declared.answers.JoinRefusal.TheVariants as join_refusals
-use Rattle.broker_core.specs.declared.answers.Refused.{Refused}
-use Rattle.broker_core.specs.declared.answers.Refused.TheVariants as refusals
 use Rattle.broker_core.specs.declared.answers.Took.{Took}
 use Rattle.broker_core.specs.declared.answers.Took.TheVariants as took
 use Rattle.broker_core.specs.declared.taking.Standing.{Standing}

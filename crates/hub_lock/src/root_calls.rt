@@ -7,6 +7,7 @@ ghost use Rattle.turn_lock.specs.Sights.{IsTallied};
 ghost use Rattle.hub_lock.specs.Histories.{taken_in};
 ghost use Rattle.hub_lock.specs.Finished.{seat_of};
 ghost use Rattle.hub_lock.specs.Passes.{IsOf, steps_of, bytes_of, total_steps, total_bytes};
+ghost use Rattle.hub_lock.specs.Steps.{HaveLines};
 ghost use Rattle.hub_lock.specs.Calls.{LegalJoin, LegalCopy, IsJoined};
 
 use crate::call::{Answer, Ask, Call};
@@ -129,6 +130,7 @@ impl Hub {
             length (outer s.journal.entries) ≡ total_steps root.new) }
         ensures bytes { root.old.out ≡ 0 → IfOk result (λ s.
             taken_in s.journal.entries ≡ total_bytes root.new) }
+        ensures lines { IfOk result (λ s. HaveLines s.journal.entries) }
         ensures unhanded { root.old.next ≡ 1 → ¬ (result ≡ Err NoSession.HandedOut) }
     {
         let mut call = Call {

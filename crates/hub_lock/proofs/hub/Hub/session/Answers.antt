@@ -1,6 +1,7 @@
-use Rattle.std.proofs.Common.{◌≤◌, ◌∙◌, ap, arith}
+use Rattle.std.proofs.Common.{◌∙◌, ap, arith}
 use Rattle.hub_lock.specs.Passes.{PassSeat}
 use Rattle.hub_lock.proofs.SessionTotals.{session-steps, session-bytes}
+use Rattle.hub_lock.proofs.LinesOfEntries.{session-fits}
 use Rattle.hub_lock.proofs.hub.Hub.session.Goals as goal
 
 pub returns-clause-steps : goal.returns-clause-steps
@@ -18,3 +19,8 @@ returns-clause-bytes g c none =
 pub returns-clause-unhanded : goal.returns-clause-unhanded
 returns-clause-unhanded g c one none =
     let h = c.in-Copied.ensures.unnamed (omega (arith, one)) in h.1.0 none
+
+pub returns-clause-lines : goal.returns-clause-lines
+returns-clause-lines g c =
+    session-fits c.args.self.now.limits c.args.root.now c.play_root.new.root.seen c.in-Copied.copied
+    c.in-Copied.ensures.legal
