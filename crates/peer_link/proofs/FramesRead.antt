@@ -20,13 +20,14 @@ use Rattle.hub_lock.specs.Passes.{PeerPass}
 use Rattle.hub_lock.specs.Calls.{pass_having_seen}
 use Rattle.peer_link.specs.declared.ends.ReadEnd.{ReadEnd}
 use Rattle.peer_link.specs.declared.ends.ReadEnd.TheVariants as ends
-use Rattle.peer_link.specs.Made.{entries_by, journal_of, SawMore, HasSeenFull}
+use Rattle.peer_link.specs.Made.{entries_by, journal_of, SawMore, IsAtLimit, HasSeenFull}
 use Rattle.peer_link.specs.LinkSteps.{frame_steps, steps_behind, link_steps, AreFrames, spelled, HoldFrames}
 use Rattle.peer_link.specs.Submits.{WhyNot, MadeFirst, IsGoneRefusal}
 use Rattle.peer_link.specs.ReadsPeer.{StopsAt, StopsBy, BeganNothing, EndsAs, gone_after, ReadsPeer}
 use Rattle.peer_link.specs.ReadsFrame.{got_of, NoFrame, EndedAfter, OneFrame, MakesFrame, ReadsFrame, ReadsLink}
 use Rattle.peer_link.proofs.ShellServed.{joined-more}
 use Rattle.peer_link.proofs.MessagesMade.{same-peer}
+use Rattle.peer_link.proofs.AtLimits.{at-limit-later}
 
 pub took-gave : (g g' l l' : Option (List ℕ)) (bytes : List ℕ) → Gave g g' l l' bytes → TookFrom g g' l l' bytes
 took-gave g g' l l' bytes k = record { given = k.given; left = k.left }
@@ -124,7 +125,13 @@ ends-first limits q b frames left e (ends.Ended cause) same s why =
 ends-first limits q b frames left e (ends.JournalFull kept) same s why = (
   e,
   subst (λ q. StopsAt q frames [] (entries_by b.seat) e) (sym same) s,
-  record { earlier = b.seat.seen; later = []; is = sym (append-nil b.seat.seen); full = why },
+  record {
+    earlier = b.seat.seen;
+    later = [];
+    is = sym (append-nil b.seat.seen);
+    full = why.0;
+    at_limit = why.1;
+  },
 )
 ends-first limits q b frames left e ends.NoMemory same s why =
     inr (e, subst (λ q. StopsAt q frames [] (entries_by b.seat) e) (sym same) s)
@@ -225,6 +232,8 @@ full-later limits a b e kept s f = record {
   later = f.later ++ s.more;
   is = s.grew ∙ ap (λ h. h ++ s.more) f.is ∙ append_assoc f.earlier f.later s.more;
   full = f.full;
+  at_limit = subst (λ (h : History). IsAtLimit limits (journal_of limits h)) (sym s.grew)
+      (at-limit-later limits a s.more f.at_limit);
 }
 
 -- the end says the same of a pass of the same peer that has seen more, if it isn't that the peer had ended

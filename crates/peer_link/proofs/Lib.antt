@@ -4,8 +4,10 @@ pub mod AnswersGrow
 pub mod ShellServed
 pub mod OutGrows
 pub mod OthersTakeNothing
+pub mod TakesStand
 pub mod TakesWritten
 pub mod MessagesMade
 pub mod FramesRead
 pub mod BadSizeEnds
 pub mod LinesLooked
+pub mod AtLimits

@@ -8,6 +8,7 @@ use Rattle.seat_steps.specs.declared.step.Step.TheVariants as steps
 use Rattle.seat_steps.specs.declared.step.PeerStep.{PeerStep}
 use Rattle.seat_steps.specs.declared.step.PeerStep.TheVariants as peers
 use Rattle.seat_steps.specs.declared.step.ShellStep.{ShellStep}
+use Rattle.seat_steps.specs.Ranges.{IsPeerStep}
 use Rattle.broker_model.specs.declared.journal.Entry.TheVariants as entries
 use Rattle.broker_model.specs.declared.journal.Kept.{Kept}
 use Rattle.broker_model.specs.Ids.{Joined, peer_at}
@@ -29,6 +30,7 @@ use Rattle.peer_link.specs.declared.ends.ReadEnd.TheVariants as ends
 use Rattle.peer_link.specs.Made.{entries_by, journal_of, SawMore}
 use Rattle.peer_link.specs.Submits.{WhyNot, Submits, IsGoneRefusal, IsRefusal}
 use Rattle.peer_link.proofs.StepsMade.{entries-same, entries-one, saw-none, saw-legal}
+use Rattle.peer_link.proofs.AtLimits.{at-limit, step-light}
 
 -- what the loop says of an answer
 
@@ -139,34 +141,38 @@ unless (peers.Tokens tokens) N P k = k
 unless peers.Gone N P k = inr k
 
 why_by : (limits : Limits) (seen : History) (p : PeerPass) (step : PeerStep) (before : History) (n : ℕ) (why : Refused)
-    → p.seat.seen ≡ before → (why ≡ refusals.NoPeer → ⊥) →
+    → IsPeerStep step → p.seat.seen ≡ before → (why ≡ refusals.NoPeer → ⊥) →
     Applies limits before n (steps.Peer p.peer step) p.seat.seen (Err why)
     → (end : ReadEnd) × (told (Err why) ≡ Err end) × WhyNot limits p (peer_entry p.peer step) end
-why_by limits seen p step before n refusals.NoPeer is other k = absurd (other refl)
-why_by limits seen p step before n (refusals.Ended cause) is other k = (
+why_by limits seen p step before n refusals.NoPeer i is other k = absurd (other refl)
+why_by limits seen p step before n (refusals.Ended cause) i is other k = (
   ends.Ended cause,
   refl,
   ap (λ h. end_of (journal_of limits h) p.peer) is ∙ step-ended limits before n p.peer step p.seat.seen cause k,
 )
-why_by limits seen p step before n (refusals.JournalFull kept) is other k = (
+why_by limits seen p step before n (refusals.JournalFull kept) i is other k = (
   ends.JournalFull kept,
   refl,
-  ap (λ h. full_in limits (journal_of limits h) (peer_entry p.peer step)) is
-      ∙ step-full limits before n p.peer step p.seat.seen kept k,
+  let full : full_in limits (journal_of limits p.seat.seen) (peer_entry p.peer step) ≡ Some kept =
+      ap (λ h. full_in limits (journal_of limits h) (peer_entry p.peer step)) is
+      ∙ step-full limits before n p.peer step p.seat.seen kept k in (
+        full,
+        at-limit limits (journal_of limits p.seat.seen) (peer_entry p.peer step) kept full (step-light p.peer step i),
+      ),
 )
-why_by limits seen p step before n refusals.NoMemory is other k = (ends.NoMemory, refl, tt)
+why_by limits seen p step before n refusals.NoMemory i is other k = (ends.NoMemory, refl, tt)
 
 submitted_by : (limits : Limits) (before after : PeerPass) (step : PeerStep) (r : Result Applied Refused)
-    → after ≡ pass_having_seen before after.seat.seen → (r ≡ Err refusals.NoPeer → ⊥)
+    → IsPeerStep step → after ≡ pass_having_seen before after.seat.seen → (r ≡ Err refusals.NoPeer → ⊥)
     → LegalStep limits before.seat after.seat.seen (steps.Peer before.peer step) r
     → Submits limits before after (peer_entry before.peer step ∷ []) (told r)
-submitted_by limits before after step (Ok applied) is other k =
+submitted_by limits before after step (Ok applied) i is other k =
     ap (λ (p : PeerPass). entries_by p.seat) is
     ∙ entries-one before.seat k.rest after.seat.seen (peer_entry before.peer step) k.apart k.answer.applied
-submitted_by limits before after step (Err why) is other k =
+submitted_by limits before after step (Err why) i is other k =
     let peer : after.peer ≡ before.peer = ap (λ (p : PeerPass). p.peer) is in
     let e = peer_entry before.peer step in
-    let w = why_by limits after.seat.seen after step (before.seat.seen ++ k.rest) before.seat.number why k.answer.same
+    let w = why_by limits after.seat.seen after step (before.seat.seen ++ k.rest) before.seat.number why i k.answer.same
     (λ e. other (ap (λ (w : Refused). Err w) e))
     (subst (λ q. Applies limits (before.seat.seen ++ k.rest) before.seat.number (steps.Peer q step) after.seat.seen
     (Err why)) (sym peer) k.answer) in
@@ -183,11 +189,11 @@ submitted_by limits before after step (Err why) is other k =
     })
 
 pub submitted : (limits : Limits) (before after : PeerPass) (step : PeerStep) (r : Result Applied Refused)
-    → after ≡ pass_having_seen before after.seat.seen → (r ≡ Err refusals.NoPeer → ⊥)
+    → IsPeerStep step → after ≡ pass_having_seen before after.seat.seen → (r ≡ Err refusals.NoPeer → ⊥)
     → UnlessMemory step ((after ≡ before) × (r ≡ Err refusals.NoMemory))
     (LegalStep limits before.seat after.seat.seen (steps.Peer before.peer step) r)
     → Submits limits before after (peer_entry before.peer step ∷ []) (told r)
-submitted limits before after step r is other legal = by (unless step _ _ legal)
+submitted limits before after step r i is other legal = by (unless step _ _ legal)
   where
     by : ((after ≡ before) × (r ≡ Err refusals.NoMemory))
         ⊎ LegalStep limits before.seat after.seat.seen (steps.Peer before.peer step) r
@@ -202,7 +208,7 @@ submitted limits before after step r is other legal = by (unless step _ _ legal)
           entries = ap (λ (p : PeerPass). entries_by p.seat) k.0 ∙ sym (append-nil (entries_by before.seat));
           why = tt;
         })
-    by (inr k) = submitted_by limits before after step r is other k
+    by (inr k) = submitted_by limits before after step r i is other k
 
 -- and the pass has seen more, or nothing
 pub saw-by : (limits : Limits) (before after : PeerPass) (step : PeerStep) (r : Result Applied Refused)

@@ -1,5 +1,5 @@
 -- What a take of a peer's writer comes to
-use Rattle.std.proofs.Common.{◌≡◌, ℕ, zero, suc, ◌+◌, ◌<◌, ◌≤◌, Bool, true, false, List, [], ◌∷◌, ◌++◌, length, map, take, drop, min, Option, Some, None, refl, sym, ap, ap₂, ◌∙◌, subst, inl, inr, arith, append-nil, length-append, length-drop}
+use Rattle.std.proofs.Common.{◌≡◌, ℕ, zero, suc, ◌+◌, ◌<◌, ◌≤◌, Bool, true, false, List, [], ◌∷◌, ◌++◌, length, map, take, drop, min, Option, Some, None, refl, sym, ap, ap₂, ◌∙◌, subst, inl, inr, arith, append_assoc, length-append, length-drop}
 use Rattle.std.specs.Prelude.{if◌then◌else◌, ◌==◌, sum, option_map, IfSome, IfNone}
 use Rattle.std.specs.List.{AllByRecursion}
 use Rattle.std.specs.Io.KnownBytes.{Appends}
@@ -24,10 +24,8 @@ use Rattle.broker_core.specs.declared.answers.Took.TheVariants as took
 use Rattle.broker_core.specs.Broker.{Broker, full_in, full_for, nothing_left, take_refusal_from, IfBytes, IfNoBytes, IsBytesUnlessMemory}
 use Rattle.broker_core.specs.Stands.{end_of}
 use Rattle.broker_core.specs.Taking.{out_at, IsTaken}
-use Rattle.turn_lock.specs.Pairs.{own, NoneOf}
-use Rattle.turn_lock.proofs.PairsOfNumbers.{none-append}
-use Rattle.hub_lock.specs.declared.step.OuterStep.{OuterStep}
-use Rattle.hub_lock.specs.Histories.{History, entries_of, broker_of, writer_of, only}
+use Rattle.turn_lock.specs.Pairs.{NoneOf}
+use Rattle.hub_lock.specs.Histories.{History, broker_of, writer_of, only}
 use Rattle.hub_lock.specs.Lawful.{IsLawful}
 use Rattle.hub_lock.specs.Passes.{PeerPass}
 use Rattle.hub_lock.specs.Calls.{IsTake, pass_having_seen}
@@ -35,128 +33,32 @@ use Rattle.hub_lock.proofs.HistoriesGrow.{entries-more}
 use Rattle.hub_lock.proofs.ReadersStay.{writer-stays}
 use Rattle.hub_lock.proofs.LegalCalls.{writer-joined}
 use Rattle.desc_frame.specs.Frames.{Frame, frame, spelling}
+use Rattle.peer_link.specs.declared.ends.TakeEnd.{TakeEnd}
+use Rattle.peer_link.specs.declared.ends.TakeEnd.TheVariants as takes
 use Rattle.peer_link.specs.declared.ends.WriteEnd.{WriteEnd}
 use Rattle.peer_link.specs.declared.ends.WriteEnd.TheVariants as ends
 use Rattle.peer_link.specs.Made.{entries_by, journal_of, SawMore}
-use Rattle.peer_link.specs.Gains.{Gains}
-use Rattle.peer_link.specs.WritesPeer.{frame_at, frames_of, is_cut, EndsAs, WritesPeer}
-use Rattle.peer_link.specs.Written.{Writing}
+use Rattle.peer_link.specs.Gains.{GainsUpToCut, GainsUntilCut}
+use Rattle.peer_link.specs.WritesPeer.{frame_at, frames_of, is_cut, taking_of, EndsAs, WritesPeer}
+use Rattle.peer_link.specs.Written.{HasTaken, Writing, Draining}
+use Rattle.peer_link.proofs.AtLimits.{at-limit}
 use Rattle.peer_link.proofs.StepsMade.{entries-same, entries-one}
 use Rattle.peer_link.proofs.ShellServed.{joined-more}
-use Rattle.peer_link.proofs.OthersTakeNothing.{entries-append, made-back, took-none}
-use Rattle.peer_link.proofs.OutGrows.{begins-long, GoesOn, settle-goes, settle-keeps, history-keeps, IsOnly, only-one, history-goes, own-took, frame-stays, frames-stay, frames-more}
+use Rattle.peer_link.proofs.OutGrows.{begins-long, GoesOn, settle-goes, settle-keeps, own-took, frame-stays, frames-stay, frames-more}
+use Rattle.peer_link.proofs.TakesStand.{Before, before-none, before-more}
 
--- what is out for the peer where the take is played
-
-record Standing (limits : Limits) (h : History) (q : ℕ) (held now : Option (List ℕ)) (sizes : List ℕ) : Type 0 where
-  peer : Joined
-  there : peer_at (past_of (journal_of limits h)) q ≡ Some peer
-  front : sum sizes ≤ length (out_for limits.store (journal_of limits h) peer.label).put.bytes
-  taken : (out_for limits.store (journal_of limits h) peer.label).taken ≡ sum sizes
-  gained : Appends held now
-      (joined (map spelling (frames_of (out_for limits.store (journal_of limits h) peer.label).put sizes)))
-
-journal-both : (limits : Limits) (seen rest : History)
-    → journal_of limits (seen ++ rest) ≡ history limits.store (entries_of rest ++ entries_of seen)
-journal-both limits seen rest = ap (history limits.store) (entries-append seen rest)
-
-from-nothing : (limits : Limits) (h : History) (q n : ℕ) (held now : Option (List ℕ)) → IsLawful limits h →
-    writer_of h q ≡ Some n
-    → NoneOf n h → Appends held now [] → Standing limits h q held now []
-from-nothing limits h q n held now l w free gained =
-    let p = writer-joined limits h q n l w in
-    let none = took-none h h q n l.made_by w free in
-    let all : journal_of limits h ≡ history limits.store (entries_of h ++ []) =
-    ap (history limits.store) (sym (append-nil (entries_of h))) in
-    let only : IsOnly (history limits.store (entries_of h ++ [])) q p.0.label =
-    subst (λ (J : List Entry). IsOnly J q p.0.label) all (only-one (journal_of limits h) q p.0 p.1) in
-    let goes = history-goes limits.store (entries_of h) [] q p.0.label only none in
-    let goes_here : GoesOn 0 (out_for limits.store [] p.0.label)
-    (out_for limits.store (journal_of limits h) p.0.label) =
-    subst (λ (J : List Entry). GoesOn 0 (out_for limits.store [] p.0.label) (out_for limits.store J p.0.label))
-    (sym all) goes in
-    record { peer = p.0; there = p.1; front = omega arith; taken = goes_here.taken; gained = gained }
-
-from-before : (limits : Limits) (seen rest : History) (q n : ℕ) (held now : Option (List ℕ)) (sizes : List ℕ) →
-    IsLawful limits (seen ++ rest)
-    → writer_of (seen ++ rest) q ≡ Some n → NoneOf n rest → Standing limits seen q held now sizes →
-    Standing limits (seen ++ rest) q held now sizes
-from-before limits seen rest q n held now sizes l w free s =
-    let es : List Entry = entries_of rest in
-    let base : List Entry = entries_of seen in
-    let both = journal-both limits seen rest in
-    let none = took-none (seen ++ rest) rest q n (made-back (seen ++ rest) seen rest l.made_by) w free in
-    let there : peer_at (past_of (history limits.store (es ++ base))) q ≡ Some s.peer =
-    history-keeps limits.store es base q s.peer s.there in
-    let only = only-one (history limits.store (es ++ base)) q s.peer there in
-    let goes = history-goes limits.store es base q s.peer.label only none in
-    let a : Outgoing = out_for limits.store (journal_of limits seen) s.peer.label in
-    let goes_here : GoesOn 0 a (out_for limits.store (journal_of limits (seen ++ rest)) s.peer.label) =
-    subst (λ (J : List Entry). GoesOn 0 a (out_for limits.store J s.peer.label)) (sym both) goes in
-    let b : Outgoing = out_for limits.store (journal_of limits (seen ++ rest)) s.peer.label in
-    let long = begins-long a.put b.put goes_here.put in
-    let front = s.front in
-    let taken = s.taken in
-    let more = goes_here.taken in
-    record {
-      peer = s.peer;
-      there = ap (λ (J : List Entry). peer_at (past_of J) q) both ∙ there;
-      front = omega (arith, front, long);
-      taken = omega (arith, taken, more);
-      gained = subst (λ (fs : List Frame). Appends held now (joined (map spelling fs)))
-          (sym (frames-stay a.put b.put 0 sizes goes_here.put (omega (arith, front)))) s.gained;
-    }
-
-some-out : (capacity : ℕ) (journal : List Entry) (q : ℕ) (out : Outgoing) (o : Option Joined) →
-    peer_at (past_of journal) q ≡ o
-    → option_map (λ (peer : Joined). out_for capacity journal peer.label) o ≡ Some out
-    → (peer : Joined) × (peer_at (past_of journal) q ≡ Some peer) × (out_for capacity journal peer.label ≡ out)
-some-out capacity journal q out None e is = absurd (cc)
-some-out capacity journal q out (Some peer) e is =
-    (peer, e, (let same : Some (out_for capacity journal peer.label) ≡ Some out = is in cc))
-
-none-of : (xs : List OuterStep) → map (λ (s : OuterStep). s.entry) xs ≡ [] → xs ≡ []
-none-of [] e = refl
-none-of (x ∷ xs) e = absurd (cc)
-
--- the takes so far, and what is out for the peer by them, at the history where the next call is played
-record Before (limits : Limits) (pass : PeerPass) (h : History) (held now : Option (List ℕ)) : Type 0 where
-  sizes : List ℕ
-  each : AllByRecursion (IsWithin 4096) sizes
-  takes : entries_by pass.seat ≡ map (λ n. entries.Took pass.peer n) sizes
-  stands : Standing limits h pass.peer held now sizes
+-- all frames went out
+abbrev AllGained : (held now : Option (List ℕ)) → List (List ℕ) → Type 0
+AllGained held now pieces = Appends held now (joined pieces)
 
 before-call : (limits : Limits) (pass : PeerPass) (rest : History) (held now : Option (List ℕ))
     → writer_of pass.seat.seen pass.peer ≡ Some pass.seat.number → NoneOf pass.seat.number rest →
     IsLawful limits (pass.seat.seen ++ rest)
-    → Writing limits pass held now → Before limits pass (pass.seat.seen ++ rest) held now
+    → Writing limits pass held now → Before limits pass (pass.seat.seen ++ rest) (AllGained held now)
 before-call limits pass rest held now w free l (inl k) =
-    let mine : NoneOf pass.seat.number pass.seat.seen = none-of (own pass.seat.number pass.seat.seen) k.0 in
-    let w_now = writer-stays pass.seat.seen rest pass.peer pass.seat.number w in
-    record {
-      sizes = [];
-      each = tt;
-      takes = k.0;
-      stands = from-nothing limits (pass.seat.seen ++ rest) pass.peer pass.seat.number held now l w_now
-          (none-append pass.seat.number pass.seat.seen rest mine free) k.1;
-    }
+    before-none limits pass rest (AllGained held now) w free l k.0 k.1
 before-call limits pass rest held now w free l (inr k) =
-    let J : List Entry = journal_of limits pass.seat.seen in
-    let p = some-out limits.store J pass.peer k.out (peer_at (past_of J) pass.peer) refl k.queued in
-    let w_now = writer-stays pass.seat.seen rest pass.peer pass.seat.number w in
-    record {
-      sizes = k.sizes;
-      each = k.each;
-      takes = k.takes;
-      stands = from-before limits pass.seat.seen rest pass.peer pass.seat.number held now k.sizes l w_now free (record {
-        peer = p.0;
-        there = p.1;
-        front = subst (λ (o : Outgoing). sum k.sizes ≤ length o.put.bytes) (sym p.2) k.front;
-        taken = ap (λ (o : Outgoing). o.taken) p.2 ∙ k.taken;
-        gained = subst (λ (o : Outgoing). Appends held now (joined (map spelling (frames_of o.put k.sizes))))
-            (sym p.2) k.gained;
-      });
-    }
+    before-more limits pass rest (AllGained held now) w free l k
 
 -- what a take answers
 
@@ -235,8 +137,7 @@ full-is b q out kept a = by (length (stored out) == 0) a
 
 -- of a call of the pass
 
-module _ (limits : Limits) (pass pass' : PeerPass) (held now : Option (List ℕ)) (buf places buf' places' : List ℕ)
-    (r : Took)
+module _ (limits : Limits) (pass pass' : PeerPass) (buf places buf' places' : List ℕ) (r : Took)
     (is : pass' ≡ pass_having_seen pass pass'.seat.seen)
     (w : writer_of pass.seat.seen pass.peer ≡ Some pass.seat.number)
     (k : IsTake limits pass pass' buf places buf' places' r) where
@@ -246,8 +147,13 @@ module _ (limits : Limits) (pass pass' : PeerPass) (held now : Option (List ℕ)
   abbrev journal : List Entry
   journal = journal_of limits turn
 
-  before : Writing limits pass held now → Before limits pass turn held now
-  before s = before-call limits pass k.rest held now w k.apart k.lawful s
+  writing : (held now : Option (List ℕ)) → Writing limits pass held now →
+      Before limits pass turn (AllGained held now)
+  writing held now s = before-call limits pass k.rest held now w k.apart k.lawful s
+
+  draining : (held now : Option (List ℕ)) → Draining limits pass held now →
+      Before limits pass turn (GainsUpToCut held now)
+  draining held now s = before-more limits pass k.rest (GainsUpToCut held now) w k.apart k.lawful s
 
   same-peer : pass'.peer ≡ pass.peer
   same-peer = ap (λ (p : PeerPass). p.peer) is
@@ -270,31 +176,24 @@ module _ (limits : Limits) (pass pass' : PeerPass) (held now : Option (List ℕ)
 
   -- nothing was taken
 
-  ends-so : (end : WriteEnd) → pass'.seat.seen ≡ turn → is_cut end ≡ false → (b : Before limits pass turn held now)
-      → EndsAs limits pass' (out_by b.stands.peer) b.sizes end → WritesPeer limits pass' held now end
-  ends-so end same uncut b e = record {
-    sizes = b.sizes;
-    each = b.each;
-    takes = ap (λ (p : PeerPass). entries_by p.seat) is ∙ entries-same pass.seat k.rest pass'.seat.seen k.apart same
-        ∙ b.takes
-        ∙ ap (λ q. map (λ n. entries.Took q n) b.sizes) (sym same-peer);
-    out = out_by b.stands.peer;
-    queued = ap₂ (λ (h : History) q. out_at limits.store (journal_of limits h) q) same same-peer
-        ∙ out-here b.stands.peer b.stands.there;
-    front = b.stands.front;
-    taken = b.stands.taken;
-    gained = subst (λ t. Gains t held now (map spelling (frames_of (out_by b.stands.peer).put b.sizes)))
-        (sym uncut) b.stands.gained;
-    ends = e;
-  }
-
   same-seen : (x : Took) → r ≡ x → IfNoBytes x (pass'.seat.seen ≡ turn)
   same-seen x e = subst (λ (y : Took). IfNoBytes y (pass'.seat.seen ≡ turn)) e k.answer.same
 
-  pub closes : r ≡ took.Closed → Writing limits pass held now → WritesPeer limits pass' held now ends.Closed
-  closes e s =
+  -- how the taking ended where no bytes came
+  abbrev no_bytes : TakeEnd → Took
+  no_bytes takes.Closed = took.Closed
+  no_bytes (takes.JournalFull kept) = took.JournalFull kept
+  no_bytes takes.NoMemory = took.NoMemory
+
+  same-then : (t : TakeEnd) → r ≡ no_bytes t → pass'.seat.seen ≡ turn
+  same-then takes.Closed e = same-seen took.Closed e
+  same-then (takes.JournalFull kept) e = same-seen (took.JournalFull kept) e
+  same-then takes.NoMemory e = same-seen took.NoMemory e
+
+  ended-so : (Gained : List (List ℕ) → Type 0) (t : TakeEnd) → r ≡ no_bytes t → (b : Before limits pass turn Gained) →
+      EndsAs limits pass' (out_by b.stands.peer) b.sizes t
+  ended-so Gained takes.Closed e b =
       let same : pass'.seat.seen ≡ turn = same-seen took.Closed e in
-      let b = before s in
       let o : Outgoing = out_by b.stands.peer in
       let c = closed-is (broker_of limits turn) pass.peer o
       (subst (λ (x : Took). IsAnswer (broker_of limits turn) pass.peer o x) e
@@ -302,30 +201,67 @@ module _ (limits : Limits) (pass pass' : PeerPass) (held now : Option (List ℕ)
       let left = length-drop o.taken o.put.bytes in
       let none = c.none in
       let taken = b.stands.taken in
-      let front = b.stands.front in
-      ends-so ends.Closed same refl b (
+      let front = b.stands.front in (
         (c.cause, ap₂ (λ (h : History) q. end_of (journal_of limits h) q) same same-peer ∙ c.ended),
         omega (arith, left, none, taken, front),
       )
-
-  pub fills : (kept : Kept) → r ≡ took.JournalFull kept → Writing limits pass held now
-      → WritesPeer limits pass' held now (ends.JournalFull kept)
-  fills kept e s =
+  ended-so Gained (takes.JournalFull kept) e b =
       let same : pass'.seat.seen ≡ turn = same-seen (took.JournalFull kept) e in
-      let b = before s in
       let o : Outgoing = out_by b.stands.peer in
-      ends-so (ends.JournalFull kept) same refl b
-      (ap₂ (λ (h : History) q. full_in limits (journal_of limits h) (entries.Took q 0)) same same-peer
+      let full : full_in limits (journal_of limits pass'.seat.seen) (entries.Took pass'.peer 0) ≡ Some kept =
+      ap₂ (λ (h : History) q. full_in limits (journal_of limits h) (entries.Took q 0)) same same-peer
       ∙ full-is (broker_of limits turn) pass.peer o kept
       (subst (λ (x : Took). IsAnswer (broker_of limits turn) pass.peer o x) e
-      (answer-here b.stands.peer b.stands.there)))
+      (answer-here b.stands.peer b.stands.there)) in (
+        full,
+        at-limit limits (journal_of limits pass'.seat.seen) (entries.Took pass'.peer 0) kept full (omega arith),
+      )
+  ended-so Gained takes.NoMemory e b = tt
 
-  pub lacks : r ≡ took.NoMemory → Writing limits pass held now → WritesPeer limits pass' held now ends.NoMemory
-  lacks e s = ends-so ends.NoMemory (same-seen took.NoMemory e) refl (before s) tt
+  ends-so : (Gained : List (List ℕ) → Type 0) (held now : Option (List ℕ)) (end : WriteEnd) →
+      r ≡ no_bytes (taking_of end) → (b : Before limits pass turn Gained)
+      → GainsUntilCut (is_cut end) held now (map spelling (frames_of (out_by b.stands.peer).put b.sizes)) →
+      WritesPeer limits pass' held now end
+  ends-so Gained held now end e b gained =
+      let same : pass'.seat.seen ≡ turn = same-then (taking_of end) e in record {
+        sizes = b.sizes;
+        each = b.each;
+        takes = ap (λ (p : PeerPass). entries_by p.seat) is
+            ∙ entries-same pass.seat k.rest pass'.seat.seen k.apart same
+            ∙ b.takes
+            ∙ ap (λ q. map (λ n. entries.Took q n) b.sizes) (sym same-peer);
+        out = out_by b.stands.peer;
+        queued = ap₂ (λ (h : History) q. out_at limits.store (journal_of limits h) q) same same-peer
+            ∙ out-here b.stands.peer b.stands.there;
+        front = b.stands.front;
+        taken = b.stands.taken;
+        gained = gained;
+        ends = ended-so Gained (taking_of end) e b;
+      }
+
+  pub closes : (held now : Option (List ℕ)) → r ≡ took.Closed → Writing limits pass held now →
+      WritesPeer limits pass' held now ends.Closed
+  closes held now e s =
+      let b = writing held now s in ends-so (AllGained held now) held now ends.Closed e b b.stands.gained
+
+  pub fills : (held now : Option (List ℕ)) (kept : Kept) → r ≡ took.JournalFull kept → Writing limits pass held now
+      → WritesPeer limits pass' held now (ends.JournalFull kept)
+  fills held now kept e s =
+      let b = writing held now s in ends-so (AllGained held now) held now (ends.JournalFull kept) e b b.stands.gained
+
+  pub lacks : (held now : Option (List ℕ)) → r ≡ took.NoMemory → Writing limits pass held now →
+      WritesPeer limits pass' held now ends.NoMemory
+  lacks held now e s =
+      let b = writing held now s in ends-so (AllGained held now) held now ends.NoMemory e b b.stands.gained
+
+  pub drained : (held now : Option (List ℕ)) (t : TakeEnd) → r ≡ no_bytes t → Draining limits pass held now →
+      WritesPeer limits pass' held now (ends.WriteFault t)
+  drained held now t e s =
+      let b = draining held now s in ends-so (GainsUpToCut held now) held now (ends.WriteFault t) e b b.stands.gained
 
   -- so many bytes were taken, which are still to be written
 
-  pub record OneMore (n t : ℕ) : Type 0 where
+  pub record OneMore (Gained : List (List ℕ) → Type 0) (n t : ℕ) : Type 0 where
     pub sizes : List ℕ
     pub each : AllByRecursion (IsWithin 4096) (sizes ++ n ∷ [])
     pub takes : entries_by pass'.seat ≡ map (λ n. entries.Took pass'.peer n) (sizes ++ n ∷ [])
@@ -335,7 +271,7 @@ module _ (limits : Limits) (pass pass' : PeerPass) (held now : Option (List ℕ)
     pub taken : out.taken ≡ sum (sizes ++ n ∷ [])
     pub frames : frames_of out.put (sizes ++ n ∷ [])
         ≡ frames_of out.put sizes ++ frame (take n buf') (take t places') ∷ []
-    pub gained : Appends held now (joined (map spelling (frames_of out.put sizes)))
+    pub gained : Gained (map spelling (frames_of out.put sizes))
 
   sum-more : (xs : List ℕ) (n : ℕ) → sum (xs ++ n ∷ []) ≡ sum xs + n
   sum-more xs n =
@@ -374,9 +310,9 @@ module _ (limits : Limits) (pass pass' : PeerPass) (held now : Option (List ℕ)
       (sym (ap (take t) i.tokens ∙ take_at (map (λ (t : Token). t.token) (tokens_taken n o)) (drop t places) t
       (length-map (tokens_taken n o) (λ (t : Token). t.token) ∙ sym i.token_count)))
 
-  pub one-more : (n t : ℕ) → r ≡ took.Bytes n t → length buf ≡ 4096 → Writing limits pass held now → OneMore n t
-  one-more n t e size s =
-      let b = before s in
+  one-more : (Gained : List (List ℕ) → Type 0) (n t : ℕ) → r ≡ took.Bytes n t → length buf ≡ 4096 →
+      Before limits pass turn Gained → OneMore Gained n t
+  one-more Gained n t e size b =
       let peer = b.stands.peer in
       let o : Outgoing = out_by peer in
       let i = taken-here n t e peer b.stands.there in
@@ -421,55 +357,75 @@ module _ (limits : Limits) (pass pass' : PeerPass) (held now : Option (List ℕ)
             (frame-stays o.put o'.put (0 + sum b.sizes) n goes.put fits
             ∙ ap (λ m. frame_at o.put m n) {x = 0 + sum b.sizes} {y = o.taken} (omega (arith, at))
             ∙ frame-here n t o i less);
-        gained = subst (λ (fs : List Frame). Appends held now (joined (map spelling fs)))
+        gained = subst (λ (fs : List Frame). Gained (map spelling fs))
             (sym (frames-stay o.put o'.put 0 b.sizes goes.put (omega (arith, front)))) b.stands.gained;
       }
 
-  pub wrote : (n t : ℕ) (now' : Option (List ℕ)) → OneMore n t →
-      Appends now now' (spelling (frame (take n buf') (take t places')))
+  abbrev piece : ℕ → ℕ → List ℕ
+  piece n t = spelling (frame (take n buf') (take t places'))
+
+  pieces-more : (Gained : List (List ℕ) → Type 0) (n t : ℕ) (m : OneMore Gained n t)
+      → map spelling (frames_of m.out.put (m.sizes ++ n ∷ [])) ≡ map spelling (frames_of m.out.put m.sizes) ++ piece n t ∷ []
+  pieces-more Gained n t m =
+      ap (map spelling) m.frames
+      ∙ map-append spelling (frames_of m.out.put m.sizes) (frame (take n buf') (take t places') ∷ [])
+
+  -- it was taken, and this was gained of it
+  taken-so : (Gained Gained' : List (List ℕ) → Type 0) (n t : ℕ) (m : OneMore Gained n t)
+      → Gained' (map spelling (frames_of m.out.put m.sizes) ++ piece n t ∷ []) → HasTaken limits pass' Gained'
+  taken-so Gained Gained' n t m gained = record {
+    sizes = m.sizes ++ n ∷ [];
+    each = m.each;
+    takes = m.takes;
+    out = m.out;
+    queued = m.queued;
+    front = m.front;
+    taken = m.taken;
+    gained = subst Gained' (sym (pieces-more Gained n t m)) gained;
+  }
+
+  pub wrote : (held now now' : Option (List ℕ)) (n t : ℕ) → r ≡ took.Bytes n t → length buf ≡ 4096 →
+      Writing limits pass held now → Appends now now' (piece n t)
       → Writing limits pass' held now'
-  wrote n t now' m a =
-      let f : Frame = frame (take n buf') (take t places') in
-      inr (record {
-        sizes = m.sizes ++ n ∷ [];
-        each = m.each;
-        takes = m.takes;
-        out = m.out;
-        queued = m.queued;
-        front = m.front;
-        taken = m.taken;
-        gained = subst (λ (fs : List (List ℕ)). Appends held now' (joined fs))
-            (sym (ap (map spelling) m.frames ∙ map-append spelling (frames_of m.out.put m.sizes) (f ∷ [])))
-            (subst (Appends held now') (sym (joined-more (map spelling (frames_of m.out.put m.sizes)) (spelling f)))
-            (Appends-trans held now now' (joined (map spelling (frames_of m.out.put m.sizes)))
-            (spelling f) m.gained a));
+  wrote held now now' n t e size s a =
+      let m = one-more (AllGained held now) n t e size (writing held now s) in
+      let before : List (List ℕ) = map spelling (frames_of m.out.put m.sizes) in
+      inr (taken-so (AllGained held now) (AllGained held now') n t m
+      (subst (Appends held now') (sym (joined-more before (piece n t)))
+      (Appends-trans held now now' (joined before) (piece n t) m.gained a)))
+
+  pub wrote-part : (held now now' : Option (List ℕ)) (n t part : ℕ) → r ≡ took.Bytes n t → length buf ≡ 4096 →
+      Writing limits pass held now → part < length (piece n t) → Appends now now' (take part (piece n t))
+      → Draining limits pass' held now'
+  wrote-part held now now' n t part e size s short a =
+      let m = one-more (AllGained held now) n t e size (writing held now s) in
+      let before : List (List ℕ) = map spelling (frames_of m.out.put m.sizes) in
+      taken-so (AllGained held now) (GainsUpToCut held now') n t m (record {
+        before = before;
+        cut = piece n t;
+        later = [];
+        pieces_are = refl;
+        count = part;
+        short = short;
+        gained = Appends-trans held now now' (joined before) (take part (piece n t)) m.gained a;
       })
 
-  pub wrote-part : (n t : ℕ) (now' : Option (List ℕ)) (part : ℕ) → OneMore n t
-      → part < length (spelling (frame (take n buf') (take t places')))
-      → Appends now now' (take part (spelling (frame (take n buf') (take t places')))) →
-      WritesPeer limits pass' held now' ends.WriteFault
-  wrote-part n t now' part m short a =
-      let f : Frame = frame (take n buf') (take t places') in
-      record {
-        sizes = m.sizes ++ n ∷ [];
-        each = m.each;
-        takes = m.takes;
-        out = m.out;
-        queued = m.queued;
-        front = m.front;
-        taken = m.taken;
-        gained = record {
-          before = map spelling (frames_of m.out.put m.sizes);
-          last = spelling f;
-          pieces_are = ap (map spelling) m.frames ∙ map-append spelling (frames_of m.out.put m.sizes) (f ∷ []);
-          count = part;
-          short = short;
-          gained = Appends-trans held now now' (joined (map spelling (frames_of m.out.put m.sizes)))
-              (take part (spelling f)) m.gained a;
-        };
-        ends = tt;
-      }
+  -- it was taken, and not written
+  pub left-out : (held now : Option (List ℕ)) (n t : ℕ) → r ≡ took.Bytes n t → length buf ≡ 4096 →
+      Draining limits pass held now → Draining limits pass' held now
+  left-out held now n t e size s =
+      let m = one-more (GainsUpToCut held now) n t e size (draining held now s) in
+      let g = m.gained in
+      taken-so (GainsUpToCut held now) (GainsUpToCut held now) n t m (record {
+        before = g.before;
+        cut = g.cut;
+        later = g.later ++ piece n t ∷ [];
+        pieces_are = ap (λ (ps : List (List ℕ)). ps ++ piece n t ∷ []) g.pieces_are
+            ∙ append_assoc g.before (g.cut ∷ g.later) (piece n t ∷ []);
+        count = g.count;
+        short = g.short;
+        gained = g.gained;
+      })
 
 -- a take's counts are within a frame's limits
 

@@ -60,6 +60,12 @@ EndsAs limits p frames rest left made (ends.JournalFull kept) =
 EndsAs limits p frames rest left made ends.NoMemory =
     BeganNothing frames rest made ⊎ (e : Entry) × StopsAt p.peer frames rest made e
 
+-- no read failed before the link ended so: where the peer had ended, one may have
+abbrev pub TellsNoFault : ReadEnd → Type 0
+TellsNoFault ends.ReadFault = ⊥
+TellsNoFault (ends.Ended cause) = ⊥
+TellsNoFault _ = Unit {0}
+
 -- the end of the link, unless its peer had ended
 abbrev pub gone_after : ℕ → ReadEnd → List Entry
 gone_after q (ends.Ended cause) = []

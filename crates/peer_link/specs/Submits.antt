@@ -13,13 +13,14 @@ use Rattle.peer_link.specs.declared.ends.ReadEnd.{ReadEnd}
 use Rattle.peer_link.specs.declared.ends.ReadEnd.TheVariants as ends
 use Rattle.peer_link.specs.declared.messages.Ahead.{Ahead}
 use Rattle.peer_link.specs.declared.messages.Ahead.TheVariants as ahead
-use Rattle.peer_link.specs.Made.{entries_by, journal_of}
+use Rattle.peer_link.specs.Made.{entries_by, journal_of, IsAtLimit}
 
 -- why the step of an entry wasn't taken, by the journal that the pass has then seen
 abbrev pub WhyNot : Limits → PeerPass → Entry → ReadEnd → Type 0
 WhyNot limits p e (ends.Ended cause) = end_of (journal_of limits p.seat.seen) p.peer ≡ Some cause
 WhyNot limits p e (ends.JournalFull kept) =
-    full_in limits (journal_of limits p.seat.seen) e ≡ Some kept
+    (full_in limits (journal_of limits p.seat.seen) e ≡ Some kept)
+    × IsAtLimit limits (journal_of limits p.seat.seen)
 WhyNot limits p e ends.NoMemory = Unit {0}
 WhyNot limits p e _ = ⊥
 

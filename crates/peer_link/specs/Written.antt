@@ -1,5 +1,5 @@
 -- A peer's writer on its way
-use Rattle.std.specs.Prelude.{◌≡◌, ◌⊎◌, ℕ, ◌≤◌, List, [], length, map, sum, Option, Some, Result, Ok, Err}
+use Rattle.std.specs.Prelude.{◌≡◌, ◌⊎◌, ℕ, ◌≤◌, List, [], length, map, sum, Bool, false, Option, Some, Result, Ok, Err}
 use Rattle.std.specs.List.{AllByRecursion}
 use Rattle.std.specs.Io.KnownBytes.{Appends}
 use Rattle.seat_steps.specs.declared.limits.Limits.{Limits}
@@ -10,13 +10,17 @@ use Rattle.broker_model.specs.Out.{Outgoing}
 use Rattle.broker_core.specs.Taking.{out_at}
 use Rattle.desc_frame.specs.Frames.{spelling}
 use Rattle.hub_lock.specs.Passes.{PeerPass}
+use Rattle.peer_link.specs.declared.ends.TakeEnd.{TakeEnd}
 use Rattle.peer_link.specs.declared.ends.WriteEnd.{WriteEnd}
+use Rattle.peer_link.specs.declared.ends.WriteEnd.TheVariants as ends
 use Rattle.peer_link.specs.Made.{entries_by, journal_of}
-use Rattle.peer_link.specs.WritesPeer.{frames_of, WritesPeer}
+use Rattle.peer_link.specs.Gains.{GainsUpToCut}
+use Rattle.peer_link.specs.WritesPeer.{frames_of, is_cut, WritesPeer}
 
--- the takes so far: what they took is all that was taken of what is out for the peer, and was
--- written in frames
-pub record Written (limits : Limits) (pass : PeerPass) (held now : Option (List ℕ)) : Type 0 where
+-- the takes so far: what they took is all that was taken of what is out for the peer, and this was
+-- gained of their frames
+pub record HasTaken (limits : Limits) (pass : PeerPass)
+    (Gained : List (List ℕ) → Type 0) : Type 0 where
   pub sizes : List ℕ
   pub each : AllByRecursion (IsWithin 4096) sizes
   pub takes : entries_by pass.seat ≡ map (λ n. entries.Took pass.peer n) sizes
@@ -24,15 +28,31 @@ pub record Written (limits : Limits) (pass : PeerPass) (held now : Option (List 
   pub queued : out_at limits.store (journal_of limits pass.seat.seen) pass.peer ≡ Some out
   pub front : sum sizes ≤ length out.put.bytes
   pub taken : out.taken ≡ sum sizes
-  pub gained : Appends held now (joined (map spelling (frames_of out.put sizes)))
+  pub gained : Gained (map spelling (frames_of out.put sizes))
 
--- nothing was taken yet, or so it is
+-- nothing was taken yet, or each take was written
 abbrev pub Writing : Limits → PeerPass → (held now : Option (List ℕ)) → Type 0
 Writing limits pass held now =
-    ((entries_by pass.seat ≡ []) × Appends held now []) ⊎ Written limits pass held now
+    ((entries_by pass.seat ≡ []) × Appends held now [])
+    ⊎ HasTaken limits pass (λ pieces. Appends held now (joined pieces))
+
+-- a write failed, and since then nothing was written
+abbrev pub Draining : Limits → PeerPass → (held now : Option (List ℕ)) → Type 0
+Draining limits pass held now = HasTaken limits pass (GainsUpToCut held now)
 
 -- it goes on, or has ended
 abbrev pub WritesOn : Limits → PeerPass → (held now : Option (List ℕ)) →
     Result (Unit {0}) WriteEnd → Type 0
 WritesOn limits pass held now (Ok done) = Writing limits pass held now
 WritesOn limits pass held now (Err end) = WritesPeer limits pass held now end
+
+-- the same after a failed write
+abbrev pub DrainsOn : Limits → PeerPass → (held now : Option (List ℕ)) →
+    Result (Unit {0}) TakeEnd → Type 0
+DrainsOn limits pass held now (Ok done) = Draining limits pass held now
+DrainsOn limits pass held now (Err end) = WritesPeer limits pass held now (ends.WriteFault end)
+
+-- a write failed
+abbrev pub has_failed : Result (Unit {0}) WriteEnd → Bool
+has_failed (Ok done) = false
+has_failed (Err end) = is_cut end

@@ -53,6 +53,7 @@ pub(crate) fn write_answer<K: Sink>(
     ensures quiet { StaysQuiet (K.held sink.old) (K.held sink.new) }
     ensures never_falls { K.fault_count sink.old ≤ K.fault_count sink.new }
     ensures cause { OnErr result (Rose (K.fault_count sink.old) (K.fault_count sink.new)) }
+    ensures no_fault { OnOk result (K.fault_count sink.new ≡ K.fault_count sink.old) }
 {
     let mut room = [0; ROOM];
     let size = spell(&mut room, entry, route);

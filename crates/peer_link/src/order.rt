@@ -1,5 +1,5 @@
 //! The orders of a shell's link, one a line.
-ghost use Rattle.std.specs.Prelude.{◌≡◌, ◌≤◌, ◌++◌, ℕ, List, IfOk, IfErr, OnSome, Err};
+ghost use Rattle.std.specs.Prelude.{◌≡◌, ◌≢◌, ◌≤◌, ◌++◌, ℕ, List, IfOk, IfErr, OnSome, Err};
 ghost use Rattle.wio_core.specs.Io.{Rose, StaysQuiet};
 ghost use Rattle.wio_core.specs.Lines.{TookFrom};
 ghost use Rattle.seat_steps.specs.Ranges.{IsShellStep};
@@ -53,6 +53,8 @@ pub(crate) fn read_order<S: Source>(
     ensures never_falls { S.fault_count source.old ≤ S.fault_count source.new }
     ensures cause { result ≡ Err ShellEnd.ReadFault
         → Rose (S.fault_count source.old) (S.fault_count source.new) }
+    ensures no_fault { result ≢ Err ShellEnd.ReadFault
+        → S.fault_count source.new ≡ S.fault_count source.old }
 {
     match reader.next(source) {
         NextLine::Line(line) => order_of(alloc, line, number),

@@ -1,5 +1,5 @@
 //! The reading of a peer's link.
-ghost use Rattle.std.specs.Prelude.{◌≡◌, ◌≤◌, ℕ, List, Option, None, Err};
+ghost use Rattle.std.specs.Prelude.{◌≡◌, ◌≢◌, ◌≤◌, ℕ, List, Option, None, Err};
 ghost use Rattle.wio_core.specs.Io.{Rose, StaysQuiet};
 ghost use Rattle.wio_core.specs.Lines.{TookFrom};
 ghost use Rattle.wl_wire.specs.Messages.{bad_size_at};
@@ -8,7 +8,7 @@ ghost use Rattle.turn_lock.specs.Pairs.{NoneOf};
 ghost use Rattle.hub_lock.specs.Passes.{IsOf};
 ghost use Rattle.hub_lock.specs.Calls.{pass_having_seen};
 ghost use Rattle.peer_link.specs.Made.{SawMore};
-ghost use Rattle.peer_link.specs.ReadsPeer.{ReadsPeer};
+ghost use Rattle.peer_link.specs.ReadsPeer.{ReadsPeer, TellsNoFault};
 ghost use Rattle.peer_link.specs.ReadsFrame.{ReadsFrame, ReadsLink};
 
 use crate::ends::ReadEnd;
@@ -48,6 +48,8 @@ fn read_frame<R: Wait, S: Source, G: Gate>(
     ensures never_falls { S.fault_count source.old ≤ S.fault_count source.new }
     ensures cause { result ≡ Err ReadEnd.ReadFault
         → Rose (S.fault_count source.old) (S.fault_count source.new) }
+    ensures no_fault { result ≢ Err ReadEnd.ReadFault
+        → S.fault_count source.new ≡ S.fault_count source.old }
 {
     let mut reader = FrameReader::new();
     match reader.next(source, bytes, tokens) {
@@ -84,6 +86,8 @@ fn read_frames<R: Wait, S: Source, G: Gate>(
     ensures never_falls { S.fault_count source.old ≤ S.fault_count source.new }
     ensures cause { result ≡ ReadEnd.ReadFault
         → Rose (S.fault_count source.old) (S.fault_count source.new) }
+    ensures no_fault { result ≢ ReadEnd.ReadFault
+        → S.fault_count source.new ≡ S.fault_count source.old }
 {
     let mut cutter = match Cutter::new(alloc) {
         Ok(cutter) => cutter,
@@ -124,6 +128,7 @@ fn say_gone<R: Wait, G: Gate>(
         → ReadsLink hub.now.limits pass.old read left end
         → ReadsPeer hub.now.limits pass.new read left result }
     ensures cause { result ≡ ReadEnd.ReadFault → end ≡ ReadEnd.ReadFault }
+    ensures no_fault { TellsNoFault result → end ≢ ReadEnd.ReadFault }
 {
     if let ReadEnd::Ended(_) = end {
         return end;
@@ -164,6 +169,8 @@ pub fn read_peer<R: Wait, S: Source, G: Gate>(
     ensures never_falls { S.fault_count source.old ≤ S.fault_count source.new }
     ensures cause { result ≡ ReadEnd.ReadFault
         → Rose (S.fault_count source.old) (S.fault_count source.new) }
+    ensures no_fault { TellsNoFault result
+        → S.fault_count source.new ≡ S.fault_count source.old }
 {
     let end = read_frames(rt, alloc, hub, pass, source, gate);
     say_gone(rt, hub, pass, gate, end)

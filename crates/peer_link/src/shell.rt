@@ -1,5 +1,5 @@
 //! The link of a shell.
-ghost use Rattle.std.specs.Prelude.{◌≡◌, ◌≤◌, ◌<◌, ◌^◌, ℕ, List, Option, OnOk, Err};
+ghost use Rattle.std.specs.Prelude.{◌≡◌, ◌≢◌, ◌≤◌, ◌<◌, ◌^◌, ℕ, List, Option, OnOk, Err};
 ghost use Rattle.wio_core.specs.Io.{Rose, StaysQuiet};
 ghost use Rattle.wio_core.specs.Lines.{TookFrom};
 ghost use Rattle.turn_lock.specs.Pairs.{NoneOf};
@@ -49,6 +49,10 @@ fn serve_line<R: Wait, S: Source, K: Sink>(
         → Rose (S.fault_count source.old) (S.fault_count source.new) }
     ensures write_fault { result ≡ Err ShellEnd.WriteFault
         → Rose (K.fault_count sink.old) (K.fault_count sink.new) }
+    ensures no_read_fault { result ≢ Err ShellEnd.ReadFault
+        → S.fault_count source.new ≡ S.fault_count source.old }
+    ensures no_write_fault { result ≢ Err ShellEnd.WriteFault
+        → K.fault_count sink.new ≡ K.fault_count sink.old }
 {
     let number = pass.steps() + 1;
     let step = read_order(alloc, reader, source, number)?;
@@ -93,6 +97,10 @@ pub fn read_shell<R: Wait, S: Source, K: Sink>(
         → Rose (S.fault_count source.old) (S.fault_count source.new) }
     ensures write_fault { result ≡ ShellEnd.WriteFault
         → Rose (K.fault_count sink.old) (K.fault_count sink.new) }
+    ensures no_read_fault { result ≢ ShellEnd.ReadFault
+        → S.fault_count source.new ≡ S.fault_count source.old }
+    ensures no_write_fault { result ≢ ShellEnd.WriteFault
+        → K.fault_count sink.new ≡ K.fault_count sink.old }
 {
     let mut reader = match LineReader::new(alloc, None) {
         Ok(reader) => reader,

@@ -1,22 +1,23 @@
 //! The writing to a peer's link.
-ghost use Rattle.std.specs.Prelude.{◌≡◌, ◌≤◌, ℕ, List, Option, Some, Err};
+ghost use Rattle.std.specs.Prelude.{◌≡◌, ◌≤◌, ℕ, true, false, List, Option, Some};
 ghost use Rattle.wio_core.specs.Io.{Rose, StaysQuiet};
 ghost use Rattle.turn_lock.specs.Pairs.{NoneOf};
 ghost use Rattle.hub_lock.specs.Histories.{writer_of};
 ghost use Rattle.hub_lock.specs.Passes.{IsOf};
 ghost use Rattle.hub_lock.specs.Calls.{pass_having_seen};
 ghost use Rattle.peer_link.specs.Made.{SawMore};
-ghost use Rattle.peer_link.specs.WritesPeer.{WritesPeer};
-ghost use Rattle.peer_link.specs.Written.{Writing, WritesOn};
+ghost use Rattle.peer_link.specs.WritesPeer.{is_cut, WritesPeer};
+ghost use Rattle.peer_link.specs.Written.{Writing, WritesOn, has_failed};
 
 use crate::ends::WriteEnd;
+use crate::taking::take_rest;
 use broker_core::Took;
 use desc_frame::FrameWriter;
 use hub_lock::{Hub, WriterPass};
 use std::sync::Wait;
 use wio_core::{Failed, Sink};
 
-// Takes once, and writes it as a frame.
+// Takes once, and writes it as a frame. Where the write fails, it takes all that is still to come.
 fn write_next<R: Wait, K: Sink>(
     rt: &R,
     hub: &Hub,
@@ -34,13 +35,15 @@ fn write_next<R: Wait, K: Sink>(
         → WritesOn hub.now.limits pass.new held (K.held sink.new) result }
     ensures quiet { StaysQuiet (K.held sink.old) (K.held sink.new) }
     ensures never_falls { K.fault_count sink.old ≤ K.fault_count sink.new }
-    ensures cause { result ≡ Err WriteEnd.WriteFault
+    ensures cause { has_failed result ≡ true
         → Rose (K.fault_count sink.old) (K.fault_count sink.new) }
+    ensures no_fault { has_failed result ≡ false
+        → K.fault_count sink.new ≡ K.fault_count sink.old }
 {
     match hub.wait_take(rt, pass, bytes, tokens) {
         Took::Bytes(n, t) => match FrameWriter::put(sink, &bytes[..n], &tokens[..t]) {
             Ok(()) => Ok(()),
-            Err(Failed) => Err(WriteEnd::WriteFault),
+            Err(Failed) => Err(WriteEnd::WriteFault(take_rest(rt, hub, pass, bytes, tokens))),
         },
         Took::Closed => Err(WriteEnd::Closed),
         Took::JournalFull(kept) => Err(WriteEnd::JournalFull(kept)),
@@ -50,11 +53,16 @@ fn write_next<R: Wait, K: Sink>(
 }
 
 /// Takes what is stored for the pass's peer, as it comes, and writes what each take gave as one
-/// frame.
+/// frame. Once a write failed it goes on taking, so that nothing stays stored for a peer that
+/// nobody hears, and writes nothing more.
 ///
-/// `Closed` comes where the peer has ended and all was taken, `WriteFault` where a write failed,
-/// `JournalFull` where the journal was full for a take; `NoMemory` may come at any take.
-/// (Wait: it promises what it does if it returns.)
+/// `Closed` comes where the peer has ended and all was taken, `JournalFull` where the journal was
+/// full for a take; `NoMemory` may come at any take. Where a write failed, `WriteFault` says which
+/// of these the taking came to.
+///
+/// It returns no earlier than that, also after a failed write: whoever can't write to a link any
+/// more has to see to it that the peer ends, as by a sink that hangs up where a write fails, so
+/// that the link's reader comes to its end. (Wait: it promises what it does if it returns.)
 pub fn write_peer<R: Wait, K: Sink>(
     rt: &R,
     hub: &Hub,
@@ -69,8 +77,10 @@ pub fn write_peer<R: Wait, K: Sink>(
         (K.held sink.old) (K.held sink.new) result }
     ensures quiet { StaysQuiet (K.held sink.old) (K.held sink.new) }
     ensures never_falls { K.fault_count sink.old ≤ K.fault_count sink.new }
-    ensures cause { result ≡ WriteEnd.WriteFault
+    ensures cause { is_cut result ≡ true
         → Rose (K.fault_count sink.old) (K.fault_count sink.new) }
+    ensures no_fault { is_cut result ≡ false
+        → K.fault_count sink.new ≡ K.fault_count sink.old }
 {
     // Whose writer the pass is, its contract tells with the number.
     let _ = pass.peer();

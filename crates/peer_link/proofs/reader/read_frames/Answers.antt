@@ -1,4 +1,4 @@
-use Rattle.std.proofs.Common.{◌++◌, [], refl, sym, ap, subst, arith}
+use Rattle.std.proofs.Common.{◌++◌, ◌∙◌, [], refl, sym, ap, subst, arith}
 use Rattle.wio_core.proofs.ReadsTogether.{TookFrom-both}
 use Rattle.wl_wire.specs.Messages.{bad_size_at}
 use Rattle.wl_wire.specs.Streams.{Assembly, begun}
@@ -31,6 +31,7 @@ loop-init g c = record {
   given_quiet = λ e. e;
   left_quiet = λ e. e;
   faults = omega arith;
+  no_fault = refl;
 }
 
 pub loop-preserved : goal.loop-preserved
@@ -55,6 +56,7 @@ loop-preserved g c =
       given_quiet = λ n. e.given_quiet (i.given_quiet n);
       left_quiet = λ n. e.left_quiet (i.left_quiet n);
       faults = (let a = i.faults in let b = e.never_falls in omega (arith, a, b));
+      no_fault = e.no_fault (λ x. cc x) ∙ i.no_fault;
     }
 
 pub returns-in-Err-read_frame-clause-reads : goal.returns-in-Err-read_frame-clause-reads

@@ -21,4 +21,5 @@ invariant-loop g l = record {
   given_quiet : StaysQuiet (g.S.Source.given l.initial.source) (g.S.Source.given l.source);
   left_quiet : StaysQuiet (g.S.Source.left l.initial.source) (g.S.Source.left l.source);
   faults : g.S.Source.fault_count l.initial.source ≤ g.S.Source.fault_count l.source;
+  no_fault : g.S.Source.fault_count l.source ≡ g.S.Source.fault_count l.initial.source;
 }

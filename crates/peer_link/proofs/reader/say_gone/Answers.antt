@@ -2,8 +2,9 @@ use Rattle.std.proofs.Common.{sym, subst}
 use Rattle.relay_model.specs.declared.act.EndCause.TheVariants.{Gone}
 use Rattle.broker_model.specs.declared.journal.Entry.TheVariants as entries
 use Rattle.peer_link.specs.declared.ends.ReadEnd.{ReadEnd}
+use Rattle.peer_link.specs.declared.ends.ReadEnd.TheVariants as ends
 use Rattle.peer_link.specs.Submits.{IsGoneRefusal}
-use Rattle.peer_link.specs.ReadsPeer.{ReadsPeer}
+use Rattle.peer_link.specs.ReadsPeer.{ReadsPeer, TellsNoFault}
 use Rattle.peer_link.specs.ReadsFrame.{ReadsLink}
 use Rattle.peer_link.proofs.FramesRead.{ended-reads, gone-said, gone-refused}
 use Rattle.peer_link.proofs.reader.say_gone.Goals as goal
@@ -24,6 +25,20 @@ pub returns-in-Err-clause-reads : goal.returns-in-Err-clause-reads
 returns-in-Err-clause-reads g c = λ read left r.
     gone-refused c.args.hub.now.limits c.args.pass.now c.submit_step.new.pass read left c.args.end c.in-Err.other
     (entries.End c.args.pass.now.peer Gone) c.submit_step.ensures.pass c.in-Err.ensures.made c.in-Err.ensures.refusal r
+
+-- who has ended may have a read that failed
+told_gone : (end : ReadEnd) → IsGoneRefusal end → TellsNoFault end → ⊥
+told_gone (ends.Ended cause) refusal told = told
+told_gone _ refusal told = refusal
+
+pub returns-in-Ended-clause-no_fault : goal.returns-in-Ended-clause-no_fault
+returns-in-Ended-clause-no_fault g c = λ told e. subst TellsNoFault c.in-Ended.is told
+
+pub returns-in-Ok-clause-no_fault : goal.returns-in-Ok-clause-no_fault
+returns-in-Ok-clause-no_fault g c = λ told e. subst TellsNoFault e told
+
+pub returns-in-Err-clause-no_fault : goal.returns-in-Err-clause-no_fault
+returns-in-Err-clause-no_fault g c = λ told e. told_gone c.in-Err.other c.in-Err.ensures.refusal told
 
 pub returns-in-Err-clause-cause : goal.returns-in-Err-clause-cause
 returns-in-Err-clause-cause g c = λ e. absurd (subst IsGoneRefusal e c.in-Err.ensures.refusal)

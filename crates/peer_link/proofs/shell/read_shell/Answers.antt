@@ -1,4 +1,4 @@
-use Rattle.std.proofs.Common.{[], refl, sym, subst, arith}
+use Rattle.std.proofs.Common.{◌∙◌, [], refl, sym, subst, arith}
 use Rattle.hub_lock.specs.Passes.{IsOf, PassSeat}
 use Rattle.peer_link.proofs.StepsMade.{saw-none, saw-both, seat-both}
 use Rattle.peer_link.proofs.ShellServed.{took-none, nothing-read, serving-begins, can-begin, few-begun}
@@ -29,6 +29,8 @@ loop-init g c = record {
   held_quiet = λ e. e;
   reads = omega arith;
   writes = omega arith;
+  no_read_fault = refl;
+  no_write_fault = refl;
 }
 
 pub loop-preserved : goal.loop-preserved
@@ -48,6 +50,8 @@ loop-preserved g c =
       held_quiet = λ n. e.held_quiet (i.held_quiet n);
       reads = (let a = i.reads in let b = e.reads_never_fall in omega (arith, a, b));
       writes = (let a = i.writes in let b = e.writes_never_fall in omega (arith, a, b));
+      no_read_fault = e.no_read_fault (λ x. cc x) ∙ i.no_read_fault;
+      no_write_fault = e.no_write_fault (λ x. cc x) ∙ i.no_write_fault;
     }
 
 pub returns-in-Err-serve_line-clause-law : goal.returns-in-Err-serve_line-clause-law

@@ -24,4 +24,6 @@ invariant-loop g l = record {
   held_quiet : StaysQuiet (g.K.Sink.held l.initial.sink) (g.K.Sink.held l.sink);
   reads : g.S.Source.fault_count l.initial.source ≤ g.S.Source.fault_count l.source;
   writes : g.K.Sink.fault_count l.initial.sink ≤ g.K.Sink.fault_count l.sink;
+  no_read_fault : g.S.Source.fault_count l.source ≡ g.S.Source.fault_count l.initial.source;
+  no_write_fault : g.K.Sink.fault_count l.sink ≡ g.K.Sink.fault_count l.initial.sink;
 }

@@ -13,7 +13,7 @@ returns-in-Ok-clause-saw g c =
 pub returns-in-Ok-clause-made : goal.returns-in-Ok-clause-made
 returns-in-Ok-clause-made g c =
     submitted c.args.hub.now.limits c.args.pass.now c.submit_gated.new.pass c.args.step.now (Ok c.in-Ok.field-0)
-    c.in-Ok.ensures.pass c.in-Ok.ensures.joined c.in-Ok.ensures.legal
+    c.requires.step c.in-Ok.ensures.pass c.in-Ok.ensures.joined c.in-Ok.ensures.legal
 
 pub returns-in-Ok-clause-ended : goal.returns-in-Ok-clause-ended
 returns-in-Ok-clause-ended g c =
@@ -30,7 +30,7 @@ pub returns-in-Err-Ended-clause-made : goal.returns-in-Err-Ended-clause-made
 returns-in-Err-Ended-clause-made g c =
     submitted c.args.hub.now.limits c.args.pass.now c.submit_gated.new.pass c.args.step.now
     (Err (refusals.Ended c.in-Err-Ended.cause))
-    c.in-Err-Ended.ensures.pass (rw c.in-Err-Ended.field-0-is at c.in-Err-Ended.ensures.joined)
+    c.requires.step c.in-Err-Ended.ensures.pass (rw c.in-Err-Ended.field-0-is at c.in-Err-Ended.ensures.joined)
     (rw c.in-Err-Ended.field-0-is at c.in-Err-Ended.ensures.legal)
 
 pub returns-in-Err-Ended-clause-refusal : goal.returns-in-Err-Ended-clause-refusal
@@ -50,7 +50,7 @@ pub returns-in-Err-JournalFull-clause-made : goal.returns-in-Err-JournalFull-cla
 returns-in-Err-JournalFull-clause-made g c =
     submitted c.args.hub.now.limits c.args.pass.now c.submit_gated.new.pass c.args.step.now
     (Err (refusals.JournalFull c.in-Err-JournalFull.kept))
-    c.in-Err-JournalFull.ensures.pass (rw c.in-Err-JournalFull.field-0-is at c.in-Err-JournalFull.ensures.joined)
+    c.requires.step c.in-Err-JournalFull.ensures.pass (rw c.in-Err-JournalFull.field-0-is at c.in-Err-JournalFull.ensures.joined)
     (rw c.in-Err-JournalFull.field-0-is at c.in-Err-JournalFull.ensures.legal)
 
 pub returns-in-Err-JournalFull-clause-refusal : goal.returns-in-Err-JournalFull-clause-refusal
@@ -68,7 +68,7 @@ returns-in-Err-NoMemory-clause-saw g c =
 pub returns-in-Err-NoMemory-clause-made : goal.returns-in-Err-NoMemory-clause-made
 returns-in-Err-NoMemory-clause-made g c =
     submitted c.args.hub.now.limits c.args.pass.now c.submit_gated.new.pass c.args.step.now (Err refusals.NoMemory)
-    c.in-Err-NoMemory.ensures.pass (rw c.in-Err-NoMemory.field-0-is at c.in-Err-NoMemory.ensures.joined)
+    c.requires.step c.in-Err-NoMemory.ensures.pass (rw c.in-Err-NoMemory.field-0-is at c.in-Err-NoMemory.ensures.joined)
     (rw c.in-Err-NoMemory.field-0-is at c.in-Err-NoMemory.ensures.legal)
 
 pub returns-in-Err-NoMemory-clause-refusal : goal.returns-in-Err-NoMemory-clause-refusal

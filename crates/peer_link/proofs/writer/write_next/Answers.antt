@@ -1,58 +1,64 @@
-use Rattle.std.proofs.Common.{rules}
-use Rattle.peer_link.proofs.StepsMade.{saw-legal}
-use Rattle.peer_link.proofs.TakesWritten.{closes, fills, lacks, one-more, wrote, wrote-part}
+use Rattle.std.proofs.Common.{rules, sym, subst}
+use Rattle.hub_lock.specs.Passes.{IsOf, PeerPass}
+use Rattle.peer_link.proofs.StepsMade.{saw-legal, saw-both, pass-both}
+use Rattle.peer_link.proofs.TakesWritten.{closes, fills, lacks, wrote, wrote-part, writes-on}
 use Rattle.peer_link.proofs.writer.write_next.Goals as goal
 
 pub returns-in-Ok-clause-writes_on : goal.returns-in-Ok-clause-writes_on
 returns-in-Ok-clause-writes_on g c = λ held s.
-    let m = one-more c.args.hub.now.limits c.args.pass.now c.wait_take.new.pass held
-    (g.K.Sink.held c.args.sink.now) c.args.bytes.now c.args.tokens.now
+    wrote c.args.hub.now.limits c.args.pass.now c.wait_take.new.pass c.args.bytes.now c.args.tokens.now
     c.wait_take.new.buf c.wait_take.new.tokens c.wait_take.result c.wait_take.ensures.pass c.requires.writes
     c.wait_take.ensures.legal
-    c.in-Bytes.n c.in-Bytes.t c.in-Bytes.is (search rules) s in
-    wrote c.args.hub.now.limits c.args.pass.now c.wait_take.new.pass held
-    (g.K.Sink.held c.args.sink.now) c.args.bytes.now c.args.tokens.now
-    c.wait_take.new.buf c.wait_take.new.tokens c.wait_take.result c.wait_take.ensures.pass c.requires.writes
-    c.wait_take.ensures.legal
-    c.in-Bytes.n c.in-Bytes.t (g.K.Sink.held c.put.new.sink) m c.in-Ok.ensures.whole
+    held (g.K.Sink.held c.args.sink.now) (g.K.Sink.held c.put.new.sink) c.in-Bytes.n c.in-Bytes.t c.in-Bytes.is
+    (search rules) s c.in-Ok.ensures.whole
 
 pub returns-in-Err-clause-writes_on : goal.returns-in-Err-clause-writes_on
 returns-in-Err-clause-writes_on g c = λ held s.
-    let m = one-more c.args.hub.now.limits c.args.pass.now c.wait_take.new.pass held
-    (g.K.Sink.held c.args.sink.now) c.args.bytes.now c.args.tokens.now
+    let cut = c.in-Err.ensures.prefix in
+    c.take_rest.ensures.drained held (g.K.Sink.held c.put.new.sink)
+    (wrote-part c.args.hub.now.limits c.args.pass.now c.wait_take.new.pass c.args.bytes.now c.args.tokens.now
     c.wait_take.new.buf c.wait_take.new.tokens c.wait_take.result c.wait_take.ensures.pass c.requires.writes
     c.wait_take.ensures.legal
-    c.in-Bytes.n c.in-Bytes.t c.in-Bytes.is (search rules) s in
-    wrote-part c.args.hub.now.limits c.args.pass.now c.wait_take.new.pass held
-    (g.K.Sink.held c.args.sink.now) c.args.bytes.now c.args.tokens.now
-    c.wait_take.new.buf c.wait_take.new.tokens c.wait_take.result c.wait_take.ensures.pass c.requires.writes
-    c.wait_take.ensures.legal
-    c.in-Bytes.n c.in-Bytes.t (g.K.Sink.held c.put.new.sink) c.in-Err.ensures.prefix.0 m c.in-Err.ensures.prefix.1
-    c.in-Err.ensures.prefix.2
+    held (g.K.Sink.held c.args.sink.now) (g.K.Sink.held c.put.new.sink) c.in-Bytes.n c.in-Bytes.t cut.0 c.in-Bytes.is
+    (search rules) s cut.1 cut.2)
 
 pub returns-in-Closed-clause-writes_on : goal.returns-in-Closed-clause-writes_on
 returns-in-Closed-clause-writes_on g c = λ held s.
-    closes c.args.hub.now.limits c.args.pass.now c.wait_take.new.pass held
-    (g.K.Sink.held c.args.sink.now) c.args.bytes.now c.args.tokens.now
+    closes c.args.hub.now.limits c.args.pass.now c.wait_take.new.pass c.args.bytes.now c.args.tokens.now
     c.wait_take.new.buf c.wait_take.new.tokens c.wait_take.result c.wait_take.ensures.pass c.requires.writes
     c.wait_take.ensures.legal
-    c.in-Closed.is s
+    held (g.K.Sink.held c.args.sink.now) c.in-Closed.is s
 
 pub returns-in-JournalFull-clause-writes_on : goal.returns-in-JournalFull-clause-writes_on
 returns-in-JournalFull-clause-writes_on g c = λ held s.
-    fills c.args.hub.now.limits c.args.pass.now c.wait_take.new.pass held
-    (g.K.Sink.held c.args.sink.now) c.args.bytes.now c.args.tokens.now
+    fills c.args.hub.now.limits c.args.pass.now c.wait_take.new.pass c.args.bytes.now c.args.tokens.now
     c.wait_take.new.buf c.wait_take.new.tokens c.wait_take.result c.wait_take.ensures.pass c.requires.writes
     c.wait_take.ensures.legal
-    c.in-JournalFull.kept c.in-JournalFull.is s
+    held (g.K.Sink.held c.args.sink.now) c.in-JournalFull.kept c.in-JournalFull.is s
 
 pub returns-in-NoMemory-clause-writes_on : goal.returns-in-NoMemory-clause-writes_on
 returns-in-NoMemory-clause-writes_on g c = λ held s.
-    lacks c.args.hub.now.limits c.args.pass.now c.wait_take.new.pass held
-    (g.K.Sink.held c.args.sink.now) c.args.bytes.now c.args.tokens.now
+    lacks c.args.hub.now.limits c.args.pass.now c.wait_take.new.pass c.args.bytes.now c.args.tokens.now
     c.wait_take.new.buf c.wait_take.new.tokens c.wait_take.result c.wait_take.ensures.pass c.requires.writes
     c.wait_take.ensures.legal
-    c.in-NoMemory.is s
+    held (g.K.Sink.held c.args.sink.now) c.in-NoMemory.is s
+
+-- after a failed write the pass is still its peer's writer
+
+pub take_rest-requires-clause-own : goal.take_rest-requires-clause-own
+take_rest-requires-clause-own g c =
+    subst (λ (p : PeerPass). IsOf c.args.hub.now p.seat) (sym c.wait_take.ensures.pass) c.requires.own
+
+pub take_rest-requires-clause-writes : goal.take_rest-requires-clause-writes
+take_rest-requires-clause-writes g c =
+    writes-on c.args.hub.now.limits c.args.pass.now c.wait_take.new.pass c.wait_take.ensures.pass
+    (saw-legal c.args.hub.now.limits c.args.pass.now.seat c.wait_take.new.pass.seat.seen _ c.wait_take.ensures.legal)
+    c.requires.writes
+
+pub returns-in-Err-clause-pass : goal.returns-in-Err-clause-pass
+returns-in-Err-clause-pass g c =
+    pass-both c.args.pass.now c.wait_take.new.pass c.take_rest.new.pass c.wait_take.ensures.pass
+    c.take_rest.ensures.pass
 
 pub returns-in-Ok-clause-saw : goal.returns-in-Ok-clause-saw
 returns-in-Ok-clause-saw g c =
@@ -60,7 +66,10 @@ returns-in-Ok-clause-saw g c =
 
 pub returns-in-Err-clause-saw : goal.returns-in-Err-clause-saw
 returns-in-Err-clause-saw g c =
-    saw-legal c.args.hub.now.limits c.args.pass.now.seat c.wait_take.new.pass.seat.seen _ c.wait_take.ensures.legal
+    saw-both c.args.hub.now.limits c.args.pass.now.seat.seen c.wait_take.new.pass.seat.seen
+    c.take_rest.new.pass.seat.seen
+    (saw-legal c.args.hub.now.limits c.args.pass.now.seat c.wait_take.new.pass.seat.seen _ c.wait_take.ensures.legal)
+    c.take_rest.ensures.saw
 
 pub returns-in-Closed-clause-saw : goal.returns-in-Closed-clause-saw
 returns-in-Closed-clause-saw g c =

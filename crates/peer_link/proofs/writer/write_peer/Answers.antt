@@ -1,4 +1,4 @@
-use Rattle.std.proofs.Common.{refl, sym, subst, inl, arith}
+use Rattle.std.proofs.Common.{◌∙◌, refl, sym, subst, inl, arith}
 use Rattle.std.proofs.KnownBytes.{Appends-nil}
 use Rattle.hub_lock.specs.Passes.{IsOf, PeerPass}
 use Rattle.peer_link.proofs.StepsMade.{saw-none, saw-both, pass-both}
@@ -13,6 +13,7 @@ loop-init g c = record {
   writes = inl (entries-none c.args.pass.now.seat c.requires.fresh, Appends-nil (g.K.Sink.held c.args.sink.now));
   quiet = λ e. e;
   faults = omega arith;
+  no_fault = refl;
 }
 
 pub write_next-requires-clause-own : goal.write_next-requires-clause-own
@@ -34,6 +35,7 @@ loop-preserved g c =
       writes = e.writes_on (g.K.Sink.held c.args.sink.now) i.writes;
       quiet = λ n. e.quiet (i.quiet n);
       faults = (let a = i.faults in let b = e.never_falls in omega (arith, a, b));
+      no_fault = e.no_fault refl ∙ i.no_fault;
     }
 
 pub returns-in-Err-clause-pass : goal.returns-in-Err-clause-pass

@@ -13,4 +13,5 @@ invariant-loop g l = record {
   writes : Writing l.hub.limits l.pass (g.K.Sink.held l.initial.sink) (g.K.Sink.held l.sink);
   quiet : StaysQuiet (g.K.Sink.held l.initial.sink) (g.K.Sink.held l.sink);
   faults : g.K.Sink.fault_count l.initial.sink ≤ g.K.Sink.fault_count l.sink;
+  no_fault : g.K.Sink.fault_count l.sink ≡ g.K.Sink.fault_count l.initial.sink;
 }
