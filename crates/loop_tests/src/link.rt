@@ -3,11 +3,12 @@ ghost use Rattle.std.specs.Prelude.{◌≡◌, ◌<◌};
 ghost use Rattle.turn_lock.specs.Pairs.{NoneOf};
 ghost use Rattle.hub_lock.specs.Passes.{IsOf};
 
+use broker_core::Took;
 use hub_lock::{Gate, Hub, HubPass, ReaderPass, WriterPass};
 use peer_link::{ReadEnd, WriteEnd, read_peer, write_peer};
 use relay_model::Role;
 use seat_steps::{FORM_1_WEIGHT, Limits};
-use std::alloc::Global;
+use std::alloc::{AllocError, Global};
 use std::sync::Wait;
 use wio_core::{MemSource, Sink, Source};
 
@@ -23,6 +24,16 @@ const MANY: u64 = 1 << 32;
 
 /// A frame with one message: the peer asks for its registry, and 112 bytes are then stored for it.
 pub const ASK: [u8; 16] = [12, 0, 0, 0, 1, 0, 0, 0, 1, 0, 12, 0, 2, 0, 0, 0];
+
+/// So many frames like `ASK`, the ids from 2 on: 112 bytes are then stored for each.
+pub fn asks(alloc: Global, count: u32) -> Result<Vec<u8>, AllocError> {
+    let mut bytes = Vec::new(alloc);
+    for id in 2..count.saturating_add(2) {
+        bytes.extend_from_slice(&ASK[..12])?;
+        bytes.extend_from_slice(&id.to_le_bytes())?;
+    }
+    Ok(bytes)
+}
 
 /// Holds nobody.
 pub struct Open;
@@ -110,4 +121,17 @@ pub fn read_all<R: Wait, G: Gate>(
 pub fn write_all<R: Wait, K: Sink>(rt: &R, writes: Writes<'_>, sink: &mut K) -> WriteEnd {
     let Writes { hub, mut pass } = writes;
     write_peer(rt, hub, &mut pass, sink)
+}
+
+/// The same: how that ended, how many bytes were taken, and what one take more answers.
+pub fn write_and_take<R: Wait, K: Sink>(
+    rt: &R,
+    writes: Writes<'_>,
+    sink: &mut K,
+) -> (WriteEnd, u64, Took) {
+    let Writes { hub, mut pass } = writes;
+    let end = write_peer(rt, hub, &mut pass, sink);
+    let taken = pass.bytes();
+    let took = hub.take(rt, &mut pass, &mut [0; 4096], &mut [0; 256]);
+    (end, taken, took)
 }

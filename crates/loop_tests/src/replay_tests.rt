@@ -4,7 +4,7 @@ ghost use Rattle.std.specs.Prelude.{◌≡◌};
 ghost use Rattle.hub_lock.specs.Passes.{IsOf};
 
 use crate::equal::equal;
-use crate::link::{LIMITS, Link, Open, Reads, Writes, join as join_hub, read_all, write_all};
+use crate::link::{LIMITS, Link, Open, Reads, Writes, asks, join as join_hub, read_all, write_all};
 use crate::replay::replay;
 use broker_model::{Entry, Journal};
 use hub_lock::{Hub, HubPass};
@@ -23,19 +23,9 @@ const MESSAGES: u32 = 100;
 /// What the peer is told each time, in bytes.
 const TOLD: usize = 112;
 
-// A frame for each message: the peer asks for its registry under one id after the other.
-fn frames(alloc: Global) -> Result<Vec<u8>, AllocError> {
-    let mut bytes = Vec::new(alloc);
-    for id in 2..MESSAGES + 2 {
-        bytes.extend_from_slice(&[12, 0, 0, 0, 1, 0, 0, 0, 1, 0, 12, 0])?;
-        bytes.extend_from_slice(&id.to_le_bytes())?;
-    }
-    Ok(bytes)
-}
-
 // Whether the link gave all its frames, and ended.
 fn reads_all<R: Wait>(rt: &R, alloc: Global, reads: Reads<'_>) -> bool {
-    let Ok(bytes) = frames(alloc) else {
+    let Ok(bytes) = asks(alloc, MESSAGES) else {
         return false;
     };
     let (end, _steps) = read_all(rt, alloc, reads, bytes, Vec::new(alloc), &Open);
