@@ -1,22 +1,23 @@
 //! The line of an entry.
-ghost use Rattle.std.specs.Prelude.{◌≡◌, ◌++◌, IfOk, OnOk};
+ghost use Rattle.std.specs.Prelude.{◌≡◌, ◌++◌, length, IfOk, OnOk};
 ghost use Rattle.std.specs.List.{flat_map};
 ghost use Rattle.broker_model.specs.declared.journal.Entry.TheVariants as entries;
-ghost use Rattle.seat_steps.specs.Ranges.{IsStep};
+ghost use Rattle.wl_wire.specs.Messages.{IsBad};
+ghost use Rattle.seat_steps.specs.Ranges.{token_limit, IsBody, IsStep, IsWithin};
+ghost use Rattle.hub_lock.specs.Steps.{FitsLine};
 ghost use Rattle.session_text.specs.Steps.{step_line};
 ghost use Rattle.serve_record.specs.Recorded.{entry_lines};
 ghost use Rattle.serve_record.specs.Lines.{lines_of, FitsIfAny, stamped_text};
 
-use crate::fits::{is_bad_head, is_body, is_shell_step, is_within};
 use broker_model::Entry;
 use relay_model::EndCause;
-use seat_steps::{PeerStep, ShellStep, Stamp, Step, TOKEN_LIMIT, TokenList};
+use seat_steps::{PeerStep, Stamp, Step, TokenList};
 use std::alloc::Global;
 use transcript_text::print_stamped;
 use wio_core::NoMemory;
-use wl_wire::{Bytes, MESSAGE_LIMIT};
+use wl_wire::Bytes;
 
-// A message as a step.
+// A message as a step. `NoMemory` is its one error.
 fn message(
     alloc: Global,
     peer: u32,
@@ -24,57 +25,31 @@ fn message(
     opcode: u16,
     body: &Bytes,
 ) -> Result<Option<Step>, NoMemory>
+    requires { IsBody body.now }
     ensures lines { IfOk result (λ step.
         entry_lines (entries.Message peer id opcode body.now) ≡ lines_of step) }
     ensures fits { IfOk result FitsIfAny }
 {
-    if !is_body(body.as_slice()) {
-        return Err(NoMemory);
-    }
     let body = body.copy(alloc)?;
     Ok(Some(Step::Peer(peer, PeerStep::Message { id, opcode, body })))
 }
 
+// `NoMemory` is its one error.
 fn tokens(alloc: Global, peer: u32, tokens: &TokenList) -> Result<Option<Step>, NoMemory>
+    requires { IsWithin token_limit (length tokens.now) }
     ensures lines { IfOk result (λ step.
         entry_lines (entries.Tokens peer tokens.now) ≡ lines_of step) }
     ensures fits { IfOk result FitsIfAny }
 {
-    if !is_within(TOKEN_LIMIT, tokens.len()) {
-        return Err(NoMemory);
-    }
     Ok(Some(Step::Peer(peer, PeerStep::Tokens(tokens.copy(alloc)?))))
 }
 
-fn bad_size(peer: u32, head: &[u8; 8]) -> Result<Option<Step>, NoMemory>
-    ensures lines { IfOk result (λ step.
-        entry_lines (entries.BadSize peer head.now) ≡ lines_of step) }
-    ensures fits { IfOk result FitsIfAny }
+fn bad_size(peer: u32, head: &[u8; 8]) -> Option<Step>
+    requires { IsBad head.now }
+    ensures lines { entry_lines (entries.BadSize peer head.now) ≡ lines_of result }
+    ensures fits { FitsIfAny result }
 {
-    if !is_bad_head(head) {
-        return Err(NoMemory);
-    }
-    Ok(Some(Step::Peer(peer, PeerStep::BadSize { head: *head })))
-}
-
-fn shell(step: ShellStep) -> Result<Option<Step>, NoMemory>
-    ensures lines { IfOk result (λ line. entry_lines (entries.Shell step) ≡ lines_of line) }
-    ensures fits { IfOk result FitsIfAny }
-{
-    if !is_shell_step(&step) {
-        return Err(NoMemory);
-    }
-    Ok(Some(Step::Shell(step)))
-}
-
-fn took(peer: u32, bytes: u32) -> Result<Option<Step>, NoMemory>
-    ensures lines { IfOk result (λ step. entry_lines (entries.Took peer bytes) ≡ lines_of step) }
-    ensures fits { IfOk result FitsIfAny }
-{
-    if !is_within(MESSAGE_LIMIT, bytes as usize) {
-        return Err(NoMemory);
-    }
-    Ok(Some(Step::Take(peer, bytes)))
+    Some(Step::Peer(peer, PeerStep::BadSize { head: *head }))
 }
 
 // The end of a peer has a line where its link ended.
@@ -88,8 +63,10 @@ fn end(peer: u32, cause: EndCause) -> Option<Step>
     }
 }
 
-// The entry as a step that a line gives; none, where it follows from the steps before it.
+// The entry as a step that a line gives; none, where it follows from the steps before it. `NoMemory` is
+// its one error.
 fn step_of(alloc: Global, entry: &Entry) -> Result<Option<Step>, NoMemory>
+    requires { FitsLine entry.now }
     ensures lines { IfOk result (λ step. entry_lines entry.now ≡ lines_of step) }
     ensures fits { IfOk result FitsIfAny }
 {
@@ -102,14 +79,14 @@ fn step_of(alloc: Global, entry: &Entry) -> Result<Option<Step>, NoMemory>
             body,
         } => message(alloc, *peer, *id, *opcode, body),
         Entry::Tokens { peer, tokens: list } => tokens(alloc, *peer, list),
-        Entry::BadSize { peer, head } => bad_size(*peer, head),
+        Entry::BadSize { peer, head } => Ok(bad_size(*peer, head)),
         Entry::End { peer, cause } => Ok(end(*peer, *cause)),
-        Entry::Shell(step) => shell(*step),
-        Entry::Took { peer, bytes } => took(*peer, *bytes),
+        Entry::Shell(step) => Ok(Some(Step::Shell(*step))),
+        Entry::Took { peer, bytes } => Ok(Some(Step::Take(*peer, *bytes))),
     }
 }
 
-// Adds a step's line behind its stamp.
+// Adds a step's line behind its stamp. `NoMemory` is its one error.
 fn add_step(alloc: Global, text: &mut Vec<u8>, stamp: Stamp, step: &Step) -> Result<(), NoMemory>
     requires { IsStep step.now }
     ensures { OnOk result (text.new.items
@@ -121,13 +98,14 @@ fn add_step(alloc: Global, text: &mut Vec<u8>, stamp: Stamp, step: &Step) -> Res
     Ok(())
 }
 
-/// Adds the line of an entry behind its stamp, if it has one.
+/// Adds the line of an entry behind its stamp, if it has one. `NoMemory` is its one error.
 pub(crate) fn add_entry(
     alloc: Global,
     text: &mut Vec<u8>,
     stamp: Stamp,
     entry: &Entry,
 ) -> Result<(), NoMemory>
+    requires { FitsLine entry.now }
     ensures { OnOk result (text.new.items
         ≡ text.old.items ++ flat_map (stamped_text stamp) (entry_lines entry.now)) }
 {

@@ -5,9 +5,12 @@ ghost use Rattle.wio_core.specs.Io.{Rose};
 ghost use Rattle.session_text.specs.declared.line.Line.TheVariants.{Header};
 ghost use Rattle.serve_record.specs.Recorded.{recorded, text_line};
 ghost use Rattle.serve_record.specs.declared.record.RecordStop.TheVariants as stops;
+ghost use Rattle.serve_record.specs.declared.record.LineStop.TheVariants as line_stops;
+ghost use Rattle.hub_lock.specs.Steps.{HaveLines};
 ghost use Rattle.serve_record.specs.Lines.{text_at, Holds, GainsFront};
 
 use crate::entry_lines::add_entry;
+use crate::fits::fits_line;
 use broker_model::{Journal, StampList};
 use hub_lock::Session;
 use seat_steps::Limits;
@@ -39,6 +42,36 @@ impl From<NoMemory> for RecordStop {
 
     fn from(_: NoMemory) -> Self {
         RecordStop::NoMemory
+    }
+}
+
+/// Why what may be of no hub isn't written whole. What was written is a front of it.
+#[derive(Clone, Copy, Debug, PartialEq, Eq, Error)]
+pub enum LineStop {
+    /// The output failed.
+    #[error("the output failed")]
+    WriteFault,
+    /// There was no memory.
+    #[error("there was no memory")]
+    NoMemory,
+    /// There is an entry that no line can give. A hub's journal has none.
+    #[error("no line can give an entry")]
+    NoLine,
+}
+
+impl From<Failed> for LineStop {
+    ghost from_gives = { λ _ e. e ≡ line_stops.WriteFault };
+
+    fn from(_: Failed) -> Self {
+        LineStop::WriteFault
+    }
+}
+
+impl From<NoMemory> for LineStop {
+    ghost from_gives = { λ _ e. e ≡ line_stops.NoMemory };
+
+    fn from(_: NoMemory) -> Self {
+        LineStop::NoMemory
     }
 }
 
@@ -80,7 +113,7 @@ fn write_entry<K: Sink>(
     number: u32,
     text: &mut Vec<u8>,
     output: &mut K,
-) -> Result<(), RecordStop>
+) -> Result<(), LineStop>
     requires each { length session.now.stamps.stamps ≡ length session.now.journal.entries }
     requires first { 1 ≤ number }
     requires last { number ≤ length session.now.journal.entries }
@@ -91,8 +124,10 @@ fn write_entry<K: Sink>(
         (text.old.items
         ++ text_at session.now.journal.entries session.now.stamps.stamps number)) }
     ensures never_falls { K.fault_count output.old ≤ K.fault_count output.new }
-    ensures cause { result ≡ Err RecordStop.WriteFault →
+    ensures cause { result ≡ Err LineStop.WriteFault →
         Rose (K.fault_count output.old) (K.fault_count output.new) }
+    ensures no_line { HaveLines session.now.journal.entries →
+        ¬ (result ≡ Err LineStop.NoLine) }
 {
     let Some(entry) = session.journal.entry(number) else {
         unreachable!()
@@ -100,26 +135,32 @@ fn write_entry<K: Sink>(
     let Some(stamp) = session.stamps.entry(number) else {
         unreachable!()
     };
+    if !fits_line(entry) {
+        return Err(LineStop::NoLine);
+    }
     add_entry(alloc, text, *stamp, entry)?;
     write_piece(text, output)?;
     Ok(())
 }
 
 /// Writes the recorded session: the header, the line of each entry that no other brings about behind
-/// its stamp, and the end. After `RecordStop` a front of it was written.
+/// its stamp, and the end. After `LineStop` a front of it was written. `NoLine` comes of no session
+/// of a hub.
 pub fn write_record<K: Sink>(
     alloc: Global,
     session: &Session,
     output: &mut K,
-) -> Result<(), RecordStop>
+) -> Result<(), LineStop>
     requires { length session.now.stamps.stamps ≡ length session.now.journal.entries }
     ensures whole { OnOk result (Appends (K.held output.old) (K.held output.new)
         (recorded session.now.limits session.now.journal.entries session.now.stamps.stamps)) }
     ensures front { OnErr result (GainsFront (K.held output.old) (K.held output.new)
         (recorded session.now.limits session.now.journal.entries session.now.stamps.stamps)) }
     ensures never_falls { K.fault_count output.old ≤ K.fault_count output.new }
-    ensures cause { result ≡ Err RecordStop.WriteFault →
+    ensures cause { result ≡ Err LineStop.WriteFault →
         Rose (K.fault_count output.old) (K.fault_count output.new) }
+    ensures no_line { HaveLines session.now.journal.entries →
+        ¬ (result ≡ Err LineStop.NoLine) }
 {
     let mut text = header(alloc, &session.limits)?;
     for before in 0..session.journal.len() {

@@ -36,7 +36,7 @@ fn record_there<R: Wait, K: Sink>(
 {
     match hub.hand_out(rt, pass) {
         Some(next) => {
-            text.add(alloc, &next, output)?;
+            text.add_line(alloc, &next, output)?;
             Ok(true)
         }
         None => Ok(false),
@@ -65,7 +65,7 @@ fn record_awaited<R: Wait, K: Sink>(
 {
     match hub.wait_hand_out(rt, pass) {
         Some(next) => {
-            text.add(alloc, &next, output)?;
+            text.add_line(alloc, &next, output)?;
             Ok(true)
         }
         None => Ok(false),

@@ -1,13 +1,15 @@
 //! A recorded session as its entries come.
-ghost use Rattle.std.specs.Prelude.{◌≡◌, ◌≤◌, ◌++◌, [], Some, Err, IfOk, OnOk, OnErr};
+ghost use Rattle.std.specs.Prelude.{◌≡◌, ◌≤◌, ◌↔◌, ◌++◌, [], Some, Err, IfOk, OnOk, OnErr};
 ghost use Rattle.std.specs.Io.KnownBytes.{Appends};
 ghost use Rattle.wio_core.specs.Io.{Rose};
 ghost use Rattle.session_text.specs.declared.line.Line.TheVariants.{Header, End};
+ghost use Rattle.hub_lock.specs.Steps.{FitsLine};
 ghost use Rattle.serve_record.specs.Recorded.{text_line};
 ghost use Rattle.serve_record.specs.Lines.{lines_text, Holds, GainsFront};
 
 use crate::entry_lines::add_entry;
-use crate::record::{RecordStop, header, write_piece};
+use crate::fits::fits_line;
+use crate::record::{LineStop, RecordStop, header, write_piece};
 use broker_core::LetGo;
 use seat_steps::Limits;
 use std::alloc::Global;
@@ -39,13 +41,43 @@ impl RecordText {
     }
 
     /// Adds the line of an entry behind its stamp, if it has one, and writes what waits, if it is a
-    /// whole piece. After `RecordStop` a front of it was written.
+    /// whole piece. After `LineStop` a front of it was written: none of it after `NoLine`, which
+    /// comes where no line can give the entry, and then nothing changes.
     pub fn add<K: Sink>(
         &mut self,
         alloc: Global,
         next: &LetGo,
         output: &mut K,
+    ) -> Result<(), LineStop>
+        ensures whole { OnOk result (Holds (K.held output.old) (K.held output.new) self.new
+            (self.old ++ lines_text (Some next.now.entry) (Some next.now.stamp))) }
+        ensures front { OnErr result (GainsFront (K.held output.old) (K.held output.new)
+            (self.old ++ lines_text (Some next.now.entry) (Some next.now.stamp))) }
+        ensures never_falls { K.fault_count output.old ≤ K.fault_count output.new }
+        ensures cause { result ≡ Err LineStop.WriteFault →
+            Rose (K.fault_count output.old) (K.fault_count output.new) }
+        ensures no_line { (result ≡ Err LineStop.NoLine) ↔ ¬ (FitsLine next.now.entry) }
+        ensures untouched { result ≡ Err LineStop.NoLine →
+            (self.new ≡ self.old) × (output.new ≡ output.old) }
+    {
+        if !fits_line(&next.entry) {
+            return Err(LineStop::NoLine);
+        }
+        match self.add_line(alloc, next, output) {
+            Ok(()) => Ok(()),
+            Err(RecordStop::WriteFault) => Err(LineStop::WriteFault),
+            Err(RecordStop::NoMemory) => Err(LineStop::NoMemory),
+        }
+    }
+
+    // The same of an entry that a line can give.
+    pub(crate) fn add_line<K: Sink>(
+        &mut self,
+        alloc: Global,
+        next: &LetGo,
+        output: &mut K,
     ) -> Result<(), RecordStop>
+        requires { FitsLine next.now.entry }
         ensures whole { OnOk result (Holds (K.held output.old) (K.held output.new) self.new
             (self.old ++ lines_text (Some next.now.entry) (Some next.now.stamp))) }
         ensures front { OnErr result (GainsFront (K.held output.old) (K.held output.new)

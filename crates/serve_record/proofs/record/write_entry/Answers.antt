@@ -1,9 +1,20 @@
-use Rattle.std.proofs.Common.{◌≡◌, ◌++◌, ◌∙◌, Some, ap, subst}
+use Rattle.std.proofs.Common.{rules, ◌≡◌, ◌++◌, ◌∙◌, Some, ap, sym, subst}
 use Rattle.broker_model.specs.Recorded.{entry_at}
+use Rattle.hub_lock.specs.Steps.{FitsLine}
+use Rattle.hub_lock.proofs.LinesOfEntries.{entry-fits}
 use Rattle.serve_record.specs.Lines.{lines_text, GainsFront}
 use Rattle.serve_record.proofs.RecordGrows.{on_err}
 use Rattle.serve_record.proofs.StepsText.{kept_is}
 use Rattle.serve_record.proofs.record.write_entry.Goals as goal
+
+pub returns-then-not-fits_line-clause-no_line : goal.returns-then-not-fits_line-clause-no_line
+returns-then-not-fits_line-clause-no_line g c lines is =
+    let session = c.args.session.now in
+    let journal = session.journal.entries in
+    let fits : FitsLine c.in-Some.entry.now = entry-fits journal c.args.number c.in-Some.entry.now lines
+    (sym (c.in-Some.ensures.value ∙ kept_is session.journal.kept_from journal c.args.number session.whole c.requires.first))
+    in
+    let yes = c.fits_line.ensures.1 fits in search rules
 
 pub returns-in_err-write_piece-clause-front : goal.returns-in_err-write_piece-clause-front
 returns-in_err-write_piece-clause-front g c =

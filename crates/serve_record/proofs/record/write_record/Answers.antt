@@ -1,8 +1,8 @@
-use Rattle.std.proofs.Common.{rules, ◌≡◌, ◌+◌, ◌-◌, ◌≤◌, ◌++◌, ◌∙◌, List, ℕ, Option, length, ap, sym, subst, arith}
+use Rattle.std.proofs.Common.{rules, ◌+◌, ◌-◌, ◌++◌, ◌∙◌, length, ap, subst, arith}
 use Rattle.std.specs.Io.KnownBytes.{Appends}
 use Rattle.session_text.specs.declared.line.Line.TheVariants.{End}
-use Rattle.serve_record.specs.Recorded.{recorded, text_line}
-use Rattle.serve_record.specs.Lines.{text_at, text_without, Holds, GainsFront}
+use Rattle.serve_record.specs.Recorded.{text_line}
+use Rattle.serve_record.specs.Lines.{Holds, GainsFront}
 use Rattle.serve_record.proofs.RecordGrows.{holds_more, holds_then_front, holds_then_whole, holds_front, front_of, cut_is_front, on_err}
 use Rattle.serve_record.proofs.StepsText.{text_grows, text_is_front, text_ends}
 use Rattle.serve_record.proofs.record.write_record.Goals as goal

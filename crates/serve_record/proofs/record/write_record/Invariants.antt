@@ -1,4 +1,4 @@
-use Rattle.std.proofs.Common.{◌≡◌, ◌≤◌, ◌-◌, length}
+use Rattle.std.proofs.Common.{◌≤◌, ◌-◌, length}
 use Rattle.serve_record.specs.Lines.{Holds, text_without}
 use Rattle.serve_record.proofs.record.write_record.Given as goal
 

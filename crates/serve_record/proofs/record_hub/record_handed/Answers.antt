@@ -1,4 +1,4 @@
-use Rattle.std.proofs.Common.{◌≡◌, sym, subst, arith}
+use Rattle.std.proofs.Common.{sym, subst, arith}
 use Rattle.hub_lock.specs.Passes.{PassSeat, IsOf}
 use Rattle.serve_record.proofs.HandedWritten.{seat_on, seen_on}
 use Rattle.serve_record.proofs.record_hub.record_handed.Goals as goal

@@ -1,4 +1,4 @@
-use Rattle.std.proofs.Common.{rules, ◌≡◌}
+use Rattle.std.proofs.Common.{rules}
 use Rattle.serve_record.specs.Handed.{handed_text}
 use Rattle.serve_record.proofs.HandedWritten.{seen_on, holds_out, front_out, on_fault}
 use Rattle.serve_record.proofs.record_hub.record_next.Goals as goal

@@ -1,4 +1,4 @@
-use Rattle.std.proofs.Common.{rules, ◌≡◌, ◌++◌, List, ℕ, subst}
+use Rattle.std.proofs.Common.{rules, subst}
 use Rattle.serve_record.specs.Lines.{GainsFront}
 use Rattle.serve_record.proofs.RecordGrows.{cut_is_front, on_err}
 use Rattle.serve_record.proofs.record_text.RecordText.end.Goals as goal
