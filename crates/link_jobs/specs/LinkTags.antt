@@ -12,22 +12,23 @@ use Rattle.link_jobs.specs.declared.link_job.LinkJob.TheVariants as jobs
 use Rattle.link_jobs.specs.declared.link_job.LinkDone.{LinkDone}
 use Rattle.link_jobs.specs.declared.link_job.LinkDone.TheVariants as done
 
--- the tag of a job with this pass
-abbrev pub tag_with : PassSeat → (peer : ℕ) → Part → Tag
-tag_with seat peer part =
+-- the tag of a job with this pass, that serves this link
+abbrev pub tag_with : PassSeat → (peer link : ℕ) → Part → Tag
+tag_with seat peer link part =
     record {
       number = seat.number;
       peer = peer;
+      link = link;
       part = part;
       turn = seat.turn;
       limits = seat.constant;
     }
 
-module _ {I O G : Type 0} {s : _} {k : _} where
-  abbrev pub job_tag : LinkJob I O G s k → Tag
-  job_tag (jobs.Reader job) = tag_with job.pass.seat job.pass.peer reader
-  job_tag (jobs.Writer job) = tag_with job.pass.seat job.pass.peer writer
-  job_tag (jobs.Shell job) = tag_with job.pass 0 shell
+module _ {I O G : Type 0} {i : _} {s : _} {o : _} {k : _} where
+  abbrev pub job_tag : LinkJob I O G i s o k → Tag
+  job_tag (jobs.Reader job) = tag_with job.pass.seat job.pass.peer (i.number job.source) reader
+  job_tag (jobs.Writer job) = tag_with job.pass.seat job.pass.peer (o.number job.sink) writer
+  job_tag (jobs.Shell job) = tag_with job.pass 0 (i.number job.source) shell
 
 -- the report of a reader, of a writer and of a shell
 module _ {I : Type 0} {s : _} where
@@ -35,6 +36,7 @@ module _ {I : Type 0} {s : _} where
   reader_report d = record {
     number = d.pass.seat.number;
     peer = d.pass.peer;
+    link = d.link;
     part = reader;
     end = read d.end;
     source_faults = s.fault_count d.source;
@@ -49,6 +51,7 @@ module _ {O : Type 0} {k : _} where
   writer_report d = record {
     number = d.pass.seat.number;
     peer = d.pass.peer;
+    link = d.link;
     part = writer;
     end = wrote d.end;
     source_faults = 0;
@@ -63,6 +66,7 @@ module _ {I O : Type 0} {s : _} {k : _} where
   shell_report d = record {
     number = d.pass.number;
     peer = 0;
+    link = d.link;
     part = shell;
     end = ordered d.end;
     source_faults = s.fault_count d.source;
@@ -74,9 +78,9 @@ module _ {I O : Type 0} {s : _} {k : _} where
 
 module _ {I O : Type 0} {s : _} {k : _} where
   abbrev pub done_tag : LinkDone I O s k → Tag
-  done_tag (done.Reader d) = tag_with d.pass.seat d.pass.peer reader
-  done_tag (done.Writer d) = tag_with d.pass.seat d.pass.peer writer
-  done_tag (done.Shell d) = tag_with d.pass 0 shell
+  done_tag (done.Reader d) = tag_with d.pass.seat d.pass.peer d.link reader
+  done_tag (done.Writer d) = tag_with d.pass.seat d.pass.peer d.link writer
+  done_tag (done.Shell d) = tag_with d.pass 0 d.link shell
 
   abbrev pub done_report : LinkDone I O s k → Report
   done_report (done.Reader d) = reader_report d

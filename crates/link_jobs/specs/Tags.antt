@@ -13,11 +13,12 @@ pub data Part : Type 0 where
   shell : Part
 
 -- a job: its number, which is that of its pass, from 1 in the order in which the hub made them; its
--- peer's number, or 0 for a shell; its part; and which hub it works on: the hub's lock, and its
--- limits as the pass knows them
+-- peer's number, or 0 for a shell; the number of the link that it serves; its part; and which hub
+-- it works on: the hub's lock, and its limits as the pass knows them
 pub record Tag : Type 0 where
   pub number : ℕ
   pub peer : ℕ
+  pub link : ℕ
   pub part : Part
   pub turn : TableId
   pub limits : Option Limits
@@ -35,6 +36,7 @@ pub data End : Type 0 where
 pub record Report : Type 0 where
   pub number : ℕ
   pub peer : ℕ
+  pub link : ℕ
   pub part : Part
   pub end : End
   pub source_faults : ℕ
@@ -47,4 +49,5 @@ pub record Report : Type 0 where
 pub record IsReportOf (tag : Tag) (report : Report) : Type 0 where
   pub number : report.number ≡ tag.number
   pub peer : report.peer ≡ tag.peer
+  pub link : report.link ≡ tag.link
   pub part : report.part ≡ tag.part

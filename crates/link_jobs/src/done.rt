@@ -18,6 +18,8 @@ pub struct ReaderDone<S: Source + Drop> {
     pub source: S,
     /// How the reading ended.
     pub end: ReadEnd,
+    /// The number of the link that was read.
+    pub link: u64,
     pub ghost law: { ∥ HasRead pass (S.given source) (S.left source) end ∥₁ },
     pub ghost cause: { end ≡ read_ends.ReadFault → 1 ≤ S.fault_count source },
 }
@@ -31,6 +33,8 @@ pub struct WriterDone<K: Sink + Drop> {
     pub sink: K,
     /// How the writing ended.
     pub end: WriteEnd,
+    /// The number of the link that was written to.
+    pub link: u64,
     pub ghost law: { ∥ HasWritten pass (K.held sink) end ∥₁ },
     pub ghost cause: { end ≡ write_ends.WriteFault → 1 ≤ K.fault_count sink },
 }
@@ -46,6 +50,8 @@ pub struct ShellDone<S: Source + Drop, K: Sink + Drop> {
     pub sink: K,
     /// How the link ended.
     pub end: ShellEnd,
+    /// The number of the link.
+    pub link: u64,
     pub ghost law: { ∥ HasOrdered pass (S.given source) (S.left source) (K.held sink) end ∥₁ },
     pub ghost read_fault: { end ≡ shell_ends.ReadFault → 1 ≤ S.fault_count source },
     pub ghost write_fault: { end ≡ shell_ends.WriteFault → 1 ≤ K.fault_count sink },

@@ -4,13 +4,13 @@ use crate::job::Job;
 use crate::jobs::{ReaderJob, ShellJob, WriterJob};
 use crate::run::{run_reader, run_shell, run_writer};
 use hub_lock::Gate;
-use link_nets::LinkSink;
+use link_nets::{LinkSink, LinkSource};
 use std::sync::Wait;
-use wio_core::Source;
+use wio_core::{Sink, Source};
 
 /// A job of a link.
 #[derive(Drop)]
-pub enum LinkJob<S: Source + Drop, K: LinkSink, G: Gate + Drop> {
+pub enum LinkJob<S: LinkSource, K: LinkSink, G: Gate + Drop> {
     /// To read a peer's link.
     Reader(ReaderJob<S, G>),
     /// To write to a peer's link.
@@ -21,7 +21,7 @@ pub enum LinkJob<S: Source + Drop, K: LinkSink, G: Gate + Drop> {
 
 /// What a job of a link gives back: the pass, the link's ways, and how the loop ended.
 #[derive(Drop)]
-pub enum LinkDone<S: Source + Drop, K: LinkSink> {
+pub enum LinkDone<S: Source + Drop, K: Sink + Drop> {
     /// A peer's link was read.
     Reader(ReaderDone<S>),
     /// A peer's link was written to.
@@ -30,7 +30,7 @@ pub enum LinkDone<S: Source + Drop, K: LinkSink> {
     Shell(ShellDone<S, K>),
 }
 
-impl<S: Source + Drop, K: LinkSink, G: Gate + Drop> Job for LinkJob<S, K, G> {
+impl<S: LinkSource, K: LinkSink, G: Gate + Drop> Job for LinkJob<S, K, G> {
     ghost use Rattle.link_jobs.specs.LinkTags.{job_tag, done_tag, done_report};
 
     type Done = LinkDone<S, K>;

@@ -6,17 +6,17 @@ ghost use Rattle.hub_lock.specs.Calls.{pass_having_seen};
 use crate::done::{ReaderDone, ShellDone, WriterDone};
 use crate::jobs::{ReaderJob, ShellJob, WriterJob};
 use hub_lock::Gate;
-use link_nets::LinkSink;
+use link_nets::{LinkSink, LinkSource};
 use peer_link::{read_peer, read_shell, write_peer};
 use std::sync::Wait;
-use wio_core::Source;
 
 /// Reads a peer's link up to its end.
-pub fn run_reader<R: Wait, S: Source + Drop, G: Gate + Drop>(
+pub fn run_reader<R: Wait, S: LinkSource, G: Gate + Drop>(
     rt: &R,
     job: ReaderJob<S, G>,
 ) -> ReaderDone<S>
     ensures pass { result.pass ≡ pass_having_seen job.pass result.pass.seat.seen }
+    ensures link { result.link ≡ S.number job.source }
 {
     let ReaderJob {
         alloc,
@@ -25,32 +25,46 @@ pub fn run_reader<R: Wait, S: Source + Drop, G: Gate + Drop>(
         mut source,
         gate,
     } = job;
+    let link = source.link();
     let end = read_peer(rt, alloc, &*hub, &mut pass, &mut source, &*gate);
     hub.leave();
-    ReaderDone { pass, source, end }
+    ReaderDone {
+        pass,
+        source,
+        end,
+        link,
+    }
 }
 
 /// Writes to a peer's link up to its end, and hangs up: whoever still reads the link sees its end.
 pub fn run_writer<R: Wait, K: LinkSink>(rt: &R, job: WriterJob<K>) -> WriterDone<K>
     ensures pass { result.pass ≡ pass_having_seen job.pass result.pass.seat.seen }
+    ensures link { result.link ≡ K.number job.sink }
 {
     let WriterJob {
         hub,
         mut pass,
         mut sink,
     } = job;
+    let link = sink.link();
     let end = write_peer(rt, &*hub, &mut pass, &mut sink);
     hub.leave();
     sink.hang_up();
-    WriterDone { pass, sink, end }
+    WriterDone {
+        pass,
+        sink,
+        end,
+        link,
+    }
 }
 
 /// Serves a shell's link up to its end, and hangs up.
-pub fn run_shell<R: Wait, S: Source + Drop, K: LinkSink>(
+pub fn run_shell<R: Wait, S: LinkSource, K: LinkSink>(
     rt: &R,
     job: ShellJob<S, K>,
 ) -> ShellDone<S, K>
     ensures pass { result.pass ≡ having_seen job.pass result.pass.seen }
+    ensures link { result.link ≡ S.number job.source }
 {
     let ShellJob {
         alloc,
@@ -59,6 +73,7 @@ pub fn run_shell<R: Wait, S: Source + Drop, K: LinkSink>(
         mut source,
         mut sink,
     } = job;
+    let link = source.link();
     let end = read_shell(rt, alloc, &*hub, &mut pass, &mut source, &mut sink);
     hub.leave();
     sink.hang_up();
@@ -67,5 +82,6 @@ pub fn run_shell<R: Wait, S: Source + Drop, K: LinkSink>(
         source,
         sink,
         end,
+        link,
     }
 }

@@ -1,11 +1,12 @@
 -- What contracts see of a net in memory
-use Rattle.std.specs.Prelude.{◌≡◌, ℕ, List, [], ◌∷◌, ◌++◌, Bool, true, take, Some}
+use Rattle.std.specs.Prelude.{◌≡◌, ℕ, List, [], ◌∷◌, ◌++◌, Bool, true, take, Some, length}
 use Rattle.wio_core.specs.Io.{raised}
-use Rattle.wio_core.specs.Memory.{SourceInMemory, SinkInMemory}
 use Rattle.std.specs.List.{All, slice_get, remove}
 use Rattle.link_nets.specs.declared.door.Door.{Door}
 use Rattle.link_nets.specs.declared.door.Door.TheVariants.{App, Method, Shell}
 use Rattle.link_nets.specs.declared.mem_link.MemLink.{MemLink}
+use Rattle.link_nets.specs.declared.mem_ways.MemIn.{MemIn}
+use Rattle.link_nets.specs.declared.mem_ways.MemOut.{MemOut}
 
 -- a net: which doors are open, the links that wait, the doors of those that it gave, the numbers of
 -- the accepts that fail, and how many accepts and faults it had
@@ -48,12 +49,14 @@ pub record IsFirstFor (d : Door) (waiting : List MemLink) (link : MemLink)
   pub place : IsPlaceFor d waiting at link
   pub left : rest ≡ remove waiting at
 
--- an accept gave the first link that waits at the door
-pub record GivesLink (d : Door) (net net' : NetInMemory) (source : SourceInMemory)
-    (sink : SinkInMemory) : Type 0 where
+-- an accept gave the first link that waits at the door, by its two ways, which have its number
+pub record GivesLink (d : Door) (net net' : NetInMemory) (source : MemIn)
+    (sink : MemOut) : Type 0 where
   pub link : MemLink
   pub first : IsFirstFor d net.waiting link net'.waiting
-  pub way_in : source ≡ link.source
-  pub way_out : sink ≡ link.sink
+  pub way_in : source.source ≡ link.source
+  pub way_out : sink.sink ≡ link.sink
+  pub number_in : source.number ≡ length net'.links
+  pub number_out : sink.number ≡ length net'.links
   pub rest : net'
       ≡ record net { waiting = net'.waiting; links = net.links ++ d ∷ []; calls = raised net.calls }

@@ -4,9 +4,11 @@
 mod door;
 mod mem_link;
 mod mem_net;
+mod mem_ways;
 mod net;
 
 pub use door::Door;
 pub use mem_link::MemLink;
 pub use mem_net::MemNet;
-pub use net::{LinkSink, Net};
+pub use mem_ways::{MemIn, MemOut};
+pub use net::{LinkSink, LinkSource, Net};

@@ -8,10 +8,11 @@ ghost use Rattle.link_nets.specs.declared.mem_link.MemLink.{MemLink};
 
 use crate::door::Door;
 use crate::mem_link::MemLink;
-use crate::net::{LinkSink, Net};
+use crate::mem_ways::{MemIn, MemOut};
+use crate::net::Net;
 use std::alloc::Global;
 use std::marker::Model;
-use wio_core::{Failed, MemSink, MemSource, NoMemory, Sink, Source};
+use wio_core::{Failed, NoMemory};
 
 /// Gives the links of a `Vec`, each at its door and in their order, and fails in the calls of
 /// `accept` that it was told.
@@ -126,16 +127,12 @@ fn place_for(waiting: &[MemLink], door: Door) -> Option<usize>
     None
 }
 
-impl LinkSink for MemSink {
-    fn hang_up(&mut self) {}
-}
-
 impl Net for MemNet {
     ghost use Rattle.link_nets.specs.MemNets.{is_open, opening, GivesLink, LacksLinkFor};
 
-    type In = MemSource;
+    type In = MemIn;
 
-    type Out = MemSink;
+    type Out = MemOut;
 
     ghost opened = { λ n d. is_open n.app n.method n.shell d };
 
@@ -157,7 +154,7 @@ impl Net for MemNet {
     }
 
     /// Gives the first link that is left for its door.
-    fn accept(&mut self, door: Door) -> Result<(MemSource, MemSink), Failed>
+    fn accept(&mut self, door: Door) -> Result<(MemIn, MemOut), Failed>
         // It fails in the calls that it was told and where no link waits at the door.
         ensures fails { IsErr result ↔ (Contains self.old.fail (raised self.old.calls) ⊎
             LacksLinkFor door self.old.waiting) }
@@ -175,7 +172,13 @@ impl Net for MemNet {
         let Some(link) = self.next_at(door) else {
             return self.fault();
         };
-        Ok((link.source, link.sink))
+        let number = self.links.len() as u64;
+        let MemLink {
+            door: _,
+            source,
+            sink,
+        } = link;
+        Ok((MemIn { source, number }, MemOut { sink, number }))
     }
 
     fn faults(&self) -> u64 {

@@ -1,6 +1,6 @@
 //! Doors, and the links that come through them.
 ghost use Rattle.std.specs.Prelude.{◌≡◌, ◌≤◌, ◌++◌, ◌∷◌, [], ℕ, List, Option, Bool, true};
-ghost use Rattle.std.specs.Prelude.{IfOk, OnOk, OnErr};
+ghost use Rattle.std.specs.Prelude.{IfOk, OnOk, OnErr, length};
 ghost use Rattle.wio_core.specs.Io.{Rose};
 ghost use Rattle.link_nets.specs.NewLinks.{IsNewSource, IsNewSink};
 ghost use Rattle.link_nets.specs.declared.door.Door.{Door};
@@ -8,20 +8,38 @@ ghost use Rattle.link_nets.specs.declared.door.Door.{Door};
 use crate::door::Door;
 use wio_core::{Failed, Sink, Source};
 
-/// The way out of a link, which can end the whole link.
+/// The way in of a link, which tells what link it is of.
+pub trait LinkSource: Source + Drop {
+    /// The number of its link.
+    ghost number: { Self → ℕ };
+
+    /// The number of its link: a net numbers the links that it gives from 1 on, in their order.
+    fn link(&self) -> u64
+        ensures { result ≡ number self.now };
+}
+
+/// The way out of a link, which tells what link it is of, and can end the whole link.
 pub trait LinkSink: Sink + Drop {
+    /// The number of its link.
+    ghost number: { Self → ℕ };
+
+    /// The number of its link: a net numbers the links that it gives from 1 on, in their order.
+    fn link(&self) -> u64
+        ensures { result ≡ number self.now };
+
     /// Ends the link: whoever reads or writes at it, on either side, waits no longer. What it holds
     /// and its count of faults stay. Nothing says that the other side hears of it.
     fn hang_up(&mut self)
         ensures held { Self.held self.new ≡ Self.held self.old }
-        ensures faults { Self.fault_count self.new ≡ Self.fault_count self.old };
+        ensures faults { Self.fault_count self.new ≡ Self.fault_count self.old }
+        ensures same { number self.new ≡ number self.old };
 }
 
 /// Where links come in. It has three meanings for contracts: for each door whether it is open, the
 /// doors of the links that it gave, in order, and how often a call failed.
 pub trait Net {
     /// A link's way in.
-    type In: Source + Drop;
+    type In: LinkSource;
 
     /// A link's way out.
     type Out: LinkSink;
@@ -40,8 +58,8 @@ pub trait Net {
         ensures never_falls { fault_count self.old ≤ fault_count self.new }
         ensures cause { OnErr result (Rose (fault_count self.old) (fault_count self.new)) };
 
-    /// Waits for a link at the door, and gives its two ways. Nothing came and went on it so far, and
-    /// nothing failed.
+    /// Waits for a link at the door, and gives its two ways, which have the link's number. Nothing
+    /// came and went on it so far, and nothing failed.
     fn accept(&mut self, door: Door) -> Result<(Self::In, Self::Out), Failed>
         requires { opened self.old door ≡ true }
         ensures stays { (d : Door) → opened self.old d ≡ true → opened self.new d ≡ true }
@@ -51,6 +69,10 @@ pub trait Net {
             IsNewSource (Self.In.given link.0) (Self.In.fault_count link.0)) }
         ensures sink { IfOk result (λ link.
             IsNewSink (Self.Out.held link.1) (Self.Out.fault_count link.1)) }
+        ensures number_in { IfOk result (λ link.
+            Self.In.number link.0 ≡ length (links self.new)) }
+        ensures number_out { IfOk result (λ link.
+            Self.Out.number link.1 ≡ length (links self.new)) }
         ensures never_falls { fault_count self.old ≤ fault_count self.new }
         ensures cause { OnErr result (Rose (fault_count self.old) (fault_count self.new)) };
 

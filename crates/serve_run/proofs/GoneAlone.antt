@@ -1,5 +1,5 @@
 -- What a reader's pass made whose job wasn't started, and a journal that was full for a join
-use Rattle.std.proofs.Common.{◌≡◌, inl, inr, ◌++◌, ◌∷◌, [], ℕ, Option, Result, Ok, Err, refl, sym, ap, ◌∙◌}
+use Rattle.std.proofs.Common.{◌≡◌, inl, inr, ◌++◌, ◌∷◌, [], ℕ, Option, Result, Ok, Err, refl, sym, ap, subst, ◌∙◌}
 use Rattle.relay_model.specs.declared.act.EndCause.{EndCause}
 use Rattle.relay_model.specs.declared.act.EndCause.TheVariants.{Gone}
 use Rattle.seat_steps.specs.declared.limits.Limits.{Limits}
@@ -19,7 +19,8 @@ use Rattle.peer_link.specs.Made.{entries_by, journal_of}
 use Rattle.peer_link.proofs.StepsMade.{entries-same, entries-one}
 use Rattle.peer_link.proofs.ShellServed.{entries-none}
 use Rattle.peer_link.proofs.StepsRefused.{step-ended, refusal-is}
-use Rattle.serve_run.specs.Unserved.{SaysGone}
+use Rattle.serve_run.specs.Unserved.{HasEnd, SaysGone}
+use Rattle.serve_run.proofs.EndsKept.{end-here}
 use Rattle.serve_run.proofs.PassesBack.{none_long}
 
 -- the end of a link of a pass that made nothing
@@ -53,4 +54,27 @@ says_gone limits before after (Err (refusals.JournalFull kept)) fresh is other l
     absurd (refusal-is limits before after peers.Gone (refusals.JournalFull kept)
     (ends.JournalFull kept) refl other legal)
 says_gone limits before after (Err refusals.NoMemory) fresh is other legal =
+    absurd (refusal-is limits before after peers.Gone refusals.NoMemory ends.NoMemory refl other legal)
+
+-- the peer has its end
+pub has_gone : (limits : Limits) (before after : PeerPass) (r : Result Applied Refused)
+    → after ≡ pass_having_seen before after.seat.seen → (r ≡ Err refusals.NoPeer → ⊥)
+    → LegalStep limits before.seat after.seat.seen (steps.Peer before.peer peers.Gone) r
+    → HasEnd (journal_of limits after.seat.seen) after.peer
+has_gone limits before after (Ok applied) is other legal =
+    subst (λ (p : PeerPass). HasEnd (journal_of limits after.seat.seen) p.peer) (sym is)
+    (subst (λ (h : History). HasEnd (journal_of limits h) before.peer) (sym legal.answer.applied)
+    (end-here limits (before.seat.seen ++ legal.rest) before.seat.number before.peer Gone))
+has_gone limits before after (Err refusals.NoPeer) is other legal = absurd (other refl)
+has_gone limits before after (Err (refusals.Ended cause)) is other legal =
+    subst (λ (p : PeerPass). HasEnd (journal_of limits after.seat.seen) p.peer) (sym is)
+    (subst (λ (h : History). HasEnd (journal_of limits h) before.peer) (sym legal.answer.same) (
+      cause,
+      step-ended limits (before.seat.seen ++ legal.rest) before.seat.number before.peer peers.Gone after.seat.seen cause
+          legal.answer,
+    ))
+has_gone limits before after (Err (refusals.JournalFull kept)) is other legal =
+    absurd (refusal-is limits before after peers.Gone (refusals.JournalFull kept)
+    (ends.JournalFull kept) refl other legal)
+has_gone limits before after (Err refusals.NoMemory) is other legal =
     absurd (refusal-is limits before after peers.Gone refusals.NoMemory ends.NoMemory refl other legal)

@@ -8,30 +8,40 @@ use Rattle.link_jobs.specs.Tags.{Tag}
 use Rattle.serve_run.specs.LinkJobs.{LinkedJob, IsOnHub, job_tagged, role_at, jobs_by, joins_by, passes_by, jobs_of, joins_of, passes_of}
 use Rattle.serve_run.specs.Started.{AreStarted}
 
-pub jobs_counted : (next : ℕ) (role : Option Role) → length (jobs_by next role) ≡ passes_by role
-jobs_counted next None = refl
-jobs_counted next (Some role) = refl
+pub jobs_counted : (next link : ℕ) (role : Option Role) → length (jobs_by next link role) ≡ passes_by role
+jobs_counted next link None = refl
+jobs_counted next link (Some role) = refl
 
-pub all_jobs_counted : (next : ℕ) (letters : List ℕ) → length (jobs_of next letters) ≡ passes_of letters
-all_jobs_counted next [] = refl
-all_jobs_counted next (d ∷ letters) =
-    let rest = all_jobs_counted (next + passes_by (role_at d)) letters in
-    let one = jobs_counted next (role_at d) in
-    let both = length-append (jobs_by next (role_at d)) (jobs_of (next + passes_by (role_at d)) letters) in omega arith
+pub all_jobs_counted : (next link : ℕ) (letters : List ℕ) → length (jobs_of next link letters) ≡ passes_of letters
+all_jobs_counted next link [] = refl
+all_jobs_counted next link (d ∷ letters) =
+    let rest = all_jobs_counted (next + passes_by (role_at d)) (link + 1) letters in
+    let one = jobs_counted next link (role_at d) in
+    let both =
+    length-append (jobs_by next link (role_at d)) (jobs_of (next + passes_by (role_at d)) (link + 1) letters) in
+    omega arith
 
 pub passes_more : (letters : List ℕ) (d : ℕ) → passes_of (letters ++ d ∷ []) ≡ passes_of letters + passes_by (role_at d)
 passes_more [] d = omega arith
 passes_more (e ∷ letters) d = let rest = passes_more letters d in omega arith
 
-pub jobs_more : (next : ℕ) (letters : List ℕ) (d : ℕ)
-    → jobs_of next (letters ++ d ∷ []) ≡ jobs_of next letters ++ jobs_by (next + passes_of letters) (role_at d)
-jobs_more next [] d = append-nil (jobs_by next (role_at d)) ∙ ap (λ n. jobs_by n (role_at d)) (omega arith)
-jobs_more next (e ∷ letters) d =
-    ap (λ jobs. jobs_by next (role_at e) ++ jobs) (jobs_more (next + passes_by (role_at e)) letters d)
-    ∙ (sym (append_assoc (jobs_by next (role_at e)) (jobs_of (next + passes_by (role_at e)) letters)
-    (jobs_by (next + passes_by (role_at e) + passes_of letters) (role_at d)))
-    ∙ ap (λ n. (jobs_by next (role_at e) ++ jobs_of (next + passes_by (role_at e)) letters) ++ jobs_by n (role_at d))
-    (omega arith))
+pub jobs_more : (next link : ℕ) (letters : List ℕ) (d : ℕ)
+    → jobs_of next link (letters ++ d ∷ [])
+    ≡ jobs_of next link letters ++ jobs_by (next + passes_of letters) (link + length letters) (role_at d)
+jobs_more next link [] d =
+    append-nil (jobs_by next link (role_at d))
+    ∙ (ap (λ n. jobs_by n link (role_at d)) (omega arith) ∙ ap (λ k. jobs_by (next + 0) k (role_at d)) (omega arith))
+jobs_more next link (e ∷ letters) d =
+    let n : ℕ = next + passes_by (role_at e) in
+    let k : ℕ = link + 1 in
+    let one = jobs_by next link (role_at e) in
+    let rest = jobs_of n k letters in
+    let number : n + passes_of letters ≡ next + passes_of (e ∷ letters) = omega arith in
+    let place : k + length letters ≡ link + length (e ∷ letters) = omega arith in
+    ap (λ jobs. one ++ jobs) (jobs_more n k letters d)
+    ∙ (sym (append_assoc one rest (jobs_by (n + passes_of letters) (k + length letters) (role_at d)))
+    ∙ (ap (λ m. (one ++ rest) ++ jobs_by m (k + length letters) (role_at d)) number
+    ∙ ap (λ m. (one ++ rest) ++ jobs_by (next + passes_of (e ∷ letters)) m (role_at d)) place))
 
 pub joins_more : (next : ℕ) (letters : List ℕ) (d : ℕ)
     → joins_of next (letters ++ d ∷ []) ≡ joins_of next letters ++ joins_by (next + passes_of letters) (role_at d)

@@ -1,5 +1,5 @@
 -- The server law, from what each part of a run tells
-use Rattle.std.proofs.Common.{◌≡◌, ◌⊎◌, inl, inr, ⊎_elim, ◌≤◌, ◌++◌, ◌∷◌, [], ℕ, zero, suc, true, List, length, map, take, drop, Option, Some, None, Result, Ok, Err, OnOk, refl, sym, ap, ◌∙◌, subst, arith, length-append}
+use Rattle.std.proofs.Common.{◌≡◌, ◌⊎◌, inl, inr, ⊎_elim, ◌+◌, ◌≤◌, ◌++◌, ◌∷◌, [], ℕ, zero, suc, true, List, length, map, take, drop, Option, Some, None, Result, Ok, Err, OnOk, refl, sym, ap, ◌∙◌, subst, arith, length-append}
 use Rattle.std.proofs.lemmas.List.{append_assoc, take_all}
 use Rattle.relay_model.specs.declared.role.Role.{Role}
 use Rattle.seat_steps.specs.declared.limits.Limits.{Limits}
@@ -26,7 +26,7 @@ use Rattle.serve_run.specs.Statuses.{status_by, worst}
 use Rattle.serve_run.specs.ServerLaw.{Sides, ServerLaw, IsWritten, text_of}
 use Rattle.serve_run.proofs.LawsKept.{seen_through, laws_kept}
 use Rattle.serve_run.proofs.PassesBack.{unserved_stay}
-use Rattle.serve_run.proofs.NumbersTaken.{jobs_from, once_both, all_in}
+use Rattle.serve_run.proofs.NumbersTaken.{AllIn, jobs_from, once_both, all_in, of_jobs}
 use Rattle.serve_run.proofs.OnlyRootJoins.{plain_reports, plain_unserved, plain_pushed, only_root}
 
 drop_front : {A : Type 0} (xs ys : List A) (n : ℕ) → n ≡ length xs → drop n (xs ++ ys) ≡ ys
@@ -75,7 +75,8 @@ pub record Run (asked : Serving) (before after : Sides) (status : ServeStatus) :
   pub within : count ≤ length asked.order
   pub doors : after.links ≡ before.links ++ take count (doors_of asked.order)
   pub accepted : Result (Unit {0}) Stop
-  pub links : LinksStarted hub first linked before.started after.started asked.order count accepted
+  pub links : LinksStarted hub first linked before.started after.started asked.order
+      (length before.links + 1) count accepted
   pub all : OnOk accepted (count ≡ length asked.order)
   pub doors_open : OnOk accepted ((d : Door) → after.opened d ≡ true)
   pub starts : (after.before_start ≡ before.before_start) ⊎ (after.before_start ≡ length before.reports)
@@ -97,7 +98,7 @@ pub record Run (asked : Serving) (before after : Sides) (status : ServeStatus) :
   pub copied : HasSeen history 0 collected.seen
   pub settled : (n : ℕ) → IsIn n collected.taken → HasSeen history n collected.seen
   pub lawful : IsLawful hub.limits history
-  pub owned : ¬ (status ≡ statuses.NoMemory) → total (0 ∷ collected.taken) history ≡ length history
+  pub owned : total (0 ∷ collected.taken) history ≡ length history
   -- the text
   pub written : IsWritten status before.held after.held (text_of asked history)
   pub write : status ≡ statuses.WriteFault → Rose before.output_faults after.output_faults
@@ -142,11 +143,9 @@ law_of asked before after status run =
       given = run.given;
       reports = run.reports;
       served = links.count;
-      only_root = λ some. only_root run.collected.taken run.history
-          (all_in (0 ∷ run.collected.taken) run.history
-          (subst (λ taken. IsDistinct (0 ∷ taken)) (sym (taken_is are next_is))
-          (once_both links.count jobs (jobs_from 1 (take links.joined asked.order))))
-          (run.owned some))
+      of_links = of_jobs run.links.count jobs run.history
+          (subst (λ taken. AllIn (0 ∷ taken) run.history) (taken_is are next_is) (each_in are next_is));
+      only_root = only_root run.collected.taken run.history (each_in are next_is)
           (λ n out. plain_pushed run.history (map job_reported run.given) (pushed (drop links.count jobs) [])
           (plain_reports asked.limits run.history run.given laws)
           (plain_pushed run.history (drop links.count jobs) [] (plain_unserved asked.limits run.history _ unserved)
@@ -170,8 +169,11 @@ law_of asked before after status run =
       status_is = run.status_is;
     }
   where
+    first_link : ℕ
+    first_link = length before.links + 1
+
     jobs : List LinkedJob
-    jobs = jobs_of 1 (take run.links.joined asked.order)
+    jobs = jobs_of 1 first_link (take run.links.joined asked.order)
 
     tags : List Tag
     tags = run.links.jobs.tags
@@ -182,7 +184,7 @@ law_of asked before after status run =
         run.keyed ∙ (ap (λ t. map job_tagged (take (length run.given) t)) behind
         ∙ (ap (map job_tagged) (take_all (length run.given) tags few)
         ∙ (run.links.jobs.jobs_are
-        ∙ ap (λ n. take run.links.count (jobs_of n (take run.links.joined asked.order))) next_is)))
+        ∙ ap (λ n. take run.links.count (jobs_of n first_link (take run.links.joined asked.order))) next_is)))
 
     kept_laws : HaveLaws asked.limits run.history run.given
     kept_laws =
@@ -193,9 +195,9 @@ law_of asked before after status run =
     kept_unserved : run.first.next ≡ 1 → AreUnserved asked.limits run.history (drop run.links.count jobs)
     kept_unserved next_is =
         subst (λ n. AreUnserved asked.limits run.history
-        (drop run.links.count (jobs_of n (take run.links.joined asked.order)))) next_is
+        (drop run.links.count (jobs_of n first_link (take run.links.joined asked.order)))) next_is
         (subst (λ l. AreUnserved l run.history
-        (drop run.links.count (jobs_of run.first.next (take run.links.joined asked.order)))) run.limits
+        (drop run.links.count (jobs_of run.first.next first_link (take run.links.joined asked.order)))) run.limits
         (unserved_stay run.hub.limits run.linked.seen run.history run.first.taken _
         (λ n out. let back = subst (IsIn n) (sym run.links.others.taken) out in
         seen_through run.history run.collected.seen run.linked.seen n (run.settled n (run.kept n back).0)
@@ -208,12 +210,21 @@ law_of asked before after status run =
         run.taken ∙ ap (pushed (map job_reported run.given))
         (run.links.others.taken
         ∙ (ap (λ (s : PassSeat). pushed
-        (drop run.links.count (jobs_of run.first.next (take run.links.joined asked.order))) s.taken) run.new
-        ∙ ap (λ n. pushed (drop run.links.count (jobs_of n (take run.links.joined asked.order))) []) next_is))
+        (drop run.links.count (jobs_of run.first.next first_link (take run.links.joined asked.order))) s.taken) run.new
+        ∙ ap (λ n. pushed (drop run.links.count (jobs_of n first_link (take run.links.joined asked.order))) [])
+        next_is))
 
     taken_is : map job_reported run.given ≡ take run.links.count jobs → run.first.next ≡ 1
         → run.collected.taken ≡ pushed (take run.links.count jobs) (pushed (drop run.links.count jobs) [])
     taken_is are next_is = back_is next_is ∙ ap (λ js. pushed js (pushed (drop run.links.count jobs) [])) are
+
+    each_in : map job_reported run.given ≡ take run.links.count jobs → run.first.next ≡ 1
+        → AllIn (0 ∷ run.collected.taken) run.history
+    each_in are next_is =
+        all_in (0 ∷ run.collected.taken) run.history
+        (subst (λ taken. IsDistinct (0 ∷ taken)) (sym (taken_is are next_is))
+        (once_both run.links.count jobs (jobs_from 1 first_link (take run.links.joined asked.order))))
+        run.owned
 
     whole : (r : Result (Unit {0}) Stop) → OnOk r (run.links.count ≡ passes_of (take run.links.joined asked.order))
         → OnOk r (run.links.joined ≡ run.count) → OnOk r (run.count ≡ length asked.order)

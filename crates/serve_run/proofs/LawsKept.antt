@@ -1,12 +1,13 @@
 -- Reports keep their laws while the history grows by steps of others
-use Rattle.std.proofs.Common.{◌≡◌, ◌++◌, ◌∷◌, [], inl, inr, ℕ, List, refl, sym, ap, ◌∙◌, subst, append-nil}
+use Rattle.std.proofs.Common.{◌≡◌, ◌++◌, ◌∷◌, [], inl, inr, ℕ, List, Some, refl, sym, ap, ◌∙◌, subst, append-nil}
 use Rattle.std.proofs.Math.Logic.{∥∥₁_map}
 use Rattle.std.proofs.lemmas.List.{append_assoc}
 use Rattle.seat_steps.specs.declared.limits.Limits.{Limits}
 use Rattle.turn_lock.specs.Pairs.{own, HasSeen, IsIn}
 use Rattle.turn_lock.proofs.PairsOfNumbers.{own-append}
-use Rattle.hub_lock.specs.Histories.{History}
+use Rattle.hub_lock.specs.Histories.{History, reader_of, writer_of}
 use Rattle.hub_lock.specs.Passes.{PassSeat}
+use Rattle.hub_lock.proofs.ReadersStay.{reader-stays, writer-stays}
 use Rattle.link_jobs.specs.Tags.{Report, End}
 use Rattle.link_jobs.specs.Tags.End.{read, wrote, ordered}
 use Rattle.serve_run.specs.declared.stop.Trouble.{Trouble}
@@ -33,12 +34,21 @@ seat_kept limits before h r seat grows is = record {
   seen = seen_through h before seat.seen seat.number (subst (λ n. HasSeen h n before) (sym is.number) grows) is.seen;
 }
 
+-- who reads and writes for a peer stays
+
+pub reader-seen : (h seen : History) (n q m : ℕ) → HasSeen h n seen → reader_of seen q ≡ Some m → reader_of h q ≡ Some m
+reader-seen h seen n q m grows is = ap (λ g. reader_of g q) grows.1 ∙ reader-stays seen grows.0 q m is
+
+pub writer-seen : (h seen : History) (n q m : ℕ) → HasSeen h n seen → writer_of seen q ≡ Some m → writer_of h q ≡ Some m
+writer-seen h seen n q m grows is = ap (λ g. writer_of g q) grows.1 ∙ writer-stays seen grows.0 q m is
+
 law_kept : (limits : Limits) (before h : History) (r : Report) (end : End) → HasSeen h r.number before
     → LawOf limits before r end → LawOf limits h r end
 law_kept limits before h r (read end) grows law = record {
   pass = law.pass;
   seat = seat_kept limits before h r law.pass.seat grows law.seat;
   peer = law.peer;
+  reads = reader-seen h before r.number r.peer r.number grows law.reads;
   law = law.law;
   fault = law.fault;
 }
@@ -46,12 +56,14 @@ law_kept limits before h r (wrote end) grows law = record {
   pass = law.pass;
   seat = seat_kept limits before h r law.pass.seat grows law.seat;
   peer = law.peer;
+  writes = writer-seen h before r.number r.peer r.number grows law.writes;
   law = law.law;
   fault = law.fault;
 }
 law_kept limits before h r (ordered end) grows law = record {
   shell = law.shell;
   seat = seat_kept limits before h r law.shell grows law.seat;
+  nobody = law.nobody;
   law = law.law;
   read_fault = law.read_fault;
   write_fault = law.write_fault;

@@ -1,3 +1,4 @@
+pub mod EndsKept
 pub mod GoneAlone
 pub mod HandedEnds
 pub mod HandedRecorded

@@ -33,19 +33,19 @@ one_started hub started after t j are is on = record {
   on_hub = all_one (IsOnHub hub) t on;
 }
 
-module _ (hub : HubId) (root : PassSeat) (started : List Tag) (reads writes : ℕ) where
+module _ (hub : HubId) (root : PassSeat) (started : List Tag) (reads writes link : ℕ) where
   -- neither of two jobs was started
   pub none_of_two : (middle after : PassSeat) (stop : Stop) → 2 ≤ root.out → MayLack stop
       → IsGivenBack hub root middle reads → IsGoneAlone hub.limits middle.seen reads
       → IsGivenBack hub middle after writes → NoneOf writes after.seen
-      → BothStarted hub root after started started reads writes (Err stop)
+      → BothStarted hub root after started started reads writes link (Err stop)
   none_of_two middle after stop two may one gone other none = record {
     root_is = other.root_is;
     next = other.next ∙ one.next;
     joins = own-seen after.seen middle.seen 0 other.mine ∙ own-seen middle.seen root.seen 0 one.mine;
     count = 0;
     jobs = none_started hub started;
-    others = two_back hub root middle after (job reads reader) (job writes writer) one gone other none;
+    others = two_back hub root middle after (job reads link reader) (job writes link writer) one gone other none;
     balance = let x = one.out in let y = other.out in omega arith;
     all_started = tt;
     why = may;
@@ -53,16 +53,16 @@ module _ (hub : HubId) (root : PassSeat) (started : List Tag) (reads writes : �
 
   -- the first was
   pub one_of_two : (after : PassSeat) (more : List Tag) (t : Tag) (stop : Stop) → 2 ≤ root.out
-      → MayLack stop → more ≡ started ++ t ∷ [] → job_tagged t ≡ job reads reader → IsOnHub hub t
+      → MayLack stop → more ≡ started ++ t ∷ [] → job_tagged t ≡ job reads link reader → IsOnHub hub t
       → IsGivenBack hub root after writes → NoneOf writes after.seen
-      → BothStarted hub root after started more reads writes (Err stop)
+      → BothStarted hub root after started more reads writes link (Err stop)
   one_of_two after more t stop two may are is on back none = record {
     root_is = back.root_is;
     next = back.next;
     joins = own-seen after.seen root.seen 0 back.mine;
     count = 1;
-    jobs = one_started hub started more t (job reads reader) are is on;
-    others = one_back hub root after (job writes writer) back none;
+    jobs = one_started hub started more t (job reads link reader) are is on;
+    others = one_back hub root after (job writes link writer) back none;
     balance = let x = back.out in let y = ap length are ∙ length-append started (t ∷ []) in omega arith;
     all_started = tt;
     why = may;
@@ -70,17 +70,17 @@ module _ (hub : HubId) (root : PassSeat) (started : List Tag) (reads writes : �
 
   -- both were
   pub two_of_two : (after : PassSeat) (more most : List Tag) (t u : Tag) → IsRootOf hub root → after ≡ root
-      → more ≡ started ++ t ∷ [] → job_tagged t ≡ job reads reader → IsOnHub hub t
-      → most ≡ more ++ u ∷ [] → job_tagged u ≡ job writes writer → IsOnHub hub u
-      → BothStarted hub root after started most reads writes (Ok tt)
+      → more ≡ started ++ t ∷ [] → job_tagged t ≡ job reads link reader → IsOnHub hub t
+      → most ≡ more ++ u ∷ [] → job_tagged u ≡ job writes link writer → IsOnHub hub u
+      → BothStarted hub root after started most reads writes link (Ok tt)
   two_of_two after more most t u root_is same are is on are2 is2 on2 = record {
     root_is = subst (IsRootOf hub) (sym same) root_is;
     next = ap (λ (s : PassSeat). s.next) same;
     joins = ap (λ (s : PassSeat). own 0 s.seen) same;
     count = 2;
-    jobs = started_both hub started more most (job reads reader ∷ []) (job writes writer ∷ [])
-        (one_started hub started more t (job reads reader) are is on)
-        (one_started hub more most u (job writes writer) are2 is2 on2);
+    jobs = started_both hub started more most (job reads link reader ∷ []) (job writes link writer ∷ [])
+        (one_started hub started more t (job reads link reader) are is on)
+        (one_started hub more most u (job writes link writer) are2 is2 on2);
     others = none_back hub.limits root after [] refl (ap (λ (s : PassSeat). s.taken) same);
     balance =
         let x = ap (λ (s : PassSeat). s.out) same in
@@ -90,26 +90,27 @@ module _ (hub : HubId) (root : PassSeat) (started : List Tag) (reads writes : �
     why = tt;
   }
 
-module _ (hub : HubId) (root : PassSeat) (started : List Tag) (reads writes : ℕ) where
+module _ (hub : HubId) (root : PassSeat) (started : List Tag) (reads writes link : ℕ) where
   -- the first was started, and the second, or its pass is back
   pub first_of_two : (middle after : PassSeat) (more most : List Tag) (t u : Tag) (r : Result (Unit {0}) Stop)
-      → 2 ≤ root.out → IsRootOf hub root → middle ≡ root → more ≡ started ++ t ∷ [] → job_tagged t ≡ job reads reader
-      → IsOnHub hub t → job_tagged u ≡ job writes writer → IsOnHub hub u → OnOk r (after ≡ middle)
+      → 2 ≤ root.out → IsRootOf hub root → middle ≡ root → more ≡ started ++ t ∷ []
+      → job_tagged t ≡ job reads link reader
+      → IsOnHub hub t → job_tagged u ≡ job writes link writer → IsOnHub hub u → OnOk r (after ≡ middle)
       → OnOk r (most ≡ more ++ u ∷ []) → OnErr r (IsGivenBack hub middle after writes) →
       OnErr r (NoneOf writes after.seen)
-      → OnErr r (most ≡ more) → IfErr r MayLack → BothStarted hub root after started most reads writes r
+      → OnErr r (most ≡ more) → IfErr r MayLack → BothStarted hub root after started most reads writes link r
   first_of_two middle after more most t u (Ok done) two is same are of on of2 on2 kept are2 back made none may =
-      two_of_two hub root started reads writes after more most t u is (kept ∙ same) are of on are2 of2 on2
+      two_of_two hub root started reads writes link after more most t u is (kept ∙ same) are of on are2 of2 on2
   first_of_two middle after more most t u (Err stop) two is same are of on of2 on2 kept are2 back made none may =
-      subst (λ tags. BothStarted hub root after started tags reads writes (Err stop)) (sym none)
-      (one_of_two hub root started reads writes after more t stop two may are of on
+      subst (λ tags. BothStarted hub root after started tags reads writes link (Err stop)) (sym none)
+      (one_of_two hub root started reads writes link after more t stop two may are of on
       (subst (λ m. IsGivenBack hub m after writes) same back) made)
 
-module _ (hub : HubId) (root : PassSeat) (started : List Tag) where
+module _ (hub : HubId) (root : PassSeat) (started : List Tag) (link : ℕ) where
   -- a peer's join was refused
   pub link_refused : (after : PassSeat) (role : Role) (stop : Stop) → IsNotJoined hub root after
       → WasRefused hub.limits after.seen (Some role) (stopped stop)
-      → LinkStarted hub root after started started (Some role) (Err stop)
+      → LinkStarted hub root after started started link (Some role) (Err stop)
   link_refused after role stop not was = record {
     root_is = not.root_is;
     is_joined = false;
@@ -130,8 +131,8 @@ module _ (hub : HubId) (root : PassSeat) (started : List Tag) where
   -- it joined, and its jobs were started, or the first of them
   pub link_of_both : (joined after : PassSeat) (more : List Tag) (role : Role) (one other : PeerPass)
       (r : Result (Unit {0}) Stop) → IsJoinedBy hub root joined role one other
-      → BothStarted hub joined after started more one.seat.number other.seat.number r
-      → LinkStarted hub root after started more (Some role) r
+      → BothStarted hub joined after started more one.seat.number other.seat.number link r
+      → LinkStarted hub root after started more link (Some role) r
   link_of_both joined after more role one other r is both = record {
     root_is = both.root_is;
     is_joined = true;
@@ -139,16 +140,18 @@ module _ (hub : HubId) (root : PassSeat) (started : List Tag) where
     joins = both.joins ∙ is.joins;
     count = both.count;
     jobs = subst
-        (λ n. AreStarted hub started more (take both.count (job n reader ∷ job (root.next + 1) writer ∷ [])))
+        (λ n. AreStarted hub started more (take both.count (job n link reader ∷ job (root.next + 1) link writer ∷ [])))
         is.reader_number
-        (subst (λ n. AreStarted hub started more (take both.count (job one.seat.number reader ∷ job n writer ∷ [])))
+        (subst (λ n. AreStarted hub started more
+        (take both.count (job one.seat.number link reader ∷ job n link writer ∷ [])))
         is.writer_number both.jobs);
     none_else = λ e. absurd cc;
     others = λ e. subst
-        (λ n. AreGivenBack hub.limits root after (drop both.count (job n reader ∷ job (root.next + 1) writer ∷ [])))
+        (λ n. AreGivenBack hub.limits root after
+        (drop both.count (job n link reader ∷ job (root.next + 1) link writer ∷ [])))
         is.reader_number
         (subst (λ n. AreGivenBack hub.limits root after
-        (drop both.count (job one.seat.number reader ∷ job n writer ∷ []))) is.writer_number
+        (drop both.count (job one.seat.number link reader ∷ job n link writer ∷ []))) is.writer_number
         (back_since hub.limits root joined after _ is.taken both.others));
     same = λ e. absurd cc;
     balance = let x = is.out in let y = both.balance in omega arith;
@@ -160,15 +163,15 @@ module _ (hub : HubId) (root : PassSeat) (started : List Tag) where
 
   -- a shell's job was started
   pub shell_started : (split after : PassSeat) (more : List Tag) (t : Tag) → IsRootOf hub split
-      → split ≡ after_split root → after ≡ split → more ≡ started ++ t ∷ [] → job_tagged t ≡ job root.next shell
-      → IsOnHub hub t → LinkStarted hub root after started more None (Ok tt)
+      → split ≡ after_split root → after ≡ split → more ≡ started ++ t ∷ [] → job_tagged t ≡ job root.next link shell
+      → IsOnHub hub t → LinkStarted hub root after started more link None (Ok tt)
   shell_started split after more t is same kept are tagged on = record {
     root_is = subst (IsRootOf hub) (sym kept) is;
     is_joined = true;
     next = ap (λ (s : PassSeat). s.next) (kept ∙ same);
     joins = ap (λ (s : PassSeat). own 0 s.seen) (kept ∙ same) ∙ sym (append-nil (own 0 root.seen));
     count = 1;
-    jobs = one_started hub started more t (job root.next shell) are tagged on;
+    jobs = one_started hub started more t (job root.next link shell) are tagged on;
     none_else = λ e. absurd cc;
     balance =
         let x = ap (λ (s : PassSeat). s.out) (kept ∙ same) in
@@ -184,7 +187,7 @@ module _ (hub : HubId) (root : PassSeat) (started : List Tag) where
   -- a shell's pass is back
   pub shell_given_back : (split after : PassSeat) (stop : Stop) → split ≡ after_split root → MayLack stop
       → IsGivenBack hub split after root.next → NoneOf root.next after.seen
-      → LinkStarted hub root after started started None (Err stop)
+      → LinkStarted hub root after started started link None (Err stop)
   shell_given_back split after stop same may back none = record {
     root_is = back.root_is;
     is_joined = true;
@@ -195,7 +198,7 @@ module _ (hub : HubId) (root : PassSeat) (started : List Tag) where
     jobs = none_started hub started;
     none_else = λ e. absurd cc;
     others = λ e. back_since hub.limits root split after _ (ap (λ (s : PassSeat). s.taken) same)
-        (one_back hub split after (job root.next shell) back none);
+        (one_back hub split after (job root.next link shell) back none);
     same = λ e. absurd cc;
     balance = let x = ap (λ (s : PassSeat). s.out) same in let y = back.out in omega arith;
     all_joined = tt;
@@ -206,12 +209,12 @@ module _ (hub : HubId) (root : PassSeat) (started : List Tag) where
 
   -- a shell's job was started, or its pass is back
   pub shell_by : (split after : PassSeat) (more : List Tag) (t : Tag) (r : Result (Unit {0}) Stop) → IsRootOf hub split
-      → split ≡ after_split root → job_tagged t ≡ job root.next shell → IsOnHub hub t → OnOk r (after ≡ split)
+      → split ≡ after_split root → job_tagged t ≡ job root.next link shell → IsOnHub hub t → OnOk r (after ≡ split)
       → OnOk r (more ≡ started ++ t ∷ []) → OnErr r (IsGivenBack hub split after root.next)
       → OnErr r (NoneOf root.next after.seen) → OnErr r (more ≡ started) → IfErr r MayLack
-      → LinkStarted hub root after started more None r
+      → LinkStarted hub root after started more link None r
   shell_by split after more t (Ok done) is same of on kept are back made none may =
       shell_started split after more t is same kept are of on
   shell_by split after more t (Err stop) is same of on kept are back made none may =
-      subst (λ tags. LinkStarted hub root after started tags None (Err stop)) (sym none)
+      subst (λ tags. LinkStarted hub root after started tags link None (Err stop)) (sym none)
       (shell_given_back split after stop same may back made)

@@ -1,5 +1,5 @@
 -- The numbers of the passes that came back are those that the root gave away, each once
-use Rattle.std.proofs.Common.{◌≡◌, inl, inr, ⊎_elim, ◌+◌, ◌<◌, ◌≤◌, ◌++◌, ◌∷◌, [], ℕ, zero, suc, eqb, List, length, take, drop, Option, Some, None, refl, sym, ap, subst, arith, ne_eqb}
+use Rattle.std.proofs.Common.{◌≡◌, ◌⊎◌, inl, inr, ⊎_elim, ◌+◌, ◌<◌, ◌≤◌, ◌++◌, ◌∷◌, [], ℕ, zero, suc, eqb, List, length, take, drop, Option, Some, None, refl, sym, ap, subst, arith, ne_eqb}
 use mathlib.Core.Logic.{dite}
 use native.Mathlib.Decide.{ℕ_discrete}
 use Rattle.relay_model.specs.declared.role.Role.{Role}
@@ -7,7 +7,7 @@ use Rattle.turn_lock.specs.Pairs.{IsIn, IsDistinct, total}
 use Rattle.turn_lock.specs.Rule.{bit}
 use Rattle.turn_lock.proofs.TotalsOfPairs.{hits, hits-once, total-cons, total-few}
 use Rattle.hub_lock.specs.Histories.{History}
-use Rattle.serve_run.specs.LinkJobs.{LinkedJob, role_at, jobs_by, passes_by, jobs_of}
+use Rattle.serve_run.specs.LinkJobs.{LinkedJob, IsOfJobs, StepsAreOf, role_at, jobs_by, passes_by, jobs_of}
 use Rattle.serve_run.specs.Unserved.{pushed}
 use Rattle.serve_run.proofs.JobsInOrder.{jobs_counted}
 
@@ -31,18 +31,18 @@ from_both n [] b first then = subst (λ m. AreFrom m b) (omega arith) then
 from_both n (j ∷ a) b first then =
     (first.0, from_both (n + 1) a b first.1 (subst (λ m. AreFrom m b) (omega arith) then))
 
-by_from : (next : ℕ) (role : Option Role) → AreFrom next (jobs_by next role)
-by_from next None = (refl, tt)
-by_from next (Some role) = (refl, (refl, tt))
+by_from : (next link : ℕ) (role : Option Role) → AreFrom next (jobs_by next link role)
+by_from next link None = (refl, tt)
+by_from next link (Some role) = (refl, (refl, tt))
 
-pub jobs_from : (next : ℕ) (letters : List ℕ) → AreFrom next (jobs_of next letters)
-jobs_from next [] = tt
-jobs_from next (d ∷ letters) =
-    from_both next (jobs_by next (role_at d)) (jobs_of (next + passes_by (role_at d)) letters)
-    (by_from next (role_at d))
-    (subst (λ n. AreFrom (next + n) (jobs_of (next + passes_by (role_at d)) letters))
-    (sym (jobs_counted next (role_at d)))
-    (jobs_from (next + passes_by (role_at d)) letters))
+pub jobs_from : (next link : ℕ) (letters : List ℕ) → AreFrom next (jobs_of next link letters)
+jobs_from next link [] = tt
+jobs_from next link (d ∷ letters) =
+    from_both next (jobs_by next link (role_at d)) (jobs_of (next + passes_by (role_at d)) (link + 1) letters)
+    (by_from next link (role_at d))
+    (subst (λ n. AreFrom (next + n) (jobs_of (next + passes_by (role_at d)) (link + 1) letters))
+    (sym (jobs_counted next link (role_at d)))
+    (jobs_from (next + passes_by (role_at d)) (link + 1) letters))
 
 front_from : (n k : ℕ) (jobs : List LinkedJob) → AreFrom n jobs → AreFrom n (take k jobs)
 front_from n zero jobs from = tt
@@ -113,3 +113,60 @@ all_in ns (x ∷ h) once all =
     let rest = total-few ns h once in
     let both = total-cons ns x h in
     (hit_in ns x.0 (omega arith), all_in ns h once (omega arith))
+
+-- each is the root's, or one of the jobs'
+
+abbrev HasJob : List LinkedJob → ℕ → Type 0
+HasJob [] n = ⊥
+HasJob (j ∷ jobs) n = (n ≡ j.number) ⊎ HasJob jobs n
+
+more_or : (j : LinkedJob) (jobs : List LinkedJob) (taken : List ℕ) (n : ℕ) → HasJob jobs n ⊎ IsIn n (j.number ∷ taken)
+    → HasJob (j ∷ jobs) n ⊎ IsIn n taken
+more_or j jobs taken n (inl h) = inl (inr h)
+more_or j jobs taken n (inr (inl e)) = inl (inl (sym e))
+more_or j jobs taken n (inr (inr i)) = inr i
+
+in_pushed : (jobs : List LinkedJob) (taken : List ℕ) (n : ℕ) → IsIn n (pushed jobs taken)
+    → HasJob jobs n ⊎ IsIn n taken
+in_pushed [] taken n i = inr i
+in_pushed (j ∷ jobs) taken n i = more_or j jobs taken n (in_pushed jobs (j.number ∷ taken) n i)
+
+has_front : (k : ℕ) (jobs : List LinkedJob) (n : ℕ) → HasJob (take k jobs) n → HasJob jobs n
+has_front zero jobs n h = absurd h
+has_front (suc k) [] n h = absurd h
+has_front (suc k) (j ∷ jobs) n (inl e) = inl e
+has_front (suc k) (j ∷ jobs) n (inr h) = inr (has_front k jobs n h)
+
+has_rest : (k : ℕ) (jobs : List LinkedJob) (n : ℕ) → HasJob (drop k jobs) n → HasJob jobs n
+has_rest zero jobs n h = h
+has_rest (suc k) [] n h = absurd h
+has_rest (suc k) (j ∷ jobs) n h = inr (has_rest k jobs n h)
+
+of_has : (jobs : List LinkedJob) (n : ℕ) → HasJob jobs n → IsOfJobs jobs n
+of_has [] n h = absurd h
+of_has (j ∷ jobs) n (inl e) = inl e
+of_has (j ∷ jobs) n (inr h) = inr (of_has jobs n h)
+
+of_root : (jobs : List LinkedJob) (n : ℕ) → n ≡ 0 → IsOfJobs jobs n
+of_root [] n zero_is = zero_is
+of_root (j ∷ jobs) n zero_is = inr (of_root jobs n zero_is)
+
+of_back : (served : ℕ) (jobs : List LinkedJob) (n : ℕ) → HasJob (drop served jobs) n ⊎ IsIn n [] → IsOfJobs jobs n
+of_back served jobs n (inl h) = of_has jobs n (has_rest served jobs n h)
+of_back served jobs n (inr i) = absurd i
+
+of_taken : (served : ℕ) (jobs : List LinkedJob) (n : ℕ)
+    → HasJob (take served jobs) n ⊎ IsIn n (pushed (drop served jobs) []) → IsOfJobs jobs n
+of_taken served jobs n (inl h) = of_has jobs n (has_front served jobs n h)
+of_taken served jobs n (inr i) = of_back served jobs n (in_pushed (drop served jobs) [] n i)
+
+of_either : (served : ℕ) (jobs : List LinkedJob) (n : ℕ)
+    → IsIn n (0 ∷ pushed (take served jobs) (pushed (drop served jobs) [])) → IsOfJobs jobs n
+of_either served jobs n (inl e) = of_root jobs n (sym e)
+of_either served jobs n (inr i) =
+    of_taken served jobs n (in_pushed (take served jobs) (pushed (drop served jobs) []) n i)
+
+pub of_jobs : (served : ℕ) (jobs : List LinkedJob) (h : History)
+    → AllIn (0 ∷ pushed (take served jobs) (pushed (drop served jobs) [])) h → StepsAreOf jobs h
+of_jobs served jobs [] all = tt
+of_jobs served jobs (x ∷ h) all = (of_either served jobs x.0 all.0, of_jobs served jobs h all.1)

@@ -10,6 +10,7 @@ use Rattle.link_jobs.specs.Tags.Part.{reader, writer, shell}
 use Rattle.serve_run.specs.LinkJobs.{LinkedJob}
 use Rattle.serve_run.specs.Unserved.{MadeBy, AreUnserved, pushed}
 use Rattle.serve_run.specs.Started.{IsGivenBack, AreGivenBack}
+use Rattle.serve_run.proofs.EndsKept.{end-seen}
 use Rattle.serve_run.proofs.LawsKept.{seen_through}
 use Rattle.serve_run.proofs.NumbersTaken.{in_before}
 
@@ -33,6 +34,7 @@ made_stays limits before h n reader grows made = record {
   seen = seen_through h before made.pass.seat.seen n grows made.seen;
   reads = made.reads;
   says = made.says;
+  ended = end-seen limits h before n made.pass.peer grows made.ended;
 }
 made_stays limits before h n writer grows made = own-seen h before n grows ∙ made
 made_stays limits before h n shell grows made = own-seen h before n grows ∙ made

@@ -27,7 +27,9 @@ take_next (y ∷ xs) (suc base) n x is =
 
 -- a report has the job of its tag
 pub job_is : (tag : Tag) (r : Report) → IsReportOf tag r → job_reported r ≡ job_tagged tag
-job_is tag r is = ap (λ n. job n r.part) is.number ∙ ap (λ p. job tag.number p) is.part
+job_is tag r is =
+    ap (λ n. job n r.link r.part) is.number
+    ∙ (ap (λ l. job tag.number l r.part) is.link ∙ ap (λ p. job tag.number tag.link p) is.part)
 
 -- one result more
 pub reported_more : (tags : List Tag) (base : ℕ) (given : List Report) (r : Report) (t : Tag)

@@ -36,8 +36,7 @@ pub record IsEnded (hub : HubId) (linked : PassSeat) (started : List Tag)
   pub copied : HasSeen history 0 collected.seen
   pub settled : (n : ℕ) → IsIn n collected.taken → HasSeen history n collected.seen
   pub lawful : IsLawful hub.limits history
-  pub owned : ¬ (status ≡ statuses.NoMemory) →
-      total (0 ∷ collected.taken) history ≡ length history
+  pub owned : total (0 ∷ collected.taken) history ≡ length history
   pub written : IsWritten status held held'
       (recorded hub.limits (broker_of hub.limits history).journal
       (broker_of hub.limits history).stamps)

@@ -2,7 +2,7 @@
 use Rattle.std.specs.Prelude.{◌≡◌, ℕ, ◌≤◌, List, [], ◌∷◌, Some}
 use Rattle.seat_steps.specs.declared.limits.Limits.{Limits}
 use Rattle.turn_lock.specs.Pairs.{HasSeen, IsIn}
-use Rattle.hub_lock.specs.Histories.{History}
+use Rattle.hub_lock.specs.Histories.{History, reader_of, writer_of}
 use Rattle.hub_lock.specs.Passes.{PassSeat, PeerPass}
 use Rattle.peer_link.specs.declared.ends.ReadEnd.{ReadEnd}
 use Rattle.peer_link.specs.declared.ends.ReadEnd.TheVariants as read_ends
@@ -20,26 +20,31 @@ pub record IsSeatOf (limits : Limits) (h : History) (r : Report) (seat : PassSea
   pub constant : seat.constant ≡ Some limits
   pub seen : HasSeen h seat.number seat.seen
 
--- a reader: its pass made of the bytes that its link gave what the law of readers says
+-- a reader: its pass, which reads for the peer, made of the bytes that its link gave what the law
+-- of readers says
 pub record IsReader (limits : Limits) (h : History) (r : Report) (end : ReadEnd) : Type 0 where
   pub pass : PeerPass
   pub seat : IsSeatOf limits h r pass.seat
   pub peer : pass.peer ≡ r.peer
+  pub reads : reader_of h r.peer ≡ Some r.number
   pub law : HasRead pass r.given r.left end
   pub fault : end ≡ read_ends.ReadFault → 1 ≤ r.source_faults
 
--- a writer: its link gained of what its pass took what the law of writers says
+-- a writer: its link gained of what its pass, which writes for the peer, took what the law of
+-- writers says
 pub record IsWriter (limits : Limits) (h : History) (r : Report) (end : WriteEnd) : Type 0 where
   pub pass : PeerPass
   pub seat : IsSeatOf limits h r pass.seat
   pub peer : pass.peer ≡ r.peer
+  pub writes : writer_of h r.peer ≡ Some r.number
   pub law : HasWritten pass r.held end
   pub fault : end ≡ write_ends.WriteFault → 1 ≤ r.sink_faults
 
--- a shell: its pass ordered, and its link gained, what the law of shells says
+-- a shell, which is no peer: its pass ordered, and its link gained, what the law of shells says
 pub record IsShell (limits : Limits) (h : History) (r : Report) (end : ShellEnd) : Type 0 where
   pub shell : PassSeat
   pub seat : IsSeatOf limits h r shell
+  pub nobody : r.peer ≡ 0
   pub law : HasOrdered shell r.given r.left r.held end
   pub read_fault : end ≡ shell_ends.ReadFault → 1 ≤ r.source_faults
   pub write_fault : end ≡ shell_ends.WriteFault → 1 ≤ r.sink_faults

@@ -16,7 +16,7 @@ use Rattle.serve_run.specs.declared.status.ServeStatus.{ServeStatus}
 use Rattle.serve_run.specs.declared.status.ServeStatus.TheVariants as statuses
 use Rattle.serve_run.specs.declared.stop.Stop.{Stop}
 use Rattle.serve_run.specs.declared.stop.Stop.TheVariants as stops
-use Rattle.serve_run.specs.LinkJobs.{job_reported, jobs_of, joins_of, passes_of}
+use Rattle.serve_run.specs.LinkJobs.{StepsAreOf, job_reported, jobs_of, joins_of, passes_of}
 use Rattle.serve_run.specs.Reported.{HaveLaws}
 use Rattle.serve_run.specs.Started.{MayLack}
 use Rattle.serve_run.specs.Refused.{JoinedUnless}
@@ -83,27 +83,29 @@ pub record ServerLaw (asked : Serving) (before after : Sides) (status : ServeSta
   pub accepted : ℕ
   pub within : accepted ≤ length asked.order
   pub doors : after.links ≡ before.links ++ take accepted (doors_of asked.order)
-  -- each was joined, or all but the last; the joins of the root are theirs, in order, and, where
-  -- there was memory for the session, there are no others
+  -- each was joined, or all but the last; the root's steps are the joins of these, in order, there
+  -- are no other joins, and each other step is of the pass of a job of these links
   pub joined : ℕ
   pub none_more : joined ≤ accepted
   pub near : accepted ≤ joined + 1
   pub refused : JoinedUnless asked.limits history asked.order joined accepted stop
   pub joins : own 0 history ≡ joins_of 1 (take joined asked.order)
-  pub only_root : ¬ (status ≡ statuses.NoMemory) → OnlyRootJoins history
-  -- the results that came are those of a reader and a writer of each peer that joined, and of each
-  -- shell, in order; of the last link some may lack. Each has its loop law.
+  pub only_root : OnlyRootJoins history
+  pub of_links : StepsAreOf (jobs_of 1 (length before.links + 1) (take joined asked.order)) history
+  -- the results that came are those of a reader and a writer of each peer that joined, both of its
+  -- link, and of each shell, in order; of the last link some may lack. Each has its loop law.
   pub given : List Report
   pub reports : after.reports ≡ before.reports ++ given
   pub served : ℕ
-  pub are : map job_reported given ≡ take served (jobs_of 1 (take joined asked.order))
+  pub are : map job_reported given
+      ≡ take served (jobs_of 1 (length before.links + 1) (take joined asked.order))
   pub before_last : passes_of (take (joined - 1) asked.order) ≤ served
   pub laws : HaveLaws asked.limits history given
   -- some lack only where memory or a thread did; of those a reader's pass says that its link is
-  -- gone, and no other anything
+  -- gone, so that its peer has its end, and no other anything
   pub lacks : (served ≡ passes_of (take joined asked.order)) ⊎ IfErr stop MayLack
   pub unserved : AreUnserved asked.limits history
-      (drop served (jobs_of 1 (take joined asked.order)))
+      (drop served (jobs_of 1 (length before.links + 1) (take joined asked.order)))
   -- as many came as jobs were started, none of them before the last start
   pub as_many : length after.started ≡ length before.started + length given
   pub starts : (after.before_start ≡ before.before_start)

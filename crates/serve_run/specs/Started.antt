@@ -79,27 +79,28 @@ pub record AreGivenBack (limits : Limits) (root root' : PassSeat)
   pub taken : root'.taken ≡ pushed jobs root.taken
   pub made : AreUnserved limits root'.seen jobs
 
--- the first of a peer's two jobs were started, whose passes have these numbers; those that weren't
--- are back
+-- the first of a peer's two jobs were started, whose passes have these numbers and which serve this
+-- link; those that weren't are back
 pub record BothStarted (hub : HubId) (root root' : PassSeat) (started started' : List Tag)
-    (reads writes : ℕ)
+    (reads writes link : ℕ)
     (accepted : Result (Unit {0}) Stop) : Type 0 where
   pub root_is : IsRootOf hub root'
   pub next : root'.next ≡ root.next
   pub joins : own 0 root'.seen ≡ own 0 root.seen
   pub count : ℕ
   pub jobs : AreStarted hub started started'
-      (take count (job reads reader ∷ job writes writer ∷ []))
+      (take count (job reads link reader ∷ job writes link writer ∷ []))
   pub others : AreGivenBack hub.limits root root'
-      (drop count (job reads reader ∷ job writes writer ∷ []))
+      (drop count (job reads link reader ∷ job writes link writer ∷ []))
   pub balance : root'.out + length started + 2 ≡ root.out + length started'
   pub all_started : OnOk accepted (count ≡ 2)
   pub why : IfErr accepted MayLack
 
--- A link of that role was joined, unless that was refused, and the first of its jobs were started;
--- the passes of the others are back. As many passes more are out as jobs were started.
+-- The link of that number and role was joined, unless that was refused, and the first of its jobs
+-- were started; the passes of the others are back. As many passes more are out as jobs were
+-- started.
 pub record LinkStarted (hub : HubId) (root root' : PassSeat) (started started' : List Tag)
-    (role : Option Role)
+    (link : ℕ) (role : Option Role)
     (accepted : Result (Unit {0}) Stop) : Type 0 where
   pub root_is : IsRootOf hub root'
   pub is_joined : Bool
@@ -107,10 +108,10 @@ pub record LinkStarted (hub : HubId) (root root' : PassSeat) (started started' :
   pub joins : own 0 root'.seen
       ≡ own 0 root.seen ++ (if is_joined then joins_by root.next role else [])
   pub count : ℕ
-  pub jobs : AreStarted hub started started' (take count (jobs_by root.next role))
+  pub jobs : AreStarted hub started started' (take count (jobs_by root.next link role))
   pub none_else : is_joined ≡ false → count ≡ 0
   pub others : is_joined ≡ true →
-      AreGivenBack hub.limits root root' (drop count (jobs_by root.next role))
+      AreGivenBack hub.limits root root' (drop count (jobs_by root.next link role))
   pub balance : root'.out + length started ≡ root.out + length started'
   pub all_joined : OnOk accepted (is_joined ≡ true)
   pub all_started : OnOk accepted (count ≡ passes_by role)
@@ -118,23 +119,24 @@ pub record LinkStarted (hub : HubId) (root root' : PassSeat) (started started' :
   pub refused : is_joined ≡ false → WasRefused hub.limits root'.seen role accepted
   pub lacks : is_joined ≡ true → IfErr accepted MayLack
 
--- the links of the first so many letters were joined and started, with all their jobs
+-- the links of the first so many letters were joined and started, with all their jobs; the first of
+-- them has this number
 pub record AllStarted (hub : HubId) (root root' : PassSeat) (started started' : List Tag)
-    (letters : List ℕ) (count : ℕ)
+    (letters : List ℕ) (first count : ℕ)
     : Type 0 where
   pub root_is : IsRootOf hub root'
   pub next : root'.next ≡ root.next + passes_of (take count letters)
   pub joins : own 0 root'.seen ≡ own 0 root.seen ++ joins_of root.next (take count letters)
-  pub jobs : AreStarted hub started started' (jobs_of root.next (take count letters))
+  pub jobs : AreStarted hub started started' (jobs_of root.next first (take count letters))
   pub taken : root'.taken ≡ root.taken
   pub balance : root'.out + length started ≡ root.out + length started'
 
--- The links of the first letters were joined and started: all that were accepted, or all but the
--- last, whose join was refused. Where memory or a thread lacked, the last of them may lack some of
--- its jobs, whose passes are back.
+-- The links of the first letters, from this number on, were joined and started: all that were
+-- accepted, or all but the last, whose join was refused. Where memory or a thread lacked, the last
+-- of them may lack some of its jobs, whose passes are back.
 pub record LinksStarted (hub : HubId) (root root' : PassSeat) (started started' : List Tag)
     (letters : List ℕ)
-    (accepted : ℕ) (result : Result (Unit {0}) Stop) : Type 0 where
+    (first accepted : ℕ) (result : Result (Unit {0}) Stop) : Type 0 where
   pub root_is : IsRootOf hub root'
   pub joined : ℕ
   pub none_more : joined ≤ accepted
@@ -142,10 +144,11 @@ pub record LinksStarted (hub : HubId) (root root' : PassSeat) (started started' 
   pub next : root'.next ≡ root.next + passes_of (take joined letters)
   pub joins : own 0 root'.seen ≡ own 0 root.seen ++ joins_of root.next (take joined letters)
   pub count : ℕ
-  pub jobs : AreStarted hub started started' (take count (jobs_of root.next (take joined letters)))
+  pub jobs : AreStarted hub started started'
+      (take count (jobs_of root.next first (take joined letters)))
   pub before_last : passes_of (take (joined - 1) letters) ≤ count
   pub others : AreGivenBack hub.limits root root'
-      (drop count (jobs_of root.next (take joined letters)))
+      (drop count (jobs_of root.next first (take joined letters)))
   pub balance : root'.out + length started ≡ root.out + length started'
   pub all_joined : OnOk result (joined ≡ accepted)
   pub all_started : OnOk result (count ≡ passes_of (take joined letters))

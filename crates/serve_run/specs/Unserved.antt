@@ -3,6 +3,7 @@ use Rattle.std.specs.Prelude.{◌≡◌, ◌⊎◌, ℕ, List, [], ◌∷◌, So
 use Rattle.relay_model.specs.declared.act.EndCause.{EndCause}
 use Rattle.relay_model.specs.declared.act.EndCause.TheVariants.{Gone}
 use Rattle.seat_steps.specs.declared.limits.Limits.{Limits}
+use Rattle.broker_model.specs.declared.journal.Entry.{Entry}
 use Rattle.broker_model.specs.declared.journal.Entry.TheVariants as entries
 use Rattle.broker_core.specs.Stands.{end_of}
 use Rattle.turn_lock.specs.Pairs.{NoneOf, HasSeen}
@@ -20,13 +21,19 @@ SaysGone limits p =
     ⊎ ((entries_by p.seat ≡ []) × (cause : EndCause)
     × (end_of (journal_of limits p.seat.seen) p.peer ≡ Some cause))
 
--- so it is in the history of the pass with this number, which is its peer's reader's
+-- the journal has an end of the peer
+abbrev pub HasEnd : List Entry → ℕ → Type 0
+HasEnd journal q = (cause : EndCause) × (end_of journal q ≡ Some cause)
+
+-- so it is in the history of the pass with this number, which is its peer's reader's, and the peer
+-- has its end
 pub record IsGoneAlone (limits : Limits) (h : History) (n : ℕ) : Type 0 where
   pub pass : PeerPass
   pub number : pass.seat.number ≡ n
   pub seen : HasSeen h n pass.seat.seen
   pub reads : reader_of pass.seat.seen pass.peer ≡ Some n
   pub says : SaysGone limits pass
+  pub ended : HasEnd (journal_of limits h) pass.peer
 
 -- a reader that doesn't run says that its link is gone, and any other job nothing
 abbrev pub MadeBy : Limits → History → ℕ → Part → Type 0

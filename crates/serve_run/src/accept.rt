@@ -13,12 +13,12 @@ use crate::start::{start_peer, start_shell};
 use crate::stop::Stop;
 use hub_lock::{Gate, Hub, HubPass};
 use link_jobs::{LinkJob, Spawner};
-use link_nets::{LinkSink, Net};
+use link_nets::{LinkSink, LinkSource, Net};
 use relay_model::Role;
 use serve_words::door_of;
 use std::alloc::Global;
 use std::sync::{Arc, Wait};
-use wio_core::{Failed, Source};
+use wio_core::Failed;
 
 // The role of the peer that a letter lets in; a shell is none.
 fn role_of(letter: u8) -> Option<Role>
@@ -33,7 +33,7 @@ fn role_of(letter: u8) -> Option<Role>
 }
 
 // Starts the jobs of a link of a peer of this role, or of a shell.
-fn start_link<R: Wait, S: Source + Drop, K: LinkSink, G: Gate + Drop, W: Spawner<LinkJob<S, K, G>>>(
+fn start_link<R: Wait, S: LinkSource, K: LinkSink, G: Gate + Drop, W: Spawner<LinkJob<S, K, G>>>(
     rt: &R,
     alloc: Global,
     hub: &Arc<Hub, Global>,
@@ -47,10 +47,11 @@ fn start_link<R: Wait, S: Source + Drop, K: LinkSink, G: Gate + Drop, W: Spawner
     requires ready { (w : _) (j : _) → W.ready w j }
     requires root { IsRootOf (arc_value hub.now) root.old }
     requires room { root.old.next ≤ 2 ^ 63 }
-    requires source { IsNewSource (S.given source) (S.fault_count source) }
+    requires source { IsNewSource (S.Source.given source) (S.Source.fault_count source) }
     requires sink { IsNewSink (K.Sink.held sink) (K.Sink.fault_count sink) }
+    requires one { S.number source ≡ K.number sink }
     ensures started { LinkStarted (arc_value hub.now) root.old root.new (W.started spawner.old)
-        (W.started spawner.new) role result }
+        (W.started spawner.new) (S.number source) role result }
     ensures last { (W.before_start spawner.new ≡ W.before_start spawner.old)
         ⊎ (W.before_start spawner.new ≡ length (W.reports spawner.old)) }
     ensures reports { W.reports spawner.new ≡ W.reports spawner.old }
@@ -83,7 +84,7 @@ pub(crate) fn accept_all<R: Wait, N: Net, G: Gate + Drop, W: Spawner<LinkJob<N::
     ensures accepted { (count : ℕ) × (count ≤ length letters.now)
         × (N.links net.new ≡ N.links net.old ++ take count (doors_of letters.now))
         × LinksStarted (arc_value hub.now) root.old root.new (W.started spawner.old)
-        (W.started spawner.new) letters.now count result
+        (W.started spawner.new) letters.now (length (N.links net.old) + 1) count result
         × OnOk result (count ≡ length letters.now) }
     ensures open { (d : Door) → N.opened net.new d ≡ true }
     ensures last { (W.before_start spawner.new ≡ W.before_start spawner.old)

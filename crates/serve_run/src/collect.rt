@@ -15,7 +15,7 @@ ghost use Rattle.serve_run.specs.Unserved.{pushed};
 use crate::stop::{Trouble, trouble_of};
 use hub_lock::{Gate, Hub, HubPass, Pass};
 use link_jobs::{LinkDone, LinkJob, ReaderDone, ShellDone, Spawner, WriterDone};
-use link_nets::LinkSink;
+use link_nets::{LinkSink, LinkSource};
 use wio_core::Source;
 
 // Takes the pass of a reader back: its report has its law for all that the root has then seen.
@@ -25,6 +25,7 @@ fn take_reader<S: Source + Drop>(hub: &Hub, root: &mut HubPass, done: ReaderDone
     ensures back { IsGivenBack hub.now root.old root.new (reader_report done).number }
     ensures law { HasLaw hub.now.limits root.new.seen (reader_report done) }
 {
+    let _peer = done.pass.peer();
     hub.finish(root, Pass::Reader(done.pass));
 }
 
@@ -35,6 +36,7 @@ fn take_writer<K: LinkSink>(hub: &Hub, root: &mut HubPass, done: WriterDone<K>)
     ensures back { IsGivenBack hub.now root.old root.new (writer_report done).number }
     ensures law { HasLaw hub.now.limits root.new.seen (writer_report done) }
 {
+    let _peer = done.pass.peer();
     hub.finish(root, Pass::Writer(done.pass));
 }
 
@@ -64,7 +66,7 @@ fn take_result<S: Source + Drop, K: LinkSink>(hub: &Hub, root: &mut HubPass, don
 
 /// Takes all results, takes their passes back, and says what they brought. So many other passes stay
 /// out.
-pub(crate) fn collect<S: Source + Drop, K: LinkSink, G: Gate + Drop, W: Spawner<LinkJob<S, K, G>>>(
+pub(crate) fn collect<S: LinkSource, K: LinkSink, G: Gate + Drop, W: Spawner<LinkJob<S, K, G>>>(
     hub: &Hub,
     root: &mut HubPass,
     spawner: &mut W,

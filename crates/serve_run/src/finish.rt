@@ -1,5 +1,7 @@
 //! A run is brought to its end: the record is written while links run, and the results come back.
-ghost use Rattle.std.specs.Prelude.{◌≡◌, ◌≤◌, ◌+◌, ◌^◌, length};
+ghost use Rattle.std.specs.Prelude.{◌≡◌, ◌≤◌, ◌+◌, ◌^◌, ◌∷◌, ℕ, length};
+ghost use Rattle.turn_lock.specs.Pairs.{HasSeen, IsIn, total};
+ghost use Rattle.hub_lock.specs.Lawful.{IsLawful};
 ghost use Rattle.serve_run.specs.Ended.{IsEnded};
 ghost use Rattle.serve_run.specs.LinkJobs.{AreOnHub};
 ghost use Rattle.serve_run.specs.Started.{IsRootOf};
@@ -8,18 +10,33 @@ use crate::collect::collect;
 use crate::record::{record_first, record_last};
 use crate::status::ServeStatus;
 use crate::stop::{Stop, status_with};
-use hub_lock::{Gate, Hub, HubPass};
+use hub_lock::{Gate, Hub, HubPass, Pass};
 use link_jobs::{LinkJob, Spawner};
-use link_nets::LinkSink;
+use link_nets::{LinkSink, LinkSource};
 use seat_steps::Limits;
 use std::alloc::Global;
 use std::sync::Wait;
-use wio_core::{Sink, Source};
+use wio_core::Sink;
+
+// No pass is out: all that the root has seen is then counted.
+fn count_all(hub: &Hub, root: &mut HubPass)
+    requires root { IsRootOf hub.now root.old }
+    requires room { root.old.next ≤ 2 ^ 63 }
+    requires out { root.old.out ≡ 0 }
+    ensures mine { HasSeen root.new.seen 0 root.old.seen }
+    ensures settled { (n : ℕ) → IsIn n root.old.taken → HasSeen root.new.seen n root.old.seen }
+    ensures lawful { IsLawful hub.now.limits root.new.seen }
+    ensures owned { total (0 ∷ root.old.taken) root.new.seen ≡ length root.new.seen }
+{
+    let pass = hub.shell(root);
+    hub.finish(root, Pass::Shell(pass));
+    let _entries = root.seen();
+}
 
 /// Writes the recorded session as its entries come while the jobs run, and takes all results.
 pub(crate) fn finish_run<
     R: Wait,
-    S: Source + Drop,
+    S: LinkSource,
     L: LinkSink,
     G: Gate + Drop,
     W: Spawner<LinkJob<S, L, G>>,
@@ -60,7 +77,7 @@ pub(crate) fn finish_run<
         None => {
             // Nobody records yet, so this never comes.
             let _trouble = collect(hub, root, spawner, 0);
-            let _entries = root.seen();
+            count_all(hub, root);
             ServeStatus::NoMemory
         }
     }

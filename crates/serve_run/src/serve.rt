@@ -43,7 +43,7 @@ fn serve_links<R: Wait, N: Net, G: Gate + Drop, W: Spawner<LinkJob<N::In, N::Out
     ensures accepted { (count : ℕ) × (count ≤ length asked.now.order.now)
         × (N.links net.new ≡ N.links net.old ++ take count (doors_of asked.now.order.now))
         × LinksStarted (arc_value hub.now) root.old root.new (W.started spawner.old)
-        (W.started spawner.new) asked.now.order.now count result
+        (W.started spawner.new) asked.now.order.now (length (N.links net.old) + 1) count result
         × OnOk result (count ≡ length asked.now.order.now) }
     ensures open { OnOk result ((d : Door) → N.opened net.new d ≡ true) }
     ensures last { (W.before_start spawner.new ≡ W.before_start spawner.old)

@@ -10,23 +10,23 @@ ghost use Rattle.hub_lock.specs.Passes.{IsOf, steps_of};
 ghost use Rattle.hub_lock.specs.Finished.{seat_of};
 ghost use Rattle.hub_lock.specs.Histories.{reader_of};
 ghost use Rattle.hub_lock.specs.Calls.{pass_having_seen};
+ghost use Rattle.peer_link.specs.Made.{journal_of};
 ghost use Rattle.link_nets.specs.NewLinks.{IsNewSource, IsNewSink};
 ghost use Rattle.link_jobs.specs.LinkTags.{job_tag};
 ghost use Rattle.serve_run.specs.LinkJobs.{IsOnHub};
 ghost use Rattle.serve_run.specs.Started.{IsRootOf, IsGivenBack, IsJoinedBy, IsNotJoined};
 ghost use Rattle.serve_run.specs.Started.{BothStarted, LinkStarted, IsRefusal};
 ghost use Rattle.serve_run.specs.Refused.{WasRefused, stopped};
-ghost use Rattle.serve_run.specs.Unserved.{SaysGone, IsGoneAlone, MadeBy};
+ghost use Rattle.serve_run.specs.Unserved.{HasEnd, SaysGone, IsGoneAlone, MadeBy};
 
 use crate::stop::{Stop, refused};
 use hub_lock::{Gate, Hub, HubPass, Pass, ReaderPass, ShellPass, WriterPass};
 use link_jobs::{LinkJob, ReaderJob, ShellJob, Spawner, WriterJob};
-use link_nets::LinkSink;
+use link_nets::{LinkSink, LinkSource};
 use relay_model::Role;
 use seat_steps::PeerStep;
 use std::alloc::Global;
 use std::sync::{Arc, Wait};
-use wio_core::Source;
 
 // Takes a pass back.
 fn take_back(hub: &Hub, root: &mut HubPass, pass: Pass)
@@ -45,6 +45,7 @@ fn say_gone<R: Wait>(rt: &R, hub: &Hub, pass: &mut ReaderPass)
     requires fresh { steps_of pass.old.seat ≡ 0 }
     ensures pass { pass.new ≡ pass_having_seen pass.old pass.new.seat.seen }
     ensures says { SaysGone hub.now.limits pass.new }
+    ensures ended { HasEnd (journal_of hub.now.limits pass.new.seat.seen) pass.new.peer }
     ensures reads { reader_of pass.new.seat.seen pass.new.peer ≡ Some pass.new.seat.number }
 {
     let _ = hub.submit(rt, pass, &PeerStep::Gone);
@@ -81,7 +82,7 @@ fn take_writer_back<K: LinkSink>(hub: &Hub, root: &mut HubPass, job: WriterJob<K
 }
 
 // Takes back the pass of a job that wasn't started.
-fn take_job_back<R: Wait, S: Source + Drop, K: LinkSink, G: Gate + Drop>(
+fn take_job_back<R: Wait, S: LinkSource, K: LinkSink, G: Gate + Drop>(
     rt: &R,
     hub: &Hub,
     root: &mut HubPass,
@@ -100,7 +101,7 @@ fn take_job_back<R: Wait, S: Source + Drop, K: LinkSink, G: Gate + Drop>(
 }
 
 // Starts a job, or takes its pass back.
-fn start_job<R: Wait, S: Source + Drop, K: LinkSink, G: Gate + Drop, W: Spawner<LinkJob<S, K, G>>>(
+fn start_job<R: Wait, S: LinkSource, K: LinkSink, G: Gate + Drop, W: Spawner<LinkJob<S, K, G>>>(
     rt: &R,
     hub: &Hub,
     root: &mut HubPass,
@@ -135,7 +136,7 @@ fn start_job<R: Wait, S: Source + Drop, K: LinkSink, G: Gate + Drop, W: Spawner<
 }
 
 // Starts a peer's reader and its writer.
-fn start_both<R: Wait, S: Source + Drop, K: LinkSink, G: Gate + Drop, W: Spawner<LinkJob<S, K, G>>>(
+fn start_both<R: Wait, S: LinkSource, K: LinkSink, G: Gate + Drop, W: Spawner<LinkJob<S, K, G>>>(
     rt: &R,
     hub: &Hub,
     root: &mut HubPass,
@@ -148,8 +149,10 @@ fn start_both<R: Wait, S: Source + Drop, K: LinkSink, G: Gate + Drop, W: Spawner
     requires out { 2 ≤ root.old.out }
     requires reads { IsOf hub.now reader.pass.seat }
     requires writes { IsOf hub.now writer.pass.seat }
+    requires one { S.number reader.source ≡ K.number writer.sink }
     ensures started { BothStarted hub.now root.old root.new (W.started spawner.old)
-        (W.started spawner.new) reader.pass.seat.number writer.pass.seat.number result }
+        (W.started spawner.new) reader.pass.seat.number writer.pass.seat.number
+        (S.number reader.source) result }
     ensures before { OnOk result (W.before_start spawner.new ≡ length (W.reports spawner.old)) }
     ensures last { (W.before_start spawner.new ≡ W.before_start spawner.old)
         ⊎ (W.before_start spawner.new ≡ length (W.reports spawner.old)) }
@@ -212,13 +215,7 @@ fn share_for_both<G: Gate + Drop>(
 }
 
 // Starts the jobs of a peer that joined, or takes their passes back.
-fn start_joined<
-    R: Wait,
-    S: Source + Drop,
-    K: LinkSink,
-    G: Gate + Drop,
-    W: Spawner<LinkJob<S, K, G>>,
->(
+fn start_joined<R: Wait, S: LinkSource, K: LinkSink, G: Gate + Drop, W: Spawner<LinkJob<S, K, G>>>(
     rt: &R,
     alloc: Global,
     hub: &Arc<Hub, Global>,
@@ -237,10 +234,11 @@ fn start_joined<
     requires writes { IsOf (arc_value hub.now) writer.seat }
     requires fresh_reader { steps_of reader.seat ≡ 0 }
     requires fresh_writer { steps_of writer.seat ≡ 0 }
-    requires source { IsNewSource (S.given source) (S.fault_count source) }
+    requires source { IsNewSource (S.Source.given source) (S.Source.fault_count source) }
     requires sink { IsNewSink (K.Sink.held sink) (K.Sink.fault_count sink) }
+    requires one { S.number source ≡ K.number sink }
     ensures started { BothStarted (arc_value hub.now) root.old root.new (W.started spawner.old)
-        (W.started spawner.new) reader.seat.number writer.seat.number result }
+        (W.started spawner.new) reader.seat.number writer.seat.number (S.number source) result }
     ensures last { (W.before_start spawner.new ≡ W.before_start spawner.old)
         ⊎ (W.before_start spawner.new ≡ length (W.reports spawner.old)) }
     ensures reports { W.reports spawner.new ≡ W.reports spawner.old }
@@ -275,7 +273,7 @@ fn start_joined<
 /// Joins a peer's link, and starts its reader and its writer.
 pub(crate) fn start_peer<
     R: Wait,
-    S: Source + Drop,
+    S: LinkSource,
     K: LinkSink,
     G: Gate + Drop,
     W: Spawner<LinkJob<S, K, G>>,
@@ -293,10 +291,11 @@ pub(crate) fn start_peer<
     requires ready { (w : _) (j : _) → W.ready w j }
     requires root { IsRootOf (arc_value hub.now) root.old }
     requires room { root.old.next ≤ 2 ^ 63 }
-    requires source { IsNewSource (S.given source) (S.fault_count source) }
+    requires source { IsNewSource (S.Source.given source) (S.Source.fault_count source) }
     requires sink { IsNewSink (K.Sink.held sink) (K.Sink.fault_count sink) }
+    requires one { S.number source ≡ K.number sink }
     ensures started { LinkStarted (arc_value hub.now) root.old root.new (W.started spawner.old)
-        (W.started spawner.new) (Some role) result }
+        (W.started spawner.new) (S.number source) (Some role) result }
     ensures last { (W.before_start spawner.new ≡ W.before_start spawner.old)
         ⊎ (W.before_start spawner.new ≡ length (W.reports spawner.old)) }
     ensures reports { W.reports spawner.new ≡ W.reports spawner.old }
@@ -331,7 +330,7 @@ fn shell_pass(hub: &Hub, root: &mut HubPass) -> ShellPass
 /// Starts the job of a shell's link.
 pub(crate) fn start_shell<
     R: Wait,
-    S: Source + Drop,
+    S: LinkSource,
     K: LinkSink,
     G: Gate + Drop,
     W: Spawner<LinkJob<S, K, G>>,
@@ -347,10 +346,11 @@ pub(crate) fn start_shell<
     requires ready { (w : _) (j : _) → W.ready w j }
     requires root { IsRootOf (arc_value hub.now) root.old }
     requires room { root.old.next ≤ 2 ^ 63 }
-    requires source { IsNewSource (S.given source) (S.fault_count source) }
+    requires source { IsNewSource (S.Source.given source) (S.Source.fault_count source) }
     requires sink { IsNewSink (K.Sink.held sink) (K.Sink.fault_count sink) }
+    requires one { S.number source ≡ K.number sink }
     ensures started { LinkStarted (arc_value hub.now) root.old root.new (W.started spawner.old)
-        (W.started spawner.new) None result }
+        (W.started spawner.new) (S.number source) None result }
     ensures last { (W.before_start spawner.new ≡ W.before_start spawner.old)
         ⊎ (W.before_start spawner.new ≡ length (W.reports spawner.old)) }
     ensures reports { W.reports spawner.new ≡ W.reports spawner.old }

@@ -3,7 +3,7 @@ ghost use Rattle.std.specs.Prelude.{◌<◌};
 
 use crate::gates::Open;
 use link_jobs::LinkJob;
-use link_nets::{Door, MemLink, MemNet};
+use link_nets::{Door, MemIn, MemLink, MemNet, MemOut};
 use plain_run::run_plain;
 use serve_run::{ServeStatus, run_serve};
 use std::alloc::{AllocError, Global};
@@ -17,7 +17,7 @@ use wio_core::{MemSink, MemSource};
 const ROOM: usize = 65_536;
 
 /// A job of a link in memory.
-pub(crate) type MemJob = LinkJob<MemSource, MemSink, Open>;
+pub(crate) type MemJob = LinkJob<MemIn, MemOut, Open>;
 
 /// A sink in memory, where the writes with these numbers fail.
 pub(crate) fn sink(alloc: Global, fail: &[u64]) -> Result<MemSink, AllocError> {

@@ -4,7 +4,7 @@ ghost use Rattle.std.specs.Prelude.{◌≡◌, None, true, IfSome, IfOk};
 ghost use Rattle.std.proofs.Props.{props};
 
 use crate::gates::TURNS;
-use link_nets::{Door, LinkSink, Net};
+use link_nets::{Door, LinkSink, LinkSource, Net};
 use std::alloc::{AllocError, Global};
 use std::sync::Arc;
 use std::sync::atomic::{AtomicU64, Ordering};
@@ -60,6 +60,7 @@ impl Shared {
 pub(crate) struct LiveSource {
     bytes: MemSource,
     shared: Arc<Shared, Global>,
+    number: u64,
 }
 
 impl Source for LiveSource {
@@ -82,16 +83,26 @@ impl Source for LiveSource {
     }
 }
 
+impl LinkSource for LiveSource {
+    ghost number = { λ s. s.number };
+
+    fn link(&self) -> u64 {
+        self.number
+    }
+}
+
 /// Counts the bytes that it gains.
 #[derive(Drop)]
 pub(crate) struct LiveSink {
     shared: Arc<Shared, Global>,
+    number: u64,
 }
 
 impl LiveSink {
     pub(crate) fn new(shared: &Arc<Shared, Global>) -> Result<LiveSink, AllocError> {
         Ok(LiveSink {
             shared: Arc::try_clone(shared)?,
+            number: 0,
         })
     }
 }
@@ -114,6 +125,12 @@ impl Sink for LiveSink {
 }
 
 impl LinkSink for LiveSink {
+    ghost number = { λ s. s.number };
+
+    fn link(&self) -> u64 {
+        self.number
+    }
+
     fn hang_up(&mut self) {
         self.shared.hung_up.store(1, Ordering::SeqCst);
     }
@@ -130,6 +147,7 @@ fn link_of(
     let source = LiveSource {
         bytes: MemSource::new(bytes.to_vec(alloc)?, 4096, Vec::new(alloc)),
         shared: Arc::try_clone(shared)?,
+        number: 0,
     };
     Ok((source, LiveSink::new(shared)?))
 }
@@ -193,9 +211,11 @@ impl Net for LiveNet {
     fn accept(&mut self, door: Door) -> Result<(LiveSource, LiveSink), Failed> {
         let next = self.link.take();
         self.link = self.behind.take();
-        if let Some(link) = next {
+        if let Some((mut source, mut sink)) = next {
             if self.links.push(door).is_ok() {
-                return Ok(link);
+                source.number = self.links.len() as u64;
+                sink.number = source.number;
+                return Ok((source, sink));
             }
         }
         self.faults = self.faults.saturating_add(1);

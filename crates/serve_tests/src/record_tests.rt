@@ -4,7 +4,7 @@ use crate::gates::AwaitsRecord;
 use crate::links::{link, net_of, words};
 use crate::live_net::{LiveSink, Shared};
 use link_jobs::LinkJob;
-use link_nets::{Door, MemNet};
+use link_nets::{Door, MemIn, MemNet, MemOut};
 use serve_run::{ServeStatus, run_serve};
 use std::alloc::Global;
 use std::process::Abort;
@@ -12,7 +12,6 @@ use std::sync::{Arc, Wait};
 use std::test::Fail;
 use std::thread::Threads;
 use unix_links::{ThreadSpawner, begin_job};
-use wio_core::{MemSink, MemSource};
 
 // A frame with one message, `get_registry`.
 const REGISTRY: [u8; 16] = [12, 0, 0, 0, 1, 0, 0, 0, 1, 0, 12, 0, 2, 0, 0, 0];
@@ -28,7 +27,7 @@ fn serve_awaited<R: Threads + Wait + Copy + Send + Sync + 'static>(
     let mut spawner = ThreadSpawner::new(
         rt,
         alloc,
-        move |job: LinkJob<MemSource, MemSink, AwaitsRecord>| begin_job(rt, alloc, job),
+        move |job: LinkJob<MemIn, MemOut, AwaitsRecord>| begin_job(rt, alloc, job),
     );
     run_serve(&rt, alloc, words, net, &mut spawner, gate, output)
 }

@@ -4,7 +4,7 @@ use crate::gates::{HoldsFirst, Open};
 use crate::links::{link, net_of, serve, sink, words};
 use crate::live_net::{LiveNet, LiveSink, LiveSource, Shared};
 use link_jobs::LinkJob;
-use link_nets::{Door, MemLink, MemNet};
+use link_nets::{Door, MemIn, MemLink, MemNet, MemOut};
 use serve_run::{ServeStatus, run_serve};
 use std::alloc::{AllocError, Global};
 use std::process::Abort;
@@ -13,7 +13,7 @@ use std::sync::{Arc, Wait};
 use std::test::Fail;
 use std::thread::Threads;
 use unix_links::{ThreadSpawner, begin_job};
-use wio_core::{MemSink, MemSource};
+use wio_core::MemSink;
 
 // A frame with one message, `get_registry`.
 const REGISTRY: [u8; 16] = [12, 0, 0, 0, 1, 0, 0, 0, 1, 0, 12, 0, 2, 0, 0, 0];
@@ -40,7 +40,7 @@ fn serve_held<R: Threads + Wait + Copy + Send + Sync + 'static>(
     let mut spawner = ThreadSpawner::new(
         rt,
         alloc,
-        move |job: LinkJob<MemSource, MemSink, HoldsFirst>| begin_job(rt, alloc, job),
+        move |job: LinkJob<MemIn, MemOut, HoldsFirst>| begin_job(rt, alloc, job),
     );
     run_serve(&rt, alloc, words, net, &mut spawner, gate, output)
 }

@@ -8,9 +8,11 @@ mod outcome;
 mod thread_spawner;
 mod unix_net;
 mod unix_sink;
+mod unix_source;
 
 pub use job_thread::{JobThread, Running, begin_job};
 pub use outcome::{Given, Outcome};
 pub use thread_spawner::ThreadSpawner;
-pub use unix_net::{UnixNet, UnixSource};
+pub use unix_net::UnixNet;
 pub use unix_sink::UnixSink;
+pub use unix_source::UnixSource;

@@ -4,17 +4,13 @@ ghost use Rattle.wio_core.specs.Io.{raised};
 
 use crate::open_door::OpenDoor;
 use crate::unix_sink::UnixSink;
-use link_nets::{Door, Net};
+use crate::unix_source::UnixSource;
+use link_nets::{Door, LinkSink, LinkSource, Net};
 use std::alloc::Global;
 use std::fs::{File, Files};
-use std::io::BufReader;
-use std::os::unix::net::UnixStream;
 use std::time::Duration;
 use std::{io, net};
-use wio_core::{Failed, Sink, Source, StdSource};
-
-/// The way in of a Unix link. It is read ahead, so that many small frames cost one call of the system.
-pub type UnixSource = StdSource<BufReader<UnixStream>>;
+use wio_core::{Failed, Sink, Source};
 
 // How long a write waits for a peer that doesn't read before it fails, in seconds.
 const PATIENCE: u64 = 30;
@@ -64,22 +60,25 @@ impl<R: Files<File = File> + Copy> UnixNet<R> {
     }
 }
 
-// Waits for a link, and gives its two ways.
+// Waits for a link, and gives its two ways, with this number.
 fn accept_link<R: Files<File = File> + Copy>(
     alloc: Global,
     door: &OpenDoor<R>,
+    number: u64,
 ) -> io::Result<(UnixSource, UnixSink)>
     ensures gave { IfOk result (λ link. ⟦<UnixSource as Source>⟧.given link.0 ≡ None) }
     ensures source { IfOk result (λ link. ⟦<UnixSource as Source>⟧.fault_count link.0 ≡ 0) }
     ensures holds { IfOk result (λ link. ⟦<UnixSink as Sink>⟧.held link.1 ≡ None) }
     ensures sink { IfOk result (λ link. ⟦<UnixSink as Sink>⟧.fault_count link.1 ≡ 0) }
+    ensures number_in { IfOk result (λ link. ⟦<UnixSource as LinkSource>⟧.number link.0 ≡ number) }
+    ensures number_out { IfOk result (λ link. ⟦<UnixSink as LinkSink>⟧.number link.1 ≡ number) }
 {
     let stream = door.accept()?;
     stream.set_write_timeout(Some(Duration::from_secs(PATIENCE)))?;
     let out = stream.try_clone()?;
     Ok((
-        StdSource::new(BufReader::new(alloc, stream)?),
-        UnixSink::new(out),
+        UnixSource::new(alloc, stream, number)?,
+        UnixSink::new(out, number),
     ))
 }
 
@@ -109,13 +108,14 @@ impl<R: Files<File = File> + net::Net + Copy> Net for UnixNet<R> {
     }
 
     fn accept(&mut self, door: Door) -> Result<(UnixSource, UnixSink), Failed> {
+        let number = self.links.len() as u64 + 1;
         let opened = match door {
             Door::App => &self.app,
             Door::Method => &self.method,
             Door::Shell => &self.shell,
         };
         let Some(opened) = opened else { unreachable!() };
-        let Ok(link) = accept_link(self.alloc, opened) else {
+        let Ok(link) = accept_link(self.alloc, opened, number) else {
             return self.fault();
         };
         if self.links.push(door).is_err() {

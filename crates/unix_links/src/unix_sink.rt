@@ -13,15 +13,22 @@ use wio_core::{Failed, Sink};
 pub struct UnixSink {
     stream: UnixStream,
     faults: u64,
+    number: u64,
 }
 
 impl UnixSink {
-    /// Writes to this stream, to which no write failed yet.
-    pub fn new(stream: UnixStream) -> UnixSink
+    /// Writes to this stream, to which no write failed yet, as the way out of the link with this
+    /// number.
+    pub fn new(stream: UnixStream, number: u64) -> UnixSink
         ensures held { ⟦<UnixSink as Sink>⟧.held result ≡ None }
         ensures no_fault_yet { ⟦<UnixSink as Sink>⟧.fault_count result ≡ 0 }
+        ensures number { ⟦<UnixSink as LinkSink>⟧.number result ≡ number }
     {
-        UnixSink { stream, faults: 0 }
+        UnixSink {
+            stream,
+            faults: 0,
+            number,
+        }
     }
 }
 
@@ -47,6 +54,12 @@ impl Sink for UnixSink {
 }
 
 impl LinkSink for UnixSink {
+    ghost number = { λ s. s.number };
+
+    fn link(&self) -> u64 {
+        self.number
+    }
+
     /// Shuts both ways of the stream down.
     fn hang_up(&mut self) {
         let _ = self.stream.shutdown(Shutdown::Both);

@@ -2,13 +2,13 @@ use Rattle.std.proofs.Common.{refl, sym, ap, ◌≡◌, inl, inr, ⊎_elim, ◌+
 use Rattle.std.specs.Arc.{arc_value}
 use Rattle.link_nets.specs.declared.door.Door.TheVariants.{App}
 use Rattle.serve_words.specs.Words.{doors_of}
-use Rattle.serve_run.proofs.LinksInOrder.{none_yet, none_came, all_came, last_came, one_link_more, by_letter, doors_counted, door_at, doors_more, passes_few}
+use Rattle.serve_run.proofs.LinksInOrder.{none_yet, none_came, all_came, last_came, one_link_more, by_letter, doors_counted, door_at, doors_more, next_number, passes_few}
 use Rattle.serve_run.proofs.accept.accept_all.Goals as goal
 
 pub loop-letter-init : goal.loop-letter-init
 loop-letter-init g c = record {
   started = none_yet (arc_value c.args.hub.now) c.args.root.now (g.W.Spawner.started c.args.spawner.now)
-      c.args.letters.now c.requires.root;
+      c.args.letters.now (length (g.N.Net.links c.args.net.now) + 1) c.requires.root;
   links = sym (append-nil (g.N.Net.links c.args.net.now));
   last = inl refl;
   reports = refl;
@@ -24,8 +24,8 @@ returns-in-Err-clause-accepted g c =
       omega arith,
       c.in-Err.ensures.none ∙ i.links,
       none_came (arc_value c.args.hub.now) c.args.root.now c.loop-letter.root (g.W.Spawner.started c.args.spawner.now)
-          (g.W.Spawner.started c.loop-letter.spawner) c.args.letters.now c.loop-letter.letter-index
-          i.started,
+          (g.W.Spawner.started c.loop-letter.spawner) c.args.letters.now (length (g.N.Net.links c.args.net.now) + 1)
+          c.loop-letter.letter-index i.started,
       tt,
     )
 
@@ -35,6 +35,11 @@ returns-in-Err-start_link-clause-accepted g c =
     let letters = c.args.letters.now in
     let within : c.loop-letter.letter-index < length letters = c.loop-letter-test.true in
     let many = doors_counted letters in
+    let base = length (g.N.Net.links c.args.net.now) + 1 in
+    let same =
+    c.in-Ok.ensures.number_in
+    ∙ next_number (g.N.Net.links c.args.net.now) (g.N.Net.links c.loop-letter.net) (g.N.Net.links c.accept.new.self)
+    (doors_of letters) c.loop-letter.letter-index c.door_of.result (omega arith) i.links c.in-Ok.ensures.link in
     let is : c.door_of.result ≡ get_or (doors_of letters) c.loop-letter.letter-index App =
     c.door_of.ensures ∙ door_at letters c.loop-letter.letter-index 0 within in (
       c.loop-letter.letter-index + 1,
@@ -44,15 +49,18 @@ returns-in-Err-start_link-clause-accepted g c =
           (omega arith) is i.links c.in-Ok.ensures.link,
       last_came (arc_value c.args.hub.now) c.args.root.now c.loop-letter.root c.start_link.new.root
           (g.W.Spawner.started c.args.spawner.now) (g.W.Spawner.started c.loop-letter.spawner)
-          (g.W.Spawner.started c.start_link.new.spawner) letters c.loop-letter.letter-index
+          (g.W.Spawner.started c.start_link.new.spawner) letters base c.loop-letter.letter-index
           (get_or letters c.loop-letter.letter-index 0) c.in-Err-start_link.stop within refl i.started
           (by_letter (arc_value c.args.hub.now) c.loop-letter.root c.start_link.new.root
           (g.W.Spawner.started c.loop-letter.spawner) (g.W.Spawner.started c.start_link.new.spawner)
-          c.role_of-role.result (get_or letters c.loop-letter.letter-index 0) (Err c.in-Err-start_link.stop)
-          c.role_of-role.ensures
+          _ (base + c.loop-letter.letter-index) c.role_of-role.result (get_or letters c.loop-letter.letter-index 0)
+          (Err c.in-Err-start_link.stop) same c.role_of-role.ensures
           c.in-Err-start_link.ensures.started),
       tt,
     )
+
+pub start_link-requires-clause-one : goal.start_link-requires-clause-one
+start_link-requires-clause-one g c = c.in-Ok.ensures.number_in ∙ sym c.in-Ok.ensures.number_out
 
 pub start_link-requires-clause-room : goal.start_link-requires-clause-room
 start_link-requires-clause-room g c =
@@ -68,15 +76,21 @@ loop-letter-preserved g c =
     let within : c.loop-letter.letter-index < length letters = c.loop-letter-test.true in
     let many = doors_counted letters in
     let e = c.start_link.ensures in
+    let base = length (g.N.Net.links c.args.net.now) + 1 in
+    let same =
+    c.in-Ok.ensures.number_in
+    ∙ next_number (g.N.Net.links c.args.net.now) (g.N.Net.links c.loop-letter.net) (g.N.Net.links c.accept.new.self)
+    (doors_of letters) c.loop-letter.letter-index c.door_of.result (omega arith) i.links c.in-Ok.ensures.link in
     let is : c.door_of.result ≡ get_or (doors_of letters) c.loop-letter.letter-index App =
     c.door_of.ensures ∙ door_at letters c.loop-letter.letter-index 0 within in record {
       started = one_link_more (arc_value c.args.hub.now) c.args.root.now c.loop-letter.root c.start_link.new.root
           (g.W.Spawner.started c.args.spawner.now) (g.W.Spawner.started c.loop-letter.spawner)
-          (g.W.Spawner.started c.start_link.new.spawner) letters c.loop-letter.letter-index
+          (g.W.Spawner.started c.start_link.new.spawner) letters base c.loop-letter.letter-index
           (get_or letters c.loop-letter.letter-index 0) within refl i.started
           (by_letter (arc_value c.args.hub.now) c.loop-letter.root c.start_link.new.root
           (g.W.Spawner.started c.loop-letter.spawner) (g.W.Spawner.started c.start_link.new.spawner)
-          c.role_of-role.result (get_or letters c.loop-letter.letter-index 0) (Ok tt) c.role_of-role.ensures
+          _ (base + c.loop-letter.letter-index) c.role_of-role.result (get_or letters c.loop-letter.letter-index 0)
+          (Ok tt) same c.role_of-role.ensures
           c.in_default.ensures.started);
       links = doors_more (g.N.Net.links c.args.net.now) (g.N.Net.links c.loop-letter.net)
           (g.N.Net.links c.accept.new.self)
@@ -98,6 +112,7 @@ returns-clause-accepted g c =
       omega arith,
       i.links,
       all_came (arc_value c.args.hub.now) c.args.root.now c.loop-letter.root (g.W.Spawner.started c.args.spawner.now)
-          (g.W.Spawner.started c.loop-letter.spawner) letters c.loop-letter.letter-index i.started,
+          (g.W.Spawner.started c.loop-letter.spawner) letters (length (g.N.Net.links c.args.net.now) + 1)
+          c.loop-letter.letter-index i.started,
       omega arith,
     )

@@ -1,4 +1,4 @@
-use Rattle.std.proofs.Common.{◌≡◌, ◌⊎◌, ◌≤◌, ◌++◌, true, length, take}
+use Rattle.std.proofs.Common.{◌≡◌, ◌⊎◌, ◌≤◌, ◌+◌, ◌++◌, true, length, take}
 use Rattle.std.specs.Arc.{arc_value}
 use Rattle.link_nets.specs.declared.door.Door.{Door}
 use Rattle.serve_words.specs.Words.{doors_of}
@@ -8,7 +8,7 @@ use Rattle.serve_run.proofs.accept.accept_all.Given as goal
 abbrev pub invariant-loop-letter : goal.invariant-loop-letter
 invariant-loop-letter g l = record {
   started : AllStarted (arc_value l.hub) l.initial.root l.root (g.W.Spawner.started l.initial.spawner)
-      (g.W.Spawner.started l.spawner) l.letters l.letter-index;
+      (g.W.Spawner.started l.spawner) l.letters (length (g.N.Net.links l.initial.net) + 1) l.letter-index;
   links : g.N.Net.links l.net ≡ g.N.Net.links l.initial.net ++ take l.letter-index (doors_of l.letters);
   last : (g.W.Spawner.before_start l.spawner ≡ g.W.Spawner.before_start l.initial.spawner)
       ⊎ (g.W.Spawner.before_start l.spawner ≡ length (g.W.Spawner.reports l.initial.spawner));

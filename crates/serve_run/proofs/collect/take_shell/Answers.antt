@@ -11,6 +11,7 @@ returns-clause-law g c =
     (g.K.Sink.held done.sink) done.end). record {
       shell = done.pass;
       seat = record { number = refl; constant = c.requires.own.1; seen = c.finish.ensures.both.theirs };
+      nobody = refl;
       law = law;
       read_fault = done.read_fault;
       write_fault = done.write_fault;

@@ -6,7 +6,7 @@ use Rattle.serve_record.specs.Recorded.{recorded}
 use Rattle.serve_run.specs.LinkJobs.{job_reported}
 use Rattle.serve_run.specs.ServerLaw.{IsWritten}
 use Rattle.serve_run.specs.Unserved.{pushed}
-use Rattle.serve_run.proofs.LawsKept.{seen_again, seen_through}
+use Rattle.serve_run.proofs.LawsKept.{seen_through}
 use Rattle.serve_run.proofs.HistoryCopied.{nothing_written}
 use Rattle.serve_run.proofs.StartsCounted.{rose_since, rose_until}
 use Rattle.serve_run.proofs.StatusWritten.{written_with, fault_with, status_is}
@@ -79,7 +79,7 @@ returns-in-Some-clause-ended g c =
       copied = l.mine;
       settled = l.settled;
       lawful = l.lawful;
-      owned = λ some. l.owned;
+      owned = l.owned;
       written = subst (λ s. IsWritten s held after
           (recorded hub.limits (broker_of hub.limits last.seen).journal (broker_of hub.limits last.seen).stamps))
           (sym is)
@@ -99,6 +99,12 @@ pub collect-trouble-requires-in-None-clause-balance : goal.collect-trouble-requi
 collect-trouble-requires-in-None-clause-balance g c =
     let out = ap (λ (s : PassSeat). s.out) c.in-None.ensures.none in
     let balance = c.requires.balance in omega arith
+
+pub count_all-requires-clause-room : goal.count_all-requires-clause-room
+count_all-requires-clause-room g c =
+    let next = c.collect-trouble-in-None.ensures.next in
+    let same = ap (λ (s : PassSeat). s.next) c.in-None.ensures.none in
+    let room = c.requires.room in omega arith
 
 pub returns-in-None-clause-ended : goal.returns-in-None-clause-ended
 returns-in-None-clause-ended g c =
@@ -123,11 +129,11 @@ returns-in-None-clause-ended g c =
       taken = k.given.6
           ∙ ap (pushed (map job_reported k.given.0)) (ap (λ (s : PassSeat). s.taken) c.in-None.ensures.none);
       keyed = k.given.5;
-      history = back.seen;
-      copied = seen_again back.seen 0;
-      settled = λ n out. seen_again back.seen n;
-      lawful = c.seen-entries.ensures.lawful hub.limits k.root.of.1;
-      owned = λ some. absurd (some refl);
+      history = c.count_all.new.root.seen;
+      copied = c.count_all.ensures.mine;
+      settled = c.count_all.ensures.settled;
+      lawful = c.count_all.ensures.lawful;
+      owned = c.count_all.ensures.owned;
       written = nothing_written (g.K.Sink.held c.args.output.now) _;
       write = λ e. absurd (cc);
       status_is = inr (inr refl);

@@ -1,4 +1,4 @@
-use Rattle.std.proofs.Common.{refl, sym, ap, subst, ◌≡◌, ◌⊎◌, inl, inr, ⊎_elim, ◌∙◌, ◌++◌, ℕ, List, ◌∷◌, length, map, take, drop, Option, arith}
+use Rattle.std.proofs.Common.{refl, sym, ap, subst, ◌≡◌, ◌⊎◌, inl, inr, ⊎_elim, ◌∙◌, ◌+◌, ◌++◌, ℕ, List, ◌∷◌, length, map, take, drop, Option, arith}
 use Rattle.std.specs.Arc.{arc_value}
 use Rattle.wio_core.specs.Io.{Rose}
 use Rattle.turn_lock.specs.Pairs.{total}
@@ -89,7 +89,8 @@ returns g c =
         links = subst
             (λ tags. LinksStarted hub c.args.root.now c.serve_links-accepted.new.root
             (g.W.Spawner.started c.args.spawner.now) tags
-            c.args.asked.now.order.now e.accepted.0 c.serve_links-accepted.result) (sym started) e.accepted.3;
+            c.args.asked.now.order.now (length (g.N.Net.links c.args.net.now) + 1) e.accepted.0
+            c.serve_links-accepted.result) (sym started) e.accepted.3;
         all = e.accepted.4;
         doors_open = e.open;
         starts = ⊎_elim (λ l. inl (f.before ∙ l)) (λ r. inr (f.before ∙ r)) e.last;

@@ -1,6 +1,7 @@
 use Rattle.std.proofs.Common.{refl, sym, ap, subst, inr, length, Err}
 use Rattle.link_jobs.specs.Tags.Part.{reader, writer}
 use Rattle.link_jobs.specs.LinkTags.{tag_with}
+use Rattle.serve_run.specs.LinkJobs.{job}
 use Rattle.serve_run.specs.Started.{BothStarted}
 use Rattle.serve_run.proofs.LinksStart.{none_of_two, first_of_two}
 use Rattle.serve_run.proofs.PassesBack.{made_nothing}
@@ -12,10 +13,11 @@ returns-in-Err-clause-started g c =
     let before = g.W.Spawner.started c.args.spawner.now in
     let reads = c.args.reader.pass.seat.number in
     let writes = c.args.writer.pass.seat.number in
-    subst (λ tags. BothStarted c.args.hub.now c.args.root.now c.take_back.new.root before tags reads writes
+    let link = g.S.LinkSource.number c.args.reader.source in
+    subst (λ tags. BothStarted c.args.hub.now c.args.root.now c.take_back.new.root before tags reads writes link
     (Err c.in-Err.stop))
     (sym c.in-Err.ensures.none)
-    (none_of_two c.args.hub.now c.args.root.now before reads writes c.start_job.new.root c.take_back.new.root
+    (none_of_two c.args.hub.now c.args.root.now before reads writes link c.start_job.new.root c.take_back.new.root
     c.in-Err.stop
     c.requires.out (may_lack c.in-Err.stop c.in-Err.ensures.why) c.in-Err.ensures.back c.in-Err.ensures.made
     c.take_back.ensures.back
@@ -25,13 +27,16 @@ pub returns-clause-started : goal.returns-clause-started
 returns-clause-started g c =
     let reads = c.args.reader.pass.seat in
     let writes = c.args.writer.pass.seat in
+    let link = g.S.LinkSource.number c.args.reader.source in
     let two = c.start_job-2.ensures in
     first_of_two c.args.hub.now c.args.root.now (g.W.Spawner.started c.args.spawner.now) reads.number writes.number
-    c.start_job.new.root c.start_job-2.new.root (g.W.Spawner.started c.start_job.new.spawner)
-    (g.W.Spawner.started c.start_job-2.new.spawner) (tag_with reads c.args.reader.pass.peer reader)
-    (tag_with writes c.args.writer.pass.peer writer) c.start_job-2.result c.requires.out c.requires.root
+    link c.start_job.new.root c.start_job-2.new.root (g.W.Spawner.started c.start_job.new.spawner)
+    (g.W.Spawner.started c.start_job-2.new.spawner) (tag_with reads c.args.reader.pass.peer link reader)
+    (tag_with writes c.args.writer.pass.peer (g.K.LinkSink.number c.args.writer.sink) writer) c.start_job-2.result
+    c.requires.out c.requires.root
     c.in_default.ensures.same c.in_default.ensures.started refl
-    (record { turn = c.requires.reads.0; limits = c.requires.reads.1 }) refl
+    (record { turn = c.requires.reads.0; limits = c.requires.reads.1 })
+    (ap (λ n. job writes.number n writer) (sym c.requires.one))
     (record { turn = c.requires.writes.0; limits = c.requires.writes.1 })
     two.same two.started two.back two.made two.none (lacks_thread c.start_job-2.result two.why)
 

@@ -16,7 +16,8 @@ returns-in-Err-clause-started g c =
     let after = c.take_back.new.root in
     let reads = c.args.reader.seat.number in
     none_of_two hub c.args.root.now (g.W.Spawner.started c.args.spawner.now) c.args.reader.seat.number
-    c.args.writer.seat.number c.take_reader_back.new.root c.take_back.new.root c.in-Err.stop c.requires.out
+    c.args.writer.seat.number (g.S.LinkSource.number c.args.source) c.take_reader_back.new.root c.take_back.new.root
+    c.in-Err.stop c.requires.out
     (may_lack_memory c.in-Err.stop c.in-Err.ensures.why)
     (subst (λ (h : HubId). IsGivenBack h root middle reads) c.deref.ensures c.take_reader_back.ensures.back)
     (subst (λ (h : HubId). IsGoneAlone h.limits middle.seen reads) c.deref.ensures c.take_reader_back.ensures.gone)

@@ -9,7 +9,7 @@ use Rattle.serve_run.proofs.start.start_peer.Goals as goal
 pub returns-in-Ok-clause-started : goal.returns-in-Ok-clause-started
 returns-in-Ok-clause-started g c =
     link_of_both (arc_value c.args.hub.now) c.args.root.now
-    (g.W.Spawner.started c.args.spawner.now) c.join_peer.new.root
+    (g.W.Spawner.started c.args.spawner.now) (g.S.LinkSource.number c.args.source) c.join_peer.new.root
     c.start_joined.new.root (g.W.Spawner.started c.start_joined.new.spawner) c.args.role c.in-Ok.reader c.in-Ok.writer
     c.start_joined.result
     (subst (λ (h : HubId). IsJoinedBy h c.args.root.now c.join_peer.new.root c.args.role c.in-Ok.reader c.in-Ok.writer)
@@ -20,7 +20,7 @@ returns-in-Ok-clause-started g c =
 pub returns-in-Err-clause-started : goal.returns-in-Err-clause-started
 returns-in-Err-clause-started g c =
     link_refused (arc_value c.args.hub.now) c.args.root.now
-    (g.W.Spawner.started c.args.spawner.now) c.join_peer.new.root
+    (g.W.Spawner.started c.args.spawner.now) (g.S.LinkSource.number c.args.source) c.join_peer.new.root
     c.args.role c.in-Err.stop
     (subst (λ (h : HubId). IsNotJoined h c.args.root.now c.join_peer.new.root) c.deref.ensures c.in-Err.ensures.refused)
     (subst (λ (h : HubId). WasRefused h.limits c.join_peer.new.root.seen (Some c.args.role) (stopped c.in-Err.stop))

@@ -17,7 +17,8 @@ returns-in_default-clause-started g c =
     let split = c.shell_pass-pass.new.root in
     let after = c.take_back.new.root in
     let number = c.shell_pass-pass.ensures.number in
-    shell_given_back (arc_value c.args.hub.now) c.args.root.now (g.W.Spawner.started c.args.spawner.now) split after
+    shell_given_back (arc_value c.args.hub.now) c.args.root.now (g.W.Spawner.started c.args.spawner.now)
+    (g.S.LinkSource.number c.args.source) split after
     stops.NoMemory c.shell_pass-pass.ensures.left tt
     (subst (IsGivenBack (arc_value c.args.hub.now) split after) number
     (subst (λ (h : HubId). IsGivenBack h split after c.shell_pass-pass.result.number) c.deref-in_default.ensures
@@ -28,16 +29,17 @@ returns-in_default-clause-started g c =
 pub returns-clause-started : goal.returns-clause-started
 returns-clause-started g c =
     let hub = arc_value c.args.hub.now in
+    let link = g.S.LinkSource.number c.args.source in
     let pass = c.shell_pass-pass.result in
     let split = c.shell_pass-pass.new.root in
     let made = c.shell_pass-pass.ensures in
     let after = c.start_job.new.root in
     let run = c.start_job.ensures in
     let own = subst (λ (h : HubId). IsOf h pass) c.deref.ensures made.own in
-    shell_by hub c.args.root.now (g.W.Spawner.started c.args.spawner.now) split after
-    (g.W.Spawner.started c.start_job.new.spawner) (tag_with pass 0 shell) c.start_job.result
+    shell_by hub c.args.root.now (g.W.Spawner.started c.args.spawner.now) link split after
+    (g.W.Spawner.started c.start_job.new.spawner) (tag_with pass 0 link shell) c.start_job.result
     (subst (λ (h : HubId). IsRootOf h split) c.deref.ensures made.root) made.left
-    (ap (λ n. job n shell) made.number) (record { turn = own.0; limits = own.1 }) run.same run.started
+    (ap (λ n. job n link shell) made.number) (record { turn = own.0; limits = own.1 }) run.same run.started
     (subst (λ n. OnErr c.start_job.result (IsGivenBack hub split after n)) made.number
     (subst (λ (h : HubId). OnErr c.start_job.result (IsGivenBack h split after pass.number)) c.deref-2.ensures
     run.back))

@@ -15,5 +15,7 @@ returns-clause-ok c = record {
   first = search rules;
   way_in = refl;
   way_out = refl;
+  number_in = search rules;
+  number_out = search rules;
   rest = search rules;
 }
