@@ -1,8 +1,8 @@
 //! What the jobs of a link give back.
-ghost use Rattle.std.specs.Prelude.{◌≡◌, ◌≤◌};
+ghost use Rattle.std.specs.Prelude.{◌≡◌, ◌≤◌, true};
 ghost use Rattle.peer_link.specs.declared.ends.ReadEnd.TheVariants as read_ends;
-ghost use Rattle.peer_link.specs.declared.ends.WriteEnd.TheVariants as write_ends;
 ghost use Rattle.peer_link.specs.declared.ends.ShellEnd.TheVariants as shell_ends;
+ghost use Rattle.peer_link.specs.WritesPeer.{is_cut};
 ghost use Rattle.link_jobs.specs.LoopLaws.{HasRead, HasWritten, HasOrdered};
 
 use hub_lock::{ReaderPass, ShellPass, WriterPass};
@@ -36,7 +36,7 @@ pub struct WriterDone<K: Sink + Drop> {
     /// The number of the link that was written to.
     pub link: u64,
     pub ghost law: { ∥ HasWritten pass (K.held sink) end ∥₁ },
-    pub ghost cause: { end ≡ write_ends.WriteFault → 1 ≤ K.fault_count sink },
+    pub ghost cause: { is_cut end ≡ true → 1 ≤ K.fault_count sink },
 }
 
 /// A shell's link that ended: the law of shells holds of it, and each fault has its cause.

@@ -6,7 +6,7 @@ ghost use Rattle.hub_lock.specs.Calls.{pass_having_seen};
 use crate::done::{ReaderDone, ShellDone, WriterDone};
 use crate::jobs::{ReaderJob, ShellJob, WriterJob};
 use hub_lock::Gate;
-use link_nets::{LinkSink, LinkSource};
+use link_nets::{HangsUp, LinkSink, LinkSource};
 use peer_link::{read_peer, read_shell, write_peer};
 use std::sync::Wait;
 
@@ -36,7 +36,8 @@ pub fn run_reader<R: Wait, S: LinkSource, G: Gate + Drop>(
     }
 }
 
-/// Writes to a peer's link up to its end, and hangs up: whoever still reads the link sees its end.
+/// Writes to a peer's link up to its end, and hangs up, also where a write fails: whoever still
+/// reads the link sees its end.
 pub fn run_writer<R: Wait, K: LinkSink>(rt: &R, job: WriterJob<K>) -> WriterDone<K>
     ensures pass { result.pass ≡ pass_having_seen job.pass result.pass.seat.seen }
     ensures link { result.link ≡ K.number job.sink }
@@ -44,10 +45,12 @@ pub fn run_writer<R: Wait, K: LinkSink>(rt: &R, job: WriterJob<K>) -> WriterDone
     let WriterJob {
         hub,
         mut pass,
-        mut sink,
+        sink,
     } = job;
     let link = sink.link();
+    let mut sink = HangsUp { sink };
     let end = write_peer(rt, &*hub, &mut pass, &mut sink);
+    let HangsUp { mut sink } = sink;
     hub.leave();
     sink.hang_up();
     WriterDone {

@@ -22,9 +22,11 @@ use Rattle.serve_run.specs.Reported.{HaveLaws, AreTaken}
 use Rattle.serve_run.specs.Started.{LinksStarted}
 use Rattle.serve_run.specs.Refused.{WasRefused, IsRefusedAt, JoinedUnless}
 use Rattle.serve_run.specs.Unserved.{AreUnserved, pushed}
+use Rattle.peer_link.specs.Made.{journal_of, IsAtLimit}
 use Rattle.serve_run.specs.Statuses.{status_by, worst}
 use Rattle.serve_run.specs.ServerLaw.{Sides, ServerLaw, IsWritten, text_of}
 use Rattle.serve_run.proofs.LawsKept.{seen_through, laws_kept}
+use Rattle.serve_run.proofs.FullJournals.{status_full}
 use Rattle.serve_run.proofs.PassesBack.{unserved_stay}
 use Rattle.serve_run.proofs.NumbersTaken.{AllIn, jobs_from, once_both, all_in, of_jobs}
 use Rattle.serve_run.proofs.OnlyRootJoins.{plain_reports, plain_unserved, plain_pushed, only_root}
@@ -132,10 +134,7 @@ law_of asked before after status run =
       joined = links.joined;
       none_more = links.none_more;
       near = links.near;
-      refused = subst (λ l. JoinedUnless l run.history asked.order links.joined run.count run.accepted) run.limits
-          (unless_stays run.hub.limits run.linked.seen run.history asked.order links.joined run.count run.accepted
-          (seen_through run.history run.collected.seen run.linked.seen 0 run.copied run.mine).0
-          (seen_through run.history run.collected.seen run.linked.seen 0 run.copied run.mine).1 links.refused);
+      refused = refused_is;
       joins = own-seen run.history run.collected.seen 0 run.copied
           ∙ (own-seen run.collected.seen run.linked.seen 0 run.mine
           ∙ (links.joins ∙ (ap (λ o. o ++ joins_of run.first.next (take links.joined asked.order)) no_joins
@@ -166,6 +165,7 @@ law_of asked before after status run =
       net = run.net;
       threads = run.threads;
       write = run.write;
+      full = λ is. full_by laws is run.status_is;
       status_is = run.status_is;
     }
   where
@@ -177,6 +177,13 @@ law_of asked before after status run =
 
     tags : List Tag
     tags = run.links.jobs.tags
+
+    refused_is : JoinedUnless asked.limits run.history asked.order run.links.joined run.count run.accepted
+    refused_is =
+        subst (λ l. JoinedUnless l run.history asked.order run.links.joined run.count run.accepted) run.limits
+        (unless_stays run.hub.limits run.linked.seen run.history asked.order run.links.joined run.count run.accepted
+        (seen_through run.history run.collected.seen run.linked.seen 0 run.copied run.mine).0
+        (seen_through run.history run.collected.seen run.linked.seen 0 run.copied run.mine).1 run.links.refused)
 
     are_served : drop (length before.reports) after.started ≡ tags → length tags ≤ length run.given → run.first.next ≡ 1
         → map job_reported run.given ≡ take run.links.count jobs
@@ -225,6 +232,16 @@ law_of asked before after status run =
         (subst (λ taken. IsDistinct (0 ∷ taken)) (sym (taken_is are next_is))
         (once_both run.links.count jobs (jobs_from 1 first_link (take run.links.joined asked.order))))
         run.owned
+
+    full_by : HaveLaws asked.limits run.history run.given → status ≡ statuses.JournalFull
+        → (status ≡ status_by run.accepted (worst run.given))
+        ⊎ ((status ≡ statuses.WriteFault) ⊎ (status ≡ statuses.NoMemory))
+        → IsAtLimit asked.limits (journal_of asked.limits run.history)
+    full_by laws is (inl by) =
+        status_full asked.limits run.history asked.order run.links.joined run.count run.accepted run.given refused_is laws
+        (sym by ∙ is)
+    full_by laws is (inr (inl fault)) = absurd (let no : statuses.WriteFault ≡ statuses.JournalFull = sym fault ∙ is in cc)
+    full_by laws is (inr (inr none)) = absurd (let no : statuses.NoMemory ≡ statuses.JournalFull = sym none ∙ is in cc)
 
     whole : (r : Result (Unit {0}) Stop) → OnOk r (run.links.count ≡ passes_of (take run.links.joined asked.order))
         → OnOk r (run.links.joined ≡ run.count) → OnOk r (run.count ≡ length asked.order)

@@ -1,4 +1,5 @@
 pub mod EndsKept
+pub mod FullJournals
 pub mod GoneAlone
 pub mod HandedEnds
 pub mod HandedRecorded

@@ -1,5 +1,5 @@
 -- The loop laws of the reports, for the one history of the hub
-use Rattle.std.specs.Prelude.{◌≡◌, ℕ, ◌≤◌, List, [], ◌∷◌, Some}
+use Rattle.std.specs.Prelude.{◌≡◌, ℕ, ◌≤◌, List, [], ◌∷◌, true, Some}
 use Rattle.seat_steps.specs.declared.limits.Limits.{Limits}
 use Rattle.turn_lock.specs.Pairs.{HasSeen, IsIn}
 use Rattle.hub_lock.specs.Histories.{History, reader_of, writer_of}
@@ -7,9 +7,9 @@ use Rattle.hub_lock.specs.Passes.{PassSeat, PeerPass}
 use Rattle.peer_link.specs.declared.ends.ReadEnd.{ReadEnd}
 use Rattle.peer_link.specs.declared.ends.ReadEnd.TheVariants as read_ends
 use Rattle.peer_link.specs.declared.ends.WriteEnd.{WriteEnd}
-use Rattle.peer_link.specs.declared.ends.WriteEnd.TheVariants as write_ends
 use Rattle.peer_link.specs.declared.ends.ShellEnd.{ShellEnd}
 use Rattle.peer_link.specs.declared.ends.ShellEnd.TheVariants as shell_ends
+use Rattle.peer_link.specs.WritesPeer.{is_cut}
 use Rattle.link_jobs.specs.Tags.{Report, End}
 use Rattle.link_jobs.specs.Tags.End.{read, wrote, ordered}
 use Rattle.link_jobs.specs.LoopLaws.{HasRead, HasWritten, HasOrdered}
@@ -38,7 +38,7 @@ pub record IsWriter (limits : Limits) (h : History) (r : Report) (end : WriteEnd
   pub peer : pass.peer ≡ r.peer
   pub writes : writer_of h r.peer ≡ Some r.number
   pub law : HasWritten pass r.held end
-  pub fault : end ≡ write_ends.WriteFault → 1 ≤ r.sink_faults
+  pub fault : is_cut end ≡ true → 1 ≤ r.sink_faults
 
 -- a shell, which is no peer: its pass ordered, and its link gained, what the law of shells says
 pub record IsShell (limits : Limits) (h : History) (r : Report) (end : ShellEnd) : Type 0 where

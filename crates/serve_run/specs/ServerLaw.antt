@@ -7,6 +7,7 @@ use Rattle.broker_model.specs.declared.journal.Entry.{Entry}
 use Rattle.broker_model.specs.declared.journal.Entry.TheVariants as entries
 use Rattle.hub_lock.specs.Histories.{History, broker_of}
 use Rattle.hub_lock.specs.Lawful.{IsLawful}
+use Rattle.peer_link.specs.Made.{journal_of, IsAtLimit}
 use Rattle.serve_record.specs.Recorded.{recorded}
 use Rattle.link_nets.specs.declared.door.Door.{Door}
 use Rattle.link_jobs.specs.Tags.{Tag, Report}
@@ -118,5 +119,8 @@ pub record ServerLaw (asked : Serving) (before after : Sides) (status : ServeSta
   pub net : stop ≡ Err stops.NetFault → Rose before.net_faults after.net_faults
   pub threads : stop ≡ Err stops.NoThread → Rose before.refusals after.refusals
   pub write : status ≡ statuses.WriteFault → Rose before.output_faults after.output_faults
+  -- a full journal is at its limit: of entries, or of weight with the heaviest step
+  pub full : status ≡ statuses.JournalFull →
+      IsAtLimit asked.limits (journal_of asked.limits history)
   pub status_is : (status ≡ status_by stop (worst given))
       ⊎ ((status ≡ statuses.WriteFault) ⊎ (status ≡ statuses.NoMemory))

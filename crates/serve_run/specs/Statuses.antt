@@ -9,6 +9,7 @@ use Rattle.serve_run.specs.declared.stop.Stop.TheVariants as stops
 use Rattle.serve_run.specs.declared.stop.Trouble.{Trouble}
 use Rattle.serve_run.specs.declared.stop.Trouble.TheVariants as troubles
 use Rattle.peer_link.specs.declared.ends.ReadEnd.TheVariants as read_ends
+use Rattle.peer_link.specs.declared.ends.TakeEnd.TheVariants as takes
 use Rattle.peer_link.specs.declared.ends.WriteEnd.TheVariants as write_ends
 use Rattle.peer_link.specs.declared.ends.ShellEnd.TheVariants as shell_ends
 use Rattle.link_jobs.specs.Tags.{End, Report}
@@ -24,13 +25,15 @@ number_of statuses.NetFault = 8
 number_of statuses.NoThread = 9
 
 -- what the end of a loop brings: a fault, a torn frame, a bad frame or a bad line ends its link
--- alone, and brings nothing
+-- alone, and brings nothing, but where what was stored for it couldn't be taken
 abbrev pub brought_by : End → Trouble
 brought_by (read (read_ends.JournalFull kept)) = troubles.JournalFull
 brought_by (read read_ends.NoMemory) = troubles.NoMemory
 brought_by (read _) = troubles.None
 brought_by (wrote (write_ends.JournalFull kept)) = troubles.JournalFull
 brought_by (wrote write_ends.NoMemory) = troubles.NoMemory
+brought_by (wrote (write_ends.WriteFault (takes.JournalFull kept))) = troubles.JournalFull
+brought_by (wrote (write_ends.WriteFault takes.NoMemory)) = troubles.NoMemory
 brought_by (wrote _) = troubles.None
 brought_by (ordered (shell_ends.JournalFull kept)) = troubles.JournalFull
 brought_by (ordered shell_ends.NoMemory) = troubles.NoMemory
