@@ -277,6 +277,20 @@ door_at [] i d within = absurd (omega arith)
 door_at (l ∷ letters) zero d within = refl
 door_at (l ∷ letters) (suc i) d within = door_at letters i d (omega arith)
 
+-- they bring few joins
+joins_one : (next : ℕ) (role : Option Role) → length (joins_by next role) ≤ 1
+joins_one next None = omega arith
+joins_one next (Some role) = omega arith
+
+pub joins_few : (next : ℕ) (letters : List ℕ) (n : ℕ) → length (joins_of next (take n letters)) ≤ n
+joins_few next letters zero = omega arith
+joins_few next [] (suc n) = omega arith
+joins_few next (d ∷ letters) (suc n) =
+    let rest = joins_few (next + passes_by (role_at d)) letters n in
+    let one = joins_one next (role_at d) in
+    let both = length-append (joins_by next (role_at d)) (joins_of (next + passes_by (role_at d)) (take n letters)) in
+    omega arith
+
 -- the number of the next link
 pub next_number : (first before after : List Door) (doors : List Door) (i : ℕ) (d : Door) → i ≤ length doors
     → before ≡ first ++ take i doors → after ≡ before ++ d ∷ [] → length after ≡ length first + 1 + i

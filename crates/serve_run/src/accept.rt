@@ -2,6 +2,7 @@
 ghost use Rattle.std.specs.Prelude.{◌≡◌, ◌≢◌, ◌⊎◌, ◌≤◌, ◌<◌, ◌+◌, ◌*◌, ◌^◌, ◌++◌, ℕ, true};
 ghost use Rattle.std.specs.Prelude.{length, take, Err, OnOk};
 ghost use Rattle.std.specs.Arc.{arc_value};
+ghost use Rattle.turn_lock.specs.Pairs.{own};
 ghost use Rattle.wio_core.specs.Io.{Rose};
 ghost use Rattle.link_nets.specs.declared.door.Door.{Door};
 ghost use Rattle.link_nets.specs.NewLinks.{IsNewSource, IsNewSink};
@@ -50,6 +51,7 @@ fn start_link<R: Wait, S: LinkSource, K: LinkSink, G: Gate + Drop, W: Spawner<Li
     requires source { IsNewSource (S.Source.given source) (S.Source.fault_count source) }
     requires sink { IsNewSink (K.Sink.held sink) (K.Sink.fault_count sink) }
     requires one { S.number source ≡ K.number sink }
+    requires few { length (own 0 root.old.seen) < 64 }
     ensures started { LinkStarted (arc_value hub.now) root.old root.new (W.started spawner.old)
         (W.started spawner.new) (S.number source) role result }
     ensures last { (W.before_start spawner.new ≡ W.before_start spawner.old)
@@ -80,6 +82,7 @@ pub(crate) fn accept_all<R: Wait, N: Net, G: Gate + Drop, W: Spawner<LinkJob<N::
     requires ready { (w : _) (j : _) → W.ready w j }
     requires root { IsRootOf (arc_value hub.now) root.old }
     requires room { root.old.next + 2 * length letters.now ≤ 2 ^ 63 }
+    requires few { length (own 0 root.old.seen) + length letters.now ≤ 64 }
     requires open { (d : Door) → N.opened net.old d ≡ true }
     ensures accepted { (count : ℕ) × (count ≤ length letters.now)
         × (N.links net.new ≡ N.links net.old ++ take count (doors_of letters.now))

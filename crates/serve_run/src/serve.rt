@@ -11,6 +11,7 @@ ghost use Rattle.serve_words.specs.Words as grammar;
 ghost use Rattle.serve_words.specs.Asked.{asked as asked'};
 ghost use Rattle.serve_run.specs.Started.{IsRootOf, LinksStarted};
 ghost use Rattle.serve_run.specs.ServerLaw.{ServerLaw, sides};
+ghost use Rattle.turn_lock.specs.Pairs.{own};
 ghost use Rattle.turn_lock.specs.Sights.{fresh_seat};
 
 use crate::accept::accept_all;
@@ -40,6 +41,7 @@ fn serve_links<R: Wait, N: Net, G: Gate + Drop, W: Spawner<LinkJob<N::In, N::Out
     requires ready { (w : _) (j : _) → W.ready w j }
     requires root { IsRootOf (arc_value hub.now) root.old }
     requires room { root.old.next + 2 * length asked.now.order.now ≤ 2 ^ 63 }
+    requires few { length (own 0 root.old.seen) + length asked.now.order.now ≤ 64 }
     ensures accepted { (count : ℕ) × (count ≤ length asked.now.order.now)
         × (N.links net.new ≡ N.links net.old ++ take count (doors_of asked.now.order.now))
         × LinksStarted (arc_value hub.now) root.old root.new (W.started spawner.old)

@@ -4,7 +4,7 @@ ghost use Rattle.std.specs.Prelude.{None, Ok, Err};
 ghost use Rattle.std.specs.Prelude.{OnOk, OnErr, IfOk, IfErr};
 ghost use Rattle.std.specs.Arc.{arc_value};
 ghost use Rattle.wio_core.specs.Io.{Rose};
-ghost use Rattle.turn_lock.specs.Pairs.{HasSeen};
+ghost use Rattle.turn_lock.specs.Pairs.{own, HasSeen};
 ghost use Rattle.turn_lock.specs.Sights.{after_split};
 ghost use Rattle.hub_lock.specs.Passes.{IsOf, steps_of};
 ghost use Rattle.hub_lock.specs.Finished.{seat_of};
@@ -178,6 +178,7 @@ fn join_peer<R: Wait>(
 ) -> Result<(ReaderPass, WriterPass), Stop>
     requires root { IsRootOf hub.now root.old }
     requires room { root.old.next ≤ 2 ^ 63 }
+    requires few { length (own 0 root.old.seen) < 64 }
     ensures joined { IfOk result (λ both.
         IsJoinedBy hub.now root.old root.new role both.0 both.1) }
     ensures fresh { IfOk result (λ both.
@@ -294,6 +295,7 @@ pub(crate) fn start_peer<
     requires source { IsNewSource (S.Source.given source) (S.Source.fault_count source) }
     requires sink { IsNewSink (K.Sink.held sink) (K.Sink.fault_count sink) }
     requires one { S.number source ≡ K.number sink }
+    requires few { length (own 0 root.old.seen) < 64 }
     ensures started { LinkStarted (arc_value hub.now) root.old root.new (W.started spawner.old)
         (W.started spawner.new) (S.number source) (Some role) result }
     ensures last { (W.before_start spawner.new ≡ W.before_start spawner.old)

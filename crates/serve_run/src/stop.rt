@@ -1,5 +1,5 @@
 //! Why a run isn't as it should be.
-ghost use Rattle.std.specs.Prelude.{◌≡◌};
+ghost use Rattle.std.specs.Prelude.{◌≡◌, ℕ};
 ghost use Rattle.link_jobs.specs.Tags.End.{read, wrote, ordered};
 ghost use Rattle.link_jobs.specs.LinkTags.{done_report};
 ghost use Rattle.serve_run.specs.Refused.{stop_of};
@@ -45,12 +45,14 @@ pub enum Trouble {
 
 // A join is refused where 64 peers are alive, which they aren't: an order has 64 letters at most.
 pub(crate) fn refused(why: JoinRefusal) -> Stop
+    requires few { (n : ℕ) → why ≡ JoinRefusal.TooManyPeers n → ⊥ }
     ensures refusal { IsRefusal result }
     ensures is { result ≡ stop_of why }
 {
     match why {
         JoinRefusal::JournalFull(_) => Stop::JournalFull,
-        JoinRefusal::NoMemory | JoinRefusal::TooManyPeers(_) => Stop::NoMemory,
+        JoinRefusal::NoMemory => Stop::NoMemory,
+        JoinRefusal::TooManyPeers(_) => unreachable!(),
     }
 }
 

@@ -1,8 +1,10 @@
-use Rattle.std.proofs.Common.{refl, sym, ap, ◌≡◌, inl, inr, ⊎_elim, ◌+◌, ◌<◌, ◌∙◌, length, get_or, append-nil, Ok, Err, arith}
+use Rattle.std.proofs.Common.{refl, sym, ap, ◌≡◌, inl, inr, ⊎_elim, ◌+◌, ◌<◌, ◌∙◌, length, get_or, append-nil, length-append, take, Ok, Err, arith}
 use Rattle.std.specs.Arc.{arc_value}
+use Rattle.turn_lock.specs.Pairs.{own}
+use Rattle.serve_run.specs.LinkJobs.{joins_of}
 use Rattle.link_nets.specs.declared.door.Door.TheVariants.{App}
 use Rattle.serve_words.specs.Words.{doors_of}
-use Rattle.serve_run.proofs.LinksInOrder.{none_yet, none_came, all_came, last_came, one_link_more, by_letter, doors_counted, door_at, doors_more, next_number, passes_few}
+use Rattle.serve_run.proofs.LinksInOrder.{none_yet, none_came, all_came, last_came, one_link_more, by_letter, doors_counted, door_at, doors_more, joins_few, next_number, passes_few}
 use Rattle.serve_run.proofs.accept.accept_all.Goals as goal
 
 pub loop-letter-init : goal.loop-letter-init
@@ -61,6 +63,15 @@ returns-in-Err-start_link-clause-accepted g c =
 
 pub start_link-requires-clause-one : goal.start_link-requires-clause-one
 start_link-requires-clause-one g c = c.in-Ok.ensures.number_in ∙ sym c.in-Ok.ensures.number_out
+
+pub start_link-requires-clause-few : goal.start_link-requires-clause-few
+start_link-requires-clause-few g c =
+    let joins = ap length c.loop-letter.invariant.started.joins
+    ∙ length-append (own 0 c.args.root.now.seen)
+    (joins_of c.args.root.now.next (take c.loop-letter.letter-index c.args.letters.now)) in
+    let more = joins_few c.args.root.now.next c.args.letters.now c.loop-letter.letter-index in
+    let within : c.loop-letter.letter-index < length c.args.letters.now = c.loop-letter-test.true in
+    let few = c.requires.few in omega arith
 
 pub start_link-requires-clause-room : goal.start_link-requires-clause-room
 start_link-requires-clause-room g c =

@@ -1,7 +1,7 @@
 use Rattle.std.proofs.Common.{refl, sym, ap, subst, ◌≡◌, ◌⊎◌, inl, inr, ⊎_elim, ◌∙◌, ◌+◌, ◌++◌, ℕ, List, ◌∷◌, length, map, take, drop, Option, arith}
 use Rattle.std.specs.Arc.{arc_value}
 use Rattle.wio_core.specs.Io.{Rose}
-use Rattle.turn_lock.specs.Pairs.{total}
+use Rattle.turn_lock.specs.Pairs.{own}
 use Rattle.hub_lock.specs.Passes.{HubId, PassSeat}
 use Rattle.hub_lock.specs.Histories.{broker_of}
 use Rattle.serve_words.specs.Asked.{asked as asked'}
@@ -25,6 +25,11 @@ serve_links-accepted-requires-clause-root g c = fresh_root (arc_value c.args.hub
 pub serve_links-accepted-requires-clause-room : goal.serve_links-accepted-requires-clause-room
 serve_links-accepted-requires-clause-room g c =
     let next = ap (λ (s : PassSeat). s.next) c.requires.new in let few = c.requires.order in omega arith
+
+pub serve_links-accepted-requires-clause-few : goal.serve_links-accepted-requires-clause-few
+serve_links-accepted-requires-clause-few g c =
+    let none = ap (λ (s : PassSeat). length (own 0 s.seen)) c.requires.new in
+    let few = c.requires.order in omega arith
 
 pub finish_run-requires-clause-root : goal.finish_run-requires-clause-root
 finish_run-requires-clause-root g c =
