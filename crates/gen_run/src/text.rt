@@ -1,5 +1,5 @@
 //! A generated session as text.
-ghost use Rattle.std.specs.Prelude.{◌≡◌, ◌++◌, ◌+◌, ◌<◌, ◌≤◌, ◌∷◌, [], ℕ, List, Option, OnOk};
+ghost use Rattle.std.specs.Prelude.{◌≡◌, ◌≢◌, ◌++◌, ◌+◌, ◌<◌, ◌≤◌, ◌∷◌, [], ℕ, List, Option, OnOk};
 ghost use Rattle.std.specs.Prelude.{OnErr, string_bytes};
 ghost use Rattle.std.specs.Io.KnownBytes.{Appends};
 ghost use Rattle.wio_core.specs.Io.{Rose};
@@ -86,6 +86,8 @@ fn write_page<K: Sink>(page: &mut String, output: &mut K) -> Result<(), WriteEnd
         (GrowsByFront (K.held output.old) (K.held output.new) (string_bytes page.old)) }
     ensures never_falls { K.fault_count output.old ≤ K.fault_count output.new }
     ensures cause { OnErr result (Rose (K.fault_count output.old) (K.fault_count output.new)) }
+    ensures no_fault { result ≢ Err WriteEnd.WriteFault →
+        K.fault_count output.new ≡ K.fault_count output.old }
 {
     write_all(output, page.as_bytes())?;
     page.clear();
@@ -113,6 +115,8 @@ fn write_step<K: Sink>(
     ensures never_falls { K.fault_count output.old ≤ K.fault_count output.new }
     ensures cause { result ≡ Err WriteEnd.WriteFault →
         Rose (K.fault_count output.old) (K.fault_count output.new) }
+    ensures no_fault { result ≢ Err WriteEnd.WriteFault →
+        K.fault_count output.new ≡ K.fault_count output.old }
 {
     let step = run.next(alloc)?;
     add_step(alloc, page, &step)?;
@@ -138,6 +142,8 @@ fn write_run<K: Sink>(
     ensures never_falls { K.fault_count output.old ≤ K.fault_count output.new }
     ensures cause { result ≡ Err WriteEnd.WriteFault →
         Rose (K.fault_count output.old) (K.fault_count output.new) }
+    ensures no_fault { result ≢ Err WriteEnd.WriteFault →
+        K.fault_count output.new ≡ K.fault_count output.old }
 {
     let mut page = String::from_str(alloc, HEADER)?;
     'steps: while run.left() > 0 {
@@ -160,6 +166,8 @@ pub fn write_session<K: Sink>(alloc: Global, number: u64, output: &mut K) -> Res
     ensures never_falls { K.fault_count output.old ≤ K.fault_count output.new }
     ensures cause { result ≡ Err WriteEnd.WriteFault →
         Rose (K.fault_count output.old) (K.fault_count output.new) }
+    ensures no_fault { result ≢ Err WriteEnd.WriteFault →
+        K.fault_count output.new ≡ K.fault_count output.old }
 {
     let mut run = Run::new(alloc, number)?;
     write_run(alloc, number, &mut run, output)

@@ -1,4 +1,4 @@
-use Rattle.std.proofs.Common.{ap, arith}
+use Rattle.std.proofs.Common.{◌∙◌, refl, ap, arith}
 use Rattle.session_gen.specs.Generated.{Progress}
 use Rattle.gen_run.specs.Texts.{text_of}
 use Rattle.gen_run.proofs.RunGoesOn.{begins, goes_on}
@@ -10,6 +10,7 @@ steps-init g c = record {
   run = begins c.args.number c.args.run.now c.requires.stands c.requires.first;
   writes = begins_writing c.args.number c.args.run.now _ _ c.requires.first c.in_ok-page.ensures.ok;
   later = omega arith;
+  no_fault = refl;
 }
 
 pub write_step-requires-clause-stands : goal.write_step-requires-clause-stands
@@ -24,6 +25,7 @@ steps-preserved g c = record {
       c.in_ok-write_step.ensures.made;
   writes = c.in_ok-write_step.ensures.whole _ c.steps.invariant.writes;
   later = omega (arith, c.steps.invariant.later, c.in_ok-write_step.ensures.never_falls);
+  no_fault = c.in_ok-write_step.ensures.no_fault (λ e. cc e) ∙ c.steps.invariant.no_fault;
 }
 
 pub steps-smaller : goal.steps-smaller

@@ -1,4 +1,4 @@
-use Rattle.std.proofs.Common.{◌≤◌, ◌-◌, string_bytes}
+use Rattle.std.proofs.Common.{◌≡◌, ◌≤◌, ◌-◌, string_bytes}
 use Rattle.session_gen.specs.Generated.{step_count}
 use Rattle.gen_run.specs.Writing.{Writes}
 use Rattle.gen_run.proofs.RunGoesOn.{IsRunOf}
@@ -9,6 +9,7 @@ invariant-steps g l = record {
   run : IsRunOf l.number l.run;
   writes : Writes l.run (string_bytes l.page) (g.K.Sink.held l.initial.output) (g.K.Sink.held l.output);
   later : g.K.Sink.fault_count l.initial.output ≤ g.K.Sink.fault_count l.output;
+  no_fault : g.K.Sink.fault_count l.output ≡ g.K.Sink.fault_count l.initial.output;
 }
 
 abbrev pub decreases-steps : goal.decreases-steps
