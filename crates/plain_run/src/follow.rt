@@ -36,6 +36,10 @@ pub fn play_input<P: Script, S: Source, K: Sink>(
         (K.held output.old) (K.held output.new) result read }
     ensures reads_never_fall { S.fault_count input.old ≤ S.fault_count input.new }
     ensures writes_never_fall { K.fault_count output.old ≤ K.fault_count output.new }
+    ensures no_read_fault { result ≢ Status.ReadFault →
+        S.fault_count input.new ≡ S.fault_count input.old }
+    ensures no_write_fault { result ≢ Status.WriteFault →
+        K.fault_count output.new ≡ K.fault_count output.old }
 {
     let mut reader = match LineReader::new(alloc, Some(limit)) {
         Ok(reader) => reader,

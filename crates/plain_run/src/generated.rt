@@ -1,5 +1,5 @@
 //! A generated session: its counts, and its text. Nothing is read.
-ghost use Rattle.std.specs.Prelude.{◌≤◌, ℕ, List, Option};
+ghost use Rattle.std.specs.Prelude.{◌≡◌, ◌≢◌, ◌≤◌, ℕ, List, Option};
 ghost use Rattle.plain_run.specs.Ran.{Ran};
 ghost use Rattle.plain_run.specs.Generated.{counts_answer, text_answer};
 
@@ -15,6 +15,8 @@ pub fn write_counts<K: Sink>(alloc: Global, number: u64, output: &mut K) -> Stat
         (K.held output.old) (K.held output.new)
         (K.fault_count output.old) (K.fault_count output.new) result }
     ensures writes_never_fall { K.fault_count output.old ≤ K.fault_count output.new }
+    ensures no_write_fault { result ≢ Status.WriteFault →
+        K.fault_count output.new ≡ K.fault_count output.old }
 {
     let line = match summary(alloc, number) {
         Ok(line) => line,
@@ -33,6 +35,8 @@ pub fn write_generated<K: Sink>(alloc: Global, number: u64, output: &mut K) -> S
         (K.held output.old) (K.held output.new)
         (K.fault_count output.old) (K.fault_count output.new) result }
     ensures writes_never_fall { K.fault_count output.old ≤ K.fault_count output.new }
+    ensures no_write_fault { result ≢ Status.WriteFault →
+        K.fault_count output.new ≡ K.fault_count output.old }
 {
     match write_session(alloc, number, output) {
         Ok(()) => Status::Ok,

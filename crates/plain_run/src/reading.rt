@@ -30,6 +30,8 @@ pub fn next_line<P: Script, S: Source>(
     ensures never_falls { S.fault_count input.old ≤ S.fault_count input.new }
     ensures cause { result ≡ Err Status.ReadFault
         → Rose (S.fault_count input.old) (S.fault_count input.new) }
+    ensures no_fault { result ≢ Err Status.ReadFault
+        → S.fault_count input.new ≡ S.fault_count input.old }
 {
     match reader.next(input) {
         NextLine::Line(raw) => match script.line(raw) {

@@ -42,6 +42,10 @@ fn explain<S: Source, K: Sink>(alloc: Global, lines: Lines, input: &mut S, outpu
         (K.held output.old) (K.held output.new) result read }
     ensures reads_never_fall { S.fault_count input.old ≤ S.fault_count input.new }
     ensures writes_never_fall { K.fault_count output.old ≤ K.fault_count output.new }
+    ensures no_read_fault { result ≢ Status.ReadFault →
+        S.fault_count input.new ≡ S.fault_count input.old }
+    ensures no_write_fault { result ≢ Status.WriteFault →
+        K.fault_count output.new ≡ K.fault_count output.old }
 {
     match lines {
         Lines::All => {
@@ -73,6 +77,10 @@ fn replay<S: Source, K: Sink>(
         (K.held output.old) (K.held output.new) result read }
     ensures reads_never_fall { S.fault_count input.old ≤ S.fault_count input.new }
     ensures writes_never_fall { K.fault_count output.old ≤ K.fault_count output.new }
+    ensures no_read_fault { result ≢ Status.ReadFault →
+        S.fault_count input.new ≡ S.fault_count input.old }
+    ensures no_write_fault { result ≢ Status.WriteFault →
+        K.fault_count output.new ≡ K.fault_count output.old }
 {
     match command {
         Command::Replay => {
@@ -114,6 +122,10 @@ fn run_task<S: Source, K: Sink>(alloc: Global, task: Task, input: &mut S, output
     ensures unread { reads_nothing (Some task) ≡ true → input.new ≡ input.old }
     ensures reads_never_fall { S.fault_count input.old ≤ S.fault_count input.new }
     ensures writes_never_fall { K.fault_count output.old ≤ K.fault_count output.new }
+    ensures no_read_fault { result ≢ Status.ReadFault →
+        S.fault_count input.new ≡ S.fault_count input.old }
+    ensures no_write_fault { result ≢ Status.WriteFault →
+        K.fault_count output.new ≡ K.fault_count output.old }
 {
     match task {
         Task::Lines(command) => replay(alloc, command, input, output),
@@ -176,6 +188,12 @@ pub fn run_plain<S: Source, K: Sink>(
         Rose (K.fault_count output.old) (K.fault_count output.new) }
     ensures reads_never_fall { S.fault_count input.old ≤ S.fault_count input.new }
     ensures writes_never_fall { K.fault_count output.old ≤ K.fault_count output.new }
+
+    // No other answer comes after a read or a write that failed: none is tried again.
+    ensures no_read_fault { result ≢ Status.ReadFault →
+        S.fault_count input.new ≡ S.fault_count input.old }
+    ensures no_write_fault { result ≢ Status.WriteFault →
+        K.fault_count output.new ≡ K.fault_count output.old }
 
     // For a generated session nothing is read.
     ensures unread { reads_nothing (task_of (map string_bytes words.now)) ≡ true →

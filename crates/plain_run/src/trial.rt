@@ -1,5 +1,5 @@
 //! A script of a trial, which is read whole before it is run.
-ghost use Rattle.std.specs.Prelude.{◌≡◌, ◌≤◌, IfOk, string_bytes};
+ghost use Rattle.std.specs.Prelude.{◌≡◌, ◌≢◌, ◌≤◌, IfOk, string_bytes};
 ghost use Rattle.trial_script.specs.Scripts.{script_of};
 ghost use Rattle.plain_run.specs.declared.reading.TheConstants.{INPUT_LIMIT};
 ghost use Rattle.plain_run.specs.Lines.{lines_of};
@@ -65,6 +65,10 @@ pub fn run_script<S: Source, K: Sink>(alloc: Global, input: &mut S, output: &mut
         (K.fault_count output.old) (K.fault_count output.new) result }
     ensures reads_never_fall { S.fault_count input.old ≤ S.fault_count input.new }
     ensures writes_never_fall { K.fault_count output.old ≤ K.fault_count output.new }
+    ensures no_read_fault { result ≢ Status.ReadFault →
+        S.fault_count input.new ≡ S.fault_count input.old }
+    ensures no_write_fault { result ≢ Status.WriteFault →
+        K.fault_count output.new ≡ K.fault_count output.old }
 {
     let bytes = match read_all(alloc, input) {
         Ok(bytes) => bytes,

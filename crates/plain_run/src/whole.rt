@@ -1,5 +1,5 @@
 //! An input that is read whole.
-ghost use Rattle.std.specs.Prelude.{◌≡◌, ◌<◌, ◌≤◌, ◌+◌, ℕ, List, Option, length, vec_len, true};
+ghost use Rattle.std.specs.Prelude.{◌≡◌, ◌≢◌, ◌<◌, ◌≤◌, ◌+◌, ℕ, List, Option, length, vec_len, true};
 ghost use Rattle.std.specs.Prelude.{IfOk, IfSome, OnOk, Err};
 ghost use Rattle.std.specs.Io.KnownBytes.{Consumes, IsAtEnd};
 ghost use Rattle.wio_core.specs.Io.{Rose};
@@ -43,6 +43,8 @@ fn read_some<S: Source>(
     ensures never_falls { S.fault_count source.old ≤ S.fault_count source.new }
     ensures cause { result ≡ Err ReadEnd.ReadFault
         → Rose (S.fault_count source.old) (S.fault_count source.new) }
+    ensures no_fault { result ≢ Err ReadEnd.ReadFault
+        → S.fault_count source.new ≡ S.fault_count source.old }
 {
     let size = room.min(piece.len());
     match source.read(&mut piece[..size]) {
@@ -63,6 +65,8 @@ pub fn read_all<S: Source>(alloc: Global, source: &mut S) -> Result<Vec<u8>, Rea
     ensures never_falls { S.fault_count source.old ≤ S.fault_count source.new }
     ensures cause { result ≡ Err ReadEnd.ReadFault
         → Rose (S.fault_count source.old) (S.fault_count source.new) }
+    ensures no_fault { result ≢ Err ReadEnd.ReadFault
+        → S.fault_count source.new ≡ S.fault_count source.old }
 {
     let limit = INPUT_LIMIT as usize;
     let mut input = Vec::new(alloc);

@@ -1,5 +1,5 @@
 //! The output of a script goes out.
-ghost use Rattle.std.specs.Prelude.{◌≡◌, ◌≤◌, ℕ, List, [], OnOk, IfOk, IfErr};
+ghost use Rattle.std.specs.Prelude.{◌≡◌, ◌≢◌, ◌≤◌, ℕ, List, [], OnOk, IfOk, IfErr, Err};
 ghost use Rattle.std.specs.Io.KnownBytes.{Appends};
 ghost use Rattle.wio_core.specs.Io.{Rose};
 ghost use Rattle.plain_run.specs.Endings.{with_front, ending, IsDecided};
@@ -23,6 +23,8 @@ fn write_out<P: Script, K: Sink>(script: &mut P, output: &mut K) -> Result<(), S
     ensures never_falls { K.fault_count output.old ≤ K.fault_count output.new }
     ensures cause { result ≡ Err Status.WriteFault
         → Rose (K.fault_count output.old) (K.fault_count output.new) }
+    ensures no_fault { result ≢ Err Status.WriteFault
+        → K.fault_count output.new ≡ K.fault_count output.old }
 {
     if script.close().is_err() {
         return Err(Status::NoMemory);
@@ -54,6 +56,8 @@ pub fn write_due<P: Script, K: Sink>(
     ensures never_falls { K.fault_count output.old ≤ K.fault_count output.new }
     ensures cause { result ≡ Err Status.WriteFault
         → Rose (K.fault_count output.old) (K.fault_count output.new) }
+    ensures no_fault { result ≢ Err Status.WriteFault
+        → K.fault_count output.new ≡ K.fault_count output.old }
 {
     if reader.is_open() || script.text().len() >= PIECE {
         return write_out(script, output);
@@ -93,6 +97,8 @@ pub fn write_end<P: Script, K: Sink>(
     ensures never_falls { K.fault_count output.old ≤ K.fault_count output.new }
     ensures cause { result ≡ Status.WriteFault
         → Rose (K.fault_count output.old) (K.fault_count output.new) }
+    ensures no_fault { result ≢ Status.WriteFault
+        → K.fault_count output.new ≡ K.fault_count output.old }
 {
     match last_output(alloc, script, last) {
         Ok((text, status)) => match write_all(output, &text) {

@@ -1,4 +1,4 @@
-use Rattle.std.proofs.Common.{◌++◌, ap, arith, Err}
+use Rattle.std.proofs.Common.{◌++◌, ◌∙◌, refl, ap, arith, Err}
 use Rattle.plain_run.proofs.ReadLines.{first_read}
 use Rattle.plain_run.proofs.RunOnItsWay.{at_first, may_read, was_due, went_on}
 use Rattle.plain_run.proofs.RunEnds.{rose_later, none_ran, short_ran, short_law, told_ran, told_law, failed_ran, failed_law}
@@ -14,6 +14,8 @@ lines-init g c = record {
       c.requires.stands c.requires.holds c.requires.follows;
   reads_grow = omega arith;
   writes_grow = omega arith;
+  no_read_fault = refl;
+  no_write_fault = refl;
 }
 
 pub next_line-requires : goal.next_line-requires
@@ -50,6 +52,8 @@ lines-preserved g c =
           c.next_line.new.reader r come;
       reads_grow = omega (arith, i.reads_grow, c.in-Ok-None.ensures.never_falls);
       writes_grow = omega (arith, i.writes_grow, c.in_default.ensures.never_falls);
+      no_read_fault = c.in-Ok-None.ensures.no_fault (λ e. cc e) ∙ i.no_read_fault;
+      no_write_fault = c.in_default.ensures.no_fault (λ e. cc e) ∙ i.no_write_fault;
     }
 
 pub lines-smaller : goal.lines-smaller

@@ -1,4 +1,4 @@
-use Rattle.std.proofs.Common.{◌≤◌}
+use Rattle.std.proofs.Common.{◌≡◌, ◌≤◌}
 use Rattle.plain_run.specs.Reading.{bytes_ahead}
 use Rattle.plain_run.proofs.RunOnItsWay.{Going}
 use Rattle.plain_run.proofs.follow.play_input.Given as goal
@@ -12,6 +12,8 @@ invariant-lines g l = record {
       (g.K.Sink.held l.initial.output) (g.K.Sink.held l.output) l.reader;
   reads_grow : g.S.Source.fault_count l.initial.input ≤ g.S.Source.fault_count l.input;
   writes_grow : g.K.Sink.fault_count l.initial.output ≤ g.K.Sink.fault_count l.output;
+  no_read_fault : g.S.Source.fault_count l.input ≡ g.S.Source.fault_count l.initial.input;
+  no_write_fault : g.K.Sink.fault_count l.output ≡ g.K.Sink.fault_count l.initial.output;
 }
 
 abbrev pub decreases-lines : goal.decreases-lines

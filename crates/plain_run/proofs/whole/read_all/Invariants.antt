@@ -1,4 +1,4 @@
-use Rattle.std.proofs.Common.{◌≤◌, ◌-◌, vec_len}
+use Rattle.std.proofs.Common.{◌≡◌, ◌≤◌, ◌-◌, vec_len}
 use Rattle.std.specs.Io.KnownBytes.{Consumes}
 use Rattle.plain_run.specs.declared.reading.TheConstants.{INPUT_LIMIT}
 use Rattle.plain_run.proofs.whole.read_all.Given as goal
@@ -8,6 +8,7 @@ invariant-pieces g l = record {
   short : vec_len l.input ≤ INPUT_LIMIT;
   read : Consumes (g.S.Source.left l.initial.source) (g.S.Source.left l.source) l.input.items;
   later : g.S.Source.fault_count l.initial.source ≤ g.S.Source.fault_count l.source;
+  no_fault : g.S.Source.fault_count l.source ≡ g.S.Source.fault_count l.initial.source;
 }
 
 abbrev pub decreases-pieces : goal.decreases-pieces
