@@ -6,6 +6,7 @@
 # make test        the gate
 # make gate-cost   the gate from nothing, on a machine that does nothing else, with what each crate costs; python3
 # make cost        builds the program, and counts the instructions of a step; python3, valgrind
+# make memory      the most memory that replays take, short and long; after `make build`; python3
 # make claims      the documents against the sources, and where the program is built their command blocks; python3
 # make libwlim     proves and makes the library for C, in out/libwlim, and holds its header against it; cc, ld, objcopy,
 #                  ar, nm, python3
@@ -20,7 +21,7 @@
 #                  `make libwlim`. Installs what it needs of Debian 12: as root, with a network
 # make gateway-mutter-test  after it, types through the gateway beside GNOME's compositor
 PROGRAM = crates/wlim/out/wlim
-.PHONY: demo build examples test gate-cost cost claims libwlim embed embed-test embed-speed gateway gateway-test gateway-mutter-test
+.PHONY: demo build examples test gate-cost cost memory claims libwlim embed embed-test embed-speed gateway gateway-test gateway-mutter-test
 demo:
 	cd crates/wlim && rt try -- replay-acts < ../../examples/one_string.acts
 
@@ -39,6 +40,9 @@ gate-cost:
 cost:
 	cd crates/wlim && rt run -- replay < ../../examples/one_batch.session > /dev/null
 	python3 tools/cost.py
+
+memory:
+	python3 tools/memory.py
 
 claims:
 	python3 tools/claims.py $(if $(wildcard $(PROGRAM)),--program $(PROGRAM))
