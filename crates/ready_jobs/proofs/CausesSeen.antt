@@ -1,0 +1,111 @@
+-- Why no job was begun, by what the root has seen when the passes came back
+use Rattle.std.proofs.Common.{◌≡◌, ℕ, ◌+◌, ◌-◌, Bool, true, false, List, [], ◌∷◌, ◌++◌, Option, Some, None, Result, Ok, Err, IfSome, IfNone, refl, sym, ap, subst, ◌∙◌, arith, append_assoc, append-nil}
+use Rattle.std.specs.Prelude.{IsOkUnless, option_map, if◌then◌else◌, nat_le}
+use Rattle.relay_model.specs.declared.role.Role.{Role}
+use Rattle.seat_steps.specs.declared.limits.Limits.{Limits}
+use Rattle.broker_model.specs.declared.journal.Entry.{Entry}
+use Rattle.broker_model.specs.declared.journal.Entry.TheVariants as entries
+use Rattle.broker_model.specs.declared.journal.Kept.{Kept}
+use Rattle.broker_model.specs.Settle.{number_alive}
+use Rattle.broker_core.specs.declared.answers.JoinRefusal.{JoinRefusal}
+use Rattle.broker_core.specs.declared.answers.JoinRefusal.TheVariants as join
+use Rattle.broker_core.specs.Broker.{Broker, full_for, join_refusal}
+use Rattle.turn_lock.specs.Sights.{met_with, having_seen, IsMeeting}
+use Rattle.hub_lock.specs.Histories.{History, broker_of}
+use Rattle.hub_lock.specs.Passes.{HubId, PassSeat, PeerPass, IsOf}
+use Rattle.hub_lock.specs.Calls.{LegalJoin, IsJoined}
+use Rattle.pass_calls.specs.declared.stop.PassStop.{PassStop}
+use Rattle.pass_calls.specs.declared.stop.PassStop.TheVariants as stops
+use Rattle.pass_calls.specs.Made.{IsFullFor}
+use Rattle.pass_calls.specs.Submitted.{Submits}
+use Rattle.ready_jobs.specs.declared.no_job.NoJob.{NoJob}
+use Rattle.ready_jobs.specs.declared.no_job.NoJob.TheVariants as none
+use Rattle.ready_jobs.specs.NoJobs.{refused_by, stopped_by, HasCause, IsWithout}
+use Rattle.ready_jobs.specs.Begun.{AreBack}
+
+-- a join that was refused for the journal
+
+abbrev none_joined : JoinRefusal → Result ℕ JoinRefusal
+none_joined why = Err why
+
+refused_full : (o : Option JoinRefusal) (kept : Kept) →
+    IfSome o (λ why. none_joined (join.JournalFull kept) ≡ Err why) →
+    IfNone o (IsOkUnless (none_joined (join.JournalFull kept)) join.NoMemory) → o ≡ Some (join.JournalFull kept)
+refused_full None kept some none = absurd (let no : join.JournalFull kept ≡ join.NoMemory = none in cc)
+refused_full (Some why) kept some none =
+    let e : none_joined (join.JournalFull kept) ≡ none_joined why = some in cc
+
+full_there : (many : Bool) (o : Option Kept) (kept : Kept) →
+    (if many then Some (join.TooManyPeers 64) else option_map (λ k. join.JournalFull k) o)
+    ≡ Some (join.JournalFull kept) → o ≡ Some kept
+full_there true o kept e = absurd (cc)
+full_there false None kept e = absurd (cc)
+full_there false (Some k) kept e = let same : Some (join.JournalFull k) ≡ Some (join.JournalFull kept) = e in cc
+
+join_cause : (limits : Limits) (root : PassSeat) (after : History) (role : Role) (why : JoinRefusal) →
+    LegalJoin limits root after role (Err why) → HasCause limits after (refused_by why)
+join_cause limits root after role (join.TooManyPeers alive) k = tt
+join_cause limits root after role join.NoMemory k = tt
+join_cause limits root after role (join.JournalFull kept) k =
+    let turn : History = root.seen ++ k.rest in
+    let b : Broker = broker_of limits turn in record {
+      front = turn;
+      more = [];
+      is = k.answer.same ∙ sym (append-nil turn);
+      entry = entries.Join role;
+      full = full_there (nat_le 64 (number_alive b.journal)) (full_for b (entries.Join role)) kept
+          (refused_full (join_refusal b role) kept k.answer.refused k.answer.accepted);
+    }
+
+pub join_without : (hub : HubId) (root after : PassSeat) (role : Role) (why : JoinRefusal) → IsOf hub root →
+    after ≡ having_seen root after.seen → LegalJoin hub.limits root after.seen role (Err why) →
+    IsWithout hub root after (refused_by why)
+join_without hub root after role why own is k = record {
+  of = subst (λ (s : PassSeat). IsOf hub s) (sym is) own;
+  number = ap (λ (s : PassSeat). s.number) is;
+  out = ap (λ (s : PassSeat). s.out) is;
+  cause = join_cause hub.limits root after.seen role why k;
+}
+
+-- a set-up that wasn't taken
+
+pub setup_cause : (limits : Limits) (before after : PeerPass) (all : List Entry) (stop : PassStop) →
+    Submits limits before after all (Err stop) → HasCause limits after.seat.seen (stopped_by stop)
+setup_cause limits before after all stops.NoMemory k = tt
+setup_cause limits before after all (stops.JournalFull kept) k = record {
+  front = after.seat.seen;
+  more = [];
+  is = sym (append-nil after.seat.seen);
+  entry = k.next;
+  full = k.why;
+}
+
+-- what was full was so, whatever the root has seen besides
+cause_more : (limits : Limits) (seen rest after : History) (why : NoJob) → after ≡ seen ++ rest →
+    HasCause limits seen why → HasCause limits after why
+cause_more limits seen rest after (none.TooManyPeers alive) is k = tt
+cause_more limits seen rest after none.NoMemory is k = tt
+cause_more limits seen rest after (none.JournalFull kept) is k = record {
+  front = k.front;
+  more = k.more ++ rest;
+  is = is ∙ ap (λ (h : History). h ++ rest) k.is ∙ append_assoc k.front k.more rest;
+  entry = k.entry;
+  full = k.full;
+}
+
+pub back_without : (hub : HubId) (before root after : PassSeat) (role : Role) (first reader writer : PeerPass)
+    (why : NoJob) → IsOf hub before → IsJoined hub.limits before root role first writer →
+    AreBack root after reader.seat writer.seat → HasCause hub.limits reader.seat.seen why →
+    IsWithout hub before after why
+back_without hub before root after role first reader writer why own k back cause =
+    let mid : PassSeat = met_with root reader.seat in
+    let theirs = back.first.theirs in
+    let mine = back.then.mine in
+    let out : after.out ≡ root.out - 1 - 1 = ap (λ (s : PassSeat). s.out) back.left in
+    let two : root.out ≡ before.out + 1 + 1 = ap (λ (s : PassSeat). s.out) k.left in record {
+      of = subst (λ (s : PassSeat). IsOf hub s) (sym back.left) (subst (λ (s : PassSeat). IsOf hub s) (sym k.left) own);
+      number = ap (λ (s : PassSeat). s.number) back.left ∙ ap (λ (s : PassSeat). s.number) k.left;
+      out = omega (arith, out, two);
+      cause = cause_more hub.limits mid.seen mine.0 after.seen why mine.1
+          (cause_more hub.limits reader.seat.seen theirs.0 mid.seen why theirs.1 cause);
+    }

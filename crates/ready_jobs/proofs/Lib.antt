@@ -1,0 +1,3 @@
+pub mod PeersJoined
+pub mod SetupsSent
+pub mod CausesSeen

@@ -1,0 +1,2 @@
+pub mod NoJobs
+pub mod Begun
