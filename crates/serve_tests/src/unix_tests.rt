@@ -218,17 +218,23 @@ fn syncs(alloc: Global) -> Result<Vec<u8>, AllocError> {
     Ok(frame)
 }
 
-// An application that sends 12,000 messages, or as many as the server takes of it before it hangs up,
-// and never reads, and a shell that is served meanwhile.
-fn deaf_client<R: Net>(rt: &R, alloc: Global) -> io::Result<usize> {
-    let mut deaf = connect(rt, "deaf_app.sock")?;
-    let frame = syncs(alloc)?;
-    for _ in 0..40 {
-        if deaf.write_all(frame.as_slice()).is_err() {
+// Sends so many frames, or as many as the server takes before it hangs up.
+fn send_all(deaf: &mut UnixStream, frame: &[u8], count: u32) {
+    for _ in 0..count {
+        if deaf.write_all(frame).is_err() {
             break;
         }
     }
+}
+
+// An application that sends 12,000 messages, and then more until the server hangs up, and never reads;
+// and a shell that is served meanwhile.
+fn deaf_client<R: Net>(rt: &R, alloc: Global) -> io::Result<usize> {
+    let mut deaf = connect(rt, "deaf_app.sock")?;
+    let frame = syncs(alloc)?;
+    send_all(&mut deaf, frame.as_slice(), 40);
     let count = count_answer(rt, alloc, "deaf_shell.sock", b"key 5 30 1\n")?;
+    send_all(&mut deaf, frame.as_slice(), 400);
     drop(deaf);
     Ok(count)
 }
