@@ -1,5 +1,5 @@
 -- An act that does something stands in the history as it is.
-use Rattle.std.proofs.Common.{◌≡◌, List, ◌∷◌, Bool, true, ap}
+use Rattle.std.proofs.Common.{◌≡◌, List, ◌∷◌, true, ap}
 use Rattle.std.specs.Prelude.{if◌then◌else◌}
 use Rattle.relay_model.specs.declared.act.Act.{Act}
 use Rattle.relay_model.specs.declared.act.Act.TheVariants as acts

@@ -1,5 +1,6 @@
-//! What was told and not asked for yet: the events in one ring, their texts one behind the other in another.
-ghost use Rattle.std.specs.Prelude.{◌≡◌, ◌+◌, ◌++◌, ◌∷◌, ◌≤◌, ◌<◌, [], length};
+//! What was told and not asked for yet: the events in one ring, their texts one after the other in
+//! another.
+ghost use Rattle.std.specs.Prelude.{◌≡◌, ◌+◌, ◌^◌, ◌++◌, ◌∷◌, ◌≤◌, ◌<◌, [], length};
 ghost use Rattle.std.specs.Prelude.{IfOk, OnOk};
 ghost use Rattle.circular_buffer.specs.Buffer.{buffer};
 ghost use Rattle.relay_seat.specs.Waiting.{IsFirst, Pulls};
@@ -41,20 +42,21 @@ impl Model for Queue {
     ghost invariant = { λ q. lengths q.events.items ≡ length q.texts.items };
 }
 
-// Room for so many more; a ring that grows has at least twice the room that it had.
+// Room for so many more; a ring that grows has at least twice the room that it had. `NoMemory` is
+// the ring's own: more than can be counted is asked of it as the greatest number, which none has.
 fn make_room<T: Drop>(ring: &mut HeapCircularBuffer<T>, more: usize) -> Result<(), NoMemory>
     ensures items { ring.new.items ≡ ring.old.items }
     ensures room { OnOk result (length ring.new.items + more ≤ ring.new.capacity) }
+    ensures few { ring.new.capacity < 2 ^ 63 }
 {
     let length = ring.len();
     let capacity = ring.capacity();
     if more <= capacity - length {
         return Ok(());
     }
-    let Some(wanted) = length.checked_add(more) else {
-        return Err(NoMemory);
-    };
+    let wanted = length.saturating_add(more);
     ring.resize(wanted.max(capacity.saturating_mul(2)))?;
+    let _capacity = ring.capacity();
     Ok(())
 }
 
@@ -84,11 +86,12 @@ impl Queue {
     }
 
     /// Makes room for so many events more, and so many bytes of their texts. What waits stays, also
-    /// after `NoMemory`.
+    /// after `NoMemory`, which comes where a ring gets no memory. No room has 2^63 places.
     pub fn reserve(&mut self, events: usize, bytes: usize) -> Result<(), NoMemory>
         ensures heard { self.new.heard ≡ self.old.heard }
         ensures places { OnOk result (events ≤ self.new.places) }
         ensures bytes { OnOk result (bytes ≤ self.new.bytes) }
+        ensures few { OnOk result ((self.new.places < 2 ^ 63) × (self.new.bytes < 2 ^ 63)) }
     {
         make_room(&mut self.events, events)?;
         make_room(&mut self.texts, bytes)

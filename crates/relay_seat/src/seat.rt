@@ -1,5 +1,6 @@
 //! The seat as a program that embeds it sees it.
-ghost use Rattle.std.specs.Prelude.{◌≡◌, ◌<◌, ◌++◌, ◌∷◌, [], List, IfOk, IfErr, OnOk, OnErr, length};
+ghost use Rattle.std.specs.Prelude.{◌≡◌, ◌<◌, ◌++◌, ◌∷◌, [], List, length};
+ghost use Rattle.std.specs.Prelude.{IfOk, IfErr, OnOk, OnErr};
 ghost use Rattle.relay_model.specs.declared.act.Act.{Act};
 ghost use Rattle.relay_model.specs.Focus.{focus};
 ghost use Rattle.relay_model.specs.Hold.{holder};
@@ -36,7 +37,8 @@ pub enum Refusal {
     Full,
     /// A text has more bytes than a message can carry: 4,083, or 4,075 beside two numbers.
     Long,
-    /// It makes one too many: a peer where so many are alive as may be, or an object of a peer that has so many.
+    /// It makes one too many: a peer where so many are alive as may be, or an object of a peer that
+    /// has so many.
     Many,
 }
 
@@ -76,7 +78,8 @@ fn fits(act: &Act) -> bool
     }
 }
 
-// Makes room for the act, and for what it tells.
+// Makes room for the act, and for what it tells. More than can be counted is asked of the queue as
+// the greatest number, which no memory is enough for.
 fn reserve(relay: &mut Relay, act: &Act, queue: &mut Queue) -> Result<(), NoMemory>
     requires { FitsMessage act.now }
     ensures acts { relay.new.state.acts ≡ relay.old.state.acts }
@@ -87,9 +90,8 @@ fn reserve(relay: &mut Relay, act: &Act, queue: &mut Queue) -> Result<(), NoMemo
         (told act.now log)) }
 {
     relay.reserve(act)?;
-    let (Some(events), Some(bytes)) = (relay.most_told(act), relay.most_bytes()) else {
-        return Err(NoMemory);
-    };
+    let events = relay.most_told(act).unwrap_or(usize::MAX);
+    let bytes = relay.most_bytes().unwrap_or(usize::MAX);
     queue.reserve(events, bytes)
 }
 
@@ -123,7 +125,8 @@ fn play(
 }
 
 impl RelaySeat {
-    /// A seat that took no act, of at most `PEER_LIMIT` peers with at most `OBJECT_LIMIT` objects each.
+    /// A seat that took no act, of at most `PEER_LIMIT` peers with at most `OBJECT_LIMIT` objects
+    /// each.
     pub fn new(alloc: Global) -> Result<RelaySeat, NoMemory>
         ensures seated { IfOk result (λ seat. Seated seat [] []) }
         ensures counted { IfOk result (λ seat. IsCounted seat []) }
@@ -248,8 +251,9 @@ impl RelaySeat {
         self.relay.standing()
     }
 
-    /// What a batch comes to that the method commits next with this serial (`zwp_input_method_v2.commit`): asked before that
-    /// act. Of a label that names no live method it says `NotServing`.
+    /// What a batch comes to that the method commits next with this serial
+    /// (`zwp_input_method_v2.commit`): asked before that act. Of a label that names no live method
+    /// it says `NotServing`.
     pub fn batch(&self, method: Label, serial: u32) -> BatchFate
         ensures { (log : List Act) → (waits : List Heard) → Seated self.now log waits → result ≡
             fate (history log) method serial }
