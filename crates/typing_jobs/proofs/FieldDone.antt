@@ -1,8 +1,7 @@
 -- A field's job from its begin to its end
 use Rattle.std.proofs.Common.{◌≡◌, ℕ, zero, suc, ◌+◌, ◌<◌, ◌≤◌, Bool, true, false, List, [], ◌∷◌, ◌++◌, length, map, take, drop, Result, Ok, Err, refl, sym, ap, subst, ◌∙◌, inl, inr, arith, append-nil, append_assoc}
-use Rattle.std.specs.Prelude.{◌⊎◌, slice_index_or}
+use Rattle.std.specs.Prelude.{slice_index_or}
 use Rattle.std.proofs.lemmas.List.{take_more, take_all, take-append-drop, map-append}
-use Rattle.relay_model.specs.declared.act.EndCause.{EndCause}
 use Rattle.seat_steps.specs.declared.limits.Limits.{Limits}
 use Rattle.trial_field.specs.Log.{Entry}
 use Rattle.trial_script.specs.declared.action.FieldEdit.{FieldEdit}
@@ -11,16 +10,15 @@ use Rattle.client_side.specs.Messages.{Sent, spelled, field_setup}
 use Rattle.client_logs.specs.Logs.{edit_of, field_log}
 use Rattle.broker_model.specs.declared.journal.Entry.{Entry as JournalEntry}
 use Rattle.hub_lock.specs.declared.step.OuterStep.{OuterStep}
-use Rattle.hub_lock.specs.Passes.{HubId, PeerPass}
-use Rattle.pass_calls.specs.Made.{entries_by, HasEnded}
+use Rattle.hub_lock.specs.Passes.{HubId}
+use Rattle.pass_calls.specs.Made.{entries_by}
 use Rattle.pass_calls.specs.Submitted.{entries_in}
 use Rattle.typing_jobs.specs.declared.field_job.FieldJob.{FieldJob}
 use Rattle.typing_jobs.specs.declared.job_end.JobEnd.{JobEnd}
 use Rattle.typing_jobs.specs.declared.job_end.JobEnd.TheVariants as ends
-use Rattle.typing_jobs.specs.FieldGoing.{IsFieldOf, FieldKeeps, IsFieldGoing, IsFieldAt, HasFieldRest, FieldGoes}
+use Rattle.typing_jobs.specs.FieldGoing.{IsFieldOf, FieldKeeps, IsFieldGoing, IsFieldAt, HasFieldRest, IsFieldPlayed, FieldGoes}
 use Rattle.typing_jobs.specs.FieldLaw.{first_edits, begun_client, IsFieldReady, IsFieldDone, IsFieldCut, FieldStops, FieldRuns}
-use Rattle.typing_jobs.specs.Fronts.{IsFrontOf}
-use Rattle.typing_jobs.specs.Sending.{HasSent, HasMade, HasSentFront, HasHeardAll, IsOver}
+use Rattle.typing_jobs.specs.Sending.{HasSent, HasMade, HasSentFront, HasHeardAll}
 use Rattle.typing_jobs.proofs.FieldGoesOn.{asked_front}
 use Rattle.typing_jobs.proofs.FieldHeard.{are_all}
 
@@ -97,7 +95,7 @@ done_by limits job own waits h is sent all = record {
   all = all;
 }
 
-ended_done : (limits : Limits) (job : FieldJob) (own : List Entry) → IsFieldAt limits job own false →
+pub ended_done : (limits : Limits) (job : FieldJob) (own : List Entry) → IsFieldAt limits job own false →
     own ≡ map edit_of job.edits → IsFieldDone limits job
 ended_done limits job own h is =
     done_by limits job own h.0.0 h.0.1 is
@@ -108,7 +106,7 @@ ended_done limits job own h is =
     (λ least. inr h.1)
 
 -- after an edit, and before the first
-rest_done : (limits : Limits) (job : FieldJob) (own : List Entry) (goes_on : Bool) → HasFieldRest limits job own goes_on
+pub rest_done : (limits : Limits) (job : FieldJob) (own : List Entry) (goes_on : Bool) → HasFieldRest limits job own goes_on
     →
     own ≡ map edit_of job.edits → IsFieldDone limits job
 rest_done limits job own true h is =
@@ -186,6 +184,12 @@ runs_done limits a b n goes_on done most least k h rests = record {
   same = k.same;
   ends = runs_by limits a b n goes_on (omega (arith, most, least)) k h rests;
 }
+
+pub plays_done : (limits : Limits) (a b : FieldJob) (n : ℕ) (goes_on : Bool) → length a.edits ≤ n →
+    FieldKeeps limits a b → IsFieldAt limits b (first_edits a n) goes_on → IsFieldPlayed limits b goes_on
+plays_done limits a b n goes_on most k h =
+    subst (λ (own : List Entry). IsFieldAt limits b own goes_on)
+    (ap (map edit_of) (take_all n a.edits most ∙ sym k.same)) h
 
 -- a part of the run, whose job has the edits of the first one
 same_first : (a now : FieldJob) (n : ℕ) → now.edits ≡ a.edits → first_edits now n ≡ first_edits a n

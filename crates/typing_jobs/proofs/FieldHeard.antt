@@ -1,7 +1,7 @@
 -- What a field's client heard in pieces is in its log
 use Rattle.std.proofs.Common.{◌≡◌, ℕ, Bool, true, false, List, [], ◌∷◌, ◌++◌, refl, sym, ap, subst, ◌∙◌, arith, append_assoc, append-nil, length-append, inl, inr}
 use Rattle.std.specs.Prelude.{◌⊎◌}
-use Rattle.wl_wire.specs.Messages.{IsGoodSize, IsBad, IsPartial, IsMessage, size_of, id_of, joined}
+use Rattle.wl_wire.specs.Messages.{IsGoodSize, IsPartial, joined}
 use Rattle.wl_wire.proofs.SizeInHeader.{size_stays}
 use Rattle.wl_proto.specs.declared.interface.Interface.{Interface}
 use Rattle.wl_proto.specs.declared.event.Event.{Event}
@@ -11,8 +11,8 @@ use Rattle.client_side.specs.Events.{field_objects, AreEvents}
 use Rattle.client_side.specs.Client.{Client, after_all, IsWrong}
 use Rattle.client_side.specs.FieldState.{State, after_event, logged, log_after}
 use Rattle.client_side.specs.Happenings.{Happening, edited, batch, entered, left}
-use Rattle.client_logs.specs.Hearing.{Hears, Accepts, Refuses, HearsSome}
-use Rattle.typing_jobs.specs.Fronts.{IsFrontOf, BeginsWith, AreEventsIn}
+use Rattle.client_logs.specs.Hearing.{Accepts, Refuses, HearsSome}
+use Rattle.typing_jobs.specs.Fronts.{AreEventsIn}
 use Rattle.typing_jobs.specs.FieldHearing.{waiting, HeardOn, accepted, refused, unheard, Heard, HeardFirst}
 use Rattle.typing_jobs.specs.Happened.{edits_in, told_in, waiting_after, happenings}
 

@@ -1,16 +1,52 @@
 -- What a field's job keeps from part to part
-use Rattle.std.proofs.Common.{◌≡◌, List, refl, sym, ap, subst, ◌∙◌}
+use Rattle.std.proofs.Common.{◌≡◌, ℕ, List, [], ◌∷◌, ◌++◌, map, Result, Ok, Err, refl, sym, ap, subst, ◌∙◌, append_assoc, append-nil}
+use Rattle.std.proofs.lemmas.List.{map-append}
 use Rattle.seat_steps.specs.declared.limits.Limits.{Limits}
+use Rattle.broker_model.specs.declared.journal.Entry.{Entry}
+use Rattle.broker_model.specs.declared.journal.Entry.TheVariants as entries
 use Rattle.client_side.specs.Client.{Client}
 use Rattle.client_side.specs.FieldState.{State}
 use Rattle.client_logs.specs.declared.entry.FieldEntry.{FieldEntry}
 use Rattle.hub_lock.specs.Passes.{HubId, PeerPass, IsOf}
 use Rattle.hub_lock.specs.Calls.{pass_having_seen}
-use Rattle.pass_calls.specs.Made.{SawMore}
+use Rattle.pass_calls.specs.declared.stop.PassStop.{PassStop}
+use Rattle.pass_calls.specs.declared.stop.PassStop.TheVariants as stops
+use Rattle.pass_calls.specs.declared.take.Piece.{Piece}
+use Rattle.pass_calls.specs.declared.take.Piece.TheVariants as pieces
+use Rattle.pass_calls.specs.Made.{entries_by, SawMore}
+use Rattle.pass_calls.specs.Taken.{TakesPiece}
 use Rattle.pass_calls.proofs.PassesGrow.{saw_none, saw_both, pass_both, same_peer}
 use Rattle.typing_jobs.specs.declared.field_job.FieldJob.{FieldJob}
 use Rattle.typing_jobs.specs.FieldGoing.{IsFieldOf, FieldKeeps}
-use Rattle.typing_jobs.specs.Sending.{HaveSeenMore}
+use Rattle.typing_jobs.specs.Sending.{MadeTakes, HaveSeenMore}
+
+-- a writer's takes
+
+no_takes : (w : PeerPass) → MadeTakes w w
+no_takes w = record { counts = []; made = sym (append-nil (entries_by w.seat)) }
+
+both_takes : (a b c : PeerPass) → b.peer ≡ a.peer → MadeTakes a b → MadeTakes b c → MadeTakes a c
+both_takes a b c peer one two = record {
+  counts = one.counts ++ two.counts;
+  made = two.made
+      ∙ ap (λ (q : ℕ). entries_by b.seat ++ map (λ n. entries.Took q n) two.counts) peer
+      ∙ ap (λ (l : List Entry). l ++ map (λ n. entries.Took a.peer n) two.counts) one.made
+      ∙ append_assoc (entries_by a.seat) (map (λ n. entries.Took a.peer n) one.counts)
+      (map (λ n. entries.Took a.peer n) two.counts)
+      ∙ ap (λ (l : List Entry). entries_by a.seat ++ l)
+      (sym (map-append (λ n. entries.Took a.peer n) one.counts two.counts));
+}
+
+nothing_more : (w w' : PeerPass) → entries_by w'.seat ≡ entries_by w.seat → MadeTakes w w'
+nothing_more w w' same = record { counts = []; made = same ∙ sym (append-nil (entries_by w.seat)) }
+
+pub made_takes : (limits : Limits) (w w' : PeerPass) (buf : List ℕ) (r : Result Piece PassStop) →
+    TakesPiece limits w w' buf r → MadeTakes w w'
+made_takes limits w w' buf (Ok (pieces.Bytes count)) t = record { counts = count ∷ []; made = t.entries }
+made_takes limits w w' buf (Ok pieces.Empty) t = nothing_more w w' t.0.entries
+made_takes limits w w' buf (Ok pieces.Closed) t = nothing_more w w' t.0.entries
+made_takes limits w w' buf (Err (stops.JournalFull kept)) t = nothing_more w w' t.0.entries
+made_takes limits w w' buf (Err stops.NoMemory) t = nothing_more w w' t.entries
 
 -- passes that did nothing, or one thing after the other
 
@@ -20,6 +56,7 @@ saw_nothing limits r w = record {
   same_writer = refl;
   reader_saw = saw_none limits r.seat.seen;
   writer_saw = saw_none limits w.seat.seen;
+  takes = no_takes w;
 }
 
 pub saw_all : (limits : Limits) (r w r₁ w₁ r₂ w₂ : PeerPass) → HaveSeenMore limits r w r₁ w₁ →
@@ -29,6 +66,7 @@ saw_all limits r w r₁ w₁ r₂ w₂ one two = record {
   same_writer = pass_both w w₁ w₂ one.same_writer two.same_writer;
   reader_saw = saw_both limits r.seat.seen r₁.seat.seen r₂.seat.seen one.reader_saw two.reader_saw;
   writer_saw = saw_both limits w.seat.seen w₁.seat.seen w₂.seat.seen one.writer_saw two.writer_saw;
+  takes = both_takes w w₁ w₂ (same_peer w w₁ one.same_writer) one.takes two.takes;
 }
 
 pub saw_reader : (limits : Limits) (r w r' : PeerPass) → r' ≡ pass_having_seen r r'.seat.seen →
@@ -38,15 +76,17 @@ saw_reader limits r w r' is saw = record {
   same_writer = refl;
   reader_saw = saw;
   writer_saw = saw_none limits w.seat.seen;
+  takes = no_takes w;
 }
 
 pub saw_writer : (limits : Limits) (r w w' : PeerPass) → w' ≡ pass_having_seen w w'.seat.seen →
-    SawMore limits w.seat.seen w'.seat.seen → HaveSeenMore limits r w r w'
-saw_writer limits r w w' is saw = record {
+    SawMore limits w.seat.seen w'.seat.seen → MadeTakes w w' → HaveSeenMore limits r w r w'
+saw_writer limits r w w' is saw takes = record {
   same_reader = refl;
   same_writer = is;
   reader_saw = saw_none limits r.seat.seen;
   writer_saw = saw;
+  takes = takes;
 }
 
 -- and jobs
@@ -76,6 +116,6 @@ heard_kept limits job client log = record { saw = saw_nothing limits job.reader 
 
 pub took_kept : (limits : Limits) (job : FieldJob) (writer' : PeerPass) →
     writer' ≡ pass_having_seen job.writer writer'.seat.seen → SawMore limits job.writer.seat.seen writer'.seat.seen →
-    FieldKeeps limits job (record job { writer = writer' })
-took_kept limits job writer' is saw =
-    record { saw = saw_writer limits job.reader job.writer writer' is saw; same = refl }
+    MadeTakes job.writer writer' → FieldKeeps limits job (record job { writer = writer' })
+took_kept limits job writer' is saw takes =
+    record { saw = saw_writer limits job.reader job.writer writer' is saw takes; same = refl }

@@ -4,7 +4,7 @@ use Rattle.std.proofs.lemmas.List.{append_cancel_left}
 use Rattle.wl_proto.specs.declared.event.Event.{Event}
 use Rattle.wl_proto.specs.declared.event.Event.TheVariants as events
 use Rattle.trial_field.specs.Log.{Batch}
-use Rattle.client_side.specs.Client.{Client, after_all}
+use Rattle.client_side.specs.Client.{after_all}
 use Rattle.client_side.specs.FieldLog.{sent_for, field_of, sends_of}
 use Rattle.client_side.specs.FieldState.{State, after_event, logged, log_after, HasLog}
 use Rattle.client_side.specs.Happenings.{Happening, batch, entered, left}

@@ -15,7 +15,6 @@ use Rattle.client_side.specs.Window.{last_boundary, window_begin, window_end, wi
 use Rattle.client_side.specs.FieldSends.{surrounding, change_sent, enable_sent}
 use Rattle.client_side.specs.FieldLog.{Field, sent_for, field_of, sends_of}
 use Rattle.client_side.proofs.SpelledInTurn.{spelled-append}
-use Rattle.broker_model.specs.declared.journal.Entry.{Entry}
 use Rattle.pass_calls.specs.Submitted.{message_entry, entries_in}
 
 -- a request that is short

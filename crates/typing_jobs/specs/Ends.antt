@@ -1,4 +1,5 @@
 -- Why a job isn't done to its end
+use Rattle.std.specs.Prelude.{Bool, Result, Ok, Err}
 use Rattle.pass_calls.specs.declared.stop.PassStop.{PassStop}
 use Rattle.pass_calls.specs.declared.stop.PassStop.TheVariants as stops
 use Rattle.typing_jobs.specs.declared.job_end.JobEnd.{JobEnd}
@@ -8,3 +9,8 @@ use Rattle.typing_jobs.specs.declared.job_end.JobEnd.TheVariants as ends
 abbrev pub end_by : PassStop → JobEnd
 end_by (stops.JournalFull kept) = ends.JournalFull kept
 end_by stops.NoMemory = ends.NoMemory
+
+-- whether a job was done, where its answer also says whether its peer goes on
+abbrev pub done_of : Result Bool JobEnd → Result (Unit {0}) JobEnd
+done_of (Ok goes_on) = Ok tt
+done_of (Err end) = Err end

@@ -1,9 +1,9 @@
 -- A field's job on its way
-use Rattle.std.specs.Prelude.{◌≡◌, ℕ, Bool, true, false, List, [], ◌++◌, Result, Ok, Err}
+use Rattle.std.specs.Prelude.{◌≡◌, ℕ, Bool, true, false, List, [], ◌++◌, map, Result, Ok, Err}
 use Rattle.seat_steps.specs.declared.limits.Limits.{Limits}
 use Rattle.trial_field.specs.Log.{Entry}
 use Rattle.client_side.specs.Messages.{Sent}
-use Rattle.client_logs.specs.Logs.{field_log}
+use Rattle.client_logs.specs.Logs.{edit_of, field_log}
 use Rattle.hub_lock.specs.Passes.{HubId, IsOf}
 use Rattle.pass_calls.specs.declared.submit.Sent.TheVariants as sent
 use Rattle.pass_calls.specs.declared.submit.Sent as calls
@@ -62,6 +62,10 @@ abbrev pub HasFieldRest : Limits → FieldJob → List Entry → Bool → Type 0
 HasFieldRest limits job own true =
     (going : IsFieldGoing limits job own []) × HasAll limits job.writer going.taken
 HasFieldRest limits job own false = IsFieldAt limits job own false
+
+-- all own edits were made, and the peer goes on, or it doesn't
+abbrev pub IsFieldPlayed : Limits → FieldJob → Bool → Type 0
+IsFieldPlayed limits job goes_on = IsFieldAt limits job (map edit_of job.edits) goes_on
 
 -- what submitting leaves
 abbrev pub FieldSends : Limits → FieldJob → List Entry → Result calls.Sent JobEnd → Type 0

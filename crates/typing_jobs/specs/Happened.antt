@@ -1,5 +1,5 @@
 -- What happened to a field, by its log and by the events that came
-use Rattle.std.specs.Prelude.{ℕ, List, [], ◌∷◌, ◌++◌}
+use Rattle.std.specs.Prelude.{List, [], ◌∷◌, ◌++◌}
 use Rattle.wl_proto.specs.declared.event.Event.{Event}
 use Rattle.trial_field.specs.Log.{Batch, Entry}
 use Rattle.client_side.specs.FieldState.{new_state, after_event, logged}

@@ -1,5 +1,5 @@
 -- What a job's reader submitted, and why a job ended
-use Rattle.std.specs.Prelude.{◌≡◌, ◌⊎◌, ℕ, List, ◌∷◌, ◌++◌, Some}
+use Rattle.std.specs.Prelude.{◌≡◌, ◌⊎◌, ◌≤◌, ℕ, List, ◌∷◌, ◌++◌, length, map, Some}
 use Rattle.relay_model.specs.declared.act.EndCause.{EndCause}
 use Rattle.relay_model.specs.declared.role.Role.{Role}
 use Rattle.seat_steps.specs.declared.limits.Limits.{Limits}
@@ -10,7 +10,7 @@ use Rattle.broker_model.specs.Ids.{Joined, peer_at}
 use Rattle.broker_model.specs.Resolve.{past_of}
 use Rattle.client_side.specs.Messages.{Sent, spelled}
 use Rattle.turn_lock.specs.Pairs.{NoneOf}
-use Rattle.hub_lock.specs.Passes.{HubId, PeerPass, IsOf}
+use Rattle.hub_lock.specs.Passes.{HubId, PeerPass, IsOf, journal_seen}
 use Rattle.hub_lock.specs.Calls.{pass_having_seen}
 use Rattle.pass_calls.specs.Made.{entries_by, journal_by, SawMore, HasEnded, IsFullFor}
 use Rattle.pass_calls.specs.Submitted.{entries_in}
@@ -58,13 +58,25 @@ abbrev pub HasHeardAll : Limits → (reader writer : PeerPass) → List ℕ → 
 HasHeardAll limits reader writer bytes =
     HasAll limits writer bytes ⊎ IsOver limits reader writer
 
--- both passes have seen more, and are else as before
+-- the pass made takes for its peer alone, besides what it had made
+pub record MadeTakes (before after : PeerPass) : Type 0 where
+  pub counts : List ℕ
+  pub made : entries_by after.seat
+      ≡ entries_by before.seat ++ map (λ n. entries.Took before.peer n) counts
+
+-- the writer has seen so many entries, and all that the reader has
+abbrev pub IsPast : (reader writer : PeerPass) → ℕ → Type 0
+IsPast reader writer least = (least ≤ length (journal_seen writer.seat))
+    × (length (journal_seen reader.seat) ≤ length (journal_seen writer.seat))
+
+-- both passes have seen more, and are else as before; the writer made takes alone
 pub record HaveSeenMore (limits : Limits)
     (reader writer reader_after writer_after : PeerPass) : Type 0 where
   pub same_reader : reader_after ≡ pass_having_seen reader reader_after.seat.seen
   pub same_writer : writer_after ≡ pass_having_seen writer writer_after.seat.seen
   pub reader_saw : SawMore limits reader.seat.seen reader_after.seat.seen
   pub writer_saw : SawMore limits writer.seat.seen writer_after.seat.seen
+  pub takes : MadeTakes writer writer_after
 
 -- The journal that the reader has seen is full for one of these messages, and holds so much. It is
 -- the next, unless the reader has seen its peer's end.

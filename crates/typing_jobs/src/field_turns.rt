@@ -1,9 +1,10 @@
 //! A field takes what is stored for it, and sends what that asks for.
-ghost use Rattle.std.specs.Prelude.{List, true, OnOk, OnErr};
+ghost use Rattle.std.specs.Prelude.{◌≡◌, List, true, Ok, OnOk, OnErr};
 ghost use Rattle.trial_field.specs.Log.{Entry};
 ghost use Rattle.client_side.specs.Messages as messages;
 ghost use Rattle.client_logs.specs.Logs.{field_log};
 ghost use Rattle.typing_jobs.specs.FieldHearing.{HeardOn, HeardPart};
+ghost use Rattle.typing_jobs.specs.Sending.{IsPast};
 ghost use Rattle.typing_jobs.specs.FieldGoing.{IsFieldOf, FieldKeeps, IsFieldGoing, TookPiece, IsFieldAt};
 ghost use Rattle.typing_jobs.specs.FieldGoing.{FieldSends, FieldTurns, FieldRests};
 
@@ -99,18 +100,25 @@ pub fn answer_field<R: Wait>(
     }
 }
 
-/// Where its peer goes on, it does so until nothing is stored. Says whether the peer still goes on.
-pub(crate) fn answer_all<R: Wait>(
+/// Where its peer goes on, a field takes and answers until nothing is stored in a journal of at
+/// least so many entries, and no shorter than the one that its reader's pass has seen. Says whether
+/// the peer still goes on.
+///
+/// `JournalFull` comes where the journal is full for a take or a message, `NoMemory` may come;
+/// `BadEvent` doesn't. (Wait: it promises what it does if it returns.)
+pub fn answer_all<R: Wait>(
     rt: &R,
     alloc: Global,
     hub: &Hub,
     job: &mut FieldJob,
     goes_on: bool,
+    least: u32,
 ) -> Result<bool, JobEnd>
     requires of { IsFieldOf hub.now job.old }
     ensures keeps { FieldKeeps hub.now.limits job.old job.new }
     ensures rests { (own : List Entry) → IsFieldAt hub.now.limits job.old own goes_on →
         FieldRests hub.now.limits job.new own result }
+    ensures least { result ≡ Ok true → IsPast job.new.reader job.new.writer least }
 {
     if !goes_on {
         return Ok(false);
@@ -118,7 +126,12 @@ pub(crate) fn answer_all<R: Wait>(
     for _ in rt.forever() {
         match answer_field(rt, alloc, hub, job)? {
             Turn::More => {}
-            Turn::Quiet => return Ok(true),
+            Turn::Quiet => {
+                let seen = job.writer.seen();
+                if seen >= least && seen >= job.reader.seen() {
+                    return Ok(true);
+                }
+            }
             Turn::Ended => return Ok(false),
         }
     }

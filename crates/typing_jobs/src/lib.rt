@@ -9,8 +9,8 @@ mod lists;
 mod shell_job;
 mod turn;
 
-pub use field_job::{FieldJob, run_field};
-pub use field_turns::answer_field;
+pub use field_job::{FieldJob, play_field, run_field};
+pub use field_turns::{answer_all, answer_field};
 pub use job_end::JobEnd;
 pub use lists::{EditList, ShellSteps};
 pub use shell_job::{ShellJob, run_shell};

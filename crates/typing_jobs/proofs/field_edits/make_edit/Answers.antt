@@ -1,4 +1,4 @@
-use Rattle.std.proofs.Common.{Bool, true, false, ◌≡◌, ◌+◌, Ok, subst, rules}
+use Rattle.std.proofs.Common.{false, ◌≡◌, ◌+◌, Ok, subst, rules}
 use Rattle.std.proofs.lemmas.Result.{err_from_is_err_and}
 use Rattle.pass_calls.specs.declared.submit.Sent as calls
 use Rattle.typing_jobs.specs.FieldGoing.{FieldSends}

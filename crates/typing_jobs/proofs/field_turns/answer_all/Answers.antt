@@ -3,6 +3,7 @@ use Rattle.std.proofs.lemmas.Result.{err_from_is_err_and}
 use Rattle.typing_jobs.specs.declared.turn.Turn as turn
 use Rattle.typing_jobs.specs.FieldGoing.{IsFieldAt, FieldTurns}
 use Rattle.typing_jobs.proofs.FieldKept.{keeps_none, keeps_both, of_kept}
+use Rattle.typing_jobs.proofs.FieldDone.{rest_at}
 use Rattle.typing_jobs.proofs.field_turns.answer_all.Goals as goal
 
 pub returns-then-not-goes_on-clause-keeps : goal.returns-then-not-goes_on-clause-keeps
@@ -36,8 +37,8 @@ returns-in_err-answer_field-clause-rests g c = λ own h.
     (c.in_err-answer_field.ensures.turns own
     (c.loop.invariant.goes own (subst (λ (b : Bool). IsFieldAt c.args.hub.now.limits c.args.job.now own b) e h)))
 
-pub loop-preserved : goal.loop-preserved
-loop-preserved g c =
+pub loop-preserved-in-More : goal.loop-preserved-in-More
+loop-preserved-in-More g c =
     let i = c.loop.invariant in
     let a = c.in_ok-answer_field.ensures in record {
       of = of_kept c.args.hub.now c.loop.job c.answer_field.new.job i.of a.keeps;
@@ -47,13 +48,26 @@ loop-preserved g c =
           (a.turns own (i.goes own h));
     }
 
-pub returns-in-Quiet-clause-keeps : goal.returns-in-Quiet-clause-keeps
-returns-in-Quiet-clause-keeps g c =
+-- nothing was stored in a journal that is too short
+pub loop-preserved : goal.loop-preserved
+loop-preserved g c =
+    let i = c.loop.invariant in
+    let a = c.in_ok-answer_field.ensures in record {
+      of = of_kept c.args.hub.now c.loop.job c.answer_field.new.job i.of a.keeps;
+      keeps = keeps_both c.args.hub.now.limits c.args.job.now c.loop.job c.answer_field.new.job i.keeps a.keeps;
+      goes = λ own h.
+          rest_at c.args.hub.now.limits c.answer_field.new.job own true
+          (subst (λ (t : turn.Turn). FieldTurns c.args.hub.now.limits c.answer_field.new.job own (Ok t)) c.in-Quiet.is
+          (a.turns own (i.goes own h)));
+    }
+
+pub returns-then-seen-clause-keeps : goal.returns-then-seen-clause-keeps
+returns-then-seen-clause-keeps g c =
     keeps_both c.args.hub.now.limits c.args.job.now c.loop.job c.answer_field.new.job c.loop.invariant.keeps
     c.in_ok-answer_field.ensures.keeps
 
-pub returns-in-Quiet-clause-rests : goal.returns-in-Quiet-clause-rests
-returns-in-Quiet-clause-rests g c = λ own h.
+pub returns-then-seen-clause-rests : goal.returns-then-seen-clause-rests
+returns-then-seen-clause-rests g c = λ own h.
     let e : c.args.goes_on ≡ true = search rules in
     subst (λ (t : turn.Turn). FieldTurns c.args.hub.now.limits c.answer_field.new.job own (Ok t)) c.in-Quiet.is
     (c.in_ok-answer_field.ensures.turns own

@@ -1,7 +1,7 @@
 use Rattle.std.proofs.Common.{◌≤◌}
 use Rattle.typing_jobs.specs.FieldGoing.{IsFieldOf, FieldKeeps, IsFieldAt, HasFieldRest}
 use Rattle.typing_jobs.specs.FieldLaw.{first_edits}
-use Rattle.typing_jobs.proofs.field_job.run_field.Given as goal
+use Rattle.typing_jobs.proofs.field_job.play_field.Given as goal
 
 -- the first of the edits were made, and what they brought was answered
 abbrev pub invariant-loop-index : goal.invariant-loop-index

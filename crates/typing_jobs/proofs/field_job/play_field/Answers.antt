@@ -1,10 +1,10 @@
-use Rattle.std.proofs.Common.{List, ◌<◌, ◌≤◌, ◌+◌, length, Ok, Err, sym, subst, rules, arith}
+use Rattle.std.proofs.Common.{List, ◌<◌, ◌≤◌, ◌+◌, length, Err, sym, subst, rules, arith}
 use Rattle.std.proofs.lemmas.Result.{err_from_is_err_and}
 use Rattle.trial_script.specs.declared.action.FieldEdit.{FieldEdit}
 use Rattle.typing_jobs.specs.FieldLaw.{first_edits}
 use Rattle.typing_jobs.proofs.FieldKept.{keeps_none, keeps_both, of_kept}
-use Rattle.typing_jobs.proofs.FieldDone.{ready_of, ready_going, rest_at, next_at, next_goes, runs_stops, runs_done}
-use Rattle.typing_jobs.proofs.field_job.run_field.Goals as goal
+use Rattle.typing_jobs.proofs.FieldDone.{ready_of, ready_going, rest_at, next_at, next_goes, runs_stops, runs_done, plays_done}
+use Rattle.typing_jobs.proofs.field_job.play_field.Goals as goal
 
 pub loop-index-init : goal.loop-index-init
 loop-index-init g c = record {
@@ -22,8 +22,8 @@ make_edit-requires-clause-within g c =
     let lt : c.loop-index.index < length c.args.job.now.edits = search rules in
     subst (λ (l : List FieldEdit). c.loop-index.index < length l) (sym c.loop-index.invariant.keeps.same) lt
 
-pub returns-in_err-goes_on : goal.returns-in_err-goes_on
-returns-in_err-goes_on g c =
+pub returns-in_err-goes_on-clause-runs : goal.returns-in_err-goes_on-clause-runs
+returns-in_err-goes_on-clause-runs g c =
     let p = err_from_is_err_and c.from_residual.result c.from_residual.ensures.1 in
     let i = c.loop-index.invariant in
     let e = c.in_err-goes_on.ensures in
@@ -41,8 +41,8 @@ answer_all-requires g c = record {
       c.in_ok-goes_on.ensures.keeps;
 }
 
-pub returns-in_err-goes_on-2 : goal.returns-in_err-goes_on-2
-returns-in_err-goes_on-2 g c =
+pub returns-in_err-goes_on-2-clause-runs : goal.returns-in_err-goes_on-2-clause-runs
+returns-in_err-goes_on-2-clause-runs g c =
     let p = err_from_is_err_and c.from_residual-in_err-goes_on-2.result c.from_residual-in_err-goes_on-2.ensures.1 in
     let i = c.loop-index.invariant in
     let e = c.in_ok-goes_on.ensures in
@@ -75,10 +75,17 @@ loop-index-preserved g c =
       rests = λ least. rest;
     }
 
-pub returns : goal.returns
-returns g c =
+pub returns-clause-runs : goal.returns-clause-runs
+returns-clause-runs g c =
     let i = c.loop-index.invariant in
     let all : length c.args.job.now.edits ≤ c.loop-index.index = search rules in
     let least : c.loop-index.index ≤ length c.args.job.now.edits = search rules in
     runs_done c.args.hub.now.limits c.args.job.now c.loop-index.job c.loop-index.index c.loop-index.goes_on tt all least
     i.keeps i.goes i.rests
+
+pub returns-clause-goes : goal.returns-clause-goes
+returns-clause-goes g c =
+    let i = c.loop-index.invariant in
+    let all : length c.args.job.now.edits ≤ c.loop-index.index = search rules in
+    plays_done c.args.hub.now.limits c.args.job.now c.loop-index.job c.loop-index.index c.loop-index.goes_on all
+    i.keeps i.goes
