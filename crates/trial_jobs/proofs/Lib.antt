@@ -6,3 +6,4 @@ pub mod MethodKept
 pub mod MethodGoesOn
 pub mod MethodCommitted
 pub mod MethodDone
+pub mod MethodPlayed

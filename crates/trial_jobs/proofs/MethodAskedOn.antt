@@ -11,7 +11,6 @@ use Rattle.client_logs.specs.MethodLogs.{settled}
 use Rattle.client_logs.specs.MethodLogs as logs
 use Rattle.trial_run.specs.Typists.{meanings_of}
 use Rattle.trial_run.specs.declared.typist.TrialTypist.{TrialTypist}
-use Rattle.method_law.specs.TypedLogs.{requests_of}
 use Rattle.trial_jobs.specs.MethodAsked.{IsAsked}
 
 -- what an event does doesn't hang on where its text lies

@@ -1,8 +1,6 @@
 -- The method's job from its begin to its end
-use Rattle.std.proofs.Common.{◌≡◌, ℕ, zero, suc, ◌+◌, ◌<◌, ◌≤◌, Bool, true, false, List, [], ◌∷◌, ◌++◌, length, map, take, drop, Result, Ok, Err, refl, sym, ap, subst, ◌∙◌, inl, inr, arith, append-nil, append_assoc}
-use Rattle.std.specs.Prelude.{◌⊎◌}
+use Rattle.std.proofs.Common.{◌≡◌, ℕ, zero, suc, ◌+◌, ◌≤◌, Bool, true, false, List, [], ◌∷◌, ◌++◌, map, take, drop, Err, refl, sym, ap, subst, ◌∙◌, inl, inr, arith, append-nil, append_assoc}
 use Rattle.std.proofs.lemmas.List.{take-append-drop, map-append}
-use Rattle.relay_model.specs.declared.act.EndCause.{EndCause}
 use Rattle.seat_steps.specs.declared.limits.Limits.{Limits}
 use Rattle.trial_field.specs.Log.{Batch}
 use Rattle.trial_script.specs.declared.action.Edits.{Edits}
@@ -11,19 +9,19 @@ use Rattle.client_logs.specs.Logs.{batch_of}
 use Rattle.client_logs.specs.MethodLogs.{method_log}
 use Rattle.broker_model.specs.declared.journal.Entry.{Entry as JournalEntry}
 use Rattle.hub_lock.specs.declared.step.OuterStep.{OuterStep}
-use Rattle.hub_lock.specs.Passes.{HubId, PeerPass}
+use Rattle.hub_lock.specs.Passes.{HubId}
 use Rattle.pass_calls.specs.Made.{entries_by}
 use Rattle.pass_calls.specs.Submitted.{entries_in}
-use Rattle.pass_calls.specs.Taken.{HasTaken}
+use Rattle.pass_calls.specs.Taken.{HasTaken, HasAll}
 use Rattle.trial_run.specs.declared.typist.TrialTypist.{TrialTypist}
-use Rattle.method_law.specs.TypedLogs.{batches_of, requests_of}
+use Rattle.method_law.specs.TypedLogs.{requests_of}
 use Rattle.typing_jobs.specs.Fronts.{IsFrontOf}
-use Rattle.typing_jobs.specs.Sending.{HasSent, HasMade, HasSentFront, HasHeardAll, IsOver}
+use Rattle.typing_jobs.specs.Sending.{HasSent, HasMade, HasSentFront, HasHeardAll}
 use Rattle.typing_jobs.specs.declared.job_end.JobEnd.{JobEnd}
 use Rattle.typing_jobs.specs.declared.job_end.JobEnd.TheVariants as ends
 use Rattle.trial_jobs.specs.declared.method_job.MethodJob.{MethodJob}
-use Rattle.trial_jobs.specs.MethodLaw.{rounds, IsFresh, typist_in, begun_client, first_batches, IsMethodReady, HasCommitted, IsMethodDone, IsMethodCut, MethodStops, MethodRuns}
-use Rattle.trial_jobs.specs.MethodGoing.{IsMethodOf, MethodKeeps, IsMethodGoing, IsMethodOver, IsMethodAt, MethodGoes}
+use Rattle.trial_jobs.specs.MethodLaw.{rounds, IsFresh, typist_in, begun_client, first_batches, IsMethodReady, HasCommitted, IsMethodDone, IsMethodCut, MethodStops}
+use Rattle.trial_jobs.specs.MethodGoing.{IsMethodOf, IsMethodGoing, IsMethodOver, IsMethodAt, IsMethodPlayed, MethodGoes}
 use Rattle.trial_jobs.proofs.MethodGoesOn.{asked_front}
 use Rattle.trial_jobs.proofs.MethodHeard.{are_all}
 
@@ -165,15 +163,23 @@ sent_true limits typist job own h = by h.made
     by (inl e) = inl (e ∙ ap (λ (ss : List Sent). entries_in job.reader.peer (spelled ss)) (sym all))
     by (inr k) = inr (subst (λ (ss : List Sent). HasSentFront job.reader ss) (sym all) k.0, (k.1.0, inl k.1.1))
 
--- all rounds were made
+-- all rounds were made, and nothing is left to take
+pub runs_rest : (limits : Limits) (typist : TrialTypist) (a b : MethodJob) (n : ℕ) → rounds ≤ n → n ≤ rounds →
+    b.batches ≡ a.batches → IsMethodAt limits typist b (first_batches a n) true true →
+    (done : IsMethodDone limits typist b) × HasAll limits b.writer done.taken
+unfolding done_by
+runs_rest limits typist a b n most least same h =
+    let n-is : n ≡ rounds = omega (arith, most, least) in (
+      done_by limits typist b (first_batches a n) [] true h
+          (inl (h.heard.own-is ∙ ap (first_batches a) n-is
+          ∙ ap (λ (l : List Edits). map batch_of (take rounds l)) (sym same)))
+          (sent_true limits typist b (first_batches a n) h) (inl (h.rests refl)),
+      h.rests refl,
+    )
+
 pub runs_done : (limits : Limits) (typist : TrialTypist) (a b : MethodJob) (n : ℕ) → rounds ≤ n → n ≤ rounds →
     b.batches ≡ a.batches → IsMethodAt limits typist b (first_batches a n) true true → IsMethodDone limits typist b
-runs_done limits typist a b n most least same h =
-    let n-is : n ≡ rounds = omega (arith, most, least) in
-    done_by limits typist b (first_batches a n) [] true h
-    (inl (h.heard.own-is ∙ ap (first_batches a) n-is
-    ∙ ap (λ (l : List Edits). map batch_of (take rounds l)) (sym same)))
-    (sent_true limits typist b (first_batches a n) h) (inl (h.rests refl))
+runs_done limits typist a b n most least same h = (runs_rest limits typist a b n most least same h).0
 
 -- the peer ended
 pub runs_over : (limits : Limits) (typist : TrialTypist) (a b : MethodJob) (n : ℕ) → n ≤ rounds →
@@ -186,6 +192,23 @@ runs_over limits typist a b n few same h =
     done_by limits typist b h.made h.waits false h.going
     (inr (subst (λ (l : List Batch). IsFrontOf l (first_batches b rounds)) (sym h.going.heard.own-is) f, h.over))
     (inr (asked_front limits typist b h.made h.waits [] false h.going, h.over)) (inr h.over)
+
+-- and by which it may go on
+
+pub plays_done : (limits : Limits) (typist : TrialTypist) (a b : MethodJob) (n : ℕ) → rounds ≤ n → n ≤ rounds →
+    b.batches ≡ a.batches → IsMethodAt limits typist b (first_batches a n) true true →
+    IsMethodPlayed limits typist b true
+plays_done limits typist a b n most least same h =
+    let n-is : n ≡ rounds = omega (arith, most, least) in
+    subst (λ (own : List Batch). IsMethodAt limits typist b own true true)
+    (ap (first_batches a) n-is ∙ ap (λ (l : List Edits). map batch_of (take rounds l)) (sym same)) h
+
+pub plays_over : (limits : Limits) (typist : TrialTypist) (a b : MethodJob) (n : ℕ) → n ≤ rounds →
+    b.batches ≡ a.batches → IsMethodOver limits typist b (first_batches a n) → IsMethodPlayed limits typist b false
+plays_over limits typist a b n few same h =
+    over_longer limits typist b (first_batches a n) (first_batches b rounds)
+    (subst (λ (l : List Edits). IsFrontOf (first_batches a n) (map batch_of (take rounds l))) (sym same)
+    (first_front a.batches n rounds few)) h
 
 -- it stopped
 pub runs_stops : (limits : Limits) (typist : TrialTypist) (a b : MethodJob) (n : ℕ) (end : JobEnd) → n ≤ rounds →

@@ -1,6 +1,5 @@
 -- What the method's job leaves after each of its parts
 use Rattle.std.proofs.Common.{◌≡◌, ℕ, Bool, true, false, List, [], ◌++◌, map, Ok, Err, sym, ap, subst, inl, inr, append-nil, take}
-use Rattle.std.specs.Prelude.{◌⊎◌}
 use Rattle.relay_model.specs.declared.act.EndCause.{EndCause}
 use Rattle.seat_steps.specs.declared.limits.Limits.{Limits}
 use Rattle.broker_model.specs.declared.journal.Entry.{Entry as JournalEntry}
@@ -8,11 +7,10 @@ use Rattle.trial_field.specs.Log.{Batch}
 use Rattle.client_side.specs.Client.{Client, IsWrong}
 use Rattle.client_side.specs.Events.{method_objects}
 use Rattle.client_side.specs.MethodLog.{Happening}
-use Rattle.client_side.specs.MethodState.{State, after_event}
-use Rattle.client_side.specs.Messages.{Sent, spelled}
+use Rattle.client_side.specs.MethodState.{State}
+use Rattle.client_side.specs.Messages.{Sent}
 use Rattle.client_logs.specs.declared.method_log.MethodEntry.{MethodEntry}
-use Rattle.client_logs.specs.Hearing.{Accepts, Refuses, HearsSome}
-use Rattle.client_logs.specs.MethodLogs.{method_log, log_after, settled}
+use Rattle.client_logs.specs.MethodLogs.{method_log, settled}
 use Rattle.hub_lock.specs.Passes.{PeerPass}
 use Rattle.pass_calls.specs.declared.stop.PassStop.{PassStop}
 use Rattle.pass_calls.specs.declared.stop.PassStop.TheVariants as stops
@@ -22,7 +20,6 @@ use Rattle.pass_calls.specs.declared.take.Piece.TheVariants as pieces
 use Rattle.pass_calls.specs.Made.{entries_by, SawMore, HasEnded, IsFullFor}
 use Rattle.pass_calls.specs.Submitted.{entries_in, MadeFirst, Submits}
 use Rattle.pass_calls.specs.Taken.{HasTaken, HasAll, TakesMore, TakesPiece}
-use Rattle.trial_run.specs.Typists.{meanings_of}
 use Rattle.trial_run.specs.declared.typist.TrialTypist.{TrialTypist}
 use Rattle.method_law.specs.TypedLogs.{requests_of}
 use Rattle.typing_jobs.specs.Ends.{end_by}
@@ -33,10 +30,9 @@ use Rattle.typing_jobs.specs.declared.job_end.JobEnd.TheVariants as ends
 use Rattle.typing_jobs.proofs.RequestsWhole.{AreShort}
 use Rattle.typing_jobs.proofs.FieldSubmits.{front_sents, made_front, all_made, full_for_next, first_made}
 use Rattle.trial_jobs.specs.declared.method_job.MethodJob.{MethodJob}
-use Rattle.trial_jobs.specs.MethodAsked.{IsAsked}
 use Rattle.trial_jobs.specs.MethodHearing.{HearsPiece, Heard, HeardFirst, HasShort}
-use Rattle.trial_jobs.specs.MethodLaw.{IsFresh, IsMethodCut, MethodStops}
-use Rattle.trial_jobs.specs.MethodGoing.{IsMethodBehind, IsMethodGoing, TookPiece, IsMethodOver, IsMethodAt, MethodSends}
+use Rattle.trial_jobs.specs.MethodLaw.{IsMethodCut, MethodStops}
+use Rattle.trial_jobs.specs.MethodGoing.{IsMethodBehind, IsMethodGoing, TookPiece, IsMethodAt, MethodSends}
 use Rattle.trial_jobs.proofs.RequestsShort.{requests_short, short-front, asks_more}
 use Rattle.trial_jobs.proofs.MethodAskedOn.{asked_on, asked_sent}
 use Rattle.trial_jobs.proofs.MethodLogs.{short_after}

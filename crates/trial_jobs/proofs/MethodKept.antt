@@ -9,6 +9,7 @@ use Rattle.hub_lock.specs.Calls.{pass_having_seen}
 use Rattle.pass_calls.specs.Made.{SawMore}
 use Rattle.pass_calls.proofs.PassesGrow.{same_peer}
 use Rattle.trial_run.specs.declared.typist.TrialTypist.{TrialTypist}
+use Rattle.typing_jobs.specs.Sending.{MadeTakes}
 use Rattle.typing_jobs.proofs.FieldKept.{saw_nothing, saw_all, saw_writer}
 use Rattle.trial_jobs.specs.declared.method_job.MethodJob.{MethodJob}
 use Rattle.trial_jobs.specs.MethodGoing.{IsMethodOf, MethodKeeps}
@@ -38,9 +39,9 @@ heard_kept limits job client log = record { saw = saw_nothing limits job.reader 
 
 pub took_kept : (limits : Limits) (job : MethodJob) (writer' : PeerPass) →
     writer' ≡ pass_having_seen job.writer writer'.seat.seen → SawMore limits job.writer.seat.seen writer'.seat.seen →
-    MethodKeeps limits job (record job { writer = writer' })
-took_kept limits job writer' is saw =
-    record { saw = saw_writer limits job.reader job.writer writer' is saw; same = refl }
+    MadeTakes job.writer writer' → MethodKeeps limits job (record job { writer = writer' })
+took_kept limits job writer' is saw takes =
+    record { saw = saw_writer limits job.reader job.writer writer' is saw takes; same = refl }
 
 pub committed_kept : (limits : Limits) (job now : MethodJob) →
     now ≡ record job { client = now.client; log = now.log } → MethodKeeps limits job now

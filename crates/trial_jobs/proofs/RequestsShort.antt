@@ -1,5 +1,5 @@
 -- What the method's log asks for are whole messages
-use Rattle.std.proofs.Common.{◌≤◌, List, [], ◌∷◌, ◌++◌, length, sym, subst, ap, ◌∙◌, arith, append_assoc, refl, ◌≡◌, append-nil, ℕ}
+use Rattle.std.proofs.Common.{◌≤◌, List, [], ◌∷◌, ◌++◌, length, sym, subst, ap, ◌∙◌, arith, append_assoc, ◌≡◌, append-nil, ℕ}
 use Rattle.client_side.specs.Messages.{Sent, method_setup}
 use Rattle.client_side.specs.MethodLog.{Happening, came, committed, sent_for, typist_of, sends_of}
 use Rattle.trial_run.specs.Typists.{meanings_of}

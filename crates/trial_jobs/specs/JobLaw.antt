@@ -1,13 +1,15 @@
 -- The law of a job
-use Rattle.std.specs.Prelude.{Result}
+use Rattle.std.specs.Prelude.{◌≡◌, Bool, true, Result}
 use Rattle.seat_steps.specs.declared.limits.Limits.{Limits}
 use Rattle.hub_lock.specs.Passes.{HubId}
 use Rattle.typing_jobs.specs.declared.job_end.JobEnd.{JobEnd}
 use Rattle.typing_jobs.specs.FieldLaw.{IsFieldReady, FieldRuns}
+use Rattle.typing_jobs.specs.FieldGoing.{IsFieldPlayed}
 use Rattle.typing_jobs.specs.ShellLaw.{IsShellReady, ShellRuns}
 use Rattle.trial_jobs.specs.declared.job.TrialJob.{TrialJob}
 use Rattle.trial_jobs.specs.declared.job.TrialJob.TheVariants as jobs
-use Rattle.trial_jobs.specs.MethodLaw.{IsMethodReady, MethodRuns}
+use Rattle.trial_jobs.specs.MethodLaw.{IsMethodReady, MethodRuns, typist_in}
+use Rattle.trial_jobs.specs.MethodGoing.{IsMethodPlayed}
 
 -- the job is as its user's peer joined and sent its set-up, or as the shell's pass was made
 abbrev pub IsReady : HubId → TrialJob → Type 0
@@ -21,3 +23,11 @@ Runs limits (jobs.Field before) (jobs.Field after) result = FieldRuns limits bef
 Runs limits (jobs.Method before) (jobs.Method after) result = MethodRuns limits before after result
 Runs limits (jobs.Shell before) (jobs.Shell after) result = ShellRuns limits before after result
 Runs limits _ _ result = ⊥
+
+-- it was done, and its peer goes on or doesn't; the shell has no peer, and goes on
+abbrev pub HasPlayed : Limits → TrialJob → TrialJob → Bool → Type 0
+HasPlayed limits (jobs.Field before) (jobs.Field after) goes_on = IsFieldPlayed limits after goes_on
+HasPlayed limits (jobs.Method before) (jobs.Method after) goes_on =
+    IsMethodPlayed limits (typist_in before) after goes_on
+HasPlayed limits (jobs.Shell before) (jobs.Shell after) goes_on = goes_on ≡ true
+HasPlayed limits _ _ goes_on = ⊥

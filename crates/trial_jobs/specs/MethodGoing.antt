@@ -17,7 +17,7 @@ use Rattle.typing_jobs.specs.Sending.{HasMade, IsOver, HaveSeenMore}
 use Rattle.trial_jobs.specs.declared.method_job.MethodJob.{MethodJob}
 use Rattle.trial_jobs.specs.MethodAsked.{IsAsked}
 use Rattle.trial_jobs.specs.MethodHearing.{Heard, HasShort}
-use Rattle.trial_jobs.specs.MethodLaw.{IsFresh, MethodStops}
+use Rattle.trial_jobs.specs.MethodLaw.{rounds, first_batches, IsFresh, MethodStops}
 
 -- its passes are the hub's and one peer's
 pub record IsMethodOf (hub : HubId) (job : MethodJob) : Type 0 where
@@ -69,6 +69,11 @@ abbrev pub IsMethodAt : Limits → TrialTypist → MethodJob → List Batch → 
     Type 0
 IsMethodAt limits typist job own quiet true = IsMethodGoing limits typist job own [] quiet
 IsMethodAt limits typist job own quiet false = IsMethodOver limits typist job own
+
+-- all rounds were made, and the peer goes on and nothing is left to take, or it has ended
+abbrev pub IsMethodPlayed : Limits → TrialTypist → MethodJob → Bool → Type 0
+IsMethodPlayed limits typist job goes_on =
+    IsMethodAt limits typist job (first_batches job rounds) true goes_on
 
 -- what submitting leaves
 abbrev pub MethodSends : Limits → TrialTypist → MethodJob → List Batch → (quiet : Bool) →

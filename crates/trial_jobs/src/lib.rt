@@ -10,6 +10,6 @@ mod run;
 
 pub use batch_list::BatchList;
 pub use job::TrialJob;
-pub use method_job::{MethodJob, ROUNDS, run_method};
-pub use method_turns::answer_method;
-pub use run::run_job;
+pub use method_job::{MethodJob, ROUNDS, play_method, run_method};
+pub use method_turns::{answer_all, answer_method};
+pub use run::{play_job, run_job};

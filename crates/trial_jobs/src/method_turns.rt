@@ -1,8 +1,9 @@
 //! The method takes what is stored for it, and sends what that asks for.
-ghost use Rattle.std.specs.Prelude.{Bool, true, false, List};
+ghost use Rattle.std.specs.Prelude.{◌≡◌, ◌≤◌, Bool, true, false, List, length, Ok};
 ghost use Rattle.trial_field.specs.Log.{Batch};
 ghost use Rattle.client_side.specs.Messages as messages;
 ghost use Rattle.client_logs.specs.MethodLogs.{method_log};
+ghost use Rattle.hub_lock.specs.Passes.{journal_seen};
 ghost use Rattle.trial_run.specs.declared.typist.TrialTypist.{TrialTypist};
 ghost use Rattle.trial_jobs.specs.MethodHearing.{HearsPiece};
 ghost use Rattle.trial_jobs.specs.MethodGoing.{IsMethodOf, MethodKeeps, IsMethodGoing, TookPiece};
@@ -99,23 +100,38 @@ pub fn answer_method<R: Wait>(
     }
 }
 
-/// It does so until nothing is stored. Says whether the peer goes on.
-pub(crate) fn answer_all<R: Wait>(
+/// Where its peer goes on, the method takes and answers until nothing is stored in a journal of at
+/// least so many entries. Says whether the peer still goes on.
+///
+/// `JournalFull` comes where the journal is full for a take or a message, `BadEvent` where the
+/// method was told what its client can't read, `NoMemory` may come. (Wait: it promises what it does
+/// if it returns.)
+pub fn answer_all<R: Wait>(
     rt: &R,
     alloc: Global,
     hub: &Hub,
     job: &mut MethodJob,
+    goes_on: bool,
+    least: u32,
 ) -> Result<bool, JobEnd>
     requires of { IsMethodOf hub.now job.old }
     ensures keeps { MethodKeeps hub.now.limits job.old job.new }
     ensures goes { (typist : TrialTypist) (own : List Batch) →
-        IsMethodAt hub.now.limits typist job.old own false true →
+        IsMethodAt hub.now.limits typist job.old own false goes_on →
         MethodGoes hub.now.limits typist job.new own true result }
+    ensures least { result ≡ Ok true → least ≤ length (journal_seen job.new.writer.seat) }
 {
+    if !goes_on {
+        return Ok(false);
+    }
     for _ in rt.forever() {
         match answer_method(rt, alloc, hub, job)? {
             Turn::More => {}
-            Turn::Quiet => return Ok(true),
+            Turn::Quiet => {
+                if job.writer.seen() >= least {
+                    return Ok(true);
+                }
+            }
             Turn::Ended => return Ok(false),
         }
     }

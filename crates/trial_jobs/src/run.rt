@@ -1,14 +1,17 @@
 //! A job is run.
-ghost use Rattle.trial_jobs.specs.JobLaw.{IsReady, Runs};
+ghost use Rattle.std.specs.Prelude.{IfOk};
+ghost use Rattle.typing_jobs.specs.Ends.{done_of};
+ghost use Rattle.trial_jobs.specs.JobLaw.{IsReady, Runs, HasPlayed};
 
 use crate::job::TrialJob;
-use crate::method_job::run_method;
+use crate::method_job::play_method;
 use hub_lock::{Gate, Hub};
 use std::alloc::Global;
 use std::sync::Wait;
-use typing_jobs::{JobEnd, run_field, run_shell};
+use typing_jobs::{JobEnd, play_field, run_shell};
 
-/// Plays the part of one field, of the method, or of the shell.
+/// Plays the part of one field, of the method, or of the shell. Says whether its peer goes on; the
+/// shell, which has none, does.
 ///
 /// A field's job makes the field's own edits in order, and after each takes and answers until
 /// nothing is stored; the gate is told before and after each own edit, with the number of the
@@ -19,6 +22,28 @@ use typing_jobs::{JobEnd, run_field, run_shell};
 /// `JournalFull` comes where the journal is full for the job's next step, `BadEvent` where the
 /// method was told what its client can't read, `NoMemory` at any time. (Wait: it promises what it
 /// does if it returns.)
+pub fn play_job<R: Wait, G: Gate>(
+    rt: &R,
+    alloc: Global,
+    hub: &Hub,
+    job: &mut TrialJob,
+    gate: &G,
+) -> Result<bool, JobEnd>
+    requires ready { IsReady hub.now job.old }
+    ensures runs { Runs hub.now.limits job.old job.new (done_of result) }
+    ensures goes { IfOk result (HasPlayed hub.now.limits job.old job.new) }
+{
+    match job {
+        TrialJob::Field(job) => play_field(rt, alloc, hub, job, gate),
+        TrialJob::Method(job) => play_method(rt, alloc, hub, job),
+        TrialJob::Shell(job) => {
+            run_shell(rt, hub, job)?;
+            Ok(true)
+        }
+    }
+}
+
+/// Plays a job as `play_job` does, where nobody goes on with it.
 pub fn run_job<R: Wait, G: Gate>(
     rt: &R,
     alloc: Global,
@@ -29,9 +54,6 @@ pub fn run_job<R: Wait, G: Gate>(
     requires ready { IsReady hub.now job.old }
     ensures { Runs hub.now.limits job.old job.new result }
 {
-    match job {
-        TrialJob::Field(job) => run_field(rt, alloc, hub, job, gate),
-        TrialJob::Method(job) => run_method(rt, alloc, hub, job),
-        TrialJob::Shell(job) => run_shell(rt, hub, job),
-    }
+    let _goes_on = play_job(rt, alloc, hub, job, gate)?;
+    Ok(())
 }

@@ -1,7 +1,7 @@
 use Rattle.std.proofs.Common.{◌≤◌, true, false}
 use Rattle.trial_jobs.specs.MethodGoing.{IsMethodOf, MethodKeeps, IsMethodAt}
 use Rattle.trial_jobs.specs.MethodLaw.{first_batches, typist_in}
-use Rattle.trial_jobs.proofs.method_job.run_method.Given as goal
+use Rattle.trial_jobs.proofs.method_job.play_method.Given as goal
 
 -- the first of the batches were committed, the peer goes on, and nothing waits
 abbrev pub invariant-loop-round : goal.invariant-loop-round

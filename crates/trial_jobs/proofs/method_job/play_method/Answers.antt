@@ -1,11 +1,11 @@
-use Rattle.std.proofs.Common.{Bool, ◌≡◌, ◌<◌, ◌≤◌, ◌+◌, true, false, subst, rules, arith}
+use Rattle.std.proofs.Common.{Bool, ◌≡◌, ◌≤◌, ◌+◌, true, false, subst, rules, arith}
 use Rattle.std.proofs.lemmas.Result.{err_from_is_err_and}
 use Rattle.trial_jobs.specs.MethodLaw.{rounds, first_batches, typist_in}
 use Rattle.trial_jobs.specs.MethodGoing.{IsMethodAt}
 use Rattle.trial_jobs.proofs.MethodKept.{keeps_none, keeps_both, of_kept}
 use Rattle.trial_jobs.proofs.MethodGoesOn.{busy}
-use Rattle.trial_jobs.proofs.MethodDone.{ready_of, ready_going, next_at, next_stops, runs_done, runs_over, runs_stops}
-use Rattle.trial_jobs.proofs.method_job.run_method.Goals as goal
+use Rattle.trial_jobs.proofs.MethodDone.{ready_of, ready_going, next_at, next_stops, runs_done, runs_over, runs_stops, plays_done, plays_over}
+use Rattle.trial_jobs.proofs.method_job.play_method.Goals as goal
 
 pub loop-round-init : goal.loop-round-init
 loop-round-init g c = record {
@@ -18,8 +18,8 @@ loop-round-init g c = record {
 pub answer_all-requires : goal.answer_all-requires
 answer_all-requires g c = record { of = c.loop-round.invariant.of }
 
-pub returns-in_err-still_here : goal.returns-in_err-still_here
-returns-in_err-still_here g c =
+pub returns-in_err-still_here-clause-runs : goal.returns-in_err-still_here-clause-runs
+returns-in_err-still_here-clause-runs g c =
     let p = err_from_is_err_and c.from_residual.result c.from_residual.ensures.1 in
     let limits = c.args.hub.now.limits in
     let before = c.args.job.now in
@@ -36,8 +36,8 @@ returns-in_err-still_here g c =
           (e.goes (typist_in before) (first_batches before c.loop-round.round) i.goes);
     })
 
-pub returns-then-not-still_here : goal.returns-then-not-still_here
-returns-then-not-still_here g c =
+pub returns-then-not-still_here-clause-runs : goal.returns-then-not-still_here-clause-runs
+returns-then-not-still_here-clause-runs g c =
     let limits = c.args.hub.now.limits in
     let before = c.args.job.now in
     let i = c.loop-round.invariant in
@@ -61,8 +61,8 @@ make_batch-requires g c = record {
       c.in_ok-still_here.ensures.keeps;
 }
 
-pub returns-in_err-goes_on : goal.returns-in_err-goes_on
-returns-in_err-goes_on g c =
+pub returns-in_err-goes_on-clause-runs : goal.returns-in_err-goes_on-clause-runs
+returns-in_err-goes_on-clause-runs g c =
     let p = err_from_is_err_and c.from_residual-in_err-goes_on.result c.from_residual-in_err-goes_on.ensures.1 in
     let limits = c.args.hub.now.limits in
     let before = c.args.job.now in
@@ -87,8 +87,8 @@ returns-in_err-goes_on g c =
           (e.goes (typist_in before) (first_batches before c.loop-round.round) i.goes)));
     })
 
-pub returns-then-not-goes_on : goal.returns-then-not-goes_on
-returns-then-not-goes_on g c =
+pub returns-then-not-goes_on-clause-runs : goal.returns-then-not-goes_on-clause-runs
+returns-then-not-goes_on-clause-runs g c =
     let limits = c.args.hub.now.limits in
     let before = c.args.job.now in
     let mid = c.answer_all.new.job in
@@ -143,8 +143,8 @@ loop-round-preserved g c =
       rests = λ least. next;
     }
 
-pub returns : goal.returns
-returns g c =
+pub returns-clause-runs : goal.returns-clause-runs
+returns-clause-runs g c =
     let limits = c.args.hub.now.limits in
     let i = c.loop-round.invariant in
     let most : rounds ≤ c.loop-round.round = search rules in
@@ -155,3 +155,51 @@ returns g c =
       ends = runs_done limits (typist_in c.args.job.now) c.args.job.now c.loop-round.job c.loop-round.round most least
           i.keeps.same (i.rests (omega (arith, most)));
     }
+
+pub returns-clause-goes : goal.returns-clause-goes
+returns-clause-goes g c =
+    let limits = c.args.hub.now.limits in
+    let i = c.loop-round.invariant in
+    let most : rounds ≤ c.loop-round.round = search rules in
+    let least : c.loop-round.round ≤ rounds = search rules in
+    plays_done limits (typist_in c.args.job.now) c.args.job.now c.loop-round.job c.loop-round.round most least
+    i.keeps.same (i.rests (omega (arith, most)))
+
+pub returns-then-not-still_here-clause-goes : goal.returns-then-not-still_here-clause-goes
+returns-then-not-still_here-clause-goes g c =
+    let limits = c.args.hub.now.limits in
+    let before = c.args.job.now in
+    let i = c.loop-round.invariant in
+    let e = c.in_ok-still_here.ensures in
+    let kept = keeps_both limits before c.loop-round.job c.answer_all.new.job i.keeps e.keeps in
+    let few : c.loop-round.round ≤ rounds = search rules in
+    let over : c.in_ok-still_here.still_here ≡ false = search rules in
+    plays_over limits (typist_in before) before c.answer_all.new.job c.loop-round.round few kept.same
+    (subst
+    (λ (b : Bool). IsMethodAt limits (typist_in before) c.answer_all.new.job
+    (first_batches before c.loop-round.round) true b)
+    over (e.goes (typist_in before) (first_batches before c.loop-round.round) i.goes))
+
+pub returns-then-not-goes_on-clause-goes : goal.returns-then-not-goes_on-clause-goes
+returns-then-not-goes_on-clause-goes g c =
+    let limits = c.args.hub.now.limits in
+    let before = c.args.job.now in
+    let mid = c.answer_all.new.job in
+    let i = c.loop-round.invariant in
+    let e = c.in_ok-still_here.ensures in
+    let m = c.in_ok-goes_on.ensures in
+    let half = keeps_both limits before c.loop-round.job mid i.keeps e.keeps in
+    let kept = keeps_both limits before mid c.make_batch.new.job half m.keeps in
+    let few : c.loop-round.round + 1 ≤ rounds = search rules in
+    let here : c.in_ok-still_here.still_here ≡ true = search rules in
+    let over : c.in_ok-goes_on.goes_on ≡ false = search rules in
+    plays_over limits (typist_in before) before c.make_batch.new.job (c.loop-round.round + 1) few kept.same
+    (subst
+    (λ (b : Bool). IsMethodAt limits (typist_in before) c.make_batch.new.job
+    (first_batches before (c.loop-round.round + 1)) true b)
+    over
+    (next_at limits (typist_in before) before mid c.make_batch.new.job c.loop-round.round c.in_ok-goes_on.goes_on
+    half.same (m.goes (typist_in before) true)
+    (subst
+    (λ (b : Bool). IsMethodAt limits (typist_in before) mid (first_batches before c.loop-round.round) true b) here
+    (e.goes (typist_in before) (first_batches before c.loop-round.round) i.goes))))
