@@ -13,6 +13,8 @@ mod gen_run_tests;
 #[cfg(test)]
 mod session_gen_tests;
 #[cfg(test)]
+mod trial_gen_tests;
+#[cfg(test)]
 mod trial_run_tests;
 #[cfg(test)]
 mod trial_script_tests;

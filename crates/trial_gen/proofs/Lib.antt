@@ -1,0 +1,3 @@
+pub mod TextsGrow
+pub mod LinesDrawn
+pub mod ScriptsDrawn
