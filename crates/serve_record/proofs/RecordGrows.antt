@@ -1,8 +1,13 @@
 -- The text of a recorded session grows entry by entry, and a sink with it
-use Rattle.std.proofs.Common.{◌≡◌, ◌<◌, ◌++◌, [], ℕ, List, length, drop, take, Option, Some, None, Result, Ok, Err, OnErr, sym, ap, ◌∙◌, subst, append-nil, take-append-drop}
+use Rattle.std.proofs.Common.{◌≡◌, ◌<◌, ◌≤◌, ◌++◌, [], ℕ, List, length, drop, take, Option, Some, None, Result, Ok, Err, OnOk, OnErr, sym, ap, ◌∙◌, subst, append-nil, take-append-drop, arith, refl}
 use Rattle.std.proofs.lemmas.List.{append_assoc}
 use Rattle.std.specs.Io.KnownBytes.{Appends}
-use Rattle.serve_record.specs.Lines.{Holds, GainsFront}
+use Rattle.wio_core.specs.Io.{Rose}
+use Rattle.serve_record.specs.declared.record.RecordStop.{RecordStop}
+use Rattle.serve_record.specs.declared.record.RecordStop.TheVariants as stops
+use Rattle.serve_record.specs.declared.record.LineStop.{LineStop}
+use Rattle.serve_record.specs.declared.record.LineStop.TheVariants as line_stops
+use Rattle.serve_record.specs.Lines.{Holds, GainsFront, Gains, line_result}
 
 -- bytes behind bytes
 pub appends_more : (a b c : Option (List ℕ)) (xs ys : List ℕ) → Appends a b xs → Appends b c ys → Appends a c (xs ++ ys)
@@ -64,3 +69,118 @@ cut_is_front a b piece cut = (take cut.0 piece, drop cut.0 piece, cut.2, take-ap
 pub on_err : {T E : Type 0} (r : Result T E) (P : Type 0) → P → OnErr r P
 on_err (Ok x) P p = tt
 on_err (Err e) P p = p
+
+-- what waits goes out behind what went out before
+pub holds_through : (a b c : Option (List ℕ)) (waiting left text : List ℕ) → Holds a b waiting text → Holds b c left waiting
+    → Holds a c left text
+holds_through a b c waiting left text first then =
+    subst (Holds a c left) (append-nil text)
+    (holds_more a b c waiting left [] text first (subst (Holds b c left) (sym (append-nil waiting)) then))
+
+pub front_through : (a b c : Option (List ℕ)) (waiting text : List ℕ) → Holds a b waiting text → GainsFront b c waiting
+    → GainsFront a c text
+front_through a b c waiting text first then =
+    subst (GainsFront a c) (append-nil text)
+    (holds_then_front a b c waiting [] text first (subst (GainsFront b c) (sym (append-nil waiting)) then))
+
+-- what never is, is not of an answer
+pub never_ok : {T E : Type 0} (r : Result T E) (P : Type 0) → OnOk r ⊥ → OnOk r P
+never_ok (Ok x) P never = absurd never
+never_ok (Err e) P never = tt
+
+-- what a call makes of a sink
+module _ {S T E : Type 0} (held : S → Option (List ℕ)) (faults : S → ℕ) (fault : E) where
+  -- nothing, where all waits
+  pub gains_none : (s : S) (waiting text : List ℕ) (x : T) → waiting ≡ text
+      → Gains held faults s s waiting text fault (Ok x)
+  gains_none s waiting text x is = record {
+    whole = ([], appends_none (held s), is);
+    front = tt;
+    never_falls = omega arith;
+    cause = λ e. absurd (cc);
+  }
+
+  -- nothing, where it failed and no fault was counted
+  pub gains_lack : (s : S) (waiting text : List ℕ) (r : Result T E) → OnOk r ⊥ → (r ≡ Err fault → ⊥)
+      → Gains held faults s s waiting text fault r
+  gains_lack s waiting text r never not = record {
+    whole = never_ok r _ never;
+    front = on_err r _ ([], text, appends_none (held s), refl);
+    never_falls = omega arith;
+    cause = λ e. absurd (not e);
+  }
+
+  -- a front, where it failed
+  pub gains_cut : (old new : S) (waiting text : List ℕ) (r : Result T E) → OnOk r ⊥
+      → GainsFront (held old) (held new) text → faults old ≤ faults new
+      → (r ≡ Err fault → Rose (faults old) (faults new)) → Gains held faults old new waiting text fault r
+  gains_cut old new waiting text r never front falls cause = record {
+    whole = never_ok r _ never;
+    front = on_err r _ front;
+    never_falls = falls;
+    cause = cause;
+  }
+
+  -- all that waited, or a front of it
+  pub gains_out : (old new : S) (waited waiting text : List ℕ) (r : Result T E) → waited ≡ text
+      → OnOk r (Appends (held old) (held new) waited) → OnOk r (waiting ≡ [])
+      → OnErr r (GainsFront (held old) (held new) waited) → faults old ≤ faults new
+      → (r ≡ Err fault → Rose (faults old) (faults new)) → Gains held faults old new waiting text fault r
+  gains_out old new waited waiting text (Ok x) is out none front falls cause = record {
+    whole = (waited, out, ap (λ w. waited ++ w) none ∙ (append-nil waited ∙ is));
+    front = tt;
+    never_falls = falls;
+    cause = cause;
+  }
+  gains_out old new waited waiting text (Err e) is out none front falls cause = record {
+    whole = tt;
+    front = subst (GainsFront (held old) (held new)) is front;
+    never_falls = falls;
+    cause = cause;
+  }
+
+-- the same of the answer where an entry may have no line
+
+module _ {S T : Type 0} {held : S → Option (List ℕ)} {faults : S → ℕ} {old new : S} {waiting text : List ℕ} where
+  gains_line : (r : Result T RecordStop) → Gains held faults old new waiting text stops.WriteFault r
+      → Gains held faults old new waiting text line_stops.WriteFault (line_result r)
+  gains_line (Ok x) g = record { whole = g.whole; front = tt; never_falls = g.never_falls; cause = λ e. absurd (cc) }
+  gains_line (Err stops.WriteFault) g = record {
+    whole = tt;
+    front = g.front;
+    never_falls = g.never_falls;
+    cause = λ e. g.cause refl;
+  }
+  gains_line (Err stops.NoMemory) g = record {
+    whole = tt;
+    front = g.front;
+    never_falls = g.never_falls;
+    cause = λ e. absurd (cc);
+  }
+
+  pub gains_as : {r : Result T RecordStop} {s : Result T LineStop} → s ≡ line_result r
+      → Gains held faults old new waiting text stops.WriteFault r
+      → Gains held faults old new waiting text line_stops.WriteFault s
+  gains_as {r} is g =
+      subst (Gains held faults old new waiting text line_stops.WriteFault) (sym is) (gains_line r g)
+
+pub has_line : {T : Type 0} (r : Result T RecordStop) → line_result r ≡ Err line_stops.NoLine → ⊥
+has_line (Ok x) e = cc
+has_line (Err stops.WriteFault) e = cc
+has_line (Err stops.NoMemory) e = cc
+
+pub line_fault : {T : Type 0} (r : Result T RecordStop) → line_result r ≡ Err line_stops.WriteFault
+    → r ≡ Err stops.WriteFault
+line_fault (Ok x) e = absurd (cc)
+line_fault (Err stops.WriteFault) e = refl
+line_fault (Err stops.NoMemory) e = absurd (cc)
+
+pub ok_line : {T : Type 0} (r : Result T RecordStop) (P Q : Type 0) → (P → Q) → OnOk r P → OnOk (line_result r) Q
+ok_line (Ok x) P Q f p = f p
+ok_line (Err stops.WriteFault) P Q f p = tt
+ok_line (Err stops.NoMemory) P Q f p = tt
+
+pub err_line : {T : Type 0} (r : Result T RecordStop) (P Q : Type 0) → (P → Q) → OnErr r P → OnErr (line_result r) Q
+err_line (Ok x) P Q f p = tt
+err_line (Err stops.WriteFault) P Q f p = f p
+err_line (Err stops.NoMemory) P Q f p = f p

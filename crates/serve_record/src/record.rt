@@ -7,16 +7,16 @@ ghost use Rattle.serve_record.specs.Recorded.{recorded, text_line};
 ghost use Rattle.serve_record.specs.declared.record.RecordStop.TheVariants as stops;
 ghost use Rattle.serve_record.specs.declared.record.LineStop.TheVariants as line_stops;
 ghost use Rattle.hub_lock.specs.Steps.{HaveLines};
-ghost use Rattle.serve_record.specs.Lines.{text_at, Holds, GainsFront};
+ghost use Rattle.serve_record.specs.Lines.{text_at, GainsFront, Gains, line_result, NeverNoLine};
 
-use crate::entry_lines::add_entry;
 use crate::fits::fits_line;
+use crate::record_text::RecordText;
 use broker_model::{Journal, StampList};
 use hub_lock::Session;
 use seat_steps::Limits;
-use std::alloc::{AllocError, Global};
+use std::alloc::Global;
 use thiserror::Error;
-use wio_core::{Failed, NoMemory, Sink, write_all};
+use wio_core::{Failed, NoMemory, Sink};
 
 /// Why a recorded session isn't whole. What was written is a front of it.
 #[derive(Clone, Copy, Debug, PartialEq, Eq, Error)]
@@ -75,25 +75,15 @@ impl From<NoMemory> for LineStop {
     }
 }
 
-// So many bytes are written at once, or a line more.
-const PIECE: usize = 65_536;
-
-// Writes what waits, if it is a whole piece.
-#[tactic(auto, using(crate::proofs::RecordGrows::cut_is_front))]
-pub(crate) fn write_piece<K: Sink>(text: &mut Vec<u8>, output: &mut K) -> Result<(), Failed>
-    ensures whole { OnOk result (Holds (K.held output.old) (K.held output.new)
-        text.new.items text.old.items) }
-    ensures front { OnErr result (GainsFront (K.held output.old) (K.held output.new)
-        text.old.items) }
-    ensures never_falls { K.fault_count output.old ≤ K.fault_count output.new }
-    ensures cause { OnErr result (Rose (K.fault_count output.old) (K.fault_count output.new)) }
+// The answer, where an entry may have no line.
+pub(crate) fn as_line(written: Result<(), RecordStop>) -> Result<(), LineStop>
+    ensures { result ≡ line_result written }
 {
-    if text.len() < PIECE {
-        return Ok(());
+    match written {
+        Ok(()) => Ok(()),
+        Err(RecordStop::WriteFault) => Err(LineStop::WriteFault),
+        Err(RecordStop::NoMemory) => Err(LineStop::NoMemory),
     }
-    write_all(output, text.as_slice())?;
-    text.clear();
-    Ok(())
 }
 
 // The header and its line feed.
@@ -111,23 +101,16 @@ fn write_entry<K: Sink>(
     alloc: Global,
     session: &Session,
     number: u32,
-    text: &mut Vec<u8>,
+    text: &mut RecordText,
     output: &mut K,
 ) -> Result<(), LineStop>
     requires each { length session.now.stamps.stamps ≡ length session.now.journal.entries }
     requires first { 1 ≤ number }
     requires last { number ≤ length session.now.journal.entries }
-    ensures whole { OnOk result (Holds (K.held output.old) (K.held output.new) text.new.items
-        (text.old.items
-        ++ text_at session.now.journal.entries session.now.stamps.stamps number)) }
-    ensures front { OnErr result (GainsFront (K.held output.old) (K.held output.new)
-        (text.old.items
-        ++ text_at session.now.journal.entries session.now.stamps.stamps number)) }
-    ensures never_falls { K.fault_count output.old ≤ K.fault_count output.new }
-    ensures cause { result ≡ Err LineStop.WriteFault →
-        Rose (K.fault_count output.old) (K.fault_count output.new) }
-    ensures no_line { HaveLines session.now.journal.entries →
-        ¬ (result ≡ Err LineStop.NoLine) }
+    ensures gains { Gains K.held K.fault_count output.old output.new text.new (text.old
+        ++ text_at session.now.journal.entries session.now.stamps.stamps number)
+        LineStop.WriteFault result }
+    ensures no_line { NeverNoLine session.now.journal.entries result }
 {
     let Some(entry) = session.journal.entry(number) else {
         unreachable!()
@@ -138,9 +121,7 @@ fn write_entry<K: Sink>(
     if !fits_line(entry) {
         return Err(LineStop::NoLine);
     }
-    add_entry(alloc, text, *stamp, entry)?;
-    write_piece(text, output)?;
-    Ok(())
+    as_line(text.put(alloc, *stamp, entry, output))
 }
 
 /// Writes the recorded session: the header, the line of each entry that no other brings about behind
@@ -162,11 +143,9 @@ pub fn write_record<K: Sink>(
     ensures no_line { HaveLines session.now.journal.entries →
         ¬ (result ≡ Err LineStop.NoLine) }
 {
-    let mut text = header(alloc, &session.limits)?;
+    let mut text = RecordText::new(alloc, &session.limits)?;
     for before in 0..session.journal.len() {
         write_entry(alloc, session, before + 1, &mut text, output)?;
     }
-    text.extend_from_slice(b"end\n").map_err(NoMemory::from)?;
-    write_all(output, text.as_slice())?;
-    Ok(())
+    as_line(text.end(output))
 }

@@ -1,103 +1,42 @@
 //! The entries that a hub hands out go out as they come.
-ghost use Rattle.std.specs.Prelude.{◌≡◌, ◌≤◌, length, false, Ok, Err, OnOk};
+ghost use Rattle.std.specs.Prelude.{◌≡◌, ◌≤◌, length, Err, IfOk, OnOk, OnErr};
 ghost use Rattle.wio_core.specs.Io.{Rose};
 ghost use Rattle.turn_lock.specs.Pairs.{HasSeen};
 ghost use Rattle.turn_lock.specs.Sights.{having_seen};
 ghost use Rattle.hub_lock.specs.Histories.{broker_of};
 ghost use Rattle.hub_lock.specs.Passes.{IsOf};
-ghost use Rattle.serve_record.specs.Handed.{WritesHanded};
+ghost use Rattle.serve_record.specs.Handed.{WritesHanded, MadeNoStep, HandsOut};
+ghost use Rattle.serve_record.specs.Lines.{Gains};
 
 use crate::record::RecordStop;
 use crate::record_text::RecordText;
+use broker_core::LetGo;
 use hub_lock::{Hub, RecorderPass};
 use std::alloc::Global;
 use std::sync::Wait;
 use wio_core::Sink;
 
-// Writes the next entry, if there is one now.
-fn record_there<R: Wait, K: Sink>(
+// Hands out the next entry once it is there, or says that the record is over. Where there is none
+// yet, what waits goes out first.
+fn next_entry<R: Wait, K: Sink>(
     rt: &R,
-    alloc: Global,
     hub: &Hub,
     pass: &mut RecorderPass,
     text: &mut RecordText,
     output: &mut K,
-) -> Result<bool, RecordStop>
+) -> Result<Option<LetGo>, RecordStop>
     requires own { IsOf hub.now pass.old.seat }
-    ensures seat { pass.new.seat ≡ having_seen pass.old.seat pass.new.seat.seen }
-    ensures seen { HasSeen pass.new.seat.seen pass.old.seat.number pass.old.seat.seen }
-    ensures all { result ≡ Ok false → length (broker_of hub.now.limits pass.new.seat.seen).journal
-        ≤ length pass.new.handed }
-    ensures written { WritesHanded hub.now.limits (K.held output.old) (K.held output.new) text.old
-        text.new pass.old.handed pass.new.handed result }
-    ensures never_falls { K.fault_count output.old ≤ K.fault_count output.new }
-    ensures cause { result ≡ Err RecordStop.WriteFault →
-        Rose (K.fault_count output.old) (K.fault_count output.new) }
+    ensures none_made { MadeNoStep pass.old.seat pass.new.seat }
+    ensures next { IfOk result (HandsOut hub.now.limits pass.old pass.new) }
+    ensures same { OnErr result (pass.new.handed ≡ pass.old.handed) }
+    ensures gains { Gains K.held K.fault_count output.old output.new text.new text.old
+        RecordStop.WriteFault result }
 {
-    match hub.hand_out(rt, pass) {
-        Some(next) => {
-            text.add_line(alloc, &next, output)?;
-            Ok(true)
-        }
-        None => Ok(false),
-    }
-}
-
-// Writes the next entry once it is there, or says that the record is over.
-fn record_awaited<R: Wait, K: Sink>(
-    rt: &R,
-    alloc: Global,
-    hub: &Hub,
-    pass: &mut RecorderPass,
-    text: &mut RecordText,
-    output: &mut K,
-) -> Result<bool, RecordStop>
-    requires own { IsOf hub.now pass.old.seat }
-    ensures seat { pass.new.seat ≡ having_seen pass.old.seat pass.new.seat.seen }
-    ensures seen { HasSeen pass.new.seat.seen pass.old.seat.number pass.old.seat.seen }
-    ensures all { result ≡ Ok false → length (broker_of hub.now.limits pass.new.seat.seen).journal
-        ≤ length pass.new.handed }
-    ensures written { WritesHanded hub.now.limits (K.held output.old) (K.held output.new) text.old
-        text.new pass.old.handed pass.new.handed result }
-    ensures never_falls { K.fault_count output.old ≤ K.fault_count output.new }
-    ensures cause { result ≡ Err RecordStop.WriteFault →
-        Rose (K.fault_count output.old) (K.fault_count output.new) }
-{
-    match hub.wait_hand_out(rt, pass) {
-        Some(next) => {
-            text.add_line(alloc, &next, output)?;
-            Ok(true)
-        }
-        None => Ok(false),
-    }
-}
-
-// Writes the next entry, or says that the record is over. Where there is none yet, what waits goes out
-// first.
-fn record_next<R: Wait, K: Sink>(
-    rt: &R,
-    alloc: Global,
-    hub: &Hub,
-    pass: &mut RecorderPass,
-    text: &mut RecordText,
-    output: &mut K,
-) -> Result<bool, RecordStop>
-    requires own { IsOf hub.now pass.old.seat }
-    ensures seat { pass.new.seat ≡ having_seen pass.old.seat pass.new.seat.seen }
-    ensures seen { HasSeen pass.new.seat.seen pass.old.seat.number pass.old.seat.seen }
-    ensures all { result ≡ Ok false → length (broker_of hub.now.limits pass.new.seat.seen).journal
-        ≤ length pass.new.handed }
-    ensures written { WritesHanded hub.now.limits (K.held output.old) (K.held output.new) text.old
-        text.new pass.old.handed pass.new.handed result }
-    ensures never_falls { K.fault_count output.old ≤ K.fault_count output.new }
-    ensures cause { result ≡ Err RecordStop.WriteFault →
-        Rose (K.fault_count output.old) (K.fault_count output.new) }
-{
-    if record_there(rt, alloc, hub, pass, text, output)? {
-        return Ok(true);
+    if let Some(next) = hub.hand_out(rt, pass) {
+        return Ok(Some(next));
     }
     text.write(output)?;
-    record_awaited(rt, alloc, hub, pass, text, output)
+    Ok(hub.wait_hand_out(rt, pass))
 }
 
 /// Writes the entries that are handed out to the pass, each as it comes, until the record ends. What
@@ -123,8 +62,9 @@ pub fn record_handed<R: Wait, K: Sink>(
         Rose (K.fault_count output.old) (K.fault_count output.new) }
 {
     for _ in rt.forever() {
-        if !record_next(rt, alloc, hub, pass, text, output)? {
-            return Ok(());
+        match next_entry(rt, hub, pass, text, output)? {
+            Some(next) => text.put(alloc, next.stamp, &next.entry, output)?,
+            None => return Ok(()),
         }
     }
     unreachable!()

@@ -5,16 +5,20 @@ ghost use Rattle.wio_core.specs.Io.{Rose};
 ghost use Rattle.session_text.specs.declared.line.Line.TheVariants.{Header, End};
 ghost use Rattle.hub_lock.specs.Steps.{FitsLine};
 ghost use Rattle.serve_record.specs.Recorded.{text_line};
-ghost use Rattle.serve_record.specs.Lines.{lines_text, Holds, GainsFront};
+ghost use Rattle.serve_record.specs.Lines.{lines_text, Holds, GainsFront, Gains};
 
 use crate::entry_lines::add_entry;
 use crate::fits::fits_line;
-use crate::record::{LineStop, RecordStop, header, write_piece};
+use crate::record::{LineStop, RecordStop, as_line, header};
 use broker_core::LetGo;
-use seat_steps::Limits;
+use broker_model::Entry;
+use seat_steps::{Limits, Stamp};
 use std::alloc::Global;
 use std::marker::Model;
 use wio_core::{NoMemory, Sink, write_all};
+
+// So many bytes are written at once, or a line more.
+const PIECE: usize = 65_536;
 
 /// The text of a recorded session, of which a last piece waits. Contracts see the bytes that wait.
 #[derive(Drop)]
@@ -63,32 +67,27 @@ impl RecordText {
         if !fits_line(&next.entry) {
             return Err(LineStop::NoLine);
         }
-        match self.add_line(alloc, next, output) {
-            Ok(()) => Ok(()),
-            Err(RecordStop::WriteFault) => Err(LineStop::WriteFault),
-            Err(RecordStop::NoMemory) => Err(LineStop::NoMemory),
-        }
+        as_line(self.put(alloc, next.stamp, &next.entry, output))
     }
 
-    // The same of an entry that a line can give.
-    pub(crate) fn add_line<K: Sink>(
+    // The same of an entry that a line can give, and of its stamp.
+    pub(crate) fn put<K: Sink>(
         &mut self,
         alloc: Global,
-        next: &LetGo,
+        stamp: Stamp,
+        entry: &Entry,
         output: &mut K,
     ) -> Result<(), RecordStop>
-        requires { FitsLine next.now.entry }
-        ensures whole { OnOk result (Holds (K.held output.old) (K.held output.new) self.new
-            (self.old ++ lines_text (Some next.now.entry) (Some next.now.stamp))) }
-        ensures front { OnErr result (GainsFront (K.held output.old) (K.held output.new)
-            (self.old ++ lines_text (Some next.now.entry) (Some next.now.stamp))) }
-        ensures never_falls { K.fault_count output.old ≤ K.fault_count output.new }
-        ensures cause { result ≡ Err RecordStop.WriteFault →
-            Rose (K.fault_count output.old) (K.fault_count output.new) }
+        requires { FitsLine entry.now }
+        ensures { Gains K.held K.fault_count output.old output.new self.new
+            (self.old ++ lines_text (Some entry.now) (Some stamp)) RecordStop.WriteFault
+            result }
     {
-        add_entry(alloc, &mut self.waiting, next.stamp, &next.entry)?;
-        write_piece(&mut self.waiting, output)?;
-        Ok(())
+        add_entry(alloc, &mut self.waiting, stamp, entry)?;
+        if self.waiting.len() < PIECE {
+            return Ok(());
+        }
+        self.write(output)
     }
 
     /// Writes what waits. After `RecordStop` a front of it was written.

@@ -1,11 +1,26 @@
-use Rattle.std.proofs.Common.{rules, ◌+◌, ◌-◌, ◌++◌, ◌∙◌, length, ap, subst, arith}
+use Rattle.std.proofs.Common.{rules, ◌≡◌, ◌+◌, ◌-◌, ◌++◌, ◌∙◌, [], OnOk, OnErr, length, ap, sym, subst, arith}
 use Rattle.std.specs.Io.KnownBytes.{Appends}
 use Rattle.session_text.specs.declared.line.Line.TheVariants.{End}
-use Rattle.serve_record.specs.Recorded.{text_line}
-use Rattle.serve_record.specs.Lines.{Holds, GainsFront}
-use Rattle.serve_record.proofs.RecordGrows.{holds_more, holds_then_front, holds_then_whole, holds_front, front_of, cut_is_front, on_err}
-use Rattle.serve_record.proofs.StepsText.{text_grows, text_is_front, text_ends}
+use Rattle.serve_record.specs.Recorded.{text_line, recorded}
+use Rattle.serve_record.specs.Lines.{Holds, GainsFront, text_without}
+use Rattle.serve_record.proofs.RecordGrows.{appends_none, holds_more, holds_then_front, holds_then_whole, front_of, on_err, has_line, line_fault, ok_line, err_line}
+use Rattle.serve_record.proofs.StepsText.{text_begins, text_grows, text_is_front, text_ends}
 use Rattle.serve_record.proofs.record.write_record.Goals as goal
+
+pub loop-before-init : goal.loop-before-init
+loop-before-init g c =
+    let session = c.args.session.now in
+    let journal = session.journal.entries in
+    let stamps = session.stamps.stamps in
+    let all : length journal ≡ length journal - 0 = omega arith in record {
+      holds = (
+        [],
+        appends_none (g.K.Sink.held c.args.output.now),
+        c.in_ok-text.ensures ∙ (sym (text_begins session.limits journal stamps c.requires)
+            ∙ ap (λ n. text_without session.limits n journal stamps) all),
+      );
+      never_falls = omega arith;
+    }
 
 pub returns-in_err-write_entry-clause-front : goal.returns-in_err-write_entry-clause-front
 returns-in_err-write_entry-clause-front g c =
@@ -16,7 +31,7 @@ returns-in_err-write_entry-clause-front g c =
     let newest = length journal - (before + 1) in
     let is = text_is_front session.limits journal stamps newest c.requires in
     on_err _ _ (front_of _ _ _ is.0 _
-    (holds_then_front _ _ _ _ _ _ c.loop-before.invariant.holds c.in_err-write_entry.ensures.front)
+    (holds_then_front _ _ _ _ _ _ c.loop-before.invariant.holds c.in_err-write_entry.ensures.gains.front)
     (ap (λ t. t ++ is.0) (text_grows session.limits journal stamps before (search rules) c.requires) ∙ is.1))
 
 pub loop-before-preserved : goal.loop-before-preserved
@@ -26,39 +41,45 @@ loop-before-preserved g c =
     let stamps = session.stamps.stamps in
     let before = c.loop-before.before in
     let one = c.loop-before.invariant.never_falls in
-    let two = c.write_entry.ensures.never_falls in record {
+    let two = c.write_entry.ensures.gains.never_falls in record {
       holds = subst
           (Holds (g.K.Sink.held c.args.output.now)
-          (g.K.Sink.held c.write_entry.new.output) c.write_entry.new.text.items)
+          (g.K.Sink.held c.write_entry.new.output) c.write_entry.new.text)
           (text_grows session.limits journal stamps before (search rules) c.requires)
-          (holds_more _ _ _ _ _ _ _ c.loop-before.invariant.holds c.in_ok-write_entry.ensures.whole);
+          (holds_more _ _ _ _ _ _ _ c.loop-before.invariant.holds c.in_ok-write_entry.ensures.gains.whole);
       never_falls = omega arith;
     }
-
-pub returns-in_err-map_err-clause-front : goal.returns-in_err-map_err-clause-front
-returns-in_err-map_err-clause-front g c =
-    let session = c.args.session.now in
-    let journal = session.journal.entries in
-    let is = text_is_front session.limits journal session.stamps.stamps
-    (length journal - c.loop-before.before) c.requires in
-    on_err _ _ (front_of _ _ _ is.0 _ (holds_front _ _ _ _ c.loop-before.invariant.holds) is.1)
-
-pub returns-in_err-write_all-clause-front : goal.returns-in_err-write_all-clause-front
-returns-in_err-write_all-clause-front g c =
-    let session = c.args.session.now in
-    let journal = session.journal.entries in
-    on_err _ _ (subst (GainsFront (g.K.Sink.held c.args.output.now) (g.K.Sink.held c.write_all.new.sink))
-    (text_ends session.limits journal session.stamps.stamps (length journal - c.loop-before.before) (search rules))
-    (holds_then_front _ _ _ _ (text_line End) _ c.loop-before.invariant.holds
-    (subst (GainsFront (g.K.Sink.held c.loop-before.output) (g.K.Sink.held c.write_all.new.sink)) (search rules)
-    (cut_is_front _ _ _ c.in_err-write_all.ensures.prefix))))
 
 pub returns-clause-whole : goal.returns-clause-whole
 returns-clause-whole g c =
     let session = c.args.session.now in
     let journal = session.journal.entries in
-    subst (Appends (g.K.Sink.held c.args.output.now) (g.K.Sink.held c.write_all.new.sink))
-    (text_ends session.limits journal session.stamps.stamps (length journal - c.loop-before.before) (search rules))
-    (holds_then_whole _ _ _ _ (text_line End) _ c.loop-before.invariant.holds
-    (subst (Appends (g.K.Sink.held c.loop-before.output) (g.K.Sink.held c.write_all.new.sink)) (search rules)
-    c.in_ok-write_all.ensures.whole))
+    let stamps = session.stamps.stamps in
+    let held = g.K.Sink.held c.args.output.now in
+    let after = g.K.Sink.held c.end.new.output in
+    let ends = text_ends session.limits journal stamps (length journal - c.loop-before.before) (search rules) in
+    subst (λ r. OnOk r (Appends held after (recorded session.limits journal stamps))) (sym c.as_line.ensures)
+    (ok_line c.end.result _ _
+    (λ out. subst (Appends held after) ends
+    (holds_then_whole _ _ _ _ (text_line End) _ c.loop-before.invariant.holds out)) c.end.ensures.whole)
+
+pub returns-clause-front : goal.returns-clause-front
+returns-clause-front g c =
+    let session = c.args.session.now in
+    let journal = session.journal.entries in
+    let stamps = session.stamps.stamps in
+    let held = g.K.Sink.held c.args.output.now in
+    let after = g.K.Sink.held c.end.new.output in
+    let ends = text_ends session.limits journal stamps (length journal - c.loop-before.before) (search rules) in
+    subst (λ r. OnErr r (GainsFront held after (recorded session.limits journal stamps))) (sym c.as_line.ensures)
+    (err_line c.end.result _ _
+    (λ cut. subst (GainsFront held after) ends
+    (holds_then_front _ _ _ _ (text_line End) _ c.loop-before.invariant.holds cut)) c.end.ensures.front)
+
+pub returns-clause-cause : goal.returns-clause-cause
+returns-clause-cause g c is =
+    let before = c.loop-before.invariant.never_falls in
+    let rose = c.end.ensures.cause (line_fault c.end.result (sym c.as_line.ensures ∙ is)) in omega arith
+
+pub returns-clause-no_line : goal.returns-clause-no_line
+returns-clause-no_line g c lines is = has_line c.end.result (sym c.as_line.ensures ∙ is)

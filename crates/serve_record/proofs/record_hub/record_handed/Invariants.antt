@@ -1,17 +1,7 @@
-use Rattle.std.proofs.Common.{◌≡◌, ◌≤◌, ℕ, List, Option}
-use Rattle.turn_lock.specs.Pairs.{HasSeen}
-use Rattle.turn_lock.specs.Sights.{having_seen}
-use Rattle.serve_record.specs.Lines.{Holds}
-use Rattle.serve_record.specs.Handed.{handed_text}
+use Rattle.serve_record.proofs.HandedWritten.{IsRecording}
 use Rattle.serve_record.proofs.record_hub.record_handed.Given as goal
 
--- the pass has seen more, and the output has the text of what was handed out, but for what waits
 abbrev pub invariant-loop : goal.invariant-loop
-invariant-loop g l = record {
-  seat : l.pass.seat ≡ having_seen l.initial.pass.seat l.pass.seat.seen;
-  seen : HasSeen l.pass.seat.seen l.initial.pass.seat.number l.initial.pass.seat.seen;
-  written : (first : Option (List ℕ))
-      → Holds first (g.K.Sink.held l.initial.output) l.initial.text (handed_text l.hub.limits l.initial.pass.handed)
-      → Holds first (g.K.Sink.held l.output) l.text (handed_text l.hub.limits l.pass.handed);
-  never_falls : g.K.Sink.fault_count l.initial.output ≤ g.K.Sink.fault_count l.output;
-}
+invariant-loop g l =
+    IsRecording g.K.Sink.held g.K.Sink.fault_count l.hub.limits l.initial.pass l.pass l.initial.output l.output l.initial.text
+    l.text
