@@ -1,9 +1,11 @@
 -- What the calls of the shared state tell, said of histories
+use Rattle.std.specs.Prelude.{Bool, true, ◌==◌, unwrap_or, option_map, if◌then◌else◌}
 use Rattle.std.proofs.Common.{◌≡◌, ℕ, ◌+◌, ◌^◌, ◌<◌, ◌≤◌, List, [], ◌∷◌, ◌++◌, length, map, min, take, drop, false, Option, Some, None, Result, Ok, Err, IfSome, IfNone, IfOk, OnOk, OnErr, IsOkUnless, refl, ap, sym, subst, ◌∙◌, arith, length-append}
 use Rattle.std.proofs.lemmas.List.{take-append-le, length-take-le, length-map}
 use Rattle.std.proofs.Math.Seq.{take-append_seam}
 use borrow.Rule.Slice.PartMut.{put_mid, post_of}
 use Rattle.relay_core.specs.Stands.{route_told}
+use Rattle.relay_model.specs.declared.act.EndCause.{EndCause}
 use Rattle.relay_model.specs.declared.role.Role.{Role}
 use Rattle.seat_steps.specs.declared.step.Step.{Step}
 use Rattle.seat_steps.specs.declared.step.Step.TheVariants as steps
@@ -11,6 +13,7 @@ use Rattle.seat_steps.specs.declared.step.PeerStep.{PeerStep}
 use Rattle.seat_steps.specs.declared.step.PeerStep.TheVariants as peers
 use Rattle.broker_model.specs.declared.journal.Entry.{Entry}
 use Rattle.broker_model.specs.declared.journal.Entry.TheVariants as entries
+use Rattle.broker_model.specs.declared.journal.Kept.{Kept}
 use Rattle.broker_model.specs.Out.{Outgoing, act_at, stored, tokens_taken}
 use Rattle.broker_model.specs.Resolve.{past_of, resolve}
 use Rattle.broker_model.specs.Settle.{number_alive}
@@ -24,12 +27,13 @@ use Rattle.broker_core.specs.declared.answers.Refused.{Refused}
 use Rattle.broker_core.specs.declared.answers.Refused.TheVariants as refusals
 use Rattle.broker_core.specs.declared.answers.Took.{Took}
 use Rattle.broker_core.specs.declared.answers.Took.TheVariants as took
-use Rattle.broker_core.specs.Broker.{Broker, with_step, join_refusal, entry_of, refusal, IsAccepted, take_refusal, take_refusal_from, IfBytes, IfNoBytes, IsBytesUnlessMemory}
+use Rattle.broker_core.specs.Broker.{Broker, with_step, join_refusal, entry_of, refusal, full_for, IsAccepted, nothing_left, take_refusal, take_refusal_from, IfBytes, IfNoBytes, IsBytesUnlessMemory}
+use Rattle.broker_core.specs.Stands.{end_of}
 use Rattle.broker_core.specs.Taking.{out_at, IsTaken}
 use Rattle.hub_lock.specs.declared.step.OuterStep.{OuterStep}
 use Rattle.hub_lock.specs.Histories.{History, stamp_by, broker_of, reader_of, writer_of, only, joining}
 use Rattle.hub_lock.specs.Lawful.{IsKept, IsMadeBy, history_of, with_all}
-use Rattle.hub_lock.specs.Plays.{IsLonger, IsOwn, Joins, Applies, Takes, IsTakenInto, IsHandedOut}
+use Rattle.hub_lock.specs.Plays.{IsLonger, IsOwn, Joins, Applies, Takes, IsTakenInto, took_without_memory, IsHandedOut}
 use Rattle.hub_lock.proofs.KeptAfterStep.{IsStamped, IsNoJoin, IsLegalStep, history-plain, kept-plain, history-join, is-join, kept-join, reader-join}
 
 take-whole : (xs ys : List ℕ) (k : ℕ) → length xs ≡ k → take k (xs ++ ys) ≡ xs
@@ -289,6 +293,76 @@ module _ (b : Broker) (readers : List ℕ) (n : ℕ) (kept : IsKept b readers) (
     taken = longer-taken q res b' own few after;
     same = same-taken res b' same;
   }
+
+  -- a take without memory takes nothing
+
+  none-left : (end : Option EndCause) → IfBytes (nothing_left end) (λ counts. ⊥)
+  none-left None = tt
+  none-left (Some cause) = tt
+
+  none-full : (t : Bool) (end : Option EndCause) (full : Option Kept)
+      → IfBytes (unwrap_or
+      (if t then Some (nothing_left end) else option_map (λ kept. took.JournalFull kept) full) took.NoMemory)
+      (λ counts. ⊥)
+  none-full true end full = none-left end
+  none-full false end None = tt
+  none-full false end (Some kept) = tt
+
+  none-from : (q : ℕ) (o : Option Outgoing) → IfBytes (unwrap_or (take_refusal_from b q o) took.NoMemory) (λ counts. ⊥)
+  none-from q None = tt
+  none-from q (Some out) =
+      none-full (length (stored out) == 0) (end_of b.journal q) (full_for b (entries.Took q 0))
+
+  refused-why : (o : Option Took) → IfSome o (λ why. unwrap_or o took.NoMemory ≡ why)
+  refused-why None = tt
+  refused-why (Some why) = refl
+
+  memory-lacks : (o : Option Took) → IfNone o (IsBytesUnlessMemory (unwrap_or o took.NoMemory))
+  memory-lacks None = tt
+  memory-lacks (Some why) = tt
+
+  no-bytes-some : (o : Option Outgoing) (P : Outgoing → ℕ × ℕ → Type 0) (res : Took) → IfBytes res (λ counts. ⊥)
+      → IfSome o (λ out. IfBytes res (P out))
+  no-bytes-some None P res none = tt
+  no-bytes-some (Some out) P (took.Bytes count tokens) none = absurd none
+  no-bytes-some (Some out) P took.NoPeer none = tt
+  no-bytes-some (Some out) P took.Closed none = tt
+  no-bytes-some (Some out) P took.Empty none = tt
+  no-bytes-some (Some out) P (took.JournalFull kept) none = tt
+  no-bytes-some (Some out) P took.NoMemory none = tt
+
+  no-bytes-of : (P : ℕ × ℕ → Type 0) (res : Took) → IfBytes res (λ counts. ⊥) → IfBytes res P
+  no-bytes-of P (took.Bytes count tokens) none = absurd none
+  no-bytes-of P took.NoPeer none = tt
+  no-bytes-of P took.Closed none = tt
+  no-bytes-of P took.Empty none = tt
+  no-bytes-of P (took.JournalFull kept) none = tt
+  no-bytes-of P took.NoMemory none = tt
+
+  same-broker : (res : Took) → IfNoBytes res (b ≡ b)
+  same-broker (took.Bytes count tokens) = tt
+  same-broker took.NoPeer = refl
+  same-broker took.Closed = refl
+  same-broker took.Empty = refl
+  same-broker (took.JournalFull kept) = refl
+  same-broker took.NoMemory = refl
+
+  pub takes-none : (q most : ℕ) (bytes tokens : List ℕ)
+      → Takes b.limits (history_of b readers) n q most bytes tokens (history_of b readers) (took_without_memory b q)
+  takes-none q most bytes tokens =
+      let none = none-from q (out_at b.limits.store b.journal q) in
+      let res : Took = took_without_memory b q in record {
+        refused = is-here (λ (x : Broker). IfSome (take_refusal x q) (λ why. res ≡ why)) (refused-why (take_refusal b q));
+        accepted = is-here (λ (x : Broker). IfNone (take_refusal x q) (IsBytesUnlessMemory res))
+            (memory-lacks (take_refusal b q));
+        into = is-here
+            (λ (x : Broker). IfSome (out_at b.limits.store x.journal q)
+            (λ out. IfBytes res (λ counts. IsTakenInto out most bytes tokens counts)))
+            (no-bytes-some (out_at b.limits.store b.journal q)
+            (λ out counts. IsTakenInto out most bytes tokens counts) res none);
+        taken = no-bytes-of _ res none;
+        same = same-taken res b (same-broker res);
+      }
 
 -- how many steps there are then
 

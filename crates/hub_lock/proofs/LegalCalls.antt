@@ -27,7 +27,8 @@ use Rattle.hub_lock.specs.Histories.{History, broker_of, readers_of, numbered_in
 use Rattle.hub_lock.specs.Lawful.{IsLawful}
 use Rattle.hub_lock.specs.Passes.{PassSeat, PeerPass}
 use Rattle.hub_lock.specs.Plays.{Applies}
-use Rattle.hub_lock.specs.Calls.{Legal, TakesInto, IsTake, pass_having_seen}
+use Rattle.hub_lock.specs.Rooms.{Taken}
+use Rattle.hub_lock.specs.Calls.{Legal, TakesInto, IsTake, TakesOut, IsTakeOut, pass_having_seen}
 use Rattle.hub_lock.proofs.ReadersStay.{reader-stays, writer-stays}
 
 module _ (limits : Limits) (seat : PassSeat) (after : History) (Told : History → Type 0)
@@ -87,6 +88,16 @@ wait-legal limits first pass pass' more buf places was were buf' places' r e fre
     (subst (λ (p : PeerPass). IsTake limits p pass' buf places buf' places' r) e k)) in
     waited-legal limits now.seat pass'.seat.seen
     (λ before. TakesInto limits before first.seat.number first.peer was were pass'.seat.seen buf' places' r)
+    l first.seat more free refl
+
+pub wait-out : (limits : Limits) (first pass pass' : PeerPass) (more : History) (t : Taken) (r : Took)
+    → pass ≡ pass_having_seen first (first.seat.seen ++ more) → NoneOf first.seat.number more
+    → IsTakeOut limits pass pass' 4096 t r → IsTakeOut limits first pass' 4096 t r
+wait-out limits first pass pass' more t r e free k =
+    let now : PeerPass = pass_having_seen first (first.seat.seen ++ more) in
+    let l : IsTakeOut limits now pass' 4096 t r = subst (λ (p : PeerPass). IsTakeOut limits p pass' 4096 t r) e k in
+    waited-legal limits now.seat pass'.seat.seen
+    (λ before. TakesOut limits before first.seat.number first.peer 4096 pass'.seat.seen t r)
     l first.seat more free refl
 
 -- the peer joined

@@ -1,11 +1,12 @@
 -- What the calls of a hub tell
-use Rattle.std.specs.Prelude.{◌≡◌, ◌⊎◌, ℕ, List, ◌∷◌, ◌++◌, Option, Some, None, Result, Ok, IfSome, IfNone}
+use Rattle.std.specs.Prelude.{◌≡◌, ◌⊎◌, ℕ, ◌≤◌, List, ◌∷◌, ◌++◌, length, map, min, take, Option, Some, None, Result, Ok, IfSome, IfNone}
 use Rattle.relay_model.specs.declared.role.Role.{Role}
 use Rattle.seat_steps.specs.declared.limits.Limits.{Limits}
 use Rattle.seat_steps.specs.declared.step.Step.{Step}
 use Rattle.seat_steps.specs.declared.step.PeerStep.{PeerStep}
 use Rattle.seat_steps.specs.declared.step.PeerStep.TheVariants as peers
 use Rattle.broker_model.specs.declared.journal.Entry.TheVariants as entries
+use Rattle.broker_model.specs.Out.{Outgoing, stored, tokens_taken}
 use Rattle.broker_core.specs.declared.answers.Applied.{Applied}
 use Rattle.broker_core.specs.declared.answers.JoinRefusal.{JoinRefusal}
 use Rattle.broker_core.specs.declared.answers.Refused.{Refused}
@@ -22,6 +23,7 @@ use Rattle.hub_lock.specs.Histories.{History, broker_of, only}
 use Rattle.hub_lock.specs.Lawful.{IsLawful}
 use Rattle.hub_lock.specs.Passes.{PassSeat, PeerPass}
 use Rattle.hub_lock.specs.Plays.{IsLonger, Joins, Applies, Copies, Answers}
+use Rattle.hub_lock.specs.Rooms.{Taken, nothing_taken}
 
 -- A call is legal: it was played at a history that begins with all that its pass had seen, and past
 -- that has no step of the pass; its answer is the one that is given there, and the pass has then
@@ -103,3 +105,29 @@ IsTake limits pass pass' buf places buf_after places_after r =
     Legal limits pass.seat pass'.seat.seen (λ before.
     TakesInto limits before pass.seat.number pass.peer buf places pass'.seat.seen buf_after
     places_after r)
+
+-- the first that were out, so many bytes at most, and the tokens that come with them
+pub record AreFirstOut (out : Outgoing) (most : ℕ) (taken : Taken) (counts : ℕ × ℕ) : Type 0 where
+  pub count : counts.0 ≡ min most (length (stored out))
+  pub bytes : taken.bytes ≡ take counts.0 (stored out)
+  pub token_count : counts.1 ≡ length (tokens_taken counts.0 out)
+  pub tokens : taken.tokens ≡ map (λ t. t.token) (tokens_taken counts.0 out)
+  pub few : counts.1 ≤ 256
+
+-- A take of the writer of the peer q at a history. What was taken then stands in the room; where
+-- nothing was taken, nothing does.
+pub record TakesOut (limits : Limits) (before : History) (n q most : ℕ) (after : History)
+    (room_after : Taken) (r : Took) : Type 0 where
+  pub refused : IfSome (take_refusal (broker_of limits before) q) (λ why. r ≡ why)
+  pub accepted : IfNone (take_refusal (broker_of limits before) q) (IsBytesUnlessMemory r)
+  pub out : IfSome (out_at limits.store (broker_of limits before).journal q)
+      (λ out. IfBytes r (AreFirstOut out most room_after))
+  pub taken : IfBytes r (λ counts. IsLonger n (only (entries.Took q counts.0)) before after)
+  pub same : IfNoBytes r (after ≡ before)
+  pub nothing : IfNoBytes r (room_after ≡ nothing_taken)
+
+-- a legal take of a writer's pass, of so many bytes at most, into a room
+abbrev pub IsTakeOut : Limits → PeerPass → PeerPass → ℕ → Taken → Took → Type 0
+IsTakeOut limits pass pass' most room_after r =
+    Legal limits pass.seat pass'.seat.seen (λ before.
+    TakesOut limits before pass.seat.number pass.peer most pass'.seat.seen room_after r)

@@ -1,6 +1,7 @@
 pub mod Histories
 pub mod Steps
 pub mod Asked
+pub mod Rooms
 pub mod Lawful
 pub mod Bells
 pub mod Plays

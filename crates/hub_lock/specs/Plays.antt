@@ -1,5 +1,5 @@
 -- What a call plays at a history, and what it answers there
-use Rattle.std.specs.Prelude.{◌≡◌, ℕ, ◌+◌, ◌≤◌, List, [], ◌∷◌, ◌++◌, length, map, min, take, Bool, true, false, Option, Some, Result, Err, IfSome, IfNone, IfOk, OnOk, OnErr, IsOkUnless}
+use Rattle.std.specs.Prelude.{◌≡◌, ℕ, ◌+◌, ◌≤◌, List, [], ◌∷◌, ◌++◌, length, map, min, take, Bool, true, false, Option, Some, unwrap_or, Result, Err, IfSome, IfNone, IfOk, OnOk, OnErr, IsOkUnless}
 use Rattle.std.specs.Result.{is_ok}
 use Rattle.relay_core.specs.Stands.{route_told}
 use Rattle.relay_model.specs.declared.role.Role.{Role}
@@ -90,6 +90,11 @@ pub record Takes (limits : Limits) (before : History) (n q most : ℕ) (bytes to
   pub taken : IfBytes r (λ counts. IsLonger n (only (entries.Took q counts.0)) before after)
   pub same : IfNoBytes r (after ≡ before)
 
+-- the answer to a take for the peer q for which there is no memory: why it is refused, or else that
+-- memory lacks
+abbrev pub took_without_memory : Broker → ℕ → Took
+took_without_memory b q = unwrap_or (take_refusal b q) took.NoMemory
+
 -- the session has these limits, this journal and its stamps
 pub record IsSessionOf (b : Broker) (s : Session) : Type 0 where
   pub limits : s.limits ≡ b.limits
@@ -127,7 +132,7 @@ Answers limits before n (asks.Join role reader) after ask (answers.Joined r) =
 Answers limits before n (asks.Apply step) after ask (answers.Applied r) =
     Applies limits before n step after r
 Answers limits before n (asks.Take t) after (asks.Take u) (answers.Took r) =
-    Takes limits before n t.peer t.most u.bytes u.tokens after r
+    Takes limits before n t.peer t.most u.places.bytes.items u.places.tokens.items after r
 Answers limits before n asks.Copy after ask (answers.Copied r) = Copies limits before after r
 Answers limits before n (asks.Name m) after ask (answers.Named r) = after ≡ before
 Answers limits before n asks.HandOut after ask (answers.HandedOut r) = after ≡ before
@@ -157,3 +162,8 @@ is_made _ = false
 abbrev pub bytes_made : Answer → ℕ
 bytes_made (answers.Took (took.Bytes bytes tokens)) = bytes
 bytes_made _ = 0
+
+-- how many bytes and tokens a take took
+abbrev pub counts_of : Took → ℕ × ℕ
+counts_of (took.Bytes bytes tokens) = (bytes, tokens)
+counts_of _ = (0, 0)

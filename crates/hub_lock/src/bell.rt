@@ -1,6 +1,7 @@
 //! Bells, on which writers sleep until something is stored for their peers, and who records until
 //! there is an entry. No contract speaks of waking: that none sleeps for good is tested.
 use crate::rings::BELLS;
+use crossbeam_utils::CachePadded;
 use std::sync::Wait;
 use std::sync::atomic::{AtomicU64, Ordering};
 
@@ -34,16 +35,17 @@ impl Bell {
     }
 }
 
-/// A row of bells. A peer's is the one with its number modulo theirs.
+/// A row of bells. A peer's is the one with its number modulo theirs. What lies before and behind them,
+/// as the addresses that each turn reads, is on other lines of the cache.
 #[derive(Drop)]
 pub(crate) struct Bells {
-    row: [Bell; BELLS as usize],
+    row: CachePadded<[Bell; BELLS as usize]>,
 }
 
 impl Bells {
     pub fn new() -> Bells {
         Bells {
-            row: std::array::from_fn(|_| Bell::new()),
+            row: CachePadded::new(std::array::from_fn(|_| Bell::new())),
         }
     }
 

@@ -4,10 +4,12 @@ ghost use Rattle.hub_lock.specs.Asked.{joins_as_root};
 
 use crate::event::Note;
 use crate::given::is_given;
+use crate::room::Places;
 use crate::session::{NoSession, Session};
 use broker_core::{Applied, JoinRefusal, LetGo, Refused, Took};
 use relay_model::Role;
 use seat_steps::Step;
+use std::alloc::Global;
 use std::marker::Model;
 
 /// A step of a peer or of the shell.
@@ -86,13 +88,12 @@ impl Most {
     }
 }
 
-/// A take for the peer: so many bytes at most, into this room.
+/// A take for the peer: so many bytes at most, into these places. Without memory nothing is taken.
 #[derive(Drop)]
 pub struct Taking {
     pub peer: u32,
     pub most: Most,
-    pub bytes: [u8; 4096],
-    pub tokens: [u32; 256],
+    pub places: Places,
 }
 
 /// What is asked.
@@ -138,6 +139,22 @@ pub struct Reply {
     pub answer: Answer,
     pub rings: u64,
     pub entries: u32,
+}
+
+impl Ask {
+    ghost use Rattle.std.specs.Prelude.{◌≡◌};
+    ghost use Rattle.hub_lock.specs.declared.call.Ask.TheVariants as asks;
+    ghost use Rattle.hub_lock.specs.declared.call.Taking.{Taking};
+
+    /// The places of a take; there are none in another ask.
+    pub fn into_places(self, alloc: Global) -> Places
+        ensures { (t : Taking) → self ≡ asks.Take t → result ≡ t.places }
+    {
+        match self {
+            Ask::Take(taking) => taking.places,
+            _ => Places::none(alloc),
+        }
+    }
 }
 
 impl Answer {

@@ -7,14 +7,29 @@ ghost use Rattle.broker_core.specs.Broker.{IfBytes, IfNoBytes};
 ghost use Rattle.broker_core.specs.Taking.{out_at};
 ghost use Rattle.turn_lock.specs.Sights.{having_seen};
 ghost use Rattle.hub_lock.specs.Passes.{IsOf};
-ghost use Rattle.hub_lock.specs.Calls.{LegalStep, UnlessMemory, pass_having_seen, IsCopied, IsTake};
+ghost use Rattle.hub_lock.specs.Plays.{counts_of};
+ghost use Rattle.hub_lock.specs.Rooms.{nothing_taken};
+ghost use Rattle.hub_lock.specs.Calls.{LegalStep, UnlessMemory, pass_having_seen, IsCopied};
+ghost use Rattle.hub_lock.specs.Calls.{IsTake, IsTakeOut};
 
 use crate::call::{Answer, Applying, Ask, Call, Most, Taking};
 use crate::hub::Hub;
 use crate::pass::{ReaderPass, ShellPass, WriterPass};
+use crate::room::{MOST_BYTES, Room};
 use broker_core::{Applied, Refused, Took};
 use seat_steps::{PeerStep, ShellStep, Step};
+use std::mem::replace;
 use std::sync::Wait;
+
+// How many bytes and tokens were taken.
+fn counts_of(took: Took) -> (usize, usize)
+    ensures { result ≡ counts_of took }
+{
+    match took {
+        Took::Bytes(bytes, tokens) => (bytes, tokens),
+        _ => (0, 0),
+    }
+}
 
 impl Hub {
     /// Gives a step of the pass's peer.
@@ -37,9 +52,27 @@ impl Hub {
             (steps.Peer pass.old.peer step.now) result) }
         ensures joined { ¬ (result ≡ Err Refused.NoPeer) }
     {
-        let Some(step) = self.copied(step) else {
-            return Err(Refused::NoMemory);
-        };
+        match self.copied(step) {
+            Some(step) => self.submit_own(rt, pass, step),
+            None => Err(Refused::NoMemory),
+        }
+    }
+
+    /// As `submit`, of a step that is given away. Nothing is copied for the call, so that its turn
+    /// is taken in any case.
+    pub fn submit_own<R: Wait>(
+        &self,
+        rt: &R,
+        pass: &mut ReaderPass,
+        step: PeerStep,
+    ) -> Result<Applied, Refused>
+        requires own { IsOf self.now pass.old.seat }
+        requires step { IsPeerStep step }
+        ensures pass { pass.new ≡ pass_having_seen pass.old pass.new.seat.seen }
+        ensures legal { LegalStep self.now.limits pass.old.seat pass.new.seat.seen
+            (steps.Peer pass.old.peer step) result }
+        ensures joined { ¬ (result ≡ Err Refused.NoPeer) }
+    {
         let peer = pass.peer;
         let mut call = Call {
             number: pass.member.seat.number(),
@@ -111,29 +144,92 @@ impl Hub {
             tokens.new result }
         ensures joined { ¬ (result ≡ Took.NoPeer) }
     {
+        let room = replace(&mut pass.room, self.room());
+        let (took, room) = self.take_most(rt, pass, buf.len(), room);
+        let bytes = room.bytes();
+        let came = room.tokens();
+        buf[..bytes.len()].copy_from_slice(bytes);
+        tokens[..came.len()].copy_from_slice(came);
+        pass.room = room;
+        took
+    }
+
+    // As `take_into`, of so many bytes at most, and gives the room back.
+    fn take_most<R: Wait>(
+        &self,
+        rt: &R,
+        pass: &mut WriterPass,
+        most: usize,
+        room: Room,
+    ) -> (Took, Room)
+        requires own { IsOf self.now pass.old.seat }
+        requires most { (1 ≤ most) × (most ≤ 4096) }
+        ensures pass { pass.new ≡ pass_having_seen pass.old pass.new.seat.seen }
+        ensures legal { IsTakeOut self.now.limits pass.old pass.new most result.1 result.0 }
+        ensures few { (length result.1.bytes ≤ most) × (length result.1.tokens ≤ 256) }
+        ensures joined { ¬ (result.0 ≡ Took.NoPeer) }
+    {
+        let places = room.into_places().with_memory(self.alloc);
         let peer = pass.peer;
         let mut call = Call {
             number: pass.member.seat.number(),
             ask: Ask::Take(Taking {
                 peer,
-                most: Most::new(buf.len()),
-                bytes: [0; 4096],
-                tokens: [0; 256],
+                most: Most::new(most),
+                places,
             }),
         };
         let Answer::Took(took) = self.play_by(rt, &mut pass.member, &mut call) else {
             unreachable!()
         };
-        let Took::Bytes(count, places) = took else {
-            return took;
-        };
-        let Ask::Take(room) = &call.ask else {
-            unreachable!()
-        };
-        buf[..count].copy_from_slice(&room.bytes[..count]);
-        tokens[..places].copy_from_slice(&room.tokens[..places]);
-        pass.bytes += count as u64;
+        let Call { number: _, ask } = call;
+        let (bytes, tokens) = counts_of(took);
+        pass.bytes += bytes as u64;
+        (took, Room::of(ask.into_places(self.alloc), bytes, tokens))
+    }
+
+    /// A room for takes, in which nothing stands. Its memory is made at the first take. (no memory)
+    pub fn room(&self) -> Room
+        ensures { result ≡ nothing_taken }
+    {
+        Room::new(self.alloc)
+    }
+
+    /// As `take`, of up to 4,096 bytes into the room, which lends them with their tokens. After
+    /// another answer than `Bytes` nothing stands in it.
+    pub fn take_into<R: Wait>(&self, rt: &R, pass: &mut WriterPass, room: &mut Room) -> Took
+        requires own { IsOf self.now pass.old.seat }
+        ensures pass { pass.new ≡ pass_having_seen pass.old pass.new.seat.seen }
+        ensures legal { IsTakeOut self.now.limits pass.old pass.new 4096 room.new result }
+        ensures few { (length room.new.bytes ≤ 4096) × (length room.new.tokens ≤ 256) }
+        ensures joined { ¬ (result ≡ Took.NoPeer) }
+    {
+        let lent = replace(room, self.room());
+        let (took, taken) = self.take_most(rt, pass, MOST_BYTES, lent);
+        *room = taken;
         took
+    }
+
+    /// As `take_into`, and sleeps while there is nothing to take: it never answers `Empty`.
+    pub fn wait_take_into<R: Wait>(&self, rt: &R, pass: &mut WriterPass, room: &mut Room) -> Took
+        requires own { IsOf self.now pass.old.seat }
+        ensures pass { pass.new ≡ pass_having_seen pass.old pass.new.seat.seen }
+        ensures legal { IsTakeOut self.now.limits pass.old pass.new 4096 room.new result }
+        ensures few { (length room.new.bytes ≤ 4096) × (length room.new.tokens ≤ 256) }
+        ensures joined { ¬ (result ≡ Took.NoPeer) }
+        ensures waited { ¬ (result ≡ Took.Empty) }
+    {
+        let peer = pass.peer;
+        for _ in rt.forever() {
+            let heard = self.bells.heard(peer);
+            let answer = self.take_into(rt, pass, room);
+            if let Took::Empty = answer {
+                self.bells.wait_past(rt, peer, heard);
+            } else {
+                return answer;
+            }
+        }
+        unreachable!()
     }
 
     /// As `take`, and sleeps while there is nothing to take: it never answers `Empty`.

@@ -5,6 +5,7 @@ ghost use Rattle.hub_lock.specs.Passes.{journal_seen, steps_of, bytes_of};
 ghost use Rattle.hub_lock.specs.Passes.{total_steps, total_bytes, HasSeenLawful};
 
 use crate::noted_state::NotedState;
+use crate::room::Room;
 use broker_core::LetGo;
 use long_list::Past;
 use std::marker::Model;
@@ -59,6 +60,8 @@ pub struct WriterPass {
     pub(crate) member: Member,
     pub(crate) peer: u32,
     pub(crate) bytes: u64,
+    // Where takes into a caller's buffers put what they take, before it is copied.
+    pub(crate) room: Room,
 }
 
 impl Model for WriterPass {
@@ -276,6 +279,7 @@ impl Pass {
                     member,
                     peer: _,
                     bytes,
+                    room: _,
                 },
             ) => (member, bytes),
             Pass::Shell(ShellPass { member }) => (member, 0),

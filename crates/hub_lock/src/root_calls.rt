@@ -76,6 +76,7 @@ impl Hub {
                 member: writer,
                 peer,
                 bytes: 0,
+                room: self.room(),
             },
         ))
     }

@@ -1,5 +1,5 @@
 //! The value behind the lock: the shared state of all peers, and who their readers are.
-ghost use Rattle.std.specs.Prelude.{◌≡◌, ◌+◌, [], length, Some, None, Err, IfOk, IsTrue, IsSome, ◌↔◌, true};
+ghost use Rattle.std.specs.Prelude.{◌≡◌, ◌+◌, ◌≤◌, [], length, Some, None, Err, IfOk, IsTrue, IsSome, ◌↔◌, true};
 ghost use Rattle.turn_lock.specs.Pairs.{IsGrown};
 ghost use Rattle.seat_steps.specs.declared.step.Step.{Step};
 ghost use Rattle.seat_steps.specs.Ranges.{IsLimits, IsStep};
@@ -11,7 +11,7 @@ ghost use Rattle.hub_lock.specs.Steps.{IsGiven, Finds};
 ghost use Rattle.hub_lock.specs.Lawful.{IsShared, IsLawful, history_of};
 ghost use Rattle.hub_lock.specs.Bells.{IsRungBy};
 ghost use Rattle.hub_lock.specs.Plays.{IsOwn, MayAsk, Joins, Applies, Takes, Answers, Plays};
-ghost use Rattle.hub_lock.specs.Plays.{IsSessionOf};
+ghost use Rattle.hub_lock.specs.Plays.{IsSessionOf, took_without_memory};
 ghost use Rattle.hub_lock.specs.Events.{notes_in};
 ghost use Rattle.hub_lock.specs.Noted.{tally_in, note_of, IsNoted, Hands, HasHanded};
 ghost use Rattle.hub_lock.specs.declared.call.Ask.TheVariants as asks;
@@ -19,8 +19,10 @@ ghost use Rattle.hub_lock.specs.declared.call.Answer.TheVariants as answers;
 
 use crate::call::{Answer, Ask, Call, Reply, Taking};
 use crate::rings::Rings;
+use crate::room::Places;
 use crate::session::{NoSession, Session};
-use broker_core::{Applied, JoinRefusal, LetGo, Refused, Shared, Took};
+use broker_core::{Applied, JoinRefusal, LetGo, Refused, Shared, Standing, Took};
+use broker_model::Entry;
 use relay_model::Role;
 use seat_steps::{Limits, Stamp, Step};
 use std::alloc::Global;
@@ -209,13 +211,44 @@ impl HubState {
         Ok(applied)
     }
 
-    // Takes what is stored for a peer. A take of another pass than its writer's finds no peer.
-    fn take(&mut self, number: u64, room: &mut Taking, rings: &mut Rings) -> Took
+    // What a take answers for which there is no memory: why it is refused, or that memory lacks.
+    fn take_none(&self, peer: u32) -> Took
+        ensures { result ≡ took_without_memory self.now.broker peer }
+    {
+        let Some(stored) = self.shared.stored(peer) else {
+            return Took::NoPeer;
+        };
+        if stored == 0 {
+            return match self.shared.standing(peer) {
+                Standing::Over(_) => Took::Closed,
+                Standing::Alive | Standing::Nobody => Took::Empty,
+            };
+        }
+        let journal = self.shared.journal();
+        if journal.is_full(&self.limits, &Entry::Took { peer, bytes: 0 }) {
+            return Took::JournalFull(journal.kept());
+        }
+        Took::NoMemory
+    }
+
+    // Takes what is stored for a peer, so many bytes at most. A take of another pass than its
+    // writer's finds no peer.
+    fn take_into(
+        &mut self,
+        number: u64,
+        peer: u32,
+        most: usize,
+        bytes: &mut [u8],
+        tokens: &mut [u32],
+        rings: &mut Rings,
+    ) -> Took
+        requires most { (1 ≤ most) × (most ≤ 4096) }
+        requires bytes { length bytes.old ≡ 4096 }
+        requires tokens { length tokens.old ≡ 256 }
         ensures limits { self.new.broker.limits ≡ self.old.broker.limits }
-        ensures takes { writer_of (history_of self.old.broker self.old.readers) room.old.peer ≡
+        ensures takes { writer_of (history_of self.old.broker self.old.readers) peer ≡
             Some number → Takes self.old.broker.limits
-            (history_of self.old.broker self.old.readers) number room.old.peer room.old.most
-            room.new.bytes room.new.tokens
+            (history_of self.old.broker self.old.readers) number peer most bytes.new tokens.new
             (history_of self.new.broker self.new.readers) result }
         ensures grows { IsGrown number (history_of self.old.broker self.old.readers)
             (history_of self.new.broker self.new.readers) }
@@ -224,24 +257,52 @@ impl HubState {
         ensures recorder { self.new.recorder ≡ self.old.recorder }
     {
         let _entries = entries(&self.shared);
-        let peer = room.peer;
         if !self.is_writer(number, peer) {
             return Took::NoPeer;
         }
-        let most = room.most.bytes();
-        let mut tokens = [0; 256];
-        let took = self.shared.take_watched(
-            peer,
-            &mut room.bytes[..most],
-            &mut tokens,
-            stamp_by(number),
-            rings,
-        );
-        room.tokens = tokens;
+        let took = self
+            .shared
+            .take_watched(peer, &mut bytes[..most], tokens, stamp_by(number), rings);
         if let Took::Bytes(_, _) = took {
             self.steps += 1;
         }
         took
+    }
+
+    // As `take_into`, into places that may have no memory.
+    fn take(
+        &mut self,
+        number: u64,
+        peer: u32,
+        most: usize,
+        places: &mut Places,
+        rings: &mut Rings,
+    ) -> Took
+        requires most { (1 ≤ most) × (most ≤ 4096) }
+        ensures limits { self.new.broker.limits ≡ self.old.broker.limits }
+        ensures takes { writer_of (history_of self.old.broker self.old.readers) peer ≡
+            Some number → Takes self.old.broker.limits
+            (history_of self.old.broker self.old.readers) number peer most
+            places.new.bytes.items places.new.tokens.items
+            (history_of self.new.broker self.new.readers) result }
+        ensures grows { IsGrown number (history_of self.old.broker self.old.readers)
+            (history_of self.new.broker self.new.readers) }
+        ensures watched { IsWatched IsRungBy self.old.broker rings.old self.new.broker rings.new }
+        ensures kept { self.new.broker.kept_from ≡ self.old.broker.kept_from }
+        ensures recorder { self.new.recorder ≡ self.old.recorder }
+    {
+        let _entries = entries(&self.shared);
+        if !places.has_memory() {
+            return self.take_none(peer);
+        }
+        self.take_into(
+            number,
+            peer,
+            most,
+            &mut places.bytes,
+            &mut places.tokens,
+            rings,
+        )
     }
 
     // A copy of it all, where nothing was handed out.
@@ -323,7 +384,9 @@ impl HubState {
         match ask {
             Ask::Join(role, reader) => Answer::Joined(self.join(number, *role, *reader, rings)),
             Ask::Apply(applying) => Answer::Applied(self.apply(number, applying.step(), rings)),
-            Ask::Take(room) => Answer::Took(self.take(number, room, rings)),
+            Ask::Take(Taking { peer, most, places }) => {
+                Answer::Took(self.take(number, *peer, most.bytes(), places, rings))
+            }
             Ask::Copy => Answer::Copied(self.copy()),
             Ask::Name(recorder) => Answer::Named(self.name(number, *recorder)),
             Ask::HandOut => Answer::HandedOut(self.hand_out(number)),

@@ -7,7 +7,7 @@ use crate::equal::{equal, equal_at};
 use crate::link::{LIMITS, ask};
 use broker_core::{Applied, Refused, Took};
 use broker_model::StampList;
-use hub_lock::{Hub, HubPass, Pass, ReaderPass, Session, ShellPass, WriterPass};
+use hub_lock::{Hub, HubPass, Pass, ReaderPass, Room, Session, ShellPass, WriterPass};
 use relay_core::Route;
 use relay_model::{EndCause, Role};
 use seat_steps::{PeerStep, ShellStep};
@@ -50,6 +50,41 @@ fn wait_take<R: Wait>(rt: &R, hub: &Hub, pass: &mut WriterPass) -> Took
     hub.wait_take(rt, pass, &mut [0; 200], &mut [0; 256])
 }
 
+fn submit_own<R: Wait>(
+    rt: &R,
+    hub: &Hub,
+    pass: &mut ReaderPass,
+    step: PeerStep,
+) -> Result<Applied, Refused>
+    requires own { IsOf hub.now pass.old.seat }
+    requires step { IsPeerStep step }
+    ensures own { IsOf hub.now pass.new.seat }
+{
+    hub.submit_own(rt, pass, step)
+}
+
+// What a take answers, and how many bytes the room then lends.
+fn take_into<R: Wait>(rt: &R, hub: &Hub, pass: &mut WriterPass, room: &mut Room) -> (Took, usize)
+    requires own { IsOf hub.now pass.old.seat }
+    ensures own { IsOf hub.now pass.new.seat }
+{
+    let took = hub.take_into(rt, pass, room);
+    (took, room.bytes().len())
+}
+
+fn wait_take_into<R: Wait>(
+    rt: &R,
+    hub: &Hub,
+    pass: &mut WriterPass,
+    room: &mut Room,
+) -> (Took, usize)
+    requires own { IsOf hub.now pass.old.seat }
+    ensures own { IsOf hub.now pass.new.seat }
+{
+    let took = hub.wait_take_into(rt, pass, room);
+    (took, room.bytes().len())
+}
+
 fn order<R: Wait>(rt: &R, hub: &Hub, pass: &mut ShellPass) -> Result<Applied, Refused>
     requires own { IsOf hub.now pass.old }
     ensures own { IsOf hub.now pass.new }
@@ -85,7 +120,7 @@ fn ask_and_take<R: Abort + Wait>(
     Ok(())
 }
 
-// It asks again, under another id, and the writer waits for what is told.
+// It asks again, under another id, and the writer waits for what is told, and takes it into a room.
 fn ask_and_wait<R: Abort + Wait>(
     rt: &R,
     alloc: Global,
@@ -98,9 +133,16 @@ fn ask_and_wait<R: Abort + Wait>(
     ensures reads { IsOf hub.now reader.new.seat }
     ensures writes { IsOf hub.now writer.new.seat }
 {
+    let mut room = hub.room();
     let step = ask(alloc, 3)?;
-    equal(rt, submit(rt, hub, reader, &step), Ok(entry(4)));
-    equal(rt, wait_take(rt, hub, writer), Took::Bytes(112, 0));
+    equal(rt, submit_own(rt, hub, reader, step), Ok(entry(4)));
+    equal(
+        rt,
+        wait_take_into(rt, hub, writer, &mut room),
+        (Took::Bytes(112, 0), 112),
+    );
+    equal(rt, room.tokens().len(), 0);
+    equal(rt, take_into(rt, hub, writer, &mut room), (Took::Empty, 0));
     Ok(())
 }
 

@@ -6,7 +6,7 @@ use Rattle.hub_lock.specs.Passes.{PassSeat}
 use Rattle.hub_lock.specs.Calls.{LegalAsk}
 use Rattle.hub_lock.proofs.ReadersStay.{reader-stays}
 use Rattle.hub_lock.proofs.LegalCalls.{reader-after, step-finds}
-use Rattle.hub_lock.proofs.hub.Hub.submit.Goals as goal
+use Rattle.hub_lock.proofs.hub.Hub.submit_own.Goals as goal
 
 pub invariant_of-pass : goal.invariant_of-pass
 invariant_of-pass g c =
@@ -24,8 +24,8 @@ returns-clause-joined g c nobody =
     let k = subst
     (λ s. LegalAsk c.args.self.now.limits c.pass.inside.member c.play_by.new.member.seen c.pass.inside.member.number
     (asks.Apply s) c.play_by.new.call.ask (answers.Applied c.in-Applied.applied))
-    (c.new.ensures ∙ ap (λ q. steps.Peer q c.in-Some.step) same) c.in-Applied.ensures.legal in
-    step-finds c.args.self.now.limits _ c.pass.inside.member.number c.pass.inside.peer c.in-Some.step
+    (c.new.ensures ∙ ap (λ q. steps.Peer q c.args.step) same) c.in-Applied.ensures.legal in
+    step-finds c.args.self.now.limits _ c.pass.inside.member.number c.pass.inside.peer c.args.step
     c.play_by.new.member.seen
     c.in-Applied.applied k.lawful
     (reader-stays c.pass.inside.member.seen k.rest c.pass.inside.peer c.pass.inside.member.number
