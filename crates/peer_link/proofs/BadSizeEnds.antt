@@ -27,7 +27,6 @@ use Rattle.broker_model.proofs.LabelsRiseByNumber.{label_within, one_number}
 use Rattle.broker_model.proofs.SettlingEnds.{IsSettled, settles}
 use Rattle.broker_core.specs.declared.answers.Applied.{Applied}
 use Rattle.broker_core.specs.declared.answers.Refused.{Refused}
-use Rattle.broker_core.specs.declared.answers.Refused.TheVariants as refusals
 use Rattle.broker_core.specs.declared.taking.Standing.{Standing}
 use Rattle.broker_core.specs.declared.taking.Standing.TheVariants.{Nobody, Alive, Over}
 use Rattle.broker_core.specs.Broker.{Broker, peer_refusal}
@@ -38,7 +37,7 @@ use Rattle.broker_core.proofs.WhoIsAlive.{going}
 use Rattle.hub_lock.specs.Histories as histories
 use Rattle.hub_lock.specs.Histories.{History, broker_of}
 use Rattle.hub_lock.specs.Passes.{PeerPass}
-use Rattle.hub_lock.specs.Calls.{LegalStep, UnlessMemory, pass_having_seen}
+use Rattle.hub_lock.specs.Calls.{LegalStep, pass_having_seen}
 use Rattle.hub_lock.proofs.HistoriesGrow.{entries-more}
 use Rattle.peer_link.specs.Made.{journal_of}
 use Rattle.peer_link.specs.Submits.{HasEndedBad, EndedIfBad}
@@ -244,11 +243,9 @@ bad-size-ended limits a b head applied is k =
 -- an accepted step that was a header with a bad size
 pub ended-if-bad : (limits : Limits) (a b : PeerPass) (step : PeerStep) (applied : Applied) →
     b ≡ pass_having_seen a b.seat.seen
-    → UnlessMemory step ((b ≡ a) × (taken_as applied ≡ Err refusals.NoMemory))
-    (LegalStep limits a.seat b.seat.seen (steps.Peer a.peer step) (Ok applied))
+    → LegalStep limits a.seat b.seat.seen (steps.Peer a.peer step) (Ok applied)
     → EndedIfBad limits b step
 ended-if-bad limits a b (peers.Message id opcode body) applied is k = tt
 ended-if-bad limits a b (peers.Tokens tokens) applied is k = tt
 ended-if-bad limits a b peers.Gone applied is k = tt
-ended-if-bad limits a b (peers.BadSize head) applied is (inl k) = (let no = k.1 in absurd (cc))
-ended-if-bad limits a b (peers.BadSize head) applied is (inr k) = bad-size-ended limits a b head applied is k
+ended-if-bad limits a b (peers.BadSize head) applied is k = bad-size-ended limits a b head applied is k

@@ -24,12 +24,12 @@ use Rattle.broker_core.specs.Taking.{by_end, standing_in, standing_of}
 use Rattle.hub_lock.specs.Histories.{History, broker_of}
 use Rattle.hub_lock.specs.Passes.{PeerPass}
 use Rattle.hub_lock.specs.Plays.{Applies}
-use Rattle.hub_lock.specs.Calls.{LegalStep, UnlessMemory, pass_having_seen}
+use Rattle.hub_lock.specs.Calls.{LegalStep, pass_having_seen}
 use Rattle.peer_link.specs.declared.ends.ReadEnd.{ReadEnd}
 use Rattle.peer_link.specs.declared.ends.ReadEnd.TheVariants as ends
 use Rattle.peer_link.specs.Made.{entries_by, journal_of, SawMore}
 use Rattle.peer_link.specs.Submits.{WhyNot, Submits, IsGoneRefusal, IsRefusal}
-use Rattle.peer_link.proofs.StepsMade.{entries-same, entries-one, saw-none, saw-legal}
+use Rattle.peer_link.proofs.StepsMade.{entries-same, entries-one, saw-legal}
 use Rattle.peer_link.proofs.AtLimits.{at-limit, step-light}
 
 -- what the loop says of an answer
@@ -134,12 +134,6 @@ shell-full limits before n step after kept k =
 
 -- a call of a reader comes to a step that was made, or to why not
 
-pub unless : (step : PeerStep) (N P : Type 0) → UnlessMemory step N P → N ⊎ P
-unless (peers.Message id opcode body) N P k = k
-unless (peers.BadSize head) N P k = k
-unless (peers.Tokens tokens) N P k = k
-unless peers.Gone N P k = inr k
-
 why_by : (limits : Limits) (seen : History) (p : PeerPass) (step : PeerStep) (before : History) (n : ℕ) (why : Refused)
     → IsPeerStep step → p.seat.seen ≡ before → (why ≡ refusals.NoPeer → ⊥) →
     Applies limits before n (steps.Peer p.peer step) p.seat.seen (Err why)
@@ -162,14 +156,14 @@ why_by limits seen p step before n (refusals.JournalFull kept) i is other k = (
 )
 why_by limits seen p step before n refusals.NoMemory i is other k = (ends.NoMemory, refl, tt)
 
-submitted_by : (limits : Limits) (before after : PeerPass) (step : PeerStep) (r : Result Applied Refused)
+pub submitted : (limits : Limits) (before after : PeerPass) (step : PeerStep) (r : Result Applied Refused)
     → IsPeerStep step → after ≡ pass_having_seen before after.seat.seen → (r ≡ Err refusals.NoPeer → ⊥)
     → LegalStep limits before.seat after.seat.seen (steps.Peer before.peer step) r
     → Submits limits before after (peer_entry before.peer step ∷ []) (told r)
-submitted_by limits before after step (Ok applied) i is other k =
+submitted limits before after step (Ok applied) i is other k =
     ap (λ (p : PeerPass). entries_by p.seat) is
     ∙ entries-one before.seat k.rest after.seat.seen (peer_entry before.peer step) k.apart k.answer.applied
-submitted_by limits before after step (Err why) i is other k =
+submitted limits before after step (Err why) i is other k =
     let peer : after.peer ≡ before.peer = ap (λ (p : PeerPass). p.peer) is in
     let e = peer_entry before.peer step in
     let w = why_by limits after.seat.seen after step (before.seat.seen ++ k.rest) before.seat.number why i k.answer.same
@@ -188,42 +182,11 @@ submitted_by limits before after step (Err why) i is other k =
       why = subst (λ q. WhyNot limits after (peer_entry q step) w.0) peer w.2;
     })
 
-pub submitted : (limits : Limits) (before after : PeerPass) (step : PeerStep) (r : Result Applied Refused)
-    → IsPeerStep step → after ≡ pass_having_seen before after.seat.seen → (r ≡ Err refusals.NoPeer → ⊥)
-    → UnlessMemory step ((after ≡ before) × (r ≡ Err refusals.NoMemory))
-    (LegalStep limits before.seat after.seat.seen (steps.Peer before.peer step) r)
-    → Submits limits before after (peer_entry before.peer step ∷ []) (told r)
-submitted limits before after step r i is other legal = by (unless step _ _ legal)
-  where
-    by : ((after ≡ before) × (r ≡ Err refusals.NoMemory))
-        ⊎ LegalStep limits before.seat after.seat.seen (steps.Peer before.peer step) r
-        → Submits limits before after (peer_entry before.peer step ∷ []) (told r)
-    by (inl k) =
-        subst (λ (x : Result Applied Refused). Submits limits before after (peer_entry before.peer step ∷ []) (told x))
-        (sym k.1) (record {
-          made = [];
-          e = peer_entry before.peer step;
-          more = [];
-          steps_are = refl;
-          entries = ap (λ (p : PeerPass). entries_by p.seat) k.0 ∙ sym (append-nil (entries_by before.seat));
-          why = tt;
-        })
-    by (inr k) = submitted_by limits before after step r i is other k
-
 -- and the pass has seen more, or nothing
 pub saw-by : (limits : Limits) (before after : PeerPass) (step : PeerStep) (r : Result Applied Refused)
-    → UnlessMemory step ((after ≡ before) × (r ≡ Err refusals.NoMemory))
-    (LegalStep limits before.seat after.seat.seen (steps.Peer before.peer step) r)
+    → LegalStep limits before.seat after.seat.seen (steps.Peer before.peer step) r
     → SawMore limits before.seat.seen after.seat.seen
-saw-by limits before after step r legal = by (unless step _ _ legal)
-  where
-    by : ((after ≡ before) × (r ≡ Err refusals.NoMemory))
-        ⊎ LegalStep limits before.seat after.seat.seen (steps.Peer before.peer step) r
-        → SawMore limits before.seat.seen after.seat.seen
-    by (inl k) =
-        subst (λ (p : PeerPass). SawMore limits before.seat.seen p.seat.seen) (sym k.0)
-        (saw-none limits before.seat.seen)
-    by (inr k) = saw-legal limits before.seat after.seat.seen _ k
+saw-by limits before after step r legal = saw-legal limits before.seat after.seat.seen _ legal
 
 -- the end of a link
 
@@ -256,8 +219,7 @@ gone_not why end e other (inr k) =
 pub refusal-is : (limits : Limits) (before after : PeerPass) (step : PeerStep) (why : Refused) (end : ReadEnd) →
     told (Err why) ≡ Err end
     → (refused_as why ≡ refused_as refusals.NoPeer → ⊥)
-    → UnlessMemory step ((after ≡ before) × (refused_as why ≡ refused_as refusals.NoMemory))
-    (LegalStep limits before.seat after.seat.seen (steps.Peer before.peer step) (Err why))
+    → LegalStep limits before.seat after.seat.seen (steps.Peer before.peer step) (Err why)
     → IsRefusal step end
 refusal-is limits before after (peers.Message id opcode body) why end e other k = tt
 refusal-is limits before after (peers.BadSize head) why end e other k = tt

@@ -1,11 +1,11 @@
 -- What a take of a peer's writer comes to
-use Rattle.std.proofs.Common.{◌≡◌, ℕ, zero, suc, ◌+◌, ◌<◌, ◌≤◌, Bool, true, false, List, [], ◌∷◌, ◌++◌, length, map, take, drop, min, Option, Some, None, refl, sym, ap, ap₂, ◌∙◌, subst, inl, inr, arith, append_assoc, length-append, length-drop}
+use Rattle.std.proofs.Common.{◌≡◌, ℕ, zero, suc, ◌+◌, ◌<◌, ◌≤◌, Bool, true, false, List, [], ◌∷◌, ◌++◌, length, map, take, min, Option, Some, None, refl, sym, ap, ap₂, ◌∙◌, subst, inl, inr, arith, append_assoc, length-drop}
 use Rattle.std.specs.Prelude.{if◌then◌else◌, ◌==◌, sum, option_map, IfSome, IfNone}
 use Rattle.std.specs.List.{AllByRecursion}
 use Rattle.std.specs.Io.KnownBytes.{Appends}
 use Rattle.std.proofs.KnownBytes.{Appends-trans}
 use Rattle.std.proofs.lemmas.Bool.{eqb-true}
-use Rattle.std.proofs.lemmas.List.{map-append, length-take-le, length-map, take_at}
+use Rattle.std.proofs.lemmas.List.{map-append}
 use Rattle.std.proofs.lemmas.List.Sums.{sum_by-cons, sum_by-append}
 use Rattle.relay_model.specs.declared.act.EndCause.{EndCause}
 use Rattle.seat_steps.specs.declared.limits.Limits.{Limits}
@@ -14,24 +14,23 @@ use Rattle.wl_wire.specs.Messages.{joined}
 use Rattle.broker_model.specs.declared.journal.Entry.{Entry}
 use Rattle.broker_model.specs.declared.journal.Entry.TheVariants as entries
 use Rattle.broker_model.specs.declared.journal.Kept.{Kept}
-use Rattle.broker_model.specs.Groups.{Token}
 use Rattle.broker_model.specs.Ids.{Joined, peer_at}
 use Rattle.broker_model.specs.Resolve.{past_of}
-use Rattle.broker_model.specs.Out.{Outgoing, stored, tokens_taken, out_for}
+use Rattle.broker_model.specs.Out.{Outgoing, stored, out_for}
 use Rattle.broker_model.specs.Settle.{settle, history}
 use Rattle.broker_core.specs.declared.answers.Took.{Took}
 use Rattle.broker_core.specs.declared.answers.Took.TheVariants as took
 use Rattle.broker_core.specs.Broker.{Broker, full_in, full_for, nothing_left, take_refusal_from, IfBytes, IfNoBytes, IsBytesUnlessMemory}
 use Rattle.broker_core.specs.Stands.{end_of}
-use Rattle.broker_core.specs.Taking.{out_at, IsTaken}
+use Rattle.broker_core.specs.Taking.{out_at}
 use Rattle.turn_lock.specs.Pairs.{NoneOf}
 use Rattle.hub_lock.specs.Histories.{History, broker_of, writer_of, only}
 use Rattle.hub_lock.specs.Lawful.{IsLawful}
 use Rattle.hub_lock.specs.Passes.{PeerPass}
-use Rattle.hub_lock.specs.Calls.{IsTake, pass_having_seen}
+use Rattle.hub_lock.specs.Rooms.{Taken}
+use Rattle.hub_lock.specs.Calls.{AreFirstOut, IsTakeOut, pass_having_seen}
 use Rattle.hub_lock.proofs.HistoriesGrow.{entries-more}
 use Rattle.hub_lock.proofs.ReadersStay.{writer-stays}
-use Rattle.hub_lock.proofs.LegalCalls.{writer-joined}
 use Rattle.desc_frame.specs.Frames.{Frame, frame, spelling}
 use Rattle.peer_link.specs.declared.ends.TakeEnd.{TakeEnd}
 use Rattle.peer_link.specs.declared.ends.TakeEnd.TheVariants as takes
@@ -137,10 +136,10 @@ full-is b q out kept a = by (length (stored out) == 0) a
 
 -- of a call of the pass
 
-module _ (limits : Limits) (pass pass' : PeerPass) (buf places buf' places' : List ℕ) (r : Took)
+module _ (limits : Limits) (pass pass' : PeerPass) (lent : Taken) (r : Took)
     (is : pass' ≡ pass_having_seen pass pass'.seat.seen)
     (w : writer_of pass.seat.seen pass.peer ≡ Some pass.seat.number)
-    (k : IsTake limits pass pass' buf places buf' places' r) where
+    (k : IsTakeOut limits pass pass' 4096 lent r) where
   abbrev turn : History
   turn = pass.seat.seen ++ k.rest
 
@@ -270,7 +269,7 @@ module _ (limits : Limits) (pass pass' : PeerPass) (buf places buf' places' : Li
     pub front : sum (sizes ++ n ∷ []) ≤ length out.put.bytes
     pub taken : out.taken ≡ sum (sizes ++ n ∷ [])
     pub frames : frames_of out.put (sizes ++ n ∷ [])
-        ≡ frames_of out.put sizes ++ frame (take n buf') (take t places') ∷ []
+        ≡ frames_of out.put sizes ++ frame lent.bytes lent.tokens ∷ []
     pub gained : Gained (map spelling (frames_of out.put sizes))
 
   sum-more : (xs : List ℕ) (n : ℕ) → sum (xs ++ n ∷ []) ≡ sum xs + n
@@ -285,14 +284,11 @@ module _ (limits : Limits) (pass pass' : PeerPass) (buf places buf' places' : Li
   each-more (x ∷ xs) n a i = (a.0, each-more xs n a.1 i)
 
   taken-here : (n t : ℕ) → r ≡ took.Bytes n t → (peer : Joined) → peer_at (past_of journal) pass.peer ≡ Some peer
-      → IsTaken (out_by peer) journal pass.peer buf places (n, t) buf' places' (entries.Took pass.peer n ∷ journal)
+      → AreFirstOut (out_by peer) 4096 lent (n, t)
   taken-here n t e peer there =
-      let some = subst
-      (λ (o : Option Outgoing). IfSome o
-      (λ out. IfBytes r (λ counts. IsTaken out journal pass.peer buf places counts buf' places'
-      (entries.Took pass.peer counts.0 ∷ journal)))) (out-here peer there) k.answer.bytes in
-      subst (λ (x : Took). IfBytes x (λ counts. IsTaken (out_by peer) journal pass.peer buf places counts buf' places'
-      (entries.Took pass.peer counts.0 ∷ journal))) e some
+      let some = subst (λ (o : Option Outgoing). IfSome o (λ out. IfBytes r (AreFirstOut out 4096 lent)))
+      (out-here peer there) k.answer.out in
+      subst (λ (x : Took). IfBytes x (AreFirstOut (out_by peer) 4096 lent)) e some
 
   longer-here : (n t : ℕ) → r ≡ took.Bytes n t →
       pass'.seat.seen ≡ turn ++ (pass.seat.number, only (entries.Took pass.peer n)) ∷ []
@@ -301,25 +297,20 @@ module _ (limits : Limits) (pass pass' : PeerPass) (buf places buf' places' : Li
       (λ counts. pass'.seat.seen ≡ turn ++ (pass.seat.number, only (entries.Took pass.peer counts.0)) ∷ [])) e
       k.answer.taken
 
-  frame-here : (n t : ℕ) (o : Outgoing) →
-      IsTaken o journal pass.peer buf places (n, t) buf' places' (entries.Took pass.peer n ∷ journal)
-      → n ≤ length (stored o) → frame_at o.put o.taken n ≡ frame (take n buf') (take t places')
-  frame-here n t o i le =
-      ap₂ (λ (bs : List ℕ) (ts : List ℕ). frame bs ts)
-      (sym (ap (take n) i.bytes ∙ take_at (take n (stored o)) (drop n buf) n (length-take-le n (stored o) le)))
-      (sym (ap (take t) i.tokens ∙ take_at (map (λ (t : Token). t.token) (tokens_taken n o)) (drop t places) t
-      (length-map (tokens_taken n o) (λ (t : Token). t.token) ∙ sym i.token_count)))
+  frame-here : (n t : ℕ) (o : Outgoing) → AreFirstOut o 4096 lent (n, t)
+      → frame_at o.put o.taken n ≡ frame lent.bytes lent.tokens
+  frame-here n t o i = ap₂ (λ (bs : List ℕ) (ts : List ℕ). frame bs ts) (sym i.bytes) (sym i.tokens)
 
-  one-more : (Gained : List (List ℕ) → Type 0) (n t : ℕ) → r ≡ took.Bytes n t → length buf ≡ 4096 →
+  one-more : (Gained : List (List ℕ) → Type 0) (n t : ℕ) → r ≡ took.Bytes n t →
       Before limits pass turn Gained → OneMore Gained n t
-  one-more Gained n t e size b =
+  one-more Gained n t e b =
       let peer = b.stands.peer in
       let o : Outgoing = out_by peer in
       let i = taken-here n t e peer b.stands.there in
       let longer = longer-here n t e in
       let some = bytes-some (broker_of limits turn) pass.peer o n t
       (subst (λ (x : Took). IsAnswer (broker_of limits turn) pass.peer o x) e (answer-here peer b.stands.there)) in
-      let count : n ≡ min 4096 (length (stored o)) = i.count ∙ ap (λ m. min m (length (stored o))) size in
+      let count : n ≡ min 4096 (length (stored o)) = i.count in
       let few : IsWithin 4096 n = (grind (arith, count, some), grind (arith, count)) in
       let less : n ≤ length (stored o) = grind (arith, count) in
       let J' : List Entry = settle limits.store (entries.Took pass.peer n ∷ journal) in
@@ -356,23 +347,23 @@ module _ (limits : Limits) (pass pass' : PeerPass) (buf places buf' places' : Li
             ∙ ap (λ (f : Frame). frames_of o'.put b.sizes ++ f ∷ [])
             (frame-stays o.put o'.put (0 + sum b.sizes) n goes.put fits
             ∙ ap (λ m. frame_at o.put m n) {x = 0 + sum b.sizes} {y = o.taken} (omega (arith, at))
-            ∙ frame-here n t o i less);
+            ∙ frame-here n t o i);
         gained = subst (λ (fs : List Frame). Gained (map spelling fs))
             (sym (frames-stay o.put o'.put 0 b.sizes goes.put (omega (arith, front)))) b.stands.gained;
       }
 
-  abbrev piece : ℕ → ℕ → List ℕ
-  piece n t = spelling (frame (take n buf') (take t places'))
+  abbrev piece : List ℕ
+  piece = spelling (frame lent.bytes lent.tokens)
 
   pieces-more : (Gained : List (List ℕ) → Type 0) (n t : ℕ) (m : OneMore Gained n t)
-      → map spelling (frames_of m.out.put (m.sizes ++ n ∷ [])) ≡ map spelling (frames_of m.out.put m.sizes) ++ piece n t ∷ []
+      → map spelling (frames_of m.out.put (m.sizes ++ n ∷ [])) ≡ map spelling (frames_of m.out.put m.sizes) ++ piece ∷ []
   pieces-more Gained n t m =
       ap (map spelling) m.frames
-      ∙ map-append spelling (frames_of m.out.put m.sizes) (frame (take n buf') (take t places') ∷ [])
+      ∙ map-append spelling (frames_of m.out.put m.sizes) (frame lent.bytes lent.tokens ∷ [])
 
   -- it was taken, and this was gained of it
   taken-so : (Gained Gained' : List (List ℕ) → Type 0) (n t : ℕ) (m : OneMore Gained n t)
-      → Gained' (map spelling (frames_of m.out.put m.sizes) ++ piece n t ∷ []) → HasTaken limits pass' Gained'
+      → Gained' (map spelling (frames_of m.out.put m.sizes) ++ piece ∷ []) → HasTaken limits pass' Gained'
   taken-so Gained Gained' n t m gained = record {
     sizes = m.sizes ++ n ∷ [];
     each = m.each;
@@ -384,91 +375,48 @@ module _ (limits : Limits) (pass pass' : PeerPass) (buf places buf' places' : Li
     gained = subst Gained' (sym (pieces-more Gained n t m)) gained;
   }
 
-  pub wrote : (held now now' : Option (List ℕ)) (n t : ℕ) → r ≡ took.Bytes n t → length buf ≡ 4096 →
-      Writing limits pass held now → Appends now now' (piece n t)
+  pub wrote : (held now now' : Option (List ℕ)) (n t : ℕ) → r ≡ took.Bytes n t →
+      Writing limits pass held now → Appends now now' piece
       → Writing limits pass' held now'
-  wrote held now now' n t e size s a =
-      let m = one-more (AllGained held now) n t e size (writing held now s) in
+  wrote held now now' n t e s a =
+      let m = one-more (AllGained held now) n t e (writing held now s) in
       let before : List (List ℕ) = map spelling (frames_of m.out.put m.sizes) in
       inr (taken-so (AllGained held now) (AllGained held now') n t m
-      (subst (Appends held now') (sym (joined-more before (piece n t)))
-      (Appends-trans held now now' (joined before) (piece n t) m.gained a)))
+      (subst (Appends held now') (sym (joined-more before piece))
+      (Appends-trans held now now' (joined before) piece m.gained a)))
 
-  pub wrote-part : (held now now' : Option (List ℕ)) (n t part : ℕ) → r ≡ took.Bytes n t → length buf ≡ 4096 →
-      Writing limits pass held now → part < length (piece n t) → Appends now now' (take part (piece n t))
+  pub wrote-part : (held now now' : Option (List ℕ)) (n t part : ℕ) → r ≡ took.Bytes n t →
+      Writing limits pass held now → part < length piece → Appends now now' (take part piece)
       → Draining limits pass' held now'
-  wrote-part held now now' n t part e size s short a =
-      let m = one-more (AllGained held now) n t e size (writing held now s) in
+  wrote-part held now now' n t part e s short a =
+      let m = one-more (AllGained held now) n t e (writing held now s) in
       let before : List (List ℕ) = map spelling (frames_of m.out.put m.sizes) in
       taken-so (AllGained held now) (GainsUpToCut held now') n t m (record {
         before = before;
-        cut = piece n t;
+        cut = piece;
         later = [];
         pieces_are = refl;
         count = part;
         short = short;
-        gained = Appends-trans held now now' (joined before) (take part (piece n t)) m.gained a;
+        gained = Appends-trans held now now' (joined before) (take part piece) m.gained a;
       })
 
   -- it was taken, and not written
-  pub left-out : (held now : Option (List ℕ)) (n t : ℕ) → r ≡ took.Bytes n t → length buf ≡ 4096 →
+  pub left-out : (held now : Option (List ℕ)) (n t : ℕ) → r ≡ took.Bytes n t →
       Draining limits pass held now → Draining limits pass' held now
-  left-out held now n t e size s =
-      let m = one-more (GainsUpToCut held now) n t e size (draining held now s) in
+  left-out held now n t e s =
+      let m = one-more (GainsUpToCut held now) n t e (draining held now s) in
       let g = m.gained in
       taken-so (GainsUpToCut held now) (GainsUpToCut held now) n t m (record {
         before = g.before;
         cut = g.cut;
-        later = g.later ++ piece n t ∷ [];
-        pieces_are = ap (λ (ps : List (List ℕ)). ps ++ piece n t ∷ []) g.pieces_are
-            ∙ append_assoc g.before (g.cut ∷ g.later) (piece n t ∷ []);
+        later = g.later ++ piece ∷ [];
+        pieces_are = ap (λ (ps : List (List ℕ)). ps ++ piece ∷ []) g.pieces_are
+            ∙ append_assoc g.before (g.cut ∷ g.later) (piece ∷ []);
         count = g.count;
         short = g.short;
         gained = g.gained;
       })
-
--- a take's counts are within a frame's limits
-
-pub record IsSized (n t : ℕ) (bytes tokens : List ℕ) : Type 0 where
-  pub some : 1 ≤ n
-  pub few : n ≤ 4096
-  pub tokens_few : t ≤ 256
-
-pub sized : (limits : Limits) (pass pass' : PeerPass) (buf places buf' places' : List ℕ) (r : Took) (n t : ℕ)
-    → IsTake limits pass pass' buf places buf' places' r → writer_of pass.seat.seen pass.peer ≡ Some pass.seat.number
-    → r ≡ took.Bytes n t → length buf ≡ 4096 → length places ≡ 256 → length places' ≡ 256 → IsSized n t buf' places'
-sized limits pass pass' buf places buf' places' r n t k w e size room room' =
-    let turn : History = pass.seat.seen ++ k.rest in
-    let J : List Entry = journal_of limits turn in
-    let w_now = writer-stays pass.seat.seen k.rest pass.peer pass.seat.number w in
-    let p = writer-joined limits turn pass.peer pass.seat.number k.lawful w_now in
-    let o : Outgoing = out_for limits.store J p.0.label in
-    let out : out_at limits.store J pass.peer ≡ Some o =
-    ap (option_map (λ (peer : Joined). out_for limits.store J peer.label)) p.1 in
-    let some = subst
-    (λ (o : Option Outgoing). IfSome o
-    (λ out. IfBytes r (λ counts. IsTaken out J pass.peer buf places counts buf' places'
-    (entries.Took pass.peer counts.0 ∷ J)))) out k.answer.bytes in
-    let i = subst (λ (x : Took). IfBytes x (λ counts. IsTaken o J pass.peer buf places counts buf' places'
-    (entries.Took pass.peer counts.0 ∷ J))) e some in
-    let a : IsAnswer (broker_of limits turn) pass.peer o r = (
-      subst (λ (o : Option Outgoing). IfSome (take_refusal_from (broker_of limits turn) pass.peer o) (λ why. r ≡ why))
-          out k.answer.refused,
-      subst (λ (o : Option Outgoing). IfNone (take_refusal_from (broker_of limits turn) pass.peer o)
-          (IsBytesUnlessMemory r)) out k.answer.accepted,
-    ) in
-    let full = bytes-some (broker_of limits turn) pass.peer o n t
-    (subst (λ (x : Took). IsAnswer (broker_of limits turn) pass.peer o x) e a) in
-    let count : n ≡ min 4096 (length (stored o)) = i.count ∙ ap (λ m. min m (length (stored o))) size in
-    let tokens = ap length i.tokens in
-    let sum = length-append (map (λ (t : Token). t.token) (tokens_taken n o)) (drop t places) in
-    let each = length-map (tokens_taken n o) (λ (t : Token). t.token) in
-    let c = i.token_count in
-    record {
-      some = grind (arith, count, full);
-      few = grind (arith, count);
-      tokens_few = omega (arith, tokens, sum, each, c, room');
-    }
 
 -- the pass stays its peer's writer
 pub writes-on : (limits : Limits) (a b : PeerPass) → b ≡ pass_having_seen a b.seat.seen →

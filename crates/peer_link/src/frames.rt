@@ -42,7 +42,7 @@ fn submit_tokens<R: Wait, G: Gate>(
     let Ok(list) = TokenList::from_slice(alloc, tokens) else {
         return Err(ReadEnd::NoMemory);
     };
-    submit_step(rt, hub, pass, gate, &PeerStep::Tokens(list))
+    submit_step(rt, hub, pass, gate, PeerStep::Tokens(list))
 }
 
 // Submits the steps of a frame: its tokens, where it has any, and then each message, and the bad

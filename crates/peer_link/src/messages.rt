@@ -28,7 +28,7 @@ pub(crate) enum Ahead {
     Nothing,
 }
 
-// A whole message. Its body is copied once, into the step.
+// A whole message. Its body is copied once, into the step, which the hub takes over.
 fn submit_message<R: Wait, G: Gate>(
     rt: &R,
     alloc: Global,
@@ -53,7 +53,7 @@ fn submit_message<R: Wait, G: Gate>(
         opcode: message.opcode,
         body,
     };
-    submit_step(rt, hub, pass, gate, &step)
+    submit_step(rt, hub, pass, gate, step)
 }
 
 // The header of a bad size, which ends the peer.
@@ -72,7 +72,7 @@ fn submit_bad_size<R: Wait, G: Gate>(
         (entries.BadSize pass.old.peer head ∷ []) result }
     ensures ended { OnOk result (HasEndedBad hub.now.limits pass.new) }
 {
-    submit_step(rt, hub, pass, gate, &PeerStep::BadSize { head })
+    submit_step(rt, hub, pass, gate, PeerStep::BadSize { head })
 }
 
 /// Submits each message, and the bad size, that the piece completes behind the bytes that wait for

@@ -133,7 +133,7 @@ fn say_gone<R: Wait, G: Gate>(
     if let ReadEnd::Ended(_) = end {
         return end;
     }
-    match submit_step(rt, hub, pass, gate, &PeerStep::Gone) {
+    match submit_step(rt, hub, pass, gate, PeerStep::Gone) {
         Ok(()) => end,
         Err(other) => other,
     }

@@ -4,7 +4,7 @@ ghost use Rattle.seat_steps.specs.declared.step.Step.TheVariants as steps;
 ghost use Rattle.broker_core.specs.Broker.{peer_entry};
 ghost use Rattle.seat_steps.specs.Ranges.{IsPeerStep};
 ghost use Rattle.hub_lock.specs.Passes.{IsOf};
-ghost use Rattle.hub_lock.specs.Calls.{LegalStep, UnlessMemory, pass_having_seen};
+ghost use Rattle.hub_lock.specs.Calls.{LegalStep, pass_having_seen};
 ghost use Rattle.peer_link.specs.Made.{SawMore};
 ghost use Rattle.peer_link.specs.Submits.{Submits, EndedIfBad, IsRefusal};
 
@@ -20,21 +20,19 @@ fn submit_gated<R: Wait, G: Gate>(
     hub: &Hub,
     pass: &mut ReaderPass,
     gate: &G,
-    step: &PeerStep,
+    step: PeerStep,
 ) -> Result<Applied, Refused>
     requires own { IsOf hub.now pass.old.seat }
-    requires step { IsPeerStep step.now }
+    requires step { IsPeerStep step }
     ensures pass { pass.new ≡ pass_having_seen pass.old pass.new.seat.seen }
-    ensures legal { UnlessMemory step.now
-        ((pass.new ≡ pass.old) × (result ≡ Err Refused.NoMemory))
-        (LegalStep hub.now.limits pass.old.seat pass.new.seat.seen
-        (steps.Peer pass.old.peer step.now) result) }
+    ensures legal { LegalStep hub.now.limits pass.old.seat pass.new.seat.seen
+        (steps.Peer pass.old.peer step) result }
     ensures joined { ¬ (result ≡ Err Refused.NoPeer) }
 {
     let peer = pass.peer();
     let number = pass.steps().saturating_add(1);
     gate.before(peer, number);
-    let answer = hub.submit(rt, pass, step);
+    let answer = hub.submit_own(rt, pass, step);
     gate.after(peer, number);
     answer
 }
@@ -45,16 +43,16 @@ pub(crate) fn submit_step<R: Wait, G: Gate>(
     hub: &Hub,
     pass: &mut ReaderPass,
     gate: &G,
-    step: &PeerStep,
+    step: PeerStep,
 ) -> Result<(), ReadEnd>
     requires own { IsOf hub.now pass.old.seat }
-    requires step { IsPeerStep step.now }
+    requires step { IsPeerStep step }
     ensures pass { pass.new ≡ pass_having_seen pass.old pass.new.seat.seen }
     ensures saw { SawMore hub.now.limits pass.old.seat.seen pass.new.seat.seen }
     ensures made { Submits hub.now.limits pass.old pass.new
-        (peer_entry pass.old.peer step.now ∷ []) result }
-    ensures ended { OnOk result (EndedIfBad hub.now.limits pass.new step.now) }
-    ensures refusal { IfErr result (IsRefusal step.now) }
+        (peer_entry pass.old.peer step ∷ []) result }
+    ensures ended { OnOk result (EndedIfBad hub.now.limits pass.new step) }
+    ensures refusal { IfErr result (IsRefusal step) }
 {
     match submit_gated(rt, hub, pass, gate, step) {
         Ok(_) => Ok(()),

@@ -10,7 +10,7 @@ ghost use Rattle.peer_link.specs.Written.{Draining, DrainsOn};
 
 use crate::ends::TakeEnd;
 use broker_core::Took;
-use hub_lock::{Hub, WriterPass};
+use hub_lock::{Hub, Room, WriterPass};
 use std::sync::Wait;
 
 // Takes once.
@@ -18,8 +18,7 @@ fn take_next<R: Wait>(
     rt: &R,
     hub: &Hub,
     pass: &mut WriterPass,
-    bytes: &mut [u8; 4096],
-    tokens: &mut [u32; 256],
+    room: &mut Room,
 ) -> Result<(), TakeEnd>
     requires own { IsOf hub.now pass.old.seat }
     requires writes { writer_of pass.old.seat.seen pass.old.peer ≡ Some pass.old.seat.number }
@@ -29,7 +28,7 @@ fn take_next<R: Wait>(
         → Draining hub.now.limits pass.old held now
         → DrainsOn hub.now.limits pass.new held now result }
 {
-    match hub.wait_take(rt, pass, bytes, tokens) {
+    match hub.wait_take_into(rt, pass, room) {
         Took::Bytes(_, _) => Ok(()),
         Took::Closed => Err(TakeEnd::Closed),
         Took::JournalFull(kept) => Err(TakeEnd::JournalFull(kept)),
@@ -44,8 +43,7 @@ pub(crate) fn take_rest<R: Wait>(
     rt: &R,
     hub: &Hub,
     pass: &mut WriterPass,
-    bytes: &mut [u8; 4096],
-    tokens: &mut [u32; 256],
+    room: &mut Room,
 ) -> TakeEnd
     requires own { IsOf hub.now pass.old.seat }
     requires writes { writer_of pass.old.seat.seen pass.old.peer ≡ Some pass.old.seat.number }
@@ -56,7 +54,7 @@ pub(crate) fn take_rest<R: Wait>(
         → WritesPeer hub.now.limits pass.new held now (ends.WriteFault result) }
 {
     for _ in rt.forever() {
-        if let Err(end) = take_next(rt, hub, pass, bytes, tokens) {
+        if let Err(end) = take_next(rt, hub, pass, room) {
             return end;
         }
     }

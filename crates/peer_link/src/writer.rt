@@ -13,7 +13,7 @@ use crate::ends::WriteEnd;
 use crate::taking::take_rest;
 use broker_core::Took;
 use desc_frame::FrameWriter;
-use hub_lock::{Hub, WriterPass};
+use hub_lock::{Hub, Room, WriterPass};
 use std::sync::Wait;
 use wio_core::{Failed, Sink};
 
@@ -23,8 +23,7 @@ fn write_next<R: Wait, K: Sink>(
     hub: &Hub,
     pass: &mut WriterPass,
     sink: &mut K,
-    bytes: &mut [u8; 4096],
-    tokens: &mut [u32; 256],
+    room: &mut Room,
 ) -> Result<(), WriteEnd>
     requires own { IsOf hub.now pass.old.seat }
     requires writes { writer_of pass.old.seat.seen pass.old.peer ≡ Some pass.old.seat.number }
@@ -40,10 +39,10 @@ fn write_next<R: Wait, K: Sink>(
     ensures no_fault { has_failed result ≡ false
         → K.fault_count sink.new ≡ K.fault_count sink.old }
 {
-    match hub.wait_take(rt, pass, bytes, tokens) {
-        Took::Bytes(n, t) => match FrameWriter::put(sink, &bytes[..n], &tokens[..t]) {
+    match hub.wait_take_into(rt, pass, room) {
+        Took::Bytes(_, _) => match FrameWriter::put(sink, room.bytes(), room.tokens()) {
             Ok(()) => Ok(()),
-            Err(Failed) => Err(WriteEnd::WriteFault(take_rest(rt, hub, pass, bytes, tokens))),
+            Err(Failed) => Err(WriteEnd::WriteFault(take_rest(rt, hub, pass, room))),
         },
         Took::Closed => Err(WriteEnd::Closed),
         Took::JournalFull(kept) => Err(WriteEnd::JournalFull(kept)),
@@ -84,10 +83,9 @@ pub fn write_peer<R: Wait, K: Sink>(
 {
     // Whose writer the pass is, its contract tells with the number.
     let _ = pass.peer();
-    let mut bytes = [0; 4096];
-    let mut tokens = [0; 256];
+    let mut room = hub.room();
     for _ in rt.forever() {
-        if let Err(end) = write_next(rt, hub, pass, sink, &mut bytes, &mut tokens) {
+        if let Err(end) = write_next(rt, hub, pass, sink, &mut room) {
             return end;
         }
     }
