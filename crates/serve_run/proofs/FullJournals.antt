@@ -1,5 +1,5 @@
 -- Where the status is a full journal, the journal is at its limit
-use Rattle.std.proofs.Common.{◌≡◌, ◌⊎◌, inl, inr, ⊎_elim, ◌+◌, ◌≤◌, ◌++◌, ◌∷◌, [], ℕ, Bool, true, false, List, Option, Some, None, Result, Ok, Err, IfSome, IfNone, refl, sym, ap, ◌∙◌, subst, arith}
+use Rattle.std.proofs.Common.{◌≡◌, ◌⊎◌, inl, inr, ⊎_elim, ◌+◌, ◌∷◌, [], ℕ, Bool, true, false, List, Option, Some, None, Result, Ok, Err, IfSome, IfNone, refl, sym, ◌∙◌, subst, arith}
 use Rattle.std.specs.Prelude.{◌||◌, nat_le, nat_lt, if◌then◌else◌, option_map}
 use Rattle.std.proofs.lemmas.Bool.{le-leb, leb-true, lt-ltb, ltb-true}
 use mathlib.Core.Logic.{∥∥₁_elim}
@@ -31,7 +31,7 @@ use Rattle.serve_run.specs.declared.stop.Stop.TheVariants as stops
 use Rattle.serve_run.specs.declared.stop.Trouble.{Trouble}
 use Rattle.serve_run.specs.declared.stop.Trouble.TheVariants as troubles
 use Rattle.serve_run.specs.LinkJobs.{role_at}
-use Rattle.serve_run.specs.Refused.{stopped, stop_of, HasMet, WasRefused, IsRefusedAt, JoinedUnless}
+use Rattle.serve_run.specs.Refused.{stopped, stop_of, HasMet, WasRefused, JoinedUnless}
 use Rattle.serve_run.specs.Reported.{IsSeatOf, LawOf, HaveLaws}
 use Rattle.serve_run.specs.Statuses.{brought_by, worse, worst_from, worst, status_by}
 

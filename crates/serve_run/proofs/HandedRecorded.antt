@@ -15,7 +15,7 @@ use Rattle.serve_record.specs.Lines.{GainsFront}
 use Rattle.serve_record.specs.Handed.{handed_text}
 use Rattle.serve_record.proofs.RecordGrows.{front_of}
 use Rattle.serve_record.proofs.HandedText.{handed-front, handed-whole}
-use Rattle.serve_run.specs.Written.{HoldsHanded, EndsHanded, IsRecorded, AreAllHanded}
+use Rattle.serve_run.specs.Written.{EndsHanded, IsRecorded, AreAllHanded}
 
 module _ (limits : Limits) (held after : Option (List ℕ)) (h g f : History) (handed : List LetGo)
     (front : AreOldest (broker_of limits h) handed) (more : History) (is : f ≡ h ++ more)

@@ -1,25 +1,11 @@
 -- What a run begins with
-use Rattle.std.proofs.Common.{◌≡◌, ◌-◌, ◌<◌, ◌≤◌, ◌++◌, ◌∷◌, [], ℕ, zero, suc, List, length, get_or, Option, Some, None, Result, Ok, refl, sym, ap, ◌∙◌, subst, arith, append-nil}
+use Rattle.std.proofs.Common.{◌≡◌, ◌-◌, ◌<◌, ◌≤◌, ◌++◌, ◌∷◌, [], ℕ, zero, suc, List, length, get_or, Some, sym, ap, ◌∙◌, subst, arith}
 use Rattle.std.specs.List.{slice_get}
-use Rattle.std.specs.Io.KnownBytes.{Appends}
-use Rattle.wio_core.specs.declared.NoMemory.{NoMemory}
-use Rattle.seat_steps.specs.declared.limits.Limits.{Limits}
-use Rattle.broker_model.specs.declared.journal.Entry.{Entry}
-use Rattle.broker_model.specs.Settle.{outer}
-use Rattle.turn_lock.specs.Pairs.{NoneOf, HasSeen, total}
-use Rattle.turn_lock.specs.Sights.{fresh_seat, having_seen}
-use Rattle.hub_lock.specs.declared.session.Session.{Session}
-use Rattle.hub_lock.specs.Histories.{History, broker_of}
-use Rattle.hub_lock.specs.Passes.{HubId, PassSeat, total_steps}
-use Rattle.hub_lock.proofs.JournalOfSteps.{outer-journal, length-entries}
-use Rattle.hub_lock.specs.Calls.{LegalCopy}
-use Rattle.serve_record.specs.Recorded.{recorded}
-use Rattle.serve_words.specs.Words.{Serving}
-use Rattle.serve_record.specs.Lines.{GainsFront}
+use Rattle.turn_lock.specs.Sights.{fresh_seat}
+use Rattle.hub_lock.specs.Passes.{HubId, PassSeat}
 use Rattle.link_jobs.specs.Tags.{Tag}
 use Rattle.serve_run.specs.LinkJobs.{LinkedJob, IsOnHub, AreOnHub}
 use Rattle.serve_run.specs.Started.{IsRootOf, AreStarted}
-use Rattle.serve_run.specs.ServerLaw.{text_of}
 
 -- a hub that nobody joined yet
 pub fresh_root : (hub : HubId) (root : PassSeat) → root ≡ fresh_seat hub.turn 0 (Some hub.limits) [] → IsRootOf hub root
@@ -54,11 +40,3 @@ ours_of hub n started more jobs many are i t behind is =
     let k : ℕ = i - length started in
     let at = past started are.tags i t (omega arith) (ap (λ tags. slice_get tags i) (sym are.are) ∙ is) in
     subst (IsOnHub hub) (get_is are.tags k t t at) (are.on_hub k t (is_within are.tags k t at))
-
--- nothing was written yet
-pub nothing_written : (held : Option (List ℕ)) (text : List ℕ) → GainsFront held held text
-nothing_written held text = ([], text, appends_none held, refl)
-  where
-    appends_none : (a : Option (List ℕ)) → Appends a a []
-    appends_none None = tt
-    appends_none (Some xs) = sym (append-nil xs)

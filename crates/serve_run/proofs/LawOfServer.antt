@@ -6,13 +6,16 @@ use Rattle.seat_steps.specs.declared.limits.Limits.{Limits}
 use Rattle.turn_lock.specs.Pairs.{own, HasSeen, IsIn, IsDistinct, total}
 use Rattle.turn_lock.specs.Sights.{fresh_seat}
 use Rattle.turn_lock.proofs.PairsOfNumbers.{own-seen}
-use Rattle.hub_lock.specs.Histories.{History}
+use Rattle.hub_lock.specs.Histories.{History, broker_of}
 use Rattle.hub_lock.specs.Lawful.{IsLawful}
 use Rattle.hub_lock.specs.Passes.{HubId, PassSeat}
 use Rattle.wio_core.specs.Io.{Rose}
 use Rattle.link_nets.specs.declared.door.Door.{Door}
 use Rattle.link_jobs.specs.Tags.{Tag, Report}
 use Rattle.serve_words.specs.Words.{Serving, doors_of}
+use Rattle.serve_record.specs.declared.record.RecordStop.{RecordStop}
+use Rattle.serve_record.specs.declared.record.RecordStop.TheVariants as record_stops
+use Rattle.serve_record.specs.Recorded.{recorded}
 use Rattle.serve_run.specs.declared.status.ServeStatus.{ServeStatus}
 use Rattle.serve_run.specs.declared.status.ServeStatus.TheVariants as statuses
 use Rattle.serve_run.specs.declared.stop.Stop.{Stop}
@@ -23,10 +26,12 @@ use Rattle.serve_run.specs.Started.{LinksStarted}
 use Rattle.serve_run.specs.Refused.{WasRefused, IsRefusedAt, JoinedUnless}
 use Rattle.serve_run.specs.Unserved.{AreUnserved, pushed}
 use Rattle.peer_link.specs.Made.{journal_of, IsAtLimit}
-use Rattle.serve_run.specs.Statuses.{status_by, worst}
+use Rattle.serve_run.specs.Statuses.{status_by, status_with, worst}
+use Rattle.serve_run.specs.Written.{IsRecorded}
 use Rattle.serve_run.specs.ServerLaw.{Sides, ServerLaw, IsWritten, text_of}
 use Rattle.serve_run.proofs.LawsKept.{seen_through, laws_kept}
 use Rattle.serve_run.proofs.FullJournals.{status_full}
+use Rattle.serve_run.proofs.StatusWritten.{written_with, fault_with, status_is}
 use Rattle.serve_run.proofs.PassesBack.{unserved_stay}
 use Rattle.serve_run.proofs.NumbersTaken.{AllIn, jobs_from, once_both, all_in, of_jobs}
 use Rattle.serve_run.proofs.OnlyRootJoins.{plain_reports, plain_unserved, plain_pushed, only_root}
@@ -102,10 +107,10 @@ pub record Run (asked : Serving) (before after : Sides) (status : ServeStatus) :
   pub lawful : IsLawful hub.limits history
   pub owned : total (0 ∷ collected.taken) history ≡ length history
   -- the text
-  pub written : IsWritten status before.held after.held (text_of asked history)
-  pub write : status ≡ statuses.WriteFault → Rose before.output_faults after.output_faults
-  pub status_is : (status ≡ status_by accepted (worst given))
-      ⊎ ((status ≡ statuses.WriteFault) ⊎ (status ≡ statuses.NoMemory))
+  pub written : Result (Unit {0}) RecordStop
+  pub recorded : IsRecorded hub.limits before.held after.held history written
+  pub fault : written ≡ Err record_stops.WriteFault → Rose before.output_faults after.output_faults
+  pub status_is : status ≡ status_with written accepted (worst given)
 
 -- it keeps the server law
 pub law_of : (asked : Serving) (before after : Sides) (status : ServeStatus) → Run asked before after status
@@ -127,7 +132,7 @@ law_of asked before after status run =
     record {
       history = run.history;
       lawful = subst (λ l. IsLawful l run.history) run.limits run.lawful;
-      written = run.written;
+      written = written_is;
       accepted = run.count;
       within = run.within;
       doors = run.doors;
@@ -164,9 +169,9 @@ law_of asked before after status run =
       all_open = run.doors_open;
       net = run.net;
       threads = run.threads;
-      write = run.write;
-      full = λ is. full_by laws is run.status_is;
-      status_is = run.status_is;
+      write = λ is. run.fault (fault_with run.written run.accepted (worst run.given) (sym run.status_is ∙ is));
+      full = λ is. full_by laws is cases;
+      status_is = cases;
     }
   where
     first_link : ℕ
@@ -177,6 +182,20 @@ law_of asked before after status run =
 
     tags : List Tag
     tags = run.links.jobs.tags
+
+    cases : (status ≡ status_by run.accepted (worst run.given))
+        ⊎ ((status ≡ statuses.WriteFault) ⊎ (status ≡ statuses.NoMemory))
+    cases = status_is status run.written run.accepted (worst run.given) run.status_is
+
+    written_is : IsWritten status before.held after.held (text_of asked run.history)
+    written_is =
+        subst (λ l. IsWritten status before.held after.held
+        (recorded l (broker_of l run.history).journal (broker_of l run.history).stamps)) run.limits
+        (subst (λ s. IsWritten s before.held after.held
+        (recorded run.hub.limits (broker_of run.hub.limits run.history).journal
+        (broker_of run.hub.limits run.history).stamps)) (sym run.status_is)
+        (written_with run.hub.limits before.held after.held run.history run.written run.accepted (worst run.given)
+        run.recorded))
 
     refused_is : JoinedUnless asked.limits run.history asked.order run.links.joined run.count run.accepted
     refused_is =

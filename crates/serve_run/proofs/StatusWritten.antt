@@ -1,11 +1,10 @@
 -- The status of a run, by how its record ended
-use Rattle.std.proofs.Common.{◌≡◌, ◌⊎◌, inl, inr, ◌++◌, [], ℕ, List, Option, Result, Ok, Err, refl, sym, subst, append-nil}
+use Rattle.std.proofs.Common.{◌≡◌, ◌⊎◌, inl, inr, [], ℕ, List, Option, Result, Ok, Err, refl, sym, subst, append-nil}
 use Rattle.std.specs.Io.KnownBytes.{Appends}
 use Rattle.seat_steps.specs.declared.limits.Limits.{Limits}
 use Rattle.hub_lock.specs.Histories.{History, broker_of}
 use Rattle.serve_record.specs.declared.record.RecordStop.{RecordStop}
 use Rattle.serve_record.specs.declared.record.RecordStop.TheVariants as record_stops
-use Rattle.serve_record.specs.Lines.{GainsFront}
 use Rattle.serve_record.specs.Recorded.{recorded}
 use Rattle.serve_run.specs.declared.status.ServeStatus.{ServeStatus}
 use Rattle.serve_run.specs.declared.status.ServeStatus.TheVariants as statuses
@@ -62,17 +61,16 @@ fault_with (Ok done) accepted trouble e = absurd (never_fault accepted trouble e
 fault_with (Err record_stops.WriteFault) accepted trouble e = refl
 fault_with (Err record_stops.NoMemory) accepted trouble e = absurd (cc)
 
-pub status_cases : (r : Result (Unit {0}) RecordStop) (accepted : Result (Unit {0}) Stop) (trouble : Trouble)
+status_cases : (r : Result (Unit {0}) RecordStop) (accepted : Result (Unit {0}) Stop) (trouble : Trouble)
     → (status_with r accepted trouble ≡ status_by accepted trouble)
     ⊎ ((status_with r accepted trouble ≡ statuses.WriteFault) ⊎ (status_with r accepted trouble ≡ statuses.NoMemory))
 status_cases (Ok done) accepted trouble = inl refl
 status_cases (Err record_stops.WriteFault) accepted trouble = inr (inl refl)
 status_cases (Err record_stops.NoMemory) accepted trouble = inr (inr refl)
 
-pub status_is : (s : ServeStatus) (r : Result (Unit {0}) RecordStop) (accepted : Result (Unit {0}) Stop)
-    (trouble all : Trouble) → s ≡ status_with r accepted trouble → trouble ≡ all
-    → (s ≡ status_by accepted all) ⊎ ((s ≡ statuses.WriteFault) ⊎ (s ≡ statuses.NoMemory))
-status_is s r accepted trouble all e same =
-    subst (λ t. (s ≡ status_by accepted t) ⊎ ((s ≡ statuses.WriteFault) ⊎ (s ≡ statuses.NoMemory))) same
-    (subst (λ x. (x ≡ status_by accepted trouble) ⊎ ((x ≡ statuses.WriteFault) ⊎ (x ≡ statuses.NoMemory))) (sym e)
-    (status_cases r accepted trouble))
+pub status_is : (s : ServeStatus) (r : Result (Unit {0}) RecordStop) (accepted : Result (Unit {0}) Stop) (trouble : Trouble)
+    → s ≡ status_with r accepted trouble
+    → (s ≡ status_by accepted trouble) ⊎ ((s ≡ statuses.WriteFault) ⊎ (s ≡ statuses.NoMemory))
+status_is s r accepted trouble e =
+    subst (λ x. (x ≡ status_by accepted trouble) ⊎ ((x ≡ statuses.WriteFault) ⊎ (x ≡ statuses.NoMemory))) (sym e)
+    (status_cases r accepted trouble)

@@ -1,11 +1,14 @@
 -- What the joining and starting of links makes of the root and of the spawner
-use Rattle.std.specs.Prelude.{◌≡◌, ◌⊎◌, ℕ, ◌+◌, ◌-◌, ◌≤◌, Bool, true, false, if◌then◌else◌, List, [], ◌∷◌, ◌++◌, length, map, take, drop, Result, OnOk, IfErr, All}
+use Rattle.std.specs.Prelude.{◌≡◌, ◌⊎◌, ℕ, ◌+◌, ◌-◌, ◌≤◌, Bool, true, false, if◌then◌else◌, ◌<◌, ◌^◌, List, [], ◌∷◌, ◌++◌, length, map, take, drop, Result, Err, OnOk, IfErr, All}
 use Rattle.seat_steps.specs.declared.limits.Limits.{Limits}
 use Rattle.relay_model.specs.declared.role.Role.{Role}
 use Rattle.std.specs.Prelude.{Option, Some}
 use Rattle.turn_lock.specs.Pairs.{own, HasSeen, IsIn}
 use Rattle.hub_lock.specs.Passes.{HubId, PassSeat, PeerPass, IsOf}
-use Rattle.link_jobs.specs.Tags.{Tag}
+use Rattle.wio_core.specs.Io.{Rose}
+use Rattle.link_nets.specs.declared.door.Door.{Door}
+use Rattle.serve_words.specs.Words.{doors_of}
+use Rattle.link_jobs.specs.Tags.{Tag, Report}
 use Rattle.link_jobs.specs.Tags.Part.{reader, writer}
 use Rattle.serve_run.specs.declared.stop.Stop.{Stop}
 use Rattle.serve_run.specs.declared.stop.Stop.TheVariants as stops
@@ -17,6 +20,12 @@ use Rattle.serve_run.specs.LinkJobs.{LinkedJob, IsOnHub, job, job_tagged, jobs_b
 pub record IsRootOf (hub : HubId) (root : PassSeat) : Type 0 where
   pub of : IsOf hub root
   pub zero : root.number ≡ 0
+
+-- the root of the hub's passes, by which one more peer can join
+pub record CanJoin (hub : HubId) (root : PassSeat) : Type 0 where
+  pub root_is : IsRootOf hub root
+  pub room : root.next ≤ 2 ^ 63
+  pub few : length (own 0 root.seen) < 64
 
 -- the pass with that number, which was out, is back: no pass and no step of the root was made, nor
 -- one of a pass that was back before
@@ -63,6 +72,15 @@ MayLack stops.NoMemory = Unit {0}
 MayLack stops.NoThread = Unit {0}
 MayLack stops.NetFault = ⊥
 MayLack stops.JournalFull = ⊥
+
+-- what starts make of a spawner: no result was taken, and none had come at the last of them but what
+-- had come before the first; want of a thread is a refusal that was counted
+pub record Starts {W : Type 0} (reports : W → List Report) (before_start refusals : W → ℕ)
+    (old new : W) (r : Result (Unit {0}) Stop) : Type 0 where
+  pub last : (before_start new ≡ before_start old) ⊎ (before_start new ≡ length (reports old))
+  pub none_came : reports new ≡ reports old
+  pub never_falls : refusals old ≤ refusals new
+  pub threads : r ≡ Err stops.NoThread → Rose (refusals old) (refusals new)
 
 -- these jobs were started on the hub
 pub record AreStarted (hub : HubId) (started started' : List Tag)
@@ -154,3 +172,14 @@ pub record LinksStarted (hub : HubId) (root root' : PassSeat) (started started' 
   pub all_started : OnOk result (count ≡ passes_of (take joined letters))
   pub refused : JoinedUnless hub.limits root'.seen letters joined accepted result
   pub lacks : (count ≡ passes_of (take joined letters)) ⊎ IfErr result MayLack
+
+-- links came through the doors of the first so many letters, of all where nothing stopped it, and
+-- were started; the first of them has the number behind those that came before
+pub record AreAccepted (hub : HubId) (root root' : PassSeat) (started started' : List Tag)
+    (links links' : List Door) (letters : List ℕ) (result : Result (Unit {0}) Stop) : Type 0 where
+  pub count : ℕ
+  pub within : count ≤ length letters
+  pub doors : links' ≡ links ++ take count (doors_of letters)
+  pub started_are : LinksStarted hub root root' started started' letters (length links + 1) count
+      result
+  pub all : OnOk result (count ≡ length letters)

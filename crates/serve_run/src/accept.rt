@@ -1,15 +1,13 @@
 //! Links come in, and their jobs start.
-ghost use Rattle.std.specs.Prelude.{◌≡◌, ◌≢◌, ◌⊎◌, ◌≤◌, ◌<◌, ◌+◌, ◌*◌, ◌^◌, ◌++◌, ℕ, true};
-ghost use Rattle.std.specs.Prelude.{length, take, Err, OnOk};
+ghost use Rattle.std.specs.Prelude.{◌≡◌, ◌≤◌, ◌+◌, ◌*◌, ◌^◌, true, length, Err};
 ghost use Rattle.std.specs.Arc.{arc_value};
 ghost use Rattle.turn_lock.specs.Pairs.{own};
 ghost use Rattle.wio_core.specs.Io.{Rose};
 ghost use Rattle.link_nets.specs.declared.door.Door.{Door};
-ghost use Rattle.link_nets.specs.NewLinks.{IsNewSource, IsNewSink};
-ghost use Rattle.serve_words.specs.Words.{doors_of};
 ghost use Rattle.serve_run.specs.LinkJobs.{role_at};
-ghost use Rattle.serve_run.specs.Started.{IsRootOf, LinkStarted, LinksStarted};
+ghost use Rattle.serve_run.specs.Started.{IsRootOf, CanJoin, LinkStarted, AreAccepted, Starts};
 
+use crate::new_link::NewLink;
 use crate::start::{start_peer, start_shell};
 use crate::stop::Stop;
 use hub_lock::{Gate, Hub, HubPass};
@@ -42,29 +40,17 @@ fn start_link<R: Wait, S: LinkSource, K: LinkSink, G: Gate + Drop, W: Spawner<Li
     spawner: &mut W,
     gate: &Arc<G, Global>,
     role: Option<Role>,
-    source: S,
-    sink: K,
+    link: NewLink<S, K>,
 ) -> Result<(), Stop>
     requires ready { (w : _) (j : _) → W.ready w j }
-    requires root { IsRootOf (arc_value hub.now) root.old }
-    requires room { root.old.next ≤ 2 ^ 63 }
-    requires source { IsNewSource (S.Source.given source) (S.Source.fault_count source) }
-    requires sink { IsNewSink (K.Sink.held sink) (K.Sink.fault_count sink) }
-    requires one { S.number source ≡ K.number sink }
-    requires few { length (own 0 root.old.seen) < 64 }
+    requires root { CanJoin (arc_value hub.now) root.old }
     ensures started { LinkStarted (arc_value hub.now) root.old root.new (W.started spawner.old)
-        (W.started spawner.new) (S.number source) role result }
-    ensures last { (W.before_start spawner.new ≡ W.before_start spawner.old)
-        ⊎ (W.before_start spawner.new ≡ length (W.reports spawner.old)) }
-    ensures reports { W.reports spawner.new ≡ W.reports spawner.old }
-    ensures never_falls { W.refusal_count spawner.old ≤ W.refusal_count spawner.new }
-    ensures threads { result ≡ Err Stop.NoThread →
-        Rose (W.refusal_count spawner.old) (W.refusal_count spawner.new) }
-    ensures net { result ≢ Err Stop.NetFault }
+        (W.started spawner.new) (S.number link.source) role result }
+    ensures jobs { Starts W.reports W.before_start W.refusal_count spawner.old spawner.new result }
 {
     match role {
-        Some(role) => start_peer(rt, alloc, hub, root, spawner, gate, role, source, sink),
-        None => start_shell(rt, alloc, hub, root, spawner, source, sink),
+        Some(role) => start_peer(rt, alloc, hub, root, spawner, gate, role, link),
+        None => start_shell(rt, alloc, hub, root, spawner, link),
     }
 }
 
@@ -84,19 +70,11 @@ pub(crate) fn accept_all<R: Wait, N: Net, G: Gate + Drop, W: Spawner<LinkJob<N::
     requires room { root.old.next + 2 * length letters.now ≤ 2 ^ 63 }
     requires few { length (own 0 root.old.seen) + length letters.now ≤ 64 }
     requires open { (d : Door) → N.opened net.old d ≡ true }
-    ensures accepted { (count : ℕ) × (count ≤ length letters.now)
-        × (N.links net.new ≡ N.links net.old ++ take count (doors_of letters.now))
-        × LinksStarted (arc_value hub.now) root.old root.new (W.started spawner.old)
-        (W.started spawner.new) letters.now (length (N.links net.old) + 1) count result
-        × OnOk result (count ≡ length letters.now) }
+    ensures accepted { AreAccepted (arc_value hub.now) root.old root.new (W.started spawner.old)
+        (W.started spawner.new) (N.links net.old) (N.links net.new) letters.now result }
     ensures open { (d : Door) → N.opened net.new d ≡ true }
-    ensures last { (W.before_start spawner.new ≡ W.before_start spawner.old)
-        ⊎ (W.before_start spawner.new ≡ length (W.reports spawner.old)) }
-    ensures reports { W.reports spawner.new ≡ W.reports spawner.old }
+    ensures jobs { Starts W.reports W.before_start W.refusal_count spawner.old spawner.new result }
     ensures never_falls { N.fault_count net.old ≤ N.fault_count net.new }
-    ensures refusals { W.refusal_count spawner.old ≤ W.refusal_count spawner.new }
-    ensures threads { result ≡ Err Stop.NoThread →
-        Rose (W.refusal_count spawner.old) (W.refusal_count spawner.new) }
     ensures net { result ≡ Err Stop.NetFault →
         Rose (N.fault_count net.old) (N.fault_count net.new) }
 {
@@ -106,7 +84,8 @@ pub(crate) fn accept_all<R: Wait, N: Net, G: Gate + Drop, W: Spawner<LinkJob<N::
             Ok(link) => link,
             Err(Failed) => return Err(Stop::NetFault),
         };
-        if let Err(stop) = start_link(rt, alloc, hub, root, spawner, gate, role, source, sink) {
+        let link = NewLink { source, sink };
+        if let Err(stop) = start_link(rt, alloc, hub, root, spawner, gate, role, link) {
             return Err(stop);
         }
     }

@@ -64,20 +64,19 @@ fn take_result<S: Source + Drop, K: LinkSink>(hub: &Hub, root: &mut HubPass, don
     }
 }
 
-/// Takes all results, takes their passes back, and says what they brought. So many other passes stay
-/// out.
+/// Takes all results, takes their passes back, and says what they brought. The pass of who records
+/// stays out.
 pub(crate) fn collect<S: LinkSource, K: LinkSink, G: Gate + Drop, W: Spawner<LinkJob<S, K, G>>>(
     hub: &Hub,
     root: &mut HubPass,
     spawner: &mut W,
-    others: u32,
 ) -> Trouble
     requires root { IsRootOf hub.now root.old }
     requires ours { AreOnHub hub.now (length (W.reports spawner.old)) (W.started spawner.old) }
     requires balance { root.old.out + length (W.reports spawner.old)
-        ≡ length (W.started spawner.old) + others }
+        ≡ length (W.started spawner.old) + 1 }
     ensures root { IsRootOf hub.now root.new }
-    ensures out { root.new.out ≡ others }
+    ensures out { root.new.out ≡ 1 }
     ensures next { root.new.next ≡ root.old.next }
     ensures mine { HasSeen root.new.seen 0 root.old.seen }
     ensures settled { (n : ℕ) → IsIn n root.old.taken →

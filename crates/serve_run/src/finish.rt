@@ -1,7 +1,8 @@
 //! A run is brought to its end: the record is written while links run, and the results come back.
-ghost use Rattle.std.specs.Prelude.{◌≡◌, ◌≤◌, ◌+◌, ◌^◌, ◌∷◌, ℕ, length};
-ghost use Rattle.turn_lock.specs.Pairs.{HasSeen, IsIn, total};
-ghost use Rattle.hub_lock.specs.Lawful.{IsLawful};
+ghost use Rattle.std.specs.Prelude.{◌≡◌, ◌≤◌, ◌+◌, ◌^◌, ℕ, [], length};
+ghost use Rattle.turn_lock.specs.Pairs.{NoneOf, HasSeen, IsIn};
+ghost use Rattle.turn_lock.specs.Sights.{after_split, split_off, having_seen};
+ghost use Rattle.hub_lock.specs.Recording.{recorder};
 ghost use Rattle.serve_run.specs.Ended.{IsEnded};
 ghost use Rattle.serve_run.specs.LinkJobs.{AreOnHub};
 ghost use Rattle.serve_run.specs.Started.{IsRootOf};
@@ -10,7 +11,7 @@ use crate::collect::collect;
 use crate::record::{record_first, record_last};
 use crate::status::ServeStatus;
 use crate::stop::{Stop, status_with};
-use hub_lock::{Gate, Hub, HubPass, Pass};
+use hub_lock::{Gate, Hub, HubPass, RecorderPass};
 use link_jobs::{LinkJob, Spawner};
 use link_nets::{LinkSink, LinkSource};
 use seat_steps::Limits;
@@ -18,19 +19,22 @@ use std::alloc::Global;
 use std::sync::Wait;
 use wio_core::Sink;
 
-// No pass is out: all that the root has seen is then counted.
-fn count_all(hub: &Hub, root: &mut HubPass)
+// A pass for who records: nobody else of this hub does, so the first round gives it.
+fn record_pass<R: Wait>(rt: &R, hub: &Hub, root: &mut HubPass) -> RecorderPass
     requires root { IsRootOf hub.now root.old }
     requires room { root.old.next ≤ 2 ^ 63 }
-    requires out { root.old.out ≡ 0 }
+    ensures left { root.new ≡ after_split (having_seen root.old root.new.seen) }
+    ensures right { result ≡ recorder (split_off (having_seen root.old root.new.seen)) [] }
+    ensures fresh { NoneOf result.seat.number result.seat.seen }
     ensures mine { HasSeen root.new.seen 0 root.old.seen }
     ensures settled { (n : ℕ) → IsIn n root.old.taken → HasSeen root.new.seen n root.old.seen }
-    ensures lawful { IsLawful hub.now.limits root.new.seen }
-    ensures owned { total (0 ∷ root.old.taken) root.new.seen ≡ length root.new.seen }
 {
-    let pass = hub.shell(root);
-    hub.finish(root, Pass::Shell(pass));
-    let _entries = root.seen();
+    for _ in rt.forever() {
+        if let Some(pass) = hub.recorder(rt, root) {
+            return pass;
+        }
+    }
+    unreachable!()
 }
 
 /// Writes the recorded session as its entries come while the jobs run, and takes all results.
@@ -66,19 +70,10 @@ pub(crate) fn finish_run<
     ensures never_falls { W.refusal_count spawner.old ≤ W.refusal_count spawner.new }
 {
     let users = root.made();
-    match hub.recorder(rt, root) {
-        Some(mut pass) => {
-            hub.end_record(users);
-            let first = record_first(rt, alloc, limits, hub, &mut pass, output);
-            let trouble = collect(hub, root, spawner, 1);
-            let written = record_last(rt, alloc, hub, root, pass, first, output);
-            status_with(written, accepted, trouble)
-        }
-        None => {
-            // Nobody records yet, so this never comes.
-            let _trouble = collect(hub, root, spawner, 0);
-            count_all(hub, root);
-            ServeStatus::NoMemory
-        }
-    }
+    let mut pass = record_pass(rt, hub, root);
+    hub.end_record(users);
+    let first = record_first(rt, alloc, limits, hub, &mut pass, output);
+    let trouble = collect(hub, root, spawner);
+    let written = record_last(rt, alloc, hub, root, pass, first, output);
+    status_with(written, accepted, trouble)
 }

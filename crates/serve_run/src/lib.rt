@@ -4,6 +4,7 @@
 mod accept;
 mod collect;
 mod finish;
+mod new_link;
 mod open;
 mod record;
 mod serve;

@@ -2,11 +2,10 @@
 ghost use Rattle.std.specs.Prelude.{◌≡◌, ◌⊎◌, ◌≤◌, ◌∷◌, ℕ, List, [], length, Option, Err, OnOk};
 ghost use Rattle.wio_core.specs.Io.{Rose};
 ghost use Rattle.turn_lock.specs.Pairs.{NoneOf, HasSeen, IsIn, total};
-ghost use Rattle.turn_lock.specs.Sights.{having_seen};
 ghost use Rattle.hub_lock.specs.Histories.{broker_of};
 ghost use Rattle.hub_lock.specs.Lawful.{IsLawful};
 ghost use Rattle.hub_lock.specs.Passes.{IsOf};
-ghost use Rattle.serve_record.specs.Handed.{WritesHanded};
+ghost use Rattle.serve_record.specs.Handed.{WritesHanded, MadeNoStep};
 ghost use Rattle.serve_run.specs.Started.{IsRootOf};
 ghost use Rattle.serve_run.specs.Written.{HoldsHanded, EndsHanded, IsRecorded, AreAllHanded};
 
@@ -29,8 +28,7 @@ pub(crate) fn record_first<R: Wait, K: Sink>(
     requires own { IsOf hub.now pass.old.seat }
     requires limits { hub.now.limits ≡ limits.now }
     requires none { pass.old.handed ≡ [] }
-    ensures seat { pass.new.seat ≡ having_seen pass.old.seat pass.new.seat.seen }
-    ensures seen { HasSeen pass.new.seat.seen pass.old.seat.number pass.old.seat.seen }
+    ensures none_made { MadeNoStep pass.old.seat pass.new.seat }
     ensures written { HoldsHanded hub.now.limits (K.held output.old) (K.held output.new)
         pass.new.handed result }
     ensures never_falls { K.fault_count output.old ≤ K.fault_count output.new }
@@ -54,8 +52,7 @@ fn record_rest<R: Wait, K: Sink>(
 ) -> Result<(), RecordStop>
     requires own { IsOf hub.now pass.old.seat }
     requires root { IsOf hub.now root.now }
-    ensures seat { pass.new.seat ≡ having_seen pass.old.seat pass.new.seat.seen }
-    ensures seen { HasSeen pass.new.seat.seen pass.old.seat.number pass.old.seat.seen }
+    ensures none_made { MadeNoStep pass.old.seat pass.new.seat }
     ensures all { OnOk result (AreAllHanded hub.now.limits pass.new.seat.seen root.now.seen
         pass.new.handed) }
     ensures written { WritesHanded hub.now.limits (K.held output.old) (K.held output.new) text.old
@@ -87,8 +84,7 @@ fn record_end<R: Wait, K: Sink>(
 ) -> Result<(), RecordStop>
     requires own { IsOf hub.now pass.old.seat }
     requires root { IsOf hub.now root.now }
-    ensures seat { pass.new.seat ≡ having_seen pass.old.seat pass.new.seat.seen }
-    ensures seen { HasSeen pass.new.seat.seen pass.old.seat.number pass.old.seat.seen }
+    ensures none_made { MadeNoStep pass.old.seat pass.new.seat }
     ensures written { (held : Option (List ℕ)) →
         HoldsHanded hub.now.limits held (K.held output.old) pass.old.handed first →
         EndsHanded hub.now.limits held (K.held output.new) pass.new.seat.seen root.now.seen

@@ -6,10 +6,9 @@ ghost use Rattle.std.specs.Arc.{arc_value};
 ghost use Rattle.wio_core.specs.Io.{Rose};
 ghost use Rattle.seat_steps.specs.Ranges.{IsLimits};
 ghost use Rattle.link_nets.specs.declared.door.Door.{Door};
-ghost use Rattle.serve_words.specs.Words.{doors_of};
 ghost use Rattle.serve_words.specs.Words as grammar;
 ghost use Rattle.serve_words.specs.Asked.{asked as asked'};
-ghost use Rattle.serve_run.specs.Started.{IsRootOf, LinksStarted};
+ghost use Rattle.serve_run.specs.Started.{IsRootOf, AreAccepted, Starts};
 ghost use Rattle.serve_run.specs.ServerLaw.{ServerLaw, sides};
 ghost use Rattle.turn_lock.specs.Pairs.{own};
 ghost use Rattle.turn_lock.specs.Sights.{fresh_seat};
@@ -42,19 +41,11 @@ fn serve_links<R: Wait, N: Net, G: Gate + Drop, W: Spawner<LinkJob<N::In, N::Out
     requires root { IsRootOf (arc_value hub.now) root.old }
     requires room { root.old.next + 2 * length asked.now.order.now ≤ 2 ^ 63 }
     requires few { length (own 0 root.old.seen) + length asked.now.order.now ≤ 64 }
-    ensures accepted { (count : ℕ) × (count ≤ length asked.now.order.now)
-        × (N.links net.new ≡ N.links net.old ++ take count (doors_of asked.now.order.now))
-        × LinksStarted (arc_value hub.now) root.old root.new (W.started spawner.old)
-        (W.started spawner.new) asked.now.order.now (length (N.links net.old) + 1) count result
-        × OnOk result (count ≡ length asked.now.order.now) }
+    ensures accepted { AreAccepted (arc_value hub.now) root.old root.new (W.started spawner.old)
+        (W.started spawner.new) (N.links net.old) (N.links net.new) asked.now.order.now result }
     ensures open { OnOk result ((d : Door) → N.opened net.new d ≡ true) }
-    ensures last { (W.before_start spawner.new ≡ W.before_start spawner.old)
-        ⊎ (W.before_start spawner.new ≡ length (W.reports spawner.old)) }
-    ensures reports { W.reports spawner.new ≡ W.reports spawner.old }
+    ensures jobs { Starts W.reports W.before_start W.refusal_count spawner.old spawner.new result }
     ensures never_falls { N.fault_count net.old ≤ N.fault_count net.new }
-    ensures refusals { W.refusal_count spawner.old ≤ W.refusal_count spawner.new }
-    ensures threads { result ≡ Err Stop.NoThread →
-        Rose (W.refusal_count spawner.old) (W.refusal_count spawner.new) }
     ensures net { result ≡ Err Stop.NetFault →
         Rose (N.fault_count net.old) (N.fault_count net.new) }
 {

@@ -1,24 +1,23 @@
 //! The jobs of a link start.
-ghost use Rattle.std.specs.Prelude.{◌≡◌, ◌≢◌, ◌⊎◌, ◌≤◌, ◌<◌, ◌+◌, ◌^◌, ◌++◌, ◌∷◌, [], length, Some};
-ghost use Rattle.std.specs.Prelude.{None, Ok, Err};
+ghost use Rattle.std.specs.Prelude.{◌≡◌, ◌≤◌, ◌^◌, ◌++◌, ◌∷◌, [], length, Some, None, Err};
 ghost use Rattle.std.specs.Prelude.{OnOk, OnErr, IfOk, IfErr};
 ghost use Rattle.std.specs.Arc.{arc_value};
 ghost use Rattle.wio_core.specs.Io.{Rose};
-ghost use Rattle.turn_lock.specs.Pairs.{own, HasSeen};
+ghost use Rattle.turn_lock.specs.Pairs.{HasSeen};
 ghost use Rattle.turn_lock.specs.Sights.{after_split};
 ghost use Rattle.hub_lock.specs.Passes.{IsOf, steps_of};
 ghost use Rattle.hub_lock.specs.Finished.{seat_of};
 ghost use Rattle.hub_lock.specs.Histories.{reader_of};
 ghost use Rattle.hub_lock.specs.Calls.{pass_having_seen};
 ghost use Rattle.peer_link.specs.Made.{journal_of};
-ghost use Rattle.link_nets.specs.NewLinks.{IsNewSource, IsNewSink};
 ghost use Rattle.link_jobs.specs.LinkTags.{job_tag};
 ghost use Rattle.serve_run.specs.LinkJobs.{IsOnHub};
 ghost use Rattle.serve_run.specs.Started.{IsRootOf, IsGivenBack, IsJoinedBy, IsNotJoined};
-ghost use Rattle.serve_run.specs.Started.{BothStarted, LinkStarted, IsRefusal};
+ghost use Rattle.serve_run.specs.Started.{BothStarted, LinkStarted, IsRefusal, CanJoin, Starts};
 ghost use Rattle.serve_run.specs.Refused.{WasRefused, stopped};
 ghost use Rattle.serve_run.specs.Unserved.{HasEnd, SaysGone, IsGoneAlone, MadeBy};
 
+use crate::new_link::NewLink;
 use crate::stop::{Stop, refused};
 use hub_lock::{Gate, Hub, HubPass, Pass, ReaderPass, ShellPass, WriterPass};
 use link_jobs::{LinkJob, ReaderJob, ShellJob, Spawner, WriterJob};
@@ -153,14 +152,7 @@ fn start_both<R: Wait, S: LinkSource, K: LinkSink, G: Gate + Drop, W: Spawner<Li
     ensures started { BothStarted hub.now root.old root.new (W.started spawner.old)
         (W.started spawner.new) reader.pass.seat.number writer.pass.seat.number
         (S.number reader.source) result }
-    ensures before { OnOk result (W.before_start spawner.new ≡ length (W.reports spawner.old)) }
-    ensures last { (W.before_start spawner.new ≡ W.before_start spawner.old)
-        ⊎ (W.before_start spawner.new ≡ length (W.reports spawner.old)) }
-    ensures reports { W.reports spawner.new ≡ W.reports spawner.old }
-    ensures never_falls { W.refusal_count spawner.old ≤ W.refusal_count spawner.new }
-    ensures cause { OnErr result
-        (Rose (W.refusal_count spawner.old) (W.refusal_count spawner.new)) }
-    ensures why { OnErr result (result ≡ Err Stop.NoThread) }
+    ensures jobs { Starts W.reports W.before_start W.refusal_count spawner.old spawner.new result }
 {
     if let Err(stop) = start_job(rt, hub, root, spawner, LinkJob::Reader(reader)) {
         take_back(hub, root, Pass::Writer(writer.pass));
@@ -176,9 +168,7 @@ fn join_peer<R: Wait>(
     root: &mut HubPass,
     role: Role,
 ) -> Result<(ReaderPass, WriterPass), Stop>
-    requires root { IsRootOf hub.now root.old }
-    requires room { root.old.next ≤ 2 ^ 63 }
-    requires few { length (own 0 root.old.seen) < 64 }
+    requires root { CanJoin hub.now root.old }
     ensures joined { IfOk result (λ both.
         IsJoinedBy hub.now root.old root.new role both.0 both.1) }
     ensures fresh { IfOk result (λ both.
@@ -225,8 +215,7 @@ fn start_joined<R: Wait, S: LinkSource, K: LinkSink, G: Gate + Drop, W: Spawner<
     gate: &Arc<G, Global>,
     reader: ReaderPass,
     writer: WriterPass,
-    source: S,
-    sink: K,
+    link: NewLink<S, K>,
 ) -> Result<(), Stop>
     requires ready { (w : _) (j : _) → W.ready w j }
     requires root { IsRootOf (arc_value hub.now) root.old }
@@ -235,18 +224,9 @@ fn start_joined<R: Wait, S: LinkSource, K: LinkSink, G: Gate + Drop, W: Spawner<
     requires writes { IsOf (arc_value hub.now) writer.seat }
     requires fresh_reader { steps_of reader.seat ≡ 0 }
     requires fresh_writer { steps_of writer.seat ≡ 0 }
-    requires source { IsNewSource (S.Source.given source) (S.Source.fault_count source) }
-    requires sink { IsNewSink (K.Sink.held sink) (K.Sink.fault_count sink) }
-    requires one { S.number source ≡ K.number sink }
     ensures started { BothStarted (arc_value hub.now) root.old root.new (W.started spawner.old)
-        (W.started spawner.new) reader.seat.number writer.seat.number (S.number source) result }
-    ensures last { (W.before_start spawner.new ≡ W.before_start spawner.old)
-        ⊎ (W.before_start spawner.new ≡ length (W.reports spawner.old)) }
-    ensures reports { W.reports spawner.new ≡ W.reports spawner.old }
-    ensures never_falls { W.refusal_count spawner.old ≤ W.refusal_count spawner.new }
-    ensures threads { result ≡ Err Stop.NoThread →
-        Rose (W.refusal_count spawner.old) (W.refusal_count spawner.new) }
-    ensures net { result ≢ Err Stop.NetFault }
+        (W.started spawner.new) reader.seat.number writer.seat.number (S.number link.source) result }
+    ensures jobs { Starts W.reports W.before_start W.refusal_count spawner.old spawner.new result }
 {
     let (for_reader, for_writer, gate) = match share_for_both(hub, gate) {
         Ok(shares) => shares,
@@ -256,6 +236,7 @@ fn start_joined<R: Wait, S: LinkSource, K: LinkSink, G: Gate + Drop, W: Spawner<
             return Err(stop);
         }
     };
+    let NewLink { source, sink } = link;
     let reader = ReaderJob {
         alloc,
         hub: for_reader,
@@ -286,31 +267,17 @@ pub(crate) fn start_peer<
     spawner: &mut W,
     gate: &Arc<G, Global>,
     role: Role,
-    source: S,
-    sink: K,
+    link: NewLink<S, K>,
 ) -> Result<(), Stop>
     requires ready { (w : _) (j : _) → W.ready w j }
-    requires root { IsRootOf (arc_value hub.now) root.old }
-    requires room { root.old.next ≤ 2 ^ 63 }
-    requires source { IsNewSource (S.Source.given source) (S.Source.fault_count source) }
-    requires sink { IsNewSink (K.Sink.held sink) (K.Sink.fault_count sink) }
-    requires one { S.number source ≡ K.number sink }
-    requires few { length (own 0 root.old.seen) < 64 }
+    requires root { CanJoin (arc_value hub.now) root.old }
     ensures started { LinkStarted (arc_value hub.now) root.old root.new (W.started spawner.old)
-        (W.started spawner.new) (S.number source) (Some role) result }
-    ensures last { (W.before_start spawner.new ≡ W.before_start spawner.old)
-        ⊎ (W.before_start spawner.new ≡ length (W.reports spawner.old)) }
-    ensures reports { W.reports spawner.new ≡ W.reports spawner.old }
-    ensures never_falls { W.refusal_count spawner.old ≤ W.refusal_count spawner.new }
-    ensures threads { result ≡ Err Stop.NoThread →
-        Rose (W.refusal_count spawner.old) (W.refusal_count spawner.new) }
-    ensures net { result ≢ Err Stop.NetFault }
+        (W.started spawner.new) (S.number link.source) (Some role) result }
+    ensures jobs { Starts W.reports W.before_start W.refusal_count spawner.old spawner.new result }
 {
     match join_peer(rt, &**hub, root, role) {
         Ok((reader, writer)) => {
-            start_joined(
-                rt, alloc, hub, root, spawner, gate, reader, writer, source, sink,
-            )
+            start_joined(rt, alloc, hub, root, spawner, gate, reader, writer, link)
         }
         Err(stop) => Err(stop),
     }
@@ -342,30 +309,21 @@ pub(crate) fn start_shell<
     hub: &Arc<Hub, Global>,
     root: &mut HubPass,
     spawner: &mut W,
-    source: S,
-    sink: K,
+    link: NewLink<S, K>,
 ) -> Result<(), Stop>
     requires ready { (w : _) (j : _) → W.ready w j }
     requires root { IsRootOf (arc_value hub.now) root.old }
     requires room { root.old.next ≤ 2 ^ 63 }
-    requires source { IsNewSource (S.Source.given source) (S.Source.fault_count source) }
-    requires sink { IsNewSink (K.Sink.held sink) (K.Sink.fault_count sink) }
-    requires one { S.number source ≡ K.number sink }
     ensures started { LinkStarted (arc_value hub.now) root.old root.new (W.started spawner.old)
-        (W.started spawner.new) (S.number source) None result }
-    ensures last { (W.before_start spawner.new ≡ W.before_start spawner.old)
-        ⊎ (W.before_start spawner.new ≡ length (W.reports spawner.old)) }
-    ensures reports { W.reports spawner.new ≡ W.reports spawner.old }
-    ensures never_falls { W.refusal_count spawner.old ≤ W.refusal_count spawner.new }
-    ensures threads { result ≡ Err Stop.NoThread →
-        Rose (W.refusal_count spawner.old) (W.refusal_count spawner.new) }
-    ensures net { result ≢ Err Stop.NetFault }
+        (W.started spawner.new) (S.number link.source) None result }
+    ensures jobs { Starts W.reports W.before_start W.refusal_count spawner.old spawner.new result }
 {
     let pass = shell_pass(&**hub, root);
     let Ok(for_shell) = Arc::try_clone(hub) else {
         take_back(&**hub, root, Pass::Shell(pass));
         return Err(Stop::NoMemory);
     };
+    let NewLink { source, sink } = link;
     let job = ShellJob {
         alloc,
         hub: for_shell,

@@ -1,8 +1,8 @@
-use Rattle.std.proofs.Common.{◌≡◌, ◌⊎◌, ◌≤◌, ◌+◌, ◌++◌, true, length, take}
+use Rattle.std.proofs.Common.{◌≡◌, ◌≤◌, ◌+◌, ◌++◌, true, length, take, Ok}
 use Rattle.std.specs.Arc.{arc_value}
 use Rattle.link_nets.specs.declared.door.Door.{Door}
 use Rattle.serve_words.specs.Words.{doors_of}
-use Rattle.serve_run.specs.Started.{AllStarted}
+use Rattle.serve_run.specs.Started.{AllStarted, Starts}
 use Rattle.serve_run.proofs.accept.accept_all.Given as goal
 
 abbrev pub invariant-loop-letter : goal.invariant-loop-letter
@@ -10,10 +10,8 @@ invariant-loop-letter g l = record {
   started : AllStarted (arc_value l.hub) l.initial.root l.root (g.W.Spawner.started l.initial.spawner)
       (g.W.Spawner.started l.spawner) l.letters (length (g.N.Net.links l.initial.net) + 1) l.letter-index;
   links : g.N.Net.links l.net ≡ g.N.Net.links l.initial.net ++ take l.letter-index (doors_of l.letters);
-  last : (g.W.Spawner.before_start l.spawner ≡ g.W.Spawner.before_start l.initial.spawner)
-      ⊎ (g.W.Spawner.before_start l.spawner ≡ length (g.W.Spawner.reports l.initial.spawner));
-  reports : g.W.Spawner.reports l.spawner ≡ g.W.Spawner.reports l.initial.spawner;
+  jobs : Starts g.W.Spawner.reports g.W.Spawner.before_start g.W.Spawner.refusal_count l.initial.spawner l.spawner
+      (Ok tt);
   opened : (d : Door) → g.N.Net.opened l.net d ≡ true;
   never_falls : g.N.Net.fault_count l.initial.net ≤ g.N.Net.fault_count l.net;
-  refusals : g.W.Spawner.refusal_count l.initial.spawner ≤ g.W.Spawner.refusal_count l.spawner;
 }

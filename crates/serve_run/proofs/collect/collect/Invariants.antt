@@ -15,7 +15,7 @@ invariant-loop-done g l = record {
   mine : HasSeen l.root.seen 0 l.initial.root.seen;
   settled : (n : ℕ) → IsIn n l.initial.root.taken → IsIn n l.root.taken × HasSeen l.root.seen n l.initial.root.seen;
   balance : l.root.out + length (g.W.Spawner.reports l.spawner)
-      ≡ length (g.W.Spawner.started l.initial.spawner) + l.others;
+      ≡ length (g.W.Spawner.started l.initial.spawner) + 1;
   given : (given : List Report)
       × (g.W.Spawner.reports l.spawner ≡ g.W.Spawner.reports l.initial.spawner ++ given)
       × HaveLaws l.hub.limits l.root.seen given × AreTaken l.root.taken given × (l.trouble ≡ worst given)

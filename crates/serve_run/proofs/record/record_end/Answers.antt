@@ -1,4 +1,4 @@
-use Rattle.std.proofs.Common.{rules, ◌≡◌, List, ℕ, Result, inl, subst}
+use Rattle.std.proofs.Common.{rules, List, ℕ, Result, inl, subst}
 use Rattle.serve_record.specs.declared.record.RecordStop.{RecordStop}
 use Rattle.serve_record.proofs.HandedWritten.{on_fault}
 use Rattle.serve_run.specs.Written.{HoldsHanded}

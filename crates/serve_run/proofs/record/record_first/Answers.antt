@@ -1,4 +1,4 @@
-use Rattle.std.proofs.Common.{rules, ◌≡◌, ◌∙◌, ap, sym}
+use Rattle.std.proofs.Common.{rules, ◌∙◌, ap, sym}
 use Rattle.seat_steps.specs.declared.limits.Limits.{Limits}
 use Rattle.session_text.specs.declared.line.Line.TheVariants.{Header}
 use Rattle.serve_record.specs.Recorded.{text_line}

@@ -1,4 +1,4 @@
-use Rattle.std.proofs.Common.{◌≡◌, ◌⊎◌, inl, inr, ⊎_elim, ◌∙◌, ap, subst}
+use Rattle.std.proofs.Common.{◌≡◌, inl, inr, ⊎_elim, ◌∙◌, ap, subst}
 use Rattle.turn_lock.specs.Pairs.{HasSeen}
 use Rattle.hub_lock.specs.Passes.{PassSeat}
 use Rattle.serve_run.proofs.RecorderOut.{free_on, all_owned, either_seen}
@@ -23,7 +23,7 @@ returns-clause-owned g c =
     let e = c.record_end-written.ensures in
     let f = c.finish.ensures in
     all_owned c.args.root.now pass c.finish.new.root f.met f.tallied f.both c.requires.out
-    (free_on c.args.pass.seat pass e.seat e.seen c.requires.apart)
+    (free_on c.args.pass.seat pass e.none_made.seat e.none_made.seen c.requires.apart)
 
 pub returns-clause-written : goal.returns-clause-written
 returns-clause-written g c held holds =
@@ -34,7 +34,7 @@ returns-clause-written g c held holds =
     let root = c.finish.new.root in
     let met : root.seen ≡ _ = ap (λ (s : PassSeat). s.seen) f.met in
     recorded-by limits held _ pass.seat.seen c.args.root.now.seen root.seen pass.handed
-    (c.count-count.ensures.front limits (ap (λ (s : PassSeat). s.constant) e.seat ∙ c.requires.own.1))
+    (c.count-count.ensures.front limits (ap (λ (s : PassSeat). s.constant) e.none_made.seat ∙ c.requires.own.1))
     f.both.theirs.0 f.both.theirs.1
     (⊎_elim (λ x. inl (met ∙ x)) (λ x. inr (met ∙ x)) (either_seen c.args.root.now.seen pass.seat.seen))
     (c.seen-entries.ensures.lawful limits (ap (λ (s : PassSeat). s.constant) f.met ∙ c.requires.root.of.1))

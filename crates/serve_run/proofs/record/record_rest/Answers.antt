@@ -1,25 +1,25 @@
-use Rattle.std.proofs.Common.{◌≡◌, sym, subst, arith}
+use Rattle.std.proofs.Common.{sym, subst, arith}
 use Rattle.hub_lock.specs.Passes.{PassSeat, IsOf}
-use Rattle.serve_record.proofs.HandedWritten.{seat_on, seen_on}
+use Rattle.serve_record.proofs.HandedWritten.{no_step_on}
 use Rattle.serve_run.proofs.HandedEnds.{all_handed}
 use Rattle.serve_run.proofs.record.record_rest.Goals as goal
 
 pub record_handed-requires : goal.record_handed-requires
 record_handed-requires g c = record {
-  own = subst (λ (s : PassSeat). IsOf c.args.hub.now s) (sym c.loop.invariant.seat) c.requires.own;
+  own = subst (λ (s : PassSeat). IsOf c.args.hub.now s) (sym c.loop.invariant.none_made.seat) c.requires.own;
 }
 
-pub returns-in_err-record_handed-clause-seen : goal.returns-in_err-record_handed-clause-seen
-returns-in_err-record_handed-clause-seen g c =
-    let i = c.loop.invariant in
-    seen_on c.args.pass.now.seat c.loop.pass.seat c.record_handed.new.pass.seat.seen i.seat i.seen
-    c.record_handed.ensures.seen
+pub returns-in_err-record_handed-clause-none_made : goal.returns-in_err-record_handed-clause-none_made
+returns-in_err-record_handed-clause-none_made g c =
+    let e = c.record_handed.ensures in
+    no_step_on c.args.pass.now.seat c.loop.pass.seat c.record_handed.new.pass.seat c.loop.invariant.none_made
+    (record { seat = e.seat; seen = e.seen })
 
-pub returns-then-seen-count-clause-seen : goal.returns-then-seen-count-clause-seen
-returns-then-seen-count-clause-seen g c =
-    let i = c.loop.invariant in
-    seen_on c.args.pass.now.seat c.loop.pass.seat c.record_handed.new.pass.seat.seen i.seat i.seen
-    c.record_handed.ensures.seen
+pub returns-then-seen-count-clause-none_made : goal.returns-then-seen-count-clause-none_made
+returns-then-seen-count-clause-none_made g c =
+    let e = c.record_handed.ensures in
+    no_step_on c.args.pass.now.seat c.loop.pass.seat c.record_handed.new.pass.seat c.loop.invariant.none_made
+    (record { seat = e.seat; seen = e.seen })
 
 pub returns-then-seen-count-clause-all : goal.returns-then-seen-count-clause-all
 returns-then-seen-count-clause-all g c =
@@ -37,8 +37,8 @@ loop-preserved g c =
     let e = c.record_handed.ensures in
     let one = i.never_falls in
     let two = e.never_falls in record {
-      seat = seat_on c.args.pass.now.seat c.loop.pass.seat c.record_handed.new.pass.seat i.seat e.seat;
-      seen = seen_on c.args.pass.now.seat c.loop.pass.seat c.record_handed.new.pass.seat.seen i.seat i.seen e.seen;
+      none_made = no_step_on c.args.pass.now.seat c.loop.pass.seat c.record_handed.new.pass.seat i.none_made
+          (record { seat = e.seat; seen = e.seen });
       written = λ first held. (c.in_ok-record_handed.ensures.written first (i.written first held)).0;
       never_falls = omega arith;
     }

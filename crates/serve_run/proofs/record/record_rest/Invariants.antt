@@ -1,15 +1,12 @@
-use Rattle.std.proofs.Common.{◌≡◌, ◌≤◌, ℕ, List, Option}
-use Rattle.turn_lock.specs.Pairs.{HasSeen}
-use Rattle.turn_lock.specs.Sights.{having_seen}
+use Rattle.std.proofs.Common.{◌≤◌, ℕ, List, Option}
 use Rattle.serve_record.specs.Lines.{Holds}
-use Rattle.serve_record.specs.Handed.{handed_text}
+use Rattle.serve_record.specs.Handed.{handed_text, MadeNoStep}
 use Rattle.serve_run.proofs.record.record_rest.Given as goal
 
 -- the pass has seen more, and the output has the text of what was handed out, but for what waits
 abbrev pub invariant-loop : goal.invariant-loop
 invariant-loop g l = record {
-  seat : l.pass.seat ≡ having_seen l.initial.pass.seat l.pass.seat.seen;
-  seen : HasSeen l.pass.seat.seen l.initial.pass.seat.number l.initial.pass.seat.seen;
+  none_made : MadeNoStep l.initial.pass.seat l.pass.seat;
   written : (first : Option (List ℕ))
       → Holds first (g.K.Sink.held l.initial.output) l.initial.text (handed_text l.hub.limits l.initial.pass.handed)
       → Holds first (g.K.Sink.held l.output) l.text (handed_text l.hub.limits l.pass.handed);

@@ -1,16 +1,9 @@
-use Rattle.std.proofs.Common.{refl, sym, ap, subst, ◌≡◌, ◌⊎◌, inl, inr, ⊎_elim, ◌∙◌, ◌+◌, ◌++◌, ℕ, List, ◌∷◌, length, map, take, drop, Option, arith}
+use Rattle.std.proofs.Common.{sym, ap, subst, inl, inr, ⊎_elim, ◌∙◌, ◌+◌, ◌++◌, length, map, take, drop, arith}
 use Rattle.std.specs.Arc.{arc_value}
-use Rattle.wio_core.specs.Io.{Rose}
 use Rattle.turn_lock.specs.Pairs.{own}
 use Rattle.hub_lock.specs.Passes.{HubId, PassSeat}
-use Rattle.hub_lock.specs.Histories.{broker_of}
 use Rattle.serve_words.specs.Asked.{asked as asked'}
-use Rattle.serve_run.specs.declared.status.ServeStatus.{ServeStatus}
-use Rattle.serve_run.specs.declared.status.ServeStatus.TheVariants as statuses
-use Rattle.serve_run.specs.Statuses.{status_by, worst}
-use Rattle.serve_run.specs.ServerLaw.{ServerLaw, sides, text_of, IsWritten}
 use Rattle.serve_run.specs.LinkJobs.{AreOnHub, job_tagged}
-use Rattle.serve_record.specs.Recorded.{recorded}
 use Rattle.serve_run.specs.Ended.{IsEnded}
 use Rattle.serve_run.specs.Started.{IsRootOf, LinksStarted}
 use Rattle.serve_run.proofs.StartsCounted.{rose_until}
@@ -34,7 +27,7 @@ serve_links-accepted-requires-clause-few g c =
 pub finish_run-requires-clause-root : goal.finish_run-requires-clause-root
 finish_run-requires-clause-root g c =
     subst (λ (h : HubId). IsRootOf h c.serve_links-accepted.new.root) (sym c.deref.ensures)
-    c.serve_links-accepted.ensures.accepted.3.root_is
+    c.serve_links-accepted.ensures.accepted.started_are.root_is
 
 pub finish_run-requires-clause-ours : goal.finish_run-requires-clause-ours
 finish_run-requires-clause-ours g c =
@@ -43,24 +36,24 @@ finish_run-requires-clause-ours g c =
     let before = length (g.W.Spawner.reports c.serve_links-accepted.new.spawner) in
     subst (λ (h : HubId). AreOnHub h before started) (sym c.deref.ensures)
     (ours_of (arc_value c.args.hub.now) before (g.W.Spawner.started c.args.spawner.now) started _
-    (ap length e.reports ∙ c.requires.idle) e.accepted.3.jobs)
+    (ap length e.jobs.none_came ∙ c.requires.idle) e.accepted.started_are.jobs)
 
 pub finish_run-requires-clause-balance : goal.finish_run-requires-clause-balance
 finish_run-requires-clause-balance g c =
     let e = c.serve_links-accepted.ensures in
     let out = ap (λ (s : PassSeat). s.out) c.requires.new in
-    let balance = e.accepted.3.balance in
-    let same = ap length e.reports in
+    let balance = e.accepted.started_are.balance in
+    let same = ap length e.jobs.none_came in
     let idle = c.requires.idle in omega arith
 
 pub finish_run-requires-clause-room : goal.finish_run-requires-clause-room
 finish_run-requires-clause-room g c =
     let e = c.serve_links-accepted.ensures in
     let next = ap (λ (s : PassSeat). s.next) c.requires.new in
-    let more = e.accepted.3.next in
-    let few = passes_few c.args.asked.now.order.now e.accepted.3.joined in
-    let near = e.accepted.3.none_more in
-    let within = e.accepted.1 in
+    let more = e.accepted.started_are.next in
+    let few = passes_few c.args.asked.now.order.now e.accepted.started_are.joined in
+    let near = e.accepted.started_are.none_more in
+    let within = e.accepted.within in
     let short = c.requires.order in omega arith
 
 pub returns : goal.returns
@@ -87,32 +80,32 @@ returns g c =
         new = c.requires.new;
         idle = c.requires.idle;
         linked = c.serve_links-accepted.new.root;
-        count = e.accepted.0;
-        within = e.accepted.1;
-        doors = e.accepted.2;
+        count = e.accepted.count;
+        within = e.accepted.within;
+        doors = e.accepted.doors;
         accepted = c.serve_links-accepted.result;
         links = subst
             (λ tags. LinksStarted hub c.args.root.now c.serve_links-accepted.new.root
             (g.W.Spawner.started c.args.spawner.now) tags
-            c.args.asked.now.order.now (length (g.N.Net.links c.args.net.now) + 1) e.accepted.0
-            c.serve_links-accepted.result) (sym started) e.accepted.3;
-        all = e.accepted.4;
+            c.args.asked.now.order.now (length (g.N.Net.links c.args.net.now) + 1) e.accepted.count
+            c.serve_links-accepted.result) (sym started) e.accepted.started_are;
+        all = e.accepted.all;
         doors_open = e.open;
-        starts = ⊎_elim (λ l. inl (f.before ∙ l)) (λ r. inr (f.before ∙ r)) e.last;
+        starts = ⊎_elim (λ l. inl (f.before ∙ l)) (λ r. inr (f.before ∙ r)) e.jobs.last;
         net = e.net;
-        threads = λ why. rose_until _ _ _ (e.threads why) f.never_falls;
+        threads = λ why. rose_until _ _ _ (e.jobs.threads why) f.never_falls;
         collected = d.collected;
         mine = d.mine;
         kept = d.kept;
         given = d.given;
-        reports = d.came ∙ ap (λ rs. rs ++ d.given) e.reports;
+        reports = d.came ∙ ap (λ rs. rs ++ d.given) e.jobs.none_came;
         laws = d.laws;
         in_taken = d.in_taken;
         taken = d.taken;
         keyed = d.keyed
             ∙ (ap (λ rs. map job_tagged
             (take (length d.given) (drop (length rs) (g.W.Spawner.started c.serve_links-accepted.new.spawner))))
-            e.reports
+            e.jobs.none_came
             ∙ ap (λ tags. map job_tagged
             (take (length d.given) (drop (length (g.W.Spawner.reports c.args.spawner.now)) tags)))
             (sym started));
@@ -122,10 +115,9 @@ returns g c =
         settled = d.settled;
         lawful = d.lawful;
         owned = d.owned;
-        written = subst (λ l. IsWritten c.finish_run.result (g.K.Sink.held c.args.output.now)
-            (g.K.Sink.held c.finish_run.new.output)
-            (recorded l (broker_of l d.history).journal (broker_of l d.history).stamps)) c.requires.limits d.written;
-        write = d.write;
+        written = d.written;
+        recorded = d.recorded;
+        fault = d.fault;
         status_is = d.status_is;
       });
     }

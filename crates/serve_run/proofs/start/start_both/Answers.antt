@@ -1,11 +1,11 @@
-use Rattle.std.proofs.Common.{refl, sym, ap, subst, inr, length, Err}
+use Rattle.std.proofs.Common.{refl, sym, ap, subst, Ok, Err}
 use Rattle.link_jobs.specs.Tags.Part.{reader, writer}
 use Rattle.link_jobs.specs.LinkTags.{tag_with}
 use Rattle.serve_run.specs.LinkJobs.{job}
 use Rattle.serve_run.specs.Started.{BothStarted}
 use Rattle.serve_run.proofs.LinksStart.{none_of_two, first_of_two}
 use Rattle.serve_run.proofs.PassesBack.{made_nothing}
-use Rattle.serve_run.proofs.StartsCounted.{may_lack, lacks_thread, rose_on_err, last_of_two, ok_since}
+use Rattle.serve_run.proofs.StartsCounted.{may_lack, lacks_thread, starts_one, starts_more}
 use Rattle.serve_run.proofs.start.start_both.Goals as goal
 
 pub returns-in-Err-clause-started : goal.returns-in-Err-clause-started
@@ -40,15 +40,18 @@ returns-clause-started g c =
     (record { turn = c.requires.writes.0; limits = c.requires.writes.1 })
     two.same two.started two.back two.made two.none (lacks_thread c.start_job-2.result two.why)
 
-pub returns-clause-before : goal.returns-clause-before
-returns-clause-before g c =
-    ok_since c.start_job-2.result _ _ _ (ap length c.start_job.ensures.reports) c.start_job-2.ensures.before
+pub returns-in-Err-clause-jobs : goal.returns-in-Err-clause-jobs
+returns-in-Err-clause-jobs g c =
+    let e = c.start_job.ensures in
+    starts_one c.args.spawner.now c.start_job.new.spawner (Err c.in-Err.stop) tt c.in-Err.ensures.stays e.reports
+    e.never_falls c.in-Err.ensures.cause
 
-pub returns-clause-last : goal.returns-clause-last
-returns-clause-last g c =
-    inr (last_of_two c.start_job-2.result _ _ _ _ c.in_default.ensures.before (ap length c.start_job.ensures.reports)
-    c.start_job-2.ensures.before c.start_job-2.ensures.stays)
-
-pub returns-clause-cause : goal.returns-clause-cause
-returns-clause-cause g c =
-    rose_on_err c.start_job-2.result _ _ _ c.start_job.ensures.never_falls c.start_job-2.ensures.cause
+pub returns-clause-jobs : goal.returns-clause-jobs
+returns-clause-jobs g c =
+    let one = c.start_job.ensures in
+    let two = c.start_job-2.ensures in
+    starts_more c.args.spawner.now c.start_job.new.spawner c.start_job-2.new.spawner c.start_job-2.result
+    (starts_one c.args.spawner.now c.start_job.new.spawner (Ok tt) c.in_default.ensures.before tt one.reports
+    one.never_falls tt)
+    (starts_one c.start_job.new.spawner c.start_job-2.new.spawner c.start_job-2.result two.before two.stays two.reports
+    two.never_falls two.cause)
