@@ -1,0 +1,300 @@
+-- What a field's log has of what the one journal tells the field, and its peer's steps there
+use Rattle.std.proofs.Common.{◌≡◌, ℕ, ◌+◌, ◌<◌, Bool, false, List, [], ◌∷◌, ◌++◌, length, map, take, drop, Option, Some, None, Result, Ok, Err, refl, sym, ap, subst, ◌∙◌, arith, inl, inr}
+use Rattle.std.specs.Prelude.{◌⊎◌, ◌&&◌, if◌then◌else◌}
+use Rattle.std.proofs.lemmas.List.{append-nil, append_assoc, take-append-drop}
+use Rattle.std.proofs.lemmas.Bool.{ne_eqb}
+use Rattle.seat_steps.specs.declared.limits.Limits.{Limits}
+use Rattle.wl_wire.specs.Messages.{messages}
+use Rattle.wl_proto.specs.declared.event.Event.{Event}
+use Rattle.relay_model.specs.declared.act.Act.{Act}
+use Rattle.relay_model.specs.Objects.{is_at}
+use Rattle.relay_model.specs.Hold.{holder}
+use Rattle.relay_model.specs.Activation.{fresh}
+use Rattle.relay_model.specs.Batch.{group_of, relayed}
+use Rattle.relay_model.specs.Idle as idle
+use Rattle.relay_model.proofs.ActsOrIdle.{IsHistory, history_is}
+use Rattle.relay_model.proofs.FocusLaws.{and_false}
+use Rattle.relay_model.proofs.HoldLaws.{holder_within}
+use Rattle.trial_field.specs.Log.{Batch, no_edits}
+use Rattle.client_side.specs.Events.{field_objects}
+use Rattle.client_side.specs.FieldLog.{sends_of}
+use Rattle.client_side.specs.FieldState.{logged}
+use Rattle.client_side.specs.Happenings.{Happening, edited, batch, entered, left}
+use Rattle.client_side.specs.Messages.{field_setup}
+use Rattle.client_logs.specs.Logs.{field_log}
+use Rattle.client_logs.specs.MethodLogs.{settled}
+use Rattle.broker_model.specs.declared.journal.Entry.{Entry}
+use Rattle.broker_model.specs.Ids.{log_of}
+use Rattle.broker_model.specs.Law.{IsQueued, IsLeftOut}
+use Rattle.broker_model.specs.Out.{act_now, out_for}
+use Rattle.broker_model.specs.Queued.{relays, is_put, queued}
+use Rattle.broker_model.specs.Resolve.{past_of, resolve}
+use Rattle.broker_model.specs.Settle.{history, outer}
+use Rattle.broker_model.proofs.LivePeersJoined.{length_log}
+use Rattle.broker_model.proofs.MadeObjectsStand.{sound}
+use Rattle.broker_model.proofs.QueuedForFields.{relay_law}
+use Rattle.broker_core.proofs.ToldMessagesFit.{fits_history}
+use Rattle.told_law.specs.Sayable.{AreBytes}
+use Rattle.told_law.proofs.ActsCanBeSaid.{says_history}
+use Rattle.hub_lock.specs.Histories.{History, entries_of}
+use Rattle.hub_lock.specs.Lawful.{IsLawful}
+use Rattle.pass_calls.specs.Made.{journal_of}
+use Rattle.pass_calls.specs.Taken.{HasTaken}
+use Rattle.trial_law.specs.FieldLogs as fields
+use Rattle.trial_law.specs.RelayedBatches.{batches_in, group_told, groups_told, IsFrontOf, IsFieldOf}
+use Rattle.trial_law.specs.RelayedAsBatches.{batches_of}
+use Rattle.trial_law.proofs.HeardInPieces.{waiting, happenings-append, messages_on}
+use Rattle.trial_law.proofs.ClientIds.{AreOwn}
+use Rattle.trial_law.proofs.GroupsHeard.{front_heard, batches-append, tells_front}
+use Rattle.trial_law.proofs.BatchesRelayed.{AreShortBodies, IsInput, IsTold, all_fit, messages_joined, groups-append, all_told}
+use Rattle.trial_law.proofs.TextsRelayed.{is_input}
+use Rattle.trial_law.proofs.FieldsReadAll.{bytes_say}
+use Rattle.trial_law.proofs.BatchesSaid.{relayed_are}
+use Rattle.method_law.specs.TypedLogs.{steps_by, steps_of}
+use Rattle.typing_jobs.specs.declared.field_job.FieldJob.{FieldJob}
+use Rattle.typing_jobs.specs.declared.job_end.JobEnd.{JobEnd}
+use Rattle.typing_jobs.specs.declared.job_end.JobEnd.TheVariants as ends
+use Rattle.typing_jobs.specs.Fronts as jobs
+use Rattle.typing_jobs.specs.Happened as said
+use Rattle.typing_jobs.specs.FieldLaw.{IsFieldDone, IsFieldCut, FieldStops, FieldEnds}
+use Rattle.typing_jobs.specs.Sending.{HasSentFront}
+use Rattle.typing_jobs.proofs.RequestsWhole.{AreShort, short-append, sends_short, setup_short}
+use Rattle.jobs_law.specs.Passes.{ArePassesOf}
+use Rattle.jobs_law.specs.FieldTold.{told_to, IsFieldTold}
+use Rattle.jobs_law.specs.JobLaws.{FieldsAreTold, FieldsHaveSent}
+use Rattle.jobs_law.proofs.StepsOfPeers.{steps_outer}
+use Rattle.jobs_law.proofs.JournalsHeld.{lawful_bytes, lawful_short}
+use Rattle.jobs_law.proofs.PassesSeen.{TookIn, took_in}
+use Rattle.jobs_law.proofs.EventsRead.{same_happenings, field_begins}
+use Rattle.jobs_law.proofs.RequestsInOrder.{front_by, front_sent, all_sent}
+use Rattle.jobs_law.proofs.ObjectsMade.{field_own}
+
+-- ---- fronts
+
+front_on : {A : Type 0} (xs ys zs : List A) → IsFrontOf xs ys → IsFrontOf ys zs → IsFrontOf xs zs
+front_on xs ys zs f g = record {
+  rest = f.rest ++ g.rest;
+  is = sym (append_assoc xs f.rest g.rest) ∙ ap (λ l. l ++ g.rest) f.is ∙ g.is;
+}
+
+front_is : {A : Type 0} (xs ys zs : List A) → ys ≡ zs → IsFrontOf xs ys → IsFrontOf xs zs
+front_is xs ys zs e f = record { rest = f.rest; is = f.is ∙ e }
+
+happened_front : (xs ys : List Event) → IsFrontOf xs ys →
+    IsFrontOf (fields.happenings xs no_edits) (fields.happenings ys no_edits)
+happened_front xs ys f = record {
+  rest = fields.happenings f.rest (waiting xs no_edits);
+  is = sym (happenings-append xs f.rest no_edits) ∙ ap (λ (l : List Event). fields.happenings l no_edits) f.is;
+}
+
+batches_front : (xs ys : List Happening) → IsFrontOf xs ys → IsFrontOf (batches_in xs) (batches_in ys)
+batches_front xs ys f = record {
+  rest = batches_in f.rest;
+  is = sym (batches-append xs f.rest) ∙ ap batches_in f.is;
+}
+
+-- ---- the words of jobs, and those of trials
+
+pub told_same : (log : List Happening) → fields.told_in log ≡ said.told_in log
+told_same [] = refl
+told_same (edited edit ∷ older) = told_same older
+told_same (batch edits serial ∷ older) =
+    ap (λ (l : List Happening). l ++ batch edits serial ∷ []) (told_same older)
+told_same (entered ∷ older) = ap (λ (l : List Happening). l ++ entered ∷ []) (told_same older)
+told_same (left ∷ older) = ap (λ (l : List Happening). l ++ left ∷ []) (told_same older)
+
+pub happened_same : (es : List Event) (w : Batch) → said.happenings es w ≡ fields.happenings es w
+happened_same [] w = refl
+happened_same (e ∷ es) w = ap (λ (l : List Happening). logged e w [] ++ l) (happened_same es (said.waiting_after e w))
+
+-- ---- what a job has, however it ended
+
+record HasHeard (limits : Limits) (job : FieldJob) : Type 0 where
+  taken : List ℕ
+  took : HasTaken limits job.writer taken
+  events : List Event
+  begins : jobs.BeginsWith field_objects taken events
+  told : jobs.IsFrontOf (said.told_in (field_log job.log)) (said.happenings events no_edits)
+  sent : HasSentFront job.reader (field_setup ++ sends_of (field_log job.log))
+
+of_done : (limits : Limits) (job : FieldJob) → IsFieldDone limits job → HasHeard limits job
+of_done limits job d = record {
+  taken = d.taken;
+  took = d.took;
+  events = d.events;
+  begins = d.read.begins;
+  told = record { rest = []; is = sym d.told ∙ sym (append-nil _) };
+  sent = front_by limits job.reader job.writer (field_setup ++ sends_of (field_log job.log)) d.sent;
+}
+
+of_cut : (limits : Limits) (job : FieldJob) (own : List _) → IsFieldCut limits job own → HasHeard limits job
+of_cut limits job own c = record {
+  taken = c.taken;
+  took = c.took;
+  events = c.events;
+  begins = c.read;
+  told = c.told;
+  sent = c.sent;
+}
+
+of_stop : (limits : Limits) (job : FieldJob) (own : List _) (end : JobEnd) → FieldStops limits job own end →
+    HasHeard limits job
+of_stop limits job own (ends.JournalFull kept) k = of_cut limits job own k.0
+of_stop limits job own ends.BadEvent k = absurd k
+of_stop limits job own ends.NoMemory k = of_cut limits job own k
+
+of_end : (limits : Limits) (job : FieldJob) (r : Result (Unit {0}) JobEnd) → FieldEnds limits job r →
+    HasHeard limits job
+of_end limits job (Ok done) k = of_done limits job k
+of_end limits job (Err end) k = of_stop limits job _ end k
+
+-- ---- enters, leaves and batches
+
+-- what the first n bytes tell is a front of what all of them tell
+events_front : (n : ℕ) (put : List ℕ) →
+    IsFrontOf (fields.events_in (messages (take n put))) (fields.events_in (messages put))
+events_front n put =
+    let all = ap messages (sym (take-append-drop n put)) ∙ messages_on (take n put) (drop n put) in
+    front_is _ _ _ (ap fields.events_in (sym all)) (front_heard (messages (take n put)) _)
+
+heard_front : (limits : Limits) (journal : List Entry) (q : ℕ) (job : FieldJob) (k : HasHeard limits job)
+    (t : TookIn limits journal q k.taken) →
+    IsFrontOf (fields.told_in (field_log job.log)) (told_to limits.store journal t.peer.label)
+heard_front limits journal q job k t =
+    let log : List Happening = field_log job.log in
+    let out = out_for limits.store journal t.peer.label in
+    let begins : IsFrontOf (map settled k.events) (fields.events_in (messages k.taken)) =
+    record {
+      rest = fields.events_in (messages k.begins.rest);
+      is = sym (field_begins k.taken k.events k.begins);
+    } in
+    let taken : IsFrontOf (fields.events_in (messages k.taken)) (fields.events_in (messages out.put.bytes)) =
+    subst (λ (b : List ℕ). IsFrontOf (fields.events_in (messages b)) (fields.events_in (messages out.put.bytes)))
+    (sym t.is) (events_front out.taken out.put.bytes) in
+    let f = k.told in
+    let told : IsFrontOf (fields.told_in log) (fields.happenings (map settled k.events) no_edits) =
+    record {
+      rest = f.rest;
+      is = ap (λ (l : List Happening). l ++ f.rest) (told_same log) ∙ sym f.is
+          ∙ happened_same k.events no_edits ∙ sym (same_happenings k.events no_edits);
+    } in
+    front_on _ _ _ told (happened_front _ _ (front_on _ _ _ begins taken))
+
+-- ---- batches
+
+-- what a journal relays are batches
+pub relays_batches : (journal : List Entry) (f : ℕ) → AreBytes journal → AreShortBodies journal →
+    groups_told (relayed (idle.history (resolve journal)) f) ≡ batches_of journal f
+relays_batches journal f bytes short =
+    relayed_are (idle.history (resolve journal)) f (says_history false (resolve journal) (bytes_say journal bytes))
+    (fits_history (resolve journal) (all_fit journal short))
+
+queued_front : (capacity : ℕ) (journal : List Entry) (f : ℕ) → history capacity (outer journal) ≡ journal →
+    IsFrontOf (groups_told (queued capacity journal f)) (groups_told (relayed (idle.history (resolve journal)) f))
+queued_front capacity journal f e =
+    by (subst (λ (j : List Entry). IsQueued capacity j f ⊎ IsLeftOut capacity j f)
+    e (relay_law capacity (outer journal) f))
+  where
+    by : IsQueued capacity journal f ⊎ IsLeftOut capacity journal f →
+        IsFrontOf (groups_told (queued capacity journal f)) (groups_told (relayed (idle.history (resolve journal)) f))
+    by (inl q) = record { rest = []; is = append-nil _ ∙ ap groups_told q }
+    by (inr l) = record {
+      rest = group_told l.last;
+      is = sym (groups-append (queued capacity journal f) l.last) ∙ ap groups_told l.all_but_last;
+    }
+
+-- all that is put tells a front of what is queued
+put_front : (capacity : ℕ) (journal : List Entry) (p f : ℕ) → IsInput journal p f → AreShortBodies journal →
+    IsFrontOf (batches_in (told_to capacity journal p)) (groups_told (queued capacity journal f))
+put_front capacity journal p f input short =
+    let told : IsTold capacity journal p f = all_told capacity journal p f input short in
+    let found : messages (out_for capacity journal p).put.bytes ≡ told.messages =
+    ap messages told.bytes ∙ messages_joined told.messages told.each in
+    subst (λ (ms : List (List ℕ)). IsFrontOf (batches_in (fields.happenings (fields.events_in ms) no_edits))
+    (groups_told (queued capacity journal f))) (sym found)
+    (tells_front told.messages (groups_told (queued capacity journal f)) told.tells)
+
+-- where the peer made no field, none of its ids is that of a field to come
+no_input : (journal : List Entry) (p : ℕ) → AreOwn (past_of journal).made p 7 →
+    ((f : ℕ) → IsFieldOf journal p f → ⊥) → IsInput journal p (length journal + 1)
+no_input journal p own none = record {
+  own = own;
+  mine = λ m i label. absurd (let within = (sound journal m i).within in omega arith);
+  only = λ m i peer id.
+      absurd (none m.label (record { made = m; is = (sound journal m i).known; own = peer; input = id }));
+  maker = λ l. absurd (omega arith);
+}
+
+-- and nothing is queued for that
+not_held : (log : List Act) (f : ℕ) → IsHistory log → length log < f → is_at (holder log) f ≡ false
+not_held log f i l = by (holder log) refl
+  where
+    by : (o : Option ℕ) → holder log ≡ o → is_at o f ≡ false
+    by None e = refl
+    by (Some h) e = ne_eqb h f (λ same. (let w = holder_within log h i e in absurd (omega arith)))
+
+queued_none : (capacity : ℕ) (journal : List Entry) (f : ℕ) → length journal < f → queued capacity journal f ≡ []
+queued_none capacity [] f l = refl
+queued_none capacity (e ∷ older) f l =
+    let log : List Act = log_of (past_of older) in
+    let held : is_at (holder log) f ≡ false =
+    not_held log f (history_is (resolve older)) (let n = length_log older in omega arith) in
+    let no : relays e older f ≡ false =
+    ap (λ (b : Bool). fresh (act_now e older) log && b) held ∙ and_false (fresh (act_now e older) log) in
+    ap (λ (r : Bool). if r && is_put capacity e older f
+    then queued capacity older f ++ group_of (act_now e older) log f ∷ [] else queued capacity older f) no
+    ∙ queued_none capacity older f (omega arith)
+
+none_in_front : (xs ys : List Happening) → ys ≡ [] → IsFrontOf xs ys → xs ≡ []
+none_in_front [] ys e f = refl
+none_in_front (x ∷ xs) ys e f = absurd (let is = ap length (f.is ∙ e) in omega arith)
+
+-- ---- the law
+
+are_short : (job : FieldJob) → AreShort (field_setup ++ sends_of (field_log job.log))
+are_short job =
+    short-append field_setup (sends_of (field_log job.log)) setup_short (sends_short (field_log job.log))
+
+told_by : (limits : Limits) (h : History) (q : ℕ) (job : FieldJob) → IsLawful limits h →
+    ArePassesOf h q job.reader job.writer → HasHeard limits job →
+    IsFieldTold limits (journal_of limits h) q (field_log job.log)
+told_by limits h q job lawful p k =
+    let log : List Happening = field_log job.log in
+    let journal : List Entry = journal_of limits h in
+    let t : TookIn limits journal q k.taken = took_in limits h q job.reader job.writer k.taken lawful p k.took in
+    let sent : IsFrontOf (steps_by journal q) (steps_of q (field_setup ++ sends_of log)) =
+    front_sent limits h q job.reader job.writer (field_setup ++ sends_of log) lawful p (are_short job) k.sent in
+    let own : AreOwn (past_of journal).made t.peer.label 7 =
+    field_own limits.store (entries_of h) q sent.rest log t.peer
+    (ap (λ (l : List Entry). l ++ sent.rest) (sym (steps_outer limits.store (entries_of h) q)) ∙ sent.is) t.joined in
+    let short : AreShortBodies journal = lawful_short limits h lawful in
+    let told : IsFrontOf (fields.told_in log) (told_to limits.store journal t.peer.label) =
+    heard_front limits journal q job k t in
+    let batches : IsFrontOf (batches_in (fields.told_in log)) (batches_in (told_to limits.store journal t.peer.label)) =
+    batches_front _ _ told in
+    record {
+      peer = t.peer;
+      joined = t.joined;
+      told = told;
+      batches = λ f is.
+          front_is _ _ _ (relays_batches journal f (lawful_bytes limits h lawful) short)
+          (front_on _ _ _ batches
+          (front_on _ _ _ (put_front limits.store journal t.peer.label f
+          (is_input journal t.peer.label f own is) short)
+          (queued_front limits.store journal f lawful.shared.history)));
+      none = λ no.
+          none_in_front _ _ (ap groups_told (queued_none limits.store journal (length journal + 1) (omega arith)))
+          (front_on _ _ _ batches (put_front limits.store journal t.peer.label (length journal + 1)
+          (no_input journal t.peer.label own no) short));
+      sent = sent;
+    }
+
+pub fields_are_told : FieldsAreTold
+fields_are_told limits h q job r lawful p k = told_by limits h q job lawful p (of_end limits job r k)
+
+pub fields_have_sent : FieldsHaveSent
+fields_have_sent limits h q job lawful p done = record {
+  told = told_by limits h q job lawful p (of_done limits job done);
+  sent = all_sent limits h q job.reader job.writer (field_setup ++ sends_of (field_log job.log)) lawful p
+      (are_short job) done.sent;
+}

@@ -1,0 +1,13 @@
+pub mod StepsOfPeers
+pub mod JournalsHeld
+pub mod PassesSeen
+pub mod EventsRead
+pub mod RequestsInOrder
+pub mod ObjectsMade
+pub mod FieldTold
+pub mod CalmActs
+pub mod PutSilent
+pub mod PutHeard
+pub mod FieldAll
+pub mod MethodTold
+pub mod ShellTold

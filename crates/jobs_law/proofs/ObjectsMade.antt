@@ -1,0 +1,439 @@
+-- A field's peer made the objects that its client knows, each once, whatever others did meanwhile
+use Rattle.std.proofs.Common.{◌≡◌, ℕ, zero, suc, ◌+◌, ◌≤◌, Bool, true, false, List, [], ◌∷◌, ◌++◌, length, Option, Some, None, Result, Ok, refl, sym, ap, subst, ◌∙◌, arith, inl, inr}
+use Rattle.std.specs.Prelude.{◌⊎◌, if◌then◌else◌, ◌==◌}
+use Rattle.std.specs.List.{AllByRecursion}
+use Rattle.std.specs.Str.{is_utf8, chars}
+use lib.Utf8.{encode}
+use Rattle.std.proofs.lemmas.Bool.{eq-eqb}
+use Rattle.std.proofs.lemmas.List.{append_assoc, append-nil, append_cancel_left}
+use Rattle.std.proofs.lemmas.Option.{same_Some}
+use Rattle.wl_proto.specs.declared.interface.Interface.{Interface}
+use Rattle.wl_proto.specs.declared.interface.Interface.TheVariants.{Registry, Compositor, Seat, TextInputManager, Surface, TextInput}
+use Rattle.wl_proto.specs.declared.table.Kind.{Kind}
+use Rattle.wl_proto.specs.declared.table.Kind.TheVariants.{Uint, Object, NewId, Text}
+use Rattle.wl_proto.specs.declared.refuse.Refuse.{Refuse}
+use Rattle.wl_proto.specs.Rows.{Message, request_kinds}
+use Rattle.wl_proto.specs.Reading.{all_read, by_row, request_reading}
+use Rattle.wl_proto.specs.Spelling.{spelling, message_len}
+use Rattle.wl_proto.specs.Spelled.{AreTokens, AreOfKinds}
+use Rattle.wl_proto.proofs.ValuesReadBack.{values_complete, spelled_once}
+use Rattle.relay_model.specs.declared.fault.Fault.{Fault}
+use Rattle.relay_model.specs.declared.role.Role.{Role}
+use Rattle.broker_model.specs.declared.journal.Entry.{Entry}
+use Rattle.broker_model.specs.declared.journal.Entry.TheVariants as entries
+use Rattle.broker_model.specs.Ids.{Made, Joined, Past, log_of, peer_in, peer_at, object_at}
+use Rattle.broker_model.specs.Requests.{Argument, new_of}
+use Rattle.broker_model.specs.Refusals.{request_fault}
+use Rattle.broker_model.specs.Resolve.{label_at, made_new, of_request, of_reading, of_message, of_peer, means, with_joined, past_of}
+use Rattle.broker_model.specs.Settle.{settle, history}
+use Rattle.broker_model.proofs.IdsAreNames.{found}
+use Rattle.trial_field.specs.FieldText.{FieldText}
+use Rattle.client_side.specs.Messages.{Sent, field_setup}
+use Rattle.client_side.specs.Events.{object_in, field_objects}
+use Rattle.client_side.specs.FieldSends.{surrounding, change_sent, enable_sent}
+use Rattle.client_side.specs.FieldLog.{Field, sent_for, field_of, sends_of}
+use Rattle.client_side.specs.Happenings.{Happening, edited, batch, entered, left}
+use Rattle.trial_law.proofs.BytesTaken.{step_joined, step_peer}
+use Rattle.trial_law.proofs.ClientIds.{AreOwn, IsOfOther, next_made, step_made, others_step, input_step, join_step}
+use Rattle.method_law.specs.TypedLogs.{is_step_of, steps_by, step_of_request, steps_of}
+use Rattle.method_law.proofs.StepsSent.{steps-append, step_steps}
+use Rattle.jobs_law.proofs.StepsOfPeers.{steps_outer}
+
+-- ---- requests that make an object each, and requests to the text input
+
+-- the request makes an object under the id n + 1, of the interface that the client knows it by
+record IsMaking (n : ℕ) (s : Sent) : Type 0 where
+  object : object_in field_objects s.object ≡ Some s.message.interface
+  interface : Interface
+  new : new_of s.message.interface s.message.opcode s.message.values
+      ≡ Some (record { id = n + 1; interface = interface })
+  there : object_in field_objects (n + 1) ≡ Some interface
+  kinds : List Kind
+  row : request_kinds s.message.interface s.message.opcode ≡ Some kinds
+  fit : AreOfKinds kinds s.message.values
+  plain : (tokens : List ℕ) → AreTokens tokens s.message.values
+  size : message_len s.message ≤ 4096
+
+abbrev Makes : ℕ → List Sent → Type 0
+Makes n [] = n ≤ 7
+Makes n (s ∷ more) = (IsMaking n s × Makes (n + 1) more) ⊎ ((s.object ≡ 7) × Makes n more)
+
+most_made : (n : ℕ) (ss : List Sent) → Makes n ss → n ≤ 7
+most_made n [] h = h
+most_made n (s ∷ more) (inl h) = (let l = most_made (n + 1) more h.1 in omega arith)
+most_made n (s ∷ more) (inr h) = most_made n more h.1
+
+more_ids : (made : List Made) (p n k : ℕ) → n ≤ k → AreOwn made p n → AreOwn made p k
+more_ids made p n k l own = record {
+  within = λ m i e. (let w = own.within m i e in omega arith);
+  known = own.known;
+  once = own.once;
+}
+
+-- ---- one request that makes an object
+
+reads_back : (n : ℕ) (s : Sent) (tokens : List ℕ) → IsMaking n s →
+    request_reading s.message.interface s.message.opcode tokens (spelling s.message.values) ≡ Ok s.message
+unfolding request_reading
+reads_back n s tokens h =
+    ap (by_row s.message.interface s.message.opcode tokens (spelling s.message.values)) h.row
+    ∙ ap (all_read s.message.interface s.message.opcode)
+    (values_complete tokens h.kinds s.message.values (spelling s.message.values)
+    (spelled_once h.kinds s.message.values h.fit (let size = h.size in omega arith)) (h.plain tokens))
+
+request_makes : (past : Past) (k n : ℕ) (peer : Joined) (x : ℕ) (s : Sent) (o : Option Fault) → IsMaking n s →
+    AreOwn past.made peer.label n → AreOwn ((of_request past k peer x s.message o).made ++ past.made) peer.label (n + 1)
+request_makes past k n peer x s (Some f) h own = more_ids past.made peer.label n (n + 1) (omega arith) own
+request_makes past k n peer x s None h own =
+    subst (λ (a : Option Argument). AreOwn (made_new peer.label k a ++ past.made) peer.label (n + 1)) (sym h.new)
+    (next_made (record { peer = peer.label; id = n + 1; label = k; interface = h.interface })
+    past.made peer.label n refl
+    h.there own)
+
+message_makes : (past : Past) (k n : ℕ) (peer : Joined) (s : Sent) (o : Option Made) → IsMaking n s →
+    AreOwn past.made peer.label n → object_at past peer.label s.object ≡ o →
+    AreOwn ((of_message past k peer s.message.opcode (spelling s.message.values) o).made ++ past.made)
+    peer.label (n + 1)
+message_makes past k n peer s None h own e = more_ids past.made peer.label n (n + 1) (omega arith) own
+message_makes past k n peer s (Some x) h own e =
+    let f = found (log_of past) past.made peer.label s.object x e in
+    let there : object_in field_objects s.object ≡ Some x.interface =
+    subst (λ id. object_in field_objects id ≡ Some x.interface) f.under (own.known x f.among f.peer) in
+    let same : s.message.interface ≡ x.interface = same_Some s.message.interface x.interface (sym h.object ∙ there) in
+    let tokens : List ℕ = past.waiting peer.label in
+    let reads : request_reading x.interface s.message.opcode tokens (spelling s.message.values) ≡ Ok s.message =
+    subst (λ (i : Interface). request_reading i s.message.opcode tokens (spelling s.message.values) ≡ Ok s.message) same
+    (reads_back n s tokens h) in
+    subst (λ (r : Result Message Refuse). AreOwn ((of_reading past k peer x.label r).made ++ past.made)
+    peer.label (n + 1))
+    (sym reads)
+    (request_makes past k n peer x.label s
+    (request_fault past peer.label x.label peer.role (label_at past peer.label) s.message) h own)
+
+makes_step : (capacity q n : ℕ) (s : Sent) (journal : List Entry) (peer : Joined) →
+    peer_at (past_of journal) q ≡ Some peer → IsMaking n s → AreOwn (past_of journal).made peer.label n →
+    AreOwn (past_of (settle capacity (step_of_request q s ∷ journal))).made peer.label (n + 1)
+makes_step capacity q n s journal peer e h own =
+    let past : Past = past_of journal in
+    let k : ℕ = length journal + 1 in
+    let entry : Entry = step_of_request q s in
+    let made : AreOwn ((means entry k past).made ++ past.made) peer.label (n + 1) =
+    subst (λ (o : Option Joined). AreOwn ((of_peer o
+    (λ other. of_message past k other s.message.opcode (spelling s.message.values)
+    (object_at past other.label s.object))).made ++ past.made)
+    peer.label (n + 1)) (sym e)
+    (message_makes past k n peer s (object_at past peer.label s.object) h own refl) in
+    subst (λ (l : List Made). AreOwn l peer.label (n + 1)) (sym (step_made capacity entry journal)) made
+
+-- ---- who joins
+
+last_one : (joined : List Joined) (x peer : Joined) (q : ℕ) → peer_in joined q ≡ None →
+    peer_in (joined ++ x ∷ []) q ≡ Some peer → x ≡ peer
+last_one joined x peer zero a b = cc
+last_one [] x peer (suc zero) a b = same_Some x peer b
+last_one [] x peer (suc (suc k)) a b = cc
+last_one (z ∷ zs) x peer (suc zero) a b = cc
+last_one (z ∷ zs) x peer (suc (suc k)) a b = last_one zs x peer (suc k) a b
+
+joined_by : (e : Entry) (n : ℕ) (joined : List Joined) (peer : Joined) (q : ℕ) → peer_in joined q ≡ None →
+    peer_in (with_joined e n joined) q ≡ Some peer → (role : Role) × (e ≡ entries.Join role) × (peer.label ≡ n)
+joined_by (entries.Join role) n joined peer q a b =
+    (role, refl, ap (λ (x : Joined). x.label) (sym (last_one joined (record { label = n; role = role }) peer q a b)))
+joined_by (entries.Message k id opcode body) n joined peer q a b = cc
+joined_by (entries.Tokens k tokens) n joined peer q a b = cc
+joined_by (entries.BadSize k head) n joined peer q a b = cc
+joined_by (entries.End k why) n joined peer q a b = cc
+joined_by (entries.Shell step) n joined peer q a b = cc
+joined_by (entries.Took k bytes) n joined peer q a b = cc
+
+-- who joined by an entry has its display alone
+new_own : (capacity : ℕ) (e : Entry) (journal : List Entry) (q n : ℕ) (peer : Joined) → 1 ≤ n →
+    peer_at (past_of journal) q ≡ None → peer_at (past_of (settle capacity (e ∷ journal))) q ≡ Some peer →
+    AreOwn (past_of (settle capacity (e ∷ journal))).made peer.label n
+new_own capacity e journal q n peer some none is =
+    let joined : List Joined = with_joined e (length journal + 1) (past_of journal).joined in
+    let same : joined ≡ (past_of (settle capacity (e ∷ journal))).joined =
+    step_joined (λ (js : List Joined). joined ≡ js) capacity e journal refl in
+    let j = joined_by e (length journal + 1) (past_of journal).joined peer q none
+    (ap (λ (js : List Joined). peer_in js q) same ∙ is) in
+    subst (λ (x : Entry). AreOwn (past_of (settle capacity (x ∷ journal))).made peer.label n) (sym j.1)
+    (subst (λ p. AreOwn (past_of (settle capacity (entries.Join j.0 ∷ journal))).made p n) (sym j.2)
+    (more_ids _ (length journal + 1) 1 n some (join_step capacity j.0 journal)))
+
+-- ---- steps in turn
+
+-- whoever the peer q is, it has these ids
+abbrev HasIds : List Entry → ℕ → ℕ → Type 0
+HasIds journal q n =
+    (peer : Joined) → peer_at (past_of journal) q ≡ Some peer → AreOwn (past_of journal).made peer.label n
+
+-- one more entry, where it does this to a peer that joined before
+ids_after : (capacity : ℕ) (e : Entry) (journal : List Entry) (q n : ℕ) → 1 ≤ n →
+    ((peer : Joined) → peer_at (past_of journal) q ≡ Some peer →
+    AreOwn (past_of (settle capacity (e ∷ journal))).made peer.label n) →
+    HasIds (settle capacity (e ∷ journal)) q n
+ids_after capacity e journal q n some old peer is = by (peer_at (past_of journal) q) refl
+  where
+    by : (o : Option Joined) → peer_at (past_of journal) q ≡ o →
+        AreOwn (past_of (settle capacity (e ∷ journal))).made peer.label n
+    by None j = new_own capacity e journal q n peer some j is
+    by (Some p) j =
+        subst (λ (x : Joined). AreOwn (past_of (settle capacity (e ∷ journal))).made x.label n)
+        (same_Some p peer (sym (step_peer capacity e journal q p j) ∙ is)) (old p j)
+
+record IsGoing (journal : List Entry) (q : ℕ) (ss : List Sent) : Type 0 where
+  done : List Sent
+  later : List Sent
+  all : ss ≡ done ++ later
+  steps : steps_by journal q ≡ steps_of q done
+  n : ℕ
+  some : 1 ≤ n
+  makes : Makes n later
+  ids : HasIds journal q n
+
+of_other : (q : ℕ) (e : Entry) → is_step_of q e ≡ false → IsOfOther q e
+of_other q (entries.Message n id opcode body) h = λ same. (let is : (n == q) ≡ true = eq-eqb n q same in cc)
+of_other q (entries.Join role) h = tt
+of_other q (entries.Tokens n tokens) h = tt
+of_other q (entries.BadSize n head) h = tt
+of_other q (entries.End n why) h = tt
+of_other q (entries.Shell step) h = tt
+of_other q (entries.Took n bytes) h = tt
+
+other_going : (capacity : ℕ) (e : Entry) (journal : List Entry) (q : ℕ) (ss : List Sent) → is_step_of q e ≡ false →
+    IsGoing journal q ss → IsGoing (settle capacity (e ∷ journal)) q ss
+other_going capacity e journal q ss none g = record {
+  done = g.done;
+  later = g.later;
+  all = g.all;
+  steps = step_steps capacity e journal q
+      ∙ ap (λ (b : Bool). steps_by journal q ++ (if b then e ∷ [] else [])) none
+      ∙ append-nil (steps_by journal q) ∙ g.steps;
+  n = g.n;
+  some = g.some;
+  makes = g.makes;
+  ids = ids_after capacity e journal q g.n g.some
+      (λ p j. others_step capacity e journal q g.n p j (of_other q e none) (g.ids p j));
+}
+
+-- one more request
+next_going : (capacity : ℕ) (s : Sent) (more : List Sent) (journal : List Entry) (q : ℕ) (ss : List Sent)
+    (g : IsGoing journal q ss) → g.later ≡ s ∷ more → IsGoing (settle capacity (step_of_request q s ∷ journal)) q ss
+next_going capacity s more journal q ss g is = by (subst (Makes g.n) is g.makes)
+  where
+    e : Entry
+    e = step_of_request q s
+
+    all : ss ≡ (g.done ++ s ∷ []) ++ more
+    all = g.all ∙ ap (λ (l : List Sent). g.done ++ l) is ∙ sym (append_assoc g.done (s ∷ []) more)
+
+    steps : steps_by (settle capacity (e ∷ journal)) q ≡ steps_of q (g.done ++ s ∷ [])
+    steps =
+        step_steps capacity e journal q
+        ∙ ap (λ (b : Bool). steps_by journal q ++ (if b then e ∷ [] else [])) (eq-eqb q q refl)
+        ∙ ap (λ (l : List Entry). l ++ e ∷ []) g.steps ∙ sym (steps-append q g.done (s ∷ []))
+
+    by : (IsMaking g.n s × Makes (g.n + 1) more) ⊎ ((s.object ≡ 7) × Makes g.n more) →
+        IsGoing (settle capacity (e ∷ journal)) q ss
+    by (inl h) = record {
+      done = g.done ++ s ∷ [];
+      later = more;
+      all = all;
+      steps = steps;
+      n = g.n + 1;
+      some = omega arith;
+      makes = h.1;
+      ids = ids_after capacity e journal q (g.n + 1) (omega arith)
+          (λ p j. makes_step capacity q g.n s journal p j h.0 (g.ids p j));
+    }
+    by (inr h) = record {
+      done = g.done ++ s ∷ [];
+      later = more;
+      all = all;
+      steps = steps;
+      n = g.n;
+      some = g.some;
+      makes = h.1;
+      ids = ids_after capacity e journal q g.n g.some
+          (λ p j. subst (λ id. AreOwn (past_of (settle capacity
+          (entries.Message q id s.message.opcode (spelling s.message.values) ∷ journal))).made p.label g.n) (sym h.0)
+          (input_step capacity q s.message.opcode g.n (spelling s.message.values) journal p j (g.ids p j)));
+    }
+
+head_is : (x y : Entry) (xs ys : List Entry) → x ∷ xs ≡ y ∷ ys → x ≡ y
+head_is x y xs ys q = cc
+
+own_going : (capacity : ℕ) (e : Entry) (rest : List Entry) (journal : List Entry) (q : ℕ) (ss : List Sent)
+    (g : IsGoing journal q ss) (later : List Sent) → g.later ≡ later → e ∷ rest ≡ steps_of q later →
+    IsGoing (settle capacity (e ∷ journal)) q ss
+own_going capacity e rest journal q ss g [] is h = cc
+own_going capacity e rest journal q ss g (s ∷ more) is h =
+    subst (λ (x : Entry). IsGoing (settle capacity (x ∷ journal)) q ss)
+    (sym (head_is e (step_of_request q s) rest (steps_of q more) h)) (next_going capacity s more journal q ss g is)
+
+no_peer : (q : ℕ) (peer : Joined) → peer_in [] q ≡ Some peer → ⊥
+no_peer zero peer e = cc
+no_peer (suc k) peer e = cc
+
+going : (capacity : ℕ) (es : List Entry) (q : ℕ) (rest : List Entry) (ss : List Sent) → Makes 1 ss →
+    steps_by es q ++ rest ≡ steps_of q ss → IsGoing (history capacity es) q ss
+going capacity [] q rest ss makes front = record {
+  done = [];
+  later = ss;
+  all = refl;
+  steps = refl;
+  n = 1;
+  some = omega arith;
+  makes = makes;
+  ids = λ p j. absurd (no_peer q p j);
+}
+going capacity (e ∷ es) q rest ss makes front = by (is_step_of q e) refl
+    (going capacity es q ((if is_step_of q e then e ∷ [] else []) ++ rest) ss makes parts)
+  where
+    journal : List Entry
+    journal = history capacity es
+
+    parts : steps_by es q ++ ((if is_step_of q e then e ∷ [] else []) ++ rest) ≡ steps_of q ss
+    parts = sym (append_assoc (steps_by es q) (if is_step_of q e then e ∷ [] else []) rest) ∙ front
+
+    by : (b : Bool) → is_step_of q e ≡ b → IsGoing journal q ss → IsGoing (settle capacity (e ∷ journal)) q ss
+    by false none g = other_going capacity e journal q ss none g
+    by true mine g =
+        let all : steps_of q g.done ++ e ∷ rest ≡ steps_of q g.done ++ steps_of q g.later =
+        ap (λ (l : List Entry). l ++ e ∷ rest) (sym g.steps ∙ steps_outer capacity es q)
+        ∙ ap (λ (b : Bool). steps_by es q ++ ((if b then e ∷ [] else []) ++ rest)) (sym mine)
+        ∙ parts ∙ ap (steps_of q) g.all ∙ steps-append q g.done g.later in
+        own_going capacity e rest journal q ss g g.later refl
+        (append_cancel_left (steps_of q g.done) (e ∷ rest) (steps_of q g.later) all)
+
+-- ---- what a field sends
+
+setup_makes : (more : List Sent) → Makes 7 more → Makes 1 (field_setup ++ more)
+unfolding is_utf8 chars encode
+setup_makes more last =
+    inl (
+      record {
+        object = refl;
+        interface = Registry;
+        new = refl;
+        there = refl;
+        kinds = NewId ∷ [];
+        row = refl;
+        fit = (omega arith, tt);
+        plain = λ tokens. (tt, tt);
+        size = omega arith;
+      },
+      inl (
+        record {
+          object = refl;
+          interface = Compositor;
+          new = refl;
+          there = refl;
+          kinds = Uint ∷ Text ∷ Uint ∷ NewId ∷ [];
+          row = refl;
+          fit = (omega arith, (refl, (omega arith, (omega arith, tt))));
+          plain = λ tokens. (tt, (tt, (tt, (tt, tt))));
+          size = omega arith;
+        },
+        inl (
+          record {
+            object = refl;
+            interface = Seat;
+            new = refl;
+            there = refl;
+            kinds = Uint ∷ Text ∷ Uint ∷ NewId ∷ [];
+            row = refl;
+            fit = (omega arith, (refl, (omega arith, (omega arith, tt))));
+            plain = λ tokens. (tt, (tt, (tt, (tt, tt))));
+            size = omega arith;
+          },
+          inl (
+            record {
+              object = refl;
+              interface = TextInputManager;
+              new = refl;
+              there = refl;
+              kinds = Uint ∷ Text ∷ Uint ∷ NewId ∷ [];
+              row = refl;
+              fit = (omega arith, (refl, (omega arith, (omega arith, tt))));
+              plain = λ tokens. (tt, (tt, (tt, (tt, tt))));
+              size = omega arith;
+            },
+            inl (
+              record {
+                object = refl;
+                interface = Surface;
+                new = refl;
+                there = refl;
+                kinds = NewId ∷ [];
+                row = refl;
+                fit = (omega arith, tt);
+                plain = λ tokens. (tt, tt);
+                size = omega arith;
+              },
+              inl (
+                record {
+                  object = refl;
+                  interface = TextInput;
+                  new = refl;
+                  there = refl;
+                  kinds = NewId ∷ Object ∷ [];
+                  row = refl;
+                  fit = (omega arith, (omega arith, tt));
+                  plain = λ tokens. (tt, (tt, tt));
+                  size = omega arith;
+                },
+                last,
+              ),
+            ),
+          ),
+        ),
+      ),
+    )
+
+-- each goes to the text input
+abbrev AreToInput : List Sent → Type 0
+AreToInput ss = AllByRecursion (λ (s : Sent). s.object ≡ 7) ss
+
+inputs_make : (ss : List Sent) → AreToInput ss → Makes 7 ss
+inputs_make [] h = omega arith
+inputs_make (s ∷ more) h = inr (h.0, inputs_make more h.1)
+
+inputs-append : (a b : List Sent) → AreToInput a → AreToInput b → AreToInput (a ++ b)
+inputs-append [] b h k = k
+inputs-append (s ∷ a) b h k = (h.0, inputs-append a b h.1 k)
+
+where_sent : (b : Bool) (ss : List Sent) → AreToInput ss → AreToInput (if b then ss else [])
+where_sent true ss h = h
+where_sent false ss h = tt
+
+surrounding_to : (t : FieldText) → (surrounding t).object ≡ 7
+unfolding surrounding
+surrounding_to t = refl
+
+change_to : (cause : ℕ) (t : FieldText) → AreToInput (change_sent cause t)
+change_to cause t = (surrounding_to t, (refl, (refl, tt)))
+
+enable_to : (t : FieldText) → AreToInput (enable_sent t)
+enable_to t = (refl, (surrounding_to t, (refl, (refl, (refl, tt)))))
+
+for_to : (h : Happening) (f : Field) → AreToInput (sent_for h f)
+for_to (edited edit) f = where_sent _ (change_sent 1 _) (change_to 1 _)
+for_to (batch edits serial) f = where_sent _ (change_sent 0 _) (change_to 0 _)
+for_to entered f = enable_to f.text
+for_to left f = tt
+
+sends_to : (log : List Happening) → AreToInput (sends_of log)
+sends_to [] = tt
+sends_to (h ∷ older) =
+    inputs-append (sends_of older) (sent_for h (field_of older)) (sends_to older) (for_to h (field_of older))
+
+-- so its peer has these objects, however much of it was sent
+pub field_own : (capacity : ℕ) (es : List Entry) (q : ℕ) (rest : List Entry) (log : List Happening)
+    (peer : Joined) → steps_by es q ++ rest ≡ steps_of q (field_setup ++ sends_of log) →
+    peer_at (past_of (history capacity es)) q ≡ Some peer →
+    AreOwn (past_of (history capacity es)).made peer.label 7
+field_own capacity es q rest log peer front joined =
+    let g = going capacity es q rest (field_setup ++ sends_of log)
+    (setup_makes (sends_of log) (inputs_make (sends_of log) (sends_to log))) front in
+    more_ids _ peer.label g.n 7 (most_made g.n g.later g.makes) (g.ids peer joined)

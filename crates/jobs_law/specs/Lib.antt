@@ -1,0 +1,5 @@
+pub mod Passes
+pub mod FieldTold
+pub mod MethodTold
+pub mod ShellTold
+pub mod JobLaws

@@ -1,0 +1,28 @@
+-- What the one journal tells the method, and its log of it
+use Rattle.std.specs.Prelude.{◌≡◌, List, Some}
+use Rattle.seat_steps.specs.declared.limits.Limits.{Limits}
+use Rattle.client_side.specs.MethodLog.{Happening}
+use Rattle.broker_model.specs.declared.journal.Entry.{Entry}
+use Rattle.broker_model.specs.Ids.{Joined, peer_at}
+use Rattle.broker_model.specs.Resolve.{past_of}
+use Rattle.trial_law.specs.RelayedBatches.{IsFrontOf}
+use Rattle.trial_run.specs.declared.typist.TrialTypist.{TrialTypist}
+use Rattle.method_law.specs.ToldEvents.{events_told}
+use Rattle.method_law.specs.TypedLogs.{events_of, requests_of, steps_by, steps_of}
+use Rattle.jobs_law.specs.Passes.{HasSentIn}
+
+-- The log's events are a front of those that the journal's acts tell the method's peer, which is the
+-- first, in order: each key of its grab, each activation and each done. The peer's steps are the
+-- first of what the log asks for.
+pub record IsMethodTold (limits : Limits) (journal : List Entry) (typist : TrialTypist)
+    (log : List Happening) : Type 0 where
+  pub peer : Joined
+  pub joined : peer_at (past_of journal) 1 ≡ Some peer
+  pub told : IsFrontOf (events_of log) (events_told limits.store journal peer.label)
+  pub sent : IsFrontOf (steps_by journal 1) (steps_of 1 (requests_of typist log))
+
+-- so it is, and the steps are all of that, unless the peer ended
+pub record IsMethodToldAndSent (limits : Limits) (journal : List Entry) (typist : TrialTypist)
+    (log : List Happening) : Type 0 where
+  pub told : IsMethodTold limits journal typist log
+  pub sent : HasSentIn journal 1 (requests_of typist log)
