@@ -15,7 +15,7 @@ use std::sync::atomic::AtomicU64;
 use std::test::Fail;
 use std::thread::{Threads, join};
 use std::time::Clock;
-use wl_wire::Bytes;
+use wl_wire::{Bytes, Front, front_of};
 
 /// How often the focus moves.
 const MOVES: u64 = 200;
@@ -26,58 +26,26 @@ const SET_UP: u64 = 124;
 /// An `enter`, or a `leave`.
 const TOLD: u64 = 12;
 
-/// An object's id, an opcode, and the arguments' bytes.
-struct Request {
-    id: u32,
-    opcode: u16,
-    body: &'static [u8],
-}
-
-/// An application's registry, compositor 3, seat 4, manager 5, surface 6 and text input 7.
-static REQUESTS: [Request; 6] = [
-    Request {
-        id: 1,
-        opcode: 1,
-        body: b"\x02\0\0\0",
-    },
-    Request {
-        id: 2,
-        opcode: 0,
-        body: b"\x01\0\0\0\x0e\0\0\0wl_compositor\0\0\0\x01\0\0\0\x03\0\0\0",
-    },
-    Request {
-        id: 2,
-        opcode: 0,
-        body: b"\x02\0\0\0\x08\0\0\0wl_seat\0\x01\0\0\0\x04\0\0\0",
-    },
-    Request {
-        id: 2,
-        opcode: 0,
-        body: b"\x03\0\0\0\x1a\0\0\0zwp_text_input_manager_v3\0\0\0\x01\0\0\0\x05\0\0\0",
-    },
-    Request {
-        id: 3,
-        opcode: 0,
-        body: b"\x06\0\0\0",
-    },
-    Request {
-        id: 5,
-        opcode: 1,
-        body: b"\x07\0\0\0\x04\0\0\0",
-    },
+// An application makes its registry, compositor 3, seat 4, manager 5, surface 6 and text input 7.
+static REQUESTS: [&[u8]; 6] = [
+    b"\x01\0\0\0\x01\0\x0c\0\x02\0\0\0",
+    b"\x02\0\0\0\0\0\x28\0\x01\0\0\0\x0e\0\0\0wl_compositor\0\0\0\x01\0\0\0\x03\0\0\0",
+    b"\x02\0\0\0\0\0\x20\0\x02\0\0\0\x08\0\0\0wl_seat\0\x01\0\0\0\x04\0\0\0",
+    b"\x02\0\0\0\0\0\x34\0\x03\0\0\0\x1a\0\0\0zwp_text_input_manager_v3\0\0\0\x01\0\0\0\x05\0\0\0",
+    b"\x03\0\0\0\0\0\x0c\0\x06\0\0\0",
+    b"\x05\0\0\0\x01\0\x10\0\x07\0\0\0\x04\0\0\0",
 ];
 
-fn step_of(alloc: Global, request: &Request) -> Result<PeerStep, Fail>
+fn step_of(alloc: Global, request: &[u8]) -> Result<PeerStep, Fail>
     ensures { IfOk result IsPeerStep }
 {
-    let size = request.body.len();
-    if size > 4088 || size % 4 != 0 {
-        return Err(Fail::new("no message has this body"));
-    }
+    let Front::Whole(raw, _) = front_of(request) else {
+        return Err(Fail::new("no whole message"));
+    };
     Ok(PeerStep::Message {
-        id: request.id,
-        opcode: request.opcode,
-        body: Bytes::from_slice(alloc, request.body)?,
+        id: raw.id,
+        opcode: raw.opcode,
+        body: Bytes::from_slice(alloc, raw.body)?,
     })
 }
 
@@ -86,7 +54,7 @@ fn make_one<R: Wait>(
     alloc: Global,
     hub: &Hub,
     reader: &mut ReaderPass,
-    request: &Request,
+    request: &[u8],
 ) -> Result<(), Fail>
     requires own { IsOf hub.now reader.old.seat }
     ensures own { IsOf hub.now reader.new.seat }

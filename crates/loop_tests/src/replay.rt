@@ -8,7 +8,7 @@ use relay_model::Role;
 use seat_steps::{PeerStep, Stamp, Step};
 use std::alloc::Global;
 use std::test::Fail;
-use wl_wire::Bytes;
+use wl_wire::{Bytes, HEADER_SIZE, MESSAGE_LIMIT};
 
 const GIVEN: Stamp = Stamp {
     moment: 0,
@@ -28,7 +28,7 @@ fn play_message(
     opcode: u16,
     body: &Bytes,
 ) -> Result<(), Fail> {
-    if body.len() > 4088 || body.len() % 4 != 0 {
+    if body.len() > MESSAGE_LIMIT - HEADER_SIZE || body.len() % 4 != 0 {
         return Err(Fail::new("a message that is none"));
     }
     let step = PeerStep::Message {
