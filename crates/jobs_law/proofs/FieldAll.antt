@@ -26,7 +26,7 @@ use Rattle.broker_model.specs.Law.{maker_of, IsQueued, IsLeftOut}
 use Rattle.broker_model.specs.Out.{Outgoing, out_for}
 use Rattle.broker_model.specs.Queued.{queued}
 use Rattle.broker_model.specs.Resolve.{past_of, resolve}
-use Rattle.broker_model.specs.Settle.{due, cause_of, with_end, settled as ends_appended, number_alive, history, outer}
+use Rattle.broker_model.specs.Settle.{due, cause_of, with_end, settled as ends_appended, settle, number_alive, history, outer}
 use Rattle.broker_model.proofs.IdsAreNames.{made_with}
 use Rattle.broker_model.proofs.LabelsRiseByNumber.{one_number}
 use Rattle.broker_model.proofs.MadeObjectsStand.{sound}
@@ -103,6 +103,15 @@ newer_steps P end capacity (e ∷ es) base each =
       is = ap (λ (l : List Entry). e ∷ l) n.is;
       each = (each.0, n.each);
     })
+
+-- so what is settled is no shorter
+pub longer_settled : (capacity : ℕ) (journal : List Entry) → length journal ≤ length (settle capacity journal)
+longer_settled capacity journal =
+    let n = newer_ends (λ e. Unit {0}) (λ q cause. tt) capacity (number_alive journal) journal journal
+    (record { newer = []; is = refl; each = tt }) in
+    let long = ap length n.is in
+    let parts = length-append n.newer journal in
+    omega arith
 
 each-both : (P : Entry → Type 0) (xs ys : List Entry) → AllByRecursion P xs → AllByRecursion P ys →
     AllByRecursion P (xs ++ ys)

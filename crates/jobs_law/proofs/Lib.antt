@@ -11,3 +11,4 @@ pub mod PutHeard
 pub mod FieldAll
 pub mod MethodTold
 pub mod ShellTold
+pub mod TrialTold

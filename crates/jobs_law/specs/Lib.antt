@@ -3,3 +3,4 @@ pub mod FieldTold
 pub mod MethodTold
 pub mod ShellTold
 pub mod JobLaws
+pub mod OneTrial

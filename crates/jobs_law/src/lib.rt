@@ -5,6 +5,7 @@
 ghost use Rattle.jobs_law.specs.JobLaws.{FieldsAreTold, FieldsHaveSent, FieldsAreAllTold};
 ghost use Rattle.jobs_law.specs.JobLaws.{MethodsAreTold, MethodsHaveSent};
 ghost use Rattle.jobs_law.specs.JobLaws.{ShellHasOrdered, OnlyShellOrders};
+ghost use Rattle.jobs_law.specs.OneTrial.{TrialsAreTold};
 
 /// However a field's job ended: the enters, leaves and batches of its log are a front of those that
 /// the one journal tells the field, its batches are a front of those that the journal relays to it,
@@ -47,4 +48,13 @@ pub fn shell_has_ordered()
 #[tactic(auto, using(crate::proofs::ShellTold::only_shell_orders))]
 pub fn only_shell_orders()
     ensures { OnlyShellOrders }
+{}
+
+/// In a trial whose jobs were done the shell's orders in the one journal are the script's; the
+/// method's log has a front of the events that the journal tells its peer, and its peer's steps are
+/// what the log asks for; each field's log has all that the journal tells the field, with all batches
+/// that are relayed to it, a front of these where its peer ended, and its peer's steps are its set-up
+/// and what its log sends.
+pub fn trials_are_told()
+    ensures { TrialsAreTold }
 {}

@@ -1,0 +1,121 @@
+-- The jobs of a whole trial over one hub, all done
+use Rattle.std.specs.Prelude.{◌≡◌, ◌⊎◌, ◌≤◌, ℕ, ◌+◌, Bool, true, false, List, length, Some}
+use Rattle.std.specs.List.{AllByRecursion, slice_get}
+use Rattle.seat_steps.specs.declared.limits.Limits.{Limits}
+use Rattle.broker_model.specs.declared.journal.Entry.{Entry}
+use Rattle.broker_model.specs.declared.journal.Entry.TheVariants as entries
+use Rattle.client_logs.specs.Logs.{field_log}
+use Rattle.client_logs.specs.MethodLogs.{method_log}
+use Rattle.turn_lock.specs.Pairs.{HasSeen}
+use Rattle.hub_lock.specs.declared.step.OuterStep.{OuterStep}
+use Rattle.hub_lock.specs.Histories.{History}
+use Rattle.hub_lock.specs.Lawful.{IsLawful}
+use Rattle.hub_lock.specs.Passes.{PeerPass}
+use Rattle.pass_calls.specs.Counted.{entries_of_pass, is_join}
+use Rattle.pass_calls.specs.Made.{entries_by, journal_of}
+use Rattle.pass_calls.specs.Taken.{HasAll}
+use Rattle.trial_run.specs.declared.typist.TrialTypist.{TrialTypist}
+use Rattle.typing_jobs.specs.declared.field_job.FieldJob.{FieldJob}
+use Rattle.typing_jobs.specs.declared.shell_job.ShellJob.{ShellJob}
+use Rattle.typing_jobs.specs.FieldLaw.{IsFieldDone}
+use Rattle.typing_jobs.specs.Sending.{IsOver}
+use Rattle.typing_jobs.specs.ShellLaw.{ordered}
+use Rattle.trial_jobs.specs.declared.method_job.MethodJob.{MethodJob}
+use Rattle.trial_jobs.specs.MethodHearing.{HasShort}
+use Rattle.trial_jobs.specs.MethodLaw.{IsFresh, IsMethodDone}
+use Rattle.jobs_law.specs.Passes.{ArePassesOf, HasEndIn}
+use Rattle.jobs_law.specs.FieldTold.{IsFieldToldAndSent, IsAllTold}
+use Rattle.jobs_law.specs.MethodTold.{IsMethodToldAndSent}
+use Rattle.jobs_law.specs.ShellTold.{orders_of, IsFocusOrKey}
+
+-- ---- whose passes made the steps
+
+-- the number is that of one of a peer's passes
+abbrev pub IsOfPeer : PeerPass → PeerPass → ℕ → Type 0
+IsOfPeer reader writer n = (n ≡ reader.seat.number) ⊎ (n ≡ writer.seat.number)
+
+-- or of one of these fields' passes
+pub record IsOfField (fields : List FieldJob) (n : ℕ) : Type 0 where
+  pub k : ℕ
+  pub job : FieldJob
+  pub is : slice_get fields k ≡ Some job
+  pub of : IsOfPeer job.reader job.writer n
+
+-- or of the root, the shell, the method or a field
+abbrev pub IsOfTrial : MethodJob → List FieldJob → ShellJob → ℕ → Type 0
+IsOfTrial method fields shell n =
+    (n ≡ 0)
+    ⊎ ((n ≡ shell.pass.number)
+    ⊎ (IsOfPeer method.reader method.writer n ⊎ IsOfField fields n))
+
+abbrev pub is_take : Entry → Bool
+is_take (entries.Took q bytes) = true
+is_take _ = false
+
+-- they are the peer's passes, and the writer's made takes alone
+pub record IsOnePeer (h : History) (q : ℕ) (reader writer : PeerPass) : Type 0 where
+  pub passes : ArePassesOf h q reader writer
+  pub takes : AllByRecursion (λ (e : Entry). is_take e ≡ true) (entries_by writer.seat)
+
+-- ---- the jobs
+
+-- how many entries the journal has that these steps make
+abbrev pub entries_after : Limits → History → ℕ
+entries_after limits h = length (journal_of limits h)
+
+-- The field's job was done. Its writer took all that was put as far as it has seen, which is no less
+-- than the shell, the method's reader and its own have; or its peer ended.
+pub record HasRested (limits : Limits) (method : MethodJob) (shell : ShellJob)
+    (job : FieldJob) : Type 0 where
+  pub done : IsFieldDone limits job
+  pub rest : (HasAll limits job.writer done.taken
+      × (entries_after limits shell.pass.seen ≤ entries_after limits job.writer.seat.seen)
+      × (entries_after limits method.reader.seat.seen ≤ entries_after limits job.writer.seat.seen)
+      × (entries_after limits job.reader.seat.seen ≤ entries_after limits job.writer.seat.seen))
+      ⊎ IsOver limits job.reader job.writer
+
+-- The method's peer is the first, and those of the fields follow, in order. What their passes and the
+-- shell's have seen are fronts of one lawful history with no later step of theirs, and each of its
+-- steps is of one of them or a join by the root. All jobs were done.
+pub record IsTrial (limits : Limits) (h : History) (typist : TrialTypist) (method : MethodJob)
+    (fields : List FieldJob) (shell : ShellJob) : Type 0 where
+  pub lawful : IsLawful limits h
+  pub method_peer : IsOnePeer h 1 method.reader method.writer
+  pub field_peers : (k : ℕ) (job : FieldJob) → slice_get fields k ≡ Some job →
+      IsOnePeer h (k + 2) job.reader job.writer
+  pub shell_seen : HasSeen h shell.pass.number shell.pass.seen
+  pub joins : AllByRecursion (λ (e : Entry). is_join e ≡ true) (entries_of_pass 0 h)
+  pub each : AllByRecursion (λ (s : ℕ × OuterStep). IsOfTrial method fields shell s.0) h
+  pub fresh : IsFresh typist
+  pub short : HasShort (method_log method.log)
+  pub keys : AllByRecursion IsFocusOrKey shell.steps
+  pub ordered-are : entries_by shell.pass ≡ ordered shell.steps
+  pub method_done : IsMethodDone limits typist method
+  pub rested : (k : ℕ) (job : FieldJob) → slice_get fields k ≡ Some job →
+      HasRested limits method shell job
+
+-- ---- what the one journal says
+
+-- The field's log has a front of what the journal tells it, and all of that unless its peer ended;
+-- its peer's steps are the set-up and what its log sends, or a front where it ended.
+pub record HasFieldTold (limits : Limits) (journal : List Entry) (q : ℕ)
+    (job : FieldJob) : Type 0 where
+  pub told : IsFieldToldAndSent limits journal q (field_log job.log)
+  pub all : (HasEndIn journal q → ⊥) → IsAllTold limits journal q (field_log job.log)
+
+-- So it is with each field; the method's log has a front of the events that the journal tells its
+-- peer, and its peer's steps are what the log asks for; the shell's orders are the script's.
+pub record IsToldWhole (limits : Limits) (journal : List Entry) (typist : TrialTypist)
+    (method : MethodJob) (fields : List FieldJob) (shell : ShellJob) : Type 0 where
+  pub orders : orders_of journal ≡ shell.steps
+  pub method_told : IsMethodToldAndSent limits journal typist (method_log method.log)
+  pub fields_told : (k : ℕ) (job : FieldJob) → slice_get fields k ≡ Some job →
+      HasFieldTold limits journal (k + 2) job
+
+-- so it is with every trial whose jobs were done
+abbrev pub TrialsAreTold : Type 0
+TrialsAreTold =
+    (limits : Limits) (h : History) (typist : TrialTypist) (method : MethodJob)
+    (fields : List FieldJob) (shell : ShellJob) →
+    IsTrial limits h typist method fields shell →
+    IsToldWhole limits (journal_of limits h) typist method fields shell
