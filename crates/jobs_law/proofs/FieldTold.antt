@@ -148,6 +148,10 @@ of_end : (limits : Limits) (job : FieldJob) (r : Result (Unit {0}) JobEnd) → F
 of_end limits job (Ok done) k = of_done limits job k
 of_end limits job (Err end) k = of_stop limits job _ end k
 
+pub sent_by : (limits : Limits) (job : FieldJob) (r : Result (Unit {0}) JobEnd) → FieldEnds limits job r →
+    HasSentFront job.reader (field_setup ++ sends_of (field_log job.log))
+sent_by limits job r k = (of_end limits job r k).sent
+
 -- ---- enters, leaves and batches
 
 -- what the first n bytes tell is a front of what all of them tell

@@ -211,6 +211,10 @@ of_end : (limits : Limits) (typist : TrialTypist) (job : MethodJob) (r : Result 
 of_end limits typist job (Ok done) k = of_done limits typist job k
 of_end limits typist job (Err end) k = of_stop limits typist job _ end k
 
+pub sent_by : (limits : Limits) (typist : TrialTypist) (job : MethodJob) (r : Result (Unit {0}) JobEnd) →
+    MethodEnds limits typist job r → HasSentFront job.reader (requests_of typist (method_log job.log))
+sent_by limits typist job r k = (of_end limits typist job r k).sent
+
 -- ---- the law
 
 front_on : {A : Type 0} (xs ys zs : List A) → IsFrontOf xs ys → IsFrontOf ys zs → IsFrontOf xs zs

@@ -1,5 +1,5 @@
 -- The law of a whole trial, of the laws of its jobs
-use Rattle.std.proofs.Common.{◌≡◌, ℕ, zero, suc, ◌+◌, ◌≤◌, Bool, true, false, List, [], ◌∷◌, ◌++◌, length, map, Option, Some, None, Ok, refl, sym, ap, subst, ◌∙◌, inl, inr, arith, append-nil, append_assoc}
+use Rattle.std.proofs.Common.{◌≡◌, ℕ, zero, suc, ◌+◌, ◌≤◌, Bool, true, false, List, [], ◌∷◌, ◌++◌, length, map, Option, Some, None, Result, Ok, Err, refl, sym, ap, subst, ◌∙◌, inl, inr, arith, append-nil, append_assoc}
 use Rattle.std.specs.Prelude.{◌⊎◌, if◌then◌else◌}
 use Rattle.std.specs.List.{AllByRecursion, slice_get}
 use Rattle.std.proofs.lemmas.Bool.{ne_eqb}
@@ -19,7 +19,7 @@ use Rattle.turn_lock.proofs.PairsOfNumbers.{own-here, own-else, none-back}
 use Rattle.hub_lock.specs.declared.step.OuterStep.{OuterStep}
 use Rattle.hub_lock.specs.Histories.{History, entries_of, reader_of}
 use Rattle.hub_lock.specs.Lawful.{IsMadeBy, AreMadeBy}
-use Rattle.hub_lock.specs.Passes.{PeerPass}
+use Rattle.hub_lock.specs.Passes.{PassSeat, PeerPass}
 use Rattle.hub_lock.proofs.JournalOfSteps.{journal-longer}
 use Rattle.pass_calls.specs.Counted.{entries_of_pass, is_join}
 use Rattle.pass_calls.specs.Made.{entries_by, journal_of}
@@ -32,22 +32,25 @@ use Rattle.trial_law.specs.RelayedBatches.{IsFrontOf}
 use Rattle.trial_run.specs.declared.typist.TrialTypist.{TrialTypist}
 use Rattle.method_law.specs.TypedLogs.{is_step_of, steps_by, steps_of, requests_of}
 use Rattle.typing_jobs.specs.declared.field_job.FieldJob.{FieldJob}
+use Rattle.typing_jobs.specs.declared.job_end.JobEnd.{JobEnd}
+use Rattle.typing_jobs.specs.declared.job_end.JobEnd.TheVariants as ends
 use Rattle.typing_jobs.specs.declared.shell_job.ShellJob.{ShellJob}
 use Rattle.typing_jobs.specs.FieldLaw.{IsFieldDone}
 use Rattle.typing_jobs.specs.Sending.{HasSentFront, IsOver}
-use Rattle.typing_jobs.specs.ShellLaw.{ordered}
+use Rattle.typing_jobs.specs.ShellLaw.{ordered, Orders}
 use Rattle.trial_jobs.specs.declared.method_job.MethodJob.{MethodJob}
 use Rattle.client_logs.specs.MethodLogs.{method_log}
 use Rattle.jobs_law.specs.Passes.{ArePassesOf, HasEndIn}
 use Rattle.jobs_law.specs.FieldTold.{IsQuiet, OthersAreFields, IsAllTold}
-use Rattle.jobs_law.specs.OneTrial.{IsOfPeer, IsOfTrial, is_take, IsOnePeer, entries_after, IsTrial, TrialsAreTold}
-use Rattle.jobs_law.specs.ShellTold.{orders_of, is_order, OrdersAreOf, IsFocusOrKey}
+use Rattle.jobs_law.specs.OneTrial.{IsOfPeer, IsOfTrial, is_take, IsOnePeer, entries_after, AreJobs, IsTrial, IsCutTrial, TrialsAreTold, CutTrialsAreTold}
+use Rattle.jobs_law.specs.ShellTold.{orders_of, is_order, OrdersAreOf, HasOrdered, IsFocusOrKey}
 use Rattle.jobs_law.proofs.StepsOfPeers.{steps_outer}
 use Rattle.jobs_law.proofs.PassesSeen.{over_in}
 use Rattle.jobs_law.proofs.RequestsInOrder.{front_by}
-use Rattle.jobs_law.proofs.FieldTold.{fields_have_sent}
+use Rattle.jobs_law.proofs.FieldTold.{sent_by, fields_are_told, fields_have_sent}
 use Rattle.jobs_law.proofs.FieldAll.{longer_settled, fields_are_all_told}
-use Rattle.jobs_law.proofs.MethodTold.{methods_have_sent}
+use Rattle.jobs_law.proofs.MethodTold.{methods_are_told, methods_have_sent}
+use Rattle.jobs_law.proofs.MethodTold as methods
 use Rattle.jobs_law.proofs.ShellTold.{shell_has_ordered}
 
 -- ---- what holds of the steps of each pass holds of each step
@@ -136,37 +139,72 @@ peer_known fields shell h q reader writer ss p f n (inr e) known =
     (subst (AllByRecursion (λ (x : Entry). is_take x ≡ true)) (sym (steps_stay writer.seat h p.passes.writer_seen))
     p.takes))
 
+-- what the jobs' passes submitted and ordered are the first of what they are to
+record AreSent (typist : TrialTypist) (method : MethodJob) (fields : List FieldJob) (shell : ShellJob) : Type 0 where
+  orders : AllByRecursion (λ (e : Entry). is_order e ≡ true) (entries_by shell.pass)
+  method_sent : HasSentFront method.reader (requests_of typist (method_log method.log))
+  fields_sent : (k : ℕ) (job : FieldJob) → slice_get fields k ≡ Some job →
+      HasSentFront job.reader (field_setup ++ sends_of (field_log job.log))
+
+sent_all : (limits : Limits) (h : History) (typist : TrialTypist) (method : MethodJob) (fields : List FieldJob)
+    (shell : ShellJob) → IsTrial limits h typist method fields shell → AreSent typist method fields shell
+sent_all limits h typist method fields shell t = record {
+  orders = subst (AllByRecursion (λ (e : Entry). is_order e ≡ true)) (sym t.ordered-are) (orders_are shell.steps);
+  method_sent = front_by limits method.reader method.writer (requests_of typist (method_log method.log))
+      t.method_done.sent;
+  fields_sent = λ k job is. front_by limits job.reader job.writer (field_setup ++ sends_of (field_log job.log))
+      (t.rested k job is).done.sent;
+}
+
+orders_front : (limits : Limits) (pass : PassSeat) (steps : List ShellStep) (r : Result (Unit {0}) JobEnd) →
+    Orders limits pass steps r → AllByRecursion (λ (e : Entry). is_order e ≡ true) (entries_by pass)
+orders_front limits pass steps (Ok done) k =
+    subst (AllByRecursion (λ (e : Entry). is_order e ≡ true)) (sym k) (orders_are steps)
+orders_front limits pass steps (Err (ends.JournalFull kept)) k =
+    front_all (λ (e : Entry). is_order e ≡ true) (entries_by pass) (ordered (k.next ∷ k.later))
+    (subst (AllByRecursion (λ (e : Entry). is_order e ≡ true)) k.orders (orders_are steps))
+orders_front limits pass steps (Err ends.BadEvent) k = absurd k
+orders_front limits pass steps (Err ends.NoMemory) k =
+    front_all (λ (e : Entry). is_order e ≡ true) (entries_by pass) k.rest
+    (subst (AllByRecursion (λ (e : Entry). is_order e ≡ true)) k.is (orders_are steps))
+
+sent_cut : (limits : Limits) (h : History) (typist : TrialTypist) (method : MethodJob) (fields : List FieldJob)
+    (shell : ShellJob) → IsCutTrial limits h typist method fields shell → AreSent typist method fields shell
+sent_cut limits h typist method fields shell t = record {
+  orders = orders_front limits shell.pass shell.steps t.shell_ends.0 t.shell_ends.1;
+  method_sent = methods.sent_by limits typist method t.method_ends.0 t.method_ends.1;
+  fields_sent = λ k job is. (let e = t.field_ends k job is in sent_by limits job e.0 e.1);
+}
+
 pass_known : (limits : Limits) (h : History) (typist : TrialTypist) (method : MethodJob) (fields : List FieldJob)
-    (shell : ShellJob) → IsTrial limits h typist method fields shell → (n : ℕ) → IsOfTrial method fields shell n →
-    AllByRecursion (IsKnown fields shell.pass.number n) (entries_of_pass n h)
-pass_known limits h typist method fields shell t n (inl e) =
+    (shell : ShellJob) → AreJobs limits h typist method fields shell → AreSent typist method fields shell → (n : ℕ) →
+    IsOfTrial method fields shell n → AllByRecursion (IsKnown fields shell.pass.number n) (entries_of_pass n h)
+pass_known limits h typist method fields shell t s n (inl e) =
     subst (λ k. AllByRecursion (IsKnown fields shell.pass.number n) (entries_of_pass k h)) (sym e)
     (all_map (λ (x : Entry). is_join x ≡ true) (IsKnown fields shell.pass.number n) (entries_of_pass 0 h)
     (λ x j. inl j) t.joins)
-pass_known limits h typist method fields shell t n (inr (inl e)) =
+pass_known limits h typist method fields shell t s n (inr (inl e)) =
     subst (λ k. AllByRecursion (IsKnown fields shell.pass.number n) (entries_of_pass k h)) (sym e)
     (all_map (λ (x : Entry). is_order x ≡ true) (IsKnown fields shell.pass.number n)
     (entries_of_pass shell.pass.number h) (λ x o. inr (inl (o, e)))
-    (subst (AllByRecursion (λ (x : Entry). is_order x ≡ true))
-    (sym (steps_stay shell.pass h t.shell_seen ∙ t.ordered-are)) (orders_are shell.steps)))
-pass_known limits h typist method fields shell t n (inr (inr (inl of))) =
+    (subst (AllByRecursion (λ (x : Entry). is_order x ≡ true)) (sym (steps_stay shell.pass h t.shell_seen)) s.orders))
+pass_known limits h typist method fields shell t s n (inr (inr (inl of))) =
     peer_known fields shell.pass.number h 1 method.reader method.writer (requests_of typist (method_log method.log))
-    t.method_peer (front_by limits method.reader method.writer (requests_of typist (method_log method.log))
-    t.method_done.sent) n of (λ e m. inr (inr (inr (inl m))))
-pass_known limits h typist method fields shell t n (inr (inr (inr f))) =
-    let ss : List Sent = field_setup ++ sends_of (field_log f.job.log) in
-    peer_known fields shell.pass.number h (f.k + 2) f.job.reader f.job.writer ss (t.field_peers f.k f.job f.is)
-    (front_by limits f.job.reader f.job.writer ss (t.rested f.k f.job f.is).done.sent) n f.of
+    t.method_peer s.method_sent n of (λ e m. inr (inr (inr (inl m))))
+pass_known limits h typist method fields shell t s n (inr (inr (inr f))) =
+    peer_known fields shell.pass.number h (f.k + 2) f.job.reader f.job.writer
+    (field_setup ++ sends_of (field_log f.job.log)) (t.field_peers f.k f.job f.is) (s.fields_sent f.k f.job f.is) n f.of
     (λ e m. inr (inr (inr (inr (record { k = f.k; job = f.job; is = f.is; message = m })))))
 
 abbrev AllKnown : List FieldJob → ℕ → History → Type 0
 AllKnown fields shell h = AllByRecursion (λ (s : ℕ × OuterStep). IsKnown fields shell s.0 s.1.entry) h
 
 all_known : (limits : Limits) (h : History) (typist : TrialTypist) (method : MethodJob) (fields : List FieldJob)
-    (shell : ShellJob) → IsTrial limits h typist method fields shell → AllKnown fields shell.pass.number h
-all_known limits h typist method fields shell t =
+    (shell : ShellJob) → AreJobs limits h typist method fields shell → AreSent typist method fields shell →
+    AllKnown fields shell.pass.number h
+all_known limits h typist method fields shell t s =
     each_step (IsKnown fields shell.pass.number) (IsOfTrial method fields shell) h
-    (pass_known limits h typist method fields shell t) t.each
+    (pass_known limits h typist method fields shell t s) t.each
 
 -- ---- the shell's orders
 
@@ -269,7 +307,7 @@ others_are_fields limits h typist method fields shell t q peer other joined = by
         × IsFrontOf (steps_by (journal_of limits h) q) (steps_of q (field_setup ++ sends_of log))
     by (inl f) =
         let job : FieldJob = f.1 in
-        let told = fields_have_sent limits h (f.0 + 2) job t.lawful (t.field_peers f.0 job f.2).passes
+        let told = fields_have_sent limits h (f.0 + 2) job t.jobs.lawful (t.jobs.field_peers f.0 job f.2).passes
         (t.rested f.0 job f.2).done in (
           field_log job.log,
           subst (λ k. IsFrontOf (steps_by (journal_of limits h) k) (steps_of k (field_setup ++ sends_of (field_log job.log))))
@@ -279,7 +317,7 @@ others_are_fields limits h typist method fields shell t q peer other joined = by
         let is : steps_by (journal_of limits h) q ≡ [] =
         steps_outer limits.store (entries_of h) q
         ∙ steps_none fields shell.pass.number q h other (λ k job is e. none (k, job, is, e))
-        (all_known limits h typist method fields shell t) in (
+        (all_known limits h typist method fields shell t.jobs (sent_all limits h typist method fields shell t)) in (
           [],
           record {
             rest = steps_of q (field_setup ++ sends_of []);
@@ -369,7 +407,7 @@ field_all limits h typist method fields shell t k job is lives =
     rests (t.rested k job is).rest
   where
     p : ArePassesOf h (k + 2) job.reader job.writer
-    p = (t.field_peers k job is).passes
+    p = (t.jobs.field_peers k job is).passes
 
     done : IsFieldDone limits job
     done = (t.rested k job is).done
@@ -385,10 +423,10 @@ field_all limits h typist method fields shell t k job is lives =
         let seen : History = job.writer.seat.seen in
         let rest : History = p.writer_seen.0 in
         let whole : h ≡ seen ++ rest = p.writer_seen.1 in
-        let m = t.method_peer.passes in
+        let m = t.jobs.method_peer.passes in
         let no_order : NoneOf shell.pass.number rest =
-        later_none limits shell.pass.number shell.pass.seen seen t.shell_seen.0 rest
-        (sym t.shell_seen.1 ∙ whole) all.1 t.shell_seen.2 in
+        later_none limits shell.pass.number shell.pass.seen seen t.jobs.shell_seen.0 rest
+        (sym t.jobs.shell_seen.1 ∙ whole) all.1 t.jobs.shell_seen.2 in
         let no_method : NoneOf method.reader.seat.number rest =
         later_none limits method.reader.seat.number method.reader.seat.seen seen m.reader_seen.0 rest
         (sym m.reader_seen.1 ∙ whole) all.2 m.reader_seen.2 in
@@ -396,28 +434,59 @@ field_all limits h typist method fields shell t k job is lives =
         later_none limits job.reader.seat.number job.reader.seat.seen seen p.reader_seen.0 rest
         (sym p.reader_seen.1 ∙ whole) all.3 p.reader_seen.2 in
         let made : AreMadeBy h rest =
-        made-back h seen rest (subst (AreMadeBy h) whole t.lawful.made_by) in
+        made-back h seen rest (subst (AreMadeBy h) whole t.jobs.lawful.made_by) in
         let orders : OrdersAreOf shell.pass.number rest =
         orders_right shell.pass.number seen rest (subst (OrdersAreOf shell.pass.number) whole
-        (orders_of_shell fields shell.pass.number h (all_known limits h typist method fields shell t))) in
-        fields_are_all_told limits h (k + 2) job t.lawful p done all.0
+        (orders_of_shell fields shell.pass.number h (all_known limits h typist method fields shell t.jobs
+        (sent_all limits h typist method fields shell t)))) in
+        fields_are_all_told limits h (k + 2) job t.jobs.lawful p done all.0
         (rest_quiet h rest shell.pass.number method.reader.seat.number job.reader.seat.number (k + 2) made orders
         no_order no_method no_own m.reads p.reads)
         (others_are_fields limits h typist method fields shell t) (λ e. absurd (omega arith))
 
 pub trials_are_told : TrialsAreTold
 trials_are_told limits h typist method fields shell t =
-    let journal : List Entry = journal_of limits h in
-    let orders : orders_of journal ≡ shell.steps =
-    shell_has_ordered limits h shell.pass shell.steps (Ok tt) t.lawful t.shell_seen
-    (orders_of_shell fields shell.pass.number h (all_known limits h typist method fields shell t)) t.ordered-are in
+    let j : AreJobs limits h typist method fields shell = t.jobs in
+    let orders : orders_of (journal_of limits h) ≡ shell.steps =
+    shell_has_ordered limits h shell.pass shell.steps (Ok tt) j.lawful j.shell_seen
+    (orders_of_shell fields shell.pass.number h
+    (all_known limits h typist method fields shell j (sent_all limits h typist method fields shell t))) t.ordered-are in
     record {
       orders = orders;
-      method_told = methods_have_sent limits h typist method t.lawful t.method_peer.passes t.fresh t.short
-          (subst (AllByRecursion IsFocusOrKey) (sym orders) t.keys) t.method_done;
+      method_told = methods_have_sent limits h typist method j.lawful j.method_peer.passes j.fresh j.short
+          (subst (AllByRecursion IsFocusOrKey) (sym orders) j.keys) t.method_done;
       fields_told = λ k job is. record {
-        told = fields_have_sent limits h (k + 2) job t.lawful (t.field_peers k job is).passes
+        told = fields_have_sent limits h (k + 2) job j.lawful (j.field_peers k job is).passes
             (t.rested k job is).done;
         all = field_all limits h typist method fields shell t k job is;
       };
+    }
+
+-- ---- however the jobs ended
+
+ordered_front : (journal : List Entry) (steps : List ShellStep) (r : Result (Unit {0}) JobEnd) →
+    HasOrdered journal steps r → IsFrontOf (orders_of journal) steps
+ordered_front journal steps (Ok done) k = record { rest = []; is = append-nil (orders_of journal) ∙ k }
+ordered_front journal steps (Err end) k = k
+
+keys_front : (xs ys : List ShellStep) → AllByRecursion IsFocusOrKey (xs ++ ys) → AllByRecursion IsFocusOrKey xs
+keys_front [] ys all = tt
+keys_front (x ∷ xs) ys all = (all.0, keys_front xs ys all.1)
+
+pub cut_trials_are_told : CutTrialsAreTold
+cut_trials_are_told limits h typist method fields shell t =
+    let j : AreJobs limits h typist method fields shell = t.jobs in
+    let orders : IsFrontOf (orders_of (journal_of limits h)) shell.steps =
+    ordered_front (journal_of limits h) shell.steps t.shell_ends.0
+    (shell_has_ordered limits h shell.pass shell.steps t.shell_ends.0 j.lawful j.shell_seen
+    (orders_of_shell fields shell.pass.number h
+    (all_known limits h typist method fields shell j (sent_cut limits h typist method fields shell t)))
+    t.shell_ends.1) in
+    record {
+      orders = orders;
+      method_told = methods_are_told limits h typist method t.method_ends.0 j.lawful j.method_peer.passes j.fresh j.short
+          (keys_front (orders_of (journal_of limits h)) orders.rest
+          (subst (AllByRecursion IsFocusOrKey) (sym orders.is) j.keys)) t.method_ends.1;
+      fields_told = λ k job is. (let e = t.field_ends k job is in
+          fields_are_told limits h (k + 2) job e.0 j.lawful (j.field_peers k job is).passes e.1);
     }

@@ -1,5 +1,5 @@
 -- The jobs of a whole trial over one hub, all done
-use Rattle.std.specs.Prelude.{◌≡◌, ◌⊎◌, ◌≤◌, ℕ, ◌+◌, Bool, true, false, List, length, Some}
+use Rattle.std.specs.Prelude.{◌≡◌, ◌⊎◌, ◌≤◌, ℕ, ◌+◌, Bool, true, false, List, length, Some, Result}
 use Rattle.std.specs.List.{AllByRecursion, slice_get}
 use Rattle.seat_steps.specs.declared.limits.Limits.{Limits}
 use Rattle.broker_model.specs.declared.journal.Entry.{Entry}
@@ -14,18 +14,20 @@ use Rattle.hub_lock.specs.Passes.{PeerPass}
 use Rattle.pass_calls.specs.Counted.{entries_of_pass, is_join}
 use Rattle.pass_calls.specs.Made.{entries_by, journal_of}
 use Rattle.pass_calls.specs.Taken.{HasAll}
+use Rattle.trial_law.specs.RelayedBatches.{IsFrontOf}
 use Rattle.trial_run.specs.declared.typist.TrialTypist.{TrialTypist}
 use Rattle.typing_jobs.specs.declared.field_job.FieldJob.{FieldJob}
+use Rattle.typing_jobs.specs.declared.job_end.JobEnd.{JobEnd}
 use Rattle.typing_jobs.specs.declared.shell_job.ShellJob.{ShellJob}
-use Rattle.typing_jobs.specs.FieldLaw.{IsFieldDone}
+use Rattle.typing_jobs.specs.FieldLaw.{IsFieldDone, FieldEnds}
 use Rattle.typing_jobs.specs.Sending.{IsOver}
-use Rattle.typing_jobs.specs.ShellLaw.{ordered}
+use Rattle.typing_jobs.specs.ShellLaw.{ordered, Orders}
 use Rattle.trial_jobs.specs.declared.method_job.MethodJob.{MethodJob}
 use Rattle.trial_jobs.specs.MethodHearing.{HasShort}
-use Rattle.trial_jobs.specs.MethodLaw.{IsFresh, IsMethodDone}
+use Rattle.trial_jobs.specs.MethodLaw.{IsFresh, IsMethodDone, MethodEnds}
 use Rattle.jobs_law.specs.Passes.{ArePassesOf, HasEndIn}
-use Rattle.jobs_law.specs.FieldTold.{IsFieldToldAndSent, IsAllTold}
-use Rattle.jobs_law.specs.MethodTold.{IsMethodToldAndSent}
+use Rattle.jobs_law.specs.FieldTold.{IsFieldTold, IsFieldToldAndSent, IsAllTold}
+use Rattle.jobs_law.specs.MethodTold.{IsMethodTold, IsMethodToldAndSent}
 use Rattle.jobs_law.specs.ShellTold.{orders_of, IsFocusOrKey}
 
 -- ---- whose passes made the steps
@@ -76,8 +78,9 @@ pub record HasRested (limits : Limits) (method : MethodJob) (shell : ShellJob)
 
 -- The method's peer is the first, and those of the fields follow, in order. What their passes and the
 -- shell's have seen are fronts of one lawful history with no later step of theirs, and each of its
--- steps is of one of them or a join by the root. All jobs were done.
-pub record IsTrial (limits : Limits) (h : History) (typist : TrialTypist) (method : MethodJob)
+-- steps is of one of them or a join by the root. The method's typist was fresh, its user's batches
+-- fit messages, and the shell says keys and where the focus is.
+pub record AreJobs (limits : Limits) (h : History) (typist : TrialTypist) (method : MethodJob)
     (fields : List FieldJob) (shell : ShellJob) : Type 0 where
   pub lawful : IsLawful limits h
   pub method_peer : IsOnePeer h 1 method.reader method.writer
@@ -89,10 +92,24 @@ pub record IsTrial (limits : Limits) (h : History) (typist : TrialTypist) (metho
   pub fresh : IsFresh typist
   pub short : HasShort (method_log method.log)
   pub keys : AllByRecursion IsFocusOrKey shell.steps
+
+-- such jobs, all done
+pub record IsTrial (limits : Limits) (h : History) (typist : TrialTypist) (method : MethodJob)
+    (fields : List FieldJob) (shell : ShellJob) : Type 0 where
+  pub jobs : AreJobs limits h typist method fields shell
   pub ordered-are : entries_by shell.pass ≡ ordered shell.steps
   pub method_done : IsMethodDone limits typist method
   pub rested : (k : ℕ) (job : FieldJob) → slice_get fields k ≡ Some job →
       HasRested limits method shell job
+
+-- such jobs, each with the law of its end
+pub record IsCutTrial (limits : Limits) (h : History) (typist : TrialTypist) (method : MethodJob)
+    (fields : List FieldJob) (shell : ShellJob) : Type 0 where
+  pub jobs : AreJobs limits h typist method fields shell
+  pub shell_ends : (r : Result (Unit {0}) JobEnd) × Orders limits shell.pass shell.steps r
+  pub method_ends : (r : Result (Unit {0}) JobEnd) × MethodEnds limits typist method r
+  pub field_ends : (k : ℕ) (job : FieldJob) → slice_get fields k ≡ Some job →
+      (r : Result (Unit {0}) JobEnd) × FieldEnds limits job r
 
 -- ---- what the one journal says
 
@@ -119,3 +136,21 @@ TrialsAreTold =
     (fields : List FieldJob) (shell : ShellJob) →
     IsTrial limits h typist method fields shell →
     IsToldWhole limits (journal_of limits h) typist method fields shell
+
+-- ---- however the jobs ended
+
+-- The same with a front in place of each list: of the orders, of what the method and each field are
+-- told, and of what their logs send.
+pub record IsToldFront (limits : Limits) (journal : List Entry) (typist : TrialTypist)
+    (method : MethodJob) (fields : List FieldJob) (shell : ShellJob) : Type 0 where
+  pub orders : IsFrontOf (orders_of journal) shell.steps
+  pub method_told : IsMethodTold limits journal typist (method_log method.log)
+  pub fields_told : (k : ℕ) (job : FieldJob) → slice_get fields k ≡ Some job →
+      IsFieldTold limits journal (k + 2) (field_log job.log)
+
+abbrev pub CutTrialsAreTold : Type 0
+CutTrialsAreTold =
+    (limits : Limits) (h : History) (typist : TrialTypist) (method : MethodJob)
+    (fields : List FieldJob) (shell : ShellJob) →
+    IsCutTrial limits h typist method fields shell →
+    IsToldFront limits (journal_of limits h) typist method fields shell

@@ -5,7 +5,7 @@
 ghost use Rattle.jobs_law.specs.JobLaws.{FieldsAreTold, FieldsHaveSent, FieldsAreAllTold};
 ghost use Rattle.jobs_law.specs.JobLaws.{MethodsAreTold, MethodsHaveSent};
 ghost use Rattle.jobs_law.specs.JobLaws.{ShellHasOrdered, OnlyShellOrders};
-ghost use Rattle.jobs_law.specs.OneTrial.{TrialsAreTold};
+ghost use Rattle.jobs_law.specs.OneTrial.{TrialsAreTold, CutTrialsAreTold};
 
 /// However a field's job ended: the enters, leaves and batches of its log are a front of those that
 /// the one journal tells the field, its batches are a front of those that the journal relays to it,
@@ -57,4 +57,9 @@ pub fn only_shell_orders()
 /// and what its log sends.
 pub fn trials_are_told()
     ensures { TrialsAreTold }
+{}
+
+/// However its jobs ended, the same holds with a front in place of each list.
+pub fn cut_trials_are_told()
+    ensures { CutTrialsAreTold }
 {}
