@@ -70,10 +70,10 @@ abbrev HoldsOfEnds : (Entry → Type 0) → Type 0
 HoldsOfEnds P = (q : ℕ) (cause : EndCause) → P (entries.End q cause)
 
 -- a journal with newer entries, of each of which this holds
-record IsNewer (P : Entry → Type 0) (base journal : List Entry) : Type 0 where
-  newer : List Entry
-  is : journal ≡ newer ++ base
-  each : AllByRecursion P newer
+pub record IsNewer (P : Entry → Type 0) (base journal : List Entry) : Type 0 where
+  pub newer : List Entry
+  pub is : journal ≡ newer ++ base
+  pub each : AllByRecursion P newer
 
 newer_end : (P : Entry → Type 0) → HoldsOfEnds P → (base journal : List Entry) (o : Option ℕ) →
     IsNewer P base journal → IsNewer P base (with_end journal o)
@@ -91,7 +91,7 @@ newer_ends P end capacity (suc fuel) base journal n =
     newer_ends P end capacity fuel base (with_end journal (due capacity journal))
     (newer_end P end base journal (due capacity journal) n)
 
-newer_steps : (P : Entry → Type 0) → HoldsOfEnds P → (capacity : ℕ) (es base : List Entry) → AllByRecursion P es →
+pub newer_steps : (P : Entry → Type 0) → HoldsOfEnds P → (capacity : ℕ) (es base : List Entry) → AllByRecursion P es →
     IsNewer P (history capacity base) (history capacity (es ++ base))
 newer_steps P end capacity [] base each = record { newer = []; is = refl; each = tt }
 newer_steps P end capacity (e ∷ es) base each =
@@ -118,7 +118,7 @@ each-both : (P : Entry → Type 0) (xs ys : List Entry) → AllByRecursion P xs 
 each-both P [] ys a b = b
 each-both P (x ∷ xs) ys a b = (a.0, each-both P xs ys a.1 b)
 
-entries_each : (P : Entry → Type 0) (h : History) → AllByRecursion (λ (s : ℕ × OuterStep). P s.1.entry) h →
+pub entries_each : (P : Entry → Type 0) (h : History) → AllByRecursion (λ (s : ℕ × OuterStep). P s.1.entry) h →
     AllByRecursion P (entries_of h)
 entries_each P [] each = tt
 entries_each P (x ∷ h) each =
@@ -129,23 +129,23 @@ entries_each P (x ∷ h) each =
 
 -- the messages are what all bytes were read as, so nothing goes wrong behind the events
 nothing_left : (ms : List (List ℕ)) (events : List Event) (r : AreEventsIn field_objects (joined ms) events) →
-    AllByRecursion IsEventful ms → fields.events_in (messages (joined ms)) ≡ map settled events
+    AllByRecursion (IsEventful field_objects) ms → fields.events_in (messages (joined ms)) ≡ map settled events
 nothing_left ms events r each =
     field_begins (joined ms) events r.begins
     ∙ ap (λ (l : List Event). map settled events ++ l) (none r.left) ∙ append-nil (map settled events)
   where
     -- the messages behind the events are among these
-    each_right : (xs ys : List (List ℕ)) → AllByRecursion IsEventful (xs ++ ys) → AllByRecursion IsEventful ys
+    each_right : (xs ys : List (List ℕ)) → AllByRecursion (IsEventful field_objects) (xs ++ ys) → AllByRecursion (IsEventful field_objects) ys
     each_right [] ys h = h
     each_right (x ∷ xs) ys h = each_right xs ys h.1
 
     found : messages (joined ms) ≡ ms
-    found = messages_joined ms (eventful_whole ms each)
+    found = messages_joined ms (eventful_whole field_objects ms each)
 
-    behind : AllByRecursion IsEventful (messages r.begins.rest)
+    behind : AllByRecursion (IsEventful field_objects) (messages r.begins.rest)
     behind =
         each_right r.begins.messages (messages r.begins.rest)
-        (subst (AllByRecursion IsEventful)
+        (subst (AllByRecursion (IsEventful field_objects))
         (sym found ∙ ap messages r.begins.front
         ∙ found_first r.begins.messages r.begins.rest (are_messages field_objects r.begins.messages events r.begins.are)) each)
 
@@ -154,30 +154,30 @@ nothing_left ms events r each =
     none (inl part) = ap fields.events_in (partial_none r.begins.rest part)
     none (inr (inl bad)) = ap fields.events_in (bad_none r.begins.rest bad)
     none (inr (inr w)) =
-        let first : AllByRecursion IsEventful (w.0 ∷ messages w.1) =
-        subst (AllByRecursion IsEventful) (ap messages w.2 ∙ first_is w.0 w.1 w.3) behind in
+        let first : AllByRecursion (IsEventful field_objects) (w.0 ∷ messages w.1) =
+        subst (AllByRecursion (IsEventful field_objects)) (ap messages w.2 ∙ first_is w.0 w.1 w.3) behind in
         absurd (w.4 first.0.event first.0.is)
 
 -- ---- all of it
 
 told_all : (limits : Limits) (job : FieldJob) (done : IsFieldDone limits job) (ms : List (List ℕ)) →
-    done.taken ≡ joined ms → AllByRecursion IsEventful ms →
+    done.taken ≡ joined ms → AllByRecursion (IsEventful field_objects) ms →
     fields.told_in (field_log job.log) ≡ fields.happenings (fields.events_in ms) no_edits
 told_all limits job done ms is each =
     let read : AreEventsIn field_objects (joined ms) done.events =
     subst (λ (b : List ℕ). AreEventsIn field_objects b done.events) is done.read in
-    let found : messages (joined ms) ≡ ms = messages_joined ms (eventful_whole ms each) in
+    let found : messages (joined ms) ≡ ms = messages_joined ms (eventful_whole field_objects ms each) in
     told_same (field_log job.log) ∙ done.told ∙ happened_same done.events no_edits
     ∙ sym (same_happenings done.events no_edits)
     ∙ ap (λ (l : List Event). fields.happenings l no_edits) (sym (nothing_left ms done.events read each))
     ∙ ap (λ (l : List (List ℕ)). fields.happenings (fields.events_in l) no_edits) found
 
 -- what is put later tells nothing more
-same_told : (put old : List ℕ) (ms : List (List ℕ)) → old ≡ joined ms → AllByRecursion IsEventful ms →
+same_told : (put old : List ℕ) (ms : List (List ℕ)) → old ≡ joined ms → AllByRecursion (IsEventful field_objects) ms →
     (k : PutElse old put) →
     fields.happenings (fields.events_in (messages put)) no_edits ≡ fields.happenings (fields.events_in ms) no_edits
 same_told put old ms is each k =
-    let whole : AreMessages ms = eventful_whole ms each in
+    let whole : AreMessages ms = eventful_whole field_objects ms each in
     let found : messages put ≡ ms ++ k.messages =
     ap messages (k.is ∙ ap (λ (l : List ℕ). l ++ joined k.messages) is)
     ∙ found_first ms (joined k.messages) whole
@@ -213,14 +213,14 @@ tells_all ms told (inr s) h = absurd (not_stopped ms s.stopped h)
 
 -- all that is put tells all that is queued
 queued_all : (capacity : ℕ) (journal : List Entry) (p f : ℕ) → IsInput journal p f → AreShortBodies journal →
-    (ms : List (List ℕ)) → (out_for capacity journal p).put.bytes ≡ joined ms → AllByRecursion IsEventful ms →
+    (ms : List (List ℕ)) → (out_for capacity journal p).put.bytes ≡ joined ms → AllByRecursion (IsEventful field_objects) ms →
     batches_in (told_to capacity journal p) ≡ groups_told (queued capacity journal f)
 queued_all capacity journal p f input short ms is each =
     let told : IsTold capacity journal p f = all_told capacity journal p f input short in
     let found : messages (out_for capacity journal p).put.bytes ≡ told.messages =
     ap messages told.bytes ∙ messages_joined told.messages told.each in
     let same : told.messages ≡ ms =
-    sym found ∙ ap messages is ∙ messages_joined ms (eventful_whole ms each) in
+    sym found ∙ ap messages is ∙ messages_joined ms (eventful_whole field_objects ms each) in
     ap (λ (l : List (List ℕ)). batches_in (fields.happenings (fields.events_in l) no_edits)) found
     ∙ tells_all told.messages (groups_told (queued capacity journal f)) told.tells
     (subst (λ (l : List (List ℕ)). (more : List (List ℕ)) →
@@ -279,7 +279,7 @@ relayed_all capacity journal q f peer steps joined made lives =
 
 -- ---- the law
 
-others_none : (limits : Limits) (h : History) → OthersAreFields (journal_of limits h) →
+pub others_none : (limits : Limits) (h : History) → OthersAreFields (journal_of limits h) →
     HaveNoMethod (journal_of limits h)
 others_none limits h others k peer other joined =
     let f = others k peer other joined in
@@ -287,7 +287,7 @@ others_none limits h others k peer other joined =
     (field_own limits.store (entries_of h) k f.1.rest f.0 peer
     (ap (λ (l : List Entry). l ++ f.1.rest) (sym (steps_outer limits.store (entries_of h) k)) ∙ f.1.is) joined)
 
-each-right : (P : Entry → Type 0) (xs ys : List Entry) → AllByRecursion P (xs ++ ys) → AllByRecursion P ys
+pub each-right : (P : Entry → Type 0) (xs ys : List Entry) → AllByRecursion P (xs ++ ys) → AllByRecursion P ys
 each-right P [] ys h = h
 each-right P (x ∷ xs) ys h = each-right P xs ys h.1
 
@@ -316,9 +316,9 @@ all_told_by limits h q job lawful done all others told newer grown quiet there =
     (record { joined = joined; own = own; none = others_none limits h others; short = short }) in
     let s : Stays q peer base = stays_base q peer newer base there stays in
     let bytes : AreBytes journal = lawful_bytes limits h lawful in
-    let put : ArePut IsEventful (out_for limits.store base p).put.bytes =
+    let put : ArePut (IsEventful field_objects) (out_for limits.store base p).put.bytes =
     put_eventful limits.store base p s.own s.short (each-right HasBytes newer base (subst AreBytes grown bytes)) in
-    let whole : ArePut IsEventful (out_for limits.store journal p).put.bytes =
+    let whole : ArePut (IsEventful field_objects) (out_for limits.store journal p).put.bytes =
     put_eventful limits.store journal p own short bytes in
     let taken : done.taken ≡ joined_bytes put.messages =
     all.all ∙ ap (λ (o : Outgoing). o.put.bytes) all.taken.out_is ∙ put.is in

@@ -12,3 +12,5 @@ pub mod FieldAll
 pub mod MethodTold
 pub mod ShellTold
 pub mod TrialTold
+pub mod KeysTold
+pub mod MethodAll

@@ -156,7 +156,7 @@ few_entries limits h lawful =
     let most : limits.entries ≤ 4000000 = lawful.limited.0.1 in
     omega arith
 
-is_said : (limits : Limits) (h : History) → IsLawful limits h →
+pub is_said : (limits : Limits) (h : History) → IsLawful limits h →
     AllByRecursion IsFocusOrKey (orders_of (journal_of limits h)) → IsSaid (journal_of limits h)
 is_said limits h lawful orders =
     let given : AllByRecursion WasGiven (journal_of limits h) =

@@ -1,5 +1,5 @@
 -- What is put for a field's peer are messages that spell events to the objects of its client
-use Rattle.std.proofs.Common.{◌≡◌, ℕ, zero, suc, ◌+◌, ◌≤◌, false, true, List, [], ◌∷◌, length, Option, Some, None, refl, sym, ap, subst, ◌∙◌, arith}
+use Rattle.std.proofs.Common.{◌≡◌, ℕ, zero, suc, ◌+◌, ◌^◌, ◌<◌, false, true, List, [], ◌∷◌, length, Option, Some, None, refl, sym, ap, subst, ◌∙◌, arith}
 use Rattle.std.specs.Prelude.{IfSome}
 use Rattle.std.specs.List.{AllByRecursion}
 use Rattle.std.proofs.lemmas.Option.{same_Some}
@@ -45,15 +45,15 @@ use Rattle.trial_law.proofs.GroupsHeard.{SpellsOne, IsSpelled}
 use Rattle.jobs_law.proofs.EventsRead.{is_read}
 
 -- the bytes are a message that spells an event to an object of the client
-pub record IsEventful (m : List ℕ) : Type 0 where
+pub record IsEventful (objects : List Interface) (m : List ℕ) : Type 0 where
   pub whole : IsMessage m
   pub event : Event
-  pub is : IsEventOf (object_in field_objects (id_of m)) m event
+  pub is : IsEventOf (object_in objects (id_of m)) m event
 
 -- ---- one thing that is told
 
 -- the message needs no token, and is an event
-abbrev IsPlain : Message → Type 0
+abbrev pub IsPlain : Message → Type 0
 IsPlain x = AreTokens [] x.values × SpellsOne (event_of x)
 
 not_asked : {A : Type 0} → false ≡ true → A
@@ -109,13 +109,13 @@ spells_by x None q s = absurd s
 spells_by x (Some e) q s = (e, q)
 
 -- a message to an object that the client knows spells an event
-eventful : (object : Made) (x : Message) → object.id ≤ 7 →
-    object_in field_objects object.id ≡ Some object.interface → IsWritable x → x.interface ≡ object.interface →
-    IsReadAs object x → IsPlain x → IsEventful (message_bytes object.id x)
-eventful object x low known w same r p =
+pub eventful : (objects : List Interface) (object : Made) (x : Message) → object.id < 2 ^ 32 →
+    object_in objects object.id ≡ Some object.interface → IsWritable x → x.interface ≡ object.interface →
+    IsReadAs object x → IsPlain x → IsEventful objects (message_bytes object.id x)
+eventful objects object x low known w same r p =
     let bytes : List ℕ = message_bytes object.id x in
     let e = spells_by x (event_of x) refl p.1 in
-    let written = written_whole object.id x (omega arith) w.opcode w.size in
+    let written = written_whole object.id x low w.opcode w.size in
     let kinds : event_kinds object.interface (opcode_of bytes) ≡ Some w.row =
     ap (λ n. event_kinds object.interface n) r.opcode
     ∙ ap (λ (i : Interface). event_kinds i x.opcode) (sym same) ∙ w.is in
@@ -130,8 +130,8 @@ eventful object x low known w same r p =
           (spelled_once w.row x.values w.kinds (let size = w.size in omega arith));
       tokens-are = p.0;
     } in
-    let there : object_in field_objects (id_of bytes) ≡ Some object.interface =
-    ap (object_in field_objects) r.to ∙ known in
+    let there : object_in objects (id_of bytes) ≡ Some object.interface =
+    ap (object_in objects) r.to ∙ known in
     record {
       whole = r.whole;
       event = e.0;
@@ -162,7 +162,7 @@ asks_before p e older a =
     }
 
 told_eventful : (p : ℕ) (journal : List Entry) → Asks p journal → (t : Told) → CanSayEvent false t → IsShort t →
-    IsForIts (past_of journal).made t → TellsSo (past_of journal).made p IsEventful t
+    IsForIts (past_of journal).made t → TellsSo (past_of journal).made p (IsEventful field_objects) t
 told_eventful p journal a t c s its m is own x q =
     let made : List Made = (past_of journal).made in
     let small : AreSmall made = all_small journal a.bytes in
@@ -179,16 +179,16 @@ told_eventful p journal a t c s its m is own x q =
     let write : IsWritable x =
     where_some IsWritable (message_of made t.event) x q
     (writable false made t.event (λ label. id_small made label small) c asked (s made)) in
-    eventful m x (a.own.within m among own) known write same (writable_read m x (small m among) write same)
+    eventful field_objects m x (small m among) known write same (writable_read m x (small m among) write same)
     (where_some IsPlain (message_of made t.event) x q (plain_event made t.event asked))
 
 entry_eventful : (p : ℕ) (e : Entry) (older : List Entry) → Asks p (e ∷ older) →
-    AllByRecursion IsEventful (entry_messages e older p)
+    AllByRecursion (IsEventful field_objects) (entry_messages e older p)
 entry_eventful p e older a =
     let made : List Made = (past_of (e ∷ older)).made in
     let ts : List Told = told (act_at e older) (resolve older) in
-    told_each made p IsEventful ts
-    (each_two (λ t. CanSayEvent false t × IsShort t) (IsForIts made) (TellsSo made p IsEventful) ts
+    told_each made p (IsEventful field_objects) ts
+    (each_two (λ t. CanSayEvent false t × IsShort t) (IsForIts made) (TellsSo made p (IsEventful field_objects)) ts
     (λ t k its. told_eventful p (e ∷ older) a t k.0 k.1 its)
     (each_two (CanSayEvent false) IsShort (λ t. CanSayEvent false t × IsShort t) ts (λ t c s. (c, s))
     (told_says false (act_at e older) (resolve older) tt (bytes_say (e ∷ older) a.bytes))
@@ -196,16 +196,17 @@ entry_eventful p e older a =
     (told_to_its_kind e older))
 
 pub put_eventful : (capacity : ℕ) (journal : List Entry) (p : ℕ) → AreOwn (past_of journal).made p 7 →
-    AreShortBodies journal → AreBytes journal → ArePut IsEventful (out_for capacity journal p).put.bytes
+    AreShortBodies journal → AreBytes journal → ArePut (IsEventful field_objects) (out_for capacity journal p).put.bytes
 put_eventful capacity journal p own short bytes =
-    put_messages IsEventful (Asks p) p (asks_before p) (entry_eventful p) capacity journal
+    put_messages (IsEventful field_objects) (Asks p) p (asks_before p) (entry_eventful p) capacity journal
     (record { own = own; short = short; bytes = bytes })
 
-pub eventful_whole : (ms : List (List ℕ)) → AllByRecursion IsEventful ms → AreMessages ms
-eventful_whole [] h = tt
-eventful_whole (m ∷ ms) h = (h.0.whole, eventful_whole ms h.1)
+pub eventful_whole : (objects : List Interface) (ms : List (List ℕ)) → AllByRecursion (IsEventful objects) ms →
+    AreMessages ms
+eventful_whole objects [] h = tt
+eventful_whole objects (m ∷ ms) h = (h.0.whole, eventful_whole objects ms h.1)
 
-pub eventful_spelled : (ms : List (List ℕ)) → AllByRecursion IsEventful ms → IsSpelled ms
+pub eventful_spelled : (ms : List (List ℕ)) → AllByRecursion (IsEventful field_objects) ms → IsSpelled ms
 eventful_spelled [] h = tt
 eventful_spelled (m ∷ ms) h = (
   subst SpellsOne (sym (is_read (object_in field_objects (id_of m)) m h.0.event h.0.is)) tt,

@@ -1,5 +1,5 @@
 -- What the law of a job says of the one journal of a hub, wherever its passes have seen it
-use Rattle.std.specs.Prelude.{◌≡◌, ℕ, List, Result}
+use Rattle.std.specs.Prelude.{◌≡◌, false, ℕ, List, Result}
 use Rattle.std.specs.List.{AllByRecursion}
 use Rattle.seat_steps.specs.declared.limits.Limits.{Limits}
 use Rattle.seat_steps.specs.declared.step.ShellStep.{ShellStep}
@@ -23,8 +23,8 @@ use Rattle.trial_jobs.specs.MethodHearing.{HasShort}
 use Rattle.trial_jobs.specs.MethodLaw.{IsFresh, MethodEnds, IsMethodDone}
 use Rattle.jobs_law.specs.Passes.{ArePassesOf}
 use Rattle.jobs_law.specs.FieldTold.{IsFieldTold, IsFieldToldAndSent, IsQuiet, OthersAreFields, IsAllTold}
-use Rattle.jobs_law.specs.MethodTold.{IsMethodTold, IsMethodToldAndSent}
-use Rattle.jobs_law.specs.ShellTold.{OrdersAreOf, HaveNoOrder, HasOrdered, IsFocusOrKey, orders_of}
+use Rattle.jobs_law.specs.MethodTold.{IsMethodTold, IsMethodToldAndSent, HasKeys}
+use Rattle.jobs_law.specs.ShellTold.{is_order, OrdersAreOf, HaveNoOrder, HasOrdered, IsFocusOrKey, orders_of}
 
 -- ---- fields
 
@@ -75,6 +75,21 @@ MethodsHaveSent =
     AllByRecursion IsFocusOrKey (orders_of (journal_of limits h)) →
     IsMethodDone limits typist job →
     IsMethodToldAndSent limits (journal_of limits h) typist (method_log job.log)
+
+-- Where it was done, its writer took all that was put as far as it has seen, no later step is an
+-- order, and each other peer is a field's, its log has each key that the journal tells its peer, and
+-- all events up to the last take.
+abbrev pub MethodsHaveKeys : Type 0
+MethodsHaveKeys =
+    (limits : Limits) (h : History) (typist : TrialTypist) (job : MethodJob) → IsLawful limits h →
+    (passes : ArePassesOf h 1 job.reader job.writer) → IsFresh typist →
+    HasShort (method_log job.log) →
+    AllByRecursion IsFocusOrKey (orders_of (journal_of limits h)) →
+    (done : IsMethodDone limits typist job) → HasAll limits job.writer done.taken →
+    AllByRecursion (λ (s : ℕ × OuterStep). is_order s.1.entry ≡ false) passes.writer_seen.0 →
+    OthersAreFields (journal_of limits h) →
+    HasKeys limits (journal_of limits h) (journal_of limits job.writer.seat.seen)
+    (method_log job.log)
 
 -- ---- the shell
 

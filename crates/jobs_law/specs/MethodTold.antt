@@ -1,5 +1,7 @@
 -- What the one journal tells the method, and its log of it
-use Rattle.std.specs.Prelude.{◌≡◌, List, Some}
+use Rattle.std.specs.Prelude.{◌≡◌, Bool, true, false, List, filter, Some}
+use Rattle.wl_proto.specs.declared.event.Event.{Event}
+use Rattle.wl_proto.specs.declared.event.Event.TheVariants as events
 use Rattle.seat_steps.specs.declared.limits.Limits.{Limits}
 use Rattle.client_side.specs.MethodLog.{Happening}
 use Rattle.broker_model.specs.declared.journal.Entry.{Entry}
@@ -26,3 +28,22 @@ pub record IsMethodToldAndSent (limits : Limits) (journal : List Entry) (typist 
     (log : List Happening) : Type 0 where
   pub told : IsMethodTold limits journal typist log
   pub sent : HasSentIn journal 1 (requests_of typist log)
+
+-- ---- up to the last take
+
+abbrev pub is_key : Event → Bool
+is_key (events.Key serial time key state) = true
+is_key _ = false
+
+-- the keys among events, in order
+abbrev pub keys_of : List Event → List Event
+keys_of es = filter is_key es
+
+-- The log has the events that the one journal tells the method's peer up to the entries that its
+-- writer has seen at its last take, in order, and each key that the whole journal tells it.
+pub record HasKeys (limits : Limits) (journal seen : List Entry)
+    (log : List Happening) : Type 0 where
+  pub peer : Joined
+  pub joined : peer_at (past_of journal) 1 ≡ Some peer
+  pub told : events_of log ≡ events_told limits.store seen peer.label
+  pub keys : keys_of (events_of log) ≡ keys_of (events_told limits.store journal peer.label)

@@ -3,7 +3,7 @@
 #![tactic(auto)]
 
 ghost use Rattle.jobs_law.specs.JobLaws.{FieldsAreTold, FieldsHaveSent, FieldsAreAllTold};
-ghost use Rattle.jobs_law.specs.JobLaws.{MethodsAreTold, MethodsHaveSent};
+ghost use Rattle.jobs_law.specs.JobLaws.{MethodsAreTold, MethodsHaveSent, MethodsHaveKeys};
 ghost use Rattle.jobs_law.specs.JobLaws.{ShellHasOrdered, OnlyShellOrders};
 ghost use Rattle.jobs_law.specs.OneTrial.{TrialsAreTold, CutTrialsAreTold};
 
@@ -35,6 +35,13 @@ pub fn methods_are_told()
 /// Where it was done the peer's steps are all of that, unless the peer ended.
 pub fn methods_have_sent()
     ensures { MethodsHaveSent }
+{}
+
+/// Where it was done, and its writer took all that was put as far as it has seen, and past that no
+/// order was given: its log has each key that the one journal tells its peer, and all events that it
+/// tells the peer up to the last take.
+pub fn methods_have_keys()
+    ensures { MethodsHaveKeys }
 {}
 
 /// The shell's orders in the one journal are those of its job, in order, and no others: all of them

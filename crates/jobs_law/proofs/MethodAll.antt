@@ -1,0 +1,368 @@
+-- A method that took all, as far as its writer has seen, has each key that the one journal tells it
+use Rattle.std.proofs.Common.{◌≡◌, ℕ, zero, suc, ◌+◌, ◌^◌, ◌<◌, Bool, true, false, List, [], ◌∷◌, ◌++◌, length, map, Option, Some, None, refl, sym, ap, subst, ◌∙◌, inl, inr, arith, length-append, append-nil}
+use Rattle.std.specs.Prelude.{◌⊎◌, ◌==◌, if◌then◌else◌, filter, IfSome}
+use Rattle.std.specs.List.{AllByRecursion}
+use Rattle.std.proofs.lemmas.List.{append_assoc}
+use Rattle.std.proofs.lemmas.Option.{same_Some}
+use Rattle.seat_steps.specs.declared.limits.Limits.{Limits}
+use Rattle.wl_wire.specs.Messages.{IsPartial, messages}
+use Rattle.wl_wire.specs.Messages.{joined as joined_bytes}
+use Rattle.wl_proto.specs.declared.interface.Interface.{Interface}
+use Rattle.wl_proto.specs.declared.interface.Interface.TheVariants as interface
+use Rattle.wl_proto.specs.declared.event.Event.{Event}
+use Rattle.wl_proto.specs.declared.event.Event.TheVariants as events
+use Rattle.wl_proto.specs.Rows.{Message}
+use Rattle.relay_model.specs.declared.said.Told.{Told}
+use Rattle.relay_model.specs.declared.said.Said.{Said}
+use Rattle.relay_model.specs.declared.said.Said.TheVariants as said
+use Rattle.relay_model.specs.Told.{told}
+use Rattle.client_side.specs.Client.{IsWrong}
+use Rattle.client_side.specs.Events.{object_in, method_objects, field_objects}
+use Rattle.client_side.specs.MethodLog.{Happening}
+use Rattle.client_logs.specs.MethodLogs.{settled, method_log}
+use Rattle.broker_model.specs.declared.journal.Entry.{Entry}
+use Rattle.broker_model.specs.declared.journal.Entry.TheVariants as entries
+use Rattle.broker_model.specs.Groups.{message_of}
+use Rattle.broker_model.specs.Ids.{Made, Joined, peer_at, made_as}
+use Rattle.broker_model.specs.Out.{Outgoing, act_at, group_at, fits, before_group, out_for}
+use Rattle.broker_model.specs.Resolve.{means, past_of, resolve}
+use Rattle.broker_model.specs.Settle.{history}
+use Rattle.broker_model.proofs.IdsAreNames.{IsIn, made_with}
+use Rattle.broker_model.proofs.LivePeersJoined.{joined_stays}
+use Rattle.told_law.specs.Sayable.{AreHeld, IsHeld, AreBytes, HasBytes}
+use Rattle.told_law.specs.ToldRead.{IsWritable, IsReadAs, IsToldRead}
+use Rattle.told_law.proofs.IdsSmall.{AreSmall, all_small}
+use Rattle.told_law.proofs.MessagesTold.{TellsSo, told_each}
+use Rattle.told_law.proofs.MessagesPut.{entry_messages, ArePut, put_messages}
+use Rattle.told_law.proofs.ToldIsRead.{each_two, told_read, told_writable}
+use Rattle.hub_lock.specs.Histories.{History, entries_of}
+use Rattle.hub_lock.specs.Lawful.{IsLawful}
+use Rattle.pass_calls.specs.Made.{journal_of}
+use Rattle.pass_calls.specs.Taken.{HasAll}
+use Rattle.pass_calls.proofs.OthersTakeNothing.{entries-append}
+use Rattle.trial_run.specs.Events.{event_of}
+use Rattle.trial_run.specs.declared.typist.TrialTypist.{TrialTypist}
+use Rattle.trial_run.proofs.FirstMessages.{first_is, found_first}
+use Rattle.trial_run.proofs.FrontOfBytes.{partial_none, bad_none}
+use Rattle.trial_law.specs.FieldLogs.{then_events}
+use Rattle.trial_law.proofs.BatchesRelayed.{messages_joined}
+use Rattle.trial_law.proofs.ClientIds.{AreOwn}
+use Rattle.trial_law.proofs.FieldsReadAll.{in_older}
+use Rattle.trial_law.proofs.GroupsHeard.{SpellsOne}
+use Rattle.method_law.specs.ToldEvents.{event_said, event_for, events_for, events_at, events_told}
+use Rattle.method_law.specs.TypedLogs.{events_in, events_of, requests_of}
+use Rattle.method_law.proofs.MethodIds.{AreKnown, requests_safe, known_steps, all_known}
+use Rattle.method_law.proofs.NoKeymaps.{IsPlainTold, all_plain, act_plain, told_plain}
+use Rattle.method_law.proofs.NoKeymaps as keymaps
+use Rattle.method_law.proofs.ToldHeard.{IsSaid, SpellsAll, put_heard, spelled_events}
+use Rattle.typing_jobs.specs.Fronts.{AreEventsIn}
+use Rattle.trial_jobs.specs.declared.method_job.MethodJob.{MethodJob}
+use Rattle.trial_jobs.specs.MethodLaw.{IsMethodDone}
+use Rattle.jobs_law.specs.Passes.{ArePassesOf}
+use Rattle.jobs_law.specs.FieldTold.{OthersAreFields}
+use Rattle.jobs_law.specs.MethodTold.{IsMethodTold, is_key, keys_of, HasKeys}
+use Rattle.jobs_law.specs.ShellTold.{is_order}
+use Rattle.jobs_law.specs.JobLaws.{MethodsHaveKeys}
+use Rattle.jobs_law.proofs.StepsOfPeers.{steps_outer}
+use Rattle.jobs_law.proofs.EventsRead.{are_messages, method_begins}
+use Rattle.jobs_law.proofs.ObjectsMade.{field_own}
+use Rattle.jobs_law.proofs.FieldAll.{IsNewer, newer_steps, entries_each}
+use Rattle.jobs_law.proofs.MethodTold.{is_said, methods_have_sent}
+use Rattle.jobs_law.proofs.PutHeard.{IsEventful, IsPlain, eventful, eventful_whole}
+use Rattle.jobs_law.proofs.PutSilent.{joined_later}
+use Rattle.jobs_law.proofs.KeysTold.{IsNoKey, IsKeyless, HasNoBoard, HaveNoBoard, tells_no_key}
+
+-- ---- what is put spells events
+
+message_plain : (made : List Made) (event : Said) → keymaps.IsPlain event → IfSome (message_of made event) IsPlain
+message_plain made (said.Enter surface) a = ((tt, tt), tt)
+message_plain made (said.Leave surface) a = ((tt, tt), tt)
+message_plain made (said.Preedit t begin end) a = ((tt, (tt, (tt, tt))), tt)
+message_plain made (said.CommitString t) a = ((tt, tt), tt)
+message_plain made (said.Delete before after) a = ((tt, (tt, tt)), tt)
+message_plain made (said.FieldDone serial) a = ((tt, tt), tt)
+message_plain made said.Activate a = (tt, tt)
+message_plain made said.Deactivate a = (tt, tt)
+message_plain made (said.Surrounding t cursor anchor) a = ((tt, (tt, (tt, tt))), tt)
+message_plain made (said.ChangeCause cause) a = ((tt, tt), tt)
+message_plain made (said.ContentType hint purpose) a = ((tt, (tt, tt)), tt)
+message_plain made said.MethodDone a = (tt, tt)
+message_plain made said.Unavailable a = (tt, tt)
+message_plain made (said.PopupRect x y width height) a = ((tt, (tt, (tt, (tt, tt)))), tt)
+message_plain made (said.Keymap keymap) a = absurd a
+message_plain made (said.Key serial time key state) a = ((tt, (tt, (tt, (tt, tt)))), tt)
+message_plain made (said.Mods serial mods) a = ((tt, (tt, (tt, (tt, (tt, tt))))), tt)
+message_plain made (said.Repeat repeat) a = ((tt, (tt, tt)), tt)
+message_plain made (said.Global name i version) a = ((tt, (tt, (tt, tt))), tt)
+message_plain made (said.CallbackDone value) a = ((tt, tt), tt)
+message_plain made (said.DeleteId label) a = ((tt, tt), tt)
+message_plain made (said.Capabilities value) a = ((tt, tt), tt)
+message_plain made (said.Error object fault) a = ((tt, (tt, (tt, tt))), tt)
+message_plain made (said.Pass time key state) a = tt
+message_plain made (said.VMods mods) a = tt
+message_plain made (said.Placed popup x y) a = tt
+
+where_some : {A : Type 0} (P : A → Type 0) (o : Option A) (x : A) → o ≡ Some x → IfSome o P → P x
+where_some P o x e h = subst (λ (u : Option _). IfSome u P) e h
+
+-- a journal that can be said, in which the peer has the objects of the method's client
+record Asks (p : ℕ) (journal : List Entry) : Type 0 where
+  known : AreKnown (past_of journal).made p
+  said-is : IsSaid journal
+
+asks_before : (p : ℕ) (e : Entry) (older : List Entry) → Asks p (e ∷ older) → Asks p older
+asks_before p e older a = record {
+  known = λ m i s. a.known m (in_older (means e (length older + 1) (past_of older)).made (past_of older).made m i) s;
+  said-is = record {
+    held = a.said-is.held.1;
+    shells = a.said-is.shells.1;
+    few = (let few = a.said-is.few in omega arith);
+  };
+}
+
+held_bytes : (journal : List Entry) → AreHeld journal → AreBytes journal
+held_bytes [] h = tt
+held_bytes (e ∷ older) h = (one e h.0, held_bytes older h.1)
+  where
+    one : (e : Entry) → IsHeld e → HasBytes e
+    one (entries.Message q id opcode body) k = k.0
+    one (entries.Join role) k = tt
+    one (entries.Tokens q tokens) k = tt
+    one (entries.BadSize q head) k = tt
+    one (entries.End q cause) k = tt
+    one (entries.Shell step) k = tt
+    one (entries.Took q bytes) k = tt
+
+record IsFit (made : List Made) (t : Told) : Type 0 where
+  read : IsToldRead made t
+  write : IfSome (message_of made t.event) IsWritable
+  plain : IsPlainTold t
+
+told_eventful : (p : ℕ) (journal : List Entry) → Asks p journal → (t : Told) → IsFit (past_of journal).made t →
+    TellsSo (past_of journal).made p (IsEventful method_objects) t
+told_eventful p journal a t f m is own x q =
+    let made : List Made = (past_of journal).made in
+    let small : AreSmall made = all_small journal (held_bytes journal a.said-is.held) in
+    let among : IsIn made m = (made_with made t.to m is).among in
+    let r : IsReadAs m x = where_some (IsReadAs m) (message_of made t.event) x q (f.read m is) in
+    eventful method_objects m x (small m among) (a.known m among own)
+    (where_some IsWritable (message_of made t.event) x q f.write) r.interface r
+    (where_some IsPlain (message_of made t.event) x q (message_plain made t.event f.plain))
+
+entry_eventful : (p : ℕ) (e : Entry) (older : List Entry) → Asks p (e ∷ older) →
+    AllByRecursion (IsEventful method_objects) (entry_messages e older p)
+entry_eventful p e older a =
+    let made : List Made = (past_of (e ∷ older)).made in
+    let ts : List Told = told (act_at e older) (resolve older) in
+    let h = a.said-is in
+    told_each made p (IsEventful method_objects) ts
+    (each_two (λ t. IsToldRead made t × IfSome (message_of made t.event) IsWritable) IsPlainTold
+    (TellsSo made p (IsEventful method_objects)) ts
+    (λ t k plain. told_eventful p (e ∷ older) a t (record { read = k.0; write = k.1; plain = plain }))
+    (each_two (IsToldRead made) (λ t. IfSome (message_of made t.event) IsWritable)
+    (λ t. IsToldRead made t × IfSome (message_of made t.event) IsWritable) ts (λ t r w. (r, w))
+    (told_read e older h.held h.few) (told_writable e older h.held h.few))
+    (told_plain (act_at e older) (resolve older) (act_plain e older h.shells.0) (all_plain older h.shells.1)))
+
+put_eventful : (capacity : ℕ) (journal : List Entry) (p : ℕ) → Asks p journal →
+    ArePut (IsEventful method_objects) (out_for capacity journal p).put.bytes
+put_eventful capacity journal p a =
+    put_messages (IsEventful method_objects) (Asks p) p (asks_before p) (entry_eventful p) capacity journal a
+
+-- ---- what the events were
+
+nothing_left : (ms : List (List ℕ)) (es : List Event) (r : AreEventsIn method_objects (joined_bytes ms) es) →
+    AllByRecursion (IsEventful method_objects) ms → events_in (messages (joined_bytes ms)) ≡ map settled es
+nothing_left ms es r each =
+    method_begins (joined_bytes ms) es r.begins
+    ∙ ap (λ (l : List Event). map settled es ++ l) (none r.left) ∙ append-nil (map settled es)
+  where
+    each_right : (xs ys : List (List ℕ)) → AllByRecursion (IsEventful method_objects) (xs ++ ys) →
+        AllByRecursion (IsEventful method_objects) ys
+    each_right [] ys h = h
+    each_right (x ∷ xs) ys h = each_right xs ys h.1
+
+    found : messages (joined_bytes ms) ≡ ms
+    found = messages_joined ms (eventful_whole method_objects ms each)
+
+    behind : AllByRecursion (IsEventful method_objects) (messages r.begins.rest)
+    behind =
+        each_right r.begins.messages (messages r.begins.rest)
+        (subst (AllByRecursion (IsEventful method_objects))
+        (sym found ∙ ap messages r.begins.front
+        ∙ found_first r.begins.messages r.begins.rest
+        (are_messages method_objects r.begins.messages es r.begins.are)) each)
+
+    none : IsPartial r.begins.rest ⊎ IsWrong method_objects r.begins.rest → events_in (messages r.begins.rest) ≡ []
+    none (inl part) = ap events_in (partial_none r.begins.rest part)
+    none (inr (inl bad)) = ap events_in (bad_none r.begins.rest bad)
+    none (inr (inr w)) =
+        let first : AllByRecursion (IsEventful method_objects) (w.0 ∷ messages w.1) =
+        subst (AllByRecursion (IsEventful method_objects)) (ap messages w.2 ∙ first_is w.0 w.1 w.3) behind in
+        absurd (w.4 first.0.event first.0.is)
+
+-- ---- keys
+
+keys-append : (xs ys : List Event) → keys_of (xs ++ ys) ≡ keys_of xs ++ keys_of ys
+keys-append [] ys = refl
+keys-append (x ∷ xs) ys = by (is_key x) (keys-append xs ys)
+  where
+    by : (b : Bool) → keys_of (xs ++ ys) ≡ keys_of xs ++ keys_of ys →
+        (if b then x ∷ keys_of (xs ++ ys) else keys_of (xs ++ ys))
+        ≡ (if b then x ∷ keys_of xs else keys_of xs) ++ keys_of ys
+    by true k = ap (λ (l : List Event). x ∷ l) k
+    by false k = k
+
+said_keyless : (made : List Made) (event : Said) → IsNoKey event → keys_of (event_said (message_of made event)) ≡ []
+said_keyless made (said.Enter surface) a = refl
+said_keyless made (said.Leave surface) a = refl
+said_keyless made (said.Preedit t begin end) a = refl
+said_keyless made (said.CommitString t) a = refl
+said_keyless made (said.Delete before after) a = refl
+said_keyless made (said.FieldDone serial) a = refl
+said_keyless made said.Activate a = refl
+said_keyless made said.Deactivate a = refl
+said_keyless made (said.Surrounding t cursor anchor) a = refl
+said_keyless made (said.ChangeCause cause) a = refl
+said_keyless made (said.ContentType hint purpose) a = refl
+said_keyless made said.MethodDone a = refl
+said_keyless made said.Unavailable a = refl
+said_keyless made (said.PopupRect x y width height) a = refl
+said_keyless made (said.Keymap keymap) a = refl
+said_keyless made (said.Key serial time key state) a = absurd a
+said_keyless made (said.Mods serial mods) a = refl
+said_keyless made (said.Repeat repeat) a = refl
+said_keyless made (said.Global name i version) a = refl
+said_keyless made (said.CallbackDone value) a = refl
+said_keyless made (said.DeleteId label) a = refl
+said_keyless made (said.Capabilities value) a = refl
+said_keyless made (said.Error object fault) a = refl
+said_keyless made (said.Pass time key state) a = refl
+said_keyless made (said.VMods mods) a = refl
+said_keyless made (said.Placed popup x y) a = refl
+
+one_keyless : (made : List Made) (p : ℕ) (event : Said) (o : Option Made) → IsNoKey event →
+    keys_of (event_for made p event o) ≡ []
+one_keyless made p event None a = refl
+one_keyless made p event (Some object) a = by (object.peer == p)
+  where
+    by : (b : Bool) → keys_of (if b then event_said (message_of made event) else []) ≡ []
+    by true = said_keyless made event a
+    by false = refl
+
+all_keyless : (made : List Made) (p : ℕ) (ts : List Told) → AllByRecursion IsKeyless ts →
+    keys_of (events_for made p ts) ≡ []
+all_keyless made p [] a = refl
+all_keyless made p (t ∷ ts) a =
+    keys-append (event_for made p t.event (made_as made t.to)) (events_for made p ts)
+    ∙ ap (λ (l : List Event). l ++ keys_of (events_for made p ts))
+    (one_keyless made p t.event (made_as made t.to) a.0) ∙ all_keyless made p ts a.1
+
+none_before : (e : Entry) (older : List Entry) → HaveNoBoard (e ∷ older) → HaveNoBoard older
+none_before e older none k peer joined m i =
+    none k peer (joined_stays e (length older + 1) (past_of older).joined k peer joined) m
+    (in_older (means e (length older + 1) (past_of older)).made (past_of older).made m i)
+
+-- later entries that are no orders tell no more keys
+same_keys : (capacity : ℕ) (newer base : List Entry) (p : ℕ) →
+    AllByRecursion (λ (e : Entry). is_order e ≡ false) newer → HaveNoBoard (newer ++ base) →
+    keys_of (events_told capacity (newer ++ base) p) ≡ keys_of (events_told capacity base p)
+same_keys capacity [] base p each none = refl
+same_keys capacity (e ∷ newer) base p each none =
+    let older : List Entry = newer ++ base in
+    let before : HaveNoBoard older = none_before e older none in
+    by (fits capacity (group_at e older p) (before_group e older p (out_for capacity older p)))
+    (all_keyless (past_of (e ∷ older)).made p (told (act_at e older) (resolve older))
+    (tells_no_key e older each.0 before))
+    (same_keys capacity newer base p each.1 before)
+  where
+    by : (b : Bool) → keys_of (events_at e (newer ++ base) p) ≡ [] →
+        keys_of (events_told capacity (newer ++ base) p) ≡ keys_of (events_told capacity base p) →
+        keys_of (events_told capacity (newer ++ base) p ++ (if b then events_at e (newer ++ base) p else []))
+        ≡ keys_of (events_told capacity base p)
+    by false k same = ap keys_of (append-nil (events_told capacity (newer ++ base) p)) ∙ same
+    by true k same =
+        keys-append (events_told capacity (newer ++ base) p) (events_at e (newer ++ base) p)
+        ∙ ap (λ (l : List Event). keys_of (events_told capacity (newer ++ base) p) ++ l) k
+        ∙ append-nil (keys_of (events_told capacity (newer ++ base) p)) ∙ same
+
+-- ---- who has a board
+
+no_board : (objects : List Interface) (id : ℕ) (i : Interface) →
+    AllByRecursion (λ (o : Interface). o ≡ interface.VirtualKeyboard → ⊥) objects → object_in objects id ≡ Some i →
+    i ≡ interface.VirtualKeyboard → ⊥
+no_board objects zero i none e s = (let no : None ≡ Some i = e in cc)
+no_board [] (suc n) i none e s = (let no : None ≡ Some i = e in cc)
+no_board (o ∷ objects) (suc zero) i none e s = none.0 (same_Some o i e ∙ s)
+no_board (o ∷ objects) (suc (suc n)) i none e s = no_board objects (suc n) i none.1 e s
+
+nobody_has : (limits : Limits) (h : History) (peer : Joined) → peer_at (past_of (journal_of limits h)) 1 ≡ Some peer →
+    AreKnown (past_of (journal_of limits h)).made peer.label → OthersAreFields (journal_of limits h) →
+    HaveNoBoard (journal_of limits h)
+nobody_has limits h peer joined known others zero p j = absurd (let no : None ≡ Some p = j in cc)
+nobody_has limits h peer joined known others (suc zero) p j =
+    subst (λ (x : Joined). HasNoBoard (past_of (journal_of limits h)).made x.label)
+    (same_Some peer p (sym joined ∙ j))
+    (λ m i own. no_board method_objects m.id m.interface
+    ((λ s. cc), ((λ s. cc), ((λ s. cc), ((λ s. cc), ((λ s. cc), ((λ s. cc), tt)))))) (known m i own))
+nobody_has limits h peer joined known others (suc (suc k)) p j =
+    let f = others (suc (suc k)) p (λ e. absurd (omega arith)) j in
+    let own : AreOwn (past_of (journal_of limits h)).made p.label 7 =
+    field_own limits.store (entries_of h) (suc (suc k)) f.1.rest f.0 p
+    (ap (λ (l : List Entry). l ++ f.1.rest) (sym (steps_outer limits.store (entries_of h) (suc (suc k)))) ∙ f.1.is) j in
+    λ m i mine. no_board field_objects m.id m.interface
+    ((λ s. cc), ((λ s. cc), ((λ s. cc), ((λ s. cc), ((λ s. cc), ((λ s. cc), ((λ s. cc), tt)))))))
+    (own.known m i mine)
+
+-- ---- the law
+
+asks_base : (p : ℕ) (newer base : List Entry) → Asks p (newer ++ base) → Asks p base
+asks_base p [] base a = a
+asks_base p (e ∷ newer) base a = asks_base p newer base (asks_before p e (newer ++ base) a)
+
+pub methods_have_keys : MethodsHaveKeys
+methods_have_keys limits h typist job lawful p fresh short orders done all later others =
+    let journal : List Entry = journal_of limits h in
+    let seen : History = job.writer.seat.seen in
+    let base : List Entry = journal_of limits seen in
+    let rest : History = p.writer_seen.0 in
+    let log : List Happening = method_log job.log in
+    let n : IsNewer (λ (e : Entry). is_order e ≡ false) base (history limits.store (entries_of rest ++ entries_of seen)) =
+    newer_steps (λ (e : Entry). is_order e ≡ false) (λ k cause. refl) limits.store (entries_of rest) (entries_of seen)
+    (entries_each (λ (e : Entry). is_order e ≡ false) rest later) in
+    let grown : journal ≡ n.newer ++ base =
+    ap (journal_of limits) p.writer_seen.1 ∙ ap (history limits.store) (entries-append seen rest) ∙ n.is in
+    let told : IsMethodTold limits journal typist log =
+    (methods_have_sent limits h typist job lawful p fresh short orders done).told in
+    let known : AreKnown (past_of journal).made told.peer.label =
+    all_known journal told.peer told.joined
+    (known_steps journal told.sent.rest (requests_of typist log) told.sent.is (requests_safe typist log)) in
+    let f = all.taken in
+    let there : peer_at (past_of base) 1 ≡ Some f.peer =
+    subst (λ k. peer_at (past_of base) k ≡ Some f.peer) p.writes_for f.there in
+    let same : f.peer ≡ told.peer =
+    same_Some f.peer told.peer (sym (ap (λ (j : List Entry). peer_at (past_of j) 1) grown
+    ∙ joined_later n.newer base 1 f.peer there) ∙ told.joined) in
+    let label : ℕ = told.peer.label in
+    let asks : Asks label base =
+    asks_base label n.newer base (subst (Asks label) grown
+    (record { known = known; said-is = is_said limits h lawful orders })) in
+    let put : ArePut (IsEventful method_objects) (out_for limits.store base label).put.bytes =
+    put_eventful limits.store base label asks in
+    let taken : done.taken ≡ joined_bytes put.messages =
+    all.all ∙ ap (λ (o : Outgoing). o.put.bytes) f.out_is
+    ∙ ap (λ (x : Joined). (out_for limits.store base x.label).put.bytes) same ∙ put.is in
+    let spelled : SpellsAll (out_for limits.store base label).put.bytes (events_told limits.store base label) =
+    put_heard limits.store base label asks.known asks.said-is in
+    let is : events_of log ≡ events_told limits.store base label =
+    done.told
+    ∙ sym (nothing_left put.messages done.events
+    (subst (λ (b : List ℕ). AreEventsIn method_objects b done.events) taken done.read) put.each)
+    ∙ ap (λ (b : List ℕ). events_in (messages b)) (sym put.is)
+    ∙ spelled_events (out_for limits.store base label).put.bytes (events_told limits.store base label) spelled in
+    let keys : keys_of (events_told limits.store journal label) ≡ keys_of (events_told limits.store base label) =
+    subst (λ (j : List Entry). keys_of (events_told limits.store j label)
+    ≡ keys_of (events_told limits.store base label)) (sym grown)
+    (same_keys limits.store n.newer base label n.each
+    (subst HaveNoBoard grown (nobody_has limits h told.peer told.joined known others))) in
+    record { peer = told.peer; joined = told.joined; told = is; keys = ap keys_of is ∙ sym keys }
