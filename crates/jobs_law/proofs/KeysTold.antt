@@ -1,11 +1,11 @@
 -- Where nobody says a key, none is told.
-use Rattle.std.proofs.Common.{◌≡◌, ℕ, ◌+◌, List, [], ◌∷◌, ◌++◌, length, map, Bool, true, false, ◌&&◌, Option, Some, None, refl, sym, subst, ◌∙◌}
-use Rattle.std.specs.Prelude.{◌==◌, if◌then◌else◌, is_some, filter, Result, Ok, Err}
+use Rattle.std.proofs.Common.{◌≡◌, ℕ, ◌+◌, List, [], ◌∷◌, length, map, Bool, true, false, ◌&&◌, Option, Some, None, refl, sym, ◌∙◌}
+use Rattle.std.specs.Prelude.{◌==◌, is_some, filter, Result, Ok, Err}
 use Rattle.std.specs.List.{AllByRecursion, list_any}
 use Rattle.wl_proto.specs.declared.interface.Interface.{Interface}
 use Rattle.wl_proto.specs.declared.interface.Interface.TheVariants as interface
 use Rattle.wl_proto.specs.declared.refuse.Refuse.{Refuse}
-use Rattle.wl_proto.specs.Grammar.{Value, word, signed, text, token}
+use Rattle.wl_proto.specs.Grammar.{Value, word, signed, text}
 use Rattle.wl_proto.specs.Reading.{request_reading}
 use Rattle.wl_proto.specs.Rows.{Message}
 use Rattle.popup_place.specs.declared.geometry.Rect.{Rect}

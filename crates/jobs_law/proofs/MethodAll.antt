@@ -1,8 +1,7 @@
 -- A method that took all, as far as its writer has seen, has each key that the one journal tells it
-use Rattle.std.proofs.Common.{◌≡◌, ℕ, zero, suc, ◌+◌, ◌^◌, ◌<◌, Bool, true, false, List, [], ◌∷◌, ◌++◌, length, map, Option, Some, None, refl, sym, ap, subst, ◌∙◌, inl, inr, arith, length-append, append-nil}
-use Rattle.std.specs.Prelude.{◌⊎◌, ◌==◌, if◌then◌else◌, filter, IfSome}
+use Rattle.std.proofs.Common.{◌≡◌, ℕ, zero, suc, ◌+◌, Bool, true, false, List, [], ◌∷◌, ◌++◌, length, map, Option, Some, None, refl, sym, ap, subst, ◌∙◌, inl, inr, arith, append-nil}
+use Rattle.std.specs.Prelude.{◌⊎◌, ◌==◌, if◌then◌else◌, IfSome}
 use Rattle.std.specs.List.{AllByRecursion}
-use Rattle.std.proofs.lemmas.List.{append_assoc}
 use Rattle.std.proofs.lemmas.Option.{same_Some}
 use Rattle.seat_steps.specs.declared.limits.Limits.{Limits}
 use Rattle.wl_wire.specs.Messages.{IsPartial, messages}
@@ -10,8 +9,6 @@ use Rattle.wl_wire.specs.Messages.{joined as joined_bytes}
 use Rattle.wl_proto.specs.declared.interface.Interface.{Interface}
 use Rattle.wl_proto.specs.declared.interface.Interface.TheVariants as interface
 use Rattle.wl_proto.specs.declared.event.Event.{Event}
-use Rattle.wl_proto.specs.declared.event.Event.TheVariants as events
-use Rattle.wl_proto.specs.Rows.{Message}
 use Rattle.relay_model.specs.declared.said.Told.{Told}
 use Rattle.relay_model.specs.declared.said.Said.{Said}
 use Rattle.relay_model.specs.declared.said.Said.TheVariants as said
@@ -36,19 +33,13 @@ use Rattle.told_law.proofs.MessagesTold.{TellsSo, told_each}
 use Rattle.told_law.proofs.MessagesPut.{entry_messages, ArePut, put_messages}
 use Rattle.told_law.proofs.ToldIsRead.{each_two, told_read, told_writable}
 use Rattle.hub_lock.specs.Histories.{History, entries_of}
-use Rattle.hub_lock.specs.Lawful.{IsLawful}
 use Rattle.pass_calls.specs.Made.{journal_of}
-use Rattle.pass_calls.specs.Taken.{HasAll}
 use Rattle.pass_calls.proofs.OthersTakeNothing.{entries-append}
-use Rattle.trial_run.specs.Events.{event_of}
-use Rattle.trial_run.specs.declared.typist.TrialTypist.{TrialTypist}
 use Rattle.trial_run.proofs.FirstMessages.{first_is, found_first}
 use Rattle.trial_run.proofs.FrontOfBytes.{partial_none, bad_none}
-use Rattle.trial_law.specs.FieldLogs.{then_events}
 use Rattle.trial_law.proofs.BatchesRelayed.{messages_joined}
 use Rattle.trial_law.proofs.ClientIds.{AreOwn}
 use Rattle.trial_law.proofs.FieldsReadAll.{in_older}
-use Rattle.trial_law.proofs.GroupsHeard.{SpellsOne}
 use Rattle.method_law.specs.ToldEvents.{event_said, event_for, events_for, events_at, events_told}
 use Rattle.method_law.specs.TypedLogs.{events_in, events_of, requests_of}
 use Rattle.method_law.proofs.MethodIds.{AreKnown, requests_safe, known_steps, all_known}
@@ -56,11 +47,8 @@ use Rattle.method_law.proofs.NoKeymaps.{IsPlainTold, all_plain, act_plain, told_
 use Rattle.method_law.proofs.NoKeymaps as keymaps
 use Rattle.method_law.proofs.ToldHeard.{IsSaid, SpellsAll, put_heard, spelled_events}
 use Rattle.typing_jobs.specs.Fronts.{AreEventsIn}
-use Rattle.trial_jobs.specs.declared.method_job.MethodJob.{MethodJob}
-use Rattle.trial_jobs.specs.MethodLaw.{IsMethodDone}
-use Rattle.jobs_law.specs.Passes.{ArePassesOf}
 use Rattle.jobs_law.specs.FieldTold.{OthersAreFields}
-use Rattle.jobs_law.specs.MethodTold.{IsMethodTold, is_key, keys_of, HasKeys}
+use Rattle.jobs_law.specs.MethodTold.{IsMethodTold, is_key, keys_of}
 use Rattle.jobs_law.specs.ShellTold.{is_order}
 use Rattle.jobs_law.specs.JobLaws.{MethodsHaveKeys}
 use Rattle.jobs_law.proofs.StepsOfPeers.{steps_outer}

@@ -42,6 +42,7 @@ use Rattle.trial_jobs.specs.declared.method_job.MethodJob.{MethodJob}
 use Rattle.client_logs.specs.MethodLogs.{method_log}
 use Rattle.jobs_law.specs.Passes.{ArePassesOf, HasEndIn}
 use Rattle.jobs_law.specs.FieldTold.{IsQuiet, OthersAreFields, IsAllTold}
+use Rattle.jobs_law.specs.MethodTold.{HasKeys}
 use Rattle.jobs_law.specs.OneTrial.{IsOfPeer, IsOfTrial, is_take, IsOnePeer, entries_after, AreJobs, IsTrial, IsCutTrial, TrialsAreTold, CutTrialsAreTold}
 use Rattle.jobs_law.specs.ShellTold.{orders_of, is_order, OrdersAreOf, HasOrdered, IsFocusOrKey}
 use Rattle.jobs_law.proofs.StepsOfPeers.{steps_outer}
@@ -49,6 +50,7 @@ use Rattle.jobs_law.proofs.PassesSeen.{over_in}
 use Rattle.jobs_law.proofs.RequestsInOrder.{front_by}
 use Rattle.jobs_law.proofs.FieldTold.{sent_by, fields_are_told, fields_have_sent}
 use Rattle.jobs_law.proofs.FieldAll.{longer_settled, fields_are_all_told}
+use Rattle.jobs_law.proofs.MethodAll.{methods_have_keys}
 use Rattle.jobs_law.proofs.MethodTold.{methods_are_told, methods_have_sent}
 use Rattle.jobs_law.proofs.MethodTold as methods
 use Rattle.jobs_law.proofs.ShellTold.{shell_has_ordered}
@@ -151,7 +153,7 @@ sent_all : (limits : Limits) (h : History) (typist : TrialTypist) (method : Meth
 sent_all limits h typist method fields shell t = record {
   orders = subst (AllByRecursion (λ (e : Entry). is_order e ≡ true)) (sym t.ordered-are) (orders_are shell.steps);
   method_sent = front_by limits method.reader method.writer (requests_of typist (method_log method.log))
-      t.method_done.sent;
+      t.method_rested.done.sent;
   fields_sent = λ k job is. front_by limits job.reader job.writer (field_setup ++ sends_of (field_log job.log))
       (t.rested k job is).done.sent;
 }
@@ -444,6 +446,48 @@ field_all limits h typist method fields shell t k job is lives =
         no_order no_method no_own m.reads p.reads)
         (others_are_fields limits h typist method fields shell t) (λ e. absurd (omega arith))
 
+no_orders : (n : ℕ) (rest : History) → OrdersAreOf n rest → NoneOf n rest →
+    AllByRecursion (λ (s : ℕ × OuterStep). is_order s.1.entry ≡ false) rest
+no_orders n [] orders none = tt
+no_orders n (x ∷ rest) orders none =
+    (one (is_order x.1.entry) refl, no_orders n rest orders.1 (none-back n (x ∷ []) rest none))
+  where
+    one : (b : Bool) → is_order x.1.entry ≡ b → b ≡ false
+    one false e = refl
+    one true e = absurd (none_first n x rest none (orders.0 e))
+
+method_keys : (limits : Limits) (h : History) (typist : TrialTypist) (method : MethodJob) (fields : List FieldJob)
+    (shell : ShellJob) (t : IsTrial limits h typist method fields shell) →
+    orders_of (journal_of limits h) ≡ shell.steps → (HasEndIn (journal_of limits h) 1 → ⊥) →
+    HasKeys limits (journal_of limits h) (journal_of limits method.writer.seat.seen) (method_log method.log)
+method_keys limits h typist method fields shell t is lives = rests t.method_rested.rest
+  where
+    j : AreJobs limits h typist method fields shell
+    j = t.jobs
+
+    p : ArePassesOf h 1 method.reader method.writer
+    p = j.method_peer.passes
+
+    rests : (HasAll limits method.writer t.method_rested.done.taken
+        × (entries_after limits shell.pass.seen ≤ entries_after limits method.writer.seat.seen))
+        ⊎ IsOver limits method.reader method.writer →
+        HasKeys limits (journal_of limits h) (journal_of limits method.writer.seat.seen) (method_log method.log)
+    rests (inr over) = absurd (lives (over_in limits h 1 method.reader method.writer p over))
+    rests (inl all) =
+        let seen : History = method.writer.seat.seen in
+        let rest : History = p.writer_seen.0 in
+        let whole : h ≡ seen ++ rest = p.writer_seen.1 in
+        let none : NoneOf shell.pass.number rest =
+        later_none limits shell.pass.number shell.pass.seen seen j.shell_seen.0 rest (sym j.shell_seen.1 ∙ whole) all.1
+        j.shell_seen.2 in
+        let orders : OrdersAreOf shell.pass.number rest =
+        orders_right shell.pass.number seen rest (subst (OrdersAreOf shell.pass.number) whole
+        (orders_of_shell fields shell.pass.number h
+        (all_known limits h typist method fields shell j (sent_all limits h typist method fields shell t)))) in
+        methods_have_keys limits h typist method j.lawful p j.fresh j.short
+        (subst (AllByRecursion IsFocusOrKey) (sym is) j.keys) t.method_rested.done all.0
+        (no_orders shell.pass.number rest orders none) (others_are_fields limits h typist method fields shell t)
+
 pub trials_are_told : TrialsAreTold
 trials_are_told limits h typist method fields shell t =
     let j : AreJobs limits h typist method fields shell = t.jobs in
@@ -454,7 +498,8 @@ trials_are_told limits h typist method fields shell t =
     record {
       orders = orders;
       method_told = methods_have_sent limits h typist method j.lawful j.method_peer.passes j.fresh j.short
-          (subst (AllByRecursion IsFocusOrKey) (sym orders) j.keys) t.method_done;
+          (subst (AllByRecursion IsFocusOrKey) (sym orders) j.keys) t.method_rested.done;
+      keys_told = method_keys limits h typist method fields shell t orders;
       fields_told = λ k job is. record {
         told = fields_have_sent limits h (k + 2) job j.lawful (j.field_peers k job is).passes
             (t.rested k job is).done;

@@ -27,7 +27,7 @@ use Rattle.trial_jobs.specs.MethodHearing.{HasShort}
 use Rattle.trial_jobs.specs.MethodLaw.{IsFresh, IsMethodDone, MethodEnds}
 use Rattle.jobs_law.specs.Passes.{ArePassesOf, HasEndIn}
 use Rattle.jobs_law.specs.FieldTold.{IsFieldTold, IsFieldToldAndSent, IsAllTold}
-use Rattle.jobs_law.specs.MethodTold.{IsMethodTold, IsMethodToldAndSent}
+use Rattle.jobs_law.specs.MethodTold.{IsMethodTold, IsMethodToldAndSent, HasKeys}
 use Rattle.jobs_law.specs.ShellTold.{orders_of, IsFocusOrKey}
 
 -- ---- whose passes made the steps
@@ -76,6 +76,14 @@ pub record HasRested (limits : Limits) (method : MethodJob) (shell : ShellJob)
       × (entries_after limits job.reader.seat.seen ≤ entries_after limits job.writer.seat.seen))
       ⊎ IsOver limits job.reader job.writer
 
+-- the same of the method's, whose writer has seen no less than the shell has
+pub record HasMethodRested (limits : Limits) (typist : TrialTypist) (method : MethodJob)
+    (shell : ShellJob) : Type 0 where
+  pub done : IsMethodDone limits typist method
+  pub rest : (HasAll limits method.writer done.taken
+      × (entries_after limits shell.pass.seen ≤ entries_after limits method.writer.seat.seen))
+      ⊎ IsOver limits method.reader method.writer
+
 -- The method's peer is the first, and those of the fields follow, in order. What their passes and the
 -- shell's have seen are fronts of one lawful history with no later step of theirs, and each of its
 -- steps is of one of them or a join by the root. The method's typist was fresh, its user's batches
@@ -98,7 +106,7 @@ pub record IsTrial (limits : Limits) (h : History) (typist : TrialTypist) (metho
     (fields : List FieldJob) (shell : ShellJob) : Type 0 where
   pub jobs : AreJobs limits h typist method fields shell
   pub ordered-are : entries_by shell.pass ≡ ordered shell.steps
-  pub method_done : IsMethodDone limits typist method
+  pub method_rested : HasMethodRested limits typist method shell
   pub rested : (k : ℕ) (job : FieldJob) → slice_get fields k ≡ Some job →
       HasRested limits method shell job
 
@@ -120,12 +128,15 @@ pub record HasFieldTold (limits : Limits) (journal : List Entry) (q : ℕ)
   pub told : IsFieldToldAndSent limits journal q (field_log job.log)
   pub all : (HasEndIn journal q → ⊥) → IsAllTold limits journal q (field_log job.log)
 
--- So it is with each field; the method's log has a front of the events that the journal tells its
--- peer, and its peer's steps are what the log asks for; the shell's orders are the script's.
+-- So it is with each field. The method's log has a front of the events that the journal tells its
+-- peer, all of them up to the last take and each key unless its peer ended, and its peer's steps are
+-- what the log asks for. The shell's orders are the script's.
 pub record IsToldWhole (limits : Limits) (journal : List Entry) (typist : TrialTypist)
     (method : MethodJob) (fields : List FieldJob) (shell : ShellJob) : Type 0 where
   pub orders : orders_of journal ≡ shell.steps
   pub method_told : IsMethodToldAndSent limits journal typist (method_log method.log)
+  pub keys_told : (HasEndIn journal 1 → ⊥) →
+      HasKeys limits journal (journal_of limits method.writer.seat.seen) (method_log method.log)
   pub fields_told : (k : ℕ) (job : FieldJob) → slice_get fields k ≡ Some job →
       HasFieldTold limits journal (k + 2) job
 

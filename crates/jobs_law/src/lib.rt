@@ -58,8 +58,8 @@ pub fn only_shell_orders()
 {}
 
 /// In a trial whose jobs were done the shell's orders in the one journal are the script's; the
-/// method's log has a front of the events that the journal tells its peer, and its peer's steps are
-/// what the log asks for; each field's log has all that the journal tells the field, with all batches
+/// method's log has the events that the journal tells its peer up to the last take, each key among
+/// them, a front of these where the peer ended, and its peer's steps are what the log asks for; each field's log has all that the journal tells the field, with all batches
 /// that are relayed to it, a front of these where its peer ended, and its peer's steps are its set-up
 /// and what its log sends.
 pub fn trials_are_told()
