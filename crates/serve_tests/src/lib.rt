@@ -8,6 +8,8 @@ mod equal;
 #[cfg(test)]
 mod gates;
 #[cfg(test)]
+mod half_tests;
+#[cfg(test)]
 mod links;
 #[cfg(test)]
 mod live_net;

@@ -21,12 +21,14 @@ use wio_core::MemSink;
 /// A job of a Unix link.
 type UnixJob = LinkJob<UnixSource, UnixSink, Open>;
 
-const REGISTRY: [u8; 16] = [12, 0, 0, 0, 1, 0, 0, 0, 1, 0, 12, 0, 2, 0, 0, 0];
+/// A frame with one message, `get_registry`.
+pub(crate) const REGISTRY: [u8; 16] = [12, 0, 0, 0, 1, 0, 0, 0, 1, 0, 12, 0, 2, 0, 0, 0];
 
 // How often a client tries to connect to a server that is coming up.
 const TRIES: u64 = 1_000_000;
 
-fn connect<R: Net>(rt: &R, path: &str) -> io::Result<UnixStream> {
+/// Connects to a server that is there, or coming up.
+pub(crate) fn connect<R: Net>(rt: &R, path: &str) -> io::Result<UnixStream> {
     for _ in 0..TRIES {
         if let Ok(stream) = UnixStream::connect(rt, path) {
             return Ok(stream);
@@ -36,14 +38,19 @@ fn connect<R: Net>(rt: &R, path: &str) -> io::Result<UnixStream> {
     UnixStream::connect(rt, path)
 }
 
-/// Sends the bytes, and gives what comes back until the server hangs up.
-pub(crate) fn talk<R: Net>(rt: &R, alloc: Global, path: &str, bytes: &[u8]) -> io::Result<Vec<u8>> {
-    let mut stream = connect(rt, path)?;
+/// Sends the bytes and no more, and gives what comes back until the server hangs up.
+pub(crate) fn ask(stream: &mut UnixStream, alloc: Global, bytes: &[u8]) -> io::Result<Vec<u8>> {
     stream.write_all(bytes)?;
     stream.shutdown(Shutdown::Write)?;
     let mut answer = Vec::new(alloc);
     stream.read_to_end(&mut answer)?;
     Ok(answer)
+}
+
+/// The same over a link that it opens.
+pub(crate) fn talk<R: Net>(rt: &R, alloc: Global, path: &str, bytes: &[u8]) -> io::Result<Vec<u8>> {
+    let mut stream = connect(rt, path)?;
+    ask(&mut stream, alloc, bytes)
 }
 
 // Serves at Unix sockets by the words.
@@ -159,8 +166,13 @@ fn has_parts<R: Abort>(rt: &R, session: &[u8]) {
     }
 }
 
-// The session replays to what the application got.
-fn tells_app<R: Abort>(rt: &R, alloc: Global, session: &[u8], app: &[u8]) -> Result<(), Fail> {
+/// The session replays to what its first peer, an application, got.
+pub(crate) fn tells_app<R: Abort>(
+    rt: &R,
+    alloc: Global,
+    session: &[u8],
+    app: &[u8],
+) -> Result<(), Fail> {
     let told = told_line(alloc, app.get(4..).unwrap_or(&[]))?;
     let mut transcript = sink(alloc, &[])?;
     replay(alloc, session, &mut transcript)?;
