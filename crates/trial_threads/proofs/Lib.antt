@@ -1,0 +1,11 @@
+pub mod JobsListed
+pub mod JobsRun
+pub mod JobsCross
+pub mod JobsIdle
+pub mod JobsBegun
+pub mod JobsLeft
+pub mod JobsDrained
+pub mod JobsPlayed
+pub mod PartsTaken
+pub mod PassesBack
+pub mod TrialTold

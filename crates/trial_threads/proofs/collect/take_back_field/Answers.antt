@@ -1,0 +1,5 @@
+use Rattle.trial_threads.proofs.PassesBack.{field_took}
+use Rattle.trial_threads.proofs.collect.take_back_field.Goals as goal
+
+pub returns-clause-back : goal.returns-clause-back
+returns-clause-back c = field_took c.args.root.now c.give_back.new.root c.args.job c.give_back.ensures

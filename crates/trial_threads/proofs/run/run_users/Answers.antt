@@ -1,0 +1,49 @@
+use Rattle.std.proofs.Common.{◌∙◌, Result, Some, None, ap, subst}
+use Rattle.std.specs.Prelude.{Option}
+use Rattle.hub_lock.specs.declared.session.NoSession.{NoSession}
+use Rattle.hub_lock.specs.declared.session.Session.{Session}
+use Rattle.hub_lock.specs.Calls.{LegalCopy}
+use Rattle.trial_threads.specs.declared.stop.Stop.{Stop}
+use Rattle.trial_threads.specs.declared.trial.ThreadTrial.{ThreadTrial}
+use Rattle.trial_threads.specs.Users.{parts_of}
+use Rattle.trial_threads.specs.Whole.{HavePlayed}
+use Rattle.trial_threads.proofs.TrialTold.{is_whole, is_cut}
+use Rattle.trial_threads.proofs.run.run_users.Goals as goal
+
+pub returns-in-None : goal.returns-in-None
+returns-in-None g c =
+    let hub = c.in_ok-hub.hub in
+    let u = c.args.users.now in
+    let parts = parts_of u.fields u.first u.actions.now in
+    let rs = c.play-stopped.new.jobs.items in
+    let t : ThreadTrial = record {
+      logs = c.in_ok-logs.logs.fields;
+      method_log = c.in_ok-logs.logs.method;
+      session = c.in-Ok.session;
+    } in
+    is_whole hub c.args.typist parts c.play-stopped.new.root c.collect.new.root c.session.new.root rs t
+    (c.in_ok-hub.ensures.limits ∙ c.trial_limits.ensures.value)
+    (subst (λ (s : Option Stop). HavePlayed hub c.args.typist parts c.play-stopped.new.root.seen rs s) c.in-None.is
+    c.play-stopped.ensures.played)
+    c.in_ok-logs.ensures.back c.session.ensures.settled
+    (subst (λ (r : Result Session NoSession). LegalCopy hub.limits c.collect.new.root c.session.new.root.seen r)
+    c.in-Ok.is c.session.ensures.legal)
+
+pub returns-in-Full : goal.returns-in-Full
+returns-in-Full g c =
+    let hub = c.in_ok-hub.hub in
+    let u = c.args.users.now in
+    let parts = parts_of u.fields u.first u.actions.now in
+    let rs = c.play-stopped.new.jobs.items in
+    let t : ThreadTrial = record {
+      logs = c.in_ok-logs.logs.fields;
+      method_log = c.in_ok-logs.logs.method;
+      session = c.in-Ok.session;
+    } in
+    is_cut hub c.args.typist parts c.play-stopped.new.root c.collect.new.root c.session.new.root rs c.in-Full.kept t
+    (c.in_ok-hub.ensures.limits ∙ c.trial_limits.ensures.value)
+    (subst (λ (s : Option Stop). HavePlayed hub c.args.typist parts c.play-stopped.new.root.seen rs s)
+    (c.in-Some.is ∙ ap (λ (why : Stop). Some why) c.in-Full.is) c.play-stopped.ensures.played)
+    c.in_ok-logs.ensures.back c.session.ensures.settled
+    (subst (λ (r : Result Session NoSession). LegalCopy hub.limits c.collect.new.root c.session.new.root.seen r)
+    c.in-Ok.is c.session.ensures.legal)

@@ -1,0 +1,7 @@
+pub mod Users
+pub mod Jobs
+pub mod BegunJobs
+pub mod Drained
+pub mod Back
+pub mod Stops
+pub mod Whole
