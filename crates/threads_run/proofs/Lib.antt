@@ -1,0 +1,3 @@
+pub mod TrialTold
+pub mod LinesShown
+pub mod OutputTold

@@ -1,0 +1,11 @@
+//! What `trial-threads N` does: the drawn trial of the number, played in threads, and what its
+//! fields show.
+#![tactic(auto)]
+
+mod command;
+mod output;
+mod play;
+mod run;
+mod showing;
+
+pub use run::run_threads;
