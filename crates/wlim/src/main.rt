@@ -1,12 +1,15 @@
 //! wlim: a broker between text fields and an input method, whose promise is proved.
 #![tactic(auto)]
 
+mod open_gate;
 mod serve;
+mod threads;
 
 use plain_run::{Status, run_plain};
 use serve::serve;
 use std::process::ExitCode;
 use std::{env, io};
+use threads::play_threads;
 use wio_core::{StdSink, StdSource};
 
 // The words of the command line after the program's name.
@@ -28,11 +31,19 @@ fn unread(why: io::ErrorKind) -> Status {
     }
 }
 
-// Whether the first word is `serve`: no others are the server's.
-fn asks_to_serve(words: &[String]) -> bool {
+// What the first word says is run: `serve` the server, `trial-threads` a trial in threads, and any
+// other, or none, what works over an input.
+enum Run {
+    Server,
+    Threads,
+    Plain,
+}
+
+fn run_of(words: &[String]) -> Run {
     match words {
-        [] => false,
-        [first, ..] => first.as_str() == "serve",
+        [first, ..] if first.as_str() == "serve" => Run::Server,
+        [first, ..] if first.as_str() == "trial-threads" => Run::Threads,
+        _ => Run::Plain,
     }
 }
 
@@ -42,9 +53,12 @@ fn main(rt: HostRuntime) -> ExitCode {
         Err(error) => return ExitCode::from(unread(error.kind()).number()),
     };
     let mut output = StdSink::new(rt.stdout());
-    if asks_to_serve(&words) {
-        return ExitCode::from(serve(rt, rt.alloc(), &words, &mut output).number());
+    match run_of(&words) {
+        Run::Server => ExitCode::from(serve(rt, rt.alloc(), &words, &mut output).number()),
+        Run::Threads => ExitCode::from(play_threads(&rt, rt.alloc(), &words, &mut output).number()),
+        Run::Plain => {
+            let mut input = StdSource::new(rt.stdin());
+            ExitCode::from(run_plain(rt.alloc(), &words, &mut input, &mut output).number())
+        }
     }
-    let mut input = StdSource::new(rt.stdin());
-    ExitCode::from(run_plain(rt.alloc(), &words, &mut input, &mut output).number())
 }

@@ -1,5 +1,5 @@
 //! The server over Unix sockets and threads.
-use hub_lock::Gate;
+use crate::open_gate::OpenGate;
 use link_jobs::LinkJob;
 use serve_run::{ServeStatus, run_serve};
 use std::alloc::Global;
@@ -10,16 +10,6 @@ use std::thread::Threads;
 use unix_links::{ThreadSpawner, UnixNet, UnixSink, UnixSource, begin_job};
 use wio_core::Sink;
 
-/// Holds no reader.
-#[derive(Drop)]
-struct Open;
-
-impl Gate for Open {
-    fn before(&self, _peer: u32, _step: u64) {}
-
-    fn after(&self, _peer: u32, _step: u64) {}
-}
-
 /// Serves what the words ask for over real sockets, and writes the recorded session.
 pub fn serve<R: Threads + Wait + Files<File = File> + Net + Copy + Send + Sync + 'static, K: Sink>(
     rt: R,
@@ -27,14 +17,14 @@ pub fn serve<R: Threads + Wait + Files<File = File> + Net + Copy + Send + Sync +
     words: &[String],
     output: &mut K,
 ) -> ServeStatus {
-    let Ok(gate) = Arc::new(alloc, Open) else {
+    let Ok(gate) = Arc::new(alloc, OpenGate) else {
         return ServeStatus::NoMemory;
     };
     let mut net = UnixNet::new(rt, alloc);
     let mut spawner = ThreadSpawner::new(
         rt,
         alloc,
-        move |job: LinkJob<UnixSource, UnixSink, Open>| begin_job(rt, alloc, job),
+        move |job: LinkJob<UnixSource, UnixSink, OpenGate>| begin_job(rt, alloc, job),
     );
     run_serve(&rt, alloc, words, &mut net, &mut spawner, &gate, output)
 }

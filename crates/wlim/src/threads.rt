@@ -1,0 +1,18 @@
+//! Trials in threads.
+use crate::open_gate::OpenGate;
+use plain_run::Status;
+use std::alloc::Global;
+use std::sync::Wait;
+use std::thread::Threads;
+use threads_run::run_threads;
+use wio_core::Sink;
+
+/// Plays the trial that the words ask for in threads, and writes what its fields show.
+pub fn play_threads<R: Threads + Wait + Sync, K: Sink>(
+    rt: &R,
+    alloc: Global,
+    words: &[String],
+    output: &mut K,
+) -> Status {
+    run_threads(rt, alloc, words, &OpenGate, output)
+}
