@@ -1,0 +1,3 @@
+pub mod JobsShaped
+pub mod WholeTold
+pub mod CutTold

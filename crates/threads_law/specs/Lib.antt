@@ -1,0 +1,3 @@
+pub mod Peers
+pub mod Facts
+pub mod Told
