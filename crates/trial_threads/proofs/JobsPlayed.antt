@@ -21,6 +21,7 @@ use Rattle.trial_threads.specs.BegunJobs.{HaveBegun, FirstBegun}
 use Rattle.trial_threads.specs.Drained.{AreDrained, GoesOn, HasRest, least_for_method, least_for_fields}
 use Rattle.trial_threads.specs.Stops.{stop_by_begin, stop_by_job, stop_or, first_stop_in}
 use Rattle.trial_threads.specs.Whole.{IsDone, IsFilled, HaveDrained, HavePlayed}
+use Rattle.trial_threads.proofs.PeersStay.{joined_keep}
 use Rattle.trial_threads.proofs.JobsListed.{all_by, pairs_carry, parts_same, run_each}
 use Rattle.trial_threads.proofs.JobsRun.{ready_of, of_kept}
 use Rattle.trial_threads.proofs.JobsIdle.{all_idle_run}
@@ -31,6 +32,8 @@ have_drained hub typist before mid after types run d =
     let each = run_each hub typist before mid types run in record {
       users = parts_same (GoesOn hub) mid after (λ b a g. g.same) d.goes
           ∙ parts_same (IsRun hub) before mid (λ b a g. g.same) run;
+      joined = λ root j. joined_keep hub.limits (GoesOn hub) root mid after (λ b a g. g.keeps) d.goes
+          (joined_keep hub.limits (IsRun hub) root before mid (λ b a g. g.keeps) run j);
       run = pairs_carry (GoesOn hub) (HasRun hub typist) (HasRun hub typist) mid after (λ b a g h. g.run typist h)
           d.goes each;
       rested = d.rests typist each;

@@ -9,3 +9,7 @@ pub mod JobsPlayed
 pub mod PartsTaken
 pub mod PassesBack
 pub mod TrialTold
+pub mod JoinsCounted
+pub mod PeersBegin
+pub mod PeersStay
+pub mod PassesAll

@@ -1,5 +1,5 @@
 -- What the answer tells of a trial
-use Rattle.std.proofs.Common.{◌≡◌, ◌++◌, ◌∷◌, [], ℕ, List, Bool, Option, Some, None, Result, Ok, Err, refl, sym, ap, subst, ◌∙◌, inl, inr, append_assoc}
+use Rattle.std.proofs.Common.{◌≡◌, ◌++◌, ◌∷◌, [], ℕ, List, length, Bool, Option, Some, None, Result, Ok, Err, refl, sym, ap, subst, ◌∙◌, inl, inr, append_assoc}
 use Rattle.std.specs.Prelude.{◌⊎◌}
 use Rattle.std.specs.List.{AllByRecursion}
 use Rattle.seat_steps.specs.declared.limits.Limits.{Limits}
@@ -8,11 +8,13 @@ use Rattle.broker_model.specs.declared.journal.Entry.TheVariants as entries
 use Rattle.broker_model.specs.declared.journal.Kept.{Kept}
 use Rattle.client_logs.specs.declared.entry.FieldEntry.{FieldEntry}
 use Rattle.client_logs.specs.declared.method_log.MethodEntry.{MethodEntry}
+use Rattle.broker_model.specs.Settle.{outer}
 use Rattle.turn_lock.specs.Pairs.{HasSeen, IsIn}
+use Rattle.turn_lock.specs.Sights.{having_seen}
 use Rattle.hub_lock.specs.declared.session.Session.{Session}
 use Rattle.hub_lock.specs.Calls.{LegalCopy}
 use Rattle.hub_lock.specs.Histories.{History, broker_of}
-use Rattle.hub_lock.specs.Passes.{HubId, PassSeat}
+use Rattle.hub_lock.specs.Passes.{HubId, PassSeat, total_steps}
 use Rattle.hub_lock.specs.Plays.{IsSessionOf}
 use Rattle.pass_calls.specs.Made.{IsFullFor}
 use Rattle.pass_calls.proofs.PassesCounted.{seen_stays}
@@ -37,6 +39,9 @@ use Rattle.trial_threads.specs.Users.{Part}
 use Rattle.trial_threads.specs.Jobs.{HasEnd, HasRun, parts_in}
 use Rattle.trial_threads.specs.Back.{IsBack, JobIsBack, TookAllBack}
 use Rattle.trial_threads.specs.Whole.{IsSeenBy, ArePasses, IsTrial, IsWhole, IsCut, IsFilled, HavePlayed, ToldOf, Tells, bad_line_of, users_of}
+use Rattle.trial_threads.specs.Peers.{AllJoined}
+use Rattle.trial_threads.proofs.PeersStay.{peers_at}
+use Rattle.trial_threads.proofs.PassesAll.{once_all, passes_all, root_joins}
 use Rattle.trial_threads.proofs.JobsListed.{all_by}
 
 -- ---- the journal was full in a front of the whole history
@@ -125,12 +130,21 @@ pub is_whole : (hub : HubId) (typist : TrialTypist) (parts : List Part) (root ro
     (rs : List Running) (t : ThreadTrial) → hub.limits ≡ trial_limits →
     HavePlayed hub typist parts root.seen rs None → TookAllBack root root' rs t.logs t.method_log →
     ((n : ℕ) → IsIn n root'.taken → HasSeen root''.seen n root'.seen) →
-    LegalCopy hub.limits root' root''.seen (Ok t.session) → IsWhole typist parts t
+    LegalCopy hub.limits root' root''.seen (Ok t.session) → AllJoined root rs →
+    root'' ≡ having_seen root' root''.seen →
+    (root'.out ≡ 0 → length (outer t.session.journal.entries) ≡ total_steps root'') → IsWhole typist parts t
 unfolding is_trial
-is_whole hub typist parts root root' root'' rs t limits p took settled legal = record {
+is_whole hub typist parts root root' root'' rs t limits p took settled legal j is steps = record {
   trial = is_trial hub typist parts root root' root'' rs t limits (p.users ∙ p.all refl) p.run took settled legal;
   done = p.done refl;
   rested = p.rested refl;
+  peers = peers_at root''.seen 1 rs
+      (is_trial hub typist parts root root' root'' rs t limits (p.users ∙ p.all refl) p.run took settled legal).seen
+      j.joined.peers;
+  root = root_joins hub.limits root root' j.count rs t.logs t.method_log root''.seen t.session j.joined took legal;
+  once = once_all root root' j.count rs t.logs t.method_log j.joined took j.some;
+  passes = passes_all root root' j.count rs t.logs t.method_log j.joined took j.some hub.limits root'' t.session is
+      legal steps;
 }
 
 pub is_cut : (hub : HubId) (typist : TrialTypist) (parts : List Part) (root root' root'' : PassSeat)

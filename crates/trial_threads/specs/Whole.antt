@@ -1,14 +1,16 @@
 -- The law of a whole trial in threads
-use Rattle.std.specs.Prelude.{◌≡◌, ◌⊎◌, ◌%◌, ◌^◌, ℕ, List, [], ◌∷◌, Option, Some, None, Result, Ok, Err, IfOk, Bool}
+use Rattle.std.specs.Prelude.{◌≡◌, ◌⊎◌, ◌%◌, ◌^◌, ℕ, List, [], ◌∷◌, Option, Some, None, Result, Ok, Err, IfOk, Bool, true}
 use Rattle.std.specs.List.{AllByRecursion}
 use Rattle.seat_steps.specs.declared.limits.Limits.{Limits}
+use Rattle.broker_model.specs.declared.journal.Entry.{Entry}
 use Rattle.broker_model.specs.declared.journal.Kept.{Kept}
 use Rattle.trial_script.specs.declared.script.Script.{Script}
-use Rattle.turn_lock.specs.Pairs.{HasSeen}
+use Rattle.turn_lock.specs.Pairs.{HasSeen, IsDistinct}
 use Rattle.hub_lock.specs.Histories.{History, broker_of}
 use Rattle.hub_lock.specs.Lawful.{IsLawful}
 use Rattle.hub_lock.specs.Passes.{HubId, PassSeat}
 use Rattle.hub_lock.specs.Plays.{IsSessionOf}
+use Rattle.pass_calls.specs.Counted.{entries_of_pass, AreOfPasses, is_join}
 use Rattle.trial_run.specs.declared.typist.TrialTypist.{TrialTypist}
 use Rattle.trial_run.specs.Trial.{trial_limits, typist_of}
 use Rattle.typing_jobs.specs.Fronts.{IsFrontOf}
@@ -24,7 +26,9 @@ use Rattle.trial_threads.specs.declared.trial.ThreadTrialEnd.{ThreadTrialEnd}
 use Rattle.trial_threads.specs.declared.trial.ThreadTrialEnd.TheVariants as ends
 use Rattle.trial_threads.specs.Users.{Part, bad_line_from, parts_of}
 use Rattle.trial_threads.specs.Jobs.{HasRun, parts_in, field_logs, method_log_in}
+use Rattle.trial_threads.specs.Back.{numbers_in}
 use Rattle.trial_threads.specs.Drained.{HasRest, least_for_method, least_for_fields}
+use Rattle.trial_threads.specs.Peers.{ArePeers, AllJoined}
 
 -- a pass has seen a front of the history, which has no later step of it; so it is with each pass of
 -- a job
@@ -57,12 +61,18 @@ abbrev pub IsDone : Running → Type 0
 IsDone r = (goes_on : Bool) × (r.ended ≡ Ok goes_on)
 
 -- All were done, and at the last Empty of each whose peer goes on all that was put for it was taken,
--- in a journal long enough: the method's has the shell's steps, a field's those and the method's.
+-- in a journal long enough: the method's has the shell's steps, a field's those and the method's. The
+-- peers have numbers in order, the root joined them and made nothing else, and each step is the
+-- root's or of one of the jobs' passes.
 pub record IsWhole (typist : TrialTypist) (parts : List Part) (t : ThreadTrial) : Type 0 where
   pub trial : IsTrial typist parts t
   pub done : AllByRecursion IsDone trial.jobs
   pub rested : AllByRecursion (λ (r : Running). HasRest trial.hub.limits typist
       (least_for_method trial.jobs) (least_for_fields trial.jobs) r.job) trial.jobs
+  pub peers : ArePeers trial.h 1 trial.jobs
+  pub root : AllByRecursion (λ (e : Entry). is_join e ≡ true) (entries_of_pass 0 trial.h)
+  pub once : IsDistinct (0 ∷ numbers_in trial.jobs)
+  pub passes : AreOfPasses (0 ∷ numbers_in trial.jobs) trial.h
 
 -- The jobs are those of the first of the users, and the journal was full for a step.
 pub record IsCut (typist : TrialTypist) (parts : List Part) (kept : Kept)
@@ -82,6 +92,7 @@ IsFilled limits h (r ∷ rs) kept =
 pub record HaveDrained (hub : HubId) (typist : TrialTypist) (before after : List Running)
     : Type 0 where
   pub users : parts_in after ≡ parts_in before
+  pub joined : (root : PassSeat) → AllJoined root before → AllJoined root after
   pub run : AllByRecursion (HasRun hub typist) after
   pub rested : AllByRecursion (λ (r : Running). IfOk r.ended (λ goes_on. HasRest hub.limits typist
       (least_for_method after) (least_for_fields after) r.job)) after

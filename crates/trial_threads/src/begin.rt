@@ -1,5 +1,5 @@
 //! The jobs of a script's users begin.
-ghost use Rattle.std.specs.Prelude.{◌≡◌, ◌≤◌, ◌∷◌, ◌++◌, ◌+◌, ◌*◌, ◌^◌, [], All, List, IfErr, OnOk, OnErr};
+ghost use Rattle.std.specs.Prelude.{◌≡◌, ◌≤◌, ◌∷◌, ◌++◌, ◌+◌, ◌*◌, ◌^◌, [], ℕ, All, List, length, IfErr, OnOk, OnErr};
 ghost use Rattle.hub_lock.specs.Passes.{IsOf};
 ghost use Rattle.trial_run.specs.declared.typist.TrialTypist.{TrialTypist};
 ghost use Rattle.trial_script.specs.Grammar.{IsAction};
@@ -9,6 +9,7 @@ ghost use Rattle.trial_threads.specs.Users.{Part, of_field, of_method, of_shell,
 ghost use Rattle.trial_threads.specs.Users.{edits_in, batches_in, orders_in, parts_of};
 ghost use Rattle.trial_threads.specs.BegunJobs.{IsPut, HaveBegun, FirstBegun};
 ghost use Rattle.trial_threads.specs.Jobs.{idle_job};
+ghost use Rattle.trial_threads.specs.Peers.{HaveJoined, AllJoined};
 
 use crate::parts::{batches_in, edits_in, orders_in};
 use crate::running::Running;
@@ -58,6 +59,8 @@ fn put_field<R: Wait>(
     ensures next { OnOk result (root.new.next ≡ root.old.next + 2) }
     ensures put { OnOk result ((typist : TrialTypist) → IsPut hub.now typist
         (of_field (edits_in number actions.now)) jobs.old.items jobs.new.items) }
+    ensures joined { OnOk result (HaveJoined root.old (length jobs.old.items) jobs.old.items →
+        HaveJoined root.new (length jobs.new.items) jobs.new.items) }
     ensures err { OnErr result (jobs.new.items ≡ jobs.old.items) }
     ensures cause { IfErr result (HasCause hub.now.limits root.new.seen) }
 {
@@ -85,6 +88,8 @@ fn put_method<R: Wait>(
     ensures next { OnOk result (root.new.next ≡ root.old.next + 2) }
     ensures put { OnOk result (IsPut hub.now typist
         (of_method (batches_in actions.now)) jobs.old.items jobs.new.items) }
+    ensures joined { OnOk result (HaveJoined root.old (length jobs.old.items) jobs.old.items →
+        HaveJoined root.new (length jobs.new.items) jobs.new.items) }
     ensures err { OnErr result (jobs.new.items ≡ jobs.old.items) }
     ensures cause { IfErr result (HasCause hub.now.limits root.new.seen) }
 {
@@ -109,6 +114,8 @@ fn put_shell(
     ensures own { IsOf hub.now root.new }
     ensures put { OnOk result ((typist : TrialTypist) → IsPut hub.now typist
         (of_shell (orders_in first actions.now)) jobs.old.items jobs.new.items) }
+    ensures joined { OnOk result ((n : ℕ) → HaveJoined root.old n jobs.old.items →
+        HaveJoined root.new n jobs.new.items) }
     ensures err { OnErr result (jobs.new.items ≡ jobs.old.items) }
 {
     let steps = orders_in(alloc, first, actions)?;
@@ -139,6 +146,8 @@ fn put_fields<R: Wait>(
         HaveBegun hub.now typist parts jobs.old.items →
         FirstBegun hub.now typist (parts ++ fields_from 1 users.now.fields users.now.actions.now)
         jobs.new.items }
+    ensures joined { OnOk result (HaveJoined root.old (length jobs.old.items) jobs.old.items →
+        HaveJoined root.new (length jobs.new.items) jobs.new.items) }
     ensures cause { IfErr result (HasCause hub.now.limits root.new.seen) }
 {
     for index in 0..users.fields {
@@ -169,6 +178,8 @@ pub(crate) fn begin_jobs<R: Wait>(
         (parts_of users.now.fields users.now.first users.now.actions.now) jobs.new.items) }
     ensures first { FirstBegun hub.now typist
         (parts_of users.now.fields users.now.first users.now.actions.now) jobs.new.items }
+    ensures joined { OnOk result (HaveJoined root.old 0 [] →
+        AllJoined root.new jobs.new.items) }
     ensures cause { IfErr result (HasCause hub.now.limits root.new.seen) }
 {
     put_method(rt, alloc, hub, root, typist, users.actions, jobs)?;

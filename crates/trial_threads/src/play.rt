@@ -1,11 +1,12 @@
 //! The jobs of a script's users are played to their end.
-ghost use Rattle.std.specs.Prelude.{◌≡◌, ◌≤◌, [], All, length};
+ghost use Rattle.std.specs.Prelude.{◌≡◌, ◌≤◌, [], All, None, length};
 ghost use Rattle.hub_lock.specs.Passes.{IsOf};
 ghost use Rattle.trial_script.specs.Grammar.{IsAction};
 ghost use Rattle.trial_jobs.specs.MethodLaw.{IsFresh};
 ghost use Rattle.trial_run.specs.declared.typist.TrialTypist.{TrialTypist};
 ghost use Rattle.trial_threads.specs.Users.{parts_of};
 ghost use Rattle.trial_threads.specs.Jobs.{AreIdle, AreJobsOf, TypeAs};
+ghost use Rattle.trial_threads.specs.Peers.{HaveJoined, AllJoined};
 ghost use Rattle.trial_threads.specs.Whole.{HaveDrained, HavePlayed};
 
 use crate::begin::{Users, begin_jobs};
@@ -59,6 +60,7 @@ pub(crate) fn play<R: Threads + Wait + Sync, G: Gate + Sync>(
     ensures played { HavePlayed hub.now typist
         (parts_of users.now.fields users.now.first users.now.actions.now)
         root.new.seen jobs.new.items result }
+    ensures joined { result ≡ None → HaveJoined root.old 0 [] → AllJoined root.new jobs.new.items }
 {
     if let Err(why) = begin_jobs(rt, alloc, hub, root, typist, users, jobs) {
         return Some(stop_of_begin(why));

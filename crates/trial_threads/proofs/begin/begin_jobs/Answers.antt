@@ -1,9 +1,10 @@
-use Rattle.std.proofs.Common.{◌≡◌, ◌++◌, [], ◌∷◌, List, subst, sym, ◌∙◌, arith}
+use Rattle.std.proofs.Common.{◌≡◌, ◌≤◌, ◌++◌, [], ◌∷◌, List, length, subst, sym, ◌∙◌, arith, length-append}
 use Rattle.hub_lock.specs.Passes.{HubId}
 use Rattle.trial_run.specs.declared.typist.TrialTypist.{TrialTypist}
 use Rattle.trial_threads.specs.declared.running.Running.{Running}
 use Rattle.trial_threads.specs.Users.{Part, of_method, of_shell, batches_in, orders_in, fields_from, parts_of}
 use Rattle.trial_threads.specs.BegunJobs.{HaveBegun, FirstBegun, IsPut}
+use Rattle.trial_threads.specs.Peers.{HaveJoined, AllJoined}
 use Rattle.trial_threads.proofs.JobsBegun.{have_none, have_more, first_none, first_longer, first_all}
 use Rattle.trial_threads.proofs.begin.begin_jobs.Goals as goal
 
@@ -105,3 +106,17 @@ returns-clause-first g c =
     let u = c.args.users.now in
     first_all c.args.hub.now c.args.typist (parts_of u.fields u.first u.actions.now) c.put_shell.new.jobs.items
     (returns-clause-all g c)
+
+pub returns-clause-joined : goal.returns-clause-joined
+returns-clause-joined g c h =
+    let none = c.requires.none in
+    let start = subst (λ (rs : List Running). HaveJoined c.args.root.now (length rs) rs) (sym none) h in
+    let n = length c.put_fields.new.jobs.items in record {
+      count = n;
+      joined = c.in_ok-put_shell.ensures.joined n
+          (c.in_ok-put_fields.ensures.joined (c.in_ok-put_method.ensures.joined start));
+      some = subst (λ (rs : List Running). 1 ≤ length rs)
+          (sym (c.in_ok-put_shell.ensures.put c.args.typist).put)
+          (let l = length-append c.put_fields.new.jobs.items
+          ((c.in_ok-put_shell.ensures.put c.args.typist).job ∷ []) in omega (arith, l));
+    }

@@ -11,6 +11,7 @@ loop-index-init g c = record {
   next = c.requires.room;
   begun = λ typist parts h. subst (λ (ps : List Part). HaveBegun c.args.hub.now typist ps c.args.jobs.now.items)
       (sym (append-nil parts)) h;
+  joined = λ h. h;
 }
 
 pub overflow_add-index : goal.overflow_add-index
@@ -45,6 +46,7 @@ loop-index-preserved g c =
       next = omega (arith, e.next, i.next);
       begun = λ typist parts h. one_field c.args.hub.now typist parts c.loop-index.index c.args.users.now.actions.now
           c.loop-index.jobs.items c.put_field.new.jobs.items (i.begun typist parts h) (e.put typist);
+      joined = λ h. e.joined (i.joined h);
     }
 
 pub returns-clause-own : goal.returns-clause-own
@@ -64,3 +66,6 @@ pub returns-clause-first : goal.returns-clause-first
 returns-clause-first g c typist parts h =
     first_fields c.args.hub.now typist parts c.loop-index.index c.args.users.now.fields c.args.users.now.actions.now
     c.loop-index.jobs.items (omega (arith, c.loop-index.auto.index-end)) (c.loop-index.invariant.begun typist parts h)
+
+pub returns-clause-joined : goal.returns-clause-joined
+returns-clause-joined g c h = c.loop-index.invariant.joined h

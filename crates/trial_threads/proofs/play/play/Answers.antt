@@ -1,4 +1,4 @@
-use Rattle.std.proofs.Common.{◌≡◌, ◌++◌, ◌∙◌, List, Some, length, take, drop, subst, sym, ap}
+use Rattle.std.proofs.Common.{◌≡◌, ◌++◌, ◌∙◌, List, Some, None, length, take, drop, subst, sym, ap}
 use Rattle.trial_threads.specs.declared.running.Running.{Running}
 use Rattle.trial_threads.specs.declared.stop.Stop.{Stop}
 use Rattle.std.specs.Prelude.{Option}
@@ -6,6 +6,7 @@ use Rattle.trial_threads.specs.Users.{parts_of}
 use Rattle.trial_threads.specs.Jobs.{AreJobsOf, TypeAs}
 use Rattle.trial_threads.specs.BegunJobs.{HaveBegun}
 use Rattle.trial_threads.specs.Stops.{first_stop_in}
+use Rattle.trial_threads.specs.Peers.{AllJoined}
 use Rattle.trial_threads.specs.Whole.{HavePlayed}
 use Rattle.trial_threads.proofs.JobsListed as listed
 use Rattle.trial_threads.proofs.JobsPlayed.{played_first, played_all}
@@ -52,3 +53,19 @@ returns-clause-played g c =
     c.run_all.new.jobs s) (sym stop)
     (played_all c.args.hub.now c.args.typist parts c.begin_jobs.new.root.seen c.deref_mut.result.now
     c.run_all.new.jobs have d))
+
+pub returns-in-Err-clause-joined : goal.returns-in-Err-clause-joined
+returns-in-Err-clause-joined g c e = absurd (let no : Some c.stop_of_begin.result ≡ None = e in cc)
+
+pub returns-clause-joined : goal.returns-clause-joined
+returns-clause-joined g c e h =
+    let items = c.begin_jobs.new.jobs.items in
+    let at : c.deref_mut.result.now ≡ items = c.deref_mut.ensures.value in
+    let count : c.begin_jobs.new.jobs.len ≡ length items = sym c.deref_mut.ensures.len ∙ ap length at in
+    let same = listed.written c.begin_jobs.new.jobs.len items c.run_all.new.jobs count
+    (c.run_all.ensures.length ∙ ap length at) in
+    let d = c.run_all.ensures.drained c.args.typist
+    (subst (λ (l : List Running). TypeAs c.args.typist l) (sym at) c.in_default.ensures.all.types) in
+    subst (λ (l : List Running). AllJoined c.begin_jobs.new.root l) (sym same)
+    (d.joined c.begin_jobs.new.root
+    (subst (λ (l : List Running). AllJoined c.begin_jobs.new.root l) (sym at) (c.in_default.ensures.joined h)))

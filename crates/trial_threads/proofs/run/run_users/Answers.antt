@@ -1,12 +1,16 @@
-use Rattle.std.proofs.Common.{◌∙◌, Result, Some, None, ap, subst}
-use Rattle.std.specs.Prelude.{Option}
+use Rattle.std.proofs.Common.{◌≡◌, ◌∙◌, [], Result, Some, None, length, refl, sym, ap, subst}
+use Rattle.std.specs.Prelude.{Option, IfOk}
+use Rattle.broker_model.specs.Settle.{outer}
+use Rattle.hub_lock.specs.Passes.{PassSeat, total_steps}
 use Rattle.hub_lock.specs.declared.session.NoSession.{NoSession}
 use Rattle.hub_lock.specs.declared.session.Session.{Session}
 use Rattle.hub_lock.specs.Calls.{LegalCopy}
 use Rattle.trial_threads.specs.declared.stop.Stop.{Stop}
 use Rattle.trial_threads.specs.declared.trial.ThreadTrial.{ThreadTrial}
 use Rattle.trial_threads.specs.Users.{parts_of}
+use Rattle.trial_threads.specs.Peers.{HaveJoined}
 use Rattle.trial_threads.specs.Whole.{HavePlayed}
+use Rattle.trial_threads.proofs.PeersBegin.{none_joined}
 use Rattle.trial_threads.proofs.TrialTold.{is_whole, is_cut}
 use Rattle.trial_threads.proofs.run.run_users.Goals as goal
 
@@ -28,6 +32,11 @@ returns-in-None g c =
     c.in_ok-logs.ensures.back c.session.ensures.settled
     (subst (λ (r : Result Session NoSession). LegalCopy hub.limits c.collect.new.root c.session.new.root.seen r)
     c.in-Ok.is c.session.ensures.legal)
+    (c.play-stopped.ensures.joined c.in-None.is (subst (λ (s : PassSeat). HaveJoined s 0 [])
+    (sym c.in_ok-hub.ensures.root) (none_joined _ refl refl refl refl)))
+    c.session.ensures.root
+    (λ e. subst (λ (r : Result Session NoSession). IfOk r (λ s.
+    length (outer s.journal.entries) ≡ total_steps c.session.new.root)) c.in-Ok.is (c.session.ensures.steps e))
 
 pub returns-in-Full : goal.returns-in-Full
 returns-in-Full g c =

@@ -1,0 +1,70 @@
+-- Each step of a trial's history is the root's or of one of the jobs' passes, and the root only joined
+use Rattle.std.proofs.Common.{◌≡◌, ℕ, ◌≤◌, ◌+◌, ◌-◌, List, [], ◌∷◌, ◌++◌, length, map, true, Ok, refl, sym, ap, subst, ◌∙◌, arith}
+use Rattle.std.specs.List.{AllByRecursion}
+use Rattle.seat_steps.specs.declared.limits.Limits.{Limits}
+use Rattle.broker_model.specs.declared.journal.Entry.{Entry}
+use Rattle.broker_model.specs.Settle.{outer}
+use Rattle.client_logs.specs.declared.entry.FieldEntry.{FieldEntry}
+use Rattle.client_logs.specs.declared.method_log.MethodEntry.{MethodEntry}
+use Rattle.turn_lock.specs.Pairs.{HasSeen, NoneOf, IsDistinct, total}
+use Rattle.turn_lock.specs.Sights.{having_seen, IsTallied}
+use Rattle.turn_lock.proofs.PairsOfNumbers.{own-seen}
+use Rattle.hub_lock.specs.declared.session.Session.{Session}
+use Rattle.hub_lock.specs.declared.step.OuterStep.{OuterStep}
+use Rattle.hub_lock.specs.Histories.{History, broker_of}
+use Rattle.hub_lock.specs.Passes.{PassSeat, total_steps}
+use Rattle.hub_lock.specs.Calls.{LegalCopy}
+use Rattle.hub_lock.proofs.JournalOfSteps.{length-entries, outer-journal}
+use Rattle.pass_calls.specs.Counted.{entries_of_pass, AreOfPasses, is_join}
+use Rattle.pass_calls.proofs.PassesCounted.{steps_are_of_passes, seen_stays}
+use Rattle.trial_threads.specs.declared.running.Running.{Running}
+use Rattle.trial_threads.specs.Back.{numbers_after, numbers_in, TookAllBack}
+use Rattle.trial_threads.specs.Peers.{HaveJoined}
+
+module _ (root root' : PassSeat) (n : ℕ) (rs : List Running) (fields : List (List FieldEntry))
+    (method : List MethodEntry) (h : HaveJoined root n rs) (took : TookAllBack root root' rs fields method)
+    (some : 1 ≤ length rs) where
+  numbers : root'.taken ≡ numbers_in rs
+  numbers = took.numbers ∙ ap (λ (ns : List ℕ). numbers_after ns rs) h.none
+
+  none_out : root'.out ≡ 0
+  none_out = let out = took.out in let old = h.out in omega arith
+
+  -- no pass has the number of another, nor the root's
+  pub once_all : IsDistinct (0 ∷ numbers_in rs)
+  once_all =
+      let t = took.tallied some in subst (λ (ns : List ℕ). IsDistinct (0 ∷ ns)) numbers (t.apart, t.once)
+
+  module _ (limits : Limits) (root'' : PassSeat) (s : Session) (is : root'' ≡ having_seen root' root''.seen)
+      (k : LegalCopy limits root' root''.seen (Ok s))
+      (steps : root'.out ≡ 0 → length (outer s.journal.entries) ≡ total_steps root'') where
+    as_long : length (outer s.journal.entries) ≡ length root''.seen
+    as_long =
+        ap (λ (j : List Entry). length (outer j))
+        (k.answer.copied.journal ∙ ap (λ (x : History). (broker_of limits x).journal) (sym k.answer.same))
+        ∙ ap length (outer-journal limits root''.seen k.lawful_after) ∙ length-entries root''.seen
+
+    taken : root''.taken ≡ numbers_in rs
+    taken = ap (λ (x : PassSeat). x.taken) is ∙ numbers
+
+    pub passes_all : AreOfPasses (0 ∷ numbers_in rs) root''.seen
+    passes_all =
+        steps_are_of_passes (0 ∷ numbers_in rs) root''.seen once_all
+        (ap (λ (ns : List ℕ). total (0 ∷ ns) root''.seen) (sym taken) ∙ sym (steps none_out) ∙ as_long)
+
+-- the root made nothing since it joined the peers
+pub root_joins : (limits : Limits) (root root' : PassSeat) (n : ℕ) (rs : List Running) (fields : List (List FieldEntry))
+    (method : List MethodEntry) (after : History) (s : Session) → HaveJoined root n rs →
+    TookAllBack root root' rs fields method → LegalCopy limits root' after (Ok s) →
+    AllByRecursion (λ (e : Entry). is_join e ≡ true) (entries_of_pass 0 after)
+root_joins limits root root' n rs fields method after s h took k =
+    subst (λ (steps : List OuterStep). AllByRecursion (λ (e : Entry). is_join e ≡ true)
+    (map (λ (x : OuterStep). x.entry) steps)) (sym (own-seen after root.seen 0 seen)) h.joins
+  where
+    number' : root'.number ≡ 0
+    number' = took.sees.number ∙ h.number
+
+    seen : HasSeen after 0 root.seen
+    seen = seen_stays after root'.seen root.seen 0
+        (k.rest, k.answer.same, subst (λ (m : ℕ). NoneOf m k.rest) number' k.apart)
+        (subst (λ (m : ℕ). HasSeen root'.seen m root.seen) h.number took.sees.mine)
