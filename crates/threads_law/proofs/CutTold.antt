@@ -29,7 +29,7 @@ use Rattle.jobs_law.proofs.FieldTold.{fields_are_told}
 use Rattle.trial_threads.specs.declared.running.Running.{Running}
 use Rattle.trial_threads.specs.Users.{Part, of_field, of_method, of_shell, edits_in, batches_in, orders_in, fields_from, parts_of}
 use Rattle.trial_threads.specs.Jobs.{HasEnd, HasRun, parts_in, part_of, field_logs, field_log_of}
-use Rattle.threads_law.specs.Peers.{IsPeer, PeerOf, ArePeers}
+use Rattle.trial_threads.specs.Peers.{IsPeer, PeerOf, ArePeers}
 use Rattle.trial_threads.specs.Whole.{ArePasses}
 use Rattle.threads_law.specs.Told.{IsCutField, CutsAreTold}
 use Rattle.threads_law.proofs.JobsShaped.{method_by, field_by, shell_by, first_is, later_are}

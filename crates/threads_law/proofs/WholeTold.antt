@@ -68,8 +68,7 @@ use Rattle.trial_threads.specs.Jobs.{IsJobOf, HasEnd, HasRun}
 use Rattle.trial_threads.specs.Back.{numbers_of, numbers_after, numbers_in}
 use Rattle.trial_threads.specs.Drained.{entries_seen, seen_by_shell, seen_by_method, most_of, least_for_method, least_for_fields, IsFieldDrained, IsMethodDrained, HasRest}
 use Rattle.trial_threads.specs.Whole.{IsSeenBy, ArePasses, IsDone, IsWhole, users_of}
-use Rattle.threads_law.specs.Peers.{IsPeer, PeerOf, ArePeers}
-use Rattle.threads_law.specs.Facts.{HasFacts}
+use Rattle.trial_threads.specs.Peers.{IsPeer, PeerOf, ArePeers}
 use Rattle.threads_law.specs.Told.{IsToldField, WholesAreTold}
 use Rattle.threads_law.proofs.JobsShaped.{AreFields, HasShape, has_shape, all_front, all_back, running_of, logs_are, method_log_is, OfField, field_of_log, edits_are, number_is}
 
@@ -420,10 +419,9 @@ record Read (hub : HubId) (s : Script) (h : History) (method : MethodJob) (field
       log.edits_in (field_log job.log) ≡ map edit_of job.edits
 
 read_of : (s : Script) (t : ThreadTrial) (written : IsWritten s) (w : IsWhole (typist_of s) (users_of s) t) →
-    HasFacts (typist_of s) (users_of s) t w →
     (p : HasShape w.trial.jobs s.fields (s.first_line % 2 ^ 32) s.actions) →
     Read w.trial.hub s w.trial.h p.method p.rest.fields p.rest.shell
-read_of s t written w facts p =
+read_of s t written w p =
     let hub : HubId = w.trial.hub in
     let h : History = w.trial.h in
     let rs : List Running = w.trial.jobs in
@@ -437,7 +435,7 @@ read_of s t written w facts p =
     let all : AllByRecursion (Holds hub typist h m f) (p.first ∷ (p.rest.front ++ p.rest.last ∷ [])) =
     subst (AllByRecursion (Holds hub typist h m f)) shape hold in
     let peers : ArePeers h 1 (p.first ∷ (p.rest.front ++ p.rest.last ∷ [])) =
-    subst (ArePeers h 1) shape facts.peers in
+    subst (ArePeers h 1) shape w.peers in
     let fronts : AllByRecursion (Holds hub typist h m f) p.rest.front =
     all_front (Holds hub typist h m f) p.rest.front (p.rest.last ∷ []) all.1 in
     let last : Holds hub typist h m f p.rest.last =
@@ -467,8 +465,8 @@ read_of s t written w facts p =
             (peer_of h 2 p.rest.front p.rest.fields p.rest.are
             (peers_front h 2 p.rest.front (p.rest.last ∷ []) peers.1) k job is) seen.0 seen.1);
         shell_seen = subst (ArePasses h) p.rest.last_is last.seen;
-        joins = facts.root;
-        each = each_of rs s.fields (s.first_line % 2 ^ 32) s.actions p h facts.passes;
+        joins = w.root;
+        each = each_of rs s.fields (s.first_line % 2 ^ 32) s.actions p h w.passes;
         fresh = fresh_by (has_words s.rules) s written;
         short = committed_fits hub.limits p.method s.actions p.batches written.actions rested.done.own;
         keys = subst (AllByRecursion IsFocusOrKey) (sym p.rest.steps) (orders_fit (s.first_line % 2 ^ 32) s.actions);
@@ -518,13 +516,13 @@ own_by limits h s job is p (inr k) =
     )
 
 pub wholes_are_told : WholesAreTold
-wholes_are_told bytes t w facts =
+wholes_are_told bytes t w =
     let s : Script = script_of bytes in
     let hub : HubId = w.trial.hub in
     let h : History = w.trial.h in
     let p : HasShape w.trial.jobs s.fields (s.first_line % 2 ^ 32) s.actions =
     has_shape w.trial.jobs s.fields (s.first_line % 2 ^ 32) s.actions w.trial.users in
-    let k = read_of s t (scripts_are_written bytes) w facts p in
+    let k = read_of s t (scripts_are_written bytes) w p in
     let journal : t.session.journal.entries ≡ journal_of hub.limits h = w.trial.session.journal in
     let whole : IsToldWhole trial_limits t.session.journal.entries (typist_of s) p.method p.rest.fields p.rest.shell =
     subst (λ (l : Limits). IsToldWhole l t.session.journal.entries (typist_of s) p.method p.rest.fields p.rest.shell)

@@ -20,9 +20,8 @@ use Rattle.jobs_law.specs.MethodTold.{IsMethodToldAndSent, HasKeys}
 use Rattle.jobs_law.specs.ShellTold.{orders_of}
 use Rattle.trial_threads.specs.declared.trial.ThreadTrial.{ThreadTrial}
 use Rattle.trial_threads.specs.Users.{edits_in, batches_in, orders_in}
-use Rattle.threads_law.specs.Peers.{ArePeers}
+use Rattle.trial_threads.specs.Peers.{ArePeers}
 use Rattle.trial_threads.specs.Whole.{users_of, IsWhole, IsCut}
-use Rattle.threads_law.specs.Facts.{HasFacts}
 
 -- The log of the field with the index k has the script's edits for it, in order. The rest of it are
 -- the enters, leaves and batches that the journal tells the field, in order, a front of these where
@@ -64,9 +63,8 @@ pub record IsTold (s : Script) (t : ThreadTrial) : Type 0 where
 -- it holds of every trial of a script that is read, where all jobs were done
 abbrev pub WholesAreTold : Type 0
 WholesAreTold =
-    (bytes : List ℕ) (t : ThreadTrial)
-    (w : IsWhole (typist_of (script_of bytes)) (users_of (script_of bytes)) t) →
-    HasFacts (typist_of (script_of bytes)) (users_of (script_of bytes)) t w →
+    (bytes : List ℕ) (t : ThreadTrial) →
+    IsWhole (typist_of (script_of bytes)) (users_of (script_of bytes)) t →
     IsTold (script_of bytes) t
 
 -- ---- where the journal was full for a step
