@@ -38,5 +38,6 @@ rest_holds n None store e =
     (sym (drop-nil n) ∙ ap (λ (q : Queue). drop n q.cells) e)
 rest_holds n (Some was) store e =
     subst
-    (λ (q : Queue). store_of q.capacity (kept (queue (drop n was.cells) was.capacity)) ≡ queue (drop n q.cells) q.capacity)
+    (λ (q : Queue). store_of q.capacity (kept (queue (drop n was.cells) was.capacity)) ≡
+    queue (drop n q.cells) q.capacity)
     e (store_kept (queue (drop n was.cells) was.capacity))

@@ -129,7 +129,8 @@ alive_less (Some other ∷ causes) (suc i) cause e = alive_less causes i cause e
 pub cause_read : (causes : List (Option EndCause)) (left : List Left) (n : ℕ) (c : Option EndCause) → 0 < n →
     slice_get causes (n - 1) ≡ Some c → c ≡ option_map (λ e. e.cause) (ended_with n (ended_from 1 causes left))
 cause_read causes left n c w at =
-    by c ∙ sym (ap (λ (o : Option (Option Ended)). option_map (λ e. e.cause) (ended_in o)) (read_at causes left n c w at))
+    by c ∙ sym (ap (λ (o : Option (Option Ended)). option_map (λ e. e.cause) (ended_in o))
+    (read_at causes left n c w at))
   where
     by : (c : Option EndCause) → c ≡ option_map (λ e. e.cause) (ended_at n c left)
     by None = refl
@@ -217,7 +218,8 @@ within causes left n items is w many =
     let same : length causes ≡ length items = sym (as_many 1 causes left) ∙ ap length is in
     omega arith
 
-pub record IsOver (causes : List (Option EndCause)) (left : List Left) (n : ℕ) (items : List (Option Ended)) : Type 0 where
+pub record IsOver (causes : List (Option EndCause)) (left : List Left) (n : ℕ)
+    (items : List (Option Ended)) : Type 0 where
   pub cause : EndCause
   pub at : slice_get causes (n - 1) ≡ Some (Some cause)
   pub is : ended_with n items ≡ Some (record { cause = cause; store = store_at n left })

@@ -97,7 +97,8 @@ abbrev pub cause_at : (number : ℕ) → List (Option EndCause) → Option EndCa
 cause_at number causes = cause_in (slice_get causes (number - 1))
 
 -- so many are alive, for each of them there is place for its store, and no store is of one of them
-pub record IsTidy (alive : ℕ) (causes : List (Option EndCause)) (left : List Left) (places : ℕ) : Type 0 where
+pub record IsTidy (alive : ℕ) (causes : List (Option EndCause)) (left : List Left)
+    (places : ℕ) : Type 0 where
   pub number : alive ≡ number_alive causes
   pub enough : alive ≤ places
   pub none : (n : ℕ) → cause_at n causes ≡ None → store_at n left ≡ None

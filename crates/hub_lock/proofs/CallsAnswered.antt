@@ -352,7 +352,8 @@ module _ (b : Broker) (readers : List ℕ) (n : ℕ) (kept : IsKept b readers) (
   takes-none q most bytes tokens =
       let none = none-from q (out_at b.limits.store b.journal q) in
       let res : Took = took_without_memory b q in record {
-        refused = is-here (λ (x : Broker). IfSome (take_refusal x q) (λ why. res ≡ why)) (refused-why (take_refusal b q));
+        refused =
+            is-here (λ (x : Broker). IfSome (take_refusal x q) (λ why. res ≡ why)) (refused-why (take_refusal b q));
         accepted = is-here (λ (x : Broker). IfNone (take_refusal x q) (IsBytesUnlessMemory res))
             (memory-lacks (take_refusal b q));
         into = is-here

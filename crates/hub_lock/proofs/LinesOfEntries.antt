@@ -68,7 +68,8 @@ entry-fits [] number e lines is = absurd (cc)
 entry-fits (x ∷ older) number e lines is =
     at-by (number == length older + 1) e x (entry_at older number) lines.0 (entry-fits older number e lines.1) is
 
-pub handed-fits : (limits : Limits) (p : Recorder) (after : History) (it : LetGo) → LegalHandOut limits p after (Some it)
+pub handed-fits : (limits : Limits) (p : Recorder) (after : History) (it : LetGo) →
+    LegalHandOut limits p after (Some it)
     → FitsLine it.entry
 handed-fits limits p after it k =
     let before : History = p.seat.seen ++ k.rest in

@@ -50,7 +50,8 @@ pub noted-handed : (n : ℕ) (b b' : Broker) (r : Option LetGo) → b' ≡ letti
     → (IsSome r ↔ (b.kept_from < length b.journal))
     → IsNoted n (answers.HandedOut r) (Some (n, b.kept_from)) (Some (n, b'.kept_from))
 noted-handed n b b' None gone some =
-    let few : length b.journal ≤ b.kept_from = not-less b.kept_from (length b.journal) (λ less. some-none (some.1 less)) in
+    let few : length b.journal ≤ b.kept_from =
+    not-less b.kept_from (length b.journal) (λ less. some-none (some.1 less)) in
     let same : b'.kept_from ≡ b.kept_from =
     ap (λ (x : Broker). x.kept_from) gone ∙ none-gone b.kept_from (length b.journal) few in
     noted-none n (answers.HandedOut None) (Some (n, b.kept_from)) (Some (n, b'.kept_from)) refl

@@ -142,7 +142,8 @@ made-rest all (x ∷ h) more m = made-rest all h more m.1
 before-all : (limits : Limits) (all h more : History) → AreMadeBy all more
     → IsBefore (broker_of limits h) (broker_of limits (h ++ more))
 before-all limits all h [] m =
-    subst (λ x. IsBefore (broker_of limits h) (broker_of limits x)) (sym (append-nil h)) (same-before (broker_of limits h))
+    subst (λ x. IsBefore (broker_of limits h) (broker_of limits x)) (sym (append-nil h))
+    (same-before (broker_of limits h))
 before-all limits all h (x ∷ more) m =
     let one : History = h ++ x ∷ [] in
     before-still (broker_of limits h) (broker_of limits one) (broker_of limits (h ++ x ∷ more))

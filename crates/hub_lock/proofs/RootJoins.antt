@@ -54,7 +54,8 @@ joins-reverse (e ∷ es) =
 joined-one : (e : Entry) (older : List Entry) →
     length (past_of (e ∷ older)).joined ≡ join_of e + length (past_of older).joined
 joined-one (entries.Join role) older =
-    let one = length-append (past_of older).joined (record { label = length older + 1; role = role } ∷ []) in omega arith
+    let one =
+    length-append (past_of older).joined (record { label = length older + 1; role = role } ∷ []) in omega arith
 joined-one (entries.Message q id opcode body) older = omega arith
 joined-one (entries.Tokens q tokens) older = omega arith
 joined-one (entries.BadSize q head) older = omega arith
@@ -107,9 +108,11 @@ alive-by-root limits h lawful =
 -- so a join of the root is not refused for too many, while it made few
 
 many-by : (many : Bool) (o : Option Kept) (r : Result ℕ JoinRefusal) (n : ℕ) → many ≡ false
-    → IfSome (if many then Some (join_refusals.TooManyPeers 64) else option_map (λ kept. join_refusals.JournalFull kept) o)
+    → IfSome (if many then Some (join_refusals.TooManyPeers 64)
+    else option_map (λ kept. join_refusals.JournalFull kept) o)
     (λ why. r ≡ Err why)
-    → IfNone (if many then Some (join_refusals.TooManyPeers 64) else option_map (λ kept. join_refusals.JournalFull kept) o)
+    → IfNone (if many then Some (join_refusals.TooManyPeers 64)
+    else option_map (λ kept. join_refusals.JournalFull kept) o)
     (IsOkUnless r join_refusals.NoMemory) → r ≡ Err (join_refusals.TooManyPeers n) → ⊥
 many-by true o r n few refused accepted is = absurd (cc)
 many-by false (Some kept) r n few refused accepted is = absurd (cc)

@@ -154,7 +154,8 @@ module _ (limits : Limits) (seat : EventSeat) (call : Call) (after : Events) (ca
     records-after seat' e =
         let now : Records (having_seen seat after) (with_next r handed) = record {
           tally =
-              subst (λ n. tally_of after ≡ tally_after n (note_of (answers.HandedOut r)) (tally_of (seat.seen ++ k.rest)))
+              subst (λ n. tally_of after ≡ tally_after n (note_of (answers.HandedOut r))
+              (tally_of (seat.seen ++ k.rest)))
               number
               (subst (λ a. tally_of after ≡ tally_after call.number (note_of a) (tally_of (seat.seen ++ k.rest))) told
               played.noted.tally)

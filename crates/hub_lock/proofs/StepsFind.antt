@@ -98,7 +98,8 @@ taking-by b q most bytes tokens r count places None is told least small refused 
     (let never = sym told ∙ refused in cc)
 taking-by b q most bytes tokens r count places (Some out) is told least small refused t =
     taking-some b q most bytes tokens out count places is
-    (took-by (length (stored out) == 0) (end_of b.journal q) (full_for b (entries.Took q 0)) r count places told refused)
+    (took-by (length (stored out) == 0) (end_of b.journal q)
+    (full_for b (entries.Took q 0)) r count places told refused)
     least small (subst (λ (x : Took). IfBytes x (λ counts. IsTakenInto out most bytes tokens counts)) told t)
 
 pub taking : (b : Broker) (q most : ℕ) (bytes tokens : List ℕ) (r : Took) (count places : ℕ)

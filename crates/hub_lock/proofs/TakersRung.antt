@@ -189,7 +189,8 @@ module _ (capacity : ℕ) (e : Entry) (older : List Entry) (q : ℕ) (peer : Joi
       ∙ ap (drop out.taken) (append-nil out.put.bytes) ∙ none)
   grown-by true is (x ∷ xs) b none =
       let l = ap length b in
-      let some : (length group.bytes == 0) ≡ false = ne_eqb (length group.bytes) 0 (λ z. absurd (omega (arith, l, z))) in
+      let some : (length group.bytes == 0) ≡ false =
+      ne_eqb (length group.bytes) 0 (λ z. absurd (omega (arith, l, z))) in
       inr (put-told is some)
 
   grown : stored (out_for capacity older peer.label) ≡ [] → (stored after ≡ []) ⊎ IsTold capacity e older q
@@ -218,7 +219,8 @@ since-more : (capacity : ℕ) (e : Entry) (newer base : List Entry)
     ≡ watched_since capacity (length base) (newer ++ base) ++ watched capacity e (newer ++ base)
 since-more capacity e newer base =
     let all = length-append newer base in
-    ap (λ (b : Bool). if b then watched_since capacity (length base) (newer ++ base) ++ watched capacity e (newer ++ base)
+    ap (λ (b : Bool). if b
+    then watched_since capacity (length base) (newer ++ base) ++ watched capacity e (newer ++ base)
     else []) (le-leb (length base) (length (newer ++ base)) (omega arith))
 
 since : (capacity q : ℕ) (newer base : List Entry) → IsEmpty capacity base q
@@ -265,7 +267,8 @@ takers_rung limits before call after call' reply q plays grown empty other = ⊎
     let more : History = (call.number, t.0) ∷ [] in
     rung-more limits before more q reply.rings (subst (IsLawful limits) t.1 plays.lawful_after)
     (subst (λ (h : History). AreRung reply.rings
-    (watched_since limits.store (length (broker_of limits before).journal) (broker_of limits h).journal)) t.1 plays.rings)
+    (watched_since limits.store (length (broker_of limits before).journal) (broker_of limits h).journal)) t.1
+    plays.rings)
     empty
     (λ e. other (ap (λ (h : History). take_refusal (broker_of limits h) q) t.1 ∙ e)))
     grown

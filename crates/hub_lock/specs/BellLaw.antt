@@ -15,7 +15,8 @@ use Rattle.hub_lock.specs.Plays.{Plays}
 -- does rings the bell of that peer
 abbrev pub TakersAreRung : Type 0
 TakersAreRung =
-    (limits : Limits) (before : History) (call : Call) (after : History) (call' : Call) (reply : Reply)
+    (limits : Limits) (before : History) (call : Call) (after : History) (call' : Call)
+    (reply : Reply)
     (q : ℕ) →
     Plays limits before call after call' reply → IsGrown call.number before after →
     take_refusal (broker_of limits before) q ≡ Some took.Empty →

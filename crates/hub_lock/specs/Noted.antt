@@ -37,7 +37,8 @@ HasHanded (Some t) = 1 ≤ t.1
 abbrev pub Hands : ℕ → Ask → Answer → Broker → Tally → Type 0
 Hands n (asks.Name m) (answers.Named r) b t =
     IfSome r (λ named. named ≡ m) × (n ≡ 0 → t ≡ None → IsSome r)
-Hands n asks.HandOut (answers.HandedOut r) b t = (given : ℕ) → t ≡ Some (n, given) → IsHandedOut b given r
+Hands n asks.HandOut (answers.HandedOut r) b t =
+    (given : ℕ) → t ≡ Some (n, given) → IsHandedOut b given r
 Hands n asks.Copy (answers.Copied r) b t = (r ≡ Err sessions.HandedOut) ↔ HasHanded t
 Hands n _ _ b t = Unit {0}
 

@@ -160,7 +160,8 @@ module _ (P : TrialPlay → Type 0) (kept : IsCarried P) where
       let bytes : List ℕ = next_bytes (k + 2) t.broker in
       let both = both_went (took who t) (λ now. sends who (hears who bytes now)) end e in
       let mid : P both.mid = subst P (took_is who t both.mid both.first) (kept.taking k t h) in
-      field_sends P kept.left k (hears who bytes both.mid) end (kept.left.fields (hears who bytes both.mid).fields both.mid mid)
+      field_sends P kept.left k (hears who bytes both.mid) end
+      (kept.left.fields (hears who bytes both.mid).fields both.mid mid)
       both.second
 
   one_take_goes : (who : Whose) → Goes P (one_take who)

@@ -137,7 +137,8 @@ unless (peers.Tokens tokens) N P k = k
 unless peers.Gone N P k = inr k
 
 -- none of one step was made
-pub none_made : (before after : PeerPass) (e : Entry) (Why : Entry → Type 0) → entries_by after.seat ≡ entries_by before.seat
+pub none_made : (before after : PeerPass) (e : Entry) (Why : Entry → Type 0) → entries_by after.seat ≡
+    entries_by before.seat
     → Why e → MadeFirst before after (e ∷ []) Why
 none_made before after e Why same why = record {
   made = [];

@@ -356,7 +356,8 @@ module _ (limits : Limits) (pass pass' : PeerPass) (lent : Taken) (r : Took)
   piece = spelling (frame lent.bytes lent.tokens)
 
   pieces-more : (Gained : List (List ℕ) → Type 0) (n t : ℕ) (m : OneMore Gained n t)
-      → map spelling (frames_of m.out.put (m.sizes ++ n ∷ [])) ≡ map spelling (frames_of m.out.put m.sizes) ++ piece ∷ []
+      → map spelling (frames_of m.out.put (m.sizes ++ n ∷ [])) ≡
+      map spelling (frames_of m.out.put m.sizes) ++ piece ∷ []
   pieces-more Gained n t m =
       ap (map spelling) m.frames
       ∙ map-append spelling (frames_of m.out.put m.sizes) (frame lent.bytes lent.tokens ∷ [])

@@ -66,7 +66,8 @@ module _ {X : Type 0} (key : X → ℕ) where
   removed_mapped (l ∷ live) (suc place) = ap (λ ns. key l ∷ ns) (removed_mapped live place)
 
   -- and what is found in one is found in the other
-  pub at_mapped : (live : List X) (x place : ℕ) (none : X) → IsAt key x live place → IsAt (λ n. n) x (map key live) place
+  pub at_mapped : (live : List X) (x place : ℕ) (none : X) → IsAt key x live place →
+      IsAt (λ n. n) x (map key live) place
   at_mapped live x place none at = record {
     within = rw (length-map live key) at.within;
     has = λ d. get_or-map key live place none d at.within ∙ at.has none;

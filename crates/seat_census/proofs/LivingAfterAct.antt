@@ -24,7 +24,8 @@ eqb_sym x y =
       | inr n ↦ ne_eqb x y n ∙ sym (ne_eqb y x (λ e. n (sym e)))
     ]
 
-left_dropped : (b : Bool) (y x : ℕ) (o : Object) (rest more : List Living) → (y == x) ≡ b → more ≡ left (acts.Drop y) rest →
+left_dropped : (b : Bool) (y x : ℕ) (o : Object) (rest more : List Living) → (y == x) ≡ b → more ≡
+    left (acts.Drop y) rest →
     in_front x (if b then None else Some o) more ≡ left (acts.Drop y) (living_of x o ∷ rest)
 left_dropped true y x o rest more e h = rw (eqb_sym x y, e) h
 left_dropped false y x o rest more e h = rw (eqb_sym x y, e) (ap (λ ls. living_of x o ∷ ls) h)
@@ -154,13 +155,15 @@ entered_one act log one before after h same is =
     by None e k = cc
     by (Some o) e k =
         let it : one ≡ living_of (next log) o = cc in
-        is ∙ ap (λ ls. ls ++ one ∷ []) (same ∙ sym (left_made act (next log) (owner (object log (maker act))) o (living log) e))
+        is ∙ ap (λ ls. ls ++ one ∷ []) (same ∙ sym
+        (left_made act (next log) (owner (object log (maker act))) o (living log) e))
         ∙ ap (λ l. left act (living log) ++ l ∷ []) it
         ∙ ap (λ p. left act (living log) ++ in_front (next log) p []) (sym e)
         ∙ sym (living_after act log)
 
 pub entered_none : (act : Act) (log : List Act) (before after : List Living) →
-    ◌≡◌ {A = Option Living} None (option_map (living_of (next log)) (made act (next log) (owner_in before (maker act)))) →
+    ◌≡◌ {A = Option Living} None (option_map (living_of (next log))
+    (made act (next log) (owner_in before (maker act)))) →
     before ≡ living log → after ≡ left act before → after ≡ living (act ∷ log)
 entered_none act log before after h same is =
     by (made act (next log) (owner (object log (maker act)))) refl

@@ -60,7 +60,13 @@ abbrev pub begun_of : List ℕ → Option Open → Option Begun
 begun_of line None = None
 begun_of line (Some opening) =
     Some
-    (record { line = line; before = opening.before; fate = opening.fate; was_put = opening.was_put })
+    (record {
+      line = line;
+      before = opening.before;
+      fate = opening.fate;
+      was_put =
+          opening.was_put;
+    })
 
 -- the whole line
 abbrev pub whole : Seat → Begun → List ℕ

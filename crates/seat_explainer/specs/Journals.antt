@@ -22,7 +22,8 @@ count_joined journal = length (past_of journal).joined % 2 ^ 32
 abbrev pub is_put_for : ℕ → Entry → List Entry → Numbered → Bool
 is_put_for capacity e older p =
     let label = p.peer.label in
-    fits capacity (group_at e older label) (before_group e older label (out_for capacity older label))
+    fits capacity (group_at e older label)
+    (before_group e older label (out_for capacity older label))
     && not (length (group_at e older label).bytes == 0)
 
 -- for one of these peers

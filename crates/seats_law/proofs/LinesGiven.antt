@@ -94,7 +94,8 @@ all_behind : (seat : ℕ) (raw rest : List ℕ) → seat < 10 → behind_all raw
     stands_behind seat raw ≡ Some rest
 all_behind seat raw rest small e =
     ap (stands_behind seat) (all_is raw rest e)
-    ∙ ap₂ either_line (behind_first seat 97 (codes "ll " ++ rest) small (λ f. omega (arith, f, small))) (behind_same (codes "all ") rest)
+    ∙ ap₂ either_line (behind_first seat 97 (codes "ll " ++ rest) small (λ f. omega (arith, f, small)))
+    (behind_same (codes "all ") rest)
 
 one_behind : (seat count : ℕ) (raw : List ℕ) (found : ℕ × List ℕ) → seat < 10 → count ≤ 8 →
     behind_seat count raw ≡ Some found

@@ -55,7 +55,8 @@ either_shorter seat raw rest (Some found) few is e =
 either_shorter seat raw rest None few is e = shorter (codes "all ") raw rest (omega arith) few e
 
 gives_by : (seat : ℕ) (raw rest : List ℕ) (t : Bool) → leb (length raw) 8400 ≡ t
-    → (if t then either_line (behind (seat_mark seat) raw) (behind (codes "all ") raw) else None) ≡ Some rest → IsShorter raw rest
+    → (if t then either_line (behind (seat_mark seat) raw) (behind (codes "all ") raw) else None) ≡ Some rest →
+    IsShorter raw rest
 gives_by seat raw rest true test e =
     either_shorter seat raw rest (behind (seat_mark seat) raw) (leb-true (length raw) 8400 test) refl e
 gives_by seat raw rest false test e = absurd (cc e)
@@ -90,7 +91,8 @@ with_shorter seat raw lines given None is h =
 pub given_shorter : (seat : ℕ) (lines : List (List ℕ)) → AreShorter lines (given seat lines)
 given_shorter seat [] = none_shorter []
 given_shorter seat (raw ∷ lines) =
-    by (bytes_eq raw (codes "end")) (with_shorter seat raw lines (given seat lines) (gives seat raw) refl (given_shorter seat lines))
+    by (bytes_eq raw (codes "end")) (with_shorter seat raw lines (given seat lines) (gives seat raw) refl
+    (given_shorter seat lines))
   where
     by : (b : Bool) → AreShorter (raw ∷ lines) (with_line (gives seat raw) (given seat lines))
         → AreShorter (raw ∷ lines) (if b then [] else with_line (gives seat raw) (given seat lines))

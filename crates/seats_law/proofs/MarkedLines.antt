@@ -161,7 +161,8 @@ pub end_marked : (seat n : ℕ) → seat_end_line seat n ≡ seat_lines seat (en
 end_marked seat n = one_marked seat (codes "end " ++ decimal n) (end_lacks n)
 
 full_lacks : (n : ℕ) → LacksFeed (codes "journal full " ++ decimal n)
-full_lacks n = no_feed_both (codes "journal full ") (decimal n) (lacks_feed (codes "journal full ") refl) (decimal_lacks_feed n)
+full_lacks n =
+    no_feed_both (codes "journal full ") (decimal n) (lacks_feed (codes "journal full ") refl) (decimal_lacks_feed n)
 
 pub full_whole : (n : ℕ) → IsWhole (full_line n)
 full_whole n = one_whole (codes "journal full " ++ decimal n) (full_lacks n)

@@ -140,7 +140,8 @@ told_alone input header lines seat headed_by some few =
     omega (arith, read_size INPUT_LIMIT input, ap size_of headed_by.read) in
     as_answered (λ (a : Answer). told_to seat a.0) (output_of replay_seats input, status_of replay_seats input)
     (seats_from cut 1 (fresh_seats header) lines)
-    (session_from header.limits false 1 (first_stage Session) unplayed (given seat lines ++ codes "end" ∷ [])).0 (output_of replay (session_for header.limits seat lines))
+    (session_from header.limits false 1 (first_stage Session) unplayed (given seat lines ++ codes "end" ∷ [])).0
+    (output_of replay (session_for header.limits seat lines))
     (seats_answered input ∙ headed cut input first lines header headed_by.read headed_by.is)
     (session_replayed header.limits seat lines set.limits lack size)
     tells.told
@@ -165,7 +166,8 @@ isolated one other header header' lines lines' seat h h' limits some few few' ou
     out (told_alone one header lines seat h some few) in
     let same : output_of replay (session_for header'.limits seat lines') ≡ told_to seat (output_of replay_seats one) =
     sym (alone ∙ ap (λ (l : Limits). output_of replay (session_for l seat lines)) limits
-    ∙ ap (λ (g : List (List ℕ)). output_of replay (bytes_of (spelling Session (line.Header header'.limits) ∷ (g ++ codes "end" ∷ [])))) given_same) in
+    ∙ ap (λ (g : List (List ℕ)). output_of replay
+    (bytes_of (spelling Session (line.Header header'.limits) ∷ (g ++ codes "end" ∷ [])))) given_same) in
     subst (λ (t : List ℕ). IsAsFarAs (status_of replay_seats other) (told_to seat (output_of replay_seats other)) t)
     same
     (told_alone other header' lines' seat h' some few')

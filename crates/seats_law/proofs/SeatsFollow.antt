@@ -40,7 +40,8 @@ bad_silent : (seat n : ℕ) → seat < 10 → told_to seat (bad_line n) ≡ []
 bad_silent seat n small = words_silent seat 98 (codes "ad line " ++ decimal n) small (omega arith) (bad_lacks n)
 
 long_silent : (seat : ℕ) → seat < 10 → told_to seat long_line ≡ []
-long_silent seat small = words_silent seat 105 (codes "nput too long") small (omega arith) (lacks_feed (codes "input too long") refl)
+long_silent seat small =
+    words_silent seat 105 (codes "nput too long") small (omega arith) (lacks_feed (codes "input too long") refl)
 
 end_silent : (seat : ℕ) → seat < 10 → told_to seat (codes "end\n") ≡ []
 end_silent seat small = words_silent seat 101 (codes "nd") small (omega arith) (lacks_feed (codes "end") refl)
@@ -93,7 +94,8 @@ tells_none false seat n m x lines small = tells_bad seat (n + 1) m x lines small
 
 tells_end : (seat i m : ℕ) (seats : List Seat) (x : Seat) (full : Bool) → seat ≡ 1 + i → length seats ≤ 8 →
     slice_get seats i ≡ Some x
-    → Tells seat x (with_front (seats_endings 1 seats) (ending (if full then last.OverFull else last.Over))) (answer_after x m (codes "end" ∷ []))
+    → Tells seat x (with_front (seats_endings 1 seats) (ending (if full then last.OverFull else last.Over)))
+    (answer_after x m (codes "end" ∷ []))
 tells_end seat i m seats x full is few at = by full
   where
     told : text_of x ++ told_to seat (seats_endings 1 seats ++ codes "end\n") ≡ (answer_after x m (codes "end" ∷ [])).0
@@ -114,7 +116,8 @@ tells_end seat i m seats x full is few at = by full
     whole : IsWhole (seats_endings 1 seats ++ codes "end\n")
     whole = whole_both (seats_endings 1 seats) (codes "end\n") (endings_whole seats) end_whole
 
-    by : (b : Bool) → Tells seat x (with_front (seats_endings 1 seats) (ending (if b then last.OverFull else last.Over))) (answer_after x m (codes "end" ∷ []))
+    by : (b : Bool) → Tells seat x (with_front (seats_endings 1 seats)
+        (ending (if b then last.OverFull else last.Over))) (answer_after x m (codes "end" ∷ []))
     by true = record { whole = whole; told = told }
     by false = record { whole = whole; told = told }
 
@@ -148,7 +151,8 @@ tells_line : (seat i m : ℕ) (seats : List Seat) (x : Seat) (line : SeatLine) (
     (rest : Answer)
     → seat ≡ 1 + i → length seats ≤ 8 → slice_get seats i ≡ Some x → IsGiven (is_for line seat) seat line raw
     → Tells seat (seat_then (is_for line seat) line x) rest
-    (answer_after (seat_then (is_for line seat) line x) (more_lines (is_for line seat) m) (given seat lines ++ codes "end" ∷ []))
+    (answer_after (seat_then (is_for line seat) line x) (more_lines (is_for line seat) m)
+    (given seat lines ++ codes "end" ∷ []))
     → Tells seat x (with_front (seats_said line 1 seats) rest)
     (answer_after x m (with_line (gives seat raw) (given seat lines) ++ codes "end" ∷ []))
 tells_line seat i m seats x line raw lines rest is few at g later =
@@ -183,7 +187,8 @@ tells_by : (seat i n m : ℕ) (seats : List Seat) (x : Seat) (o : Option SeatsLi
 tells_by seat i n m seats x None raw lines rest is small few at reads later =
     tells_bad seat (n + 1) m x (given seat (raw ∷ lines) ++ codes "end" ∷ []) small
 tells_by seat i n m seats x (Some said.End) raw lines rest is small few at reads later =
-    subst (λ (b : Bool). Tells seat x (with_front (seats_endings 1 seats) (ending (seats_last seats))) (answer_after x m (given_by b seat raw lines ++ codes "end" ∷ [])))
+    subst (λ (b : Bool). Tells seat x (with_front (seats_endings 1 seats) (ending (seats_last seats)))
+    (answer_after x m (given_by b seat raw lines ++ codes "end" ∷ [])))
     (sym (line_ends (length seats) raw reads))
     (tells_end seat i m seats x (some_full seats) is few at)
 tells_by seat i n m seats x (Some (said.Seat line)) raw lines rest is small few at reads later =
@@ -191,7 +196,8 @@ tells_by seat i n m seats x (Some (said.Seat line)) raw lines rest is small few 
     let next : List Seat = seats_after line 1 seats in
     let b = is_for line seat in
     let still : length next ≤ 8 = omega (arith, few, same_count line 1 seats) in
-    subst (λ (t : Bool). Tells seat x (with_front (seats_said line 1 seats) (rest next)) (answer_after x m (given_by t seat raw lines ++ codes "end" ∷ [])))
+    subst (λ (t : Bool). Tells seat x (with_front (seats_said line 1 seats) (rest next))
+    (answer_after x m (given_by t seat raw lines ++ codes "end" ∷ [])))
     (sym l.goes_on)
     (tells_line seat i m seats x line raw lines (rest next) is few at l.given
     (later next (seat_then b line x) (more_lines b m) still (after_at line seat 1 i seats x is at)))
@@ -201,7 +207,8 @@ pub seats_tell : (cut : Bool) (seat i n m : ℕ) (seats : List Seat) (x : Seat) 
     → length seats ≤ 8 → slice_get seats i ≡ Some x
     → Tells seat x (seats_from cut n seats lines) (answer_after x m (given seat lines ++ codes "end" ∷ []))
 unfolding seats_from
-seats_tell cut seat i n m seats x [] is small few at = tells_none cut seat n m x (given seat [] ++ codes "end" ∷ []) small
+seats_tell cut seat i n m seats x [] is small few at =
+    tells_none cut seat n m x (given seat [] ++ codes "end" ∷ []) small
 seats_tell cut seat i n m seats x (raw ∷ lines) is small few at =
     tells_by seat i n m seats x (seats_line_of (length seats) raw) raw lines
     (λ next. seats_from cut (n + 1) next lines) is small few at refl

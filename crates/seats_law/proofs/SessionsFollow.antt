@@ -78,7 +78,8 @@ unfolding meaning_of line_of one_session_word
 end_means = refl
 
 with_end : (full : Option Kept) (limits : Limits) (play : Play) (n : ℕ)
-    → (answer_with full limits play n (codes "end" ∷ [])).0 ≡ journal_text limits.store play.journal ++ own_ending full (length play.journal)
+    → (answer_with full limits play n (codes "end" ∷ [])).0 ≡ journal_text limits.store play.journal ++
+    own_ending full (length play.journal)
 unfolding session_from
 with_end None limits play n =
     ap (λ (m : Meaning).
@@ -86,7 +87,8 @@ with_end None limits play n =
     (λ stamp next. session_from limits false (n + 1) (next_stage stage stamp) next [])).0) end_means
 with_end (Some kept) limits play n = refl
 
-pub at_end : (seat : Seat) (n : ℕ) → (answer_after seat n (codes "end" ∷ [])).0 ≡ text_of seat ++ own_ending seat.full (length seat.play.journal)
+pub at_end : (seat : Seat) (n : ℕ) → (answer_after seat n (codes "end" ∷ [])).0 ≡ text_of seat ++
+    own_ending seat.full (length seat.play.journal)
 at_end seat n = with_end seat.full seat.limits seat.play n
 
 -- ---- the transcript grows

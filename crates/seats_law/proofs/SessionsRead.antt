@@ -50,7 +50,8 @@ session_lack : (limits : Limits) (seat : ℕ) (lines : List (List ℕ)) → AreO
     → LackFeeds (session_lines limits seat lines)
 session_lack limits seat lines h lack = (
   header_lacks limits h,
-  lack_both (given seat lines) (codes "end" ∷ []) ((given_shorter seat lines).lack lack) (lacks_feed (codes "end") refl, tt),
+  lack_both (given seat lines) (codes "end" ∷ []) ((given_shorter seat lines).lack lack)
+      (lacks_feed (codes "end") refl, tt),
 )
 
 session_size : (limits : Limits) (seat : ℕ) (lines : List (List ℕ)) → AreOldLimits limits →

@@ -24,7 +24,8 @@ either_line None other = other
 -- behind `all`. A line of more bytes than a line may have gives none
 abbrev pub gives : ℕ → List ℕ → Option (List ℕ)
 gives seat raw =
-    if nat_le (length raw) line_limit then either_line (behind (seat_mark seat) raw) (behind (codes "all ") raw) else None
+    if nat_le (length raw) line_limit
+    then either_line (behind (seat_mark seat) raw) (behind (codes "all ") raw) else None
 
 -- a line before others, if it is there
 abbrev pub with_line : Option (List ℕ) → List (List ℕ) → List (List ℕ)
@@ -34,12 +35,14 @@ with_line (Some line) lines = line ∷ lines
 -- all that these lines give the seat, up to the line `end`
 abbrev pub given : ℕ → List (List ℕ) → List (List ℕ)
 given seat [] = []
-given seat (raw ∷ lines) = if bytes_eq raw (codes "end") then [] else with_line (gives seat raw) (given seat lines)
+given seat (raw ∷ lines) =
+    if bytes_eq raw (codes "end") then [] else with_line (gives seat raw) (given seat lines)
 
 -- the session of the seat, as its lines: a header of form 1 with the limits of each seat, what it
 -- is given, and `end`
 abbrev pub session_lines : Limits → ℕ → List (List ℕ) → List (List ℕ)
-session_lines limits seat lines = spelling Session (line.Header limits) ∷ (given seat lines ++ codes "end" ∷ [])
+session_lines limits seat lines =
+    spelling Session (line.Header limits) ∷ (given seat lines ++ codes "end" ∷ [])
 
 -- as bytes
 abbrev pub session_for : Limits → ℕ → List (List ℕ) → List ℕ

@@ -65,7 +65,8 @@ pub all_out : (limits : Limits) (p p' : Recorder) → p' ≡ after_handing p p'.
 all_out limits p p' e k =
     let before : History = p.seat.seen ++ k.rest in
     let few : length (broker_of limits before).journal ≤ length p.handed = k.answer.out.none in
-    subst (λ (l : List LetGo). length (broker_of limits p'.seat.seen).journal ≤ length l) (sym (handed_after p p' None e))
+    subst (λ (l : List LetGo). length (broker_of limits p'.seat.seen).journal ≤ length l)
+    (sym (handed_after p p' None e))
     (subst (λ (h : History). length (broker_of limits h).journal ≤ length p.handed) (sym k.answer.same) few)
 
 pub hands_out : (limits : Limits) (p p' : Recorder) (r : Option LetGo) → p' ≡ after_handing p p'.seat.seen r
@@ -147,16 +148,19 @@ module _ {S : Type 0} {held : S → Option (List ℕ)} {faults : S → ℕ} {lim
   }
 
   -- one more was handed out and written
-  pub recording_more : {T U E : Type 0} {p q r : Recorder} {a b c d : S} {waits waits' waits'' left : List ℕ} {it : LetGo}
+  pub recording_more : {T U E : Type 0} {p q r : Recorder} {a b c d : S} {waits waits' waits'' left : List ℕ}
+      {it : LetGo}
       {x : T} {y : U} {e f : E} → IsRecording held faults limits p q a b waits waits' → MadeNoStep q.seat r.seat
       → HandsOut limits q r (Some it) → Gains held faults b c waits'' waits' e (Ok x)
       → Gains held faults c d left (waits'' ++ lines_text (Some it.entry) (Some it.stamp)) f (Ok y)
       → IsRecording held faults limits p r a d waits left
-  recording_more {T} {U} {E} {p} {q} {r} {a} {b} {c} {d} {waits} {waits'} {waits''} {left} {it} so_far none_made hands out
+  recording_more {T} {U} {E} {p} {q} {r} {a} {b} {c} {d} {waits} {waits'} {waits''} {left} {it} so_far
+      none_made hands out
       put = record {
         none_made = no_step_on p.seat q.seat r.seat so_far.none_made none_made;
         written = λ first holds. holds_on limits first (held c) (held d) waits'' left q.handed r.handed it hands.handed
-            (holds_through first (held b) (held c) waits' waits'' (handed_text limits q.handed) (so_far.written first holds)
+            (holds_through first (held b) (held c) waits' waits'' (handed_text limits q.handed)
+            (so_far.written first holds)
             out.whole) put.whole;
         never_falls =
             let one = so_far.never_falls in

@@ -71,7 +71,8 @@ on_err (Ok x) P p = tt
 on_err (Err e) P p = p
 
 -- what waits goes out behind what went out before
-pub holds_through : (a b c : Option (List ℕ)) (waiting left text : List ℕ) → Holds a b waiting text → Holds b c left waiting
+pub holds_through : (a b c : Option (List ℕ)) (waiting left text : List ℕ) → Holds a b waiting text →
+    Holds b c left waiting
     → Holds a c left text
 holds_through a b c waiting left text first then =
     subst (Holds a c left) (append-nil text)

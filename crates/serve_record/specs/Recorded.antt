@@ -53,5 +53,6 @@ SessionIsRecorded =
     ∷ entries.Join App ∷ [])
     (record { moment = 7; author = 0 } ∷ record { moment = 7; author = 3 }
     ∷ record { moment = 6; author = 1 } ∷ record { moment = 5; author = 3 } ∷ [])
-    ≡ codes "session 2 8 100 134217728" ++ 10 ∷ (codes "5 3 join app" ++ 10 ∷ (codes "6 1 key 5 30 1" ++ 10
+    ≡ codes "session 2 8 100 134217728" ++ 10 ∷
+    (codes "5 3 join app" ++ 10 ∷ (codes "6 1 key 5 30 1" ++ 10
     ∷ (codes "7 3 tokens 1 7 8" ++ 10 ∷ (codes "end" ++ 10 ∷ []))))

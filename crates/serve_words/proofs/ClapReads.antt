@@ -188,11 +188,18 @@ pairs_taken (word ∷ value ∷ rest) h pairs few settles =
 stands_few : (word : List ℕ) (words : List (List ℕ)) → is_option word ≡ true → stand_once_at_most words ≡ true
     → length (values_of word words) ≤ 1
 stands_few word words names few =
-    let to_store = both (stands_once_at_most (codes "--app") words && stands_once_at_most (codes "--method") words && stands_once_at_most (codes "--shell") words && stands_once_at_most (codes "--order") words && stands_once_at_most (codes "--entries") words && stands_once_at_most (codes "--store") words) _ few in
-    let to_entries = both (stands_once_at_most (codes "--app") words && stands_once_at_most (codes "--method") words && stands_once_at_most (codes "--shell") words && stands_once_at_most (codes "--order") words && stands_once_at_most (codes "--entries") words) _ to_store.0 in
-    let to_order = both (stands_once_at_most (codes "--app") words && stands_once_at_most (codes "--method") words && stands_once_at_most (codes "--shell") words && stands_once_at_most (codes "--order") words) _ to_entries.0 in
-    let to_shell = both (stands_once_at_most (codes "--app") words && stands_once_at_most (codes "--method") words && stands_once_at_most (codes "--shell") words) _ to_order.0 in
-    let to_method = both (stands_once_at_most (codes "--app") words && stands_once_at_most (codes "--method") words) _ to_shell.0 in
+    let to_store = both (stands_once_at_most (codes "--app") words && stands_once_at_most (codes "--method") words &&
+    stands_once_at_most (codes "--shell") words && stands_once_at_most (codes "--order") words &&
+    stands_once_at_most (codes "--entries") words && stands_once_at_most (codes "--store") words) _ few in
+    let to_entries = both (stands_once_at_most (codes "--app") words && stands_once_at_most (codes "--method") words &&
+    stands_once_at_most (codes "--shell") words && stands_once_at_most (codes "--order") words &&
+    stands_once_at_most (codes "--entries") words) _ to_store.0 in
+    let to_order = both (stands_once_at_most (codes "--app") words && stands_once_at_most (codes "--method") words &&
+    stands_once_at_most (codes "--shell") words && stands_once_at_most (codes "--order") words) _ to_entries.0 in
+    let to_shell = both (stands_once_at_most (codes "--app") words && stands_once_at_most (codes "--method") words &&
+    stands_once_at_most (codes "--shell") words) _ to_order.0 in
+    let to_method =
+    both (stands_once_at_most (codes "--app") words && stands_once_at_most (codes "--method") words) _ to_shell.0 in
     let first = both (stands_once_at_most (codes "--app") words) _ to_method.0 in
     by_option (λ w. length (values_of w words) ≤ 1) (leb-true _ _ first.0) (leb-true _ _ first.1)
     (leb-true _ _ to_method.1)

@@ -17,7 +17,8 @@ ready name = filled (option_rule name)
 
 abbrev pub rules : List Rule
 rules =
-    ready (codes "app") ∷ ready (codes "method") ∷ ready (codes "shell") ∷ ready (codes "order") ∷ ready (codes "entries")
+    ready (codes "app") ∷ ready (codes "method") ∷ ready (codes "shell") ∷ ready (codes "order") ∷
+    ready (codes "entries")
     ∷ ready (codes "store") ∷ ready (codes "weight") ∷ []
 
 abbrev pub top : Shape
@@ -54,8 +55,10 @@ known_weight : IsKnown (codes "--weight") (codes "weight")
 known_weight = record { dashes = refl; long = refl; not_end = refl; by_long = refl; by_id = refl; self = refl }
 
 -- what holds of each option holds of a word that names one
-pub by_option : (P : List ℕ → Type 0) → P (codes "--app") → P (codes "--method") → P (codes "--shell") → P (codes "--order")
-    → P (codes "--entries") → P (codes "--store") → P (codes "--weight") → (word : List ℕ) → is_option word ≡ true → P word
+pub by_option : (P : List ℕ → Type 0) → P (codes "--app") → P (codes "--method") → P (codes "--shell") →
+    P (codes "--order")
+    → P (codes "--entries") → P (codes "--store") → P (codes "--weight") → (word : List ℕ) → is_option word ≡
+    true → P word
 by_option P app method shell order entries store weight word is =
     go (bytes_eq word (codes "--app")) (bytes_eq word (codes "--method")) (bytes_eq word (codes "--shell"))
     (bytes_eq word (codes "--order")) (bytes_eq word (codes "--entries")) (bytes_eq word (codes "--store"))
@@ -65,7 +68,8 @@ by_option P app method shell order entries store weight word is =
     here text p same = subst P (sym ((bytes_eq-Decides word text).0 same)) p
 
     go : (a b c d e f g : Bool) → bytes_eq word (codes "--app") ≡ a → bytes_eq word (codes "--method") ≡ b
-        → bytes_eq word (codes "--shell") ≡ c → bytes_eq word (codes "--order") ≡ d → bytes_eq word (codes "--entries") ≡ e
+        → bytes_eq word (codes "--shell") ≡ c → bytes_eq word (codes "--order") ≡ d →
+        bytes_eq word (codes "--entries") ≡ e
         → bytes_eq word (codes "--store") ≡ f → bytes_eq word (codes "--weight") ≡ g
         → (a || b || c || d || e || f || g) ≡ true → P word
     go true b c d e f g p q r s t u v any = here (codes "--app") app p

@@ -87,35 +87,42 @@ two_of name words many = once_many (values_of name words) many
 
 two_apps : (words : List (List ℕ)) → stands_once_at_most (codes "--app") words ≡ false → asked_by words ≡ None
 two_apps words many =
-    unneeded words (ap (λ o. needed_from o (one_of (codes "--method") words) (one_of (codes "--shell") words) (order_of words)) (two_of (codes "--app") words many))
+    unneeded words (ap (λ o. needed_from o (one_of (codes "--method") words) (one_of (codes "--shell") words)
+    (order_of words)) (two_of (codes "--app") words many))
 
 two_methods : (words : List (List ℕ)) → stands_once_at_most (codes "--method") words ≡ false → asked_by words ≡ None
 two_methods words many =
-    unneeded words (ap (λ o. needed_from (one_of (codes "--app") words) o (one_of (codes "--shell") words) (order_of words)) (two_of (codes "--method") words many)
+    unneeded words (ap (λ o. needed_from (one_of (codes "--app") words) o (one_of (codes "--shell") words)
+    (order_of words)) (two_of (codes "--method") words many)
     ∙ no_method (one_of (codes "--app") words) (one_of (codes "--shell") words) (order_of words))
 
 two_shells : (words : List (List ℕ)) → stands_once_at_most (codes "--shell") words ≡ false → asked_by words ≡ None
 two_shells words many =
-    unneeded words (ap (λ o. needed_from (one_of (codes "--app") words) (one_of (codes "--method") words) o (order_of words)) (two_of (codes "--shell") words many)
+    unneeded words (ap (λ o. needed_from (one_of (codes "--app") words) (one_of (codes "--method") words) o
+    (order_of words)) (two_of (codes "--shell") words many)
     ∙ no_shell (one_of (codes "--app") words) (one_of (codes "--method") words) (order_of words))
 
 two_orders : (words : List (List ℕ)) → stands_once_at_most (codes "--order") words ≡ false → asked_by words ≡ None
 two_orders words many =
-    unneeded words (ap (λ o. needed_from (one_of (codes "--app") words) (one_of (codes "--method") words) (one_of (codes "--shell") words) (kept is_order o)) (two_of (codes "--order") words many)
+    unneeded words (ap (λ o. needed_from (one_of (codes "--app") words) (one_of (codes "--method") words)
+    (one_of (codes "--shell") words) (kept is_order o)) (two_of (codes "--order") words many)
     ∙ no_order (one_of (codes "--app") words) (one_of (codes "--method") words) (one_of (codes "--shell") words))
 
 two_entries : (words : List (List ℕ)) → stands_once_at_most (codes "--entries") words ≡ false → asked_by words ≡ None
 two_entries words many =
-    unlimited words (ap (λ o. limits_from o (store_in words) (weight_in words)) (number_many 1000000 entry_limit (values_of (codes "--entries") words) many))
+    unlimited words (ap (λ o. limits_from o (store_in words) (weight_in words))
+    (number_many 1000000 entry_limit (values_of (codes "--entries") words) many))
 
 two_stores : (words : List (List ℕ)) → stands_once_at_most (codes "--store") words ≡ false → asked_by words ≡ None
 two_stores words many =
-    unlimited words (ap (λ o. limits_from (entries_in words) o (weight_in words)) (number_many 65536 store_limit (values_of (codes "--store") words) many)
+    unlimited words (ap (λ o. limits_from (entries_in words) o (weight_in words))
+    (number_many 65536 store_limit (values_of (codes "--store") words) many)
     ∙ no_store (entries_in words) (weight_in words))
 
 two_weights : (words : List (List ℕ)) → stands_once_at_most (codes "--weight") words ≡ false → asked_by words ≡ None
 two_weights words many =
-    unlimited words (ap (limits_from (entries_in words) (store_in words)) (number_many 134217728 weight_limit (values_of (codes "--weight") words) many)
+    unlimited words (ap (limits_from (entries_in words) (store_in words))
+    (number_many 134217728 weight_limit (values_of (codes "--weight") words) many)
     ∙ no_weight (entries_in words) (store_in words))
 
 -- an option that stands twice
@@ -156,7 +163,8 @@ pub refused : {W : Type 0} (bytes : W → List ℕ) (words rest : List W) (first
     → serve_of (map bytes words) ≡ None
 refused bytes [] rest first some is same bad = absurd (omega arith)
 refused bytes (word ∷ words) rest first some is same bad =
-    ap (λ w. if bytes_eq (bytes w) (codes "serve") && are_pairs (map bytes words) then asked_by (map bytes words) else None) (sym is)
+    ap (λ w. if bytes_eq (bytes w) (codes "serve") && are_pairs (map bytes words) then asked_by (map bytes words)
+    else None) (sym is)
     ∙ go (bytes_eq (bytes first) (codes "serve"))
     (ap (λ ws. bytes_eq (bytes first) (codes "serve") && has_shape (map bytes ws)) (sym same) ∙ bad)
   where

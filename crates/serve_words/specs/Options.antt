@@ -16,7 +16,8 @@ option_rule name = record (new_rule name) { long = Some name; action = Some Set 
 
 -- the command without its options: its first word is an option, and it has no flag for help
 abbrev pub bare_app : App
-bare_app = on_top (λ s. record s { no_binary_name = true; disable_help_flag = true }) (new_app (codes "serve"))
+bare_app = on_top (λ s. record s { no_binary_name = true; disable_help_flag = true })
+    (new_app (codes "serve"))
 
 -- the command with the seven options
 abbrev pub serve_app : App

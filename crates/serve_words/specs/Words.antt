@@ -21,7 +21,8 @@ pub record Serving : Type 0 where
 abbrev pub is_option : List ℕ → Bool
 is_option w =
     bytes_eq w (codes "--app") || bytes_eq w (codes "--method") || bytes_eq w (codes "--shell")
-    || bytes_eq w (codes "--order") || bytes_eq w (codes "--entries") || bytes_eq w (codes "--store")
+    || bytes_eq w (codes "--order") || bytes_eq w (codes "--entries") ||
+    bytes_eq w (codes "--store")
     || bytes_eq w (codes "--weight")
 
 -- a value isn't empty and doesn't begin with a minus sign
@@ -118,4 +119,5 @@ asked_by words =
 -- what the words ask for, which begin with `serve`; none, where they are in no grammar
 abbrev pub serve_of : List (List ℕ) → Option Serving
 serve_of [] = None
-serve_of (word ∷ words) = if bytes_eq word (codes "serve") && are_pairs words then asked_by words else None
+serve_of (word ∷ words) =
+    if bytes_eq word (codes "serve") && are_pairs words then asked_by words else None

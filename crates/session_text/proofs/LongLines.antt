@@ -13,7 +13,8 @@ use Rattle.session_text.specs.Reading.{line_of_words}
 -- a moment has one word behind its name, and the other lines of a shell link have eight words at most
 no_link : (a b c d e f g h : List ℕ) (ws : List (List ℕ)) → link_of (a ∷ b ∷ c ∷ d ∷ e ∷ f ∷ g ∷ h ∷ ws) ≡ None
 unfolding link_of
-no_link a b c d e f g h ws = elim (bytes_eq a (codes "at")) as (λ b. cond {A = Option ShellStep} b None None ≡ None) [ true ↦ refl | false ↦ refl ]
+no_link a b c d e f g h ws = elim (bytes_eq a (codes "at")) as
+    (λ b. cond {A = Option ShellStep} b None None ≡ None) [ true ↦ refl | false ↦ refl ]
 
 none_of : (form : Form) → form ≢ Session2 → (a b c d e f g h : List ℕ) (ws : List (List ℕ)) →
     line_of_words form (a ∷ b ∷ c ∷ d ∷ e ∷ f ∷ g ∷ h ∷ ws) ≡ None

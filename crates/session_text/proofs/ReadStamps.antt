@@ -29,7 +29,8 @@ use Rattle.session_text.proofs.ReadSteps.{shell_sound, session_sound}
 abbrev pub IsReadLink : List (List ℕ) → ShellStep → Type 0
 IsReadLink = IsRead shell_words HasLinkLine
 
-moment_sound : (words : List (List ℕ)) (step : ShellStep) → moment_of words ≡ Some step → IsReadLink (codes "at" ∷ words) step
+moment_sound : (words : List (List ℕ)) (step : ShellStep) → moment_of words ≡ Some step →
+    IsReadLink (codes "at" ∷ words) step
 moment_sound [] step e = absurd (cc e)
 moment_sound (t ∷ []) step e =
     bound long_numbers t _ step e (λ moment h is e. made _ (shells.At moment) step e (rw is refl) h)
@@ -84,18 +85,21 @@ IsReadBehind = IsRead session_words HasStampedLine
 
 tokens_after : (p : ℕ) (words : List (List ℕ)) (line : SessionLine) → p < 2 ^ 32 → (o : Option (List ℕ)) →
     tokens_of words ≡ o
-    → (o >>= (λ tokens. Some (sessions.Tokens p tokens))) ≡ Some line → IsReadBehind (codes "tokens" ∷ decimal p ∷ words) line
+    → (o >>= (λ tokens. Some (sessions.Tokens p tokens))) ≡ Some line →
+    IsReadBehind (codes "tokens" ∷ decimal p ∷ words) line
 tokens_after p words line small None is e = absurd (cc e)
 tokens_after p words line small (Some tokens) is e =
     let known = tokens_sound words tokens is in
     made _ (sessions.Tokens p tokens) line e (rw known.0 refl) (small, known.1)
 
-tokens_line_sound : (words : List (List ℕ)) (line : SessionLine) → tokens_line_of words ≡ Some line → IsReadBehind (codes "tokens" ∷ words) line
+tokens_line_sound : (words : List (List ℕ)) (line : SessionLine) → tokens_line_of words ≡ Some line →
+    IsReadBehind (codes "tokens" ∷ words) line
 tokens_line_sound [] line e = absurd (cc e)
 tokens_line_sound (p ∷ words) line e =
     bound numbers p _ line e (λ peer h is e. rw is (tokens_after peer words line h (tokens_of words) refl e))
 
-shell_behind : (words : List (List ℕ)) (line : SessionLine) (o : Option ShellStep) → moment_of words ≡ o → shell_line o ≡ Some line → IsReadBehind (codes "at" ∷ words) line
+shell_behind : (words : List (List ℕ)) (line : SessionLine) (o : Option ShellStep) → moment_of words ≡ o →
+    shell_line o ≡ Some line → IsReadBehind (codes "at" ∷ words) line
 shell_behind words line None is e = absurd (cc e)
 shell_behind words line (Some step) is e = let read =
     moment_sound words step is in made _ (sessions.Shell step) line e read.same read.has_line
@@ -141,14 +145,18 @@ stamped_sound (m ∷ a ∷ words) line e =
     bound long_numbers m _ line e (λ moment h is e. bound long_numbers a _ line e (λ author i is' e.
     rw (is, is') (stamped_after moment author words line h i (behind_stamp words) refl e)))
 
-long_header_sound : (form a b c : List ℕ) (line : Line) → long_header_of form a b c ≡ Some line → IsReadSession2 (codes "session" ∷ form ∷ a ∷ b ∷ c ∷ []) line
+long_header_sound : (form a b c : List ℕ) (line : Line) → long_header_of form a b c ≡ Some line →
+    IsReadSession2 (codes "session" ∷ form ∷ a ∷ b ∷ c ∷ []) line
 unfolding long_header_of
 long_header_sound form a b c line e =
-    arm form (codes "2") _ _ line e (λ is e. bound entry_counts a _ line e (λ entries h is1 e. bound store_counts b _ line e (λ store i is2 e. bound weight_counts c _ line e (λ weight j is3 e.
+    arm form (codes "2") _ _ line e (λ is e. bound entry_counts a _ line e
+    (λ entries h is1 e. bound store_counts b _ line e
+    (λ store i is2 e. bound weight_counts c _ line e (λ weight j is3 e.
     made _ (lines.Header (record { entries = entries; store = store; weight = weight })) line e
     (rw (is, is1, is2, is3) refl) (h, i, j))))) (λ e. absurd (cc e))
 
-header_sound : (words : List (List ℕ)) (line : Line) → header_words_of words ≡ Some line → IsReadSession2 (codes "session" ∷ words) line
+header_sound : (words : List (List ℕ)) (line : Line) → header_words_of words ≡ Some line →
+    IsReadSession2 (codes "session" ∷ words) line
 header_sound [] line e = absurd (cc e)
 header_sound (form ∷ []) line e = absurd (cc e)
 header_sound (form ∷ a ∷ []) line e = absurd (cc e)

@@ -31,16 +31,21 @@ three_shell : (k a b : List ℕ) (step : ShellStep) → three_shell_words k a b 
 unfolding three_shell_words
 three_shell k a b step e =
     read_two numbers numbers (codes "focus") shells.Focus k a b _ step (λ p i. refl) (λ p i h j. (h, j)) e (λ e.
-    read_two sizes sizes (codes "screen") (λ w h. shells.Screen (size w h)) k a b _ step (λ w h. refl) (λ w h i j. (i, j)) e (λ e.
-    read_two signeds signeds (codes "repeat") (λ r d. shells.Repeat (record { rate = r; delay = d })) k a b _ step (λ r d. refl) (λ r d h i. (h, i)) e (λ e. absurd (cc e))))
+    read_two sizes sizes (codes "screen") (λ w h. shells.Screen (size w h)) k a b _ step (λ w h. refl)
+    (λ w h i j. (i, j)) e (λ e.
+    read_two signeds signeds (codes "repeat") (λ r d. shells.Repeat (record { rate = r; delay = d })) k a b _ step
+    (λ r d. refl) (λ r d h i. (h, i)) e (λ e. absurd (cc e))))
 
 four_shell : (k a b c : List ℕ) (step : ShellStep) → four_shell_words k a b c ≡ Some step →
     IsReadShell (k ∷ a ∷ b ∷ c ∷ []) step
 unfolding four_shell_words
 four_shell k a b c step e =
-    arm k (codes "key") _ _ step e (λ is e. bound numbers a _ step e (λ time h is1 e. bound numbers b _ step e (λ key i is2 e. bound states c _ step e (λ state j is3 e.
+    arm k (codes "key") _ _ step e (λ is e. bound numbers a _ step e
+    (λ time h is1 e. bound numbers b _ step e (λ key i is2 e. bound states c _ step e (λ state j is3 e.
     made _ (shells.Key time key state) step e (rw (is, is1, is2, is3) refl) (h, i, j))))) (λ e.
-    arm k (codes "keymap") _ _ step e (λ is e. bound numbers a _ step e (λ format h is1 e. bound numbers b _ step e (λ token i is2 e. bound numbers c _ step e (λ size j is3 e.
+    arm k (codes "keymap") _ _ step e (λ is e.
+    bound numbers a _ step e (λ format h is1 e.
+    bound numbers b _ step e (λ token i is2 e. bound numbers c _ step e (λ size j is3 e.
     made _ (shells.Keymap (record { format = format; token = token; size = size })) step e (rw (is, is1, is2, is3) refl)
     (h, i, j))))) (λ e. absurd (cc e)))
 
@@ -48,7 +53,9 @@ five_shell : (k a b c d : List ℕ) (step : ShellStep) → five_shell_words k a 
     IsReadShell (k ∷ a ∷ b ∷ c ∷ d ∷ []) step
 unfolding five_shell_words
 five_shell k a b c d step e =
-    arm k (codes "mods") _ _ step e (λ is e. bound numbers a _ step e (λ depressed h is1 e. bound numbers b _ step e (λ latched i is2 e. bound numbers c _ step e (λ locked j is3 e. bound numbers d _ step e (λ group l is4 e.
+    arm k (codes "mods") _ _ step e (λ is e. bound numbers a _ step e
+    (λ depressed h is1 e. bound numbers b _ step e
+    (λ latched i is2 e. bound numbers c _ step e (λ locked j is3 e. bound numbers d _ step e (λ group l is4 e.
     made _ (shells.Mods (record { depressed = depressed; latched = latched; locked = locked; group = group })) step e
     (rw (is, is1, is2, is3, is4) refl) (h, i, j, l)))))) (λ e. absurd (cc e))
 
@@ -56,7 +63,10 @@ seven_shell : (k a b c d f g : List ℕ) (step : ShellStep) → seven_shell_word
     IsReadShell (k ∷ a ∷ b ∷ c ∷ d ∷ f ∷ g ∷ []) step
 unfolding seven_shell_words
 seven_shell k a b c d f g step e =
-    arm k (codes "area") _ _ step e (λ is e. bound numbers a _ step e (λ p i is1 e. bound numbers b _ step e (λ q j is2 e. bound signeds c _ step e (λ x l is3 e. bound signeds d _ step e (λ y m is4 e. bound sizes f _ step e (λ w n is5 e. bound sizes g _ step e (λ h o is6 e.
+    arm k (codes "area") _ _ step e (λ is e. bound numbers a _ step e
+    (λ p i is1 e. bound numbers b _ step e (λ q j is2 e.
+    bound signeds c _ step e (λ x l is3 e. bound signeds d _ step e
+    (λ y m is4 e. bound sizes f _ step e (λ w n is5 e. bound sizes g _ step e (λ h o is6 e.
     made _ (shells.Area p q (rect x y w h)) step e (rw (is, is1, is2, is3, is4, is5, is6) refl)
     (i, j, (l, m, n, o))))))))) (λ e. absurd (cc e))
 
@@ -84,26 +94,34 @@ shell_line ws (Some step) line read e = let known =
 
 one_session : (k : List ℕ) (line : Line) → one_session_word k ≡ Some line → IsReadSession (k ∷ []) line
 unfolding one_session_word
-one_session k line e = read_alone (codes "end") lines.End k _ line refl tt e (λ e. shell_line _ (one_shell_word k) line (one_shell k) e)
+one_session k line e =
+    read_alone (codes "end") lines.End k _ line refl tt e (λ e. shell_line _ (one_shell_word k) line (one_shell k) e)
 
 two_session : (k a : List ℕ) (line : Line) → two_session_words k a ≡ Some line → IsReadSession (k ∷ a ∷ []) line
 unfolding two_session_words
 two_session k a line e =
-    read_one roles (codes "join") (λ role. lines.Session (sessions.Join role)) k a _ line (λ role. refl) (λ role h. tt) e (λ e.
-    read_one numbers (codes "gone") (λ p. lines.Session (sessions.Gone p)) k a _ line (λ p. refl) (λ p h. h) e (λ e. absurd (cc e)))
+    read_one roles (codes "join") (λ role. lines.Session (sessions.Join role)) k a _ line (λ role. refl)
+    (λ role h. tt) e (λ e.
+    read_one numbers (codes "gone") (λ p. lines.Session (sessions.Gone p)) k a _ line (λ p. refl) (λ p h. h) e
+    (λ e. absurd (cc e)))
 
 three_session : (k a b : List ℕ) (line : Line) → three_session_words k a b ≡ Some line →
     IsReadSession (k ∷ a ∷ b ∷ []) line
 unfolding three_session_words
 three_session k a b line e =
-    read_two numbers (pieces piece_limit) (codes "bytes") (λ p bytes. lines.Session (sessions.Bytes p bytes)) k a b _ line (λ p bytes. refl) (λ p bytes h i. (h, i)) e (λ e.
-    read_two numbers piece_counts (codes "take") (λ p n. lines.Session (sessions.Take p n)) k a b _ line (λ p n. refl) (λ p n h i. (h, i)) e (λ e.
+    read_two numbers (pieces piece_limit) (codes "bytes")
+    (λ p bytes. lines.Session (sessions.Bytes p bytes)) k a b _ line (λ p bytes. refl)
+    (λ p bytes h i. (h, i)) e (λ e.
+    read_two numbers piece_counts (codes "take") (λ p n. lines.Session (sessions.Take p n)) k a b _ line (λ p n. refl)
+    (λ p n h i. (h, i)) e (λ e.
     shell_line _ (three_shell_words k a b) line (three_shell k a b) e))
 
-header_sound : (form a b : List ℕ) (line : Line) → header_of form a b ≡ Some line → IsReadSession (codes "session" ∷ form ∷ a ∷ b ∷ []) line
+header_sound : (form a b : List ℕ) (line : Line) → header_of form a b ≡ Some line →
+    IsReadSession (codes "session" ∷ form ∷ a ∷ b ∷ []) line
 unfolding header_of
 header_sound form a b line e =
-    arm form (codes "1") _ _ line e (λ is e. bound old_entry_counts a _ line e (λ entries h is1 e. bound store_counts b _ line e (λ store i is2 e.
+    arm form (codes "1") _ _ line e (λ is e. bound old_entry_counts a _ line e
+    (λ entries h is1 e. bound store_counts b _ line e (λ store i is2 e.
     made _ (lines.Header (record { entries = entries; store = store; weight = form_1_weight })) line e
     (rw (is, is1, is2) refl) (h, i, refl)))) (λ e. absurd (cc e))
 

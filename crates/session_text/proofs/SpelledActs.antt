@@ -23,27 +23,48 @@ parts (acts.Grab m) h = with_one numbers (codes "grab") m h refl
 parts (acts.Drop x) h = with_one numbers (codes "drop") x h refl
 parts (acts.Focus s) h = with_one numbers (codes "focus") s h refl
 parts acts.Unfocus h = named (codes "unfocus") [] 0 none refl
-parts (acts.Area s r) h = named (codes "area") _ _ (more numbers s h.0 _ _ (more signeds r.x h.1.0 _ _ (more signeds r.y h.1.1 _ _ (more sizes r.width h.1.2 _ _ (more sizes r.height h.1.3 _ _ none))))) refl
+parts (acts.Area s r) h = named (codes "area") _ _
+    (more numbers s h.0 _ _ (more signeds r.x h.1.0 _ _
+    (more signeds r.y h.1.1 _ _ (more sizes r.width h.1.2 _ _ (more sizes r.height h.1.3 _ _ none))))) refl
 parts (acts.Screen z) h = with_two sizes sizes (codes "screen") z.width z.height h.0 h.1 refl
 parts (acts.Enable f) h = with_one numbers (codes "enable") f h refl
 parts (acts.Disable f) h = with_one numbers (codes "disable") f h refl
-parts (acts.Surround f text cursor anchor) h = named (codes "surround") _ _ (more numbers f h.0 _ _ (more (texts cursor_text_limit) text h.1 _ _ (more signeds cursor h.2 _ _ (more signeds anchor h.3 _ _ none)))) refl
+parts (acts.Surround f text cursor anchor) h =
+    named (codes "surround") _ _ (more numbers f h.0 _ _
+    (more (texts cursor_text_limit) text h.1 _ _ (more signeds cursor h.2 _ _ (more signeds anchor h.3 _ _ none)))) refl
 parts (acts.Cause f cause) h = with_two numbers numbers (codes "cause") f cause h.0 h.1 refl
-parts (acts.Content f hint purpose) h = named (codes "content") _ _ (more numbers f h.0 _ _ (more numbers hint h.1 _ _ (more numbers purpose h.2 _ _ none))) refl
-parts (acts.Cursor f r) h = named (codes "rect") _ _ (more numbers f h.0 _ _ (more signeds r.x h.1.0 _ _ (more signeds r.y h.1.1 _ _ (more signeds r.width h.1.2 _ _ (more signeds r.height h.1.3 _ _ none))))) refl
+parts (acts.Content f hint purpose) h = named (codes "content") _ _
+    (more numbers f h.0 _ _ (more numbers hint h.1 _ _ (more numbers purpose h.2 _ _ none))) refl
+parts (acts.Cursor f r) h = named (codes "rect") _ _
+    (more numbers f h.0 _ _ (more signeds r.x h.1.0 _ _
+    (more signeds r.y h.1.1 _ _ (more signeds r.width h.1.2 _ _ (more signeds r.height h.1.3 _ _ none))))) refl
 parts (acts.Commit f) h = with_one numbers (codes "commit") f h refl
 parts (acts.MString m text) h = with_two numbers (texts text_limit) (codes "mstring") m text h.0 h.1 refl
-parts (acts.MPreedit m text begin end) h = named (codes "mpreedit") _ _ (more numbers m h.0 _ _ (more (texts cursor_text_limit) text h.1 _ _ (more signeds begin h.2 _ _ (more signeds end h.3 _ _ none)))) refl
-parts (acts.MDelete m before after) h = named (codes "mdelete") _ _ (more numbers m h.0 _ _ (more numbers before h.1 _ _ (more numbers after h.2 _ _ none))) refl
+parts (acts.MPreedit m text begin end) h = named (codes "mpreedit") _ _
+    (more numbers m h.0 _ _ (more (texts cursor_text_limit) text h.1 _ _
+    (more signeds begin h.2 _ _ (more signeds end h.3 _ _ none)))) refl
+parts (acts.MDelete m before after) h = named (codes "mdelete") _ _
+    (more numbers m h.0 _ _ (more numbers before h.1 _ _ (more numbers after h.2 _ _ none))) refl
 parts (acts.MCommit m serial) h = with_two numbers numbers (codes "mcommit") m serial h.0 h.1 refl
-parts (acts.Key time key state) h = named (codes "key") _ _ (more numbers time h.0 _ _ (more numbers key h.1 _ _ (more states state h.2 _ _ none))) refl
-parts (acts.Mods mods) h = named (codes "mods") _ _ (more numbers mods.depressed h.0 _ _ (more numbers mods.latched h.1 _ _ (more numbers mods.locked h.2 _ _ (more numbers mods.group h.3 _ _ none)))) refl
-parts (acts.Keymap keymap) h = named (codes "keymap") _ _ (more numbers keymap.format h.0 _ _ (more numbers keymap.token h.1 _ _ (more numbers keymap.size h.2 _ _ none))) refl
+parts (acts.Key time key state) h =
+    named (codes "key") _ _ (more numbers time h.0 _ _ (more numbers key h.1 _ _ (more states state h.2 _ _ none))) refl
+parts (acts.Mods mods) h = named (codes "mods") _ _
+    (more numbers mods.depressed h.0 _ _ (more numbers mods.latched h.1 _ _
+    (more numbers mods.locked h.2 _ _ (more numbers mods.group h.3 _ _ none)))) refl
+parts (acts.Keymap keymap) h = named (codes "keymap") _ _
+    (more numbers keymap.format h.0 _ _ (more numbers keymap.token h.1 _ _
+    (more numbers keymap.size h.2 _ _ none))) refl
 parts (acts.Repeat repeat) h = with_two signeds signeds (codes "repeat") repeat.rate repeat.delay h.0 h.1 refl
 parts (acts.VBoard p) h = with_one numbers (codes "vboard") p h refl
-parts (acts.VKeymap v keymap) h = named (codes "vkeymap") _ _ (more numbers v h.0 _ _ (more numbers keymap.format h.1 _ _ (more numbers keymap.token h.2 _ _ (more numbers keymap.size h.3 _ _ none)))) refl
-parts (acts.VKey v time key state) h = named (codes "vkey") _ _ (more numbers v h.0 _ _ (more numbers time h.1 _ _ (more numbers key h.2 _ _ (more states state h.3 _ _ none)))) refl
-parts (acts.VMods v mods) h = named (codes "vmods") _ _ (more numbers v h.0 _ _ (more numbers mods.depressed h.1 _ _ (more numbers mods.latched h.2 _ _ (more numbers mods.locked h.3 _ _ (more numbers mods.group h.4 _ _ none))))) refl
+parts (acts.VKeymap v keymap) h = named (codes "vkeymap") _ _
+    (more numbers v h.0 _ _ (more numbers keymap.format h.1 _ _
+    (more numbers keymap.token h.2 _ _ (more numbers keymap.size h.3 _ _ none)))) refl
+parts (acts.VKey v time key state) h = named (codes "vkey") _ _
+    (more numbers v h.0 _ _ (more numbers time h.1 _ _
+    (more numbers key h.2 _ _ (more states state h.3 _ _ none)))) refl
+parts (acts.VMods v mods) h = named (codes "vmods") _ _
+    (more numbers v h.0 _ _ (more numbers mods.depressed h.1 _ _
+    (more numbers mods.latched h.2 _ _ (more numbers mods.locked h.3 _ _ (more numbers mods.group h.4 _ _ none))))) refl
 parts _ h = absurd h
 
 -- ---- the words of an act are read as that act

@@ -42,7 +42,13 @@ long_header_parts limits h =
     let counted =
     more entry_counts limits.entries h.0 _ _
     (more store_counts limits.store h.1 _ _ (more weight_counts limits.weight h.2 _ _ none)) in
-    named (codes "session") (codes "2" ∷ _) 35 (record { spaceless = (refl, counted.spaceless); zeroless = (refl, counted.zeroless); within = omega (arith, counted.within) }) refl
+    named (codes "session") (codes "2" ∷ _) 35
+    (record {
+      spaceless = (refl, counted.spaceless);
+      zeroless = (refl, counted.zeroless);
+      within =
+          omega (arith, counted.within);
+    }) refl
 
 -- ---- the words of a line are read as that line
 
@@ -113,8 +119,10 @@ pub stamped_complete : (stamp : Stamp) (line : SessionLine) → IsStamp stamp �
     session_2_of (stamped_words stamp (session_words line)) ≡ Some (lines.Stamped stamp line)
 unfolding session_2_of
 stamped_complete stamp line s h =
-    let no_end : bytes_eq (decimal stamp.moment) (codes "end") ≡ false = letter 110 letter_n stamp.moment s.0 (codes "end") refl in
-    let no_header : bytes_eq (decimal stamp.moment) (codes "session") ≡ false = letter 110 letter_n stamp.moment s.0 (codes "session") refl in
+    let no_end : bytes_eq (decimal stamp.moment) (codes "end") ≡ false =
+    letter 110 letter_n stamp.moment s.0 (codes "end") refl in
+    let no_header : bytes_eq (decimal stamp.moment) (codes "session") ≡ false =
+    letter 110 letter_n stamp.moment s.0 (codes "session") refl in
     rw (no_end, no_header)
     (rw (long_numbers.complete stamp.moment s.0)
     (rw (long_numbers.complete stamp.author s.1) (rw (behind_complete line h) refl)))

@@ -71,11 +71,19 @@ fits_two kind kind' name x y h h' test =
 pub shell_fits : (step : ShellStep) → HasLinkLine step → Fits (shell_words step) behind_limit
 shell_fits (shells.Focus p i) h = fits_two numbers numbers (codes "focus") p i h.0 h.1 refl
 shell_fits shells.Unfocus h = behind_name behind_limit (codes "unfocus") [] 0 none refl
-shell_fits (shells.Area p i r) h = behind_name behind_limit (codes "area") _ _ (more numbers p h.0 _ _ (more numbers i h.1 _ _ (more signeds r.x h.2.0 _ _ (more signeds r.y h.2.1 _ _ (more sizes r.width h.2.2 _ _ (more sizes r.height h.2.3 _ _ none)))))) refl
+shell_fits (shells.Area p i r) h = behind_name behind_limit (codes "area") _ _
+    (more numbers p h.0 _ _ (more numbers i h.1 _ _
+    (more signeds r.x h.2.0 _ _ (more signeds r.y h.2.1 _ _
+    (more sizes r.width h.2.2 _ _ (more sizes r.height h.2.3 _ _ none)))))) refl
 shell_fits (shells.Screen z) h = fits_two sizes sizes (codes "screen") z.width z.height h.0 h.1 refl
-shell_fits (shells.Key time key state) h = behind_name behind_limit (codes "key") _ _ (more numbers time h.0 _ _ (more numbers key h.1 _ _ (more states state h.2 _ _ none))) refl
-shell_fits (shells.Mods mods) h = behind_name behind_limit (codes "mods") _ _ (more numbers mods.depressed h.0 _ _ (more numbers mods.latched h.1 _ _ (more numbers mods.locked h.2 _ _ (more numbers mods.group h.3 _ _ none)))) refl
-shell_fits (shells.Keymap keymap) h = behind_name behind_limit (codes "keymap") _ _ (more numbers keymap.format h.0 _ _ (more numbers keymap.token h.1 _ _ (more numbers keymap.size h.2 _ _ none))) refl
+shell_fits (shells.Key time key state) h = behind_name behind_limit (codes "key") _ _
+    (more numbers time h.0 _ _ (more numbers key h.1 _ _ (more states state h.2 _ _ none))) refl
+shell_fits (shells.Mods mods) h = behind_name behind_limit (codes "mods") _ _
+    (more numbers mods.depressed h.0 _ _ (more numbers mods.latched h.1 _ _
+    (more numbers mods.locked h.2 _ _ (more numbers mods.group h.3 _ _ none)))) refl
+shell_fits (shells.Keymap keymap) h = behind_name behind_limit (codes "keymap") _ _
+    (more numbers keymap.format h.0 _ _ (more numbers keymap.token h.1 _ _
+    (more numbers keymap.size h.2 _ _ none))) refl
 shell_fits (shells.Repeat repeat) h = fits_two signeds signeds (codes "repeat") repeat.rate repeat.delay h.0 h.1 refl
 shell_fits (shells.At moment) h = fits_one long_numbers (codes "at") moment h refl
 
@@ -132,7 +140,13 @@ session_parts line h = whole (session_words line) behind_limit (line_fits line h
 pub header_parts : (limits : Limits) → AreOldLimits limits → Parts (header_words limits)
 header_parts limits h =
     let counted = more old_entry_counts limits.entries h.0 _ _ (more store_counts limits.store h.1 _ _ none) in
-    named (codes "session") (codes "1" ∷ _) 24 (record { spaceless = (refl, counted.spaceless); zeroless = (refl, counted.zeroless); within = omega (arith, counted.within) }) refl
+    named (codes "session") (codes "1" ∷ _) 24
+    (record {
+      spaceless = (refl, counted.spaceless);
+      zeroless = (refl, counted.zeroless);
+      within =
+          omega (arith, counted.within);
+    }) refl
 
 -- ---- the words of a line are read as that line
 

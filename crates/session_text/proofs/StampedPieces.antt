@@ -31,7 +31,8 @@ stamped_piece_read line first behind second spoken rest digits word bytes moment
     let kn = numbers.sound digits n en in
     let kw = (pieces piece_limit).sound word bytes ew in
     let stamp : Stamp = record { moment = moment; author = author } in
-    let same : first ∷ second ∷ codes "bytes" ∷ digits ∷ word ∷ [] ≡ stamped_words stamp (session_words (sessions.Bytes n bytes)) =
+    let same : first ∷ second ∷ codes "bytes" ∷ digits ∷ word ∷ [] ≡
+    stamped_words stamp (session_words (sessions.Bytes n bytes)) =
     rw (km.1, ka.1, kn.1, kw.1) refl in
     let words : slice_split (λ b. b == 32) line ≡ stamped_words stamp (session_words (sessions.Bytes n bytes)) =
     l

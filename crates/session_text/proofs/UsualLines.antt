@@ -51,7 +51,8 @@ pub enable_read : (rest : List ℕ) (n : ℕ) → number_of rest ≡ Some n
     → line_of_words Acts (codes "enable" ∷ slice_split (λ b. b == 32) rest) ≡ Some (lines.Act (acts.Enable n))
 enable_read rest n e = rw (alone numbers rest n e) (ap as_line (enable_words rest n e))
 
-done_words : (a b : List ℕ) (m s : ℕ) → number_of a ≡ Some m → number_of b ≡ Some s → three_words (codes "mcommit") a b ≡ Some (acts.MCommit m s)
+done_words : (a b : List ℕ) (m s : ℕ) → number_of a ≡ Some m → number_of b ≡ Some s →
+    three_words (codes "mcommit") a b ≡ Some (acts.MCommit m s)
 unfolding three_words
 done_words a b m s e f = rw (e, f) refl
 
@@ -60,7 +61,8 @@ pub done_read : (rest a b : List ℕ) (m s : ℕ) → slice_split (λ b. b == 32
     → line_of_words Acts (codes "mcommit" ∷ slice_split (λ b. b == 32) rest) ≡ Some (lines.Act (acts.MCommit m s))
 done_read rest a b m s cut e f = rw (cut, alone numbers b s f) (ap as_line (done_words a b m s e f))
 
-string_words : (a b : List ℕ) (m : ℕ) (text : List ℕ) → number_of a ≡ Some m → text_of text_limit b ≡ Some text → three_words (codes "mstring") a b ≡ Some (acts.MString m text)
+string_words : (a b : List ℕ) (m : ℕ) (text : List ℕ) → number_of a ≡ Some m → text_of text_limit b ≡ Some text →
+    three_words (codes "mstring") a b ≡ Some (acts.MString m text)
 unfolding three_words
 string_words a b m text e f = rw (e, f) refl
 
@@ -98,7 +100,8 @@ pub around_read : (rest behind offsets a b c d : List ℕ) (n : ℕ) (text : Lis
     → slice_split (λ b. b == 32) offsets ≡ c ∷ slice_split (λ b. b == 32) d
     → number_of a ≡ Some n → text_of cursor_text_limit b ≡ Some text → signed_of c ≡ Some cursor →
     signed_of d ≡ Some anchor
-    → line_of_words Acts (codes "surround" ∷ slice_split (λ b. b == 32) rest) ≡ Some (lines.Act (acts.Surround n text cursor anchor))
+    → line_of_words Acts (codes "surround" ∷ slice_split (λ b. b == 32) rest) ≡
+    Some (lines.Act (acts.Surround n text cursor anchor))
 around_read rest behind offsets a b c d n text cursor anchor cut more last e f g h =
     rw (cut, more, last, alone signeds d anchor h) (ap as_line (around_words a b c d n text cursor anchor e f g h))
 
@@ -113,7 +116,8 @@ pub preedit_read : (rest behind offsets a b c d : List ℕ) (n : ℕ) (text : Li
     slice_split (λ b. b == 32) behind ≡ b ∷ slice_split (λ b. b == 32) offsets
     → slice_split (λ b. b == 32) offsets ≡ c ∷ slice_split (λ b. b == 32) d
     → number_of a ≡ Some n → text_of cursor_text_limit b ≡ Some text → signed_of c ≡ Some begin → signed_of d ≡ Some end
-    → line_of_words Acts (codes "mpreedit" ∷ slice_split (λ b. b == 32) rest) ≡ Some (lines.Act (acts.MPreedit n text begin end))
+    → line_of_words Acts (codes "mpreedit" ∷ slice_split (λ b. b == 32) rest) ≡
+    Some (lines.Act (acts.MPreedit n text begin end))
 preedit_read rest behind offsets a b c d n text begin end cut more last e f g h =
     rw (cut, more, last, alone signeds d end h) (ap as_line (preedit_words a b c d n text begin end e f g h))
 
@@ -127,7 +131,8 @@ take_words a b peer most e f = rw (e, f) refl
 pub take_read : (rest a b : List ℕ) (peer most : ℕ) →
     slice_split (λ b. b == 32) rest ≡ a ∷ slice_split (λ b. b == 32) b → number_of a ≡ Some peer →
     count_of piece_limit b ≡ Some most
-    → line_of_words Session (codes "take" ∷ slice_split (λ b. b == 32) rest) ≡ Some (lines.Session (sessions.Take peer most))
+    → line_of_words Session (codes "take" ∷ slice_split (λ b. b == 32) rest) ≡
+    Some (lines.Session (sessions.Take peer most))
 take_read rest a b peer most cut e f =
     rw (cut, alone (counts piece_limit (omega arith)) b most f) (take_words a b peer most e f)
 
@@ -138,5 +143,6 @@ focus_words a b peer i e f = rw (e, f) refl
 
 pub focus_read : (rest a b : List ℕ) (peer i : ℕ) → slice_split (λ b. b == 32) rest ≡ a ∷ slice_split (λ b. b == 32) b →
     number_of a ≡ Some peer → number_of b ≡ Some i
-    → line_of_words Session (codes "focus" ∷ slice_split (λ b. b == 32) rest) ≡ Some (lines.Session (sessions.Shell (shells.Focus peer i)))
+    → line_of_words Session (codes "focus" ∷ slice_split (λ b. b == 32) rest) ≡
+    Some (lines.Session (sessions.Shell (shells.Focus peer i)))
 focus_read rest a b peer i cut e f = rw (cut, alone numbers b i f) (focus_words a b peer i e f)

@@ -136,9 +136,13 @@ counts most small = record {
 role_sound : (word : List ℕ) (role : Role) → role_of word ≡ Some role → Unit {0} × (word ≡ role_word role)
 unfolding role_of
 role_sound word role e =
-    arm word (codes "app") (Some App) _ role e (λ is one. let same : App ≡ role = cc in subst (λ r. Unit {0} × (word ≡ role_word r)) same (tt, is)) (λ e.
-    arm word (codes "method") (Some Method) _ role e (λ is one. let same : Method ≡ role = cc in subst (λ r. Unit {0} × (word ≡ role_word r)) same (tt, is)) (λ e.
-    arm word (codes "keyed") (Some Keyed) None role e (λ is one. let same : Keyed ≡ role = cc in subst (λ r. Unit {0} × (word ≡ role_word r)) same (tt, is)) (λ e. absurd (cc e))))
+    arm word (codes "app") (Some App) _ role e
+    (λ is one. let same : App ≡ role = cc in subst (λ r. Unit {0} × (word ≡ role_word r)) same (tt, is)) (λ e.
+    arm word (codes "method") (Some Method) _ role e
+    (λ is one. let same : Method ≡ role = cc in subst (λ r. Unit {0} × (word ≡ role_word r)) same (tt, is)) (λ e.
+    arm word (codes "keyed") (Some Keyed) None role e
+    (λ is one. let same : Keyed ≡ role = cc in subst (λ r. Unit {0} × (word ≡ role_word r)) same (tt, is))
+    (λ e. absurd (cc e))))
 
 role_complete : (role : Role) → Unit {0} → role_of (role_word role) ≡ Some role
 unfolding role_of
@@ -153,7 +157,8 @@ all_lack b = lacks b (codes "app") && (lacks b (codes "method") && lacks b (code
 role_clean : (b : ℕ) → all_lack b ≡ true → (role : Role) → Unit {0} → lacks b (role_word role) ≡ true
 role_clean b test role h = by role (and_parts (lacks b (codes "app")) _ test)
   where
-    by : (r : Role) → (lacks b (codes "app") ≡ true) × ((lacks b (codes "method") && lacks b (codes "keyed")) ≡ true) → lacks b (role_word r) ≡ true
+    by : (r : Role) → (lacks b (codes "app") ≡ true) × ((lacks b (codes "method") && lacks b (codes "keyed")) ≡ true) →
+        lacks b (role_word r) ≡ true
     by App each = each.0
     by Method each = (and_parts (lacks b (codes "method")) (lacks b (codes "keyed")) each.1).0
     by Keyed each = (and_parts (lacks b (codes "method")) (lacks b (codes "keyed")) each.1).1

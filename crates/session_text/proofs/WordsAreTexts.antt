@@ -62,8 +62,10 @@ text_sound limit word t e =
 -- the hex of a byte or more is no dash
 not_dash : (b : ℕ) (bytes : List ℕ) → bytes_eq (encode_lower (b ∷ bytes)) (codes "-") ≡ false
 not_dash b bytes =
-    elim (bytes_eq (encode_lower (b ∷ bytes)) (codes "-")) as (λ v. bytes_eq (encode_lower (b ∷ bytes)) (codes "-") ≡ v → v ≡ false) [
-      | true ↦ λ is. let len = ap length ((bytes_eq-Decides (encode_lower (b ∷ bytes)) (codes "-")).0 is) in absurd (omega (arith, len, length-encode_with lower_digits (b ∷ bytes)))
+    elim (bytes_eq (encode_lower (b ∷ bytes)) (codes "-")) as
+    (λ v. bytes_eq (encode_lower (b ∷ bytes)) (codes "-") ≡ v → v ≡ false) [
+      | true ↦ λ is. let len = ap length ((bytes_eq-Decides (encode_lower (b ∷ bytes)) (codes "-")).0 is) in
+          absurd (omega (arith, len, length-encode_with lower_digits (b ∷ bytes)))
       | false ↦ λ is. refl
     ] refl
 

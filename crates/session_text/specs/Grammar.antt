@@ -29,31 +29,41 @@ act_words (acts.Drop x) = codes "drop" ∷ decimal x ∷ []
 act_words (acts.Focus s) = codes "focus" ∷ decimal s ∷ []
 act_words acts.Unfocus = codes "unfocus" ∷ []
 act_words (acts.Area s rect) = codes "area" ∷ decimal s ∷ rect_words rect
-act_words (acts.Screen size) = codes "screen" ∷ signed_decimal size.width ∷ signed_decimal size.height ∷ []
+act_words (acts.Screen size) =
+    codes "screen" ∷ signed_decimal size.width ∷ signed_decimal size.height ∷ []
 act_words (acts.Enable f) = codes "enable" ∷ decimal f ∷ []
 act_words (acts.Disable f) = codes "disable" ∷ decimal f ∷ []
 act_words (acts.Surround f text cursor anchor) =
-    codes "surround" ∷ decimal f ∷ hex_word text ∷ signed_decimal cursor ∷ signed_decimal anchor ∷ []
+    codes "surround" ∷ decimal f ∷ hex_word text ∷ signed_decimal cursor ∷
+    signed_decimal anchor ∷ []
 act_words (acts.Cause f cause) = codes "cause" ∷ decimal f ∷ decimal cause ∷ []
-act_words (acts.Content f hint purpose) = codes "content" ∷ decimal f ∷ decimal hint ∷ decimal purpose ∷ []
+act_words (acts.Content f hint purpose) =
+    codes "content" ∷ decimal f ∷ decimal hint ∷ decimal purpose ∷ []
 act_words (acts.Cursor f rect) = codes "rect" ∷ decimal f ∷ rect_words rect
 act_words (acts.Commit f) = codes "commit" ∷ decimal f ∷ []
 act_words (acts.MString m text) = codes "mstring" ∷ decimal m ∷ hex_word text ∷ []
 act_words (acts.MPreedit m text begin end) =
     codes "mpreedit" ∷ decimal m ∷ hex_word text ∷ signed_decimal begin ∷ signed_decimal end ∷ []
-act_words (acts.MDelete m before after) = codes "mdelete" ∷ decimal m ∷ decimal before ∷ decimal after ∷ []
+act_words (acts.MDelete m before after) =
+    codes "mdelete" ∷ decimal m ∷ decimal before ∷ decimal after ∷ []
 act_words (acts.MCommit m serial) = codes "mcommit" ∷ decimal m ∷ decimal serial ∷ []
 act_words (acts.Key time key state) = codes "key" ∷ decimal time ∷ decimal key ∷ decimal state ∷ []
 act_words (acts.Mods mods) =
-    codes "mods" ∷ decimal mods.depressed ∷ decimal mods.latched ∷ decimal mods.locked ∷ decimal mods.group ∷ []
-act_words (acts.Keymap keymap) = codes "keymap" ∷ decimal keymap.format ∷ decimal keymap.token ∷ decimal keymap.size ∷ []
-act_words (acts.Repeat repeat) = codes "repeat" ∷ signed_decimal repeat.rate ∷ signed_decimal repeat.delay ∷ []
+    codes "mods" ∷ decimal mods.depressed ∷ decimal mods.latched ∷ decimal mods.locked ∷
+    decimal mods.group ∷ []
+act_words (acts.Keymap keymap) =
+    codes "keymap" ∷ decimal keymap.format ∷ decimal keymap.token ∷ decimal keymap.size ∷ []
+act_words (acts.Repeat repeat) =
+    codes "repeat" ∷ signed_decimal repeat.rate ∷ signed_decimal repeat.delay ∷ []
 act_words (acts.VBoard p) = codes "vboard" ∷ decimal p ∷ []
 act_words (acts.VKeymap v keymap) =
-    codes "vkeymap" ∷ decimal v ∷ decimal keymap.format ∷ decimal keymap.token ∷ decimal keymap.size ∷ []
-act_words (acts.VKey v time key state) = codes "vkey" ∷ decimal v ∷ decimal time ∷ decimal key ∷ decimal state ∷ []
+    codes "vkeymap" ∷ decimal v ∷ decimal keymap.format ∷ decimal keymap.token ∷
+    decimal keymap.size ∷ []
+act_words (acts.VKey v time key state) =
+    codes "vkey" ∷ decimal v ∷ decimal time ∷ decimal key ∷ decimal state ∷ []
 act_words (acts.VMods v mods) =
-    codes "vmods" ∷ decimal v ∷ decimal mods.depressed ∷ decimal mods.latched ∷ decimal mods.locked ∷ decimal mods.group ∷ []
+    codes "vmods" ∷ decimal v ∷ decimal mods.depressed ∷ decimal mods.latched ∷
+    decimal mods.locked ∷ decimal mods.group ∷ []
 act_words _ = []
 
 -- the header of each form

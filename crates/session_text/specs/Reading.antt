@@ -42,12 +42,19 @@ two_words k a =
 
 unfoldable pub three_words : List ℕ → List ℕ → List ℕ → Option Act
 three_words k a b =
-    if bytes_eq k (codes "popup") then number_of a >>= (λ m. number_of b >>= (λ s. Some (acts.Popup m s)))
-    else if bytes_eq k (codes "screen") then size_of a >>= (λ w. size_of b >>= (λ h. Some (acts.Screen (size w h))))
-    else if bytes_eq k (codes "cause") then number_of a >>= (λ f. number_of b >>= (λ cause. Some (acts.Cause f cause)))
-    else if bytes_eq k (codes "mstring") then number_of a >>= (λ m. text_of text_limit b >>= (λ text. Some (acts.MString m text)))
-    else if bytes_eq k (codes "mcommit") then number_of a >>= (λ m. number_of b >>= (λ serial. Some (acts.MCommit m serial)))
-    else if bytes_eq k (codes "repeat") then signed_of a >>= (λ rate. signed_of b >>= (λ delay. Some (acts.Repeat (record { rate = rate; delay = delay }))))
+    if bytes_eq k (codes "popup")
+    then number_of a >>= (λ m. number_of b >>= (λ s. Some (acts.Popup m s)))
+    else if bytes_eq k (codes "screen")
+    then size_of a >>= (λ w. size_of b >>= (λ h. Some (acts.Screen (size w h))))
+    else if bytes_eq k (codes "cause")
+    then number_of a >>= (λ f. number_of b >>= (λ cause. Some (acts.Cause f cause)))
+    else if bytes_eq k (codes "mstring")
+    then number_of a >>= (λ m. text_of text_limit b >>= (λ text. Some (acts.MString m text)))
+    else if bytes_eq k (codes "mcommit")
+    then number_of a >>= (λ m. number_of b >>= (λ serial. Some (acts.MCommit m serial)))
+    else if bytes_eq k (codes "repeat")
+    then signed_of a >>= (λ rate. signed_of b >>=
+    (λ delay. Some (acts.Repeat (record { rate = rate; delay = delay }))))
     else None
 
 unfoldable pub four_words : List ℕ → List ℕ → List ℕ → List ℕ → Option Act

@@ -86,7 +86,8 @@ line_found (Some found) = line_for found.0 found.1
 unfoldable pub seats_line_of : ℕ → List ℕ → Option SeatsLine
 seats_line_of count bytes =
     if nat_le (length bytes) line_limit
-    then (if bytes_eq bytes (codes "end") then Some said.End else line_found (address_of count bytes))
+    then (if bytes_eq bytes (codes "end") then Some said.End
+    else line_found (address_of count bytes))
     else None
 
 -- the line is for a seat that there is, or for all, and holds only what a line of a session can

@@ -16,12 +16,17 @@ abbrev pub shell_words : ShellStep → List (List ℕ)
 shell_words (shells.Focus p i) = codes "focus" ∷ decimal p ∷ decimal i ∷ []
 shell_words shells.Unfocus = codes "unfocus" ∷ []
 shell_words (shells.Area p i rect) = codes "area" ∷ decimal p ∷ decimal i ∷ rect_words rect
-shell_words (shells.Screen size) = codes "screen" ∷ signed_decimal size.width ∷ signed_decimal size.height ∷ []
-shell_words (shells.Key time key state) = codes "key" ∷ decimal time ∷ decimal key ∷ decimal state ∷ []
+shell_words (shells.Screen size) =
+    codes "screen" ∷ signed_decimal size.width ∷ signed_decimal size.height ∷ []
+shell_words (shells.Key time key state) =
+    codes "key" ∷ decimal time ∷ decimal key ∷ decimal state ∷ []
 shell_words (shells.Mods mods) =
-    codes "mods" ∷ decimal mods.depressed ∷ decimal mods.latched ∷ decimal mods.locked ∷ decimal mods.group ∷ []
-shell_words (shells.Keymap keymap) = codes "keymap" ∷ decimal keymap.format ∷ decimal keymap.token ∷ decimal keymap.size ∷ []
-shell_words (shells.Repeat repeat) = codes "repeat" ∷ signed_decimal repeat.rate ∷ signed_decimal repeat.delay ∷ []
+    codes "mods" ∷ decimal mods.depressed ∷ decimal mods.latched ∷ decimal mods.locked ∷
+    decimal mods.group ∷ []
+shell_words (shells.Keymap keymap) =
+    codes "keymap" ∷ decimal keymap.format ∷ decimal keymap.token ∷ decimal keymap.size ∷ []
+shell_words (shells.Repeat repeat) =
+    codes "repeat" ∷ signed_decimal repeat.rate ∷ signed_decimal repeat.delay ∷ []
 shell_words (shells.At moment) = codes "at" ∷ decimal moment ∷ []
 
 abbrev pub session_words : SessionLine → List (List ℕ)
@@ -34,12 +39,14 @@ session_words (sessions.Shell step) = shell_words step
 
 -- the header of form 1, which doesn't say what the journal may weigh
 abbrev pub header_words : Limits → List (List ℕ)
-header_words limits = codes "session" ∷ codes "1" ∷ decimal limits.entries ∷ decimal limits.store ∷ []
+header_words limits =
+    codes "session" ∷ codes "1" ∷ decimal limits.entries ∷ decimal limits.store ∷ []
 
 -- the header of form 2
 abbrev pub long_header_words : Limits → List (List ℕ)
 long_header_words limits =
-    codes "session" ∷ codes "2" ∷ decimal limits.entries ∷ decimal limits.store ∷ decimal limits.weight ∷ []
+    codes "session" ∷ codes "2" ∷ decimal limits.entries ∷ decimal limits.store ∷
+    decimal limits.weight ∷ []
 
 -- a stamp before the words of a line
 abbrev pub stamped_words : Stamp → List (List ℕ) → List (List ℕ)

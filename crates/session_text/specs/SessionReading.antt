@@ -14,9 +14,13 @@ one_shell_word k = if bytes_eq k (codes "unfocus") then Some shells.Unfocus else
 
 unfoldable pub three_shell_words : List ℕ → List ℕ → List ℕ → Option ShellStep
 three_shell_words k a b =
-    if bytes_eq k (codes "focus") then number_of a >>= (λ p. number_of b >>= (λ i. Some (shells.Focus p i)))
-    else if bytes_eq k (codes "screen") then size_of a >>= (λ w. size_of b >>= (λ h. Some (shells.Screen (size w h))))
-    else if bytes_eq k (codes "repeat") then signed_of a >>= (λ rate. signed_of b >>= (λ delay. Some (shells.Repeat (record { rate = rate; delay = delay }))))
+    if bytes_eq k (codes "focus")
+    then number_of a >>= (λ p. number_of b >>= (λ i. Some (shells.Focus p i)))
+    else if bytes_eq k (codes "screen")
+    then size_of a >>= (λ w. size_of b >>= (λ h. Some (shells.Screen (size w h))))
+    else if bytes_eq k (codes "repeat")
+    then signed_of a >>= (λ rate. signed_of b >>=
+    (λ delay. Some (shells.Repeat (record { rate = rate; delay = delay }))))
     else None
 
 unfoldable pub four_shell_words : List ℕ → List ℕ → List ℕ → List ℕ → Option ShellStep
@@ -63,12 +67,15 @@ abbrev pub in_session : Option ShellStep → Option Line
 in_session step = step >>= (λ s. Some (lines.Session (sessions.Shell s)))
 
 unfoldable pub one_session_word : List ℕ → Option Line
-one_session_word k = if bytes_eq k (codes "end") then Some lines.End else in_session (one_shell_word k)
+one_session_word k =
+    if bytes_eq k (codes "end") then Some lines.End else in_session (one_shell_word k)
 
 unfoldable pub two_session_words : List ℕ → List ℕ → Option Line
 two_session_words k a =
-    if bytes_eq k (codes "join") then role_of a >>= (λ role. Some (lines.Session (sessions.Join role)))
-    else if bytes_eq k (codes "gone") then number_of a >>= (λ p. Some (lines.Session (sessions.Gone p)))
+    if bytes_eq k (codes "join")
+    then role_of a >>= (λ role. Some (lines.Session (sessions.Join role)))
+    else if bytes_eq k (codes "gone")
+    then number_of a >>= (λ p. Some (lines.Session (sessions.Gone p)))
     else None
 
 unfoldable pub three_session_words : List ℕ → List ℕ → List ℕ → Option Line
@@ -90,7 +97,8 @@ header_of form a b =
     else None
 
 unfoldable pub four_session_words : List ℕ → List ℕ → List ℕ → List ℕ → Option Line
-four_session_words k a b c = if bytes_eq k (codes "session") then header_of a b c else in_session (four_shell_words k a b c)
+four_session_words k a b c =
+    if bytes_eq k (codes "session") then header_of a b c else in_session (four_shell_words k a b c)
 
 -- the line of the words in a session, the first of which names it
 abbrev pub session_of : List (List ℕ) → Option Line

@@ -159,4 +159,5 @@ bytes_of limit word = decoded limit word (decode_of word)
 
 -- the text of at most so many bytes that is written so
 unfoldable pub text_of : ℕ → List ℕ → Option (List ℕ)
-text_of limit word = if bytes_eq word (codes "-") then Some [] else kept is_text (bytes_of limit word)
+text_of limit word =
+    if bytes_eq word (codes "-") then Some [] else kept is_text (bytes_of limit word)

@@ -23,7 +23,8 @@ IsNoLine form text = line_of form text ≡ None
 -- lines of the worked session, and what they say
 pub record WorkedLines : Type 0 where
   pub header :
-      Says Session (codes "session 1 1000000 65536") (lines.Header (record { entries = 1000000; store = 65536; weight = 134217728 }))
+      Says Session (codes "session 1 1000000 65536")
+      (lines.Header (record { entries = 1000000; store = 65536; weight = 134217728 }))
   pub join : Says Session (codes "join method") (lines.Session (sessions.Join Method))
   pub keyed : Says Session (codes "join keyed") (lines.Session (sessions.Join Keyed))
   pub enable :
@@ -35,7 +36,8 @@ pub record WorkedLines : Type 0 where
   pub area :
       Says Shell (codes "area 1 6 -2 200 30 0")
       (lines.Shell (shells.Area 1 6 (rect (negsuc 1) (pos 200) (pos 30) (pos 0))))
-  pub moment_of_a_link : Says Shell (codes "at 18446744073709551615") (lines.Shell (shells.At 18446744073709551615))
+  pub moment_of_a_link : Says Shell (codes "at 18446744073709551615")
+      (lines.Shell (shells.At 18446744073709551615))
 
 -- lines of a session of form 2, and what they say
 pub record WorkedStamps : Type 0 where
@@ -43,7 +45,8 @@ pub record WorkedStamps : Type 0 where
       Says Session2 (codes "session 2 4000000 65536 536870912")
       (lines.Header (record { entries = 4000000; store = 65536; weight = 536870912 }))
   pub join : Says Session2 (codes "5 0 join app") (lines.Stamped (stamp 5 0) (sessions.Join App))
-  pub tokens : Says Session2 (codes "0 3 tokens 1 7 8") (lines.Stamped (stamp 0 3) (sessions.Tokens 1 (7 ∷ 8 ∷ [])))
+  pub tokens : Says Session2 (codes "0 3 tokens 1 7 8")
+      (lines.Stamped (stamp 0 3) (sessions.Tokens 1 (7 ∷ 8 ∷ [])))
   pub at :
       Says Session2 (codes "18446744073709551615 0 at 20")
       (lines.Stamped (stamp 18446744073709551615 0) (sessions.Shell (shells.At 20)))

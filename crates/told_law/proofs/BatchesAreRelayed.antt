@@ -33,7 +33,8 @@ abbrev AreOfBatch : List Said → Type 0
 AreOfBatch events = AllByRecursion (λ event. is_of_batch event ≡ true) events
 
 deletion_of : (d : Deletion) → AreOfBatch (deletion_said d)
-deletion_of d = either_way AreOfBatch (d.before == 0 && d.after == 0) [] (said.Delete d.before d.after ∷ []) tt (refl, tt)
+deletion_of d =
+    either_way AreOfBatch (d.before == 0 && d.after == 0) [] (said.Delete d.before d.after ∷ []) tt (refl, tt)
 
 string_of : (text : List ℕ) → AreOfBatch (string_said text)
 string_of text = either_way AreOfBatch (length text == 0) [] (said.CommitString text ∷ []) tt (refl, tt)

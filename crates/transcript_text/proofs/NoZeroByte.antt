@@ -62,7 +62,8 @@ pub vmods_clean : (n : ℕ) (mods : Mods) → n < 2 ^ 32 → mods.depressed < 2 
     mods.locked < 2 ^ 32 → mods.group < 2 ^ 32 →
     has_no_zero (vmods_line n mods) ≡ true
 vmods_clean n mods n-lt d-lt l-lt k-lt g-lt =
-    join_lacks 0 (decimal n ∷ codes "vmods" ∷ decimal mods.depressed ∷ decimal mods.latched ∷ decimal mods.locked ∷ decimal mods.group ∷ []) refl (
+    join_lacks 0 (decimal n ∷ codes "vmods" ∷ decimal mods.depressed ∷ decimal mods.latched ∷ decimal mods.locked ∷
+    decimal mods.group ∷ []) refl (
       number_clean n n-lt,
       (
         refl,

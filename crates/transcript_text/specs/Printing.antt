@@ -31,4 +31,5 @@ IsOldStep _ = Unit {0}
 -- has the step, and with the stamp of nothing known before it as a line of form 2.
 pub record IsReadAgain (step : Step) (bytes : List ℕ) : Type 0 where
   pub old : IsOldStep step → line_of Session bytes ≡ Some (lines.Session (step_line step))
-  pub stamped : line_of Session2 (codes "0 0 " ++ bytes) ≡ Some (lines.Stamped unstamped (step_line step))
+  pub stamped : line_of Session2 (codes "0 0 " ++ bytes) ≡
+      Some (lines.Stamped unstamped (step_line step))

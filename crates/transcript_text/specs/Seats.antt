@@ -22,4 +22,5 @@ seat_end_line seat entries = seat_mark seat ++ (codes "end " ++ decimal entries 
 
 -- that of a seat whose journal was full with so many counted entries
 abbrev pub seat_full_line : ℕ → ℕ → List ℕ
-seat_full_line seat counted = seat_mark seat ++ (codes "journal full " ++ decimal counted ++ 10 ∷ [])
+seat_full_line seat counted =
+    seat_mark seat ++ (codes "journal full " ++ decimal counted ++ 10 ∷ [])

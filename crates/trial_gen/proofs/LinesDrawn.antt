@@ -73,7 +73,8 @@ letter_fine k low high =
     subst_text (96 + k) same (letter_word (k - 1) (omega (arith, low, high))) in
     fine (letter_line k) (omega (arith, high), word)
     (refl, (decimal_lacks 10 feed k (omega (arith, high)), (hex_lacks 10 feed ((96 + k) ∷ []) word.0.0.1, tt)))
-    (let few = numbers.short k (omega (arith, high)) in let long = key_texts.short ((96 + k) ∷ []) word in omega (arith, few, long))
+    (let few = numbers.short k (omega (arith, high)) in let long = key_texts.short ((96 + k) ∷ []) word in
+    omega (arith, few, long))
   where
     subst_text : (b : ℕ) → 97 + (k - 1) ≡ b → IsKeyWord ((97 + (k - 1)) ∷ []) → IsKeyWord (b ∷ [])
     subst_text b e h = rw (sym e) h
@@ -82,12 +83,14 @@ letter_fine k low high =
 
 use_fine : (f : ℕ) → 1 ≤ f → f ≤ 4 → IsFine (lines.Act (actions.Use f))
 use_fine f low high =
-    fine (lines.Act (actions.Use f)) (low, omega (arith, high)) (refl, (decimal_lacks 10 feed f (omega (arith, high)), tt))
+    fine (lines.Act (actions.Use f)) (low, omega (arith, high))
+    (refl, (decimal_lacks 10 feed f (omega (arith, high)), tt))
     (let few = numbers.short f (omega (arith, high)) in omega (arith, few))
 
 press_fine : (v : ℕ) → v < 26 → IsFine (lines.Act (actions.Press (1 + v)))
 press_fine v lt =
-    fine (lines.Act (actions.Press (1 + v))) (omega (arith, lt)) (refl, (decimal_lacks 10 feed (1 + v) (omega (arith, lt)), tt))
+    fine (lines.Act (actions.Press (1 + v))) (omega (arith, lt))
+    (refl, (decimal_lacks 10 feed (1 + v) (omega (arith, lt)), tt))
     (let few = numbers.short (1 + v) (omega (arith, lt)) in omega (arith, few))
 
 insert_fine : (f v : ℕ) → 1 ≤ f → f ≤ 4 → v < 26 → IsFine (lines.Act (actions.Edit f (edits.Insert (letter v))))
@@ -95,7 +98,8 @@ insert_fine f v low high lt =
     let word = letter_word v lt in
     fine (lines.Act (actions.Edit f (edits.Insert (letter v)))) ((low, omega (arith, high)), (word.0.0, omega arith))
     (refl, (decimal_lacks 10 feed f (omega (arith, high)), (hex_lacks 10 feed (letter v) word.0.0.1, tt)))
-    (let few = numbers.short f (omega (arith, high)) in let long = key_texts.short (letter v) word in omega (arith, few, long))
+    (let few = numbers.short f (omega (arith, high)) in let long = key_texts.short (letter v) word in
+    omega (arith, few, long))
 
 rub_fine : (f : ℕ) → 1 ≤ f → f ≤ 4 → IsFine (lines.Act (actions.Edit f edits.Rub))
 rub_fine f low high =

@@ -93,8 +93,11 @@ all_counted = refl
 
 each_from : (P : ℕ → Type 0) (a n : ℕ) → ((k : ℕ) → a ≤ k → k < a + n → P k) → AllByRecursion P (range_with_len a n)
 each_from P a zero h = tt
-each_from P a (suc n) h =
-    (h a (omega arith) (omega arith), each_from P (a + 1) n (λ k low high. h k (omega (arith, low)) (omega (arith, high))))
+each_from P a (suc n) h = (
+  h a (omega arith) (omega arith),
+  each_from P (a + 1) n
+      (λ k low high. h k (omega (arith, low)) (omega (arith, high))),
+)
 
 all_fine : AllByRecursion (λ k. IsFine (letter_line k)) (range_with_len 1 26)
 all_fine = each_from (λ k. IsFine (letter_line k)) 1 26 (λ k low high. letter_fine k low (omega (arith, high)))
@@ -123,7 +126,8 @@ pub mapped : {X Y : Type 0} (P : Y → Type 0) (Q : X → Type 0) (f : X → Y) 
 mapped P Q f h [] each = tt
 mapped P Q f h (x ∷ xs) each = (h x each.0, mapped P Q f h xs each.1)
 
-joined : {X : Type 0} (P : X → Type 0) (xs ys : List X) → AllByRecursion P xs → AllByRecursion P ys → AllByRecursion P (xs ++ ys)
+joined : {X : Type 0} (P : X → Type 0) (xs ys : List X) → AllByRecursion P xs → AllByRecursion P ys →
+    AllByRecursion P (xs ++ ys)
 joined P [] ys h i = i
 joined P (x ∷ xs) ys h i = (h.0, joined P xs ys h.1 i)
 
@@ -158,7 +162,8 @@ fields_read : (n : ℕ) (r : KeyRules) →
     ≡ with_actions r 4 29 (record { actions = first_actions n action_count; ending = endings.End })
 unfolding script_from first_actions
 fields_read n r =
-    let read : line_of (spelling (lines.Fields 4)) ≡ Some (lines.Fields 4) = reads_each (lines.Fields 4) fields_fine.is in
+    let read : line_of (spelling (lines.Fields 4)) ≡ Some (lines.Fields 4) =
+    reads_each (lines.Fields 4) fields_fine.is in
     rw read
     (ap (with_actions r 4 29)
     (actions_read (map (action_at n) (range_with_len 0 action_count)) 29 (all_drawn n (range_with_len 0 action_count))))

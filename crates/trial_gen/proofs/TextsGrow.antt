@@ -17,7 +17,8 @@ text_push : (xs : List Line) (x : Line) → lines_text (xs ++ x ∷ []) ≡ line
 text_push xs x = text_append xs (x ∷ []) ∙ ap (λ t. lines_text xs ++ t) (append-nil (line_text x))
 
 -- one line more behind a text
-grows : (before now after : List ℕ) (xs : List Line) (x : Line) → now ≡ before ++ lines_text xs → after ≡ now ++ line_text x
+grows : (before now after : List ℕ) (xs : List Line) (x : Line) → now ≡ before ++ lines_text xs → after ≡
+    now ++ line_text x
     → after ≡ before ++ lines_text (xs ++ x ∷ [])
 grows before now after xs x is more =
     more ∙ ap (λ t. t ++ line_text x) is ∙ append_assoc before (lines_text xs) (line_text x)
@@ -45,7 +46,8 @@ pub no_actions : (n : ℕ) (t : List ℕ) → t ≡ t ++ lines_text (action_line
 unfolding action_lines first_actions
 no_actions n t = sym (append-nil t)
 
-actions_more : (n made : ℕ) → action_lines n (made + 1) ≡ action_lines n made ++ lines.Act (drawn (word_after n made)) ∷ []
+actions_more : (n made : ℕ) → action_lines n (made + 1) ≡ action_lines n made ++
+    lines.Act (drawn (word_after n made)) ∷ []
 unfolding action_lines first_actions action_at
 actions_more n made =
     ap (map lines.Act) (map-range_with_len_more (action_at n) 0 made made (omega arith))
@@ -83,12 +85,14 @@ whole n =
 -- the parts one behind the other
 pub gathered : (n : ℕ) (first keys fields acts end : List ℕ) → first ≡ line_text lines.Header
     → keys ≡ first ++ lines_text (letter_lines 26) → fields ≡ keys ++ line_text (lines.Fields field_count)
-    → acts ≡ fields ++ lines_text (action_lines n action_count) → end ≡ acts ++ line_text lines.End → end ≡ script_text n
+    → acts ≡ fields ++ lines_text (action_lines n action_count) → end ≡ acts ++ line_text lines.End → end ≡
+    script_text n
 gathered n first keys fields acts end first-is keys-is fields-is acts-is end-is =
     end-is
     ∙ ap (λ t. t ++ line_text lines.End)
     (acts-is
     ∙ ap (λ t. t ++ lines_text (action_lines n action_count))
     (fields-is
-    ∙ ap (λ t. t ++ line_text (lines.Fields field_count)) (keys-is ∙ ap (λ t. t ++ lines_text (letter_lines 26)) first-is)))
+    ∙ ap (λ t. t ++ line_text (lines.Fields field_count))
+    (keys-is ∙ ap (λ t. t ++ lines_text (letter_lines 26)) first-is)))
     ∙ whole n

@@ -88,7 +88,8 @@ script_text n = lines_text (drawn_lines n)
 -- the 26 keys give the letters, and nothing is composed
 unfoldable pub letter_rules : KeyRules
 letter_rules = record {
-  table = record { singles = map (λ k. single k ((96 + k) ∷ [])) (range_with_len 1 26); entries = [] };
+  table =
+      record { singles = map (λ k. single k ((96 + k) ∷ [])) (range_with_len 1 26); entries = [] };
   dict = empty_dictionary;
 }
 

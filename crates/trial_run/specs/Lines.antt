@@ -52,7 +52,8 @@ batch_of b = record {
 unfoldable pub show_line : ℕ → FieldText → List ℕ
 show_line f t =
     join_with_byte 32
-    (codes "show" ∷ decimal f ∷ hex_word (whole t) ∷ decimal (length t.before) ∷ hex_word t.preedit ∷ [])
+    (codes "show" ∷ decimal f ∷ hex_word (whole t) ∷ decimal (length t.before) ∷
+    hex_word t.preedit ∷ [])
     ++ 10 ∷ []
 
 -- what an action does at a time, which is the number of its line, modulo 2^32; fields are numbered

@@ -27,7 +27,8 @@ one_sound k line e =
 
 header_sound : (form : List ℕ) (line : Line) → header_of form ≡ Some line → IsReadLine (codes "trial" ∷ form ∷ []) line
 unfolding header_of
-header_sound form line e = arm form (codes "1") _ _ line e (λ is e. made _ lines.Header line e (rw is refl) tt) (λ e. absurd (cc e))
+header_sound form line e =
+    arm form (codes "1") _ _ line e (λ is e. made _ lines.Header line e (rw is refl) tt) (λ e. absurd (cc e))
 
 two_sound : (k a : List ℕ) (line : Line) → two_words k a ≡ Some line → IsReadLine (k ∷ a ∷ []) line
 unfolding two_words
@@ -37,12 +38,16 @@ two_sound k a line e =
     read_one fields (codes "use") (λ f. lines.Act (actions.Use f)) k a _ line (λ n. refl) (λ n h. h) e (λ e.
     read_one numbers (codes "press") (λ key. lines.Act (actions.Press key)) k a _ line (λ n. refl) (λ n h. h) e (λ e.
     read_one numbers (codes "erase") lines.Erase k a _ line (λ n. refl) (λ n h. h) e (λ e.
-    read_one fields (codes "left") (λ f. lines.Act (actions.Edit f edits.Left)) k a _ line (λ n. refl) (λ n h. (h, tt)) e (λ e.
-    read_one fields (codes "right") (λ f. lines.Act (actions.Edit f edits.Right)) k a _ line (λ n. refl) (λ n h. (h, tt)) e (λ e.
-    read_one fields (codes "rub") (λ f. lines.Act (actions.Edit f edits.Rub)) k a _ line (λ n. refl) (λ n h. (h, tt)) e (λ e.
+    read_one fields (codes "left") (λ f. lines.Act (actions.Edit f edits.Left)) k a _ line (λ n. refl)
+    (λ n h. (h, tt)) e (λ e.
+    read_one fields (codes "right") (λ f. lines.Act (actions.Edit f edits.Right)) k a _ line (λ n. refl)
+    (λ n h. (h, tt)) e (λ e.
+    read_one fields (codes "rub") (λ f. lines.Act (actions.Edit f edits.Rub)) k a _ line (λ n. refl)
+    (λ n h. (h, tt)) e (λ e.
     read_one fields (codes "pause") (λ f. lines.Act (actions.Pause f)) k a _ line (λ n. refl) (λ n h. h) e (λ e.
     read_one fields (codes "resume") (λ f. lines.Act (actions.Resume f)) k a _ line (λ n. refl) (λ n h. h) e (λ e.
-    read_one fields (codes "show") (λ f. lines.Act (actions.Show f)) k a _ line (λ n. refl) (λ n h. h) e (λ e. absurd (cc e))))))))))))
+    read_one fields (codes "show") (λ f. lines.Act (actions.Show f)) k a _ line (λ n. refl) (λ n h. h) e
+    (λ e. absurd (cc e))))))))))))
 
 -- the keys behind a text, of which a line has so many
 keys_read : (most : ℕ) (make : List ℕ → Line) (name a : List ℕ) (words : List (List ℕ)) (keys : Option (List ℕ))
@@ -61,11 +66,13 @@ keys_read most make name a words (Some keys) line read is e =
       | false ↦ λ few f. absurd (cc f)
     ] refl e
 
-compose_sound : (a b c : List ℕ) (words : List (List ℕ)) (line : Line) → compose_of a (b ∷ c ∷ words) ≡ Some line → IsReadLine (codes "compose" ∷ a ∷ b ∷ c ∷ words) line
+compose_sound : (a b c : List ℕ) (words : List (List ℕ)) (line : Line) → compose_of a (b ∷ c ∷ words) ≡ Some line →
+    IsReadLine (codes "compose" ∷ a ∷ b ∷ c ∷ words) line
 unfolding compose_of
 compose_sound a b c words line e =
     bound key_texts a _ line e (λ text h is f.
-    keys_read key_limit (lines.Compose text) (codes "compose") a (b ∷ c ∷ words) (keys_of (b ∷ c ∷ words)) line refl (λ ks known few. record {
+    keys_read key_limit (lines.Compose text) (codes "compose") a (b ∷ c ∷ words) (keys_of (b ∷ c ∷ words)) line refl
+    (λ ks known few. record {
       same = rw (is, known.same) refl;
       has_line = (
         h,
@@ -73,11 +80,13 @@ compose_sound a b c words line e =
       );
     }) f)
 
-word_sound : (a b : List ℕ) (words : List (List ℕ)) (line : Line) → word_of a (b ∷ words) ≡ Some line → IsReadLine (codes "word" ∷ a ∷ b ∷ words) line
+word_sound : (a b : List ℕ) (words : List (List ℕ)) (line : Line) → word_of a (b ∷ words) ≡ Some line →
+    IsReadLine (codes "word" ∷ a ∷ b ∷ words) line
 unfolding word_of
 word_sound a b words line e =
     bound key_texts a _ line e (λ text h is f.
-    keys_read word_key_limit (lines.Word text) (codes "word") a (b ∷ words) (keys_of (b ∷ words)) line refl (λ ks known few. record {
+    keys_read word_key_limit (lines.Word text) (codes "word") a (b ∷ words) (keys_of (b ∷ words)) line refl
+    (λ ks known few. record {
       same = rw (is, known.same) refl;
       has_line = (h, record { some = let count = known.count in omega (arith, count); few = few; each = known.small });
     }) f)
@@ -88,10 +97,12 @@ three_sound k a b line e =
     read_two numbers key_texts (codes "single") lines.Single k a b _ line (λ key t. refl) (λ key t h i. (h, i)) e (λ e.
     read_two numbers choices (codes "choose") lines.Choose k a b _ line (λ key n. refl) (λ key n h i. (h, i)) e (λ e.
     arm k (codes "word") (word_of a (b ∷ [])) _ line e (λ is e. rw is (word_sound a b [] line e)) (λ e.
-    read_two fields (texts line_limit) (codes "insert") (λ f t. lines.Act (actions.Edit f (edits.Insert t))) k a b _ line (λ f t. refl) (λ f t h i. (h, i)) e (λ e.
+    read_two fields (texts line_limit) (codes "insert")
+    (λ f t. lines.Act (actions.Edit f (edits.Insert t))) k a b _ line (λ f t. refl) (λ f t h i. (h, i)) e (λ e.
     absurd (cc e)))))
 
-batch_sound : (a b c d f g : List ℕ) (line : Line) → batch_of a b c d f g ≡ Some line → IsReadLine (codes "batch" ∷ a ∷ b ∷ c ∷ d ∷ f ∷ g ∷ []) line
+batch_sound : (a b c d f g : List ℕ) (line : Line) → batch_of a b c d f g ≡ Some line →
+    IsReadLine (codes "batch" ∷ a ∷ b ∷ c ∷ d ∷ f ∷ g ∷ []) line
 unfolding batch_of
 batch_sound a b c d f g line e =
     bound numbers a _ line e
@@ -123,4 +134,5 @@ words_sound (k ∷ a ∷ []) line e = two_sound k a line e
 words_sound (k ∷ a ∷ b ∷ []) line e = three_sound k a b line e
 words_sound (k ∷ a ∷ b ∷ c ∷ ws) line e =
     arm k (codes "compose") _ _ line e (λ is e. rw is (compose_sound a b c ws line e)) (λ e.
-    arm k (codes "word") _ _ line e (λ is e. rw is (word_sound a b (c ∷ ws) line e)) (λ e. more_sound k a (b ∷ c ∷ ws) line e))
+    arm k (codes "word") _ _ line e (λ is e. rw is (word_sound a b (c ∷ ws) line e))
+    (λ e. more_sound k a (b ∷ c ∷ ws) line e))

@@ -22,7 +22,8 @@ edit_words f edits.Rub = codes "rub" ∷ decimal f ∷ []
 
 abbrev pub batch_words : Edits → List (List ℕ)
 batch_words b =
-    codes "batch" ∷ decimal b.before ∷ decimal b.after ∷ hex_word b.string ∷ hex_word b.preedit ∷ signed_decimal b.begin
+    codes "batch" ∷ decimal b.before ∷ decimal b.after ∷ hex_word b.string ∷ hex_word b.preedit ∷
+    signed_decimal b.begin
     ∷ signed_decimal b.end ∷ []
 
 abbrev pub action_words : Action → List (List ℕ)

@@ -37,13 +37,18 @@ two_words k a =
     if bytes_eq k (codes "trial") then header_of a
     else if bytes_eq k (codes "fields") then field_of a >>= (λ n. Some (lines.Fields n))
     else if bytes_eq k (codes "use") then field_of a >>= (λ f. Some (lines.Act (actions.Use f)))
-    else if bytes_eq k (codes "press") then number_of a >>= (λ key. Some (lines.Act (actions.Press key)))
+    else if bytes_eq k (codes "press")
+    then number_of a >>= (λ key. Some (lines.Act (actions.Press key)))
     else if bytes_eq k (codes "erase") then number_of a >>= (λ key. Some (lines.Erase key))
-    else if bytes_eq k (codes "left") then field_of a >>= (λ f. Some (lines.Act (actions.Edit f edits.Left)))
-    else if bytes_eq k (codes "right") then field_of a >>= (λ f. Some (lines.Act (actions.Edit f edits.Right)))
-    else if bytes_eq k (codes "rub") then field_of a >>= (λ f. Some (lines.Act (actions.Edit f edits.Rub)))
+    else if bytes_eq k (codes "left")
+    then field_of a >>= (λ f. Some (lines.Act (actions.Edit f edits.Left)))
+    else if bytes_eq k (codes "right")
+    then field_of a >>= (λ f. Some (lines.Act (actions.Edit f edits.Right)))
+    else if bytes_eq k (codes "rub")
+    then field_of a >>= (λ f. Some (lines.Act (actions.Edit f edits.Rub)))
     else if bytes_eq k (codes "pause") then field_of a >>= (λ f. Some (lines.Act (actions.Pause f)))
-    else if bytes_eq k (codes "resume") then field_of a >>= (λ f. Some (lines.Act (actions.Resume f)))
+    else if bytes_eq k (codes "resume")
+    then field_of a >>= (λ f. Some (lines.Act (actions.Resume f)))
     else if bytes_eq k (codes "show") then field_of a >>= (λ f. Some (lines.Act (actions.Show f)))
     else None
 
@@ -61,7 +66,8 @@ choose_of a b =
 
 unfoldable pub three_words : List ℕ → List ℕ → List ℕ → Option Line
 three_words k a b =
-    if bytes_eq k (codes "single") then number_of a >>= (λ key. key_text_of b >>= (λ text. Some (lines.Single key text)))
+    if bytes_eq k (codes "single")
+    then number_of a >>= (λ key. key_text_of b >>= (λ text. Some (lines.Single key text)))
     else if bytes_eq k (codes "choose") then choose_of a b
     else if bytes_eq k (codes "word") then word_of a (b ∷ [])
     else if bytes_eq k (codes "insert") then
@@ -86,7 +92,8 @@ batch_of a b c d e f =
     Some (lines.Act (actions.Batch (edits_of before after string preedit begin end)))))))))
 
 unfoldable pub seven_words : List ℕ → List ℕ → List (List ℕ) → Option Line
-seven_words k a (b ∷ c ∷ d ∷ e ∷ f ∷ []) = if bytes_eq k (codes "batch") then batch_of a b c d e f else None
+seven_words k a (b ∷ c ∷ d ∷ e ∷ f ∷ []) =
+    if bytes_eq k (codes "batch") then batch_of a b c d e f else None
 seven_words k a _ = None
 
 -- four words or more, of which all but the first two are apart

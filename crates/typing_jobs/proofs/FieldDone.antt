@@ -106,7 +106,8 @@ ended_done limits job own h is =
     (λ least. inr h.1)
 
 -- after an edit, and before the first
-pub rest_done : (limits : Limits) (job : FieldJob) (own : List Entry) (goes_on : Bool) → HasFieldRest limits job own goes_on
+pub rest_done : (limits : Limits) (job : FieldJob) (own : List Entry) (goes_on : Bool) →
+    HasFieldRest limits job own goes_on
     →
     own ≡ map edit_of job.edits → IsFieldDone limits job
 rest_done limits job own true h is =

@@ -60,7 +60,8 @@ returns-then-is_empty-clause-tokens c =
     let same : c.index_mut.result.now.store.cells ≡ cells_in (store_at c.args.number c.args.left.now.items) =
     cells c.args.number c.in-Some.place c.args.left.now.items c.index_mut.result.now it in
     c.take-counts.ensures.tokens
-    ∙ ap (λ (cs : List Cell). tokens_of (take c.take-counts.result.0 cs) ++ drop c.take-counts.result.1 c.args.tokens.now)
+    ∙ ap (λ (cs : List Cell). tokens_of (take c.take-counts.result.0 cs) ++
+    drop c.take-counts.result.1 c.args.tokens.now)
     same
 
 pub returns-then-is_empty-clause-rest : goal.returns-then-is_empty-clause-rest
@@ -89,7 +90,8 @@ returns-then-is_empty-clause-others c =
     λ other d.
     ap (store_at other) c.forget.ensures.left
     ∙ others_found c.args.number other there d
-    ∙ same_set c.args.number c.in-Some.place c.args.left.now.items c.index_mut.result.now c.take-counts.new.self it other
+    ∙ same_set c.args.number c.in-Some.place c.args.left.now.items c.index_mut.result.now
+    c.take-counts.new.self it other
     d
 
 pub returns-else-is_empty-clause-count : goal.returns-else-is_empty-clause-count
@@ -130,7 +132,8 @@ returns-else-is_empty-clause-tokens c =
     let same : c.index_mut.result.now.store.cells ≡ cells_in (store_at c.args.number c.args.left.now.items) =
     cells c.args.number c.in-Some.place c.args.left.now.items c.index_mut.result.now it in
     c.take-counts.ensures.tokens
-    ∙ ap (λ (cs : List Cell). tokens_of (take c.take-counts.result.0 cs) ++ drop c.take-counts.result.1 c.args.tokens.now)
+    ∙ ap (λ (cs : List Cell). tokens_of (take c.take-counts.result.0 cs) ++
+    drop c.take-counts.result.1 c.args.tokens.now)
     same
 
 pub returns-else-is_empty-clause-rest : goal.returns-else-is_empty-clause-rest

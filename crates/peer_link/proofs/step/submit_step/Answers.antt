@@ -50,7 +50,8 @@ pub returns-in-Err-JournalFull-clause-made : goal.returns-in-Err-JournalFull-cla
 returns-in-Err-JournalFull-clause-made g c =
     submitted c.args.hub.now.limits c.args.pass.now c.submit_gated.new.pass c.args.step
     (Err (refusals.JournalFull c.in-Err-JournalFull.kept))
-    c.requires.step c.in-Err-JournalFull.ensures.pass (rw c.in-Err-JournalFull.field-0-is at c.in-Err-JournalFull.ensures.joined)
+    c.requires.step c.in-Err-JournalFull.ensures.pass
+    (rw c.in-Err-JournalFull.field-0-is at c.in-Err-JournalFull.ensures.joined)
     (rw c.in-Err-JournalFull.field-0-is at c.in-Err-JournalFull.ensures.legal)
 
 pub returns-in-Err-JournalFull-clause-refusal : goal.returns-in-Err-JournalFull-clause-refusal

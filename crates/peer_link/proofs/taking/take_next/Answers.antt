@@ -33,16 +33,20 @@ returns-in-NoMemory-clause-drains_on g c = λ held now s.
 
 pub returns-in-Bytes-clause-saw : goal.returns-in-Bytes-clause-saw
 returns-in-Bytes-clause-saw g c =
-    saw-legal c.args.hub.now.limits c.args.pass.now.seat c.wait_take_into.new.pass.seat.seen _ c.wait_take_into.ensures.legal
+    saw-legal c.args.hub.now.limits c.args.pass.now.seat c.wait_take_into.new.pass.seat.seen _
+    c.wait_take_into.ensures.legal
 
 pub returns-in-Closed-clause-saw : goal.returns-in-Closed-clause-saw
 returns-in-Closed-clause-saw g c =
-    saw-legal c.args.hub.now.limits c.args.pass.now.seat c.wait_take_into.new.pass.seat.seen _ c.wait_take_into.ensures.legal
+    saw-legal c.args.hub.now.limits c.args.pass.now.seat c.wait_take_into.new.pass.seat.seen _
+    c.wait_take_into.ensures.legal
 
 pub returns-in-JournalFull-clause-saw : goal.returns-in-JournalFull-clause-saw
 returns-in-JournalFull-clause-saw g c =
-    saw-legal c.args.hub.now.limits c.args.pass.now.seat c.wait_take_into.new.pass.seat.seen _ c.wait_take_into.ensures.legal
+    saw-legal c.args.hub.now.limits c.args.pass.now.seat c.wait_take_into.new.pass.seat.seen _
+    c.wait_take_into.ensures.legal
 
 pub returns-in-NoMemory-clause-saw : goal.returns-in-NoMemory-clause-saw
 returns-in-NoMemory-clause-saw g c =
-    saw-legal c.args.hub.now.limits c.args.pass.now.seat c.wait_take_into.new.pass.seat.seen _ c.wait_take_into.ensures.legal
+    saw-legal c.args.hub.now.limits c.args.pass.now.seat c.wait_take_into.new.pass.seat.seen _
+    c.wait_take_into.ensures.legal

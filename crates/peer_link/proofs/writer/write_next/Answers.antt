@@ -63,7 +63,8 @@ take_rest-requires-clause-own g c =
 pub take_rest-requires-clause-writes : goal.take_rest-requires-clause-writes
 take_rest-requires-clause-writes g c =
     writes-on c.args.hub.now.limits c.args.pass.now c.wait_take_into.new.pass c.wait_take_into.ensures.pass
-    (saw-legal c.args.hub.now.limits c.args.pass.now.seat c.wait_take_into.new.pass.seat.seen _ c.wait_take_into.ensures.legal)
+    (saw-legal c.args.hub.now.limits c.args.pass.now.seat c.wait_take_into.new.pass.seat.seen _
+    c.wait_take_into.ensures.legal)
     c.requires.writes
 
 pub returns-in-Err-clause-pass : goal.returns-in-Err-clause-pass
@@ -73,23 +74,28 @@ returns-in-Err-clause-pass g c =
 
 pub returns-in-Ok-clause-saw : goal.returns-in-Ok-clause-saw
 returns-in-Ok-clause-saw g c =
-    saw-legal c.args.hub.now.limits c.args.pass.now.seat c.wait_take_into.new.pass.seat.seen _ c.wait_take_into.ensures.legal
+    saw-legal c.args.hub.now.limits c.args.pass.now.seat c.wait_take_into.new.pass.seat.seen _
+    c.wait_take_into.ensures.legal
 
 pub returns-in-Err-clause-saw : goal.returns-in-Err-clause-saw
 returns-in-Err-clause-saw g c =
     saw-both c.args.hub.now.limits c.args.pass.now.seat.seen c.wait_take_into.new.pass.seat.seen
     c.take_rest.new.pass.seat.seen
-    (saw-legal c.args.hub.now.limits c.args.pass.now.seat c.wait_take_into.new.pass.seat.seen _ c.wait_take_into.ensures.legal)
+    (saw-legal c.args.hub.now.limits c.args.pass.now.seat c.wait_take_into.new.pass.seat.seen _
+    c.wait_take_into.ensures.legal)
     c.take_rest.ensures.saw
 
 pub returns-in-Closed-clause-saw : goal.returns-in-Closed-clause-saw
 returns-in-Closed-clause-saw g c =
-    saw-legal c.args.hub.now.limits c.args.pass.now.seat c.wait_take_into.new.pass.seat.seen _ c.wait_take_into.ensures.legal
+    saw-legal c.args.hub.now.limits c.args.pass.now.seat c.wait_take_into.new.pass.seat.seen _
+    c.wait_take_into.ensures.legal
 
 pub returns-in-JournalFull-clause-saw : goal.returns-in-JournalFull-clause-saw
 returns-in-JournalFull-clause-saw g c =
-    saw-legal c.args.hub.now.limits c.args.pass.now.seat c.wait_take_into.new.pass.seat.seen _ c.wait_take_into.ensures.legal
+    saw-legal c.args.hub.now.limits c.args.pass.now.seat c.wait_take_into.new.pass.seat.seen _
+    c.wait_take_into.ensures.legal
 
 pub returns-in-NoMemory-clause-saw : goal.returns-in-NoMemory-clause-saw
 returns-in-NoMemory-clause-saw g c =
-    saw-legal c.args.hub.now.limits c.args.pass.now.seat c.wait_take_into.new.pass.seat.seen _ c.wait_take_into.ensures.legal
+    saw-legal c.args.hub.now.limits c.args.pass.now.seat c.wait_take_into.new.pass.seat.seen _
+    c.wait_take_into.ensures.legal

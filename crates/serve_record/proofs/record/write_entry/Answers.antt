@@ -19,7 +19,8 @@ returns-then-not-fits_line-clause-no_line g c lines is =
     let session = c.args.session.now in
     let journal = session.journal.entries in
     let fits : FitsLine c.in-Some.entry.now = entry-fits journal c.args.number c.in-Some.entry.now lines
-    (sym (c.in-Some.ensures.value ∙ kept_is session.journal.kept_from journal c.args.number session.whole c.requires.first))
+    (sym (c.in-Some.ensures.value ∙ kept_is session.journal.kept_from journal c.args.number session.whole
+    c.requires.first))
     in
     let yes = c.fits_line.ensures.1 fits in search rules
 
@@ -32,7 +33,8 @@ returns-clause-gains g c =
     let entry : Some c.in-Some.entry.now ≡ entry_at journal number =
     c.in-Some.ensures.value ∙ kept_is session.journal.kept_from journal number session.whole c.requires.first in
     let stamp : Some c.in-Some-entry.stamp.now ≡ entry_at stamps number =
-    c.in-Some-entry.ensures.value ∙ kept_is session.stamps.kept_from stamps number session.all_stamps c.requires.first in
+    c.in-Some-entry.ensures.value ∙ kept_is session.stamps.kept_from stamps number session.all_stamps
+    c.requires.first in
     let line = ap (λ o. lines_text o (Some c.in-Some-entry.stamp.now)) entry
     ∙ ap (λ o. lines_text (entry_at journal number) o) stamp in
     gains_as c.as_line.ensures

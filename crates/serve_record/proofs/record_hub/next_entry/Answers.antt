@@ -21,7 +21,8 @@ returns-in-Some-clause-gains g c =
 
 pub returns-in_err-write-clause-gains : goal.returns-in_err-write-clause-gains
 returns-in_err-write-clause-gains g c =
-    gains_cut g.K.Sink.held g.K.Sink.fault_count stops.WriteFault c.args.output.now c.write.new.output _ _ _ (search rules)
+    gains_cut g.K.Sink.held g.K.Sink.fault_count stops.WriteFault c.args.output.now c.write.new.output _ _ _
+    (search rules)
     c.in_err-write.ensures.front c.write.ensures.never_falls (search rules)
 
 pub returns-clause-none_made : goal.returns-clause-none_made

@@ -15,7 +15,8 @@ next_entry-requires g c = record {
 
 pub put-requires : goal.put-requires
 put-requires g c =
-    (subst (HandsOut c.args.hub.now.limits c.loop.pass c.next_entry.new.pass) c.in-Some-2.is c.in_ok-next.ensures.next).fits
+    (subst (HandsOut c.args.hub.now.limits c.loop.pass c.next_entry.new.pass) c.in-Some-2.is
+    c.in_ok-next.ensures.next).fits
 
 pub returns-in_err-next-clause-seen : goal.returns-in_err-next-clause-seen
 returns-in_err-next-clause-seen g c =

@@ -18,5 +18,6 @@ returns-then-ne-clause-told c = elim c.then-ne.branch [
       let bad : has_shape (map string_bytes rest) ≡ false = sym w.has_shape.ensures ∙ w.if-not-has_shape.true in
       refused string_bytes c.args.words.now rest c.first-item.result c.in-len1-up.len_at_least c.first-item.is
       (take_all (length c.args.words.now - 1) (drop 1 c.args.words.now) (omega arith))
-      (either_false (bytes_eq (string_bytes c.first-item.result) (codes "serve")) (has_shape (map string_bytes rest)) bad)
+      (either_false (bytes_eq (string_bytes c.first-item.result) (codes "serve"))
+      (has_shape (map string_bytes rest)) bad)
 ]

@@ -15,7 +15,9 @@ pub returns-in-Ok : goal.returns-in-Ok
 returns-in-Ok c =
     let cursor = to_z-of_z w32 c.in_ok-cursor.cursor (search rules) in
     let anchor = to_z-of_z w32 c.in_ok-anchor.anchor (search rules) in
-    let Is : ℤ → ℤ → Type 0 = λ x y. line_of_words Acts (codes "surround" ∷ slice_split (λ b. b == 32) c.args.rest.now) ≡ Some (lines.Act (acts.Surround c.in_ok-field.field c.in-Ok.text x y)) in
+    let Is : ℤ → ℤ → Type 0 = λ x y. line_of_words Acts
+    (codes "surround" ∷ slice_split (λ b. b == 32) c.args.rest.now) ≡
+    Some (lines.Act (acts.Surround c.in_ok-field.field c.in-Ok.text x y)) in
     let read = around_read c.args.rest.now c.in_ok-digits.behind.now c.in_ok-word.offsets.now c.in_ok-digits.digits.now
     c.in_ok-word.word.now c.in_ok-first.first.now c.in_ok-first.second.now c.in_ok-field.field c.in-Ok.text
     c.in_ok-cursor.cursor c.in_ok-anchor.anchor c.in_ok-digits.ensures.cut c.in_ok-word.ensures.cut

@@ -18,7 +18,8 @@ returns c =
       added = on_ok_weaker c.add_numbers.result
           (λ (added : string_bytes c.add_numbers.new.line
           ≡ string_bytes c.add_word.new.line ++ spaced (c.as_str.result.now ∷ offsets)).
-          spaced_first (codes "surrounding_text") words (string_bytes c.args.line.now) _ _ c.in_ok-add_word.ensures.added (rw word at added))
+          spaced_first (codes "surrounding_text") words
+          (string_bytes c.args.line.now) _ _ c.in_ok-add_word.ensures.added (rw word at added))
           c.add_numbers.ensures.added;
       clean = c.add_numbers.ensures.clean;
     }

@@ -23,13 +23,15 @@ returns c =
     let word : c.as_str.result.now ≡ hex_word (text_of c.args.fault) =
     c.as_str.ensures.value ∙ c.in_ok-text.ensures ∙ ap encode_lower (c.as_bytes.ensures.value ∙ c.text.ensures.text)
     ∙ fault_word c.args.fault in
-    let first : string_bytes c.add_numbers.new.line ≡ line ++ spaced (codes "error" ∷ decimal c.args.object ∷ decimal (code_of c.args.fault) ∷ []) =
+    let first : string_bytes c.add_numbers.new.line ≡ line ++
+    spaced (codes "error" ∷ decimal c.args.object ∷ decimal (code_of c.args.fault) ∷ []) =
     rw c.code.ensures.code at c.in_ok-add_numbers.ensures.added in
     record {
       added = on_ok_weaker c.add_word.result
           (λ (added : string_bytes c.add_word.new.line
           ≡ string_bytes c.add_numbers.new.line ++ 32 ∷ c.as_str.result.now).
-          spaced_last (codes "error" ∷ decimal c.args.object ∷ decimal (code_of c.args.fault) ∷ []) (hex_word (text_of c.args.fault)) line _ _ first (rw word at added))
+          spaced_last (codes "error" ∷ decimal c.args.object ∷ decimal (code_of c.args.fault) ∷ [])
+          (hex_word (text_of c.args.fault)) line _ _ first (rw word at added))
           c.add_word.ensures.added;
       clean = c.add_word.ensures.clean;
     }

@@ -24,7 +24,8 @@ returns c =
       added = on_ok_weaker c.add_word-2.result
           (λ (added : string_bytes c.add_word-2.new.line
           ≡ string_bytes c.add_word.new.line ++ 32 ∷ c.format.result.now).
-          spaced_last (codes "global" ∷ decimal c.args.name ∷ name_of c.args.interface ∷ []) (decimal c.args.version) line _ _ first (rw version at added))
+          spaced_last (codes "global" ∷ decimal c.args.name ∷ name_of c.args.interface ∷ [])
+          (decimal c.args.version) line _ _ first (rw version at added))
           c.add_word-2.ensures.added;
       clean = c.add_word-2.ensures.clean;
     }

@@ -34,7 +34,8 @@ returns c =
       added = on_ok_weaker c.add_word-2.result
           (λ (added : string_bytes c.add_word-2.new.line
           ≡ string_bytes c.add_word.new.line ++ 32 ∷ c.format-2.result.now).
-          spaced_last (codes "placed" ∷ decimal c.args.popup ∷ signed_decimal c.args.x ∷ []) (signed_decimal c.args.y) line _ _ first (rw y at added))
+          spaced_last (codes "placed" ∷ decimal c.args.popup ∷ signed_decimal c.args.x ∷ [])
+          (signed_decimal c.args.y) line _ _ first (rw y at added))
           c.add_word-2.ensures.added;
       clean = c.add_word-2.ensures.clean;
     }

@@ -21,7 +21,9 @@ pub returns-in-Repeat-clause-added : goal.returns-in-Repeat-clause-added
 returns-in-Repeat-clause-added c =
     let rate = to_z-of_z w32 c.in-Repeat.repeat.rate (search rules) in
     let delay = to_z-of_z w32 c.in-Repeat.repeat.delay (search rules) in
-    let Added : ℤ → ℤ → Type 0 = λ r d. OnOk c.add_signed-in-Repeat.result (string_bytes c.add_signed-in-Repeat.new.line ≡ string_bytes c.args.line.now ++ spaced (codes "repeat_info" ∷ signed_decimal r ∷ signed_decimal d ∷ [])) in
+    let Added : ℤ → ℤ → Type 0 = λ r d. OnOk c.add_signed-in-Repeat.result
+    (string_bytes c.add_signed-in-Repeat.new.line ≡ string_bytes c.args.line.now ++
+    spaced (codes "repeat_info" ∷ signed_decimal r ∷ signed_decimal d ∷ [])) in
     let first = subst
     (λ r. Added r (to_z w32 (of_z w32 c.in-Repeat.repeat.delay))) rate c.add_signed-in-Repeat.ensures.added in
     rw c.in-Repeat.is (subst (λ d. Added c.in-Repeat.repeat.rate d) delay first)

@@ -32,6 +32,8 @@ returns-clause-value c =
     (rw x at c.in_ok-add_word.ensures.added) in
     on_ok_weaker c.add_word-2.result
     (λ (added : string_bytes c.add_word-2.new.line ≡ string_bytes c.add_word.new.line ++ 32 ∷ c.format-2.result.now).
-    line_joined (decimal c.args.number) [] (codes "placed" ∷ decimal c.args.peer ∷ decimal c.args.id ∷ signed_decimal c.args.x ∷ signed_decimal c.args.y ∷ []) _ _ c.in_ok-begin.ensures.value
-    (spaced_last (codes "placed" ∷ decimal c.args.peer ∷ decimal c.args.id ∷ signed_decimal c.args.x ∷ []) (signed_decimal c.args.y) line _ _ first (rw y at added)))
+    line_joined (decimal c.args.number) [] (codes "placed" ∷ decimal c.args.peer ∷ decimal c.args.id ∷
+    signed_decimal c.args.x ∷ signed_decimal c.args.y ∷ []) _ _ c.in_ok-begin.ensures.value
+    (spaced_last (codes "placed" ∷ decimal c.args.peer ∷ decimal c.args.id ∷ signed_decimal c.args.x ∷ [])
+    (signed_decimal c.args.y) line _ _ first (rw y at added)))
     c.add_word-2.ensures.added

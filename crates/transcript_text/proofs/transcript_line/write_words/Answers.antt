@@ -24,7 +24,8 @@ returns-clause-value c =
     let words = codes "out" ∷ decimal c.args.peer ∷ hex_word c.args.group.now ∷ [] in
     let word : c.as_str.result.now ≡ hex_word c.args.group.now = c.as_str.ensures.value ∙ c.in_ok-hex.ensures.value in
     let front : string_bytes c.add_word.new.line ≡ string_bytes c.begin.new.line ++ spaced words =
-    spaced_last (codes "out" ∷ decimal c.args.peer ∷ []) (hex_word c.args.group.now) (string_bytes c.begin.new.line) _ _ c.in_ok-add_numbers.ensures.added
+    spaced_last (codes "out" ∷ decimal c.args.peer ∷ []) (hex_word c.args.group.now)
+    (string_bytes c.begin.new.line) _ _ c.in_ok-add_numbers.ensures.added
     (rw word at c.in_ok-add_word.ensures.added) in
     let all = take_all c.loop-offset.offset-index c.args.tokens.now c.loop-offset-test.false in
     let rest : string_bytes c.loop-offset.line

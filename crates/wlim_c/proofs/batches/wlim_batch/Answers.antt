@@ -14,7 +14,8 @@ returns c =
     let same : c.seat.result.now ≡ old.seat = c.seat.ensures ∙ ap (λ (s : Numbered). s.seat) c.deref.ensures in
     let said : word ≡ fate_code c.batch-fate.result =
     to_z-of_z w64 c.fate_code.result (record { sfits = c.fate_code.type_inv }) ∙ c.fate_code.ensures in
-    subst (λ before. IsBatch before c.put.new.w.held.seat c.args.method c.args.serial c.args.batch.now c.batch_of.result word)
+    subst (λ before. IsBatch before c.put.new.w.held.seat c.args.method c.args.serial c.args.batch.now
+    c.batch_of.result word)
     c.in-Some.ensures.value
     (subst (λ after. IsBatch (Some old) after c.args.method c.args.serial c.args.batch.now c.batch_of.result word)
     (sym c.put.ensures) (

@@ -23,4 +23,5 @@ returns c =
     subst (λ (s : Numbered). Gives s.numbers new.numbers c.args.label 0) c.deref_mut.ensures.value
     c.end-answer.ensures.numbers in
     subst (λ before. Ended c.args.label before c.put.new.w.held.seat word) c.in-Some.ensures.value
-    (subst (λ after. Ended c.args.label (Some seat) after word) (sym c.put.ensures) (answer, said, took, counts, numbers))
+    (subst (λ after. Ended c.args.label (Some seat) after word) (sym c.put.ensures)
+    (answer, said, took, counts, numbers))

@@ -24,7 +24,8 @@ counted_in alive causes n cause number at =
     omega arith
 
 -- others than one that is put behind
-others : (left later : List Left) (n : ℕ) (store : Queue) → later ≡ left ++ (record { number = n; store = store }) ∷ [] →
+others : (left later : List Left) (n : ℕ) (store : Queue) → later ≡ left ++
+    (record { number = n; store = store }) ∷ [] →
     (r : ℕ) → (r ≡ n → ⊥) → store_at r later ≡ store_at r left
 others left later n store put r d =
     ap (store_at r) put ∙ found_behind r left (record { number = n; store = store }) (λ f. d (sym f))
@@ -45,7 +46,8 @@ overflow_sub-self c =
     alive_in c.self.inside.causes.items c.self.inside.left.items c.args.number c.args.self.now c.requires.number
     (ap (λ (e : Ends). e.items) c.self.view_is) c.requires.alive in
     let counted : 1 ≤ c.self.inside.alive =
-    counted_in c.self.inside.alive c.self.inside.causes.items c.args.number c.args.cause c.self.invariant.number alive in
+    counted_in c.self.inside.alive c.self.inside.causes.items c.args.number c.args.cause
+    c.self.invariant.number alive in
     counted
 
 pub push_reserved-requires : goal.push_reserved-requires
@@ -54,7 +56,8 @@ push_reserved-requires c =
     alive_in c.self.inside.causes.items c.self.inside.left.items c.args.number c.args.self.now c.requires.number
     (ap (λ (e : Ends). e.items) c.self.view_is) c.requires.alive in
     let counted : 1 ≤ c.self.inside.alive =
-    counted_in c.self.inside.alive c.self.inside.causes.items c.args.number c.args.cause c.self.invariant.number alive in
+    counted_in c.self.inside.alive c.self.inside.causes.items c.args.number c.args.cause
+    c.self.invariant.number alive in
     omega (arith, c.self.invariant.enough)
 
 pub invariant_of-self : goal.invariant_of-self
@@ -95,7 +98,8 @@ returns-then-not-is_empty-clause-room c =
     alive_in c.self.inside.causes.items c.self.inside.left.items c.args.number c.args.self.now c.requires.number
     (ap (λ (e : Ends). e.items) c.self.view_is) c.requires.alive in
     let counted : 1 ≤ c.self.inside.alive =
-    counted_in c.self.inside.alive c.self.inside.causes.items c.args.number c.args.cause c.self.invariant.number alive in
+    counted_in c.self.inside.alive c.self.inside.causes.items c.args.number c.args.cause
+    c.self.invariant.number alive in
     let room = ap (λ (e : Ends). e.room) c.self.view_is in
     omega (arith, room, c.push_reserved.ensures.len, c.push_reserved.ensures.capacity)
 

@@ -76,7 +76,8 @@ returns-clause-legal g c =
     subst (λ (p : PeerPass). IsTakeOut c.args.self.now.limits p (now g a) c.args.most c.of.result c.in-Took.took)
     c.pass.view_is
     (subst (λ (t : Taken). IsTakeOut c.args.self.now.limits (was g a) (now g a) c.args.most t c.in-Took.took)
-    (sym room) (take-lends c.args.self.now.limits (was g a) (now g a) c.args.most (places g a) c.in-Took.took (left g a)))
+    (sym room) (take-lends c.args.self.now.limits (was g a) (now g a) c.args.most (places g a) c.in-Took.took
+    (left g a)))
 
 pub returns-clause-few : goal.returns-clause-few
 returns-clause-few g c =

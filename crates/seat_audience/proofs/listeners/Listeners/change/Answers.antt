@@ -15,7 +15,8 @@ use Rattle.seat_audience.proofs.UnmarkedAreQuiet.{listening_changed, not_here, o
 use Rattle.seat_audience.proofs.listeners.Listeners.change.Goals as goal
 
 pub at_mut-peer-requires : goal.at_mut-peer-requires
-at_mut-peer-requires c = record { place = subst (λ (v : Peers). c.args.place < length v.items) (sym c.self.view_is) c.requires.place }
+at_mut-peer-requires c =
+    record { place = subst (λ (v : Peers). c.args.place < length v.items) (sym c.self.view_is) c.requires.place }
 
 pub change-requires : goal.change-requires
 change-requires c =

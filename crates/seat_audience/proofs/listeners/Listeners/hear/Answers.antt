@@ -15,11 +15,15 @@ pub place_with-requires : goal.place_with-requires
 place_with-requires c = record { rising = c.self.invariant.3.labels_rise }
 
 pub at_mut-requires : goal.at_mut-requires
-at_mut-requires c = record { place = (label_at c.self.inside.peers c.args.to.now.peer c.in-Some.place c.self.invariant.3 c.in-Some.ensures.found).within }
+at_mut-requires c = record {
+  place = (label_at c.self.inside.peers c.args.to.now.peer c.in-Some.place c.self.invariant.3
+      c.in-Some.ensures.found).within;
+}
 
 written : (c : goal.After-mark) →
     set c.self.inside.peers.items c.in-Some.place (record c.at_mut.result.now { gathering = c.put_measured.new.self })
-    ≡ changed_at c.in-Some.place (hears_message c.args.to.now (event_message c.args.event.now)) c.self.inside.peers.items
+    ≡ changed_at c.in-Some.place (hears_message c.args.to.now (event_message c.args.event.now))
+    c.self.inside.peers.items
 written c =
     let live = c.self.inside.peers.items in
     let peer : Live = c.at_mut.result.now in

@@ -9,7 +9,8 @@ use Rattle.seat_audience.proofs.UnmarkedAreQuiet.{listening_changed}
 use Rattle.seat_audience.proofs.listeners.Listeners.take.Goals as goal
 
 pub at_mut-requires : goal.at_mut-requires
-at_mut-requires c = record { place = subst (λ (v : Peers). c.args.place < length v.items) (sym c.self.view_is) c.requires.place }
+at_mut-requires c =
+    record { place = subst (λ (v : Peers). c.args.place < length v.items) (sym c.self.view_is) c.requires.place }
 
 written : (c : goal.After-slice_known-4-1) →
     set c.self.inside.peers.items c.args.place (record c.at_mut.result.now { store = c.take.new.self })

@@ -8,7 +8,8 @@ use Rattle.seat_audience.proofs.UnmarkedAreQuiet.{listening_changed}
 use Rattle.seat_audience.proofs.listeners.Listeners.wait.Goals as goal
 
 pub at_mut-requires : goal.at_mut-requires
-at_mut-requires c = record { place = subst (λ (v : Peers). c.args.place < length v.items) (sym c.self.view_is) c.requires.place }
+at_mut-requires c =
+    record { place = subst (λ (v : Peers). c.args.place < length v.items) (sym c.self.view_is) c.requires.place }
 
 pub invariant_of-self : goal.invariant_of-self
 invariant_of-self c =

@@ -26,7 +26,8 @@ returns-in-Ok-clause-found c =
     subst (λ (v : Roster). IsAt (λ n. n) c.args.number v.numbers c.in-Ok.place) c.self.view_is
     (at_mapped (λ (p : Place). p.number) c.self.inside.places.items c.args.number c.in-Ok.place nowhere
     (rw c.deref-2.ensures.value at
-    ((searched (λ p. p.number) c.deref-2.result.now (rw c.deref-2.ensures.value (rising c.args.self.now c.self.inside.places.items
+    ((searched (λ p. p.number) c.deref-2.result.now
+    (rw c.deref-2.ensures.value (rising c.args.self.now c.self.inside.places.items
     (ap (λ (v : Roster). v.numbers) c.self.view_is) c.requires.rising)) c.args.number
     (Ok c.in-Ok.place) facts.bound
     (facts.position (λ p. p.number) (answers_always _ _ _ (λ f a r g called. search rules)))).found)))
@@ -37,7 +38,8 @@ returns-in-Err-clause-none c =
     subst (λ (v : Roster). HasNone (λ n. n) c.args.number v.numbers) c.self.view_is
     (none_mapped (λ (p : Place). p.number) c.self.inside.places.items c.args.number nowhere
     (rw c.deref-2.ensures.value at
-    ((searched (λ p. p.number) c.deref-2.result.now (rw c.deref-2.ensures.value (rising c.args.self.now c.self.inside.places.items
+    ((searched (λ p. p.number) c.deref-2.result.now
+    (rw c.deref-2.ensures.value (rising c.args.self.now c.self.inside.places.items
     (ap (λ (v : Roster). v.numbers) c.self.view_is) c.requires.rising)) c.args.number
     (Err c.in-Err.field-0) facts.bound
     (facts.position (λ p. p.number) (answers_always _ _ _ (λ f a r g called. search rules)))).absent)))

@@ -20,7 +20,8 @@ returns-in-Ok-clause-found c =
     subst (λ (v : Roster). IsAt (λ n. n) c.args.label v.labels c.in-Ok.place) c.self.view_is
     (at_mapped (λ (p : Place). p.label) c.self.inside.places.items c.args.label c.in-Ok.place nowhere
     (rw c.deref.ensures.value at
-    ((searched (λ p. p.label) c.deref.result.now (rw c.deref.ensures.value (rising c.args.self.now c.self.inside.places.items
+    ((searched (λ p. p.label) c.deref.result.now
+    (rw c.deref.ensures.value (rising c.args.self.now c.self.inside.places.items
     (ap (λ (v : Roster). v.labels) c.self.view_is) c.requires.rising)) c.args.label
     (Ok c.in-Ok.place) facts.bound
     (facts.position (λ p. p.label) (answers_always _ _ _ (λ f a r g called. search rules)))).found)))
@@ -31,7 +32,8 @@ returns-in-Err-clause-none c =
     subst (λ (v : Roster). HasNone (λ n. n) c.args.label v.labels) c.self.view_is
     (none_mapped (λ (p : Place). p.label) c.self.inside.places.items c.args.label nowhere
     (rw c.deref.ensures.value at
-    ((searched (λ p. p.label) c.deref.result.now (rw c.deref.ensures.value (rising c.args.self.now c.self.inside.places.items
+    ((searched (λ p. p.label) c.deref.result.now
+    (rw c.deref.ensures.value (rising c.args.self.now c.self.inside.places.items
     (ap (λ (v : Roster). v.labels) c.self.view_is) c.requires.rising)) c.args.label
     (Err c.in-Err.field-0) facts.bound
     (facts.position (λ p. p.label) (answers_always _ _ _ (λ f a r g called. search rules)))).absent)))
