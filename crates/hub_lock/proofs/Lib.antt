@@ -1,7 +1,6 @@
 pub mod HistoriesGrow
 pub mod ReadersStay
 pub mod KeptAfterStep
-pub mod BellsRung
 pub mod CallsAnswered
 pub mod StepsFind
 pub mod NothingWatched

@@ -24,7 +24,7 @@ use Rattle.broker_core.specs.Watched.Watched.{Put}
 use Rattle.hub_lock.specs.declared.step.OuterStep.{OuterStep}
 use Rattle.hub_lock.specs.Histories.{History, broker_of}
 use Rattle.hub_lock.specs.Lawful.{IsLawful}
-use Rattle.hub_lock.specs.Bells.{bell, IsFor, AreRung}
+use Rattle.peer_bells.specs.Bells.{bell, IsFor, AreRung}
 use Rattle.hub_lock.specs.BellLaw.{TakersAreRung}
 use Rattle.hub_lock.proofs.OldestStay.{before-lawful}
 

@@ -8,7 +8,7 @@ use Rattle.turn_lock.specs.Pairs.{IsGrown}
 use Rattle.hub_lock.specs.declared.call.Call.{Call}
 use Rattle.hub_lock.specs.declared.call.Reply.{Reply}
 use Rattle.hub_lock.specs.Histories.{History, broker_of}
-use Rattle.hub_lock.specs.Bells.{bell}
+use Rattle.peer_bells.specs.Bells.{bell}
 use Rattle.hub_lock.specs.Plays.{Plays}
 
 -- where the answer to a take for the peer q turns from `Empty` into another, the call by which it

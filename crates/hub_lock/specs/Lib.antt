@@ -3,7 +3,6 @@ pub mod Steps
 pub mod Asked
 pub mod Rooms
 pub mod Lawful
-pub mod Bells
 pub mod Plays
 pub mod BellLaw
 pub mod Passes

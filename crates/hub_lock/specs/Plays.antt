@@ -32,7 +32,7 @@ use Rattle.hub_lock.specs.declared.call.Call.{Call}
 use Rattle.hub_lock.specs.declared.call.Reply.{Reply}
 use Rattle.hub_lock.specs.Histories.{History, broker_of, reader_of, writer_of, only, joining}
 use Rattle.hub_lock.specs.Lawful.{IsLawful}
-use Rattle.hub_lock.specs.Bells.{AreRung}
+use Rattle.peer_bells.specs.Bells.{AreRung}
 
 -- the history is longer by this step of the pass with the number n
 abbrev pub IsLonger : ℕ → OuterStep → History → History → Type 0

@@ -10,10 +10,10 @@ ghost use Rattle.hub_lock.specs.Events.{pass_seat};
 ghost use Rattle.hub_lock.specs.Noted.{IsOfRoot, Hands, PlaysEvents};
 ghost use Rattle.hub_lock.specs.Calls.{LegalAsk};
 
-use crate::bell::{Bells, RecordBell};
 use crate::call::{Answer, Call, Reply};
 use crate::noted_state::NotedState;
 use crate::pass::{HubPass, Member};
+use peer_bells::{Bells, RecordBell};
 use seat_steps::Limits;
 use std::alloc::Global;
 use std::marker::Model;

@@ -3,7 +3,6 @@
 //! stands behind the lock is the shared state that this history makes.
 #![tactic(auto)]
 
-mod bell;
 mod call;
 mod calls;
 mod crossing;
@@ -15,7 +14,6 @@ mod laws;
 mod noted_state;
 mod pass;
 mod recorder;
-mod rings;
 mod room;
 mod root_calls;
 mod session;

@@ -9,7 +9,7 @@ ghost use Rattle.hub_lock.specs.Histories.{stamp_by, broker_of, reader_of, write
 ghost use Rattle.hub_lock.specs.Asked.{joins_as_root};
 ghost use Rattle.hub_lock.specs.Steps.{IsGiven, Finds};
 ghost use Rattle.hub_lock.specs.Lawful.{IsShared, IsLawful, history_of};
-ghost use Rattle.hub_lock.specs.Bells.{IsRungBy};
+ghost use Rattle.peer_bells.specs.Bells.{IsRungBy};
 ghost use Rattle.hub_lock.specs.Plays.{IsOwn, MayAsk, Joins, Applies, Takes, Answers, Plays};
 ghost use Rattle.hub_lock.specs.Plays.{IsSessionOf, took_without_memory};
 ghost use Rattle.hub_lock.specs.Events.{notes_in};
@@ -18,11 +18,11 @@ ghost use Rattle.hub_lock.specs.declared.call.Ask.TheVariants as asks;
 ghost use Rattle.hub_lock.specs.declared.call.Answer.TheVariants as answers;
 
 use crate::call::{Answer, Ask, Call, Reply, Taking};
-use crate::rings::Rings;
 use crate::room::Places;
 use crate::session::{NoSession, Session};
 use broker_core::{Applied, JoinRefusal, LetGo, Refused, Shared, Standing, Took};
 use broker_model::Entry;
+use peer_bells::Rings;
 use relay_model::Role;
 use seat_steps::{Limits, Stamp, Step};
 use std::alloc::Global;

@@ -4,7 +4,7 @@ use Rattle.std.specs.Int.{bit_at}
 use Rattle.broker_model.specs.declared.journal.Entry.TheVariants.{End}
 use Rattle.broker_core.specs.Watched.{Watched}
 use Rattle.broker_core.specs.Watched.Watched.{Entered, Put}
-use Rattle.hub_lock.specs.declared.rings.Rings.{Rings}
+use Rattle.peer_bells.specs.declared.rings.Rings.{Rings}
 
 -- the bell of the peer q
 abbrev pub bell : ℕ → ℕ

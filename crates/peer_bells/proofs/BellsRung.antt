@@ -4,8 +4,8 @@ use Rattle.std.specs.Int.{bit_at}
 use Rattle.std.proofs.lemmas.Nat.Bits.{bit_at-zero}
 use Rattle.seat_objects.specs.Reached.{Reached}
 use Rattle.broker_core.specs.Watched.{Watched}
-use Rattle.hub_lock.specs.declared.rings.Rings.{Rings}
-use Rattle.hub_lock.specs.Bells.{bell_of, IsFor, AreRung, IsRungBy}
+use Rattle.peer_bells.specs.declared.rings.Rings.{Rings}
+use Rattle.peer_bells.specs.Bells.{bell_of, IsFor, AreRung, IsRungBy}
 
 reached : (before : Rings) (ws : List Watched) (after : Rings) → Reached IsRungBy before ws after
     → (k : ℕ) → k < 64 → (bit_at after.bits k ≡ 1) ↔ (IsFor k ws ⊎ (bit_at before.bits k ≡ 1))

@@ -1,7 +1,7 @@
 //! The bells that a step rings.
 ghost use Rattle.std.specs.Prelude.{◌≡◌, ◌≢◌, ℕ};
 ghost use Rattle.std.specs.Int.{bit_at};
-ghost use Rattle.hub_lock.specs.Bells.{bell};
+ghost use Rattle.peer_bells.specs.Bells.{bell};
 
 use broker_core::Watch;
 use broker_model::Entry;
@@ -9,11 +9,13 @@ use relay_core::Relay;
 use relay_model::{Act, Mods};
 
 /// How many bells there are. Peers share a bell whose numbers are the same modulo this.
-pub(crate) const BELLS: u32 = 64;
+pub const BELLS: u32 = 64;
 
-/// A bit for each bell that rings.
+/// A bit for each bell that rings. It watches a step: the bells of the peers for which something is
+/// put, or which end, ring, and no others.
 #[derive(Drop)]
-pub(crate) struct Rings {
+pub struct Rings {
+    /// The bit with the number of a bell is set where it rings.
     pub bits: u64,
 }
 
@@ -35,7 +37,7 @@ impl Rings {
 }
 
 impl Watch for Rings {
-    ghost use Rattle.hub_lock.specs.Bells.{IsRungBy};
+    ghost use Rattle.peer_bells.specs.Bells.{IsRungBy};
 
     ghost may_follow = { IsRungBy };
 
