@@ -250,7 +250,7 @@ abbrev pub IsKnownStep : Entry → Type 0
 IsKnownStep e = is_step_of 1 e ≡ true → IsRequest e
 
 -- the same head, and the same tail
-head_is : (x y : Entry) (xs ys : List Entry) → x ∷ xs ≡ y ∷ ys → x ≡ y
+pub head_is : (x y : Entry) (xs ys : List Entry) → x ∷ xs ≡ y ∷ ys → x ≡ y
 head_is x y xs ys q = cc
 
 tail_is : (x y : Entry) (xs ys : List Entry) → x ∷ xs ≡ y ∷ ys → xs ≡ ys

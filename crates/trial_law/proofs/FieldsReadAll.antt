@@ -81,13 +81,13 @@ known_kind (suc (suc (suc (suc (suc (suc (suc zero))))))) i e = is_kind i interf
 known_kind (suc (suc (suc (suc (suc (suc (suc (suc n)))))))) i e = cc
 
 -- the message has no token, and is an event
-abbrev IsPlain : Message → Type 0
+abbrev pub IsPlain : Message → Type 0
 IsPlain x = AreTokens [] x.values × SpellsOne (event_of x)
 
-not_asked : {A : Type 0} → false ≡ true → A
+pub not_asked : {A : Type 0} → false ≡ true → A
 not_asked e = cc
 
-plain_event : (made : List Made) (event : Said) → IsAsked false event → IfSome (message_of made event) IsPlain
+pub plain_event : (made : List Made) (event : Said) → IsAsked false event → IfSome (message_of made event) IsPlain
 plain_event made (said.Enter surface) a = ((tt, tt), tt)
 plain_event made (said.Leave surface) a = ((tt, tt), tt)
 plain_event made (said.Preedit t begin end) a = ((tt, (tt, (tt, tt))), tt)
@@ -164,7 +164,7 @@ pub in_older : (new made : List Made) (m : Made) → IsIn made m → IsIn (new +
 in_older [] made m i = i
 in_older (x ∷ new) made m i = inr (in_older new made m i)
 
-own_before : (new made : List Made) (p n : ℕ) → AreOwn (new ++ made) p n → AreOwn made p n
+pub own_before : (new made : List Made) (p n : ℕ) → AreOwn (new ++ made) p n → AreOwn made p n
 own_before new made p n own = record {
   within = λ m i s. own.within m (in_older new made m i) s;
   known = λ m i s. own.known m (in_older new made m i) s;

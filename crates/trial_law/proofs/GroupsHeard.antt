@@ -240,7 +240,7 @@ event_at m e h = by (object_in field_objects (id_of m)) refl h
     by None o k = cc
     by (Some i) o k = read i (event_reading i (opcode_of m) [] (body_of m)) o refl k
 
-input_id : (id : ℕ) (i : Interface) → i ≡ interface.TextInput → object_in field_objects id ≡ Some i → id ≡ 7
+pub input_id : (id : ℕ) (i : Interface) → i ≡ interface.TextInput → object_in field_objects id ≡ Some i → id ≡ 7
 input_id zero i s e = cc
 input_id (suc zero) i s e = cc
 input_id (suc (suc zero)) i s e = cc
@@ -323,7 +323,7 @@ opcode_small made (said.VMods mods) = tt
 opcode_small made (said.Placed popup x y) = tt
 opcode_small made _ = omega arith
 
-where_some : {A : Type 0} (P : A → Type 0) (o : Option A) (x : A) → o ≡ Some x → IfSome o P → P x
+pub where_some : {A : Type 0} (P : A → Type 0) (o : Option A) (x : A) → o ≡ Some x → IfSome o P → P x
 where_some P o x e h = subst (λ (u : Option _). IfSome u P) e h
 
 -- the header and the body of such a message

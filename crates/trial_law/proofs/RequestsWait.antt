@@ -69,7 +69,7 @@ are_short : (ss : List Sent) → AreToInput ss → AreShortSent ss
 are_short [] h = tt
 are_short (s ∷ more) h = (h.0.short, are_short more h.1)
 
-inputs-append : (a b : List Sent) → AreToInput a → AreToInput b → AreToInput (a ++ b)
+pub inputs-append : (a b : List Sent) → AreToInput a → AreToInput b → AreToInput (a ++ b)
 inputs-append [] b h k = k
 inputs-append (s ∷ a) b h k = (h.0, inputs-append a b h.1 k)
 
@@ -152,11 +152,11 @@ enable_to t = (
   ),
 )
 
-where_sent : (b : Bool) (ss : List Sent) → AreToInput ss → AreToInput (if b then ss else [])
+pub where_sent : (b : Bool) (ss : List Sent) → AreToInput ss → AreToInput (if b then ss else [])
 where_sent true ss h = h
 where_sent false ss h = tt
 
-for_to : (h : Happening) (f : Field) → AreToInput (sent_for h f)
+pub for_to : (h : Happening) (f : Field) → AreToInput (sent_for h f)
 for_to (edited edit) f = where_sent _ (change_sent 1 _) (change_to 1 _)
 for_to (batch edits serial) f = where_sent _ (change_sent 0 _) (change_to 0 _)
 for_to entered f = enable_to f.text

@@ -50,7 +50,7 @@ record IsMaking (n : ℕ) (s : Sent) : Type 0 where
   fit : AreOfKinds kinds s.message.values
   plain : (tokens : List ℕ) → AreTokens tokens s.message.values
 
-more_ids : (made : List Made) (p n k : ℕ) → n ≤ k → AreOwn made p n → AreOwn made p k
+pub more_ids : (made : List Made) (p n k : ℕ) → n ≤ k → AreOwn made p n → AreOwn made p k
 more_ids made p n k l own = record {
   within = λ m i e. (let w = own.within m i e in omega arith);
   known = own.known;
@@ -67,7 +67,7 @@ reads_back n s tokens h =
     (values_complete tokens h.kinds s.message.values (spelling s.message.values)
     (spelled_once h.kinds s.message.values h.fit (let size = h.short.size in omega arith)) (h.plain tokens))
 
-request_makes : (past : Past) (k n : ℕ) (peer : Joined) (x : ℕ) (s : Sent) (o : Option Fault) → IsMaking n s →
+pub request_makes : (past : Past) (k n : ℕ) (peer : Joined) (x : ℕ) (s : Sent) (o : Option Fault) → IsMaking n s →
     AreOwn past.made peer.label n → AreOwn ((of_request past k peer x s.message o).made ++ past.made) peer.label (n + 1)
 request_makes past k n peer x s (Some f) h own = more_ids past.made peer.label n (n + 1) (omega arith) own
 request_makes past k n peer x s None h own =
@@ -76,7 +76,7 @@ request_makes past k n peer x s None h own =
     past.made peer.label n refl
     h.there own)
 
-message_makes : (past : Past) (k n : ℕ) (peer : Joined) (s : Sent) (o : Option Made) → IsMaking n s →
+pub message_makes : (past : Past) (k n : ℕ) (peer : Joined) (s : Sent) (o : Option Made) → IsMaking n s →
     AreOwn past.made peer.label n → object_at past peer.label s.object ≡ o →
     AreOwn ((of_message past k peer s.message.opcode (spelling s.message.values) o).made ++ past.made)
     peer.label (n + 1)

@@ -47,7 +47,7 @@ use Rattle.trial_law.proofs.BytesKept.{messages_are_bytes}
 use Rattle.trial_law.proofs.BatchesSaid.{relayed_are}
 
 -- what is relayed by a journal of bytes are batches
-journal_relays : (journal : List Entry) (f : ℕ) → AreBytes journal → AreShortBodies journal →
+pub journal_relays : (journal : List Entry) (f : ℕ) → AreBytes journal → AreShortBodies journal →
     groups_told (relayed (idle.history (resolve journal)) f) ≡ batches_of journal f
 journal_relays journal f bytes short =
     relayed_are (idle.history (resolve journal)) f (says_history false (resolve journal) (bytes_say journal bytes))
@@ -100,7 +100,7 @@ fields_read_all limits script t k field few e is texts = by (script.fields == 0)
         (put_read limits.store journal fol.peer.label owns short bytes) heard
 
 -- the field was made by its peer
-field_made : (journal : List Entry) (p f : ℕ) → IsInput journal p f → IsFieldOf journal p f →
+pub field_made : (journal : List Entry) (p f : ℕ) → IsInput journal p f → IsFieldOf journal p f →
     maker_of (log_of (past_of journal)) f ≡ Some p
 field_made journal p f input h =
     let with = made_with (past_of journal).made f h.made h.is in

@@ -104,14 +104,14 @@ trial_known limits script t few some e k l =
 
 -- ---- fronts
 
-front_on : {A : Type 0} (xs ys zs : List A) → IsFrontOf xs ys → IsFrontOf ys zs → IsFrontOf xs zs
+pub front_on : {A : Type 0} (xs ys zs : List A) → IsFrontOf xs ys → IsFrontOf ys zs → IsFrontOf xs zs
 front_on xs ys zs f g = record {
   rest = f.rest ++ g.rest;
   is = sym (append_assoc xs f.rest g.rest) ∙ ap (λ l. l ++ g.rest) f.is ∙ g.is;
 }
 
 -- what was queued is a front of what is relayed
-queued_front : (capacity : ℕ) (journal : List Entry) (f : ℕ) → history capacity (outer journal) ≡ journal →
+pub queued_front : (capacity : ℕ) (journal : List Entry) (f : ℕ) → history capacity (outer journal) ≡ journal →
     IsFrontOf (groups_told (queued capacity journal f)) (groups_told (relayed (idle.history (resolve journal)) f))
 queued_front capacity journal f e =
     by (subst (λ (j : List Entry). IsQueued capacity j f ⊎ IsLeftOut capacity j f)
@@ -166,8 +166,8 @@ is_input journal p f own h =
     }
 
 -- where the peer made no field, none of its ids is that of a field to come
-no_input : (journal : List Entry) (p : ℕ) → AreOwn (past_of journal).made p 7 → ((f : ℕ) → IsFieldOf journal p f → ⊥) →
-    IsInput journal p (length journal + 1)
+pub no_input : (journal : List Entry) (p : ℕ) → AreOwn (past_of journal).made p 7 →
+    ((f : ℕ) → IsFieldOf journal p f → ⊥) → IsInput journal p (length journal + 1)
 no_input journal p own none = record {
   own = own;
   mine = λ m i label. absurd (let within = (sound journal m i).within in omega arith);
@@ -177,14 +177,14 @@ no_input journal p own none = record {
 }
 
 -- and nothing is queued for that
-not_held : (log : List Act) (f : ℕ) → IsHistory log → length log < f → is_at (holder log) f ≡ false
+pub not_held : (log : List Act) (f : ℕ) → IsHistory log → length log < f → is_at (holder log) f ≡ false
 not_held log f i l = by (holder log) refl
   where
     by : (o : Option ℕ) → holder log ≡ o → is_at o f ≡ false
     by None e = refl
     by (Some h) e = ne_eqb h f (λ same. (let w = holder_within log h i e in absurd (omega arith)))
 
-queued_none : (capacity : ℕ) (journal : List Entry) (f : ℕ) → length journal < f → queued capacity journal f ≡ []
+pub queued_none : (capacity : ℕ) (journal : List Entry) (f : ℕ) → length journal < f → queued capacity journal f ≡ []
 queued_none capacity [] f l = refl
 queued_none capacity (e ∷ older) f l =
     let log : List Act = log_of (past_of older) in
@@ -196,7 +196,7 @@ queued_none capacity (e ∷ older) f l =
     then queued capacity older f ++ group_of (act_now e older) log f ∷ [] else queued capacity older f) no
     ∙ queued_none capacity older f (omega arith)
 
-none_in_front : (xs ys : List Happening) → ys ≡ [] → IsFrontOf xs ys → xs ≡ []
+pub none_in_front : (xs ys : List Happening) → ys ≡ [] → IsFrontOf xs ys → xs ≡ []
 none_in_front [] ys e f = refl
 none_in_front (x ∷ xs) ys e f = absurd (let is = ap length (f.is ∙ e) in omega arith)
 

@@ -26,7 +26,7 @@ use Rattle.trial_run.proofs.EventsKnown.{KnowsEvents}
 -- ---- one message
 
 -- what a body spells, it reads as
-reading_is : (i : Interface) (n : ℕ) (body : List ℕ) (m : Message) → IsRead (event_kinds i n) i n [] body m →
+pub reading_is : (i : Interface) (n : ℕ) (body : List ℕ) (m : Message) → IsRead (event_kinds i n) i n [] body m →
     event_reading i n [] body ≡ Ok m
 unfolding event_reading
 reading_is i n body m r =
