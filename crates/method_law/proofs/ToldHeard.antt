@@ -75,7 +75,7 @@ heard_then (m ∷ ms) (e ∷ es) more h =
 abbrev pub IsEvent : Message → Type 0
 IsEvent x = AreTokens [] x.values × SpellsOne (event_of x)
 
-message_event : (made : List Made) (event : Said) → IsPlain event → IfSome (message_of made event) IsEvent
+pub message_event : (made : List Made) (event : Said) → IsPlain event → IfSome (message_of made event) IsEvent
 message_event made (said.Enter surface) a = ((tt, tt), tt)
 message_event made (said.Leave surface) a = ((tt, tt), tt)
 message_event made (said.Preedit t begin end) a = ((tt, (tt, (tt, tt))), tt)
