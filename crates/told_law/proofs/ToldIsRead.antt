@@ -51,7 +51,7 @@ held_bytes : (e : Entry) → IsHeld e → HasBytes e
 held_bytes (entries.Message q id opcode body) h = h.0
 held_bytes _ h = tt
 
-all_bytes : (journal : List Entry) → AreHeld journal → AreBytes journal
+pub all_bytes : (journal : List Entry) → AreHeld journal → AreBytes journal
 all_bytes journal h = each_weaker IsHeld HasBytes journal held_bytes h
 
 pub told_writable : ToldIsWritable
