@@ -1,5 +1,5 @@
 -- What contracts see of a net in memory
-use Rattle.std.specs.Prelude.{◌≡◌, ℕ, List, [], ◌∷◌, ◌++◌, Bool, true, take, Some, length}
+use Rattle.std.specs.Prelude.{◌≡◌, ℕ, List, [], ◌∷◌, ◌++◌, Bool, true, false, take, Some, length}
 use Rattle.wio_core.specs.Io.{raised}
 use Rattle.std.specs.List.{All, slice_get, remove}
 use Rattle.link_nets.specs.declared.door.Door.{Door}
@@ -58,5 +58,6 @@ pub record GivesLink (d : Door) (net net' : NetInMemory) (source : MemIn)
   pub way_out : sink.sink ≡ link.sink
   pub number_in : source.number ≡ length net'.links
   pub number_out : sink.number ≡ length net'.links
+  pub live : sink.hung_up ≡ false
   pub rest : net'
       ≡ record net { waiting = net'.waiting; links = net.links ++ d ∷ []; calls = raised net.calls }

@@ -178,7 +178,14 @@ impl Net for MemNet {
             source,
             sink,
         } = link;
-        Ok((MemIn { source, number }, MemOut { sink, number }))
+        Ok((
+            MemIn { source, number },
+            MemOut {
+                sink,
+                number,
+                hung_up: false,
+            },
+        ))
     }
 
     fn faults(&self) -> u64 {

@@ -20,6 +20,8 @@ pub struct MemOut {
     pub sink: MemSink,
     /// The link's number.
     pub number: u64,
+    /// Whether the link was hung up.
+    pub hung_up: bool,
 }
 
 impl Source for MemIn {
@@ -56,7 +58,7 @@ impl Sink for MemOut {
     ghost fault_count = { λ k. k.sink.faults };
 
     fn write(&mut self, piece: &[u8]) -> Result<usize, Failed> {
-        self.sink.write(piece)
+        self.send(piece)
     }
 
     fn faults(&self) -> u64 {
@@ -67,9 +69,18 @@ impl Sink for MemOut {
 impl LinkSink for MemOut {
     ghost number = { λ k. k.number };
 
+    ghost hung_up = { λ k. k.hung_up };
+
     fn link(&self) -> u64 {
         self.number
     }
 
-    fn hang_up(&mut self) {}
+    /// A link that was hung up takes bytes as before.
+    fn send(&mut self, piece: &[u8]) -> Result<usize, Failed> {
+        self.sink.write(piece)
+    }
+
+    fn hang_up(&mut self) {
+        self.hung_up = true;
+    }
 }

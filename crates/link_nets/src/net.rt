@@ -1,7 +1,8 @@
 //! Doors, and the links that come through them.
-ghost use Rattle.std.specs.Prelude.{◌≡◌, ◌≤◌, ◌++◌, ◌∷◌, [], ℕ, List, Option, Bool, true};
-ghost use Rattle.std.specs.Prelude.{IfOk, OnOk, OnErr, length};
-ghost use Rattle.wio_core.specs.Io.{Rose};
+ghost use Rattle.std.specs.Prelude.{◌≡◌, ◌≤◌, ◌++◌, ◌∷◌, [], ℕ, List, Option, Bool, true, false};
+ghost use Rattle.std.specs.Prelude.{◌<◌, IfOk, OnOk, OnErr, length, take};
+ghost use Rattle.std.specs.Io.KnownBytes.{Appends, Keeps};
+ghost use Rattle.wio_core.specs.Io.{Rose, StaysQuiet};
 ghost use Rattle.link_nets.specs.NewLinks.{IsNewSource, IsNewSink};
 ghost use Rattle.link_nets.specs.declared.door.Door.{Door};
 
@@ -23,13 +24,34 @@ pub trait LinkSink: Sink + Drop {
     /// The number of its link.
     ghost number: { Self → ℕ };
 
+    /// Whether it ended the link. Neither `send` nor `hang_up` takes that back.
+    ghost hung_up: { Self → Bool };
+
     /// The number of its link: a net numbers the links that it gives from 1 on, in their order.
     fn link(&self) -> u64
         ensures { result ≡ number self.now };
 
+    /// Writes as `write` does, and leaves open what is open, also where it fails.
+    fn send(&mut self, piece: &[u8]) -> Result<usize, Failed>
+        requires { 0 < length piece.now }
+        ensures some { IfOk result (λ n. 0 < n) }
+        ensures within { IfOk result (λ n. n ≤ length piece.now) }
+        ensures gained { IfOk result (λ n. Appends (Self.held self.old) (Self.held self.new)
+            (take n piece.now)) }
+        ensures stays { OnErr result (Keeps (Self.held self.old) (Self.held self.new)) }
+        ensures quiet { StaysQuiet (Self.held self.old) (Self.held self.new) }
+        ensures never_falls { Self.fault_count self.old ≤ Self.fault_count self.new }
+        ensures cause { OnErr result
+            (Rose (Self.fault_count self.old) (Self.fault_count self.new)) }
+        ensures no_fault { OnOk result
+            (Self.fault_count self.new ≡ Self.fault_count self.old) }
+        ensures link { hung_up self.new ≡ hung_up self.old }
+        ensures same { number self.new ≡ number self.old };
+
     /// Ends the link: whoever reads or writes at it, on either side, waits no longer. What it holds
     /// and its count of faults stay. Nothing says that the other side hears of it.
     fn hang_up(&mut self)
+        ensures ends { hung_up self.new ≡ true }
         ensures held { Self.held self.new ≡ Self.held self.old }
         ensures faults { Self.fault_count self.new ≡ Self.fault_count self.old }
         ensures same { number self.new ≡ number self.old };
@@ -59,7 +81,7 @@ pub trait Net {
         ensures cause { OnErr result (Rose (fault_count self.old) (fault_count self.new)) };
 
     /// Waits for a link at the door, and gives its two ways, which have the link's number. Nothing
-    /// came and went on it so far, and nothing failed.
+    /// came and went on it so far, nothing failed, and nobody hung up.
     fn accept(&mut self, door: Door) -> Result<(Self::In, Self::Out), Failed>
         requires { opened self.old door ≡ true }
         ensures stays { (d : Door) → opened self.old d ≡ true → opened self.new d ≡ true }
@@ -69,6 +91,7 @@ pub trait Net {
             IsNewSource (Self.In.given link.0) (Self.In.fault_count link.0)) }
         ensures sink { IfOk result (λ link.
             IsNewSink (Self.Out.held link.1) (Self.Out.fault_count link.1)) }
+        ensures live { IfOk result (λ link. Self.Out.hung_up link.1 ≡ false) }
         ensures number_in { IfOk result (λ link.
             Self.In.number link.0 ≡ length (links self.new)) }
         ensures number_out { IfOk result (λ link.

@@ -17,5 +17,6 @@ returns-clause-ok c = record {
   way_out = refl;
   number_in = search rules;
   number_out = search rules;
+  live = refl;
   rest = search rules;
 }
