@@ -78,7 +78,8 @@ pub trait Net {
         ensures stays { (d : Door) → opened self.old d ≡ true → opened self.new d ≡ true }
         ensures links { links self.new ≡ links self.old }
         ensures never_falls { fault_count self.old ≤ fault_count self.new }
-        ensures cause { OnErr result (Rose (fault_count self.old) (fault_count self.new)) };
+        ensures cause { OnErr result (Rose (fault_count self.old) (fault_count self.new)) }
+        ensures no_fault { OnOk result (fault_count self.new ≡ fault_count self.old) };
 
     /// Waits for a link at the door, and gives its two ways, which have the link's number. Nothing
     /// came and went on it so far, nothing failed, and nobody hung up.
@@ -97,7 +98,8 @@ pub trait Net {
         ensures number_out { IfOk result (λ link.
             Self.Out.number link.1 ≡ length (links self.new)) }
         ensures never_falls { fault_count self.old ≤ fault_count self.new }
-        ensures cause { OnErr result (Rose (fault_count self.old) (fault_count self.new)) };
+        ensures cause { OnErr result (Rose (fault_count self.old) (fault_count self.new)) }
+        ensures no_fault { OnOk result (fault_count self.new ≡ fault_count self.old) };
 
     /// How many calls failed so far, up to the greatest `u64`, where the count stands still.
     fn faults(&self) -> u64
