@@ -84,7 +84,7 @@ known_kind (suc (suc (suc (suc (suc (suc (suc (suc n)))))))) i e = cc
 abbrev pub IsPlain : Message → Type 0
 IsPlain x = AreTokens [] x.values × SpellsOne (event_of x)
 
-pub not_asked : {A : Type 0} → false ≡ true → A
+not_asked : {A : Type 0} → false ≡ true → A
 not_asked e = cc
 
 pub plain_event : (made : List Made) (event : Said) → IsAsked false event → IfSome (message_of made event) IsPlain

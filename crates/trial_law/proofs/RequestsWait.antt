@@ -152,7 +152,7 @@ enable_to t = (
   ),
 )
 
-pub where_sent : (b : Bool) (ss : List Sent) → AreToInput ss → AreToInput (if b then ss else [])
+where_sent : (b : Bool) (ss : List Sent) → AreToInput ss → AreToInput (if b then ss else [])
 where_sent true ss h = h
 where_sent false ss h = tt
 

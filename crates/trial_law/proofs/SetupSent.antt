@@ -38,17 +38,17 @@ use Rattle.trial_law.proofs.ClientIds.{AreOwn, next_made, step_made}
 use Rattle.trial_law.proofs.RequestsWait.{IsShortSent, AreShortSent, bytes_of, bytes_each}
 
 -- the request makes an object under the id n + 1, of an interface that the client knows it by
-record IsMaking (n : ℕ) (s : Sent) : Type 0 where
-  short : IsShortSent s
-  object : object_in field_objects s.object ≡ Some s.message.interface
-  interface : Interface
-  new : new_of s.message.interface s.message.opcode s.message.values
+pub record IsMaking (n : ℕ) (s : Sent) : Type 0 where
+  pub short : IsShortSent s
+  pub object : object_in field_objects s.object ≡ Some s.message.interface
+  pub interface : Interface
+  pub new : new_of s.message.interface s.message.opcode s.message.values
       ≡ Some (record { id = n + 1; interface = interface })
-  there : object_in field_objects (n + 1) ≡ Some interface
-  kinds : List Kind
-  row : request_kinds s.message.interface s.message.opcode ≡ Some kinds
-  fit : AreOfKinds kinds s.message.values
-  plain : (tokens : List ℕ) → AreTokens tokens s.message.values
+  pub there : object_in field_objects (n + 1) ≡ Some interface
+  pub kinds : List Kind
+  pub row : request_kinds s.message.interface s.message.opcode ≡ Some kinds
+  pub fit : AreOfKinds kinds s.message.values
+  pub plain : (tokens : List ℕ) → AreTokens tokens s.message.values
 
 pub more_ids : (made : List Made) (p n k : ℕ) → n ≤ k → AreOwn made p n → AreOwn made p k
 more_ids made p n k l own = record {
@@ -67,7 +67,7 @@ reads_back n s tokens h =
     (values_complete tokens h.kinds s.message.values (spelling s.message.values)
     (spelled_once h.kinds s.message.values h.fit (let size = h.short.size in omega arith)) (h.plain tokens))
 
-pub request_makes : (past : Past) (k n : ℕ) (peer : Joined) (x : ℕ) (s : Sent) (o : Option Fault) → IsMaking n s →
+request_makes : (past : Past) (k n : ℕ) (peer : Joined) (x : ℕ) (s : Sent) (o : Option Fault) → IsMaking n s →
     AreOwn past.made peer.label n → AreOwn ((of_request past k peer x s.message o).made ++ past.made) peer.label (n + 1)
 request_makes past k n peer x s (Some f) h own = more_ids past.made peer.label n (n + 1) (omega arith) own
 request_makes past k n peer x s None h own =
@@ -123,7 +123,7 @@ makes_step capacity q n s journal peer e h own =
     (subst (λ (l : List Made). AreOwn l peer.label (n + 1)) (sym (step_made capacity entry journal)) made)
 
 -- requests one after the other
-abbrev AreMaking : ℕ → List Sent → Type 0
+abbrev pub AreMaking : ℕ → List Sent → Type 0
 AreMaking n [] = Unit {0}
 AreMaking n (s ∷ more) = IsMaking n s × AreMaking (n + 1) more
 
@@ -155,7 +155,7 @@ all_make q n (s ∷ more) b peer e h own =
         more_ids _ peer.label ((n + 1) + length more) (n + length (s ∷ more)) (omega arith) k
 
 -- the set-up
-setup_makes : AreMaking 1 field_setup
+pub setup_makes : AreMaking 1 field_setup
 unfolding is_utf8 chars encode
 setup_makes = (
   record {

@@ -177,7 +177,7 @@ no_input journal p own none = record {
 }
 
 -- and nothing is queued for that
-pub not_held : (log : List Act) (f : ℕ) → IsHistory log → length log < f → is_at (holder log) f ≡ false
+not_held : (log : List Act) (f : ℕ) → IsHistory log → length log < f → is_at (holder log) f ≡ false
 not_held log f i l = by (holder log) refl
   where
     by : (o : Option ℕ) → holder log ≡ o → is_at o f ≡ false
