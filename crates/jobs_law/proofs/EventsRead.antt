@@ -1,14 +1,10 @@
 -- The events that bytes begin with are those that their messages are read as
-use Rattle.std.proofs.Common.{◌≡◌, ℕ, List, [], ◌∷◌, ◌++◌, map, Option, Some, None, Result, Ok, refl, sym, ap, ◌∙◌}
+use Rattle.std.proofs.Common.{◌≡◌, ℕ, List, [], ◌∷◌, ◌++◌, map, Option, Some, None, refl, ap, ◌∙◌}
 use Rattle.wl_wire.specs.Messages.{id_of, opcode_of, body_of, messages, AreMessages}
 use Rattle.wl_proto.specs.declared.interface.Interface.{Interface}
-use Rattle.wl_proto.specs.declared.refuse.Refuse.{Refuse}
 use Rattle.wl_proto.specs.declared.event.Event.{Event}
 use Rattle.wl_proto.specs.declared.event.Event.TheVariants as events
-use Rattle.wl_proto.specs.Rows.{Message, message, event_kinds, event_message}
-use Rattle.wl_proto.specs.Reading.{by_row, all_read, event_reading}
-use Rattle.wl_proto.specs.Spelled.{IsRead}
-use Rattle.wl_proto.proofs.ValuesReadBack.{values_complete}
+use Rattle.wl_proto.specs.Rows.{event_message}
 use Rattle.trial_field.specs.Log.{Batch}
 use Rattle.client_side.specs.Events.{object_in, field_objects, method_objects, IsEventOf, AreEvents}
 use Rattle.client_side.specs.FieldState.{logged}
@@ -21,6 +17,7 @@ use Rattle.trial_law.specs.FieldLogs.{then_events, waiting_after, happenings}
 use Rattle.trial_law.specs.FieldLogs as fields
 use Rattle.method_law.specs.TypedLogs as method
 use Rattle.typing_jobs.specs.Fronts.{BeginsWith}
+use Rattle.trial_run.proofs.PieceHeard.{reading_is}
 
 -- ---- one event
 
@@ -87,17 +84,6 @@ same_happenings (e ∷ es) w =
     ∙ ap (λ (l : List Happening). logged e w [] ++ l) (same_happenings es (waiting_after e w))
 
 -- ---- one message
-
-reading_is : (i : Interface) (n : ℕ) (body : List ℕ) (m : Message) → IsRead (event_kinds i n) i n [] body m →
-    event_reading i n [] body ≡ Ok m
-unfolding event_reading
-reading_is i n body m r =
-    let same : message i n m.values ≡ m =
-    ap (λ (j : Interface). message j n m.values) (sym r.interface-is)
-    ∙ ap (λ k. message m.interface k m.values) (sym r.opcode-is) in
-    ap (by_row i n [] body) r.row-is
-    ∙ ap (all_read i n) (values_complete [] r.row m.values body r.spelled r.tokens-are)
-    ∙ ap (λ (x : Message). let o : Result Message Refuse = Ok x in o) same
 
 pub is_read : (o : Option Interface) (m : List ℕ) (e : Event) → IsEventOf o m e → event_to o m ≡ Some (settled e)
 is_read None m e is = absurd is

@@ -27,9 +27,7 @@ use Rattle.broker_model.specs.Out.{Outgoing, out_for}
 use Rattle.broker_model.specs.Queued.{queued}
 use Rattle.broker_model.specs.Resolve.{past_of, resolve}
 use Rattle.broker_model.specs.Settle.{due, cause_of, with_end, settled as ends_appended, settle, number_alive, history, outer}
-use Rattle.broker_model.proofs.IdsAreNames.{made_with}
 use Rattle.broker_model.proofs.LabelsRiseByNumber.{one_number}
-use Rattle.broker_model.proofs.MadeObjectsStand.{sound}
 use Rattle.broker_model.proofs.QueuedForFields.{relay_law}
 use Rattle.broker_core.specs.Stands.{end_of}
 use Rattle.told_law.specs.Sayable.{HasBytes, AreBytes}
@@ -43,7 +41,7 @@ use Rattle.pass_calls.proofs.OthersTakeNothing.{entries-append}
 use Rattle.trial_run.proofs.FirstMessages.{first_is, found_first}
 use Rattle.trial_run.proofs.FrontOfBytes.{partial_none, bad_none}
 use Rattle.trial_law.specs.FieldLogs as fields
-use Rattle.trial_law.specs.RelayedBatches.{batches_in, groups_told, IsFieldOf}
+use Rattle.trial_law.specs.RelayedBatches.{batches_in, groups_told}
 use Rattle.trial_law.proofs.HeardInPieces.{waiting, happenings-append}
 use Rattle.trial_law.proofs.ClientIds.{AreOwn}
 use Rattle.trial_law.proofs.GroupsHeard.{IsStopped, Tells, spelled_on}
@@ -53,21 +51,19 @@ use Rattle.trial_law.proofs.TextsRelayed.{is_input}
 use Rattle.typing_jobs.specs.declared.field_job.FieldJob.{FieldJob}
 use Rattle.typing_jobs.specs.Fronts.{AreEventsIn}
 use Rattle.typing_jobs.specs.FieldLaw.{IsFieldDone}
+use Rattle.trial_law.proofs.TextsBatched.{field_made, journal_relays}
 use Rattle.jobs_law.specs.Passes.{HasEndIn}
 use Rattle.jobs_law.specs.FieldTold.{told_to, IsFieldTold, IsQuiet, OthersAreFields, IsAllTold}
 use Rattle.jobs_law.specs.JobLaws.{FieldsAreAllTold}
 use Rattle.jobs_law.proofs.StepsOfPeers.{steps_outer}
-use Rattle.jobs_law.proofs.JournalsHeld.{lawful_bytes, lawful_short}
+use Rattle.jobs_law.proofs.JournalsHeld.{lawful_bytes, lawful_short, HoldsOfEnds}
 use Rattle.jobs_law.proofs.EventsRead.{same_happenings, are_messages, field_begins}
 use Rattle.jobs_law.proofs.ObjectsMade.{field_own}
-use Rattle.jobs_law.proofs.FieldTold.{told_same, happened_same, relays_batches, fields_have_sent}
+use Rattle.jobs_law.proofs.FieldTold.{told_same, happened_same, fields_have_sent}
 use Rattle.jobs_law.proofs.PutHeard.{IsEventful, put_eventful, eventful_whole, eventful_spelled}
 use Rattle.jobs_law.proofs.PutSilent.{HaveNoMethod, Stays, PutElse, own_else, else_whole, silent_all, later_puts, joined_later, stays_base}
 
 -- ---- the later entries
-
-abbrev HoldsOfEnds : (Entry → Type 0) → Type 0
-HoldsOfEnds P = (q : ℕ) (cause : EndCause) → P (entries.End q cause)
 
 -- a journal with newer entries, of each of which this holds
 pub record IsNewer (P : Entry → Type 0) (base journal : List Entry) : Type 0 where
@@ -127,6 +123,10 @@ entries_each P (x ∷ h) each =
 
 -- ---- what the events were
 
+pub each_right : {A : Type 0} (P : A → Type 0) (xs ys : List A) → AllByRecursion P (xs ++ ys) → AllByRecursion P ys
+each_right P [] ys h = h
+each_right P (x ∷ xs) ys h = each_right P xs ys h.1
+
 -- the messages are what all bytes were read as, so nothing goes wrong behind the events
 nothing_left : (ms : List (List ℕ)) (events : List Event) (r : AreEventsIn field_objects (joined ms) events) →
     AllByRecursion (IsEventful field_objects) ms → fields.events_in (messages (joined ms)) ≡ map settled events
@@ -134,20 +134,16 @@ nothing_left ms events r each =
     field_begins (joined ms) events r.begins
     ∙ ap (λ (l : List Event). map settled events ++ l) (none r.left) ∙ append-nil (map settled events)
   where
-    -- the messages behind the events are among these
-    each_right : (xs ys : List (List ℕ)) → AllByRecursion (IsEventful field_objects) (xs ++ ys) → AllByRecursion (IsEventful field_objects) ys
-    each_right [] ys h = h
-    each_right (x ∷ xs) ys h = each_right xs ys h.1
-
     found : messages (joined ms) ≡ ms
     found = messages_joined ms (eventful_whole field_objects ms each)
 
     behind : AllByRecursion (IsEventful field_objects) (messages r.begins.rest)
     behind =
-        each_right r.begins.messages (messages r.begins.rest)
+        each_right (IsEventful field_objects) r.begins.messages (messages r.begins.rest)
         (subst (AllByRecursion (IsEventful field_objects))
         (sym found ∙ ap messages r.begins.front
-        ∙ found_first r.begins.messages r.begins.rest (are_messages field_objects r.begins.messages events r.begins.are)) each)
+        ∙ found_first r.begins.messages r.begins.rest
+        (are_messages field_objects r.begins.messages events r.begins.are)) each)
 
     none : IsPartial r.begins.rest ⊎ IsWrong field_objects r.begins.rest →
         fields.events_in (messages r.begins.rest) ≡ []
@@ -213,8 +209,8 @@ tells_all ms told (inr s) h = absurd (not_stopped ms s.stopped h)
 
 -- all that is put tells all that is queued
 queued_all : (capacity : ℕ) (journal : List Entry) (p f : ℕ) → IsInput journal p f → AreShortBodies journal →
-    (ms : List (List ℕ)) → (out_for capacity journal p).put.bytes ≡ joined ms → AllByRecursion (IsEventful field_objects) ms →
-    batches_in (told_to capacity journal p) ≡ groups_told (queued capacity journal f)
+    (ms : List (List ℕ)) → (out_for capacity journal p).put.bytes ≡ joined ms →
+    AllByRecursion (IsEventful field_objects) ms → batches_in (told_to capacity journal p) ≡ groups_told (queued capacity journal f)
 queued_all capacity journal p f input short ms is each =
     let told : IsTold capacity journal p f = all_told capacity journal p f input short in
     let found : messages (out_for capacity journal p).put.bytes ≡ told.messages =
@@ -252,17 +248,9 @@ ends_at (e ∷ older) q (suc k) l at = end_stays e older q (ends_at older q k (o
 has_end : (journal : List Entry) (q : ℕ) → Contains journal (entries.End q Full) → HasEndIn journal q
 has_end journal q c = ends_at journal q c.0 c.1 c.2
 
--- the field was made by its peer
-field_made : (journal : List Entry) (p f : ℕ) → IsInput journal p f → IsFieldOf journal p f →
-    maker_of (log_of (past_of journal)) f ≡ Some p
-field_made journal p f input h =
-    let with = made_with (past_of journal).made f h.made h.is in
-    let within : h.made.label ≤ length journal = (sound journal h.made with.among).within in
-    input.maker (subst (λ n. n ≤ length journal) with.named within)
-
 -- all that is relayed is queued, unless the peer ended
-relayed_all : (capacity : ℕ) (journal : List Entry) (q f : ℕ) (peer : Joined) → history capacity (outer journal) ≡ journal →
-    peer_at (past_of journal) q ≡ Some peer → maker_of (log_of (past_of journal)) f ≡ Some peer.label →
+relayed_all : (capacity : ℕ) (journal : List Entry) (q f : ℕ) (peer : Joined) →
+    history capacity (outer journal) ≡ journal → peer_at (past_of journal) q ≡ Some peer → maker_of (log_of (past_of journal)) f ≡ Some peer.label →
     (HasEndIn journal q → ⊥) →
     groups_told (queued capacity journal f) ≡ groups_told (relayed (idle.history (resolve journal)) f)
 relayed_all capacity journal q f peer steps joined made lives =
@@ -336,8 +324,9 @@ all_told_by limits h q job lawful done all others told newer grown quiet there =
       batches = λ lives f of.
           (let input : IsInput journal p f = is_input journal p f own of in
           ap batches_in is ∙ queued_all limits.store journal p f input short whole.messages whole.is whole.each
-          ∙ relayed_all limits.store journal q f peer lawful.shared.history joined (field_made journal p f input of) lives
-          ∙ relays_batches journal f bytes short);
+          ∙ relayed_all limits.store journal q f peer lawful.shared.history joined (field_made journal p f input of)
+          lives
+          ∙ journal_relays journal f bytes short);
     }
 
 pub fields_are_all_told : FieldsAreAllTold

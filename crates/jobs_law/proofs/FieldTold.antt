@@ -1,20 +1,9 @@
 -- What a field's log has of what the one journal tells the field, and its peer's steps there
-use Rattle.std.proofs.Common.{◌≡◌, ℕ, ◌+◌, ◌<◌, Bool, false, List, [], ◌∷◌, ◌++◌, length, map, take, drop, Option, Some, None, Result, Ok, Err, refl, sym, ap, subst, ◌∙◌, arith, inl, inr}
-use Rattle.std.specs.Prelude.{◌⊎◌, ◌&&◌, if◌then◌else◌}
-use Rattle.std.proofs.lemmas.List.{append-nil, append_assoc, take-append-drop}
-use Rattle.std.proofs.lemmas.Bool.{ne_eqb}
+use Rattle.std.proofs.Common.{◌≡◌, ℕ, ◌+◌, List, [], ◌∷◌, ◌++◌, length, map, take, drop, Result, Ok, Err, refl, sym, ap, subst, ◌∙◌, arith}
+use Rattle.std.proofs.lemmas.List.{append-nil, take-append-drop}
 use Rattle.seat_steps.specs.declared.limits.Limits.{Limits}
 use Rattle.wl_wire.specs.Messages.{messages}
 use Rattle.wl_proto.specs.declared.event.Event.{Event}
-use Rattle.relay_model.specs.declared.act.Act.{Act}
-use Rattle.relay_model.specs.Objects.{is_at}
-use Rattle.relay_model.specs.Hold.{holder}
-use Rattle.relay_model.specs.Activation.{fresh}
-use Rattle.relay_model.specs.Batch.{group_of, relayed}
-use Rattle.relay_model.specs.Idle as idle
-use Rattle.relay_model.proofs.ActsOrIdle.{IsHistory, history_is}
-use Rattle.relay_model.proofs.FocusLaws.{and_false}
-use Rattle.relay_model.proofs.HoldLaws.{holder_within}
 use Rattle.trial_field.specs.Log.{Batch, no_edits}
 use Rattle.client_side.specs.Events.{field_objects}
 use Rattle.client_side.specs.FieldLog.{sends_of}
@@ -24,32 +13,20 @@ use Rattle.client_side.specs.Messages.{field_setup}
 use Rattle.client_logs.specs.Logs.{field_log}
 use Rattle.client_logs.specs.MethodLogs.{settled}
 use Rattle.broker_model.specs.declared.journal.Entry.{Entry}
-use Rattle.broker_model.specs.Ids.{log_of}
-use Rattle.broker_model.specs.Law.{IsQueued, IsLeftOut}
-use Rattle.broker_model.specs.Out.{act_now, out_for}
-use Rattle.broker_model.specs.Queued.{relays, is_put, queued}
-use Rattle.broker_model.specs.Resolve.{past_of, resolve}
-use Rattle.broker_model.specs.Settle.{history, outer}
-use Rattle.broker_model.proofs.LivePeersJoined.{length_log}
-use Rattle.broker_model.proofs.MadeObjectsStand.{sound}
-use Rattle.broker_model.proofs.QueuedForFields.{relay_law}
-use Rattle.broker_core.proofs.ToldMessagesFit.{fits_history}
-use Rattle.told_law.specs.Sayable.{AreBytes}
-use Rattle.told_law.proofs.ActsCanBeSaid.{says_history}
+use Rattle.broker_model.specs.Out.{out_for}
+use Rattle.broker_model.specs.Queued.{queued}
+use Rattle.broker_model.specs.Resolve.{past_of}
 use Rattle.hub_lock.specs.Histories.{History, entries_of}
 use Rattle.hub_lock.specs.Lawful.{IsLawful}
 use Rattle.pass_calls.specs.Made.{journal_of}
 use Rattle.pass_calls.specs.Taken.{HasTaken}
 use Rattle.trial_law.specs.FieldLogs as fields
-use Rattle.trial_law.specs.RelayedBatches.{batches_in, group_told, groups_told, IsFrontOf, IsFieldOf}
-use Rattle.trial_law.specs.RelayedAsBatches.{batches_of}
+use Rattle.trial_law.specs.RelayedBatches.{batches_in, groups_told, IsFrontOf}
 use Rattle.trial_law.proofs.HeardInPieces.{waiting, happenings-append, messages_on}
 use Rattle.trial_law.proofs.ClientIds.{AreOwn}
 use Rattle.trial_law.proofs.GroupsHeard.{front_heard, batches-append, tells_front}
-use Rattle.trial_law.proofs.BatchesRelayed.{AreShortBodies, IsInput, IsTold, all_fit, messages_joined, groups-append, all_told}
-use Rattle.trial_law.proofs.TextsRelayed.{is_input}
-use Rattle.trial_law.proofs.FieldsReadAll.{bytes_say}
-use Rattle.trial_law.proofs.BatchesSaid.{relayed_are}
+use Rattle.trial_law.proofs.BatchesRelayed.{AreShortBodies, IsInput, IsTold, messages_joined, all_told}
+use Rattle.trial_law.proofs.TextsRelayed.{is_input, front_on, queued_front, no_input, queued_none, none_in_front}
 use Rattle.method_law.specs.TypedLogs.{steps_by, steps_of}
 use Rattle.typing_jobs.specs.declared.field_job.FieldJob.{FieldJob}
 use Rattle.typing_jobs.specs.declared.job_end.JobEnd.{JobEnd}
@@ -59,6 +36,7 @@ use Rattle.typing_jobs.specs.Happened as said
 use Rattle.typing_jobs.specs.FieldLaw.{IsFieldDone, IsFieldCut, FieldStops, FieldEnds}
 use Rattle.typing_jobs.specs.Sending.{HasSentFront}
 use Rattle.typing_jobs.proofs.RequestsWhole.{AreShort, short-append, sends_short, setup_short}
+use Rattle.trial_law.proofs.TextsBatched.{journal_relays}
 use Rattle.jobs_law.specs.Passes.{ArePassesOf}
 use Rattle.jobs_law.specs.FieldTold.{told_to, IsFieldTold}
 use Rattle.jobs_law.specs.JobLaws.{FieldsAreTold, FieldsHaveSent}
@@ -70,12 +48,6 @@ use Rattle.jobs_law.proofs.RequestsInOrder.{front_by, front_sent, all_sent}
 use Rattle.jobs_law.proofs.ObjectsMade.{field_own}
 
 -- ---- fronts
-
-front_on : {A : Type 0} (xs ys zs : List A) → IsFrontOf xs ys → IsFrontOf ys zs → IsFrontOf xs zs
-front_on xs ys zs f g = record {
-  rest = f.rest ++ g.rest;
-  is = sym (append_assoc xs f.rest g.rest) ∙ ap (λ l. l ++ g.rest) f.is ∙ g.is;
-}
 
 front_is : {A : Type 0} (xs ys zs : List A) → ys ≡ zs → IsFrontOf xs ys → IsFrontOf xs zs
 front_is xs ys zs e f = record { rest = f.rest; is = f.is ∙ e }
@@ -186,27 +158,6 @@ heard_front limits journal q job k t =
 
 -- ---- batches
 
--- what a journal relays are batches
-pub relays_batches : (journal : List Entry) (f : ℕ) → AreBytes journal → AreShortBodies journal →
-    groups_told (relayed (idle.history (resolve journal)) f) ≡ batches_of journal f
-relays_batches journal f bytes short =
-    relayed_are (idle.history (resolve journal)) f (says_history false (resolve journal) (bytes_say journal bytes))
-    (fits_history (resolve journal) (all_fit journal short))
-
-queued_front : (capacity : ℕ) (journal : List Entry) (f : ℕ) → history capacity (outer journal) ≡ journal →
-    IsFrontOf (groups_told (queued capacity journal f)) (groups_told (relayed (idle.history (resolve journal)) f))
-queued_front capacity journal f e =
-    by (subst (λ (j : List Entry). IsQueued capacity j f ⊎ IsLeftOut capacity j f)
-    e (relay_law capacity (outer journal) f))
-  where
-    by : IsQueued capacity journal f ⊎ IsLeftOut capacity journal f →
-        IsFrontOf (groups_told (queued capacity journal f)) (groups_told (relayed (idle.history (resolve journal)) f))
-    by (inl q) = record { rest = []; is = append-nil _ ∙ ap groups_told q }
-    by (inr l) = record {
-      rest = group_told l.last;
-      is = sym (groups-append (queued capacity journal f) l.last) ∙ ap groups_told l.all_but_last;
-    }
-
 -- all that is put tells a front of what is queued
 put_front : (capacity : ℕ) (journal : List Entry) (p f : ℕ) → IsInput journal p f → AreShortBodies journal →
     IsFrontOf (batches_in (told_to capacity journal p)) (groups_told (queued capacity journal f))
@@ -217,41 +168,6 @@ put_front capacity journal p f input short =
     subst (λ (ms : List (List ℕ)). IsFrontOf (batches_in (fields.happenings (fields.events_in ms) no_edits))
     (groups_told (queued capacity journal f))) (sym found)
     (tells_front told.messages (groups_told (queued capacity journal f)) told.tells)
-
--- where the peer made no field, none of its ids is that of a field to come
-no_input : (journal : List Entry) (p : ℕ) → AreOwn (past_of journal).made p 7 →
-    ((f : ℕ) → IsFieldOf journal p f → ⊥) → IsInput journal p (length journal + 1)
-no_input journal p own none = record {
-  own = own;
-  mine = λ m i label. absurd (let within = (sound journal m i).within in omega arith);
-  only = λ m i peer id.
-      absurd (none m.label (record { made = m; is = (sound journal m i).known; own = peer; input = id }));
-  maker = λ l. absurd (omega arith);
-}
-
--- and nothing is queued for that
-not_held : (log : List Act) (f : ℕ) → IsHistory log → length log < f → is_at (holder log) f ≡ false
-not_held log f i l = by (holder log) refl
-  where
-    by : (o : Option ℕ) → holder log ≡ o → is_at o f ≡ false
-    by None e = refl
-    by (Some h) e = ne_eqb h f (λ same. (let w = holder_within log h i e in absurd (omega arith)))
-
-queued_none : (capacity : ℕ) (journal : List Entry) (f : ℕ) → length journal < f → queued capacity journal f ≡ []
-queued_none capacity [] f l = refl
-queued_none capacity (e ∷ older) f l =
-    let log : List Act = log_of (past_of older) in
-    let held : is_at (holder log) f ≡ false =
-    not_held log f (history_is (resolve older)) (let n = length_log older in omega arith) in
-    let no : relays e older f ≡ false =
-    ap (λ (b : Bool). fresh (act_now e older) log && b) held ∙ and_false (fresh (act_now e older) log) in
-    ap (λ (r : Bool). if r && is_put capacity e older f
-    then queued capacity older f ++ group_of (act_now e older) log f ∷ [] else queued capacity older f) no
-    ∙ queued_none capacity older f (omega arith)
-
-none_in_front : (xs ys : List Happening) → ys ≡ [] → IsFrontOf xs ys → xs ≡ []
-none_in_front [] ys e f = refl
-none_in_front (x ∷ xs) ys e f = absurd (let is = ap length (f.is ∙ e) in omega arith)
 
 -- ---- the law
 
@@ -281,7 +197,7 @@ told_by limits h q job lawful p k =
       joined = t.joined;
       told = told;
       batches = λ f is.
-          front_is _ _ _ (relays_batches journal f (lawful_bytes limits h lawful) short)
+          front_is _ _ _ (journal_relays journal f (lawful_bytes limits h lawful) short)
           (front_on _ _ _ batches
           (front_on _ _ _ (put_front limits.store journal t.peer.label f
           (is_input journal t.peer.label f own is) short)

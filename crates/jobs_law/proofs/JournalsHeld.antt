@@ -1,8 +1,10 @@
 -- What holds of each entry of a lawful journal
-use Rattle.std.proofs.Common.{ℕ, zero, suc, List, [], ◌∷◌, Option, Some, None}
+use Rattle.std.proofs.Common.{ℕ, zero, suc, ◌≤◌, List, [], ◌∷◌, Option, Some, None, arith}
 use Rattle.std.specs.List.{AllByRecursion}
 use Rattle.relay_model.specs.declared.act.EndCause.{EndCause}
 use Rattle.seat_steps.specs.declared.limits.Limits.{Limits}
+use Rattle.seat_steps.specs.declared.step.ShellStep.{ShellStep}
+use Rattle.seat_steps.specs.declared.step.ShellStep.TheVariants as shells
 use Rattle.broker_model.specs.declared.journal.Entry.{Entry}
 use Rattle.broker_model.specs.declared.journal.Entry.TheVariants as entries
 use Rattle.broker_model.specs.Settle.{due, cause_of, with_end, settled, number_alive, history}
@@ -11,12 +13,12 @@ use Rattle.hub_lock.specs.Histories.{History, entries_of}
 use Rattle.hub_lock.specs.Lawful.{IsLawful}
 use Rattle.hub_lock.specs.Steps.{IsGiven, AreLegalEntries}
 use Rattle.pass_calls.specs.Made.{journal_of}
-use Rattle.told_law.specs.Sayable.{HasBytes, AreBytes}
+use Rattle.told_law.specs.Sayable.{HasBytes, AreBytes, IsHeld, AreHeld}
 use Rattle.trial_law.proofs.BatchesRelayed.{AreShortBodies}
 
 -- ---- what holds of each step and of ends
 
-abbrev HoldsOfEnds : (Entry → Type 0) → Type 0
+abbrev pub HoldsOfEnds : (Entry → Type 0) → Type 0
 HoldsOfEnds P = (q : ℕ) (cause : EndCause) → P (entries.End q cause)
 
 ends_by : (P : Entry → Type 0) → HoldsOfEnds P → (capacity fuel : ℕ) (journal : List Entry) (o : Option ℕ) →
@@ -76,3 +78,27 @@ lawful_bytes limits h lawful = lawful_each HasBytes (λ q cause. tt) given_bytes
 
 pub lawful_short : (limits : Limits) (h : History) → IsLawful limits h → AreShortBodies (journal_of limits h)
 lawful_short limits h lawful = lawful_each IsBodyShort (λ q cause. tt) given_short limits h lawful
+
+shell_held : (step : ShellStep) → IsGiven (entries.Shell step) → IsHeld (entries.Shell step)
+shell_held (shells.Focus q id) given = tt
+shell_held shells.Unfocus given = tt
+shell_held (shells.Area q id rect) given = tt
+shell_held (shells.Screen size) given = tt
+shell_held (shells.Key time key state) given =
+    (given.0.0, given.0.1, (let few : state ≤ 1 = given.1 in omega arith))
+shell_held (shells.Mods mods) given = given.0
+shell_held (shells.Keymap keymap) given = (given.0.0, given.0.2)
+shell_held (shells.Repeat repeat) given = given.0
+shell_held (shells.At moment) given = tt
+
+given_held : (e : Entry) → IsGiven e → IsHeld e
+given_held (entries.Message q id opcode body) given = (given.3, given.4.0)
+given_held (entries.Shell step) given = shell_held step given
+given_held (entries.Join role) given = tt
+given_held (entries.Tokens q tokens) given = tt
+given_held (entries.BadSize q head) given = tt
+given_held (entries.End q cause) given = tt
+given_held (entries.Took q bytes) given = tt
+
+pub lawful_held : (limits : Limits) (h : History) → IsLawful limits h → AreHeld (journal_of limits h)
+lawful_held limits h lawful = lawful_each IsHeld (λ q cause. tt) given_held limits h lawful

@@ -13,4 +13,6 @@ pub mod MethodTold
 pub mod ShellTold
 pub mod TrialTold
 pub mod KeysTold
+pub mod PutSpelled
 pub mod MethodAll
+pub mod BadEvents

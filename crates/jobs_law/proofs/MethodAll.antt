@@ -1,6 +1,6 @@
 -- A method that took all, as far as its writer has seen, has each key that the one journal tells it
 use Rattle.std.proofs.Common.{◌≡◌, ℕ, zero, suc, ◌+◌, Bool, true, false, List, [], ◌∷◌, ◌++◌, length, map, Option, Some, None, refl, sym, ap, subst, ◌∙◌, inl, inr, arith, append-nil}
-use Rattle.std.specs.Prelude.{◌⊎◌, ◌==◌, if◌then◌else◌, IfSome}
+use Rattle.std.specs.Prelude.{◌⊎◌, ◌==◌, if◌then◌else◌}
 use Rattle.std.specs.List.{AllByRecursion}
 use Rattle.std.proofs.lemmas.Option.{same_Some}
 use Rattle.seat_steps.specs.declared.limits.Limits.{Limits}
@@ -18,20 +18,13 @@ use Rattle.client_side.specs.Events.{object_in, method_objects, field_objects}
 use Rattle.client_side.specs.MethodLog.{Happening}
 use Rattle.client_logs.specs.MethodLogs.{settled, method_log}
 use Rattle.broker_model.specs.declared.journal.Entry.{Entry}
-use Rattle.broker_model.specs.declared.journal.Entry.TheVariants as entries
 use Rattle.broker_model.specs.Groups.{message_of}
 use Rattle.broker_model.specs.Ids.{Made, Joined, peer_at, made_as}
 use Rattle.broker_model.specs.Out.{Outgoing, act_at, group_at, fits, before_group, out_for}
 use Rattle.broker_model.specs.Resolve.{means, past_of, resolve}
 use Rattle.broker_model.specs.Settle.{history}
-use Rattle.broker_model.proofs.IdsAreNames.{IsIn, made_with}
 use Rattle.broker_model.proofs.LivePeersJoined.{joined_stays}
-use Rattle.told_law.specs.Sayable.{AreHeld, IsHeld, AreBytes, HasBytes}
-use Rattle.told_law.specs.ToldRead.{IsWritable, IsReadAs, IsToldRead}
-use Rattle.told_law.proofs.IdsSmall.{AreSmall, all_small}
-use Rattle.told_law.proofs.MessagesTold.{TellsSo, told_each}
-use Rattle.told_law.proofs.MessagesPut.{entry_messages, ArePut, put_messages}
-use Rattle.told_law.proofs.ToldIsRead.{each_two, told_read, told_writable}
+use Rattle.told_law.proofs.MessagesPut.{ArePut}
 use Rattle.hub_lock.specs.Histories.{History, entries_of}
 use Rattle.pass_calls.specs.Made.{journal_of}
 use Rattle.pass_calls.proofs.OthersTakeNothing.{entries-append}
@@ -43,9 +36,9 @@ use Rattle.trial_law.proofs.FieldsReadAll.{in_older}
 use Rattle.method_law.specs.ToldEvents.{event_said, event_for, events_for, events_at, events_told}
 use Rattle.method_law.specs.TypedLogs.{events_in, events_of, requests_of}
 use Rattle.method_law.proofs.MethodIds.{AreKnown, requests_safe, known_steps, all_known}
-use Rattle.method_law.proofs.NoKeymaps.{IsPlainTold, all_plain, act_plain, told_plain}
-use Rattle.method_law.proofs.NoKeymaps as keymaps
+use Rattle.method_law.proofs.NoKeymaps.{all_plain}
 use Rattle.method_law.proofs.ToldHeard.{IsSaid, SpellsAll, put_heard, spelled_events}
+use Rattle.method_law.proofs.TrialSteps.{HasShell}
 use Rattle.typing_jobs.specs.Fronts.{AreEventsIn}
 use Rattle.jobs_law.specs.FieldTold.{OthersAreFields}
 use Rattle.jobs_law.specs.MethodTold.{IsMethodTold, is_key, keys_of}
@@ -54,108 +47,12 @@ use Rattle.jobs_law.specs.JobLaws.{MethodsHaveKeys}
 use Rattle.jobs_law.proofs.StepsOfPeers.{steps_outer}
 use Rattle.jobs_law.proofs.EventsRead.{are_messages, method_begins}
 use Rattle.jobs_law.proofs.ObjectsMade.{field_own}
-use Rattle.jobs_law.proofs.FieldAll.{IsNewer, newer_steps, entries_each}
+use Rattle.jobs_law.proofs.FieldAll.{IsNewer, newer_steps, entries_each, each_right}
 use Rattle.jobs_law.proofs.MethodTold.{is_said, methods_have_sent}
-use Rattle.jobs_law.proofs.PutHeard.{IsEventful, IsPlain, eventful, eventful_whole}
+use Rattle.jobs_law.proofs.PutHeard.{IsEventful, eventful_whole}
 use Rattle.jobs_law.proofs.PutSilent.{joined_later}
+use Rattle.jobs_law.proofs.PutSpelled.{IsHeldWith, held_base, Asks, put_eventful}
 use Rattle.jobs_law.proofs.KeysTold.{IsNoKey, IsKeyless, HasNoBoard, HaveNoBoard, tells_no_key}
-
--- ---- what is put spells events
-
-message_plain : (made : List Made) (event : Said) → keymaps.IsPlain event → IfSome (message_of made event) IsPlain
-message_plain made (said.Enter surface) a = ((tt, tt), tt)
-message_plain made (said.Leave surface) a = ((tt, tt), tt)
-message_plain made (said.Preedit t begin end) a = ((tt, (tt, (tt, tt))), tt)
-message_plain made (said.CommitString t) a = ((tt, tt), tt)
-message_plain made (said.Delete before after) a = ((tt, (tt, tt)), tt)
-message_plain made (said.FieldDone serial) a = ((tt, tt), tt)
-message_plain made said.Activate a = (tt, tt)
-message_plain made said.Deactivate a = (tt, tt)
-message_plain made (said.Surrounding t cursor anchor) a = ((tt, (tt, (tt, tt))), tt)
-message_plain made (said.ChangeCause cause) a = ((tt, tt), tt)
-message_plain made (said.ContentType hint purpose) a = ((tt, (tt, tt)), tt)
-message_plain made said.MethodDone a = (tt, tt)
-message_plain made said.Unavailable a = (tt, tt)
-message_plain made (said.PopupRect x y width height) a = ((tt, (tt, (tt, (tt, tt)))), tt)
-message_plain made (said.Keymap keymap) a = absurd a
-message_plain made (said.Key serial time key state) a = ((tt, (tt, (tt, (tt, tt)))), tt)
-message_plain made (said.Mods serial mods) a = ((tt, (tt, (tt, (tt, (tt, tt))))), tt)
-message_plain made (said.Repeat repeat) a = ((tt, (tt, tt)), tt)
-message_plain made (said.Global name i version) a = ((tt, (tt, (tt, tt))), tt)
-message_plain made (said.CallbackDone value) a = ((tt, tt), tt)
-message_plain made (said.DeleteId label) a = ((tt, tt), tt)
-message_plain made (said.Capabilities value) a = ((tt, tt), tt)
-message_plain made (said.Error object fault) a = ((tt, (tt, (tt, tt))), tt)
-message_plain made (said.Pass time key state) a = tt
-message_plain made (said.VMods mods) a = tt
-message_plain made (said.Placed popup x y) a = tt
-
-where_some : {A : Type 0} (P : A → Type 0) (o : Option A) (x : A) → o ≡ Some x → IfSome o P → P x
-where_some P o x e h = subst (λ (u : Option _). IfSome u P) e h
-
--- a journal that can be said, in which the peer has the objects of the method's client
-record Asks (p : ℕ) (journal : List Entry) : Type 0 where
-  known : AreKnown (past_of journal).made p
-  said-is : IsSaid journal
-
-asks_before : (p : ℕ) (e : Entry) (older : List Entry) → Asks p (e ∷ older) → Asks p older
-asks_before p e older a = record {
-  known = λ m i s. a.known m (in_older (means e (length older + 1) (past_of older)).made (past_of older).made m i) s;
-  said-is = record {
-    held = a.said-is.held.1;
-    shells = a.said-is.shells.1;
-    few = (let few = a.said-is.few in omega arith);
-  };
-}
-
-held_bytes : (journal : List Entry) → AreHeld journal → AreBytes journal
-held_bytes [] h = tt
-held_bytes (e ∷ older) h = (one e h.0, held_bytes older h.1)
-  where
-    one : (e : Entry) → IsHeld e → HasBytes e
-    one (entries.Message q id opcode body) k = k.0
-    one (entries.Join role) k = tt
-    one (entries.Tokens q tokens) k = tt
-    one (entries.BadSize q head) k = tt
-    one (entries.End q cause) k = tt
-    one (entries.Shell step) k = tt
-    one (entries.Took q bytes) k = tt
-
-record IsFit (made : List Made) (t : Told) : Type 0 where
-  read : IsToldRead made t
-  write : IfSome (message_of made t.event) IsWritable
-  plain : IsPlainTold t
-
-told_eventful : (p : ℕ) (journal : List Entry) → Asks p journal → (t : Told) → IsFit (past_of journal).made t →
-    TellsSo (past_of journal).made p (IsEventful method_objects) t
-told_eventful p journal a t f m is own x q =
-    let made : List Made = (past_of journal).made in
-    let small : AreSmall made = all_small journal (held_bytes journal a.said-is.held) in
-    let among : IsIn made m = (made_with made t.to m is).among in
-    let r : IsReadAs m x = where_some (IsReadAs m) (message_of made t.event) x q (f.read m is) in
-    eventful method_objects m x (small m among) (a.known m among own)
-    (where_some IsWritable (message_of made t.event) x q f.write) r.interface r
-    (where_some IsPlain (message_of made t.event) x q (message_plain made t.event f.plain))
-
-entry_eventful : (p : ℕ) (e : Entry) (older : List Entry) → Asks p (e ∷ older) →
-    AllByRecursion (IsEventful method_objects) (entry_messages e older p)
-entry_eventful p e older a =
-    let made : List Made = (past_of (e ∷ older)).made in
-    let ts : List Told = told (act_at e older) (resolve older) in
-    let h = a.said-is in
-    told_each made p (IsEventful method_objects) ts
-    (each_two (λ t. IsToldRead made t × IfSome (message_of made t.event) IsWritable) IsPlainTold
-    (TellsSo made p (IsEventful method_objects)) ts
-    (λ t k plain. told_eventful p (e ∷ older) a t (record { read = k.0; write = k.1; plain = plain }))
-    (each_two (IsToldRead made) (λ t. IfSome (message_of made t.event) IsWritable)
-    (λ t. IsToldRead made t × IfSome (message_of made t.event) IsWritable) ts (λ t r w. (r, w))
-    (told_read e older h.held h.few) (told_writable e older h.held h.few))
-    (told_plain (act_at e older) (resolve older) (act_plain e older h.shells.0) (all_plain older h.shells.1)))
-
-put_eventful : (capacity : ℕ) (journal : List Entry) (p : ℕ) → Asks p journal →
-    ArePut (IsEventful method_objects) (out_for capacity journal p).put.bytes
-put_eventful capacity journal p a =
-    put_messages (IsEventful method_objects) (Asks p) p (asks_before p) (entry_eventful p) capacity journal a
 
 -- ---- what the events were
 
@@ -165,17 +62,12 @@ nothing_left ms es r each =
     method_begins (joined_bytes ms) es r.begins
     ∙ ap (λ (l : List Event). map settled es ++ l) (none r.left) ∙ append-nil (map settled es)
   where
-    each_right : (xs ys : List (List ℕ)) → AllByRecursion (IsEventful method_objects) (xs ++ ys) →
-        AllByRecursion (IsEventful method_objects) ys
-    each_right [] ys h = h
-    each_right (x ∷ xs) ys h = each_right xs ys h.1
-
     found : messages (joined_bytes ms) ≡ ms
     found = messages_joined ms (eventful_whole method_objects ms each)
 
     behind : AllByRecursion (IsEventful method_objects) (messages r.begins.rest)
     behind =
-        each_right r.begins.messages (messages r.begins.rest)
+        each_right (IsEventful method_objects) r.begins.messages (messages r.begins.rest)
         (subst (AllByRecursion (IsEventful method_objects))
         (sym found ∙ ap messages r.begins.front
         ∙ found_first r.begins.messages r.begins.rest
@@ -304,9 +196,21 @@ nobody_has limits h peer joined known others (suc (suc k)) p j =
 
 -- ---- the law
 
-asks_base : (p : ℕ) (newer base : List Entry) → Asks p (newer ++ base) → Asks p base
-asks_base p [] base a = a
-asks_base p (e ∷ newer) base a = asks_base p newer base (asks_before p e (newer ++ base) a)
+record IsBase (p : ℕ) (base : List Entry) : Type 0 where
+  said-is : IsSaid base
+  asks : Asks p base
+
+-- what the whole journal has of the peer's objects and of keymaps, its older part has
+base_is : (p : ℕ) (newer base : List Entry) → AreKnown (past_of (newer ++ base)).made p →
+    IsSaid (newer ++ base) → IsBase p base
+base_is p newer base known said-is =
+    let h : IsHeldWith p base =
+    held_base p newer base (record { known = known; held = said-is.held; few = said-is.few }) in
+    let shells : AllByRecursion HasShell base = each_right HasShell newer base said-is.shells in
+    record {
+      said-is = record { held = h.held; shells = shells; few = h.few };
+      asks = record { stands = h; plain = all_plain base shells };
+    }
 
 pub methods_have_keys : MethodsHaveKeys
 methods_have_keys limits h typist job lawful p fresh short orders done all later others =
@@ -315,7 +219,8 @@ methods_have_keys limits h typist job lawful p fresh short orders done all later
     let base : List Entry = journal_of limits seen in
     let rest : History = p.writer_seen.0 in
     let log : List Happening = method_log job.log in
-    let n : IsNewer (λ (e : Entry). is_order e ≡ false) base (history limits.store (entries_of rest ++ entries_of seen)) =
+    let n : IsNewer (λ (e : Entry). is_order e ≡ false) base
+    (history limits.store (entries_of rest ++ entries_of seen)) =
     newer_steps (λ (e : Entry). is_order e ≡ false) (λ k cause. refl) limits.store (entries_of rest) (entries_of seen)
     (entries_each (λ (e : Entry). is_order e ≡ false) rest later) in
     let grown : journal ≡ n.newer ++ base =
@@ -332,16 +237,17 @@ methods_have_keys limits h typist job lawful p fresh short orders done all later
     same_Some f.peer told.peer (sym (ap (λ (j : List Entry). peer_at (past_of j) 1) grown
     ∙ joined_later n.newer base 1 f.peer there) ∙ told.joined) in
     let label : ℕ = told.peer.label in
-    let asks : Asks label base =
-    asks_base label n.newer base (subst (Asks label) grown
-    (record { known = known; said-is = is_said limits h lawful orders })) in
+    let older : IsBase label base =
+    base_is label n.newer base
+    (subst (λ (j : List Entry). AreKnown (past_of j).made label) grown known)
+    (subst IsSaid grown (is_said limits h lawful orders)) in
     let put : ArePut (IsEventful method_objects) (out_for limits.store base label).put.bytes =
-    put_eventful limits.store base label asks in
+    put_eventful limits.store base label older.asks in
     let taken : done.taken ≡ joined_bytes put.messages =
     all.all ∙ ap (λ (o : Outgoing). o.put.bytes) f.out_is
     ∙ ap (λ (x : Joined). (out_for limits.store base x.label).put.bytes) same ∙ put.is in
     let spelled : SpellsAll (out_for limits.store base label).put.bytes (events_told limits.store base label) =
-    put_heard limits.store base label asks.known asks.said-is in
+    put_heard limits.store base label older.asks.stands.known older.said-is in
     let is : events_of log ≡ events_told limits.store base label =
     done.told
     ∙ sym (nothing_left put.messages done.events

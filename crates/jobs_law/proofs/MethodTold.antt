@@ -18,7 +18,6 @@ use Rattle.broker_model.specs.Out.{out_for}
 use Rattle.broker_model.specs.Resolve.{past_of}
 use Rattle.broker_model.specs.Settle.{number_alive}
 use Rattle.broker_core.proofs.AliveAfterEntry.{counted_cons}
-use Rattle.told_law.specs.Sayable.{IsHeld, AreHeld}
 use Rattle.hub_lock.specs.Histories.{History}
 use Rattle.hub_lock.specs.Lawful.{IsLawful}
 use Rattle.hub_lock.specs.Steps.{IsGiven}
@@ -40,11 +39,12 @@ use Rattle.trial_jobs.specs.declared.method_job.MethodJob.{MethodJob}
 use Rattle.trial_jobs.specs.MethodHearing.{HasShort}
 use Rattle.trial_jobs.specs.MethodLaw.{IsFresh, IsMethodDone, IsMethodCut, MethodStops, MethodEnds}
 use Rattle.trial_jobs.proofs.RequestsShort.{requests_short}
+use Rattle.trial_law.proofs.TextsRelayed.{front_on}
 use Rattle.jobs_law.specs.Passes.{ArePassesOf}
 use Rattle.jobs_law.specs.MethodTold.{IsMethodTold}
 use Rattle.jobs_law.specs.ShellTold.{orders_of, IsFocusOrKey}
 use Rattle.jobs_law.specs.JobLaws.{MethodsAreTold, MethodsHaveSent}
-use Rattle.jobs_law.proofs.JournalsHeld.{lawful_each}
+use Rattle.jobs_law.proofs.JournalsHeld.{lawful_each, lawful_held}
 use Rattle.jobs_law.proofs.PassesSeen.{TookIn, took_in}
 use Rattle.jobs_law.proofs.EventsRead.{method_begins}
 use Rattle.jobs_law.proofs.RequestsInOrder.{front_by, front_sent, all_sent}
@@ -86,8 +86,8 @@ was_given (entries.BadSize q head) given = given
 was_given (entries.Shell step) given = given
 was_given (entries.Took q bytes) given = given
 
-have_shell : (journal : List Entry) → AllByRecursion WasGiven journal → AllByRecursion IsFocusOrKey (orders_of journal) →
-    AllByRecursion HasShell journal
+have_shell : (journal : List Entry) → AllByRecursion WasGiven journal →
+    AllByRecursion IsFocusOrKey (orders_of journal) → AllByRecursion HasShell journal
 have_shell [] given h = tt
 have_shell (entries.Shell step ∷ older) given h = (
   of_shell step (last_is (orders_of older) step h) given.0,
@@ -99,28 +99,6 @@ have_shell (entries.Tokens q tokens ∷ older) given h = (tt, have_shell older g
 have_shell (entries.BadSize q head ∷ older) given h = (tt, have_shell older given.1 h)
 have_shell (entries.End q cause ∷ older) given h = (tt, have_shell older given.1 h)
 have_shell (entries.Took q bytes ∷ older) given h = (tt, have_shell older given.1 h)
-
-shell_held : (step : ShellStep) → IsOfShell step → IsHeld (entries.Shell step)
-shell_held (shells.Focus q id) h = tt
-shell_held shells.Unfocus h = tt
-shell_held (shells.Key time key state) h = h
-shell_held (shells.Area q id rect) h = absurd h
-shell_held (shells.Screen size) h = absurd h
-shell_held (shells.Mods mods) h = absurd h
-shell_held (shells.Keymap keymap) h = absurd h
-shell_held (shells.Repeat repeat) h = absurd h
-shell_held (shells.At moment) h = absurd h
-
-are_held : (journal : List Entry) → AllByRecursion WasGiven journal → AllByRecursion HasShell journal → AreHeld journal
-are_held [] given shell = tt
-are_held (entries.Shell step ∷ older) given shell = (shell_held step shell.0, are_held older given.1 shell.1)
-are_held (entries.Message q id opcode body ∷ older) given shell =
-    ((given.0.3, given.0.4.0), are_held older given.1 shell.1)
-are_held (entries.Join role ∷ older) given shell = (tt, are_held older given.1 shell.1)
-are_held (entries.Tokens q tokens ∷ older) given shell = (tt, are_held older given.1 shell.1)
-are_held (entries.BadSize q head ∷ older) given shell = (tt, are_held older given.1 shell.1)
-are_held (entries.End q cause ∷ older) given shell = (tt, are_held older given.1 shell.1)
-are_held (entries.Took q bytes ∷ older) given shell = (tt, are_held older given.1 shell.1)
 
 -- fewer than 2^32 entries
 
@@ -146,7 +124,7 @@ joined_few : (journal : List Entry) → length (past_of journal).joined ≤ numb
 joined_few [] = omega arith
 joined_few (e ∷ older) = joined_one e older (joined_few older)
 
-few_entries : (limits : Limits) (h : History) → IsLawful limits h → length (journal_of limits h) < 2 ^ 32
+pub few_entries : (limits : Limits) (h : History) → IsLawful limits h → length (journal_of limits h) < 2 ^ 32
 few_entries limits h lawful =
     let journal : List Entry = journal_of limits h in
     let few = joined_few journal in
@@ -161,10 +139,9 @@ pub is_said : (limits : Limits) (h : History) → IsLawful limits h →
 is_said limits h lawful orders =
     let given : AllByRecursion WasGiven (journal_of limits h) =
     lawful_each WasGiven (λ q cause. tt) was_given limits h lawful in
-    let shell : AllByRecursion HasShell (journal_of limits h) = have_shell (journal_of limits h) given orders in
     record {
-      held = are_held (journal_of limits h) given shell;
-      shells = shell;
+      held = lawful_held limits h lawful;
+      shells = have_shell (journal_of limits h) given orders;
       few = few_entries limits h lawful;
     }
 
@@ -216,12 +193,6 @@ pub sent_by : (limits : Limits) (typist : TrialTypist) (job : MethodJob) (r : Re
 sent_by limits typist job r k = (of_end limits typist job r k).sent
 
 -- ---- the law
-
-front_on : {A : Type 0} (xs ys zs : List A) → IsFrontOf xs ys → IsFrontOf ys zs → IsFrontOf xs zs
-front_on xs ys zs f g = record {
-  rest = f.rest ++ g.rest;
-  is = sym (append_assoc xs f.rest g.rest) ∙ ap (λ l. l ++ g.rest) f.is ∙ g.is;
-}
 
 heard_front : (limits : Limits) (journal : List Entry) (typist : TrialTypist) (job : MethodJob)
     (k : HasHeard limits typist job) (t : TookIn limits journal 1 k.taken) →

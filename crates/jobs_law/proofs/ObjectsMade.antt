@@ -1,58 +1,29 @@
 -- A field's peer made the objects that its client knows, each once, whatever others did meanwhile
-use Rattle.std.proofs.Common.{◌≡◌, ℕ, zero, suc, ◌+◌, ◌≤◌, Bool, true, false, List, [], ◌∷◌, ◌++◌, length, Option, Some, None, Result, Ok, refl, sym, ap, subst, ◌∙◌, arith, inl, inr}
+use Rattle.std.proofs.Common.{◌≡◌, ℕ, zero, suc, ◌+◌, ◌≤◌, Bool, true, false, List, [], ◌∷◌, ◌++◌, length, Option, Some, None, refl, sym, ap, subst, ◌∙◌, arith, inl, inr}
 use Rattle.std.specs.Prelude.{◌⊎◌, if◌then◌else◌, ◌==◌}
-use Rattle.std.specs.List.{AllByRecursion}
-use Rattle.std.specs.Str.{is_utf8, chars}
-use lib.Utf8.{encode}
 use Rattle.std.proofs.lemmas.Bool.{eq-eqb}
 use Rattle.std.proofs.lemmas.List.{append_assoc, append-nil, append_cancel_left}
 use Rattle.std.proofs.lemmas.Option.{same_Some}
-use Rattle.wl_proto.specs.declared.interface.Interface.{Interface}
-use Rattle.wl_proto.specs.declared.interface.Interface.TheVariants.{Registry, Compositor, Seat, TextInputManager, Surface, TextInput}
-use Rattle.wl_proto.specs.declared.table.Kind.{Kind}
-use Rattle.wl_proto.specs.declared.table.Kind.TheVariants.{Uint, Object, NewId, Text}
-use Rattle.wl_proto.specs.declared.refuse.Refuse.{Refuse}
-use Rattle.wl_proto.specs.Rows.{Message, request_kinds}
-use Rattle.wl_proto.specs.Reading.{all_read, by_row, request_reading}
-use Rattle.wl_proto.specs.Spelling.{spelling, message_len}
-use Rattle.wl_proto.specs.Spelled.{AreTokens, AreOfKinds}
-use Rattle.wl_proto.proofs.ValuesReadBack.{values_complete, spelled_once}
-use Rattle.relay_model.specs.declared.fault.Fault.{Fault}
+use Rattle.wl_proto.specs.Spelling.{spelling}
 use Rattle.relay_model.specs.declared.role.Role.{Role}
 use Rattle.broker_model.specs.declared.journal.Entry.{Entry}
 use Rattle.broker_model.specs.declared.journal.Entry.TheVariants as entries
-use Rattle.broker_model.specs.Ids.{Made, Joined, Past, log_of, peer_in, peer_at, object_at}
-use Rattle.broker_model.specs.Requests.{Argument, new_of}
-use Rattle.broker_model.specs.Refusals.{request_fault}
-use Rattle.broker_model.specs.Resolve.{label_at, made_new, of_request, of_reading, of_message, of_peer, means, with_joined, past_of}
+use Rattle.broker_model.specs.Ids.{Made, Joined, Past, peer_in, peer_at, object_at}
+use Rattle.broker_model.specs.Resolve.{of_message, of_peer, means, with_joined, past_of}
 use Rattle.broker_model.specs.Settle.{settle, history}
-use Rattle.broker_model.proofs.IdsAreNames.{found}
-use Rattle.trial_field.specs.FieldText.{FieldText}
 use Rattle.client_side.specs.Messages.{Sent, field_setup}
-use Rattle.client_side.specs.Events.{object_in, field_objects}
-use Rattle.client_side.specs.FieldSends.{surrounding, change_sent, enable_sent}
-use Rattle.client_side.specs.FieldLog.{Field, sent_for, field_of, sends_of}
-use Rattle.client_side.specs.Happenings.{Happening, edited, batch, entered, left}
+use Rattle.client_side.specs.FieldLog.{sent_for, field_of, sends_of}
+use Rattle.client_side.specs.Happenings.{Happening}
 use Rattle.trial_law.proofs.BytesTaken.{step_joined, step_peer}
-use Rattle.trial_law.proofs.ClientIds.{AreOwn, IsOfOther, next_made, step_made, others_step, input_step, join_step}
+use Rattle.trial_law.proofs.ClientIds.{AreOwn, IsOfOther, step_made, others_step, input_step, join_step}
 use Rattle.method_law.specs.TypedLogs.{is_step_of, steps_by, step_of_request, steps_of}
 use Rattle.method_law.proofs.StepsSent.{steps-append, step_steps}
+use Rattle.trial_law.proofs.SetupSent.{IsMaking, AreMaking, more_ids, message_makes, setup_makes}
+use Rattle.method_law.proofs.MethodIds.{head_is}
+use Rattle.trial_law.proofs.RequestsWait.{AreToInput, inputs-append, for_to}
 use Rattle.jobs_law.proofs.StepsOfPeers.{steps_outer}
 
 -- ---- requests that make an object each, and requests to the text input
-
--- the request makes an object under the id n + 1, of the interface that the client knows it by
-record IsMaking (n : ℕ) (s : Sent) : Type 0 where
-  object : object_in field_objects s.object ≡ Some s.message.interface
-  interface : Interface
-  new : new_of s.message.interface s.message.opcode s.message.values
-      ≡ Some (record { id = n + 1; interface = interface })
-  there : object_in field_objects (n + 1) ≡ Some interface
-  kinds : List Kind
-  row : request_kinds s.message.interface s.message.opcode ≡ Some kinds
-  fit : AreOfKinds kinds s.message.values
-  plain : (tokens : List ℕ) → AreTokens tokens s.message.values
-  size : message_len s.message ≤ 4096
 
 abbrev Makes : ℕ → List Sent → Type 0
 Makes n [] = n ≤ 7
@@ -63,52 +34,7 @@ most_made n [] h = h
 most_made n (s ∷ more) (inl h) = (let l = most_made (n + 1) more h.1 in omega arith)
 most_made n (s ∷ more) (inr h) = most_made n more h.1
 
-more_ids : (made : List Made) (p n k : ℕ) → n ≤ k → AreOwn made p n → AreOwn made p k
-more_ids made p n k l own = record {
-  within = λ m i e. (let w = own.within m i e in omega arith);
-  known = own.known;
-  once = own.once;
-}
-
 -- ---- one request that makes an object
-
-reads_back : (n : ℕ) (s : Sent) (tokens : List ℕ) → IsMaking n s →
-    request_reading s.message.interface s.message.opcode tokens (spelling s.message.values) ≡ Ok s.message
-unfolding request_reading
-reads_back n s tokens h =
-    ap (by_row s.message.interface s.message.opcode tokens (spelling s.message.values)) h.row
-    ∙ ap (all_read s.message.interface s.message.opcode)
-    (values_complete tokens h.kinds s.message.values (spelling s.message.values)
-    (spelled_once h.kinds s.message.values h.fit (let size = h.size in omega arith)) (h.plain tokens))
-
-request_makes : (past : Past) (k n : ℕ) (peer : Joined) (x : ℕ) (s : Sent) (o : Option Fault) → IsMaking n s →
-    AreOwn past.made peer.label n → AreOwn ((of_request past k peer x s.message o).made ++ past.made) peer.label (n + 1)
-request_makes past k n peer x s (Some f) h own = more_ids past.made peer.label n (n + 1) (omega arith) own
-request_makes past k n peer x s None h own =
-    subst (λ (a : Option Argument). AreOwn (made_new peer.label k a ++ past.made) peer.label (n + 1)) (sym h.new)
-    (next_made (record { peer = peer.label; id = n + 1; label = k; interface = h.interface })
-    past.made peer.label n refl
-    h.there own)
-
-message_makes : (past : Past) (k n : ℕ) (peer : Joined) (s : Sent) (o : Option Made) → IsMaking n s →
-    AreOwn past.made peer.label n → object_at past peer.label s.object ≡ o →
-    AreOwn ((of_message past k peer s.message.opcode (spelling s.message.values) o).made ++ past.made)
-    peer.label (n + 1)
-message_makes past k n peer s None h own e = more_ids past.made peer.label n (n + 1) (omega arith) own
-message_makes past k n peer s (Some x) h own e =
-    let f = found (log_of past) past.made peer.label s.object x e in
-    let there : object_in field_objects s.object ≡ Some x.interface =
-    subst (λ id. object_in field_objects id ≡ Some x.interface) f.under (own.known x f.among f.peer) in
-    let same : s.message.interface ≡ x.interface = same_Some s.message.interface x.interface (sym h.object ∙ there) in
-    let tokens : List ℕ = past.waiting peer.label in
-    let reads : request_reading x.interface s.message.opcode tokens (spelling s.message.values) ≡ Ok s.message =
-    subst (λ (i : Interface). request_reading i s.message.opcode tokens (spelling s.message.values) ≡ Ok s.message) same
-    (reads_back n s tokens h) in
-    subst (λ (r : Result Message Refuse). AreOwn ((of_reading past k peer x.label r).made ++ past.made)
-    peer.label (n + 1))
-    (sym reads)
-    (request_makes past k n peer x.label s
-    (request_fault past peer.label x.label peer.role (label_at past peer.label) s.message) h own)
 
 makes_step : (capacity q n : ℕ) (s : Sent) (journal : List Entry) (peer : Joined) →
     peer_at (past_of journal) q ≡ Some peer → IsMaking n s → AreOwn (past_of journal).made peer.label n →
@@ -260,9 +186,6 @@ next_going capacity s more journal q ss g is = by (subst (Makes g.n) is g.makes)
           (input_step capacity q s.message.opcode g.n (spelling s.message.values) journal p j (g.ids p j)));
     }
 
-head_is : (x y : Entry) (xs ys : List Entry) → x ∷ xs ≡ y ∷ ys → x ≡ y
-head_is x y xs ys q = cc
-
 own_going : (capacity : ℕ) (e : Entry) (rest : List Entry) (journal : List Entry) (q : ℕ) (ss : List Sent)
     (g : IsGoing journal q ss) (later : List Sent) → g.later ≡ later → e ∷ rest ≡ steps_of q later →
     IsGoing (settle capacity (e ∷ journal)) q ss
@@ -308,120 +231,18 @@ going capacity (e ∷ es) q rest ss makes front = by (is_step_of q e) refl
 
 -- ---- what a field sends
 
-setup_makes : (more : List Sent) → Makes 7 more → Makes 1 (field_setup ++ more)
-unfolding is_utf8 chars encode
-setup_makes more last =
+makes_then : (n : ℕ) (ss more : List Sent) → AreMaking n ss → Makes (n + length ss) more → Makes n (ss ++ more)
+makes_then n [] more h k = subst (λ m. Makes m more) (let m : n + 0 ≡ n = omega arith in m) k
+makes_then n (s ∷ ss) more h k =
     inl (
-      record {
-        object = refl;
-        interface = Registry;
-        new = refl;
-        there = refl;
-        kinds = NewId ∷ [];
-        row = refl;
-        fit = (omega arith, tt);
-        plain = λ tokens. (tt, tt);
-        size = omega arith;
-      },
-      inl (
-        record {
-          object = refl;
-          interface = Compositor;
-          new = refl;
-          there = refl;
-          kinds = Uint ∷ Text ∷ Uint ∷ NewId ∷ [];
-          row = refl;
-          fit = (omega arith, (refl, (omega arith, (omega arith, tt))));
-          plain = λ tokens. (tt, (tt, (tt, (tt, tt))));
-          size = omega arith;
-        },
-        inl (
-          record {
-            object = refl;
-            interface = Seat;
-            new = refl;
-            there = refl;
-            kinds = Uint ∷ Text ∷ Uint ∷ NewId ∷ [];
-            row = refl;
-            fit = (omega arith, (refl, (omega arith, (omega arith, tt))));
-            plain = λ tokens. (tt, (tt, (tt, (tt, tt))));
-            size = omega arith;
-          },
-          inl (
-            record {
-              object = refl;
-              interface = TextInputManager;
-              new = refl;
-              there = refl;
-              kinds = Uint ∷ Text ∷ Uint ∷ NewId ∷ [];
-              row = refl;
-              fit = (omega arith, (refl, (omega arith, (omega arith, tt))));
-              plain = λ tokens. (tt, (tt, (tt, (tt, tt))));
-              size = omega arith;
-            },
-            inl (
-              record {
-                object = refl;
-                interface = Surface;
-                new = refl;
-                there = refl;
-                kinds = NewId ∷ [];
-                row = refl;
-                fit = (omega arith, tt);
-                plain = λ tokens. (tt, tt);
-                size = omega arith;
-              },
-              inl (
-                record {
-                  object = refl;
-                  interface = TextInput;
-                  new = refl;
-                  there = refl;
-                  kinds = NewId ∷ Object ∷ [];
-                  row = refl;
-                  fit = (omega arith, (omega arith, tt));
-                  plain = λ tokens. (tt, (tt, tt));
-                  size = omega arith;
-                },
-                last,
-              ),
-            ),
-          ),
-        ),
-      ),
+      h.0,
+      makes_then (n + 1) ss more h.1
+          (subst (λ m. Makes m more) (let m : n + suc (length ss) ≡ (n + 1) + length ss = omega arith in m) k),
     )
-
--- each goes to the text input
-abbrev AreToInput : List Sent → Type 0
-AreToInput ss = AllByRecursion (λ (s : Sent). s.object ≡ 7) ss
 
 inputs_make : (ss : List Sent) → AreToInput ss → Makes 7 ss
 inputs_make [] h = omega arith
-inputs_make (s ∷ more) h = inr (h.0, inputs_make more h.1)
-
-inputs-append : (a b : List Sent) → AreToInput a → AreToInput b → AreToInput (a ++ b)
-inputs-append [] b h k = k
-inputs-append (s ∷ a) b h k = (h.0, inputs-append a b h.1 k)
-
-where_sent : (b : Bool) (ss : List Sent) → AreToInput ss → AreToInput (if b then ss else [])
-where_sent true ss h = h
-where_sent false ss h = tt
-
-surrounding_to : (t : FieldText) → (surrounding t).object ≡ 7
-unfolding surrounding
-surrounding_to t = refl
-
-change_to : (cause : ℕ) (t : FieldText) → AreToInput (change_sent cause t)
-change_to cause t = (surrounding_to t, (refl, (refl, tt)))
-
-enable_to : (t : FieldText) → AreToInput (enable_sent t)
-enable_to t = (refl, (surrounding_to t, (refl, (refl, (refl, tt)))))
-
-for_to : (h : Happening) (f : Field) → AreToInput (sent_for h f)
-for_to (edited edit) f = where_sent _ (change_sent 1 _) (change_to 1 _)
-for_to (batch edits serial) f = where_sent _ (change_sent 0 _) (change_to 0 _)
-for_to entered f = enable_to f.text
-for_to left f = tt
+inputs_make (s ∷ more) h = inr (h.0.object, inputs_make more h.1)
 
 sends_to : (log : List Happening) → AreToInput (sends_of log)
 sends_to [] = tt
@@ -435,5 +256,5 @@ pub field_own : (capacity : ℕ) (es : List Entry) (q : ℕ) (rest : List Entry)
     AreOwn (past_of (history capacity es)).made peer.label 7
 field_own capacity es q rest log peer front joined =
     let g = going capacity es q rest (field_setup ++ sends_of log)
-    (setup_makes (sends_of log) (inputs_make (sends_of log) (sends_to log))) front in
+    (makes_then 1 field_setup (sends_of log) setup_makes (inputs_make (sends_of log) (sends_to log))) front in
     more_ids _ peer.label g.n 7 (most_made g.n g.later g.makes) (g.ids peer joined)

@@ -1,6 +1,5 @@
 -- What is put for a field's peer are messages that spell events to the objects of its client
-use Rattle.std.proofs.Common.{◌≡◌, ℕ, zero, suc, ◌+◌, ◌^◌, ◌<◌, false, true, List, [], ◌∷◌, length, Option, Some, None, refl, sym, ap, subst, ◌∙◌, arith}
-use Rattle.std.specs.Prelude.{IfSome}
+use Rattle.std.proofs.Common.{◌≡◌, ℕ, zero, suc, ◌+◌, ◌^◌, ◌<◌, false, List, [], ◌∷◌, length, Option, Some, None, refl, sym, ap, subst, ◌∙◌, arith}
 use Rattle.std.specs.List.{AllByRecursion}
 use Rattle.std.proofs.lemmas.Option.{same_Some}
 use Rattle.wl_wire.specs.Messages.{IsMessage, AreMessages, id_of, opcode_of, body_of}
@@ -9,12 +8,10 @@ use Rattle.wl_proto.specs.declared.interface.Interface.TheVariants.{Display, Reg
 use Rattle.wl_proto.specs.declared.event.Event.{Event}
 use Rattle.wl_proto.specs.Rows.{Message, event_kinds}
 use Rattle.wl_proto.specs.Spelling.{message_bytes}
-use Rattle.wl_proto.specs.Spelled.{AreTokens, IsRead, Spelled}
+use Rattle.wl_proto.specs.Spelled.{IsRead, Spelled}
 use Rattle.wl_proto.proofs.ValuesReadBack.{spelled_once}
 use Rattle.wl_proto.proofs.WrittenIsWhole.{written_whole}
 use Rattle.relay_model.specs.declared.said.Told.{Told}
-use Rattle.relay_model.specs.declared.said.Said.{Said}
-use Rattle.relay_model.specs.declared.said.Said.TheVariants as said
 use Rattle.relay_model.specs.Told.{told}
 use Rattle.broker_model.specs.declared.journal.Entry.{Entry}
 use Rattle.broker_model.specs.Groups.{message_of}
@@ -40,8 +37,8 @@ use Rattle.told_law.proofs.MessagesTold.{TellsSo, told_each}
 use Rattle.told_law.proofs.MessagesPut.{entry_messages, ArePut, put_messages}
 use Rattle.trial_law.proofs.BatchesRelayed.{AreShortBodies, all_fit}
 use Rattle.trial_law.proofs.ClientIds.{AreOwn}
-use Rattle.trial_law.proofs.FieldsReadAll.{bytes_say, in_older}
-use Rattle.trial_law.proofs.GroupsHeard.{SpellsOne, IsSpelled}
+use Rattle.trial_law.proofs.FieldsReadAll.{bytes_say, in_older, IsPlain, plain_event}
+use Rattle.trial_law.proofs.GroupsHeard.{SpellsOne, IsSpelled, where_some}
 use Rattle.jobs_law.proofs.EventsRead.{is_read}
 
 -- the bytes are a message that spells an event to an object of the client
@@ -51,41 +48,6 @@ pub record IsEventful (objects : List Interface) (m : List ℕ) : Type 0 where
   pub is : IsEventOf (object_in objects (id_of m)) m event
 
 -- ---- one thing that is told
-
--- the message needs no token, and is an event
-abbrev pub IsPlain : Message → Type 0
-IsPlain x = AreTokens [] x.values × SpellsOne (event_of x)
-
-not_asked : {A : Type 0} → false ≡ true → A
-not_asked e = cc
-
-plain_event : (made : List Made) (event : Said) → IsAsked false event → IfSome (message_of made event) IsPlain
-plain_event made (said.Enter surface) a = ((tt, tt), tt)
-plain_event made (said.Leave surface) a = ((tt, tt), tt)
-plain_event made (said.Preedit t begin end) a = ((tt, (tt, (tt, tt))), tt)
-plain_event made (said.CommitString t) a = ((tt, tt), tt)
-plain_event made (said.Delete before after) a = ((tt, (tt, tt)), tt)
-plain_event made (said.FieldDone serial) a = ((tt, tt), tt)
-plain_event made said.Activate a = (tt, tt)
-plain_event made said.Deactivate a = (tt, tt)
-plain_event made (said.Surrounding t cursor anchor) a = not_asked a
-plain_event made (said.ChangeCause cause) a = not_asked a
-plain_event made (said.ContentType hint purpose) a = not_asked a
-plain_event made said.MethodDone a = (tt, tt)
-plain_event made said.Unavailable a = (tt, tt)
-plain_event made (said.PopupRect x y width height) a = not_asked a
-plain_event made (said.Keymap keymap) a = not_asked a
-plain_event made (said.Key serial time key state) a = not_asked a
-plain_event made (said.Mods serial mods) a = not_asked a
-plain_event made (said.Repeat repeat) a = not_asked a
-plain_event made (said.Global name i version) a = ((tt, (tt, (tt, tt))), tt)
-plain_event made (said.CallbackDone value) a = ((tt, tt), tt)
-plain_event made (said.DeleteId label) a = ((tt, tt), tt)
-plain_event made (said.Capabilities value) a = ((tt, tt), tt)
-plain_event made (said.Error object fault) a = ((tt, (tt, (tt, tt))), tt)
-plain_event made (said.Pass time key state) a = tt
-plain_event made (said.VMods mods) a = tt
-plain_event made (said.Placed popup x y) a = tt
 
 is_kind : (i j : Interface) → i ≡ j → IsFieldKind i → IsFieldKind j
 is_kind i j e f = subst IsFieldKind e f
@@ -100,9 +62,6 @@ known_kind (suc (suc (suc (suc (suc zero))))) i e = is_kind TextInputManager i (
 known_kind (suc (suc (suc (suc (suc (suc zero)))))) i e = is_kind Surface i (same_Some Surface i e) tt
 known_kind (suc (suc (suc (suc (suc (suc (suc zero))))))) i e = is_kind TextInput i (same_Some TextInput i e) tt
 known_kind (suc (suc (suc (suc (suc (suc (suc (suc n)))))))) i e = cc
-
-where_some : {A : Type 0} (P : A → Type 0) (o : Option A) (x : A) → o ≡ Some x → IfSome o P → P x
-where_some P o x e h = subst (λ (u : Option _). IfSome u P) e h
 
 spells_by : (x : Message) (o : Option Event) → event_of x ≡ o → SpellsOne o → (e : Event) × (event_of x ≡ Some e)
 spells_by x None q s = absurd s

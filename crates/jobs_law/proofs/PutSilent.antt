@@ -1,6 +1,6 @@
 -- What is put for a field's peer by entries of other fields and by ends makes nothing happen to it
 use Rattle.std.proofs.Common.{◌≡◌, ℕ, zero, suc, ◌+◌, ◌≤◌, Bool, true, false, List, [], ◌∷◌, ◌++◌, length, Option, Some, None, Result, Ok, Err, refl, sym, ap, subst, ◌∙◌, arith, inl, inr}
-use Rattle.std.specs.Prelude.{◌⊎◌, if◌then◌else◌, IfSome}
+use Rattle.std.specs.Prelude.{◌⊎◌, if◌then◌else◌}
 use Rattle.std.specs.List.{AllByRecursion}
 use Rattle.std.proofs.lemmas.List.{append-nil, append_assoc}
 use Rattle.std.proofs.lemmas.Option.{same_Some}
@@ -47,8 +47,8 @@ use Rattle.told_law.proofs.ToldKinds.{told_to_its_kind}
 use Rattle.trial_law.specs.FieldLogs.{then_events, events_in, waiting_after, happenings}
 use Rattle.trial_law.proofs.BatchesRelayed.{AreShortBodies, all_fit}
 use Rattle.trial_law.proofs.ClientIds.{AreOwn, IsOfOther, entry_others, either, reading_interface}
-use Rattle.trial_law.proofs.FieldsReadAll.{in_older}
-use Rattle.trial_law.proofs.GroupsHeard.{IsHeaded, headed}
+use Rattle.trial_law.proofs.FieldsReadAll.{in_older, own_before}
+use Rattle.trial_law.proofs.GroupsHeard.{IsHeaded, headed, input_id, where_some}
 use Rattle.jobs_law.specs.FieldTold.{IsQuiet}
 use Rattle.jobs_law.proofs.CalmActs.{is_wild, IsCalm, rows_calm, IsCalmSaid, IsCalmTold, told_calm}
 
@@ -61,17 +61,6 @@ IsElse m = IsMessage m × (id_of m ≡ 7 → ⊥)
 pub else_whole : (ms : List (List ℕ)) → AllByRecursion IsElse ms → AreMessages ms
 else_whole [] h = tt
 else_whole (m ∷ ms) h = (h.0.0, else_whole ms h.1)
-
-input_id : (id : ℕ) (i : Interface) → i ≡ interface.TextInput → object_in field_objects id ≡ Some i → id ≡ 7
-input_id zero i s e = cc
-input_id (suc zero) i s e = cc
-input_id (suc (suc zero)) i s e = cc
-input_id (suc (suc (suc zero))) i s e = cc
-input_id (suc (suc (suc (suc zero)))) i s e = cc
-input_id (suc (suc (suc (suc (suc zero))))) i s e = cc
-input_id (suc (suc (suc (suc (suc (suc zero)))))) i s e = cc
-input_id (suc (suc (suc (suc (suc (suc (suc zero))))))) i s e = refl
-input_id (suc (suc (suc (suc (suc (suc (suc (suc n)))))))) i s e = cc
 
 -- the event makes nothing happen, and leaves the edits that wait
 abbrev IsSilent : Event → Type 0
@@ -166,7 +155,8 @@ request_calm past n peer x m None other =
 
 reading_calm : (past : Past) (n : ℕ) (peer : Joined) (x : Made) (opcode : ℕ) (body : List ℕ)
     (r : Result Message Refuse) → (x.interface ≡ interface.InputMethod → ⊥) →
-    request_reading x.interface opcode (past.waiting peer.label) body ≡ r → IsCalm (of_reading past n peer x.label r).act
+    request_reading x.interface opcode (past.waiting peer.label) body ≡ r →
+    IsCalm (of_reading past n peer x.label r).act
 reading_calm past n peer x opcode body (Err f) other e = refl
 reading_calm past n peer x opcode body (Ok m) other e =
     request_calm past n peer x.label m (request_fault past peer.label x.label peer.role (label_at past peer.label) m)
@@ -242,9 +232,6 @@ pub record Stays (q : ℕ) (peer : Joined) (journal : List Entry) : Type 0 where
   pub own : AreOwn (past_of journal).made peer.label 7
   pub none : HaveNoMethod journal
   pub short : AreShortBodies journal
-
-where_some : {A : Type 0} (P : A → Type 0) (o : Option A) (x : A) → o ≡ Some x → IfSome o P → P x
-where_some P o x e h = subst (λ (u : Option _). IfSome u P) e h
 
 told_else : (q : ℕ) (peer : Joined) (e : Entry) (older : List Entry) → IsQuiet q e →
     peer_at (past_of older) q ≡ Some peer → Stays q peer (e ∷ older) → (t : Told) →
@@ -328,13 +315,6 @@ entry_puts capacity q peer e older old quiet before none s k =
       each = each_else k.messages (entry_messages e older peer.label) k.each
           (entry_else q peer e older quiet before none s);
     }
-
-own_before : (new made : List Made) (p n : ℕ) → AreOwn (new ++ made) p n → AreOwn made p n
-own_before new made p n own = record {
-  within = λ m i s. own.within m (in_older new made m i) s;
-  known = λ m i s. own.known m (in_older new made m i) s;
-  once = λ a b i j s t q. own.once a b (in_older new made a i) (in_older new made b j) s t q;
-}
 
 none_before : (e : Entry) (older : List Entry) → HaveNoMethod (e ∷ older) → HaveNoMethod older
 none_before e older none k peer other joined m i =

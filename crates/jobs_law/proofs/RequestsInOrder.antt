@@ -55,7 +55,10 @@ front_steps q (x ∷ xs) ys h = (h.0, front_steps q xs ys h.1)
 
 pub front_by : (limits : Limits) (reader writer : PeerPass) (ss : List Sent) → HasSent limits reader writer ss →
     HasSentFront reader ss
-front_by limits reader writer ss (inl all) = record { rest = []; is = sym all ∙ sym (append-nil (entries_by reader.seat)) }
+front_by limits reader writer ss (inl all) = record {
+  rest = [];
+  is = sym all ∙ sym (append-nil (entries_by reader.seat));
+}
 front_by limits reader writer ss (inr f) = f.0
 
 -- the peer's steps in the journal are those of its reader

@@ -72,7 +72,7 @@ here : (P : Entry → Type 0) (x : ℕ × OuterStep) (h : History) → AllByRecu
 here P x h all =
     (subst (λ (steps : List OuterStep). AllByRecursion P (map entry_in steps)) (own-here x.0 x h refl) all).0
 
-each_step : (R : ℕ → Entry → Type 0) (Q : ℕ → Type 0) (h : History) →
+pub each_step : (R : ℕ → Entry → Type 0) (Q : ℕ → Type 0) (h : History) →
     ((n : ℕ) → Q n → AllByRecursion (R n) (entries_of_pass n h)) →
     AllByRecursion (λ (s : ℕ × OuterStep). Q s.0) h →
     AllByRecursion (λ (s : ℕ × OuterStep). R s.0 s.1.entry) h
@@ -270,7 +270,8 @@ steps_none fields shell q h other none all = by (entries_of h) (known h all)
     both [] ys a b = b
     both (x ∷ xs) ys a b = (a.0, both xs ys a.1 b)
 
-    known : (g : History) → AllKnown fields shell g → AllByRecursion (λ (e : Entry). is_step_of q e ≡ false) (entries_of g)
+    known : (g : History) → AllKnown fields shell g →
+        AllByRecursion (λ (e : Entry). is_step_of q e ≡ false) (entries_of g)
     known [] k = tt
     known (x ∷ g) k =
         subst (AllByRecursion (λ (e : Entry). is_step_of q e ≡ false)) (sym (entries-append (x ∷ []) g))
@@ -312,7 +313,8 @@ others_are_fields limits h typist method fields shell t q peer other joined = by
         let told = fields_have_sent limits h (f.0 + 2) job t.jobs.lawful (t.jobs.field_peers f.0 job f.2).passes
         (t.rested f.0 job f.2).done in (
           field_log job.log,
-          subst (λ k. IsFrontOf (steps_by (journal_of limits h) k) (steps_of k (field_setup ++ sends_of (field_log job.log))))
+          subst (λ k. IsFrontOf (steps_by (journal_of limits h) k)
+              (steps_of k (field_setup ++ sends_of (field_log job.log))))
               (sym f.3) told.told.sent,
         )
     by (inr none) =
@@ -529,7 +531,8 @@ cut_trials_are_told limits h typist method fields shell t =
     t.shell_ends.1) in
     record {
       orders = orders;
-      method_told = methods_are_told limits h typist method t.method_ends.0 j.lawful j.method_peer.passes j.fresh j.short
+      method_told = methods_are_told limits h typist method t.method_ends.0 j.lawful j.method_peer.passes j.fresh
+          j.short
           (keys_front (orders_of (journal_of limits h)) orders.rest
           (subst (AllByRecursion IsFocusOrKey) (sym orders.is) j.keys)) t.method_ends.1;
       fields_told = λ k job is. (let e = t.field_ends k job is in

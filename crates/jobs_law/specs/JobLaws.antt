@@ -1,5 +1,5 @@
 -- What the law of a job says of the one journal of a hub, wherever its passes have seen it
-use Rattle.std.specs.Prelude.{◌≡◌, false, ℕ, List, Result}
+use Rattle.std.specs.Prelude.{◌≡◌, false, ℕ, List, Result, Err}
 use Rattle.std.specs.List.{AllByRecursion}
 use Rattle.seat_steps.specs.declared.limits.Limits.{Limits}
 use Rattle.seat_steps.specs.declared.step.ShellStep.{ShellStep}
@@ -16,6 +16,7 @@ use Rattle.pass_calls.specs.Counted.{entries_of_pass, AreOfPasses}
 use Rattle.trial_run.specs.declared.typist.TrialTypist.{TrialTypist}
 use Rattle.typing_jobs.specs.declared.field_job.FieldJob.{FieldJob}
 use Rattle.typing_jobs.specs.declared.job_end.JobEnd.{JobEnd}
+use Rattle.typing_jobs.specs.declared.job_end.JobEnd.TheVariants as ends
 use Rattle.typing_jobs.specs.FieldLaw.{FieldEnds, IsFieldDone}
 use Rattle.typing_jobs.specs.ShellLaw.{Orders}
 use Rattle.trial_jobs.specs.declared.method_job.MethodJob.{MethodJob}
@@ -24,7 +25,7 @@ use Rattle.trial_jobs.specs.MethodLaw.{IsFresh, MethodEnds, IsMethodDone}
 use Rattle.jobs_law.specs.Passes.{ArePassesOf}
 use Rattle.jobs_law.specs.FieldTold.{IsFieldTold, IsFieldToldAndSent, IsQuiet, OthersAreFields, IsAllTold}
 use Rattle.jobs_law.specs.MethodTold.{IsMethodTold, IsMethodToldAndSent, HasKeys}
-use Rattle.jobs_law.specs.ShellTold.{is_order, OrdersAreOf, HaveNoOrder, HasOrdered, IsFocusOrKey, orders_of}
+use Rattle.jobs_law.specs.ShellTold.{is_order, OrdersAreOf, HaveNoOrder, HasOrdered, IsFocusOrKey, orders_of, HasKeymap}
 
 -- ---- fields
 
@@ -90,6 +91,15 @@ MethodsHaveKeys =
     OthersAreFields (journal_of limits h) →
     HasKeys limits (journal_of limits h) (journal_of limits job.writer.seat.seen)
     (method_log job.log)
+
+-- Whatever the shell said: it ends by a bad event only where its writer's pass has seen a keymap, for
+-- which a client that is given no tokens has no event.
+abbrev pub MethodsFailAtKeymaps : Type 0
+MethodsFailAtKeymaps =
+    (limits : Limits) (h : History) (typist : TrialTypist) (job : MethodJob) → IsLawful limits h →
+    ArePassesOf h 1 job.reader job.writer → IsFresh typist → HasShort (method_log job.log) →
+    MethodEnds limits typist job (Err ends.BadEvent) →
+    HasKeymap (journal_of limits job.writer.seat.seen)
 
 -- ---- the shell
 

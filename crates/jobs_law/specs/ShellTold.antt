@@ -1,6 +1,6 @@
 -- The shell's orders in the one journal
 use Rattle.std.specs.Prelude.{◌≡◌, ℕ, Bool, true, false, List, [], ◌∷◌, ◌++◌, Result, Ok, Err}
-use Rattle.std.specs.List.{AllByRecursion}
+use Rattle.std.specs.List.{AllByRecursion, list_any}
 use Rattle.seat_steps.specs.declared.step.ShellStep.{ShellStep}
 use Rattle.seat_steps.specs.declared.step.ShellStep.TheVariants as shells
 use Rattle.broker_model.specs.declared.journal.Entry.{Entry}
@@ -39,3 +39,12 @@ IsFocusOrKey (shells.Focus q id) = Unit {0}
 IsFocusOrKey shells.Unfocus = Unit {0}
 IsFocusOrKey (shells.Key time key state) = Unit {0}
 IsFocusOrKey _ = ⊥
+
+-- the shell gives a keymap
+abbrev pub is_keymap : Entry → Bool
+is_keymap (entries.Shell (shells.Keymap keymap)) = true
+is_keymap _ = false
+
+-- the journal has one
+abbrev pub HasKeymap : List Entry → Type 0
+HasKeymap journal = list_any is_keymap journal ≡ true

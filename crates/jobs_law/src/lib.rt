@@ -4,6 +4,7 @@
 
 ghost use Rattle.jobs_law.specs.JobLaws.{FieldsAreTold, FieldsHaveSent, FieldsAreAllTold};
 ghost use Rattle.jobs_law.specs.JobLaws.{MethodsAreTold, MethodsHaveSent, MethodsHaveKeys};
+ghost use Rattle.jobs_law.specs.JobLaws.{MethodsFailAtKeymaps};
 ghost use Rattle.jobs_law.specs.JobLaws.{ShellHasOrdered, OnlyShellOrders};
 ghost use Rattle.jobs_law.specs.OneTrial.{TrialsAreTold, CutTrialsAreTold};
 
@@ -44,6 +45,12 @@ pub fn methods_have_keys()
     ensures { MethodsHaveKeys }
 {}
 
+/// The method's job ends by a bad event only where its writer's pass has seen a journal with a keymap,
+/// whatever else the shell said.
+pub fn methods_fail_at_keymaps()
+    ensures { MethodsFailAtKeymaps }
+{}
+
 /// The shell's orders in the one journal are those of its job, in order, and no others: all of them
 /// where it was done, else the first of them.
 #[tactic(auto, using(crate::proofs::ShellTold::shell_has_ordered))]
@@ -59,9 +66,9 @@ pub fn only_shell_orders()
 
 /// In a trial whose jobs were done the shell's orders in the one journal are the script's; the
 /// method's log has the events that the journal tells its peer up to the last take, each key among
-/// them, a front of these where the peer ended, and its peer's steps are what the log asks for; each field's log has all that the journal tells the field, with all batches
-/// that are relayed to it, a front of these where its peer ended, and its peer's steps are its set-up
-/// and what its log sends.
+/// them, a front of these where the peer ended, and its peer's steps are what the log asks for; each
+/// field's log has all that the journal tells the field, with all batches that are relayed to it, a
+/// front of these where its peer ended, and its peer's steps are its set-up and what its log sends.
 pub fn trials_are_told()
     ensures { TrialsAreTold }
 {}
