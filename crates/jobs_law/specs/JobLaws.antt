@@ -57,8 +57,8 @@ FieldsAreAllTold =
 
 -- ---- the method
 
--- of the method's job, however it ended, where its typist was fresh, its user's batches fit messages,
--- and the shell said no more than keys and where the focus is
+-- of the method's job, however it ended, where its typist was fresh, its user's batches fit
+-- messages, and the shell said no more than keys and where the focus is
 abbrev pub MethodsAreTold : Type 0
 MethodsAreTold =
     (limits : Limits) (h : History) (typist : TrialTypist) (job : MethodJob)
@@ -78,8 +78,8 @@ MethodsHaveSent =
     IsMethodToldAndSent limits (journal_of limits h) typist (method_log job.log)
 
 -- Where it was done, its writer took all that was put as far as it has seen, no later step is an
--- order, and each other peer is a field's, its log has each key that the journal tells its peer, and
--- all events up to the last take.
+-- order, and each other peer is a field's, its log has each key that the journal tells its peer,
+-- and all events up to the last take.
 abbrev pub MethodsHaveKeys : Type 0
 MethodsHaveKeys =
     (limits : Limits) (h : History) (typist : TrialTypist) (job : MethodJob) → IsLawful limits h →
@@ -92,8 +92,8 @@ MethodsHaveKeys =
     HasKeys limits (journal_of limits h) (journal_of limits job.writer.seat.seen)
     (method_log job.log)
 
--- Whatever the shell said: it ends by a bad event only where its writer's pass has seen a keymap, for
--- which a client that is given no tokens has no event.
+-- Whatever the shell said: it ends by a bad event only where its writer's pass has seen a keymap,
+-- for which a client that is given no tokens has no event.
 abbrev pub MethodsFailAtKeymaps : Type 0
 MethodsFailAtKeymaps =
     (limits : Limits) (h : History) (typist : TrialTypist) (job : MethodJob) → IsLawful limits h →

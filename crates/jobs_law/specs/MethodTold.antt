@@ -13,9 +13,9 @@ use Rattle.method_law.specs.ToldEvents.{events_told}
 use Rattle.method_law.specs.TypedLogs.{events_of, requests_of, steps_by, steps_of}
 use Rattle.jobs_law.specs.Passes.{HasSentIn}
 
--- The log's events are a front of those that the journal's acts tell the method's peer, which is the
--- first, in order: each key of its grab, each activation and each done. The peer's steps are the
--- first of what the log asks for.
+-- The log's events are a front of those that the journal's acts tell the method's peer, which is
+-- the first, in order: each key of its grab, each activation and each done. The peer's steps are
+-- the first of what the log asks for.
 pub record IsMethodTold (limits : Limits) (journal : List Entry) (typist : TrialTypist)
     (log : List Happening) : Type 0 where
   pub peer : Joined

@@ -65,8 +65,8 @@ pub record IsOnePeer (h : History) (q : ℕ) (reader writer : PeerPass) : Type 0
 abbrev pub entries_after : Limits → History → ℕ
 entries_after limits h = length (journal_of limits h)
 
--- The field's job was done. Its writer took all that was put as far as it has seen, which is no less
--- than the shell, the method's reader and its own have; or its peer ended.
+-- The field's job was done. Its writer took all that was put as far as it has seen, which is no
+-- less than the shell, the method's reader and its own have; or its peer ended.
 pub record HasRested (limits : Limits) (method : MethodJob) (shell : ShellJob)
     (job : FieldJob) : Type 0 where
   pub done : IsFieldDone limits job
@@ -84,10 +84,10 @@ pub record HasMethodRested (limits : Limits) (typist : TrialTypist) (method : Me
       × (entries_after limits shell.pass.seen ≤ entries_after limits method.writer.seat.seen))
       ⊎ IsOver limits method.reader method.writer
 
--- The method's peer is the first, and those of the fields follow, in order. What their passes and the
--- shell's have seen are fronts of one lawful history with no later step of theirs, and each of its
--- steps is of one of them or a join by the root. The method's typist was fresh, its user's batches
--- fit messages, and the shell says keys and where the focus is.
+-- The method's peer is the first, and those of the fields follow, in order. What their passes and
+-- the shell's have seen are fronts of one lawful history with no later step of theirs, and each of
+-- its steps is of one of them or a join by the root. The method's typist was fresh, its user's
+-- batches fit messages, and the shell says keys and where the focus is.
 pub record AreJobs (limits : Limits) (h : History) (typist : TrialTypist) (method : MethodJob)
     (fields : List FieldJob) (shell : ShellJob) : Type 0 where
   pub lawful : IsLawful limits h
@@ -129,8 +129,8 @@ pub record HasFieldTold (limits : Limits) (journal : List Entry) (q : ℕ)
   pub all : (HasEndIn journal q → ⊥) → IsAllTold limits journal q (field_log job.log)
 
 -- So it is with each field. The method's log has a front of the events that the journal tells its
--- peer, all of them up to the last take and each key unless its peer ended, and its peer's steps are
--- what the log asks for. The shell's orders are the script's.
+-- peer, all of them up to the last take and each key unless its peer ended, and its peer's steps
+-- are what the log asks for. The shell's orders are the script's.
 pub record IsToldWhole (limits : Limits) (journal : List Entry) (typist : TrialTypist)
     (method : MethodJob) (fields : List FieldJob) (shell : ShellJob) : Type 0 where
   pub orders : orders_of journal ≡ shell.steps

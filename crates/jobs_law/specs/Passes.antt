@@ -10,8 +10,8 @@ use Rattle.hub_lock.specs.Passes.{PeerPass}
 use Rattle.trial_law.specs.RelayedBatches.{IsFrontOf}
 use Rattle.method_law.specs.TypedLogs.{steps_by, steps_of}
 
--- They are the passes of the peer q. What each has seen is a front of the history, in which no later
--- step is the pass's.
+-- They are the passes of the peer q. What each has seen is a front of the history, in which no
+-- later step is the pass's.
 pub record ArePassesOf (h : History) (q : ℕ) (reader writer : PeerPass) : Type 0 where
   pub reads_for : reader.peer ≡ q
   pub writes_for : writer.peer ≡ q

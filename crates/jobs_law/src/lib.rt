@@ -39,14 +39,14 @@ pub fn methods_have_sent()
 {}
 
 /// Where it was done, and its writer took all that was put as far as it has seen, and past that no
-/// order was given: its log has each key that the one journal tells its peer, and all events that it
-/// tells the peer up to the last take.
+/// order was given: its log has each key that the one journal tells its peer, and all events that
+/// it tells the peer up to the last take.
 pub fn methods_have_keys()
     ensures { MethodsHaveKeys }
 {}
 
-/// The method's job ends by a bad event only where its writer's pass has seen a journal with a keymap,
-/// whatever else the shell said.
+/// The method's job ends by a bad event only where its writer's pass has seen a journal with a
+/// keymap, whatever else the shell said.
 pub fn methods_fail_at_keymaps()
     ensures { MethodsFailAtKeymaps }
 {}
@@ -66,9 +66,10 @@ pub fn only_shell_orders()
 
 /// In a trial whose jobs were done the shell's orders in the one journal are the script's; the
 /// method's log has the events that the journal tells its peer up to the last take, each key among
-/// them, a front of these where the peer ended, and its peer's steps are what the log asks for; each
-/// field's log has all that the journal tells the field, with all batches that are relayed to it, a
-/// front of these where its peer ended, and its peer's steps are its set-up and what its log sends.
+/// them, a front of these where the peer ended, and its peer's steps are what the log asks for;
+/// each field's log has all that the journal tells the field, with all batches that are relayed to
+/// it, a front of these where its peer ended, and its peer's steps are its set-up and what its log
+/// sends.
 pub fn trials_are_told()
     ensures { TrialsAreTold }
 {}
