@@ -31,18 +31,19 @@ shell_job S K i s o k a b = search (sendable, crosses, hub_sync, hub_send, shell
 pub reader_done : (S : RattleType) (s : SourceGhosts S.Denot) → IsSend S → IsSend (ReaderDone.the_field S s).row
 reader_done S s a = search (sendable, crosses, reader_send) depth 40
 
-pub writer_done : (K : RattleType) (k : SinkGhosts K.Denot) → IsSend K → IsSend (WriterDone.the_field K k).row
-writer_done K k a = search (sendable, crosses, writer_send) depth 40
+pub writer_done : (K : RattleType) (o : OutGhosts K.Denot) (k : SinkGhosts K.Denot) → IsSend K →
+    IsSend (WriterDone.the_field K o k).row
+writer_done K o k a = search (sendable, crosses, writer_send) depth 40
 
-pub shell_done : (S K : RattleType) (s : SourceGhosts S.Denot) (k : SinkGhosts K.Denot) → IsSend S → IsSend K →
-    IsSend (ShellDone.the_field S K s k).row
-shell_done S K s k a b = search (sendable, crosses, shell_send) depth 40
+pub shell_done : (S K : RattleType) (s : SourceGhosts S.Denot) (o : OutGhosts K.Denot) (k : SinkGhosts K.Denot) →
+    IsSend S → IsSend K → IsSend (ShellDone.the_field S K s o k).row
+shell_done S K s o k a b = search (sendable, crosses, shell_send) depth 40
 
 pub link_job : (S K G : RattleType) (i : InGhosts S.Denot) (s : SourceGhosts S.Denot) (o : OutGhosts K.Denot)
     (k : SinkGhosts K.Denot) → IsSend S → IsSend K → IsSend G → IsSync G →
     IsSend (LinkJob.the_field S K G i s o k).row
 link_job S K G i s o k a b c d = search (sendable, crosses, reader_job, writer_job, shell_job) depth 40
 
-pub link_done : (S K : RattleType) (s : SourceGhosts S.Denot) (k : SinkGhosts K.Denot) → IsSend S → IsSend K →
-    IsSend (LinkDone.the_field S K s k).row
-link_done S K s k a b = search (sendable, crosses, reader_done, writer_done, shell_done) depth 40
+pub link_done : (S K : RattleType) (s : SourceGhosts S.Denot) (o : OutGhosts K.Denot) (k : SinkGhosts K.Denot) →
+    IsSend S → IsSend K → IsSend (LinkDone.the_field S K s o k).row
+link_done S K s o k a b = search (sendable, crosses, reader_done, writer_done, shell_done) depth 40

@@ -1,7 +1,7 @@
 -- The tags of the jobs of links, and the tags and reports of their results
-use Rattle.std.specs.Prelude.{ℕ, List, Option, None}
+use Rattle.std.specs.Prelude.{ℕ, None, false}
 use Rattle.hub_lock.specs.Passes.{PassSeat}
-use Rattle.link_jobs.specs.Tags.{Part, Tag, Report, End}
+use Rattle.link_jobs.specs.Tags.{Part, Tag, Report}
 use Rattle.link_jobs.specs.Tags.Part.{reader, writer, shell}
 use Rattle.link_jobs.specs.Tags.End.{read, wrote, ordered}
 use Rattle.link_jobs.specs.declared.done.ReaderDone.{ReaderDone}
@@ -44,10 +44,11 @@ module _ {I : Type 0} {s : _} where
     given = s.given d.source;
     left = s.left d.source;
     held = None;
+    hung_up = false;
   }
 
-module _ {O : Type 0} {k : _} where
-  abbrev pub writer_report : WriterDone O k → Report
+module _ {O : Type 0} {o : _} {k : _} where
+  abbrev pub writer_report : WriterDone O o k → Report
   writer_report d = record {
     number = d.pass.seat.number;
     peer = d.pass.peer;
@@ -59,10 +60,11 @@ module _ {O : Type 0} {k : _} where
     given = None;
     left = None;
     held = k.held d.sink;
+    hung_up = o.hung_up d.sink;
   }
 
-module _ {I O : Type 0} {s : _} {k : _} where
-  abbrev pub shell_report : ShellDone I O s k → Report
+module _ {I O : Type 0} {s : _} {o : _} {k : _} where
+  abbrev pub shell_report : ShellDone I O s o k → Report
   shell_report d = record {
     number = d.pass.number;
     peer = 0;
@@ -74,15 +76,16 @@ module _ {I O : Type 0} {s : _} {k : _} where
     given = s.given d.source;
     left = s.left d.source;
     held = k.held d.sink;
+    hung_up = o.hung_up d.sink;
   }
 
-module _ {I O : Type 0} {s : _} {k : _} where
-  abbrev pub done_tag : LinkDone I O s k → Tag
+module _ {I O : Type 0} {s : _} {o : _} {k : _} where
+  abbrev pub done_tag : LinkDone I O s o k → Tag
   done_tag (done.Reader d) = tag_with d.pass.seat d.pass.peer d.link reader
   done_tag (done.Writer d) = tag_with d.pass.seat d.pass.peer d.link writer
   done_tag (done.Shell d) = tag_with d.pass 0 d.link shell
 
-  abbrev pub done_report : LinkDone I O s k → Report
+  abbrev pub done_report : LinkDone I O s o k → Report
   done_report (done.Reader d) = reader_report d
   done_report (done.Writer d) = writer_report d
   done_report (done.Shell d) = shell_report d

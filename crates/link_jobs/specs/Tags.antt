@@ -1,5 +1,5 @@
 -- What contracts see of a job and of its result
-use Rattle.std.specs.Prelude.{◌≡◌, ℕ, List, Option}
+use Rattle.std.specs.Prelude.{◌≡◌, ℕ, List, Option, Bool}
 use Rattle.atomic_table.specs.Seated.{TableId}
 use Rattle.seat_steps.specs.declared.limits.Limits.{Limits}
 use Rattle.peer_link.specs.declared.ends.ReadEnd.{ReadEnd}
@@ -30,9 +30,9 @@ pub data End : Type 0 where
   ordered : ShellEnd → End
 
 -- a result: the numbers and the part of its job; how its loop ended; how often its link's source
--- and sink failed; and, where the link tells them, the bytes that its source gave, those that it
--- has left, and those that its sink holds. A way that the job doesn't have tells nothing and never
--- failed.
+-- and sink failed; where the link tells them, the bytes that its source gave, those that it has
+-- left, and those that its sink holds; and whether the sink hung up. A way that the job doesn't
+-- have tells nothing, never failed and didn't hang up.
 pub record Report : Type 0 where
   pub number : ℕ
   pub peer : ℕ
@@ -44,6 +44,7 @@ pub record Report : Type 0 where
   pub given : Option (List ℕ)
   pub left : Option (List ℕ)
   pub held : Option (List ℕ)
+  pub hung_up : Bool
 
 -- the report of the result of the job with this tag
 pub record IsReportOf (tag : Tag) (report : Report) : Type 0 where

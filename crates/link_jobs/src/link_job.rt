@@ -6,7 +6,7 @@ use crate::run::{run_reader, run_shell, run_writer};
 use hub_lock::Gate;
 use link_nets::{LinkSink, LinkSource};
 use std::sync::Wait;
-use wio_core::{Sink, Source};
+use wio_core::Source;
 
 /// A job of a link.
 #[derive(Drop)]
@@ -21,7 +21,7 @@ pub enum LinkJob<S: LinkSource, K: LinkSink, G: Gate + Drop> {
 
 /// What a job of a link gives back: the pass, the link's ways, and how the loop ended.
 #[derive(Drop)]
-pub enum LinkDone<S: Source + Drop, K: Sink + Drop> {
+pub enum LinkDone<S: Source + Drop, K: LinkSink> {
     /// A peer's link was read.
     Reader(ReaderDone<S>),
     /// A peer's link was written to.

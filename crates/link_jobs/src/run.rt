@@ -36,7 +36,7 @@ pub fn run_reader<R: Wait, S: LinkSource, G: Gate + Drop>(
     }
 }
 
-/// Writes to a peer's link up to its end, and hangs up, also where a write fails: whoever still
+/// Writes to a peer's link up to its end, and hangs up, at once where a write fails: whoever still
 /// reads the link sees its end.
 pub fn run_writer<R: Wait, K: LinkSink>(rt: &R, job: WriterJob<K>) -> WriterDone<K>
     ensures pass { result.pass ≡ pass_having_seen job.pass result.pass.seat.seen }
@@ -48,11 +48,11 @@ pub fn run_writer<R: Wait, K: LinkSink>(rt: &R, job: WriterJob<K>) -> WriterDone
         sink,
     } = job;
     let link = sink.link();
-    let mut sink = HangsUp { sink };
-    let end = write_peer(rt, &*hub, &mut pass, &mut sink);
-    let HangsUp { mut sink } = sink;
+    let mut out = HangsUp { sink };
+    let end = write_peer(rt, &*hub, &mut pass, &mut out);
     hub.leave();
-    sink.hang_up();
+    out.sink.hang_up();
+    let HangsUp { sink } = out;
     WriterDone {
         pass,
         sink,

@@ -32,7 +32,8 @@ pub trait Spawner<J: Job> {
         ensures none { OnErr result (started self.new ≡ started self.old) }
         ensures stays { OnErr result (before_start self.new ≡ before_start self.old) }
         ensures never_falls { refusal_count self.old ≤ refusal_count self.new }
-        ensures cause { OnErr result (Rose (refusal_count self.old) (refusal_count self.new)) };
+        ensures cause { OnErr result (Rose (refusal_count self.old) (refusal_count self.new)) }
+        ensures no_refusal { OnOk result (refusal_count self.new ≡ refusal_count self.old) };
 
     /// Waits for the first job that was started and whose result wasn't given yet, and gives its
     /// result; none, where every result was given.
@@ -46,7 +47,8 @@ pub trait Spawner<J: Job> {
         ensures none { IfNone result (reports self.new ≡ reports self.old) }
         ensures started { started self.new ≡ started self.old }
         ensures before { before_start self.new ≡ before_start self.old }
-        ensures never_falls { refusal_count self.old ≤ refusal_count self.new };
+        ensures never_falls { refusal_count self.old ≤ refusal_count self.new }
+        ensures no_refusal { refusal_count self.new ≡ refusal_count self.old };
 
     /// How many starts were refused so far, up to the greatest `u64`, where the count stands still.
     fn refusals(&self) -> u64
