@@ -1,6 +1,6 @@
 //! A net with one link or two. The source of each ends only once its sink has gained bytes, or was
 //! hung up.
-ghost use Rattle.std.specs.Prelude.{◌≡◌, None, true, IfSome, IfOk};
+ghost use Rattle.std.specs.Prelude.{◌≡◌, None, true, false, IfSome, IfOk};
 ghost use Rattle.std.proofs.Props.{props};
 
 use crate::gates::TURNS;
@@ -96,13 +96,17 @@ impl LinkSource for LiveSource {
 pub(crate) struct LiveSink {
     shared: Arc<Shared, Global>,
     number: u64,
+    hung_up: bool,
 }
 
 impl LiveSink {
-    pub(crate) fn new(shared: &Arc<Shared, Global>) -> Result<LiveSink, AllocError> {
+    pub(crate) fn new(shared: &Arc<Shared, Global>) -> Result<LiveSink, AllocError>
+        ensures { IfOk result (λ s. s.hung_up ≡ false) }
+    {
         Ok(LiveSink {
             shared: Arc::try_clone(shared)?,
             number: 0,
+            hung_up: false,
         })
     }
 }
@@ -113,10 +117,7 @@ impl Sink for LiveSink {
     ghost fault_count = { λ _. 0 };
 
     fn write(&mut self, piece: &[u8]) -> Result<usize, Failed> {
-        self.shared
-            .gained
-            .fetch_add(piece.len() as u64, Ordering::SeqCst);
-        Ok(piece.len())
+        self.send(piece)
     }
 
     fn faults(&self) -> u64 {
@@ -127,12 +128,22 @@ impl Sink for LiveSink {
 impl LinkSink for LiveSink {
     ghost number = { λ s. s.number };
 
+    ghost hung_up = { λ s. s.hung_up };
+
     fn link(&self) -> u64 {
         self.number
     }
 
+    fn send(&mut self, piece: &[u8]) -> Result<usize, Failed> {
+        self.shared
+            .gained
+            .fetch_add(piece.len() as u64, Ordering::SeqCst);
+        Ok(piece.len())
+    }
+
     fn hang_up(&mut self) {
         self.shared.hung_up.store(1, Ordering::SeqCst);
+        self.hung_up = true;
     }
 }
 
@@ -142,7 +153,8 @@ fn link_of(
     bytes: &[u8],
     shared: &Arc<Shared, Global>,
 ) -> Result<(LiveSource, LiveSink), AllocError>
-    ensures { IfOk result (λ l. l.0.bytes.faults ≡ 0) }
+    ensures whole { IfOk result (λ l. l.0.bytes.faults ≡ 0) }
+    ensures live { IfOk result (λ l. l.1.hung_up ≡ false) }
 {
     let source = LiveSource {
         bytes: MemSource::new(bytes.to_vec(alloc)?, 4096, Vec::new(alloc)),
@@ -161,6 +173,8 @@ pub(crate) struct LiveNet {
     faults: u64,
     ghost whole: { IfSome link (λ l. l.0.bytes.faults ≡ 0) } by { Prim.hlevel props },
     ghost rest: { IfSome behind (λ l. l.0.bytes.faults ≡ 0) } by { Prim.hlevel props },
+    ghost live: { IfSome link (λ l. l.1.hung_up ≡ false) } by { Prim.hlevel props },
+    ghost live_behind: { IfSome behind (λ l. l.1.hung_up ≡ false) } by { Prim.hlevel props },
 }
 
 impl LiveNet {

@@ -70,6 +70,7 @@ fn accept_link<R: Files<File = File> + Copy>(
     ensures source { IfOk result (λ link. ⟦<UnixSource as Source>⟧.fault_count link.0 ≡ 0) }
     ensures holds { IfOk result (λ link. ⟦<UnixSink as Sink>⟧.held link.1 ≡ None) }
     ensures sink { IfOk result (λ link. ⟦<UnixSink as Sink>⟧.fault_count link.1 ≡ 0) }
+    ensures live { IfOk result (λ link. ⟦<UnixSink as LinkSink>⟧.hung_up link.1 ≡ false) }
     ensures number_in { IfOk result (λ link. ⟦<UnixSource as LinkSource>⟧.number link.0 ≡ number) }
     ensures number_out { IfOk result (λ link. ⟦<UnixSink as LinkSink>⟧.number link.1 ≡ number) }
 {

@@ -1,5 +1,5 @@
 //! The way out of a Unix link.
-ghost use Rattle.std.specs.Prelude.{◌≡◌, None};
+ghost use Rattle.std.specs.Prelude.{◌≡◌, None, false};
 
 use link_nets::LinkSink;
 use std::io::Write;
@@ -14,20 +14,23 @@ pub struct UnixSink {
     stream: UnixStream,
     faults: u64,
     number: u64,
+    hung_up: bool,
 }
 
 impl UnixSink {
     /// Writes to this stream, to which no write failed yet, as the way out of the link with this
-    /// number.
+    /// number, which is open.
     pub fn new(stream: UnixStream, number: u64) -> UnixSink
         ensures held { ⟦<UnixSink as Sink>⟧.held result ≡ None }
         ensures no_fault_yet { ⟦<UnixSink as Sink>⟧.fault_count result ≡ 0 }
+        ensures live { ⟦<UnixSink as LinkSink>⟧.hung_up result ≡ false }
         ensures number { ⟦<UnixSink as LinkSink>⟧.number result ≡ number }
     {
         UnixSink {
             stream,
             faults: 0,
             number,
+            hung_up: false,
         }
     }
 }
@@ -37,15 +40,8 @@ impl Sink for UnixSink {
 
     ghost fault_count = { λ s. s.faults };
 
-    /// A write that takes no byte is a fault.
     fn write(&mut self, piece: &[u8]) -> Result<usize, Failed> {
-        match self.stream.write(piece) {
-            Ok(n) if n > 0 => Ok(n),
-            _ => {
-                self.faults = self.faults.saturating_add(1);
-                Err(Failed)
-            }
-        }
+        self.send(piece)
     }
 
     fn faults(&self) -> u64 {
@@ -56,12 +52,26 @@ impl Sink for UnixSink {
 impl LinkSink for UnixSink {
     ghost number = { λ s. s.number };
 
+    ghost hung_up = { λ s. s.hung_up };
+
     fn link(&self) -> u64 {
         self.number
+    }
+
+    /// A write that takes no byte is a fault.
+    fn send(&mut self, piece: &[u8]) -> Result<usize, Failed> {
+        match self.stream.write(piece) {
+            Ok(n) if n > 0 => Ok(n),
+            _ => {
+                self.faults = self.faults.saturating_add(1);
+                Err(Failed)
+            }
+        }
     }
 
     /// Shuts both ways of the stream down.
     fn hang_up(&mut self) {
         let _ = self.stream.shutdown(Shutdown::Both);
+        self.hung_up = true;
     }
 }
