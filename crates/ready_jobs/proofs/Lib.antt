@@ -1,3 +1,5 @@
 pub mod PeersJoined
 pub mod SetupsSent
+pub mod LightMessages
+pub mod StepsFew
 pub mod CausesSeen

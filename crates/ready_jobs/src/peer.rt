@@ -1,13 +1,13 @@
 //! A user's peer begins: it joins, and sends its set-up.
-ghost use Rattle.std.specs.Prelude.{◌≡◌, ◌≤◌, ◌^◌, List, IfOk, IfErr, OnOk};
+ghost use Rattle.std.specs.Prelude.{◌≡◌, ◌≤◌, ◌<◌, ◌^◌, ℕ, List, length, Err, IfOk, IfErr, OnOk, OnErr};
 ghost use Rattle.client_side.specs.Messages.{Sent, spelled};
-ghost use Rattle.turn_lock.specs.Pairs.{NoneOf};
-ghost use Rattle.hub_lock.specs.Passes.{IsOf};
+ghost use Rattle.turn_lock.specs.Pairs.{own, NoneOf};
+ghost use Rattle.hub_lock.specs.Passes.{IsOf, steps_of};
 ghost use Rattle.hub_lock.specs.Calls.{IsJoined, pass_having_seen};
 ghost use Rattle.pass_calls.specs.Made.{SawMore};
 ghost use Rattle.typing_jobs.specs.Sending.{HasMade, IsBegun};
 ghost use Rattle.ready_jobs.specs.Begun.{HasBegun};
-ghost use Rattle.ready_jobs.specs.NoJobs.{HasCause, IsWithout};
+ghost use Rattle.ready_jobs.specs.NoJobs.{HasCause, IsWithout, count_in};
 
 use crate::back::give_back;
 use crate::no_job::NoJob;
@@ -30,7 +30,10 @@ fn join_peer<R: Wait>(
         IsJoined hub.now.limits root.old root.new role both.0 both.1) }
     ensures fresh { IfOk result (λ both. NoneOf both.0.seat.number both.0.seat.seen ×
         NoneOf both.1.seat.number both.1.seat.seen) }
-    ensures none { IfErr result (IsWithout hub.now root.old root.new) }
+    ensures none { IfErr result (λ why.
+        (most : ℕ) → IsWithout hub.now root.old root.new most why) }
+    ensures few { length (own 0 root.old.seen) < 64 →
+        (n : ℕ) → ¬ (result ≡ Err (NoJob.TooManyPeers n)) }
 {
     Ok(hub.join(rt, root, role)?)
 }
@@ -50,6 +53,8 @@ fn send_setup<R: Wait>(
     ensures sent { (sents : List Sent) → setup.now ≡ spelled sents →
         OnOk result (HasMade hub.now.limits reader.new sents) }
     ensures cause { IfErr result (HasCause hub.now.limits reader.new.seat.seen) }
+    ensures made { OnErr result (steps_of reader.new.seat ≤ count_in setup.now) }
+    ensures few { (n : ℕ) → ¬ (result ≡ Err (NoJob.TooManyPeers n)) }
 {
     let _ = submit_messages(rt, alloc, hub, reader, setup)?;
     Ok(())
@@ -70,7 +75,9 @@ pub(crate) fn begin_peer<R: Wait>(
         HasBegun hub.now.limits root.old root.new role both.0 both.1) }
     ensures ready { IfOk result (λ both. (sents : List Sent) → setup.now ≡ spelled sents →
         IsBegun hub.now role both.0 both.1 sents) }
-    ensures none { IfErr result (IsWithout hub.now root.old root.new) }
+    ensures none { IfErr result (IsWithout hub.now root.old root.new (count_in setup.now)) }
+    ensures few { length (own 0 root.old.seen) < 64 →
+        (n : ℕ) → ¬ (result ≡ Err (NoJob.TooManyPeers n)) }
 {
     let (mut reader, writer) = join_peer(rt, hub, root, role)?;
     if let Err(why) = send_setup(rt, alloc, hub, &mut reader, setup) {
