@@ -138,6 +138,7 @@ pub record IsRecording {S : Type 0} (held : S → Option (List ℕ)) (faults : S
   pub written : (first : Option (List ℕ)) → Holds first (held old) waits (handed_text limits p.handed)
       → Holds first (held new) waits' (handed_text limits p'.handed)
   pub never_falls : faults old ≤ faults new
+  pub none_failed : faults new ≡ faults old
 
 module _ {S : Type 0} {held : S → Option (List ℕ)} {faults : S → ℕ} {limits : Limits} where
   pub recording_begins : (p : Recorder) (s : S) (waits : List ℕ) → IsRecording held faults limits p p s s waits waits
@@ -145,6 +146,7 @@ module _ {S : Type 0} {held : S → Option (List ℕ)} {faults : S → ℕ} {lim
     none_made = record { seat = refl; seen = ([], sym (append-nil p.seat.seen), refl) };
     written = λ first holds. holds;
     never_falls = omega arith;
+    none_failed = refl;
   }
 
   -- one more was handed out and written
@@ -166,4 +168,5 @@ module _ {S : Type 0} {held : S → Option (List ℕ)} {faults : S → ℕ} {lim
             let one = so_far.never_falls in
             let two = out.never_falls in
             let three = put.never_falls in omega arith;
+        none_failed = put.no_fault (λ is. cc) ∙ (out.no_fault (λ is. cc) ∙ so_far.none_failed);
       }

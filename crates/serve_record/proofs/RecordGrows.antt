@@ -1,5 +1,5 @@
 -- The text of a recorded session grows entry by entry, and a sink with it
-use Rattle.std.proofs.Common.{◌≡◌, ◌<◌, ◌≤◌, ◌++◌, [], ℕ, List, length, drop, take, Option, Some, None, Result, Ok, Err, OnOk, OnErr, sym, ap, ◌∙◌, subst, append-nil, take-append-drop, arith, refl}
+use Rattle.std.proofs.Common.{◌≡◌, ◌≢◌, ◌<◌, ◌≤◌, ◌++◌, [], ℕ, List, length, drop, take, Option, Some, None, Result, Ok, Err, OnOk, OnErr, sym, ap, ◌∙◌, subst, append-nil, take-append-drop, arith, refl}
 use Rattle.std.proofs.lemmas.List.{append_assoc}
 use Rattle.std.specs.Io.KnownBytes.{Appends}
 use Rattle.wio_core.specs.Io.{Rose}
@@ -56,10 +56,6 @@ front_of a b text more whole front is = (
   sym (append_assoc front.0 front.1 more) ∙ (ap (λ u. u ++ more) front.3 ∙ is),
 )
 
--- what waits isn't written
-pub holds_front : (a b : Option (List ℕ)) (waiting text : List ℕ) → Holds a b waiting text → GainsFront a b text
-holds_front a b waiting text holds = (holds.0, waiting, holds.1, holds.2)
-
 -- of bytes that a fault cut, some went out
 pub cut_is_front : (a b : Option (List ℕ)) (piece : List ℕ)
     → (n : ℕ) × (n < length piece) × Appends a b (take n piece) → GainsFront a b piece
@@ -99,6 +95,7 @@ module _ {S T E : Type 0} (held : S → Option (List ℕ)) (faults : S → ℕ) 
     front = tt;
     never_falls = omega arith;
     cause = λ e. absurd (cc);
+    no_fault = λ not. refl;
   }
 
   -- nothing, where it failed and no fault was counted
@@ -109,35 +106,41 @@ module _ {S T E : Type 0} (held : S → Option (List ℕ)) (faults : S → ℕ) 
     front = on_err r _ ([], text, appends_none (held s), refl);
     never_falls = omega arith;
     cause = λ e. absurd (not e);
+    no_fault = λ other. refl;
   }
 
   -- a front, where it failed
   pub gains_cut : (old new : S) (waiting text : List ℕ) (r : Result T E) → OnOk r ⊥
       → GainsFront (held old) (held new) text → faults old ≤ faults new
-      → (r ≡ Err fault → Rose (faults old) (faults new)) → Gains held faults old new waiting text fault r
-  gains_cut old new waiting text r never front falls cause = record {
+      → (r ≡ Err fault → Rose (faults old) (faults new)) → (r ≢ Err fault → faults new ≡ faults old)
+      → Gains held faults old new waiting text fault r
+  gains_cut old new waiting text r never front falls cause none_failed = record {
     whole = never_ok r _ never;
     front = on_err r _ front;
     never_falls = falls;
     cause = cause;
+    no_fault = none_failed;
   }
 
   -- all that waited, or a front of it
   pub gains_out : (old new : S) (waited waiting text : List ℕ) (r : Result T E) → waited ≡ text
       → OnOk r (Appends (held old) (held new) waited) → OnOk r (waiting ≡ [])
       → OnErr r (GainsFront (held old) (held new) waited) → faults old ≤ faults new
-      → (r ≡ Err fault → Rose (faults old) (faults new)) → Gains held faults old new waiting text fault r
-  gains_out old new waited waiting text (Ok x) is out none front falls cause = record {
+      → (r ≡ Err fault → Rose (faults old) (faults new)) → (r ≢ Err fault → faults new ≡ faults old)
+      → Gains held faults old new waiting text fault r
+  gains_out old new waited waiting text (Ok x) is out none front falls cause none_failed = record {
     whole = (waited, out, ap (λ w. waited ++ w) none ∙ (append-nil waited ∙ is));
     front = tt;
     never_falls = falls;
     cause = cause;
+    no_fault = none_failed;
   }
-  gains_out old new waited waiting text (Err e) is out none front falls cause = record {
+  gains_out old new waited waiting text (Err e) is out none front falls cause none_failed = record {
     whole = tt;
     front = subst (GainsFront (held old) (held new)) is front;
     never_falls = falls;
     cause = cause;
+    no_fault = none_failed;
   }
 
 -- the same of the answer where an entry may have no line
@@ -145,18 +148,26 @@ module _ {S T E : Type 0} (held : S → Option (List ℕ)) (faults : S → ℕ) 
 module _ {S T : Type 0} {held : S → Option (List ℕ)} {faults : S → ℕ} {old new : S} {waiting text : List ℕ} where
   gains_line : (r : Result T RecordStop) → Gains held faults old new waiting text stops.WriteFault r
       → Gains held faults old new waiting text line_stops.WriteFault (line_result r)
-  gains_line (Ok x) g = record { whole = g.whole; front = tt; never_falls = g.never_falls; cause = λ e. absurd (cc) }
+  gains_line (Ok x) g = record {
+    whole = g.whole;
+    front = tt;
+    never_falls = g.never_falls;
+    cause = λ e. absurd (cc);
+    no_fault = λ not. g.no_fault (λ e. cc);
+  }
   gains_line (Err stops.WriteFault) g = record {
     whole = tt;
     front = g.front;
     never_falls = g.never_falls;
     cause = λ e. g.cause refl;
+    no_fault = λ not. absurd (not refl);
   }
   gains_line (Err stops.NoMemory) g = record {
     whole = tt;
     front = g.front;
     never_falls = g.never_falls;
     cause = λ e. absurd (cc);
+    no_fault = λ not. g.no_fault (λ e. cc);
   }
 
   pub gains_as : {r : Result T RecordStop} {s : Result T LineStop} → s ≡ line_result r
@@ -175,6 +186,11 @@ pub line_fault : {T : Type 0} (r : Result T RecordStop) → line_result r ≡ Er
 line_fault (Ok x) e = absurd (cc)
 line_fault (Err stops.WriteFault) e = refl
 line_fault (Err stops.NoMemory) e = absurd (cc)
+
+-- another answer is another one's line
+pub not_line_fault : {T : Type 0} (r : Result T RecordStop) → line_result r ≢ Err line_stops.WriteFault
+    → r ≢ Err stops.WriteFault
+not_line_fault r not e = not (ap line_result e)
 
 pub ok_line : {T : Type 0} (r : Result T RecordStop) (P Q : Type 0) → (P → Q) → OnOk r P → OnOk (line_result r) Q
 ok_line (Ok x) P Q f p = f p

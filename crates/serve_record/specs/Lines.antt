@@ -1,5 +1,5 @@
 -- The lines of a recorded session
-use Rattle.std.specs.Prelude.{◌≡◌, ◌≤◌, ℕ, List, [], ◌∷◌, ◌++◌, drop, Option, Some, None, IfSome, Result, Ok, Err, OnOk, OnErr}
+use Rattle.std.specs.Prelude.{◌≡◌, ◌≢◌, ◌≤◌, ℕ, List, [], ◌∷◌, ◌++◌, drop, Option, Some, None, IfSome, Result, Ok, Err, OnOk, OnErr}
 use Rattle.std.specs.List.{flat_map}
 use Rattle.std.specs.Io.KnownBytes.{Appends}
 use Rattle.wio_core.specs.Io.{Rose}
@@ -58,13 +58,14 @@ GainsFront held held_after text =
     × (written ++ rest ≡ text)
 
 -- what a call made of a sink: at `Ok` it gained this text but for what waits, else a front of it; its
--- count of faults never fell, and this answer came of one
+-- count of faults never fell, this answer came of one, and no other answer did
 pub record Gains {S T E : Type 0} (held : S → Option (List ℕ)) (faults : S → ℕ) (old new : S)
     (waiting text : List ℕ) (fault : E) (r : Result T E) : Type 0 where
   pub whole : OnOk r (Holds (held old) (held new) waiting text)
   pub front : OnErr r (GainsFront (held old) (held new) text)
   pub never_falls : faults old ≤ faults new
   pub cause : r ≡ Err fault → Rose (faults old) (faults new)
+  pub no_fault : r ≢ Err fault → faults new ≡ faults old
 
 -- the same answer, where an entry may have no line
 abbrev pub line_result : {T : Type 0} → Result T RecordStop → Result T LineStop

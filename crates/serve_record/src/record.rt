@@ -1,5 +1,5 @@
 //! The whole recorded session goes out.
-ghost use Rattle.std.specs.Prelude.{◌≡◌, ◌≤◌, ◌++◌, length, Err, IfOk, OnOk, OnErr};
+ghost use Rattle.std.specs.Prelude.{◌≡◌, ◌≢◌, ◌≤◌, ◌++◌, length, Err, IfOk, OnOk, OnErr};
 ghost use Rattle.std.specs.Io.KnownBytes.{Appends};
 ghost use Rattle.wio_core.specs.Io.{Rose};
 ghost use Rattle.session_text.specs.declared.line.Line.TheVariants.{Header};
@@ -140,6 +140,8 @@ pub fn write_record<K: Sink>(
     ensures never_falls { K.fault_count output.old ≤ K.fault_count output.new }
     ensures cause { result ≡ Err LineStop.WriteFault →
         Rose (K.fault_count output.old) (K.fault_count output.new) }
+    ensures no_fault { result ≢ Err LineStop.WriteFault →
+        K.fault_count output.new ≡ K.fault_count output.old }
     ensures no_line { HaveLines session.now.journal.entries →
         ¬ (result ≡ Err LineStop.NoLine) }
 {

@@ -1,5 +1,5 @@
 //! The entries that a hub hands out go out as they come.
-ghost use Rattle.std.specs.Prelude.{◌≡◌, ◌≤◌, length, Err, IfOk, OnOk, OnErr};
+ghost use Rattle.std.specs.Prelude.{◌≡◌, ◌≢◌, ◌≤◌, length, Err, IfOk, OnOk, OnErr};
 ghost use Rattle.wio_core.specs.Io.{Rose};
 ghost use Rattle.turn_lock.specs.Pairs.{HasSeen};
 ghost use Rattle.turn_lock.specs.Sights.{having_seen};
@@ -60,6 +60,8 @@ pub fn record_handed<R: Wait, K: Sink>(
     ensures never_falls { K.fault_count output.old ≤ K.fault_count output.new }
     ensures cause { result ≡ Err RecordStop.WriteFault →
         Rose (K.fault_count output.old) (K.fault_count output.new) }
+    ensures no_fault { result ≢ Err RecordStop.WriteFault →
+        K.fault_count output.new ≡ K.fault_count output.old }
 {
     for _ in rt.forever() {
         match next_entry(rt, hub, pass, text, output)? {

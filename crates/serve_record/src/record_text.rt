@@ -1,5 +1,5 @@
 //! A recorded session as its entries come.
-ghost use Rattle.std.specs.Prelude.{◌≡◌, ◌≤◌, ◌↔◌, ◌++◌, [], Some, Err, IfOk, OnOk, OnErr};
+ghost use Rattle.std.specs.Prelude.{◌≡◌, ◌≢◌, ◌≤◌, ◌↔◌, ◌++◌, [], Some, Err, IfOk, OnOk, OnErr};
 ghost use Rattle.std.specs.Io.KnownBytes.{Appends};
 ghost use Rattle.wio_core.specs.Io.{Rose};
 ghost use Rattle.session_text.specs.declared.line.Line.TheVariants.{Header, End};
@@ -60,6 +60,8 @@ impl RecordText {
         ensures never_falls { K.fault_count output.old ≤ K.fault_count output.new }
         ensures cause { result ≡ Err LineStop.WriteFault →
             Rose (K.fault_count output.old) (K.fault_count output.new) }
+        ensures no_fault { result ≢ Err LineStop.WriteFault →
+            K.fault_count output.new ≡ K.fault_count output.old }
         ensures no_line { (result ≡ Err LineStop.NoLine) ↔ ¬ (FitsLine next.now.entry) }
         ensures untouched { result ≡ Err LineStop.NoLine →
             (self.new ≡ self.old) × (output.new ≡ output.old) }
@@ -99,6 +101,8 @@ impl RecordText {
         ensures never_falls { K.fault_count output.old ≤ K.fault_count output.new }
         ensures cause { result ≡ Err RecordStop.WriteFault →
             Rose (K.fault_count output.old) (K.fault_count output.new) }
+        ensures no_fault { result ≢ Err RecordStop.WriteFault →
+            K.fault_count output.new ≡ K.fault_count output.old }
     {
         write_all(output, self.waiting.as_slice())?;
         self.waiting.clear();
@@ -114,6 +118,8 @@ impl RecordText {
         ensures never_falls { K.fault_count output.old ≤ K.fault_count output.new }
         ensures cause { result ≡ Err RecordStop.WriteFault →
             Rose (K.fault_count output.old) (K.fault_count output.new) }
+        ensures no_fault { result ≢ Err RecordStop.WriteFault →
+            K.fault_count output.new ≡ K.fault_count output.old }
     {
         let RecordText { mut waiting } = self;
         waiting.extend_from_slice(b"end\n").map_err(NoMemory::from)?;

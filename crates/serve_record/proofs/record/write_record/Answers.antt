@@ -1,9 +1,9 @@
-use Rattle.std.proofs.Common.{rules, ◌≡◌, ◌+◌, ◌-◌, ◌++◌, ◌∙◌, [], OnOk, OnErr, length, ap, sym, subst, arith}
+use Rattle.std.proofs.Common.{rules, ◌≡◌, ◌+◌, ◌-◌, ◌++◌, ◌∙◌, [], OnOk, OnErr, length, ap, sym, subst, arith, refl}
 use Rattle.std.specs.Io.KnownBytes.{Appends}
 use Rattle.session_text.specs.declared.line.Line.TheVariants.{End}
 use Rattle.serve_record.specs.Recorded.{text_line, recorded}
 use Rattle.serve_record.specs.Lines.{Holds, GainsFront, text_without}
-use Rattle.serve_record.proofs.RecordGrows.{appends_none, holds_more, holds_then_front, holds_then_whole, front_of, on_err, has_line, line_fault, ok_line, err_line}
+use Rattle.serve_record.proofs.RecordGrows.{appends_none, holds_more, holds_then_front, holds_then_whole, front_of, on_err, has_line, line_fault, not_line_fault, ok_line, err_line}
 use Rattle.serve_record.proofs.StepsText.{text_begins, text_grows, text_is_front, text_ends}
 use Rattle.serve_record.proofs.record.write_record.Goals as goal
 
@@ -20,6 +20,7 @@ loop-before-init g c =
             ∙ ap (λ n. text_without session.limits n journal stamps) all),
       );
       never_falls = omega arith;
+      none_failed = refl;
     }
 
 pub returns-in_err-write_entry-clause-front : goal.returns-in_err-write_entry-clause-front
@@ -48,6 +49,7 @@ loop-before-preserved g c =
           (text_grows session.limits journal stamps before (search rules) c.requires)
           (holds_more _ _ _ _ _ _ _ c.loop-before.invariant.holds c.in_ok-write_entry.ensures.gains.whole);
       never_falls = omega arith;
+      none_failed = c.in_ok-write_entry.ensures.gains.no_fault (λ e. cc) ∙ c.loop-before.invariant.none_failed;
     }
 
 pub returns-clause-whole : goal.returns-clause-whole
@@ -80,6 +82,11 @@ pub returns-clause-cause : goal.returns-clause-cause
 returns-clause-cause g c is =
     let before = c.loop-before.invariant.never_falls in
     let rose = c.end.ensures.cause (line_fault c.end.result (sym c.as_line.ensures ∙ is)) in omega arith
+
+pub returns-clause-no_fault : goal.returns-clause-no_fault
+returns-clause-no_fault g c other =
+    c.end.ensures.no_fault (not_line_fault c.end.result (λ e. other (c.as_line.ensures ∙ e)))
+    ∙ c.loop-before.invariant.none_failed
 
 pub returns-clause-no_line : goal.returns-clause-no_line
 returns-clause-no_line g c lines is = has_line c.end.result (sym c.as_line.ensures ∙ is)

@@ -1,4 +1,4 @@
-use Rattle.std.proofs.Common.{◌≤◌, ◌-◌, length}
+use Rattle.std.proofs.Common.{◌≡◌, ◌≤◌, ◌-◌, length}
 use Rattle.serve_record.specs.Lines.{Holds, text_without}
 use Rattle.serve_record.proofs.record.write_record.Given as goal
 
@@ -8,4 +8,5 @@ invariant-loop-before g l = record {
       (text_without l.session.limits
       (length l.session.journal.entries - l.before) l.session.journal.entries l.session.stamps.stamps);
   never_falls : g.K.Sink.fault_count l.initial.output ≤ g.K.Sink.fault_count l.output;
+  none_failed : g.K.Sink.fault_count l.output ≡ g.K.Sink.fault_count l.initial.output;
 }

@@ -23,7 +23,7 @@ pub returns-in_err-write-clause-gains : goal.returns-in_err-write-clause-gains
 returns-in_err-write-clause-gains g c =
     gains_cut g.K.Sink.held g.K.Sink.fault_count stops.WriteFault c.args.output.now c.write.new.output _ _ _
     (search rules)
-    c.in_err-write.ensures.front c.write.ensures.never_falls (search rules)
+    c.in_err-write.ensures.front c.write.ensures.never_falls (search rules) (search rules)
 
 pub returns-clause-none_made : goal.returns-clause-none_made
 returns-clause-none_made g c =
@@ -46,4 +46,4 @@ pub returns-clause-gains : goal.returns-clause-gains
 returns-clause-gains g c =
     let e = c.in_ok-write.ensures in
     gains_out g.K.Sink.held g.K.Sink.fault_count stops.WriteFault c.args.output.now c.write.new.output c.args.text.now
-    c.write.new.self c.args.text.now _ refl e.whole e.none tt c.write.ensures.never_falls (λ is. absurd (cc))
+    c.write.new.self c.args.text.now _ refl e.whole e.none tt c.write.ensures.never_falls (λ is. absurd (cc)) (search rules)

@@ -11,6 +11,9 @@ returns-clause-front g c = (gains_as c.as_line.ensures c.put.ensures).front
 pub returns-clause-cause : goal.returns-clause-cause
 returns-clause-cause g c = (gains_as c.as_line.ensures c.put.ensures).cause
 
+pub returns-clause-no_fault : goal.returns-clause-no_fault
+returns-clause-no_fault g c = (gains_as c.as_line.ensures c.put.ensures).no_fault
+
 pub returns-clause-no_line : goal.returns-clause-no_line
 returns-clause-no_line g c = (
   λ is. absurd (has_line c.put.result (sym c.as_line.ensures ∙ is)),

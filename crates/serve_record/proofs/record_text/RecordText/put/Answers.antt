@@ -19,4 +19,4 @@ returns g c =
     gains_out g.K.Sink.held g.K.Sink.fault_count stops.WriteFault c.args.output.now c.write.new.output _ _ _
     c.write.result
     (c.in_ok-add_entry.ensures ∙ ap (λ t. t ++ lines_text (Some c.args.entry.now) (Some c.args.stamp)) c.self.view_is)
-    e.whole e.none e.front e.never_falls e.cause
+    e.whole e.none e.front e.never_falls e.cause e.no_fault
