@@ -1,5 +1,5 @@
 -- The server law, from what each part of a run tells
-use Rattle.std.proofs.Common.{◌≡◌, ◌⊎◌, inl, inr, ⊎_elim, ◌+◌, ◌≤◌, ◌++◌, ◌∷◌, [], ℕ, zero, suc, true, List, length, map, take, drop, Option, Some, None, Result, Ok, Err, OnOk, refl, sym, ap, ◌∙◌, subst, arith, length-append}
+use Rattle.std.proofs.Common.{◌≡◌, ◌≢◌, ◌⊎◌, inl, inr, ⊎_elim, ◌+◌, ◌≤◌, ◌++◌, ◌∷◌, [], ℕ, zero, suc, true, List, length, map, take, drop, Option, Some, None, Result, Ok, Err, OnOk, refl, sym, ap, ◌∙◌, subst, arith, length-append}
 use Rattle.std.proofs.lemmas.List.{append_assoc, take_all}
 use Rattle.relay_model.specs.declared.role.Role.{Role}
 use Rattle.seat_steps.specs.declared.limits.Limits.{Limits}
@@ -89,6 +89,8 @@ pub record Run (asked : Serving) (before after : Sides) (status : ServeStatus) :
   pub starts : (after.before_start ≡ before.before_start) ⊎ (after.before_start ≡ length before.reports)
   pub net : accepted ≡ Err stops.NetFault → Rose before.net_faults after.net_faults
   pub threads : accepted ≡ Err stops.NoThread → Rose before.refusals after.refusals
+  pub no_net : accepted ≢ Err stops.NetFault → after.net_faults ≡ before.net_faults
+  pub no_thread : accepted ≢ Err stops.NoThread → after.refusals ≡ before.refusals
   -- results
   pub collected : PassSeat
   pub mine : HasSeen collected.seen 0 linked.seen
@@ -110,6 +112,7 @@ pub record Run (asked : Serving) (before after : Sides) (status : ServeStatus) :
   pub written : Result (Unit {0}) RecordStop
   pub recorded : IsRecorded hub.limits before.held after.held history written
   pub fault : written ≡ Err record_stops.WriteFault → Rose before.output_faults after.output_faults
+  pub no_fault : written ≢ Err record_stops.WriteFault → after.output_faults ≡ before.output_faults
   pub status_is : status ≡ status_with written accepted (worst given)
 
 -- it keeps the server law
@@ -169,7 +172,11 @@ law_of asked before after status run =
       all_open = run.doors_open;
       net = run.net;
       threads = run.threads;
+      no_net = run.no_net;
+      no_thread = run.no_thread;
       write = λ is. run.fault (fault_with run.written run.accepted (worst run.given) (sym run.status_is ∙ is));
+      no_write = λ other. run.no_fault
+          (λ is. other (run.status_is ∙ ap (λ r. status_with r run.accepted (worst run.given)) is));
       full = λ is. full_by laws is cases;
       status_is = cases;
     }

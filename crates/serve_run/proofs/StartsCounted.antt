@@ -40,22 +40,26 @@ module _ {W : Type 0} {reports : W → List Report} {before_start refusals : W �
     none_came = refl;
     never_falls = omega arith;
     threads = λ is. absurd (not is);
+    no_refusal = λ other. refl;
   }
 
   pub starts_one : (a b : W) (r : Result (Unit {0}) Stop) → OnOk r (before_start b ≡ length (reports a))
       → OnErr r (before_start b ≡ before_start a) → reports b ≡ reports a → refusals a ≤ refusals b
-      → OnErr r (Rose (refusals a) (refusals b)) → Starts reports before_start refusals a b r
-  starts_one a b (Ok done) last stays none falls rose = record {
+      → OnErr r (Rose (refusals a) (refusals b)) → OnOk r (refusals b ≡ refusals a)
+      → OnErr r (r ≡ Err stops.NoThread) → Starts reports before_start refusals a b r
+  starts_one a b (Ok done) last stays none falls rose same why = record {
     last = inr last;
     none_came = none;
     never_falls = falls;
     threads = λ is. absurd (cc);
+    no_refusal = λ other. same;
   }
-  starts_one a b (Err stop) last stays none falls rose = record {
+  starts_one a b (Err stop) last stays none falls rose same why = record {
     last = inl stays;
     none_came = none;
     never_falls = falls;
     threads = λ is. rose;
+    no_refusal = λ other. absurd (other why);
   }
 
   -- more starts, after some that weren't refused
@@ -67,6 +71,7 @@ module _ {W : Type 0} {reports : W → List Report} {before_start refusals : W �
     none_came = two.none_came ∙ one.none_came;
     never_falls = let x = one.never_falls in let y = two.never_falls in omega arith;
     threads = λ is. rose_since _ _ _ one.never_falls (two.threads is);
+    no_refusal = λ other. two.no_refusal other ∙ one.no_refusal (λ is. cc);
   }
 
   -- the same where none was refused, whatever stopped it
@@ -77,6 +82,7 @@ module _ {W : Type 0} {reports : W → List Report} {before_start refusals : W �
     none_came = one.none_came;
     never_falls = one.never_falls;
     threads = λ is. absurd (not is);
+    no_refusal = λ other. one.no_refusal (λ is. cc);
   }
 
 -- what a start is never refused for

@@ -1,5 +1,5 @@
 -- What the end of a run tells, once its links were accepted
-use Rattle.std.specs.Prelude.{◌≡◌, ℕ, List, ◌∷◌, ◌++◌, length, map, take, drop, Option, Result, Err}
+use Rattle.std.specs.Prelude.{◌≡◌, ◌≢◌, ℕ, List, ◌∷◌, ◌++◌, length, map, take, drop, Option, Result, Err}
 use Rattle.turn_lock.specs.Pairs.{HasSeen, IsIn, total}
 use Rattle.wio_core.specs.Io.{Rose}
 use Rattle.hub_lock.specs.Histories.{History}
@@ -41,4 +41,5 @@ pub record IsEnded (hub : HubId) (linked : PassSeat) (started : List Tag)
   pub written : Result (Unit {0}) RecordStop
   pub recorded : IsRecorded hub.limits held held' history written
   pub fault : written ≡ Err record_stops.WriteFault → Rose faults faults'
+  pub no_fault : written ≢ Err record_stops.WriteFault → faults' ≡ faults
   pub status_is : status ≡ status_with written accepted (worst given)

@@ -1,5 +1,5 @@
 -- The server law: what a run of the server makes of the net, the spawner and the output
-use Rattle.std.specs.Prelude.{◌≡◌, ◌⊎◌, ℕ, ◌+◌, ◌-◌, ◌≤◌, Bool, true, List, [], ◌∷◌, ◌++◌, length, map, take, drop, Option, Result, Err, OnOk, IfErr}
+use Rattle.std.specs.Prelude.{◌≡◌, ◌≢◌, ◌⊎◌, ℕ, ◌+◌, ◌-◌, ◌≤◌, Bool, true, List, [], ◌∷◌, ◌++◌, length, map, take, drop, Option, Result, Err, OnOk, IfErr}
 use Rattle.std.specs.Io.KnownBytes.{Appends}
 use Rattle.wio_core.specs.Io.{Rose}
 use Rattle.turn_lock.specs.Pairs.{own}
@@ -119,6 +119,10 @@ pub record ServerLaw (asked : Serving) (before after : Sides) (status : ServeSta
   pub net : stop ≡ Err stops.NetFault → Rose before.net_faults after.net_faults
   pub threads : stop ≡ Err stops.NoThread → Rose before.refusals after.refusals
   pub write : status ≡ statuses.WriteFault → Rose before.output_faults after.output_faults
+  -- no accept, start or write that failed is tried again
+  pub no_net : stop ≢ Err stops.NetFault → after.net_faults ≡ before.net_faults
+  pub no_thread : stop ≢ Err stops.NoThread → after.refusals ≡ before.refusals
+  pub no_write : status ≢ statuses.WriteFault → after.output_faults ≡ before.output_faults
   -- a full journal is at its limit: of entries, or of weight with the heaviest step
   pub full : status ≡ statuses.JournalFull →
       IsAtLimit asked.limits (journal_of asked.limits history)

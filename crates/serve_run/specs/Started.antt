@@ -1,5 +1,5 @@
 -- What the joining and starting of links makes of the root and of the spawner
-use Rattle.std.specs.Prelude.{◌≡◌, ◌⊎◌, ℕ, ◌+◌, ◌-◌, ◌≤◌, Bool, true, false, if◌then◌else◌, ◌<◌, ◌^◌, List, [], ◌∷◌, ◌++◌, length, map, take, drop, Result, Err, OnOk, IfErr, All}
+use Rattle.std.specs.Prelude.{◌≡◌, ◌≢◌, ◌⊎◌, ℕ, ◌+◌, ◌-◌, ◌≤◌, Bool, true, false, if◌then◌else◌, ◌<◌, ◌^◌, List, [], ◌∷◌, ◌++◌, length, map, take, drop, Result, Err, OnOk, IfErr, All}
 use Rattle.seat_steps.specs.declared.limits.Limits.{Limits}
 use Rattle.relay_model.specs.declared.role.Role.{Role}
 use Rattle.std.specs.Prelude.{Option, Some}
@@ -81,6 +81,7 @@ pub record Starts {W : Type 0} (reports : W → List Report) (before_start refus
   pub none_came : reports new ≡ reports old
   pub never_falls : refusals old ≤ refusals new
   pub threads : r ≡ Err stops.NoThread → Rose (refusals old) (refusals new)
+  pub no_refusal : r ≢ Err stops.NoThread → refusals new ≡ refusals old
 
 -- these jobs were started on the hub
 pub record AreStarted (hub : HubId) (started started' : List Tag)

@@ -1,5 +1,5 @@
 //! Links come in, and their jobs start.
-ghost use Rattle.std.specs.Prelude.{◌≡◌, ◌≤◌, ◌+◌, ◌*◌, ◌^◌, true, length, Err};
+ghost use Rattle.std.specs.Prelude.{◌≡◌, ◌≢◌, ◌≤◌, ◌+◌, ◌*◌, ◌^◌, true, length, Err};
 ghost use Rattle.std.specs.Arc.{arc_value};
 ghost use Rattle.turn_lock.specs.Pairs.{own};
 ghost use Rattle.wio_core.specs.Io.{Rose};
@@ -77,6 +77,8 @@ pub(crate) fn accept_all<R: Wait, N: Net, G: Gate + Drop, W: Spawner<LinkJob<N::
     ensures never_falls { N.fault_count net.old ≤ N.fault_count net.new }
     ensures net { result ≡ Err Stop.NetFault →
         Rose (N.fault_count net.old) (N.fault_count net.new) }
+    ensures no_net { result ≢ Err Stop.NetFault →
+        N.fault_count net.new ≡ N.fault_count net.old }
 {
     for letter in letters {
         let role = role_of(*letter);

@@ -92,6 +92,7 @@ pub(crate) fn collect<S: LinkSource, K: LinkSink, G: Gate + Drop, W: Spawner<Lin
     ensures started { W.started spawner.new ≡ W.started spawner.old }
     ensures before { W.before_start spawner.new ≡ W.before_start spawner.old }
     ensures never_falls { W.refusal_count spawner.old ≤ W.refusal_count spawner.new }
+    ensures no_refusal { W.refusal_count spawner.new ≡ W.refusal_count spawner.old }
 {
     let mut trouble = Trouble::None;
     while let Some(done) = spawner.next_done() {

@@ -68,6 +68,7 @@ pub(crate) fn finish_run<
     ensures started { W.started spawner.new ≡ W.started spawner.old }
     ensures before { W.before_start spawner.new ≡ W.before_start spawner.old }
     ensures never_falls { W.refusal_count spawner.old ≤ W.refusal_count spawner.new }
+    ensures no_refusal { W.refusal_count spawner.new ≡ W.refusal_count spawner.old }
 {
     let users = root.made();
     let mut pass = record_pass(rt, hub, root);

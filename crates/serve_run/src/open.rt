@@ -13,6 +13,7 @@ pub(crate) fn open_all<N: Net>(net: &mut N, asked: &Serving<'_>) -> Result<(), F
     ensures links { N.links net.new ≡ N.links net.old }
     ensures never_falls { N.fault_count net.old ≤ N.fault_count net.new }
     ensures cause { OnErr result (Rose (N.fault_count net.old) (N.fault_count net.new)) }
+    ensures no_fault { OnOk result (N.fault_count net.new ≡ N.fault_count net.old) }
 {
     net.listen(Door::App, asked.app)?;
     net.listen(Door::Method, asked.method)?;

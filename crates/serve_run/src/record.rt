@@ -1,5 +1,5 @@
 //! The recorded session is written as its entries come.
-ghost use Rattle.std.specs.Prelude.{◌≡◌, ◌⊎◌, ◌≤◌, ◌∷◌, ℕ, List, [], length, Option, Err, OnOk};
+ghost use Rattle.std.specs.Prelude.{◌≡◌, ◌≢◌, ◌⊎◌, ◌≤◌, ◌∷◌, ℕ, List, [], length, Option, Err, OnOk};
 ghost use Rattle.wio_core.specs.Io.{Rose};
 ghost use Rattle.turn_lock.specs.Pairs.{NoneOf, HasSeen, IsIn, total};
 ghost use Rattle.hub_lock.specs.Histories.{broker_of};
@@ -34,6 +34,8 @@ pub(crate) fn record_first<R: Wait, K: Sink>(
     ensures never_falls { K.fault_count output.old ≤ K.fault_count output.new }
     ensures cause { result ≡ Err RecordStop.WriteFault →
         Rose (K.fault_count output.old) (K.fault_count output.new) }
+    ensures no_fault { result ≢ Err RecordStop.WriteFault →
+        K.fault_count output.new ≡ K.fault_count output.old }
 {
     let mut text = RecordText::new(alloc, limits)?;
     record_handed(rt, alloc, hub, pass, &mut text, output)?;
@@ -60,6 +62,8 @@ fn record_rest<R: Wait, K: Sink>(
     ensures never_falls { K.fault_count output.old ≤ K.fault_count output.new }
     ensures cause { result ≡ Err RecordStop.WriteFault →
         Rose (K.fault_count output.old) (K.fault_count output.new) }
+    ensures no_fault { result ≢ Err RecordStop.WriteFault →
+        K.fault_count output.new ≡ K.fault_count output.old }
 {
     for _ in rt.forever() {
         record_handed(rt, alloc, hub, pass, text, output)?;
@@ -92,6 +96,8 @@ fn record_end<R: Wait, K: Sink>(
     ensures never_falls { K.fault_count output.old ≤ K.fault_count output.new }
     ensures cause { result ≡ Err RecordStop.WriteFault → (first ≡ Err RecordStop.WriteFault)
         ⊎ Rose (K.fault_count output.old) (K.fault_count output.new) }
+    ensures no_fault { result ≢ Err RecordStop.WriteFault → (first ≢ Err RecordStop.WriteFault)
+        × (K.fault_count output.new ≡ K.fault_count output.old) }
 {
     let mut text = first?;
     record_rest(rt, alloc, hub, root, pass, &mut text, output)?;
@@ -123,6 +129,8 @@ pub(crate) fn record_last<R: Wait, K: Sink>(
     ensures never_falls { K.fault_count output.old ≤ K.fault_count output.new }
     ensures cause { result ≡ Err RecordStop.WriteFault → (first ≡ Err RecordStop.WriteFault)
         ⊎ Rose (K.fault_count output.old) (K.fault_count output.new) }
+    ensures no_fault { result ≢ Err RecordStop.WriteFault → (first ≢ Err RecordStop.WriteFault)
+        × (K.fault_count output.new ≡ K.fault_count output.old) }
 {
     let written = record_end(rt, alloc, hub, root, &mut pass, first, output);
     let _count = pass.count();

@@ -1,5 +1,5 @@
 //! The server.
-ghost use Rattle.std.specs.Prelude.{◌≡◌, ◌⊎◌, ◌≤◌, ◌+◌, ◌*◌, ◌^◌, ◌++◌, ℕ, []};
+ghost use Rattle.std.specs.Prelude.{◌≡◌, ◌≢◌, ◌⊎◌, ◌≤◌, ◌+◌, ◌*◌, ◌^◌, ◌++◌, ℕ, []};
 ghost use Rattle.std.specs.Prelude.{length, map, take, string_bytes, true, Some, None, Err, OnOk};
 ghost use Rattle.std.specs.Prelude.{IfSome};
 ghost use Rattle.std.specs.Arc.{arc_value};
@@ -48,6 +48,8 @@ fn serve_links<R: Wait, N: Net, G: Gate + Drop, W: Spawner<LinkJob<N::In, N::Out
     ensures never_falls { N.fault_count net.old ≤ N.fault_count net.new }
     ensures net { result ≡ Err Stop.NetFault →
         Rose (N.fault_count net.old) (N.fault_count net.new) }
+    ensures no_net { result ≢ Err Stop.NetFault →
+        N.fault_count net.new ≡ N.fault_count net.old }
 {
     if open_all(net, asked).is_err() {
         return Err(Stop::NetFault);

@@ -123,6 +123,8 @@ fn start_job<R: Wait, S: LinkSource, K: LinkSink, G: Gate + Drop, W: Spawner<Lin
     ensures never_falls { W.refusal_count spawner.old ≤ W.refusal_count spawner.new }
     ensures cause { OnErr result
         (Rose (W.refusal_count spawner.old) (W.refusal_count spawner.new)) }
+    ensures no_refusal { OnOk result
+        (W.refusal_count spawner.new ≡ W.refusal_count spawner.old) }
     ensures why { OnErr result (result ≡ Err Stop.NoThread) }
 {
     match spawner.start(job) {

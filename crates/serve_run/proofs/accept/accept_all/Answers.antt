@@ -16,6 +16,7 @@ loop-letter-init g c = record {
   jobs = no_starts c.args.spawner.now (Ok tt) (λ is. absurd (cc));
   opened = c.requires.open;
   never_falls = omega arith;
+  none_failed = refl;
 }
 
 pub returns-in-Err-clause-accepted : goal.returns-in-Err-clause-accepted
@@ -73,6 +74,12 @@ pub returns-in-Err-start_link-clause-net : goal.returns-in-Err-start_link-clause
 returns-in-Err-start_link-clause-net g c is =
     absurd (link_has_net _ _ _ _ _ _ _ c.in-Err-start_link.stop c.in-Err-start_link.ensures.started is)
 
+pub returns-in-Err-clause-no_net : goal.returns-in-Err-clause-no_net
+returns-in-Err-clause-no_net g c other = absurd (other refl)
+
+pub returns-in-Err-start_link-clause-no_net : goal.returns-in-Err-start_link-clause-no_net
+returns-in-Err-start_link-clause-no_net g c other = c.in-Ok.ensures.no_fault ∙ c.loop-letter.invariant.none_failed
+
 pub invariant_of-link : goal.invariant_of-link
 invariant_of-link g c = record {
   link_in = c.in-Ok.ensures.source;
@@ -126,6 +133,7 @@ loop-letter-preserved g c =
           c.in_default.ensures.jobs;
       opened = λ d. c.accept.ensures.stays d (i.opened d);
       never_falls = (let a = i.never_falls in let b = c.accept.ensures.never_falls in omega arith);
+      none_failed = c.in-Ok.ensures.no_fault ∙ i.none_failed;
     }
 
 pub returns-clause-accepted : goal.returns-clause-accepted

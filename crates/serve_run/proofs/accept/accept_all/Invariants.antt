@@ -14,4 +14,5 @@ invariant-loop-letter g l = record {
       (Ok tt);
   opened : (d : Door) → g.N.Net.opened l.net d ≡ true;
   never_falls : g.N.Net.fault_count l.initial.net ≤ g.N.Net.fault_count l.net;
+  none_failed : g.N.Net.fault_count l.net ≡ g.N.Net.fault_count l.initial.net;
 }

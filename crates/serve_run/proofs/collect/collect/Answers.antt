@@ -46,6 +46,7 @@ loop-done-init g c = record {
   started = refl;
   before = refl;
   never_falls = omega arith;
+  no_refusal = refl;
 }
 
 pub take_result-requires : goal.take_result-requires
@@ -103,4 +104,5 @@ loop-done-preserved g c =
       started = c.next_done.ensures.started ∙ i.started;
       before = c.next_done.ensures.before ∙ i.before;
       never_falls = (let x = i.never_falls in let y = c.next_done.ensures.never_falls in omega arith);
+      no_refusal = c.next_done.ensures.no_refusal ∙ i.no_refusal;
     }

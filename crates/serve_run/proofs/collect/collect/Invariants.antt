@@ -25,6 +25,7 @@ invariant-loop-done g l = record {
   started : g.W.Spawner.started l.spawner ≡ g.W.Spawner.started l.initial.spawner;
   before : g.W.Spawner.before_start l.spawner ≡ g.W.Spawner.before_start l.initial.spawner;
   never_falls : g.W.Spawner.refusal_count l.initial.spawner ≤ g.W.Spawner.refusal_count l.spawner;
+  no_refusal : g.W.Spawner.refusal_count l.spawner ≡ g.W.Spawner.refusal_count l.initial.spawner;
 }
 
 abbrev pub decreases-loop-done : goal.decreases-loop-done

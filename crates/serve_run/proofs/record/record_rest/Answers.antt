@@ -1,4 +1,4 @@
-use Rattle.std.proofs.Common.{sym, subst, arith}
+use Rattle.std.proofs.Common.{◌∙◌, sym, subst, arith}
 use Rattle.hub_lock.specs.Passes.{PassSeat, IsOf}
 use Rattle.serve_record.proofs.HandedWritten.{no_step_on}
 use Rattle.serve_run.proofs.HandedEnds.{all_handed}
@@ -41,4 +41,5 @@ loop-preserved g c =
           (record { seat = e.seat; seen = e.seen });
       written = λ first held. (c.in_ok-record_handed.ensures.written first (i.written first held)).0;
       never_falls = omega arith;
+      none_failed = c.in_ok-record_handed.ensures.no_fault (λ is. cc) ∙ i.none_failed;
     }

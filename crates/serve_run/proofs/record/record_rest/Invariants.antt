@@ -1,4 +1,4 @@
-use Rattle.std.proofs.Common.{◌≤◌, ℕ, List, Option}
+use Rattle.std.proofs.Common.{◌≡◌, ◌≤◌, ℕ, List, Option}
 use Rattle.serve_record.specs.Lines.{Holds}
 use Rattle.serve_record.specs.Handed.{handed_text, MadeNoStep}
 use Rattle.serve_run.proofs.record.record_rest.Given as goal
@@ -11,4 +11,5 @@ invariant-loop g l = record {
       → Holds first (g.K.Sink.held l.initial.output) l.initial.text (handed_text l.hub.limits l.initial.pass.handed)
       → Holds first (g.K.Sink.held l.output) l.text (handed_text l.hub.limits l.pass.handed);
   never_falls : g.K.Sink.fault_count l.initial.output ≤ g.K.Sink.fault_count l.output;
+  none_failed : g.K.Sink.fault_count l.output ≡ g.K.Sink.fault_count l.initial.output;
 }

@@ -94,6 +94,8 @@ returns g c =
         starts = ⊎_elim (λ l. inl (f.before ∙ l)) (λ r. inr (f.before ∙ r)) e.jobs.last;
         net = e.net;
         threads = λ why. rose_until _ _ _ (e.jobs.threads why) f.never_falls;
+        no_net = e.no_net;
+        no_thread = λ other. f.no_refusal ∙ e.jobs.no_refusal other;
         collected = d.collected;
         mine = d.mine;
         kept = d.kept;
@@ -118,6 +120,7 @@ returns g c =
         written = d.written;
         recorded = d.recorded;
         fault = d.fault;
+        no_fault = d.no_fault;
         status_is = d.status_is;
       });
     }

@@ -44,7 +44,7 @@ pub returns-in-Err-clause-jobs : goal.returns-in-Err-clause-jobs
 returns-in-Err-clause-jobs g c =
     let e = c.start_job.ensures in
     starts_one c.args.spawner.now c.start_job.new.spawner (Err c.in-Err.stop) tt c.in-Err.ensures.stays e.reports
-    e.never_falls c.in-Err.ensures.cause
+    e.never_falls c.in-Err.ensures.cause tt c.in-Err.ensures.why
 
 pub returns-clause-jobs : goal.returns-clause-jobs
 returns-clause-jobs g c =
@@ -52,6 +52,6 @@ returns-clause-jobs g c =
     let two = c.start_job-2.ensures in
     starts_more c.args.spawner.now c.start_job.new.spawner c.start_job-2.new.spawner c.start_job-2.result
     (starts_one c.args.spawner.now c.start_job.new.spawner (Ok tt) c.in_default.ensures.before tt one.reports
-    one.never_falls tt)
+    one.never_falls tt c.in_default.ensures.no_refusal tt)
     (starts_one c.start_job.new.spawner c.start_job-2.new.spawner c.start_job-2.result two.before two.stays two.reports
-    two.never_falls two.cause)
+    two.never_falls two.cause two.no_refusal two.why)

@@ -53,4 +53,4 @@ pub returns-clause-jobs : goal.returns-clause-jobs
 returns-clause-jobs g c =
     let run = c.start_job.ensures in
     starts_one c.args.spawner.now c.start_job.new.spawner c.start_job.result run.before run.stays run.reports
-    run.never_falls run.cause
+    run.never_falls run.cause run.no_refusal run.why
