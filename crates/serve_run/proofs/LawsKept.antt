@@ -51,6 +51,7 @@ law_kept limits before h r (read end) grows law = record {
   reads = reader-seen h before r.number r.peer r.number grows law.reads;
   law = law.law;
   fault = law.fault;
+  no_fault = law.no_fault;
 }
 law_kept limits before h r (wrote end) grows law = record {
   pass = law.pass;
@@ -59,6 +60,8 @@ law_kept limits before h r (wrote end) grows law = record {
   writes = writer-seen h before r.number r.peer r.number grows law.writes;
   law = law.law;
   fault = law.fault;
+  no_fault = law.no_fault;
+  hung_up = law.hung_up;
 }
 law_kept limits before h r (ordered end) grows law = record {
   shell = law.shell;
@@ -67,6 +70,9 @@ law_kept limits before h r (ordered end) grows law = record {
   law = law.law;
   read_fault = law.read_fault;
   write_fault = law.write_fault;
+  no_read_fault = law.no_read_fault;
+  no_write_fault = law.no_write_fault;
+  hung_up = law.hung_up;
 }
 
 pub laws_kept : (limits : Limits) (before h : History) (taken : List ℕ) (reports : List Report)

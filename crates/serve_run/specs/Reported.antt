@@ -1,5 +1,5 @@
 -- The loop laws of the reports, for the one history of the hub
-use Rattle.std.specs.Prelude.{◌≡◌, ℕ, ◌≤◌, List, [], ◌∷◌, true, Some}
+use Rattle.std.specs.Prelude.{◌≡◌, ◌≢◌, ℕ, ◌≤◌, List, [], ◌∷◌, true, false, Some}
 use Rattle.seat_steps.specs.declared.limits.Limits.{Limits}
 use Rattle.turn_lock.specs.Pairs.{HasSeen, IsIn}
 use Rattle.hub_lock.specs.Histories.{History, reader_of, writer_of}
@@ -9,6 +9,7 @@ use Rattle.peer_link.specs.declared.ends.ReadEnd.TheVariants as read_ends
 use Rattle.peer_link.specs.declared.ends.WriteEnd.{WriteEnd}
 use Rattle.peer_link.specs.declared.ends.ShellEnd.{ShellEnd}
 use Rattle.peer_link.specs.declared.ends.ShellEnd.TheVariants as shell_ends
+use Rattle.peer_link.specs.ReadsPeer.{TellsNoFault}
 use Rattle.peer_link.specs.WritesPeer.{is_cut}
 use Rattle.link_jobs.specs.Tags.{Report, End}
 use Rattle.link_jobs.specs.Tags.End.{read, wrote, ordered}
@@ -29,9 +30,10 @@ pub record IsReader (limits : Limits) (h : History) (r : Report) (end : ReadEnd)
   pub reads : reader_of h r.peer ≡ Some r.number
   pub law : HasRead pass r.given r.left end
   pub fault : end ≡ read_ends.ReadFault → 1 ≤ r.source_faults
+  pub no_fault : TellsNoFault end → r.source_faults ≡ 0
 
 -- a writer: its link gained of what its pass, which writes for the peer, took what the law of
--- writers says
+-- writers says, and was hung up
 pub record IsWriter (limits : Limits) (h : History) (r : Report) (end : WriteEnd) : Type 0 where
   pub pass : PeerPass
   pub seat : IsSeatOf limits h r pass.seat
@@ -39,8 +41,11 @@ pub record IsWriter (limits : Limits) (h : History) (r : Report) (end : WriteEnd
   pub writes : writer_of h r.peer ≡ Some r.number
   pub law : HasWritten pass r.held end
   pub fault : is_cut end ≡ true → 1 ≤ r.sink_faults
+  pub no_fault : is_cut end ≡ false → r.sink_faults ≡ 0
+  pub hung_up : r.hung_up ≡ true
 
--- a shell, which is no peer: its pass ordered, and its link gained, what the law of shells says
+-- a shell, which is no peer: its pass ordered, and its link gained, what the law of shells says, and
+-- it was hung up
 pub record IsShell (limits : Limits) (h : History) (r : Report) (end : ShellEnd) : Type 0 where
   pub shell : PassSeat
   pub seat : IsSeatOf limits h r shell
@@ -48,6 +53,9 @@ pub record IsShell (limits : Limits) (h : History) (r : Report) (end : ShellEnd)
   pub law : HasOrdered shell r.given r.left r.held end
   pub read_fault : end ≡ shell_ends.ReadFault → 1 ≤ r.source_faults
   pub write_fault : end ≡ shell_ends.WriteFault → 1 ≤ r.sink_faults
+  pub no_read_fault : end ≢ shell_ends.ReadFault → r.source_faults ≡ 0
+  pub no_write_fault : end ≢ shell_ends.WriteFault → r.sink_faults ≡ 0
+  pub hung_up : r.hung_up ≡ true
 
 abbrev pub LawOf : Limits → History → Report → End → Type 0
 LawOf limits h r (read end) = IsReader limits h r end

@@ -20,4 +20,5 @@ returns-clause-law g c =
           c.peer-peer.ensures.reads);
       law = law;
       fault = done.cause;
+      no_fault = done.no_fault;
     })

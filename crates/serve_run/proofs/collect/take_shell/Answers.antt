@@ -15,4 +15,7 @@ returns-clause-law g c =
       law = law;
       read_fault = done.read_fault;
       write_fault = done.write_fault;
+      no_read_fault = done.no_read_fault;
+      no_write_fault = done.no_write_fault;
+      hung_up = done.hung_up;
     })

@@ -19,4 +19,6 @@ returns-clause-law g c =
           c.peer-peer.ensures.writes);
       law = law;
       fault = done.cause;
+      no_fault = done.no_fault;
+      hung_up = done.hung_up;
     })
