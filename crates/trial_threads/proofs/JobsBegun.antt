@@ -1,13 +1,12 @@
 -- One job after the other begins
-use Rattle.std.proofs.Common.{◌≡◌, ◌≤◌, ◌+◌, ◌++◌, [], ◌∷◌, ℕ, zero, suc, List, refl, sym, ap, ap₂, subst, ◌∙◌, arith, add-one, append_assoc, append-nil}
+use Rattle.std.proofs.Common.{◌≡◌, ◌+◌, ◌++◌, [], ◌∷◌, ℕ, zero, suc, List, refl, sym, ap, ap₂, subst, ◌∙◌, arith, add-one, append_assoc}
 use Rattle.hub_lock.specs.Passes.{HubId}
 use Rattle.trial_run.specs.declared.typist.TrialTypist.{TrialTypist}
 use Rattle.trial_script.specs.declared.action.Action.{Action}
-use Rattle.typing_jobs.specs.Fronts.{IsFrontOf}
 use Rattle.trial_threads.specs.declared.running.Running.{Running}
-use Rattle.trial_threads.specs.Users.{Part, of_field, of_method, of_shell, edits_in, batches_in, orders_in, fields_from, parts_of}
+use Rattle.trial_threads.specs.Users.{Part, of_field, edits_in, fields_from}
 use Rattle.trial_threads.specs.Jobs.{IsIdle, TypesAs, parts_in, part_of}
-use Rattle.trial_threads.specs.BegunJobs.{HaveBegun, IsPut, FirstBegun}
+use Rattle.trial_threads.specs.BegunJobs.{HaveBegun, IsPut}
 use Rattle.trial_threads.proofs.JobsListed.{all_both}
 
 parts_more : (rs : List Running) (r : Running) → parts_in (rs ++ r ∷ []) ≡ parts_in rs ++ part_of r.job ∷ []
@@ -35,15 +34,6 @@ fields_more n (suc k) all = ap (λ (ps : List Part). of_field (edits_in n all) �
     (fields_more (n + 1) k all
     ∙ ap (λ (m : ℕ). fields_from (n + 1) k all ++ of_field (edits_in m all) ∷ []) (omega arith))
 
-pub fields_front : (n k m : ℕ) (all : List Action) → k ≤ m → IsFrontOf (fields_from n k all) (fields_from n m all)
-fields_front n zero m all le = record { rest = fields_from n m all; is = refl }
-fields_front n (suc k) zero all le = absurd (omega (arith, le))
-fields_front n (suc k) (suc m) all le =
-    let f = fields_front (n + 1) k m all (omega (arith, le)) in record {
-      rest = f.rest;
-      is = ap (λ (ps : List Part). of_field (edits_in n all) ∷ ps) f.is;
-    }
-
 pub one_field : (hub : HubId) (typist : TrialTypist) (parts : List Part) (k : ℕ) (all : List Action)
     (rs rs' : List Running) → HaveBegun hub typist (parts ++ fields_from 1 k all) rs →
     IsPut hub typist (of_field (edits_in (k + 1) all)) rs rs' →
@@ -56,41 +46,3 @@ one_field hub typist parts k all rs rs' h p =
     (append_assoc parts (fields_from 1 k all) (of_field (edits_in (k + 1) all) ∷ [])
     ∙ ap (λ (ps : List Part). parts ++ ps) (sym same))
     (have_more hub typist (parts ++ fields_from 1 k all) (of_field (edits_in (k + 1) all)) rs rs' h p)
-
-pub first_fields : (hub : HubId) (typist : TrialTypist) (parts : List Part) (k m : ℕ) (all : List Action)
-    (rs : List Running) → k ≤ m → HaveBegun hub typist (parts ++ fields_from 1 k all) rs →
-    FirstBegun hub typist (parts ++ fields_from 1 m all) rs
-first_fields hub typist parts k m all rs le h =
-    let f = fields_front 1 k m all le in record {
-      begun = parts ++ fields_from 1 k all;
-      first = record {
-        rest = f.rest;
-        is = ap (λ (ps : List Part). parts ++ ps) f.is ∙ sym (append_assoc parts (fields_from 1 k all) f.rest);
-      };
-      have = h;
-    }
-
--- the users of a script
-
-pub first_none : (hub : HubId) (typist : TrialTypist) (parts : List Part) → FirstBegun hub typist parts []
-first_none hub typist parts = record {
-  begun = [];
-  first = record { rest = parts; is = refl };
-  have = have_none hub typist;
-}
-
-pub first_longer : (hub : HubId) (typist : TrialTypist) (parts more : List Part) (rs : List Running) →
-    FirstBegun hub typist parts rs → FirstBegun hub typist (parts ++ more) rs
-first_longer hub typist parts more rs f = record {
-  begun = f.begun;
-  first = record {
-    rest = f.first.rest ++ more;
-    is = ap (λ (ps : List Part). ps ++ more) f.first.is ∙ append_assoc f.begun f.first.rest more;
-  };
-  have = f.have;
-}
-
-pub first_all : (hub : HubId) (typist : TrialTypist) (parts : List Part) (rs : List Running) →
-    HaveBegun hub typist parts rs → FirstBegun hub typist parts rs
-first_all hub typist parts rs h =
-    record { begun = parts; first = record { rest = []; is = sym (append-nil parts) }; have = h }

@@ -1,30 +1,26 @@
 -- What begins, runs and is drained is played
-use Rattle.std.proofs.Common.{◌≡◌, ◌++◌, [], ◌∷◌, List, Bool, Option, Some, None, Result, Ok, Err, refl, sym, ap, subst, ◌∙◌, inl, inr, append-nil}
+use Rattle.std.proofs.Common.{◌≡◌, ◌++◌, [], ◌∷◌, ℕ, List, Bool, Option, Some, None, Result, Ok, Err, refl, sym, ap, subst, ◌∙◌, inl, inr}
 use Rattle.std.specs.Prelude.{IfOk}
 use Rattle.std.specs.List.{AllByRecursion}
-use Rattle.seat_steps.specs.declared.limits.Limits.{Limits}
 use Rattle.broker_model.specs.declared.journal.Kept.{Kept}
-use Rattle.hub_lock.specs.Histories.{History}
-use Rattle.hub_lock.specs.Passes.{HubId}
+use Rattle.hub_lock.specs.Passes.{HubId, PassSeat}
 use Rattle.trial_run.specs.declared.typist.TrialTypist.{TrialTypist}
 use Rattle.typing_jobs.specs.declared.job_end.JobEnd.{JobEnd}
 use Rattle.typing_jobs.specs.declared.job_end.JobEnd.TheVariants as ends
 use Rattle.ready_jobs.specs.declared.no_job.NoJob.{NoJob}
-use Rattle.ready_jobs.specs.declared.no_job.NoJob.TheVariants as none
-use Rattle.ready_jobs.specs.NoJobs.{HasCause, WasFull}
 use Rattle.trial_threads.specs.declared.running.Running.{Running}
 use Rattle.trial_threads.specs.declared.stop.Stop.{Stop}
 use Rattle.trial_threads.specs.declared.stop.Stop.TheVariants as stops
 use Rattle.trial_threads.specs.Users.{Part}
 use Rattle.trial_threads.specs.Jobs.{IsIdle, AreIdle, IsJobOf, AreJobsOf, TypeAs, HasRun, AreRun, IsRun, parts_in}
-use Rattle.trial_threads.specs.BegunJobs.{HaveBegun, FirstBegun}
+use Rattle.trial_threads.specs.BegunJobs.{HaveBegun, IsUnbegun}
 use Rattle.trial_threads.specs.Drained.{AreDrained, GoesOn, HasRest, least_for_method, least_for_fields}
 use Rattle.trial_threads.specs.Stops.{stop_by_begin, stop_by_job, stop_or, first_stop_in}
-use Rattle.trial_threads.specs.Whole.{IsDone, IsFilled, HaveDrained, HavePlayed}
+use Rattle.trial_threads.specs.Peers.{AllJoined}
+use Rattle.trial_threads.specs.Whole.{IsDone, IsStopped, HaveDrained, HavePlayed}
 use Rattle.trial_threads.proofs.PeersStay.{joined_keep}
 use Rattle.trial_threads.proofs.JobsListed.{all_by, pairs_carry, parts_same, run_each}
 use Rattle.trial_threads.proofs.JobsRun.{ready_of, of_kept}
-use Rattle.trial_threads.proofs.JobsIdle.{all_idle_run}
 
 pub have_drained : (hub : HubId) (typist : TrialTypist) (before mid after : List Running) → TypeAs typist before →
     AreRun hub before mid → AreDrained hub mid after → HaveDrained hub typist before after
@@ -67,11 +63,11 @@ done_first r rs (Ok goes_on) is e more =
 done_first r rs (Err end) is e more =
     absurd (some_none (stop_by_job end) (sym (ap (λ y. stop_or y (first_stop_in rs)) is) ∙ e))
 
-done_each : (rs : List Running) → first_stop_in rs ≡ None → AllByRecursion IsDone rs
+pub done_each : (rs : List Running) → first_stop_in rs ≡ None → AllByRecursion IsDone rs
 done_each [] e = tt
 done_each (r ∷ rs) e = done_first r rs r.ended refl e (done_each rs)
 
-rest_each : (hub : HubId) (typist : TrialTypist) (a b : List Running) (rs : List Running) → AllByRecursion IsDone rs
+pub rest_each : (hub : HubId) (typist : TrialTypist) (a b : List Running) (rs : List Running) → AllByRecursion IsDone rs
     → AllByRecursion (λ (r : Running). IfOk r.ended (λ goes_on.
     HasRest hub.limits typist (least_for_method a) (least_for_fields b) r.job)) rs →
     AllByRecursion (λ (r : Running). HasRest hub.limits typist (least_for_method a) (least_for_fields b) r.job) rs
@@ -82,69 +78,78 @@ rest_each hub typist a b (r ∷ rs) done h = (
   rest_each hub typist a b rs done.1 h.1,
 )
 
+-- which end of a job stops it so
+
 full_by : (end : JobEnd) (kept : Kept) → Some (stop_by_job end) ≡ Some (stops.Full kept) →
     end ≡ ends.JournalFull kept
 full_by (ends.JournalFull k) kept e = let same : k ≡ kept = cc in ap ends.JournalFull same
-full_by ends.BadEvent kept e = absurd (let no : Some stops.NoMemory ≡ Some (stops.Full kept) = e in cc)
+full_by ends.BadEvent kept e = absurd (let no : Some stops.BadEvent ≡ Some (stops.Full kept) = e in cc)
 full_by ends.NoMemory kept e = absurd (let no : Some stops.NoMemory ≡ Some (stops.Full kept) = e in cc)
 
-filled_first : (limits : Limits) (seen : History) (r : Running) (rs : List Running) (kept : Kept)
-    (x : Result Bool JobEnd) → r.ended ≡ x → first_stop_in (r ∷ rs) ≡ Some (stops.Full kept) →
-    (first_stop_in rs ≡ Some (stops.Full kept) → IsFilled limits seen rs kept) →
-    IsFilled limits seen (r ∷ rs) kept
-filled_first limits seen r rs kept (Ok goes_on) is e more =
+bad_by : (end : JobEnd) → Some (stop_by_job end) ≡ Some stops.BadEvent → end ≡ ends.BadEvent
+bad_by (ends.JournalFull k) e = absurd (let no : Some (stops.Full k) ≡ Some stops.BadEvent = e in cc)
+bad_by ends.BadEvent e = refl
+bad_by ends.NoMemory e = absurd (let no : Some stops.NoMemory ≡ Some stops.BadEvent = e in cc)
+
+many_by : (end : JobEnd) (n : ℕ) → Some (stop_by_job end) ≡ Some (stops.TooManyPeers n) → ⊥
+many_by (ends.JournalFull k) n e = let no : Some (stops.Full k) ≡ Some (stops.TooManyPeers n) = e in cc
+many_by ends.BadEvent n e = let no : Some stops.BadEvent ≡ Some (stops.TooManyPeers n) = e in cc
+many_by ends.NoMemory n e = let no : Some stops.NoMemory ≡ Some (stops.TooManyPeers n) = e in cc
+
+-- a job met a full journal
+
+stopped_first : (r : Running) (rs : List Running) (kept : Kept) (x : Result Bool JobEnd) → r.ended ≡ x →
+    first_stop_in (r ∷ rs) ≡ Some (stops.Full kept) →
+    (first_stop_in rs ≡ Some (stops.Full kept) → IsStopped kept rs) → IsStopped kept (r ∷ rs)
+stopped_first r rs kept (Ok goes_on) is e more =
     inr (more (sym (ap (λ y. stop_or y (first_stop_in rs)) is) ∙ e))
-filled_first limits seen r rs kept (Err end) is e more =
+stopped_first r rs kept (Err end) is e more =
     inl (is ∙ ap (λ (x : JobEnd). Err x) (full_by end kept (sym (ap (λ y. stop_or y (first_stop_in rs)) is) ∙ e)))
 
-filled_each : (limits : Limits) (seen : History) (rs : List Running) (kept : Kept) →
-    first_stop_in rs ≡ Some (stops.Full kept) → IsFilled limits seen rs kept
-filled_each limits seen [] kept e = absurd (some_none (stops.Full kept) (sym e))
-filled_each limits seen (r ∷ rs) kept e =
-    filled_first limits seen r rs kept r.ended refl e (filled_each limits seen rs kept)
+pub stopped_each : (rs : List Running) (kept : Kept) → first_stop_in rs ≡ Some (stops.Full kept) → IsStopped kept rs
+stopped_each [] kept e = absurd (some_none (stops.Full kept) (sym e))
+stopped_each (r ∷ rs) kept e = stopped_first r rs kept r.ended refl e (stopped_each rs kept)
 
--- ---- all began
+-- none had a bad event
 
-pub played_all : (hub : HubId) (typist : TrialTypist) (parts : List Part) (seen : History) (before after : List Running)
-    → HaveBegun hub typist parts before → HaveDrained hub typist before after →
-    HavePlayed hub typist parts seen after (first_stop_in after)
-played_all hub typist parts seen before after b d = record {
-  begun = parts;
-  first = record { rest = []; is = sym (append-nil parts) };
+bad_first : (r : Running) (rs : List Running) (x : Result Bool JobEnd) → r.ended ≡ x →
+    first_stop_in (r ∷ rs) ≡ Some stops.BadEvent → (r.ended ≡ Err ends.BadEvent → ⊥) →
+    (first_stop_in rs ≡ Some stops.BadEvent → ⊥) → ⊥
+bad_first r rs (Ok goes_on) is e none more = more (sym (ap (λ y. stop_or y (first_stop_in rs)) is) ∙ e)
+bad_first r rs (Err end) is e none more =
+    none (is ∙ ap (λ (x : JobEnd). Err x) (bad_by end (sym (ap (λ y. stop_or y (first_stop_in rs)) is) ∙ e)))
+
+pub none_bad : (rs : List Running) → AllByRecursion (λ (r : Running). r.ended ≡ Err ends.BadEvent → ⊥) rs →
+    first_stop_in rs ≡ Some stops.BadEvent → ⊥
+none_bad [] none e = some_none stops.BadEvent (sym e)
+none_bad (r ∷ rs) none e = bad_first r rs r.ended refl e none.0 (none_bad rs none.1)
+
+-- and none met too many peers
+
+many_first : (r : Running) (rs : List Running) (n : ℕ) (x : Result Bool JobEnd) → r.ended ≡ x →
+    first_stop_in (r ∷ rs) ≡ Some (stops.TooManyPeers n) → (first_stop_in rs ≡ Some (stops.TooManyPeers n) → ⊥) → ⊥
+many_first r rs n (Ok goes_on) is e more = more (sym (ap (λ y. stop_or y (first_stop_in rs)) is) ∙ e)
+many_first r rs n (Err end) is e more = many_by end n (sym (ap (λ y. stop_or y (first_stop_in rs)) is) ∙ e)
+
+pub none_many : (rs : List Running) (n : ℕ) → first_stop_in rs ≡ Some (stops.TooManyPeers n) → ⊥
+none_many [] n e = some_none (stops.TooManyPeers n) (sym e)
+none_many (r ∷ rs) n e = many_first r rs n r.ended refl e (none_many rs n)
+
+-- ---- all began, or one didn't
+
+pub played_all : (hub : HubId) (typist : TrialTypist) (parts : List Part) (root : PassSeat) (before after : List Running)
+    → HaveBegun hub typist parts before → HaveDrained hub typist before after → AllJoined root before →
+    HavePlayed hub typist parts root after (first_stop_in after)
+played_all hub typist parts root before after b d joined = inl (record {
   users = d.users ∙ b.users;
   run = d.run;
-  all = λ e. refl;
-  done = λ e. done_each after e;
-  rested = λ e. rest_each hub typist after after after (done_each after e) d.rested;
-  full = λ kept e. filled_each hub.limits seen after kept e;
-}
+  stopped = refl;
+  rested = d.rested;
+  joined = d.joined root joined;
+})
 
--- ---- one didn't
-
-filled_none : (limits : Limits) (seen : History) (rs : List Running) (kept : Kept) → WasFull limits seen kept →
-    IsFilled limits seen rs kept
-filled_none limits seen [] kept w = w
-filled_none limits seen (r ∷ rs) kept w = inr (filled_none limits seen rs kept w)
-
-cause_by : (limits : Limits) (seen : History) (why : NoJob) (kept : Kept) →
-    Some (stop_by_begin why) ≡ Some (stops.Full kept) → HasCause limits seen why → WasFull limits seen kept
-cause_by limits seen (none.JournalFull k) kept e c =
-    let same : k ≡ kept = cc in subst (λ (x : Kept). WasFull limits seen x) same c
-cause_by limits seen (none.TooManyPeers alive) kept e c =
-    absurd (let no : Some stops.NoMemory ≡ Some (stops.Full kept) = e in cc)
-cause_by limits seen none.NoMemory kept e c =
-    absurd (let no : Some stops.NoMemory ≡ Some (stops.Full kept) = e in cc)
-
-pub played_first : (hub : HubId) (typist : TrialTypist) (parts : List Part) (seen : History) (rs : List Running)
-    (why : NoJob) → FirstBegun hub typist parts rs → HasCause hub.limits seen why →
-    HavePlayed hub typist parts seen rs (Some (stop_by_begin why))
-played_first hub typist parts seen rs why f c = record {
-  begun = f.begun;
-  first = f.first;
-  users = f.have.users;
-  run = all_idle_run hub typist rs f.have.idle f.have.types;
-  all = λ e. absurd (some_none (stop_by_begin why) e);
-  done = λ e. absurd (some_none (stop_by_begin why) e);
-  rested = λ e. absurd (some_none (stop_by_begin why) e);
-  full = λ kept e. filled_none hub.limits seen rs kept (cause_by hub.limits seen why kept e c);
-}
+pub played_first : (hub : HubId) (typist : TrialTypist) (parts : List Part) (root : PassSeat) (rs : List Running)
+    (why : NoJob) → AreIdle hub rs → IsUnbegun hub.limits root rs why →
+    HavePlayed hub typist parts root rs (Some (stop_by_begin why))
+played_first hub typist parts root rs why idle u =
+    inr (record { idle = idle; why = why; stopped = refl; unbegun = u })

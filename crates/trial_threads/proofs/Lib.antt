@@ -1,8 +1,8 @@
 pub mod JobsListed
 pub mod JobsRun
 pub mod JobsCross
-pub mod JobsIdle
 pub mod JobsBegun
+pub mod JobsUnbegun
 pub mod JobsLeft
 pub mod JobsDrained
 pub mod JobsPlayed
@@ -13,3 +13,8 @@ pub mod JoinsCounted
 pub mod PeersBegin
 pub mod PeersStay
 pub mod PassesAll
+pub mod ScriptFits
+pub mod NoBadEvents
+pub mod SetupsCounted
+pub mod FullEarly
+pub mod NeverEarly

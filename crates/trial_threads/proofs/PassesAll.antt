@@ -21,6 +21,23 @@ use Rattle.trial_threads.specs.declared.running.Running.{Running}
 use Rattle.trial_threads.specs.Back.{numbers_after, numbers_in, TookAllBack}
 use Rattle.trial_threads.specs.Peers.{HaveJoined}
 
+-- the session has as many outer steps as the history
+pub as_long : (limits : Limits) (root after : PassSeat) (s : Session) → LegalCopy limits root after.seen (Ok s) →
+    length (outer s.journal.entries) ≡ length after.seen
+as_long limits root after s k =
+    ap (λ (j : List Entry). length (outer j))
+    (k.answer.copied.journal ∙ ap (λ (x : History). (broker_of limits x).journal) (sym k.answer.same))
+    ∙ ap length (outer-journal limits after.seen k.lawful_after) ∙ length-entries after.seen
+
+-- the root made nothing since
+pub seen_since : (limits : Limits) (root root' : PassSeat) (rs : List Running) (fields : List (List FieldEntry))
+    (method : List MethodEntry) (after : History) (s : Session) → root.number ≡ 0 →
+    TookAllBack root root' rs fields method → LegalCopy limits root' after (Ok s) → HasSeen after 0 root.seen
+seen_since limits root root' rs fields method after s number took k =
+    seen_stays after root'.seen root.seen 0
+    (k.rest, k.answer.same, subst (λ (m : ℕ). NoneOf m k.rest) (took.sees.number ∙ number) k.apart)
+    (subst (λ (m : ℕ). HasSeen root'.seen m root.seen) number took.sees.mine)
+
 module _ (root root' : PassSeat) (n : ℕ) (rs : List Running) (fields : List (List FieldEntry))
     (method : List MethodEntry) (h : HaveJoined root n rs) (took : TookAllBack root root' rs fields method)
     (some : 1 ≤ length rs) where
@@ -38,33 +55,20 @@ module _ (root root' : PassSeat) (n : ℕ) (rs : List Running) (fields : List (L
   module _ (limits : Limits) (root'' : PassSeat) (s : Session) (is : root'' ≡ having_seen root' root''.seen)
       (k : LegalCopy limits root' root''.seen (Ok s))
       (steps : root'.out ≡ 0 → length (outer s.journal.entries) ≡ total_steps root'') where
-    as_long : length (outer s.journal.entries) ≡ length root''.seen
-    as_long =
-        ap (λ (j : List Entry). length (outer j))
-        (k.answer.copied.journal ∙ ap (λ (x : History). (broker_of limits x).journal) (sym k.answer.same))
-        ∙ ap length (outer-journal limits root''.seen k.lawful_after) ∙ length-entries root''.seen
-
     taken : root''.taken ≡ numbers_in rs
     taken = ap (λ (x : PassSeat). x.taken) is ∙ numbers
 
     pub passes_all : AreOfPasses (0 ∷ numbers_in rs) root''.seen
     passes_all =
         steps_are_of_passes (0 ∷ numbers_in rs) root''.seen once_all
-        (ap (λ (ns : List ℕ). total (0 ∷ ns) root''.seen) (sym taken) ∙ sym (steps none_out) ∙ as_long)
+        (ap (λ (ns : List ℕ). total (0 ∷ ns) root''.seen) (sym taken) ∙ sym (steps none_out) ∙ as_long limits root' root'' s k)
 
--- the root made nothing since it joined the peers
+-- what the root made are joins
 pub root_joins : (limits : Limits) (root root' : PassSeat) (n : ℕ) (rs : List Running) (fields : List (List FieldEntry))
     (method : List MethodEntry) (after : History) (s : Session) → HaveJoined root n rs →
     TookAllBack root root' rs fields method → LegalCopy limits root' after (Ok s) →
     AllByRecursion (λ (e : Entry). is_join e ≡ true) (entries_of_pass 0 after)
 root_joins limits root root' n rs fields method after s h took k =
     subst (λ (steps : List OuterStep). AllByRecursion (λ (e : Entry). is_join e ≡ true)
-    (map (λ (x : OuterStep). x.entry) steps)) (sym (own-seen after root.seen 0 seen)) h.joins
-  where
-    number' : root'.number ≡ 0
-    number' = took.sees.number ∙ h.number
-
-    seen : HasSeen after 0 root.seen
-    seen = seen_stays after root'.seen root.seen 0
-        (k.rest, k.answer.same, subst (λ (m : ℕ). NoneOf m k.rest) number' k.apart)
-        (subst (λ (m : ℕ). HasSeen root'.seen m root.seen) h.number took.sees.mine)
+    (map (λ (x : OuterStep). x.entry) steps))
+    (sym (own-seen after root.seen 0 (seen_since limits root root' rs fields method after s h.number took k))) h.joins

@@ -1,11 +1,17 @@
 -- Jobs that begin
-use Rattle.std.specs.Prelude.{◌≡◌, ◌≤◌, ◌++◌, ◌∷◌, [], ℕ, List}
-use Rattle.hub_lock.specs.Passes.{HubId}
+use Rattle.std.specs.Prelude.{◌≡◌, ◌≤◌, ◌+◌, ◌++◌, ◌∷◌, [], ℕ, List, length}
+use Rattle.seat_steps.specs.declared.limits.Limits.{Limits}
+use Rattle.broker_model.specs.declared.journal.Kept.{Kept}
+use Rattle.client_side.specs.Messages.{field_setup, method_setup}
+use Rattle.turn_lock.specs.Pairs.{total}
+use Rattle.hub_lock.specs.Passes.{HubId, PassSeat, steps_of}
 use Rattle.trial_run.specs.declared.typist.TrialTypist.{TrialTypist}
-use Rattle.typing_jobs.specs.Fronts.{IsFrontOf}
-use Rattle.trial_script.specs.declared.action.Action.{Action}
+use Rattle.ready_jobs.specs.declared.no_job.NoJob.{NoJob}
+use Rattle.ready_jobs.specs.declared.no_job.NoJob.TheVariants as none
+use Rattle.ready_jobs.specs.NoJobs.{WasFull, count_of}
 use Rattle.trial_threads.specs.declared.running.Running.{Running}
-use Rattle.trial_threads.specs.Users.{Part, fields_from}
+use Rattle.trial_threads.specs.Back.{numbers_in}
+use Rattle.trial_threads.specs.Users.{Part}
 use Rattle.trial_threads.specs.Jobs.{AreIdle, IsIdle, TypeAs, TypesAs, parts_in, part_of}
 
 -- the jobs of these users are ready
@@ -24,9 +30,19 @@ pub record IsPut (hub : HubId) (typist : TrialTypist) (part : Part)
   pub types : TypesAs typist job.job
   pub user : part_of job.job ≡ part
 
--- those of the first of these users are
-pub record FirstBegun (hub : HubId) (typist : TrialTypist) (parts : List Part)
-    (rs : List Running) : Type 0 where
-  pub begun : List Part
-  pub first : IsFrontOf begun parts
-  pub have : HaveBegun hub typist begun rs
+-- The journal was full for the peer of the next user. The root has made few steps, and so have the
+-- passes that came back; those of these jobs are out.
+pub record WasFullEarly (limits : Limits) (root : PassSeat) (rs : List Running)
+    (kept : Kept) : Type 0 where
+  pub full : WasFull limits root.seen kept
+  pub number : root.number ≡ 0
+  pub jobs : length rs ≤ 17
+  pub made : steps_of root ≤ length rs + 1
+  pub out : root.out ≡ length (numbers_in rs)
+  pub few : total root.taken root.seen ≤ count_of field_setup + count_of method_setup
+
+-- why the next user has no job: the journal was full, or there was no memory
+abbrev pub IsUnbegun : Limits → PassSeat → List Running → NoJob → Type 0
+IsUnbegun limits root rs (none.JournalFull kept) = WasFullEarly limits root rs kept
+IsUnbegun limits root rs (none.TooManyPeers alive) = ⊥
+IsUnbegun limits root rs none.NoMemory = Unit {0}

@@ -11,12 +11,12 @@ use Rattle.trial_threads.specs.declared.stop.Stop.TheVariants as stops
 -- where a job isn't begun, and where it isn't done
 abbrev pub stop_by_begin : NoJob → Stop
 stop_by_begin (none.JournalFull kept) = stops.Full kept
-stop_by_begin (none.TooManyPeers alive) = stops.NoMemory
+stop_by_begin (none.TooManyPeers alive) = stops.TooManyPeers alive
 stop_by_begin none.NoMemory = stops.NoMemory
 
 abbrev pub stop_by_job : JobEnd → Stop
 stop_by_job (ends.JournalFull kept) = stops.Full kept
-stop_by_job ends.BadEvent = stops.NoMemory
+stop_by_job ends.BadEvent = stops.BadEvent
 stop_by_job ends.NoMemory = stops.NoMemory
 
 -- the end of the first job that wasn't done

@@ -13,19 +13,20 @@ use Rattle.hub_lock.specs.Plays.{IsSessionOf}
 use Rattle.pass_calls.specs.Counted.{entries_of_pass, AreOfPasses, is_join}
 use Rattle.trial_run.specs.declared.typist.TrialTypist.{TrialTypist}
 use Rattle.trial_run.specs.Trial.{trial_limits, typist_of}
-use Rattle.typing_jobs.specs.Fronts.{IsFrontOf}
 use Rattle.typing_jobs.specs.declared.job_end.JobEnd.TheVariants as job_ends
 use Rattle.trial_jobs.specs.declared.job.TrialJob.{TrialJob}
 use Rattle.trial_jobs.specs.declared.job.TrialJob.TheVariants as jobs
+use Rattle.ready_jobs.specs.declared.no_job.NoJob.{NoJob}
 use Rattle.ready_jobs.specs.NoJobs.{WasFull}
 use Rattle.trial_threads.specs.declared.running.Running.{Running}
 use Rattle.trial_threads.specs.declared.stop.Stop.{Stop}
-use Rattle.trial_threads.specs.declared.stop.Stop.TheVariants as stops
 use Rattle.trial_threads.specs.declared.trial.ThreadTrial.{ThreadTrial}
 use Rattle.trial_threads.specs.declared.trial.ThreadTrialEnd.{ThreadTrialEnd}
 use Rattle.trial_threads.specs.declared.trial.ThreadTrialEnd.TheVariants as ends
 use Rattle.trial_threads.specs.Users.{Part, bad_line_from, parts_of}
-use Rattle.trial_threads.specs.Jobs.{HasRun, parts_in, field_logs, method_log_in}
+use Rattle.trial_threads.specs.Jobs.{HasRun, AreIdle, parts_in, field_logs, method_log_in}
+use Rattle.trial_threads.specs.BegunJobs.{IsUnbegun}
+use Rattle.trial_threads.specs.Stops.{stop_by_begin, first_stop_in}
 use Rattle.trial_threads.specs.Back.{numbers_in}
 use Rattle.trial_threads.specs.Drained.{HasRest, least_for_method, least_for_fields}
 use Rattle.trial_threads.specs.Peers.{ArePeers, AllJoined}
@@ -42,7 +43,8 @@ ArePasses h (jobs.Shell job) = IsSeenBy h job.pass
 
 -- There are jobs of these users over one hub, each with its law. What their passes have seen are
 -- fronts of one lawful history with no later step of them; the session is its journal, and the logs
--- are theirs.
+-- are theirs. The peers have numbers in order, the root joined them and made nothing else, and each
+-- step is the root's or of one of the jobs' passes.
 pub record IsTrial (typist : TrialTypist) (parts : List Part) (t : ThreadTrial) : Type 0 where
   pub hub : HubId
   pub limits : hub.limits ≡ trial_limits
@@ -55,38 +57,35 @@ pub record IsTrial (typist : TrialTypist) (parts : List Part) (t : ThreadTrial) 
   pub session : IsSessionOf (broker_of hub.limits h) t.session
   pub logs : t.logs ≡ field_logs jobs
   pub method_log : t.method_log ≡ method_log_in jobs []
+  pub peers : ArePeers h 1 jobs
+  pub root : AllByRecursion (λ (e : Entry). is_join e ≡ true) (entries_of_pass 0 h)
+  pub once : IsDistinct (0 ∷ numbers_in jobs)
+  pub passes : AreOfPasses (0 ∷ numbers_in jobs) h
 
 -- it was done
 abbrev pub IsDone : Running → Type 0
 IsDone r = (goes_on : Bool) × (r.ended ≡ Ok goes_on)
 
--- All were done, and at the last Empty of each whose peer goes on all that was put for it was taken,
--- in a journal long enough: the method's has the shell's steps, a field's those and the method's. The
--- peers have numbers in order, the root joined them and made nothing else, and each step is the
--- root's or of one of the jobs' passes.
+-- All were done, and at the last Empty of each whose peer goes on all that was put for it was
+-- taken, in a journal long enough: the method's has the shell's steps, a field's those and the
+-- method's.
 pub record IsWhole (typist : TrialTypist) (parts : List Part) (t : ThreadTrial) : Type 0 where
   pub trial : IsTrial typist parts t
   pub done : AllByRecursion IsDone trial.jobs
   pub rested : AllByRecursion (λ (r : Running). HasRest trial.hub.limits typist
       (least_for_method trial.jobs) (least_for_fields trial.jobs) r.job) trial.jobs
-  pub peers : ArePeers trial.h 1 trial.jobs
-  pub root : AllByRecursion (λ (e : Entry). is_join e ≡ true) (entries_of_pass 0 trial.h)
-  pub once : IsDistinct (0 ∷ numbers_in trial.jobs)
-  pub passes : AreOfPasses (0 ∷ numbers_in trial.jobs) trial.h
 
--- The jobs are those of the first of the users, and the journal was full for a step.
+-- one of these jobs met a full journal, which held so much
+abbrev pub IsStopped : Kept → List Running → Type 0
+IsStopped kept [] = ⊥
+IsStopped kept (r ∷ rs) = (r.ended ≡ Err (job_ends.JournalFull kept)) ⊎ IsStopped kept rs
+
+-- A job met a full journal, which held so much: a front of the history is full for a step.
 pub record IsCut (typist : TrialTypist) (parts : List Part) (kept : Kept)
     (t : ThreadTrial) : Type 0 where
-  pub begun : List Part
-  pub first : IsFrontOf begun parts
-  pub trial : IsTrial typist begun t
+  pub trial : IsTrial typist parts t
+  pub stopped : IsStopped kept trial.jobs
   pub full : WasFull trial.hub.limits trial.h kept
-
--- the journal was full for a step of the root, as it has seen it, or for one of a job
-abbrev pub IsFilled : Limits → History → List Running → Kept → Type 0
-IsFilled limits h [] kept = WasFull limits h kept
-IsFilled limits h (r ∷ rs) kept =
-    (r.ended ≡ Err (job_ends.JournalFull kept)) ⊎ IsFilled limits h rs kept
 
 -- what running and draining leaves of jobs
 pub record HaveDrained (hub : HubId) (typist : TrialTypist) (before after : List Running)
@@ -97,19 +96,30 @@ pub record HaveDrained (hub : HubId) (typist : TrialTypist) (before after : List
   pub rested : AllByRecursion (λ (r : Running). IfOk r.ended (λ goes_on. HasRest hub.limits typist
       (least_for_method after) (least_for_fields after) r.job)) after
 
--- What playing leaves of these users, where the root has seen this: their first ones have jobs, each
--- with its law. They are all, done and drained, where nothing stopped it; else so it was stopped.
-pub record HavePlayed (hub : HubId) (typist : TrialTypist) (parts : List Part) (seen : History)
+-- All users have jobs, each with its law, run and drained; the end of the first that wasn't done
+-- stopped it, if there is one.
+pub record AllPlayed (hub : HubId) (typist : TrialTypist) (parts : List Part) (root : PassSeat)
     (rs : List Running) (stop : Option Stop) : Type 0 where
-  pub begun : List Part
-  pub first : IsFrontOf begun parts
-  pub users : parts_in rs ≡ begun
+  pub users : parts_in rs ≡ parts
   pub run : AllByRecursion (HasRun hub typist) rs
-  pub all : stop ≡ None → begun ≡ parts
-  pub done : stop ≡ None → AllByRecursion IsDone rs
-  pub rested : stop ≡ None → AllByRecursion (λ (r : Running). HasRest hub.limits typist
-      (least_for_method rs) (least_for_fields rs) r.job) rs
-  pub full : (kept : Kept) → stop ≡ Some (stops.Full kept) → IsFilled hub.limits seen rs kept
+  pub stopped : stop ≡ first_stop_in rs
+  pub rested : AllByRecursion (λ (r : Running). IfOk r.ended (λ goes_on. HasRest hub.limits typist
+      (least_for_method rs) (least_for_fields rs) r.job)) rs
+  pub joined : AllJoined root rs
+
+-- The next user has no job; the others wait to be run.
+pub record NotAllBegun (hub : HubId) (root : PassSeat) (rs : List Running)
+    (stop : Option Stop) : Type 0 where
+  pub idle : AreIdle hub rs
+  pub why : NoJob
+  pub stopped : stop ≡ Some (stop_by_begin why)
+  pub unbegun : IsUnbegun hub.limits root rs why
+
+-- what playing leaves of these users, and of the root
+abbrev pub HavePlayed : (hub : HubId) → TrialTypist → List Part → PassSeat → List Running →
+    Option Stop → Type 0
+HavePlayed hub typist parts root rs stop =
+    AllPlayed hub typist parts root rs stop ⊎ NotAllBegun hub root rs stop
 
 -- what the answer tells of a trial of these users
 abbrev pub ToldOf : TrialTypist → List Part → Result ThreadTrial ThreadTrialEnd → Type 0

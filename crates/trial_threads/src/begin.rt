@@ -4,11 +4,10 @@ ghost use Rattle.hub_lock.specs.Passes.{IsOf};
 ghost use Rattle.trial_run.specs.declared.typist.TrialTypist.{TrialTypist};
 ghost use Rattle.trial_script.specs.Grammar.{IsAction};
 ghost use Rattle.trial_jobs.specs.MethodLaw.{IsFresh};
-ghost use Rattle.ready_jobs.specs.NoJobs.{HasCause};
 ghost use Rattle.trial_threads.specs.Users.{Part, of_field, of_method, of_shell, fields_from};
 ghost use Rattle.trial_threads.specs.Users.{edits_in, batches_in, orders_in, parts_of};
-ghost use Rattle.trial_threads.specs.BegunJobs.{IsPut, HaveBegun, FirstBegun};
-ghost use Rattle.trial_threads.specs.Jobs.{idle_job};
+ghost use Rattle.trial_threads.specs.BegunJobs.{IsPut, HaveBegun, IsUnbegun};
+ghost use Rattle.trial_threads.specs.Jobs.{AreIdle, idle_job};
 ghost use Rattle.trial_threads.specs.Peers.{HaveJoined, AllJoined};
 
 use crate::parts::{batches_in, edits_in, orders_in};
@@ -62,7 +61,10 @@ fn put_field<R: Wait>(
     ensures joined { OnOk result (HaveJoined root.old (length jobs.old.items) jobs.old.items →
         HaveJoined root.new (length jobs.new.items) jobs.new.items) }
     ensures err { OnErr result (jobs.new.items ≡ jobs.old.items) }
-    ensures cause { IfErr result (HasCause hub.now.limits root.new.seen) }
+    ensures one { OnOk result (length jobs.new.items ≡ length jobs.old.items + 1) }
+    ensures unbegun { IfErr result (λ why.
+        HaveJoined root.old (length jobs.old.items) jobs.old.items →
+        length jobs.old.items ≤ 17 → IsUnbegun hub.now.limits root.new jobs.new.items why) }
 {
     let edits = edits_in(alloc, number, actions)?;
     let field = begin_field(rt, alloc, hub, root, edits)?;
@@ -91,7 +93,10 @@ fn put_method<R: Wait>(
     ensures joined { OnOk result (HaveJoined root.old (length jobs.old.items) jobs.old.items →
         HaveJoined root.new (length jobs.new.items) jobs.new.items) }
     ensures err { OnErr result (jobs.new.items ≡ jobs.old.items) }
-    ensures cause { IfErr result (HasCause hub.now.limits root.new.seen) }
+    ensures one { OnOk result (length jobs.new.items ≡ length jobs.old.items + 1) }
+    ensures unbegun { IfErr result (λ why.
+        HaveJoined root.old (length jobs.old.items) jobs.old.items →
+        length jobs.old.items ≤ 17 → IsUnbegun hub.now.limits root.new jobs.new.items why) }
 {
     let batches = batches_in(alloc, actions)?;
     let method = begin_method(rt, alloc, hub, root, typist, batches)?;
@@ -142,13 +147,13 @@ fn put_fields<R: Wait>(
         HaveBegun hub.now typist parts jobs.old.items →
         HaveBegun hub.now typist (parts ++ fields_from 1 users.now.fields users.now.actions.now)
         jobs.new.items) }
-    ensures first { (typist : TrialTypist) (parts : List Part) →
-        HaveBegun hub.now typist parts jobs.old.items →
-        FirstBegun hub.now typist (parts ++ fields_from 1 users.now.fields users.now.actions.now)
-        jobs.new.items }
+    ensures idle { (typist : TrialTypist) (parts : List Part) →
+        HaveBegun hub.now typist parts jobs.old.items → AreIdle hub.now jobs.new.items }
     ensures joined { OnOk result (HaveJoined root.old (length jobs.old.items) jobs.old.items →
         HaveJoined root.new (length jobs.new.items) jobs.new.items) }
-    ensures cause { IfErr result (HasCause hub.now.limits root.new.seen) }
+    ensures unbegun { IfErr result (λ why.
+        HaveJoined root.old (length jobs.old.items) jobs.old.items →
+        length jobs.old.items ≤ 1 → IsUnbegun hub.now.limits root.new jobs.new.items why) }
 {
     for index in 0..users.fields {
         put_field(rt, alloc, hub, root, index + 1, users.actions, jobs)?;
@@ -176,11 +181,11 @@ pub(crate) fn begin_jobs<R: Wait>(
     ensures own { IsOf hub.now root.new }
     ensures all { OnOk result (HaveBegun hub.now typist
         (parts_of users.now.fields users.now.first users.now.actions.now) jobs.new.items) }
-    ensures first { FirstBegun hub.now typist
-        (parts_of users.now.fields users.now.first users.now.actions.now) jobs.new.items }
+    ensures idle { AreIdle hub.now jobs.new.items }
     ensures joined { OnOk result (HaveJoined root.old 0 [] →
         AllJoined root.new jobs.new.items) }
-    ensures cause { IfErr result (HasCause hub.now.limits root.new.seen) }
+    ensures unbegun { IfErr result (λ why. HaveJoined root.old 0 [] →
+        IsUnbegun hub.now.limits root.new jobs.new.items why) }
 {
     put_method(rt, alloc, hub, root, typist, users.actions, jobs)?;
     put_fields(rt, alloc, hub, root, users, jobs)?;

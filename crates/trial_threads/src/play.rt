@@ -1,12 +1,12 @@
 //! The jobs of a script's users are played to their end.
-ghost use Rattle.std.specs.Prelude.{◌≡◌, ◌≤◌, [], All, None, length};
+ghost use Rattle.std.specs.Prelude.{◌≡◌, ◌≤◌, [], All, length};
 ghost use Rattle.hub_lock.specs.Passes.{IsOf};
 ghost use Rattle.trial_script.specs.Grammar.{IsAction};
 ghost use Rattle.trial_jobs.specs.MethodLaw.{IsFresh};
 ghost use Rattle.trial_run.specs.declared.typist.TrialTypist.{TrialTypist};
 ghost use Rattle.trial_threads.specs.Users.{parts_of};
 ghost use Rattle.trial_threads.specs.Jobs.{AreIdle, AreJobsOf, TypeAs};
-ghost use Rattle.trial_threads.specs.Peers.{HaveJoined, AllJoined};
+ghost use Rattle.trial_threads.specs.Peers.{HaveJoined};
 ghost use Rattle.trial_threads.specs.Whole.{HaveDrained, HavePlayed};
 
 use crate::begin::{Users, begin_jobs};
@@ -57,10 +57,9 @@ pub(crate) fn play<R: Threads + Wait + Sync, G: Gate + Sync>(
     requires none { jobs.old.items ≡ [] }
     ensures own { IsOf hub.now root.new }
     ensures of { AreJobsOf hub.now jobs.new.items }
-    ensures played { HavePlayed hub.now typist
+    ensures played { HaveJoined root.old 0 [] → HavePlayed hub.now typist
         (parts_of users.now.fields users.now.first users.now.actions.now)
-        root.new.seen jobs.new.items result }
-    ensures joined { result ≡ None → HaveJoined root.old 0 [] → AllJoined root.new jobs.new.items }
+        root.new jobs.new.items result }
 {
     if let Err(why) = begin_jobs(rt, alloc, hub, root, typist, users, jobs) {
         return Some(stop_of_begin(why));

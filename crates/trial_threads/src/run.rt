@@ -67,6 +67,8 @@ fn run_users<R: Threads + Wait + Sync, G: Gate + Sync>(
         Some(why) => match why {
             Stop::Full(kept) => Err(ThreadTrialEnd::JournalFull(kept, trial)),
             Stop::NoMemory => Err(ThreadTrialEnd::NoMemory),
+            Stop::TooManyPeers(_) => unreachable!(),
+            Stop::BadEvent => unreachable!(),
         },
     }
 }

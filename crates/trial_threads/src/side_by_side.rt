@@ -38,7 +38,6 @@ pub(crate) fn run_jobs<R: Threads + Wait + Sync, G: Gate + Sync>(
     gate: &G,
     jobs: &mut [Running],
 )
-    requires sync { IsSync R.row × IsSync G.row }
     requires idle { AreIdle hub.now jobs.old }
     ensures { AreRun hub.now jobs.old jobs.new }
 {

@@ -12,8 +12,11 @@ use typing_jobs::JobEnd;
 pub enum Stop {
     /// The journal is full for a step: so much it holds.
     Full(Kept),
-    /// There was no memory. So many peers that no more could join, and events that the method can't
-    /// read, are answered so too: neither comes in a trial.
+    /// So many peers are alive that no more can join, which doesn't come in a trial.
+    TooManyPeers(u32),
+    /// There was an event that the method can't read, which doesn't come in a trial.
+    BadEvent,
+    /// There was no memory.
     NoMemory,
 }
 
@@ -23,7 +26,8 @@ pub(crate) fn stop_of_begin(why: NoJob) -> Stop
 {
     match why {
         NoJob::JournalFull(kept) => Stop::Full(kept),
-        NoJob::TooManyPeers(_) | NoJob::NoMemory => Stop::NoMemory,
+        NoJob::TooManyPeers(alive) => Stop::TooManyPeers(alive),
+        NoJob::NoMemory => Stop::NoMemory,
     }
 }
 
@@ -33,7 +37,8 @@ fn stop_of_job(end: JobEnd) -> Stop
 {
     match end {
         JobEnd::JournalFull(kept) => Stop::Full(kept),
-        JobEnd::BadEvent | JobEnd::NoMemory => Stop::NoMemory,
+        JobEnd::BadEvent => Stop::BadEvent,
+        JobEnd::NoMemory => Stop::NoMemory,
     }
 }
 

@@ -1,9 +1,23 @@
-use Rattle.std.proofs.Common.{List, length, subst, sym}
+use Rattle.std.proofs.Common.{ℕ, Err, List, length, subst, sym, ap, ◌∙◌}
+use Rattle.std.proofs.lemmas.Result.{err_from_is_err_and}
 use Rattle.relay_model.specs.declared.role.Role.TheVariants as roles
+use Rattle.ready_jobs.specs.declared.no_job.NoJob.{NoJob}
 use Rattle.trial_threads.specs.declared.running.Running.{Running}
 use Rattle.trial_threads.specs.Peers.{HaveJoined}
+use Rattle.trial_threads.proofs.JobsUnbegun.{few_joined, field_unbegun}
 use Rattle.trial_threads.proofs.PeersBegin.{field_joined}
 use Rattle.trial_threads.proofs.begin.put_field.Goals as goal
+
+pub returns-in_err-field-clause-unbegun : goal.returns-in_err-field-clause-unbegun
+returns-in_err-field-clause-unbegun g c =
+    let p = err_from_is_err_and c.from_residual-in_err-field.result c.from_residual-in_err-field.ensures.1 in
+    let why = c.in_err-field.field-0.0 in
+    let rs = c.args.jobs.now.items in
+    rw (p.1, p.2)
+    (λ h few. field_unbegun c.args.hub.now c.args.root.now c.begin_field.new.root rs why h few
+    c.in_err-field.ensures.none
+    (λ n is. c.begin_field.ensures.few (few_joined c.args.root.now (length rs) rs h few) n
+    (c.in_err-field.was ∙ ap (λ (x : NoJob). Err x) is)))
 
 pub returns-clause-joined : goal.returns-clause-joined
 returns-clause-joined g c h =

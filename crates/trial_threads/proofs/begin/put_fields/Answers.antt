@@ -1,8 +1,10 @@
 use Rattle.std.proofs.Common.{◌≡◌, ◌≤◌, ◌++◌, ℕ, List, subst, sym, arith, append-nil}
+use Rattle.std.proofs.lemmas.Result.{err_from_is_err_and}
 use Rattle.trial_threads.specs.declared.running.Running.{Running}
 use Rattle.trial_threads.specs.Users.{Part, fields_from}
-use Rattle.trial_threads.specs.BegunJobs.{HaveBegun, FirstBegun}
-use Rattle.trial_threads.proofs.JobsBegun.{one_field, first_fields}
+use Rattle.trial_threads.specs.Jobs.{AreIdle}
+use Rattle.trial_threads.specs.BegunJobs.{HaveBegun}
+use Rattle.trial_threads.proofs.JobsBegun.{one_field}
 use Rattle.trial_threads.proofs.begin.put_fields.Goals as goal
 
 pub loop-index-init : goal.loop-index-init
@@ -11,6 +13,7 @@ loop-index-init g c = record {
   next = c.requires.room;
   begun = λ typist parts h. subst (λ (ps : List Part). HaveBegun c.args.hub.now typist ps c.args.jobs.now.items)
       (sym (append-nil parts)) h;
+  number = omega arith;
   joined = λ h. h;
 }
 
@@ -30,13 +33,18 @@ put_field-requires-clause-actions g c = c.requires.actions
 pub returns-in_err-put_field-clause-own : goal.returns-in_err-put_field-clause-own
 returns-in_err-put_field-clause-own g c = c.put_field.ensures.own
 
-pub returns-in_err-put_field-clause-first : goal.returns-in_err-put_field-clause-first
-returns-in_err-put_field-clause-first g c typist parts h =
-    subst (λ (rs : List Running). FirstBegun c.args.hub.now typist
-    (parts ++ fields_from 1 c.args.users.now.fields c.args.users.now.actions.now) rs)
-    (sym c.in_err-put_field.ensures.err)
-    (first_fields c.args.hub.now typist parts c.loop-index.index c.args.users.now.fields c.args.users.now.actions.now
-    c.loop-index.jobs.items (omega (arith, c.loop-index-test.true)) (c.loop-index.invariant.begun typist parts h))
+pub returns-in_err-put_field-clause-idle : goal.returns-in_err-put_field-clause-idle
+returns-in_err-put_field-clause-idle g c typist parts h =
+    subst (λ (rs : List Running). AreIdle c.args.hub.now rs) (sym c.in_err-put_field.ensures.err)
+    (c.loop-index.invariant.begun typist parts h).idle
+
+pub returns-in_err-put_field-clause-unbegun : goal.returns-in_err-put_field-clause-unbegun
+returns-in_err-put_field-clause-unbegun g c =
+    let p = err_from_is_err_and c.from_residual.result c.from_residual.ensures.1 in
+    let i = c.loop-index.invariant in
+    rw (p.1, p.2)
+    (λ h few. c.in_err-put_field.ensures.unbegun (i.joined h)
+    (omega (arith, i.number, few, c.loop-index-test.true, c.requires.few)))
 
 pub loop-index-preserved : goal.loop-index-preserved
 loop-index-preserved g c =
@@ -46,6 +54,7 @@ loop-index-preserved g c =
       next = omega (arith, e.next, i.next);
       begun = λ typist parts h. one_field c.args.hub.now typist parts c.loop-index.index c.args.users.now.actions.now
           c.loop-index.jobs.items c.put_field.new.jobs.items (i.begun typist parts h) (e.put typist);
+      number = (let one = e.one in let before = i.number in omega arith);
       joined = λ h. e.joined (i.joined h);
     }
 
@@ -62,10 +71,8 @@ returns-clause-all g c typist parts h =
     subst (λ (k : ℕ). HaveBegun c.args.hub.now typist (parts ++ fields_from 1 k c.args.users.now.actions.now)
     c.loop-index.jobs.items) all (c.loop-index.invariant.begun typist parts h)
 
-pub returns-clause-first : goal.returns-clause-first
-returns-clause-first g c typist parts h =
-    first_fields c.args.hub.now typist parts c.loop-index.index c.args.users.now.fields c.args.users.now.actions.now
-    c.loop-index.jobs.items (omega (arith, c.loop-index.auto.index-end)) (c.loop-index.invariant.begun typist parts h)
+pub returns-clause-idle : goal.returns-clause-idle
+returns-clause-idle g c typist parts h = (c.loop-index.invariant.begun typist parts h).idle
 
 pub returns-clause-joined : goal.returns-clause-joined
 returns-clause-joined g c h = c.loop-index.invariant.joined h

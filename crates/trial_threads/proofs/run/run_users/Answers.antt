@@ -1,5 +1,7 @@
 use Rattle.std.proofs.Common.{◌≡◌, ◌∙◌, [], Result, Some, None, length, refl, sym, ap, subst}
 use Rattle.std.specs.Prelude.{Option, IfOk}
+use Rattle.std.proofs.lemmas.List.Elements.{recursion_from_All}
+use Rattle.trial_script.specs.Grammar.{IsAction}
 use Rattle.broker_model.specs.Settle.{outer}
 use Rattle.hub_lock.specs.Passes.{PassSeat, total_steps}
 use Rattle.hub_lock.specs.declared.session.NoSession.{NoSession}
@@ -11,7 +13,8 @@ use Rattle.trial_threads.specs.Users.{parts_of}
 use Rattle.trial_threads.specs.Peers.{HaveJoined}
 use Rattle.trial_threads.specs.Whole.{HavePlayed}
 use Rattle.trial_threads.proofs.PeersBegin.{none_joined}
-use Rattle.trial_threads.proofs.TrialTold.{is_whole, is_cut}
+use Rattle.trial_threads.proofs.TrialTold.{is_whole, is_cut, never_many, never_bad}
+use Rattle.trial_threads.proofs.NoBadEvents.{trials_hear_no_bad_event}
 use Rattle.trial_threads.proofs.run.run_users.Goals as goal
 
 pub returns-in-None : goal.returns-in-None
@@ -19,40 +22,93 @@ returns-in-None g c =
     let hub = c.in_ok-hub.hub in
     let u = c.args.users.now in
     let parts = parts_of u.fields u.first u.actions.now in
+    let root = c.play-stopped.new.root in
     let rs = c.play-stopped.new.jobs.items in
     let t : ThreadTrial = record {
       logs = c.in_ok-logs.logs.fields;
       method_log = c.in_ok-logs.logs.method;
       session = c.in-Ok.session;
     } in
-    is_whole hub c.args.typist parts c.play-stopped.new.root c.collect.new.root c.session.new.root rs t
-    (c.in_ok-hub.ensures.limits ∙ c.trial_limits.ensures.value)
-    (subst (λ (s : Option Stop). HavePlayed hub c.args.typist parts c.play-stopped.new.root.seen rs s) c.in-None.is
-    c.play-stopped.ensures.played)
-    c.in_ok-logs.ensures.back c.session.ensures.settled
+    is_whole hub c.args.typist parts root c.collect.new.root c.session.new.root rs t
+    (c.in_ok-hub.ensures.limits ∙ c.trial_limits.ensures.value) c.in_ok-logs.ensures.back c.session.ensures.settled
     (subst (λ (r : Result Session NoSession). LegalCopy hub.limits c.collect.new.root c.session.new.root.seen r)
     c.in-Ok.is c.session.ensures.legal)
-    (c.play-stopped.ensures.joined c.in-None.is (subst (λ (s : PassSeat). HaveJoined s 0 [])
-    (sym c.in_ok-hub.ensures.root) (none_joined _ refl refl refl refl)))
     c.session.ensures.root
     (λ e. subst (λ (r : Result Session NoSession). IfOk r (λ s.
     length (outer s.journal.entries) ≡ total_steps c.session.new.root)) c.in-Ok.is (c.session.ensures.steps e))
+    (subst (λ (s : Option Stop). HavePlayed hub c.args.typist parts root rs s) c.in-None.is
+    (c.play-stopped.ensures.played (subst (λ (s : PassSeat). HaveJoined s 0 []) (sym c.in_ok-hub.ensures.root)
+    (none_joined _ refl refl refl refl))))
 
 pub returns-in-Full : goal.returns-in-Full
 returns-in-Full g c =
     let hub = c.in_ok-hub.hub in
     let u = c.args.users.now in
     let parts = parts_of u.fields u.first u.actions.now in
+    let root = c.play-stopped.new.root in
     let rs = c.play-stopped.new.jobs.items in
     let t : ThreadTrial = record {
       logs = c.in_ok-logs.logs.fields;
       method_log = c.in_ok-logs.logs.method;
       session = c.in-Ok.session;
     } in
-    is_cut hub c.args.typist parts c.play-stopped.new.root c.collect.new.root c.session.new.root rs c.in-Full.kept t
-    (c.in_ok-hub.ensures.limits ∙ c.trial_limits.ensures.value)
-    (subst (λ (s : Option Stop). HavePlayed hub c.args.typist parts c.play-stopped.new.root.seen rs s)
-    (c.in-Some.is ∙ ap (λ (why : Stop). Some why) c.in-Full.is) c.play-stopped.ensures.played)
-    c.in_ok-logs.ensures.back c.session.ensures.settled
+    is_cut hub c.args.typist parts root c.collect.new.root c.session.new.root rs t
+    (c.in_ok-hub.ensures.limits ∙ c.trial_limits.ensures.value) c.in_ok-logs.ensures.back c.session.ensures.settled
     (subst (λ (r : Result Session NoSession). LegalCopy hub.limits c.collect.new.root c.session.new.root.seen r)
     c.in-Ok.is c.session.ensures.legal)
+    c.session.ensures.root
+    (λ e. subst (λ (r : Result Session NoSession). IfOk r (λ s.
+    length (outer s.journal.entries) ≡ total_steps c.session.new.root)) c.in-Ok.is (c.session.ensures.steps e))
+    c.in-Full.kept
+    (subst (λ (s : Option Stop). HavePlayed hub c.args.typist parts root rs s) (c.in-Some.is ∙ ap (λ (why : Stop). Some why) c.in-Full.is)
+    (c.play-stopped.ensures.played (subst (λ (s : PassSeat). HaveJoined s 0 []) (sym c.in_ok-hub.ensures.root)
+    (none_joined _ refl refl refl refl))))
+
+pub unreachable-requires : goal.unreachable-requires
+unreachable-requires g c =
+    let hub = c.in_ok-hub.hub in
+    let u = c.args.users.now in
+    let parts = parts_of u.fields u.first u.actions.now in
+    let root = c.play-stopped.new.root in
+    let rs = c.play-stopped.new.jobs.items in
+    let t : ThreadTrial = record {
+      logs = c.in_ok-logs.logs.fields;
+      method_log = c.in_ok-logs.logs.method;
+      session = c.in-Ok.session;
+    } in
+    never_many hub c.args.typist parts root c.collect.new.root c.session.new.root rs t
+    (c.in_ok-hub.ensures.limits ∙ c.trial_limits.ensures.value) c.in_ok-logs.ensures.back c.session.ensures.settled
+    (subst (λ (r : Result Session NoSession). LegalCopy hub.limits c.collect.new.root c.session.new.root.seen r)
+    c.in-Ok.is c.session.ensures.legal)
+    c.session.ensures.root
+    (λ e. subst (λ (r : Result Session NoSession). IfOk r (λ s.
+    length (outer s.journal.entries) ≡ total_steps c.session.new.root)) c.in-Ok.is (c.session.ensures.steps e))
+    c.in-TooManyPeers.field-0
+    (subst (λ (s : Option Stop). HavePlayed hub c.args.typist parts root rs s) (c.in-Some.is ∙ ap (λ (why : Stop). Some why) c.in-TooManyPeers.is)
+    (c.play-stopped.ensures.played (subst (λ (s : PassSeat). HaveJoined s 0 []) (sym c.in_ok-hub.ensures.root)
+    (none_joined _ refl refl refl refl))))
+
+pub unreachable-requires-in-BadEvent : goal.unreachable-requires-in-BadEvent
+unreachable-requires-in-BadEvent g c =
+    let hub = c.in_ok-hub.hub in
+    let u = c.args.users.now in
+    let parts = parts_of u.fields u.first u.actions.now in
+    let root = c.play-stopped.new.root in
+    let rs = c.play-stopped.new.jobs.items in
+    let t : ThreadTrial = record {
+      logs = c.in_ok-logs.logs.fields;
+      method_log = c.in_ok-logs.logs.method;
+      session = c.in-Ok.session;
+    } in
+    never_bad hub c.args.typist parts root c.collect.new.root c.session.new.root rs t
+    (c.in_ok-hub.ensures.limits ∙ c.trial_limits.ensures.value) c.in_ok-logs.ensures.back c.session.ensures.settled
+    (subst (λ (r : Result Session NoSession). LegalCopy hub.limits c.collect.new.root c.session.new.root.seen r)
+    c.in-Ok.is c.session.ensures.legal)
+    c.session.ensures.root
+    (λ e. subst (λ (r : Result Session NoSession). IfOk r (λ s.
+    length (outer s.journal.entries) ≡ total_steps c.session.new.root)) c.in-Ok.is (c.session.ensures.steps e))
+    (trials_hear_no_bad_event c.args.typist u.fields u.first u.actions.now t c.requires.fresh
+    (recursion_from_All IsAction u.actions.now c.requires.actions))
+    (subst (λ (s : Option Stop). HavePlayed hub c.args.typist parts root rs s) (c.in-Some.is ∙ ap (λ (why : Stop). Some why) c.in-BadEvent.is)
+    (c.play-stopped.ensures.played (subst (λ (s : PassSeat). HaveJoined s 0 []) (sym c.in_ok-hub.ensures.root)
+    (none_joined _ refl refl refl refl))))
