@@ -1,8 +1,10 @@
 -- The law of a whole trial in threads, of its script and of what it gives
-use Rattle.std.specs.Prelude.{◌≡◌, ◌⊎◌, ◌+◌, ◌%◌, ◌^◌, ℕ, List, ◌++◌, length, map, take, Some}
+use Rattle.std.specs.Prelude.{◌≡◌, ◌⊎◌, ◌≤◌, ◌<◌, ◌+◌, ◌%◌, ◌^◌, ℕ, List, ◌++◌, length, map, take, Some}
 use Rattle.std.specs.List.{slice_get}
+use Rattle.seat_steps.specs.declared.limits.Limits.{Limits}
 use Rattle.broker_model.specs.declared.journal.Entry.{Entry}
 use Rattle.broker_model.specs.declared.journal.Kept.{Kept}
+use Rattle.broker_core.specs.Broker.{kept_in}
 use Rattle.client_side.specs.MethodLog.{Happening}
 use Rattle.client_logs.specs.declared.entry.FieldEntry.{FieldEntry}
 use Rattle.client_logs.specs.Logs.{edit_of, batch_of, field_log}
@@ -16,11 +18,10 @@ use Rattle.typing_jobs.specs.Happened as log
 use Rattle.trial_jobs.specs.MethodLaw.{rounds}
 use Rattle.jobs_law.specs.Passes.{HasEndIn}
 use Rattle.jobs_law.specs.FieldTold.{IsFieldTold, IsFieldToldAndSent, IsAllTold}
-use Rattle.jobs_law.specs.MethodTold.{IsMethodToldAndSent, HasKeys}
+use Rattle.jobs_law.specs.MethodTold.{IsMethodTold, IsMethodToldAndSent, HasKeys}
 use Rattle.jobs_law.specs.ShellTold.{orders_of}
 use Rattle.trial_threads.specs.declared.trial.ThreadTrial.{ThreadTrial}
 use Rattle.trial_threads.specs.Users.{edits_in, batches_in, orders_in}
-use Rattle.trial_threads.specs.Peers.{ArePeers}
 use Rattle.trial_threads.specs.Whole.{users_of, IsWhole, IsCut}
 
 -- The log of the field with the index k has the script's edits for it, in order. The rest of it are
@@ -76,11 +77,39 @@ pub record IsCutField (s : Script) (journal : List Entry) (k : ℕ)
   pub own : IsFrontOf (log.edits_in (field_log entries)) (map edit_of (edits_in (k + 1) s.actions))
   pub told : IsFieldTold trial_limits journal (k + 2) (field_log entries)
 
--- so it is with each field that began, in every trial of a script that was cut off
+-- There is such a log for each field. The method's log has the first of the script's first thousand
+-- batches, and a front of the events that the journal tells its peer, whose steps are the first of
+-- what the log asks for. The shell's orders in the journal are the first of the script's.
+pub record IsToldCut (s : Script) (t : ThreadTrial) : Type 0 where
+  pub number : length t.logs ≡ s.fields
+  pub fields_told : (k : ℕ) (entries : List FieldEntry) → slice_get t.logs k ≡ Some entries →
+      IsCutField s t.session.journal.entries k entries
+  pub batches : IsFrontOf (batches_of (method_log t.method_log))
+      (map batch_of (take rounds (batches_in s.actions)))
+  pub method_told : IsMethodTold trial_limits t.session.journal.entries (typist_of s)
+      (method_log t.method_log)
+  pub orders : IsFrontOf (orders_of t.session.journal.entries)
+      (orders_in (s.first_line % 2 ^ 32) s.actions)
+
+-- it holds of every trial of a script that is read, where the journal was full for a step
 abbrev pub CutsAreTold : Type 0
 CutsAreTold =
-    (bytes : List ℕ) (kept : Kept) (t : ThreadTrial)
-    (c : IsCut (typist_of (script_of bytes)) (users_of (script_of bytes)) kept t) →
-    ArePeers c.trial.h 1 c.trial.jobs →
-    (k : ℕ) (entries : List FieldEntry) → slice_get t.logs k ≡ Some entries →
-    IsCutField (script_of bytes) t.session.journal.entries k entries
+    (bytes : List ℕ) (kept : Kept) (t : ThreadTrial) →
+    IsCut (typist_of (script_of bytes)) (users_of (script_of bytes)) kept t →
+    IsToldCut (script_of bytes) t
+
+-- A front of the journal holds so much, and its counted entries are at the limit, or its weight and
+-- that of the heaviest step pass the limit.
+pub record IsFullFront (limits : Limits) (journal : List Entry) (kept : Kept) : Type 0 where
+  pub newer : List Entry
+  pub seen : List Entry
+  pub is : journal ≡ newer ++ seen
+  pub holds : kept ≡ kept_in seen
+  pub full : (limits.entries ≤ kept.entries) ⊎ (limits.weight < kept.weight + 4104)
+
+-- so much a front of the session's journal held, in every such trial
+abbrev pub CutsAreFull : Type 0
+CutsAreFull =
+    (bytes : List ℕ) (kept : Kept) (t : ThreadTrial) →
+    IsCut (typist_of (script_of bytes)) (users_of (script_of bytes)) kept t →
+    IsFullFront trial_limits t.session.journal.entries kept
