@@ -62,8 +62,8 @@ fn ends<R: Abort + Threads + Wait + Sync>(
 fn a_field_ends_by_its_full_store(rt: HostRuntime) -> Result<(), Fail> {
     let alloc = rt.alloc();
     let script = script(alloc)?;
-    let mut turns = 100_000u64;
-    for _ in 0..12 {
+    let mut turns = 100u64;
+    for _ in 0..20 {
         if ends(&rt, alloc, script.as_str(), turns)? {
             return Ok(());
         }
