@@ -16,31 +16,6 @@ impl Gate for Open {
     fn after(&self, _peer: u32, _step: u64) {}
 }
 
-/// Holds the first edit of each field for so many turns.
-#[derive(Drop)]
-pub(crate) struct Holds {
-    turns: u64,
-}
-
-impl Holds {
-    pub(crate) fn new(turns: u64) -> Holds {
-        Holds { turns }
-    }
-}
-
-impl Gate for Holds {
-    fn before(&self, _peer: u32, step: u64) {
-        if step != 1 {
-            return;
-        }
-        for _ in 0..self.turns {
-            thread::yield_now();
-        }
-    }
-
-    fn after(&self, _peer: u32, _step: u64) {}
-}
-
 /// Holds the first edit of each of two fields until that of the other is about to be made, and notes
 /// how many came and whether one waited in vain.
 #[derive(Drop)]
