@@ -7,3 +7,4 @@ pub mod LogGoesOn
 pub mod MethodLogGoesOn
 pub mod PieceRefused
 pub mod HeardInTurn
+pub mod HeardIsLogged

@@ -32,7 +32,8 @@ same_but_pending : (log : List Happening) (sent : List ℕ) (s : State) (pending
     → HasLog log sent (record s { pending = pending })
 same_but_pending log sent s pending has = record { field = has.field; text = has.text; bytes = has.bytes }
 
-one_event : (event : Event) (log : List Happening) (sent : List ℕ) (s : State) → HasLog log sent s
+-- one event more came
+pub one_event : (event : Event) (log : List Happening) (sent : List ℕ) (s : State) → HasLog log sent s
     → HasLog (logged event s.pending log) sent (after_event event s)
 one_event (events.Enter surface) log sent s has = one_more_happened entered log sent s has
 one_event (events.Leave surface) log sent s has = one_more_happened left log sent s has
@@ -44,7 +45,8 @@ one_event (events.CommitString t) log sent s has = same_but_pending log sent s _
 one_event (events.DeleteSurroundingText before behind) log sent s has = same_but_pending log sent s _ has
 one_event _ log sent s has = has
 
-all_events : (events : List Event) (log : List Happening) (sent : List ℕ) (s : State) → HasLog log sent s
+-- however many came
+pub all_events : (events : List Event) (log : List Happening) (sent : List ℕ) (s : State) → HasLog log sent s
     → HasLog (log_after events s log) sent (after_all after_event events s)
 all_events [] log sent s has = has
 all_events (event ∷ more) log sent s has =

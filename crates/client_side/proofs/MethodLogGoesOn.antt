@@ -28,7 +28,8 @@ module _ {S : Type 0} (means : Meanings S) where
             (sym (spelled-append (sends_of means first log) (sent_for means h now)));
       }
 
-  all_came : (events : List Event) (first : S) (log : List Happening) (sent : List ℕ) (s : State S)
+  -- however many events came
+  pub all_came : (events : List Event) (first : S) (log : List Happening) (sent : List ℕ) (s : State S)
       → HasLog means first log sent s
       → HasLog means first (log_after events log) sent (after_all (after_event means) events s)
   all_came [] first log sent s has = has

@@ -15,3 +15,4 @@ pub mod MethodLog
 pub mod MethodState
 pub mod MethodWorking
 pub mod Heard
+pub mod Laws

@@ -1,5 +1,5 @@
 -- A list of presses types what all its keys type.
-use Rattle.std.proofs.Common.{◌≡◌, ℕ, true, Bool, List, [], ◌∷◌, ◌++◌, refl, sym, ap, subst, ◌∙◌}
+use Rattle.std.proofs.Common.{◌≡◌, ◌≢◌, ℕ, true, Bool, List, [], ◌∷◌, ◌++◌, ⊎_elim, inr, refl, sym, ap, subst, ◌∙◌}
 use Rattle.std.specs.Prelude.{if◌then◌else◌}
 use Rattle.std.proofs.lemmas.List.{append-nil, append_assoc}
 use Rattle.compose_method.specs.Table.{IsTable, own_texts}
@@ -24,7 +24,10 @@ none_pressed m presses a = record {
   after = record { active = a.active; rest = a.rest ∙ ap (rest_of m.table) (sym (append-nil presses)) };
   table = refl;
   strings = append-nil (typed m.table presses) ∙ ap (typed m.table) (sym (append-nil presses));
-  preedit = λ p. p ∙ ap (own_texts m.table) (a.rest ∙ ap (rest_of m.table) (sym (append-nil presses)));
+  preedit =
+      ⊎_elim (λ (some : [] ≢ []). absurd (some refl))
+      (λ (p : m.preedit ≡ own_texts m.table m.rest).
+      p ∙ ap (own_texts m.table) (a.rest ∙ ap (rest_of m.table) (sym (append-nil presses))));
 }
 
 -- one more in front, where the others go on
@@ -47,7 +50,7 @@ one_more m presses key keys t a more =
           ∙ sym (append_assoc (typed m.table presses) n.string (strings_of keys n))
           ∙ ap (λ (l : List ℕ). l ++ strings_of keys n) law.0 ∙ g.strings ∙ ap (typed m.table) all;
       preedit = λ p.
-          ap (λ (x : Typing). (after_presses keys x).preedit) is ∙ g.preedit refl
+          ap (λ (x : Typing). (after_presses keys x).preedit) is ∙ g.preedit (inr refl)
           ∙ ap (λ (l : List ℕ). own_texts m.table (rest_of m.table l)) all;
     }
 
