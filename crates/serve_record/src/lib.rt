@@ -1,4 +1,5 @@
-//! A hub's session as text: its recorded session. That it replays to the same journal is tested.
+//! A hub's session as text: its recorded session. That it replays to the same journal is proved in
+//! `record_law`.
 #![tactic(auto)]
 
 mod entry_lines;
