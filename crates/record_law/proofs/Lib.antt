@@ -1,5 +1,6 @@
 pub mod QuietSteps
 pub mod StepsRecorded
+pub mod LinesOfSteps
 pub mod LinesLead
 pub mod LinesAnswered
 pub mod LinesLackFeeds

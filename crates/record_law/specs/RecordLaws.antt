@@ -1,9 +1,11 @@
 -- The laws of a recorded session: it is read, and replays to its journal.
-use Rattle.std.specs.Prelude.{◌≡◌, ℕ, false, List, [], ◌++◌, length, map, reverse}
+use Rattle.std.specs.Prelude.{◌≡◌, ℕ, false, List, [], ◌∷◌, ◌++◌, length, map, reverse}
 use Rattle.std.specs.List.{AllByRecursion}
 use Rattle.seat_steps.specs.declared.limits.Limits.{Limits}
 use Rattle.seat_steps.specs.declared.stamp.Stamp.{Stamp}
 use Rattle.seat_steps.specs.declared.step.Step.{Step}
+use Rattle.session_text.specs.declared.line.SessionLine.{SessionLine}
+use Rattle.session_text.specs.Steps.{step_line}
 use Rattle.broker_model.specs.declared.journal.Entry.{Entry}
 use Rattle.broker_model.specs.Stamps.{stamps}
 use Rattle.seat_printer.specs.Transcribed.{journal_text}
@@ -30,6 +32,17 @@ lines_of_steps limits steps given =
 abbrev pub text_of_steps : Limits → List Step → List Stamp → List ℕ
 text_of_steps limits steps given =
     recorded limits (journal_of limits steps) (stamps_of limits steps given)
+
+-- the lines of steps, the oldest first
+abbrev pub step_lines : List Step → List SessionLine
+step_lines [] = []
+step_lines (step ∷ older) = step_lines older ++ step_line step ∷ []
+
+-- the lines of a recorded session are those of its steps, one each: the ends that follow have none
+abbrev pub RecordedHasStepLines : Type 0
+RecordedHasStepLines =
+    (limits : Limits) (steps : List Step) (given : List Stamp) →
+    played_lines (lines_of_steps limits steps given) ≡ step_lines steps
 
 -- each recorded session is read as the lines of its steps
 abbrev pub RecordedIsRead : Type 0

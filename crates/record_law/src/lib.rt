@@ -2,7 +2,8 @@
 //! the laws are the contracts.
 #![tactic(auto)]
 
-ghost use Rattle.record_law.specs.RecordLaws.{RecordedIsRead, RecordedLeadsBack, RecordedReplays};
+ghost use Rattle.record_law.specs.RecordLaws.{RecordedIsRead, RecordedHasStepLines};
+ghost use Rattle.record_law.specs.RecordLaws.{RecordedLeadsBack, RecordedReplays};
 ghost use Rattle.record_law.specs.GeneratedLaw.{GeneratedReplays};
 ghost use Rattle.record_law.specs.HubLaw.{HubReplays};
 ghost use Rattle.record_law.specs.Rows.{FewAreLegal};
@@ -11,6 +12,7 @@ ghost use Rattle.record_law.specs.Rows.{FewAreLegal};
 /// the stamp of its entry, and the end. An end that follows from a step has no line.
 pub fn recorded_session_is_read()
     ensures law { RecordedIsRead }
+    ensures steps { RecordedHasStepLines }
 {}
 
 /// Those lines, played one after the other, lead to the journal itself, with the ends that follow,
