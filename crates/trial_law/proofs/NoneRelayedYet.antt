@@ -1,8 +1,8 @@
 -- Before the first action of a trial nothing has the focus, so nothing is relayed.
-use Rattle.std.proofs.Common.{◌≡◌, ℕ, zero, suc, ◌+◌, ◌%◌, ◌^◌, Bool, true, false, List, [], ◌∷◌, ◌++◌, length, Option, Some, None, Result, Ok, Err, refl, sym, ap, subst, ◌∙◌}
+use Rattle.std.proofs.Common.{◌≡◌, ℕ, zero, suc, ◌+◌, ◌%◌, ◌^◌, Bool, true, false, List, [], ◌∷◌, ◌++◌, length, Option, Some, None, Result, Ok, Err, refl, ap, subst, ◌∙◌}
 use Rattle.std.specs.Prelude.{◌==◌, ◌&&◌, if◌then◌else◌, nat_le}
 use Rattle.std.specs.List.{AllByRecursion, list_any}
-use Rattle.wl_wire.specs.Messages.{id_of, opcode_of, body_of, messages}
+use Rattle.wl_wire.specs.Messages.{messages}
 use Rattle.wl_proto.specs.declared.interface.Interface.{Interface}
 use Rattle.wl_proto.specs.declared.interface.Interface.TheVariants as interface
 use Rattle.wl_proto.specs.declared.refuse.Refuse.{Refuse}
@@ -22,7 +22,6 @@ use Rattle.relay_model.specs.Idle as idle
 use Rattle.relay_model.specs.Idle.{is_live, cleaned}
 use Rattle.relay_model.proofs.FocusLaws.{and_false}
 use Rattle.seat_steps.specs.declared.limits.Limits.{Limits}
-use Rattle.client_side.specs.Happenings.{Happening}
 use Rattle.trial_script.specs.declared.script.Script.{Script}
 use Rattle.broker_model.specs.declared.journal.Entry.{Entry}
 use Rattle.broker_model.specs.declared.journal.Entry.TheVariants as entries
@@ -229,7 +228,8 @@ settled_of_peers : (capacity n : ℕ) (journal : List Entry) → AreOfPeers jour
     AreOfPeers (settled capacity n journal)
 settled_of_peers capacity zero journal h = h
 settled_of_peers capacity (suc n) journal h =
-    settled_of_peers capacity n (with_end journal (due capacity journal)) (end_of_peers journal (due capacity journal) h)
+    settled_of_peers capacity n (with_end journal (due capacity journal))
+    (end_of_peers journal (due capacity journal) h)
 
 abbrev IsUnsaid : Broker → Type 0
 IsUnsaid b = AreOfPeers b.journal

@@ -1,13 +1,12 @@
 -- What any bytes show as a script: texts of logs that have the batches which are relayed.
-use Rattle.std.proofs.Common.{◌≡◌, ℕ, zero, suc, ◌+◌, ◌-◌, ◌≤◌, ◌<◌, Bool, true, false, List, [], ◌∷◌, ◌++◌, length, take, Option, Some, None, refl, sym, ap, subst, ◌∙◌, arith, append_assoc, inl, inr, ◌⊎◌}
-use Rattle.std.specs.Prelude.{◌==◌, All, if◌then◌else◌}
+use Rattle.std.proofs.Common.{◌≡◌, ℕ, zero, suc, ◌+◌, ◌-◌, ◌≤◌, ◌<◌, Bool, true, false, List, [], ◌∷◌, ◌++◌, length, take, Option, Some, None, refl, sym, ap, subst, ◌∙◌, arith, append_assoc}
+use Rattle.std.specs.Prelude.{◌==◌, All}
 use Rattle.std.specs.List.{AllByRecursion, Contains, slice_get}
 use Rattle.std.proofs.lemmas.Bool.{eqb-true, eqb-false}
 use Rattle.std.proofs.lemmas.List.{append-nil}
 use Rattle.std.proofs.lemmas.List.Elements.{All-head, All-tail}
 use Rattle.std.proofs.lemmas.Option.{same_Some}
 use Rattle.seat_steps.specs.declared.limits.Limits.{Limits}
-use Rattle.seat_steps.specs.Ranges.{IsWithin}
 use Rattle.relay_model.specs.declared.act.EndCause.TheVariants.{Full}
 use Rattle.client_side.specs.FieldLog.{text_of}
 use Rattle.trial_script.specs.declared.action.Action.{Action}
@@ -16,18 +15,17 @@ use Rattle.trial_script.specs.declared.script.Script.{Script}
 use Rattle.trial_script.specs.Grammar.{IsAction}
 use Rattle.trial_script.specs.Scripts.{field_named, script_of, IsScript}
 use Rattle.trial_script.proofs.ScriptsRead.{script_holds}
-use Rattle.broker_model.specs.declared.journal.Entry.{Entry}
 use Rattle.broker_model.specs.declared.journal.Entry.TheVariants.{End}
 use Rattle.broker_model.specs.Ids.{peer_at}
 use Rattle.broker_model.specs.Resolve.{past_of}
 use Rattle.trial_run.specs.Ran.{Ran, went}
-use Rattle.trial_run.specs.Play.{FieldPlay, TrialPlay, text_at, text_in}
+use Rattle.trial_run.specs.Play.{FieldPlay, TrialPlay, text_in}
 use Rattle.trial_run.specs.Lines.{show_line}
-use Rattle.trial_run.specs.Trial.{unplayed, typist_of, played_with, trial_played, trial_within}
+use Rattle.trial_run.specs.Trial.{played_with, trial_played}
 use Rattle.trial_law.specs.FieldLogs.{told_in, trial_to, line_of, line_at, lines_to}
 use Rattle.trial_law.specs.RelayedBatches.{batches_in, IsFieldOf}
 use Rattle.trial_law.specs.RelayedAsBatches.{HasByteTexts, IsOfBytes, batches_of, IsBatched}
-use Rattle.trial_law.specs.ShownTexts.{is_paused_behind, IsShownText, AreShownTexts, ShownTextsAreBatches}
+use Rattle.trial_law.specs.ShownTexts.{is_paused_behind, IsShownText, ShownTextsAreBatches}
 use Rattle.trial_law.proofs.ShownLines.{shown_in_turn}
 use Rattle.trial_law.proofs.TextsRelayed.{none_in_front}
 use Rattle.trial_law.proofs.TextsBatched.{texts_batched, unpaused_have_all_relayed}
