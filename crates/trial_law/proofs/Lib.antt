@@ -29,3 +29,6 @@ pub mod TextsRead
 pub mod BytesKept
 pub mod TextsBatched
 pub mod ScriptsOfBytes
+pub mod NoneRelayedYet
+pub mod PausesKept
+pub mod ShownTexts

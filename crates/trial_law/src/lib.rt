@@ -8,6 +8,7 @@ ghost use Rattle.trial_law.specs.TrialLaws.{UnpausedHearAll, UnpausedHaveAll, Gr
 ghost use Rattle.trial_law.specs.RelayedAsBatches.{ScriptsAreOfBytes, MessagesAreBytes};
 ghost use Rattle.trial_law.specs.RelayedAsBatches.{TextsAreBatches};
 ghost use Rattle.trial_law.specs.RelayedAsBatches.{FieldsReadAll, UnpausedHaveAllRelayed};
+ghost use Rattle.trial_law.specs.ShownTexts.{ShownTextsAreBatches};
 
 /// The journal of every trial is the history of its outer steps: each is followed by the ends that
 /// follow from it, and by no others. So the relay law speaks of it.
@@ -95,4 +96,13 @@ pub fn fields_read_all()
 /// has all batches that are relayed to it.
 pub fn unpaused_have_all_relayed()
     ensures { UnpausedHaveAllRelayed }
+{}
+
+/// With no premise, of any bytes as a script: what they show is a line for each `show` that the
+/// trial comes to, in turn, with the text of a log of the field that it names. The log's own edits
+/// are those of the actions before, all and in order; its batches are a front of those that the one
+/// journal relays to the field, and all of them unless the field is paused there, or a group that
+/// didn't fit ended its peer.
+pub fn shown_texts_are_batches()
+    ensures { ShownTextsAreBatches }
 {}
