@@ -173,8 +173,8 @@ runs_rest limits typist a b n most least same h =
       done_by limits typist b (first_batches a n) [] true h
           (inl (h.heard.own-is ∙ ap (first_batches a) n-is
           ∙ ap (λ (l : List Edits). map batch_of (take rounds l)) (sym same)))
-          (sent_true limits typist b (first_batches a n) h) (inl (h.rests refl)),
-      h.rests refl,
+          (sent_true limits typist b (first_batches a n) h) (inl (h.rests refl).all),
+      (h.rests refl).all,
     )
 
 pub runs_done : (limits : Limits) (typist : TrialTypist) (a b : MethodJob) (n : ℕ) → rounds ≤ n → n ≤ rounds →

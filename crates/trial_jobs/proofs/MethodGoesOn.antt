@@ -19,12 +19,12 @@ use Rattle.pass_calls.specs.declared.submit.Sent.TheVariants as sent
 use Rattle.pass_calls.specs.declared.take.Piece.TheVariants as pieces
 use Rattle.pass_calls.specs.Made.{entries_by, SawMore, HasEnded, IsFullFor}
 use Rattle.pass_calls.specs.Submitted.{entries_in, MadeFirst, Submits}
-use Rattle.pass_calls.specs.Taken.{HasTaken, HasAll, TakesMore, TakesPiece}
+use Rattle.pass_calls.specs.Taken.{HasTaken, TakesMore, TakesPiece}
 use Rattle.trial_run.specs.declared.typist.TrialTypist.{TrialTypist}
 use Rattle.method_law.specs.TypedLogs.{requests_of}
 use Rattle.typing_jobs.specs.Ends.{end_by}
 use Rattle.typing_jobs.specs.Fronts.{IsFrontOf}
-use Rattle.typing_jobs.specs.Sending.{HasSentFront, HasMade, IsFullForMessage}
+use Rattle.typing_jobs.specs.Sending.{HasSentFront, HasMade, HasRest, IsFullForMessage}
 use Rattle.typing_jobs.specs.declared.job_end.JobEnd.{JobEnd}
 use Rattle.typing_jobs.specs.declared.job_end.JobEnd.TheVariants as ends
 use Rattle.typing_jobs.proofs.RequestsWhole.{AreShort}
@@ -114,7 +114,7 @@ module _ (limits : Limits) (typist : TrialTypist) (job : MethodJob) (reader' : P
     client = record job.client { state = record s { to_send = [] } };
   }
 
-  sent-going : (q : Bool) → (q ≡ true → HasAll limits job.writer h.taken) → HasMade limits reader' (h.sents ++ waits) →
+  sent-going : (q : Bool) → (q ≡ true → HasRest limits job.writer h.taken) → HasMade limits reader' (h.sents ++ waits) →
       IsMethodGoing limits typist sent-job own [] q
   sent-going q rests made = record {
     taken = h.taken;
@@ -274,7 +274,7 @@ module _ (limits : Limits) (typist : TrialTypist) (job : MethodJob) (client : Cl
 
 same_going : (limits : Limits) (typist : TrialTypist) (job : MethodJob) (writer' : PeerPass) (own : List Batch)
     (q : Bool) (h : IsMethodAt limits typist job own false true) → HasTaken limits writer' (h.taken ++ []) →
-    (q ≡ true → HasAll limits writer' h.taken) → IsMethodGoing limits typist (record job { writer = writer' }) own [] q
+    (q ≡ true → HasRest limits writer' h.taken) → IsMethodGoing limits typist (record job { writer = writer' }) own [] q
 same_going limits typist job writer' own q h took rests = record {
   taken = h.taken;
   took = took;
@@ -293,8 +293,8 @@ pub took_none : (limits : Limits) (typist : TrialTypist) (job : MethodJob) (writ
     IsMethodAt limits typist (record job { writer = writer' }) own true true
 took_none limits typist job writer' own buf t h =
     same_going limits typist job writer' own true h (inr (t.0.same (h.taken ++ []) h.took))
-    (λ e. subst (λ (bytes : List ℕ). HasAll limits writer' bytes) (append-nil h.taken)
-    (t.0.why (h.taken ++ []) h.took))
+    (λ e. subst (λ (bytes : List ℕ). HasRest limits writer' bytes) (append-nil h.taken)
+    (record { all = t.0.why (h.taken ++ []) h.took; lives = t.1 }))
 
 pub took_closed : (limits : Limits) (typist : TrialTypist) (job : MethodJob) (writer' : PeerPass) (own : List Batch)
     (buf : List ℕ) → TakesPiece limits job.writer writer' buf (Ok pieces.Closed) →

@@ -7,13 +7,13 @@ use Rattle.client_logs.specs.MethodLogs.{method_log}
 use Rattle.hub_lock.specs.Passes.{HubId, IsOf}
 use Rattle.pass_calls.specs.declared.submit.Sent.TheVariants as sent
 use Rattle.pass_calls.specs.declared.submit.Sent as calls
-use Rattle.pass_calls.specs.Taken.{HasTaken, HasAll}
+use Rattle.pass_calls.specs.Taken.{HasTaken}
 use Rattle.trial_run.specs.declared.typist.TrialTypist.{TrialTypist}
 use Rattle.typing_jobs.specs.declared.job_end.JobEnd.{JobEnd}
 use Rattle.typing_jobs.specs.declared.turn.Turn.{Turn}
 use Rattle.typing_jobs.specs.declared.turn.Turn.TheVariants as turns
 use Rattle.typing_jobs.specs.Fronts.{IsFrontOf}
-use Rattle.typing_jobs.specs.Sending.{HasMade, IsOver, HaveSeenMore}
+use Rattle.typing_jobs.specs.Sending.{HasMade, HasRest, IsOver, HaveSeenMore}
 use Rattle.trial_jobs.specs.declared.method_job.MethodJob.{MethodJob}
 use Rattle.trial_jobs.specs.MethodAsked.{IsAsked}
 use Rattle.trial_jobs.specs.MethodHearing.{Heard, HasShort}
@@ -31,8 +31,8 @@ pub record MethodKeeps (limits : Limits) (before after : MethodJob) : Type 0 whe
   pub same : after.batches ≡ before.batches
 
 -- It committed these batches and heard all that was taken but for this piece. What its log asks
--- for was submitted, but for what waits. If it is quiet, nothing is left to take, as far as its
--- writer has seen.
+-- for was submitted, but for what waits. If it is quiet, nothing is left to take and its peer
+-- lives, as far as its writer has seen.
 pub record IsMethodBehind (limits : Limits) (typist : TrialTypist) (job : MethodJob)
     (own : List Batch) (waits : List Sent) (piece : List ℕ) (quiet : Bool) : Type 0 where
   pub taken : List ℕ
@@ -43,7 +43,7 @@ pub record IsMethodBehind (limits : Limits) (typist : TrialTypist) (job : Method
   pub made : HasMade limits job.reader sents
   pub short : HasShort (method_log job.log)
   pub fresh : IsFresh typist
-  pub rests : quiet ≡ true → HasAll limits job.writer taken
+  pub rests : quiet ≡ true → HasRest limits job.writer taken
 
 -- it heard all that was taken
 abbrev pub IsMethodGoing : Limits → TrialTypist → MethodJob → List Batch → List Sent → Bool →

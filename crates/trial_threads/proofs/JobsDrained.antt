@@ -213,9 +213,9 @@ field_done limits b h = (
     told = h.0.heard.told;
     sent = all_sent limits b (map edit_of b.edits) h.0;
     text = h.0.asked.has.text;
-    all = λ some. inl h.1;
+    all = λ some. inl h.1.all;
   },
-  h.1,
+  h.1.all,
 )
 
 -- It is done, and nothing was left to take, in a journal long enough, unless the peer ended.
@@ -234,7 +234,7 @@ field_ends limits b (Err end) h = h
 
 field_plays : (limits : Limits) (b : FieldJob) (r : Result Bool JobEnd) →
     FieldRests limits b (map edit_of b.edits) r → IfOk r (IsFieldPlayed limits b)
-field_plays limits b (Ok goes_on) h = fields.rest_at limits b (map edit_of b.edits) goes_on h
+field_plays limits b (Ok goes_on) h = (fields.rest_at limits b (map edit_of b.edits) goes_on h, λ some. h)
 field_plays limits b (Err end) h = tt
 
 past_true : (b : FieldJob) (least : ℕ) (goes_on : Bool) (r : Result Bool JobEnd) → r ≡ Ok goes_on →
@@ -254,7 +254,7 @@ FieldAnswers limits a b goes_on r = (own : List Entry) → IsFieldAt limits a ow
 field_goes : (limits : Limits) (a b : FieldJob) (goes_on : Bool) (r : Result Bool JobEnd) → FieldKeeps limits a b →
     FieldAnswers limits a b goes_on r → IsFieldPlayed limits a goes_on → FieldRests limits b (map edit_of b.edits) r
 field_goes limits a b goes_on r k f h =
-    subst (λ (es : List FieldEdit). FieldRests limits b (map edit_of es) r) (sym k.same) (f (map edit_of a.edits) h)
+    subst (λ (es : List FieldEdit). FieldRests limits b (map edit_of es) r) (sym k.same) (f (map edit_of a.edits) h.0)
 
 no_rest : (hub : HubId) (typist : TrialTypist) (n : ℕ) (b : FieldJob) (r : Result Bool JobEnd) →
     IfOk r (λ goes_on. MethodRest hub.limits typist n (jobs.Field b))

@@ -111,7 +111,7 @@ pub rest_done : (limits : Limits) (job : FieldJob) (own : List Entry) (goes_on :
     →
     own ≡ map edit_of job.edits → IsFieldDone limits job
 rest_done limits job own true h is =
-    done_by limits job own [] h.0 is (sent_true limits job own h.0) (λ least. inl h.1)
+    done_by limits job own [] h.0 is (sent_true limits job own h.0) (λ least. inl h.1.all)
 rest_done limits job own false h is = ended_done limits job own h is
 
 none_done : (limits : Limits) (job : FieldJob) (own : List Entry) (goes_on : Bool) → IsFieldAt limits job own goes_on →
@@ -187,10 +187,15 @@ runs_done limits a b n goes_on done most least k h rests = record {
 }
 
 pub plays_done : (limits : Limits) (a b : FieldJob) (n : ℕ) (goes_on : Bool) → length a.edits ≤ n →
-    FieldKeeps limits a b → IsFieldAt limits b (first_edits a n) goes_on → IsFieldPlayed limits b goes_on
-plays_done limits a b n goes_on most k h =
-    subst (λ (own : List Entry). IsFieldAt limits b own goes_on)
-    (ap (map edit_of) (take_all n a.edits most ∙ sym k.same)) h
+    FieldKeeps limits a b → IsFieldAt limits b (first_edits a n) goes_on →
+    (1 ≤ n → HasFieldRest limits b (first_edits a n) goes_on) → IsFieldPlayed limits b goes_on
+plays_done limits a b n goes_on most k h rests =
+    let all : first_edits a n ≡ map edit_of b.edits = ap (map edit_of) (take_all n a.edits most ∙ sym k.same) in
+    let many : length b.edits ≡ length a.edits = ap length k.same in (
+      subst (λ (own : List Entry). IsFieldAt limits b own goes_on) all h,
+      λ some. subst (λ (own : List Entry). HasFieldRest limits b own goes_on) all
+          (rests (omega (arith, some, most, many))),
+    )
 
 -- a part of the run, whose job has the edits of the first one
 same_first : (a now : FieldJob) (n : ℕ) → now.edits ≡ a.edits → first_edits now n ≡ first_edits a n

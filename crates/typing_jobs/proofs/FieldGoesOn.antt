@@ -240,7 +240,7 @@ took_none limits job writer' own buf t h = (
     asked = h.asked;
     made = h.made;
   },
-  t.0.why h.taken h.took,
+  record { all = t.0.why h.taken h.took; lives = t.1 },
 )
 
 pub took_closed : (limits : Limits) (job : FieldJob) (writer' : PeerPass) (own : List Entry) (buf : List ℕ) →

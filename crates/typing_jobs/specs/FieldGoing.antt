@@ -1,5 +1,5 @@
 -- A field's job on its way
-use Rattle.std.specs.Prelude.{◌≡◌, ℕ, Bool, true, false, List, [], ◌++◌, map, Result, Ok, Err}
+use Rattle.std.specs.Prelude.{◌≡◌, ◌≤◌, ℕ, Bool, true, false, List, [], ◌++◌, length, map, Result, Ok, Err}
 use Rattle.seat_steps.specs.declared.limits.Limits.{Limits}
 use Rattle.trial_field.specs.Log.{Entry}
 use Rattle.client_side.specs.Messages.{Sent}
@@ -7,7 +7,7 @@ use Rattle.client_logs.specs.Logs.{edit_of, field_log}
 use Rattle.hub_lock.specs.Passes.{HubId, IsOf}
 use Rattle.pass_calls.specs.declared.submit.Sent.TheVariants as sent
 use Rattle.pass_calls.specs.declared.submit.Sent as calls
-use Rattle.pass_calls.specs.Taken.{HasTaken, HasAll}
+use Rattle.pass_calls.specs.Taken.{HasTaken}
 use Rattle.typing_jobs.specs.declared.field_job.FieldJob.{FieldJob}
 use Rattle.typing_jobs.specs.declared.job_end.JobEnd.{JobEnd}
 use Rattle.typing_jobs.specs.declared.turn.Turn.{Turn}
@@ -15,7 +15,7 @@ use Rattle.typing_jobs.specs.declared.turn.Turn.TheVariants as turns
 use Rattle.typing_jobs.specs.FieldHearing.{Heard}
 use Rattle.typing_jobs.specs.FieldAsked.{IsSent}
 use Rattle.typing_jobs.specs.FieldLaw.{FieldStops}
-use Rattle.typing_jobs.specs.Sending.{HasMade, IsOver, HaveSeenMore}
+use Rattle.typing_jobs.specs.Sending.{HasMade, HasRest, IsOver, HaveSeenMore}
 
 -- its passes are the hub's and one peer's
 pub record IsFieldOf (hub : HubId) (job : FieldJob) : Type 0 where
@@ -56,16 +56,19 @@ IsFieldAt limits job own false =
     ((waits : List Sent) × IsFieldGoing limits job own waits)
     × IsOver limits job.reader job.writer
 
--- Its peer goes on, nothing waits, and nothing is left to take, as far as its writer has seen; or
--- it doesn't.
+-- Its peer lives, nothing waits, and nothing is left to take, as far as its writer has seen; or
+-- the peer doesn't go on.
 abbrev pub HasFieldRest : Limits → FieldJob → List Entry → Bool → Type 0
 HasFieldRest limits job own true =
-    (going : IsFieldGoing limits job own []) × HasAll limits job.writer going.taken
+    (going : IsFieldGoing limits job own []) × HasRest limits job.writer going.taken
 HasFieldRest limits job own false = IsFieldAt limits job own false
 
--- all own edits were made, and the peer goes on, or it doesn't
+-- All own edits were made, and the peer goes on, or it doesn't. Where there was an edit, nothing is
+-- left to take and the peer lives, as far as its writer has seen, if it goes on.
 abbrev pub IsFieldPlayed : Limits → FieldJob → Bool → Type 0
-IsFieldPlayed limits job goes_on = IsFieldAt limits job (map edit_of job.edits) goes_on
+IsFieldPlayed limits job goes_on =
+    IsFieldAt limits job (map edit_of job.edits) goes_on
+    × (1 ≤ length job.edits → HasFieldRest limits job (map edit_of job.edits) goes_on)
 
 -- what submitting leaves
 abbrev pub FieldSends : Limits → FieldJob → List Entry → Result calls.Sent JobEnd → Type 0

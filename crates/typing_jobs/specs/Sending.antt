@@ -1,5 +1,5 @@
 -- What a job's reader submitted, and why a job ended
-use Rattle.std.specs.Prelude.{◌≡◌, ◌⊎◌, ◌≤◌, ℕ, List, ◌∷◌, ◌++◌, length, map, Some}
+use Rattle.std.specs.Prelude.{◌≡◌, ◌⊎◌, ◌≤◌, ℕ, List, ◌∷◌, ◌++◌, length, map, Some, None}
 use Rattle.relay_model.specs.declared.act.EndCause.{EndCause}
 use Rattle.relay_model.specs.declared.role.Role.{Role}
 use Rattle.seat_steps.specs.declared.limits.Limits.{Limits}
@@ -8,6 +8,7 @@ use Rattle.broker_model.specs.declared.journal.Entry.TheVariants as entries
 use Rattle.broker_model.specs.declared.journal.Kept.{Kept}
 use Rattle.broker_model.specs.Ids.{Joined, peer_at}
 use Rattle.broker_model.specs.Resolve.{past_of}
+use Rattle.broker_core.specs.Stands.{end_of}
 use Rattle.client_side.specs.Messages.{Sent, spelled}
 use Rattle.turn_lock.specs.Pairs.{NoneOf}
 use Rattle.hub_lock.specs.Passes.{HubId, PeerPass, IsOf, journal_seen}
@@ -21,6 +22,12 @@ use Rattle.typing_jobs.specs.Fronts.{IsFrontOf}
 abbrev pub IsOver : Limits → (reader writer : PeerPass) → Type 0
 IsOver limits reader writer =
     (cause : EndCause) × (HasEnded limits reader cause ⊎ HasEnded limits writer cause)
+
+-- these bytes are all that was put for the writer's peer, and the peer lives, as far as the writer
+-- has seen
+pub record HasRest (limits : Limits) (writer : PeerPass) (bytes : List ℕ) : Type 0 where
+  pub all : HasAll limits writer bytes
+  pub lives : end_of (journal_by limits writer) writer.peer ≡ None
 
 -- the reader's steps are these messages, or the first of them where the peer ended
 abbrev pub HasSent : Limits → (reader writer : PeerPass) → List Sent → Type 0

@@ -88,4 +88,4 @@ returns-clause-goes g c =
     let i = c.loop-index.invariant in
     let all : length c.args.job.now.edits ≤ c.loop-index.index = search rules in
     plays_done c.args.hub.now.limits c.args.job.now c.loop-index.job c.loop-index.index c.loop-index.goes_on all
-    i.keeps i.goes
+    i.keeps i.goes i.rests
