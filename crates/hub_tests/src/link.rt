@@ -31,8 +31,22 @@ pub struct Link<'a> {
     ghost writes: { IsOf hub.now writer.seat },
 }
 
-/// A peer joins.
+/// An application joins.
 pub fn join<'a, R: Wait>(rt: &R, hub: &'a Hub, root: &mut HubPass) -> Option<Link<'a>>
+    requires own { IsOf hub.now root.old }
+    ensures own { IsOf hub.now root.new }
+    ensures same { IfSome result (λ link. link.hub.now ≡ hub.now) }
+{
+    join_as(rt, hub, root, Role::App)
+}
+
+/// A peer joins in a role.
+pub fn join_as<'a, R: Wait>(
+    rt: &R,
+    hub: &'a Hub,
+    root: &mut HubPass,
+    role: Role,
+) -> Option<Link<'a>>
     requires own { IsOf hub.now root.old }
     ensures own { IsOf hub.now root.new }
     ensures same { IfSome result (λ link. link.hub.now ≡ hub.now) }
@@ -40,7 +54,7 @@ pub fn join<'a, R: Wait>(rt: &R, hub: &'a Hub, root: &mut HubPass) -> Option<Lin
     if root.made() > MANY {
         return None;
     }
-    match hub.join(rt, root, Role::App) {
+    match hub.join(rt, root, role) {
         Ok((reader, writer)) => Some(Link {
             hub,
             reader,
