@@ -7,7 +7,7 @@ use Rattle.hub_lock.specs.Passes.{PassSeat, total_steps, total_bytes, journal_se
 use Rattle.hub_lock.specs.Plays.{MayAsk, Plays, is_made}
 use Rattle.hub_lock.specs.Calls.{LegalAsk}
 use Rattle.hub_lock.proofs.TurnsCounted.{legal, entries-after, lawful-after, total-after, total-bytes-after}
-use Rattle.hub_lock.specs.Events.{EventSeat, RecordsByAnother, step_of, pass_seat, tally_of}
+use Rattle.hub_lock.specs.Events.{RecordsByAnother, step_of, pass_seat, tally_of}
 use Rattle.hub_lock.specs.Noted.{Hands, note_of}
 use Rattle.hub_lock.proofs.NobodyNamed.{root-quiet, nobody-named, another-after, hands-unnamed}
 use Rattle.hub_lock.proofs.PassesSettled.{settled-after}

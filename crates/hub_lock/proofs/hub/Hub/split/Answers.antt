@@ -1,4 +1,4 @@
-use Rattle.std.proofs.Common.{◌≡◌, ◌∙◌, ap, sym, subst, arith, length}
+use Rattle.std.proofs.Common.{◌≡◌, ◌∙◌, ap, sym, subst, length}
 use Rattle.hub_lock.specs.Passes.{journal_seen, total_steps, total_bytes, HasSeenLawful}
 use Rattle.hub_lock.specs.Events.{EventSeat, RecordsByAnother, step_of, pass_seat}
 use Rattle.hub_lock.proofs.NobodyNamed.{another-split}
