@@ -1,5 +1,5 @@
 -- A take of a peer's writer takes what stands behind all that its takes took before
-use Rattle.std.proofs.Common.{◌≡◌, ◌⊎◌, ℕ, zero, suc, ◌+◌, ◌<◌, ◌≤◌, Bool, true, false, List, [], ◌∷◌, ◌++◌, length, map, take, drop, min, Option, Some, None, refl, sym, ap, ap₂, ◌∙◌, subst, inl, inr, ⊎_elim, arith, append-nil, length-drop, take_all}
+use Rattle.std.proofs.Common.{◌≡◌, ◌⊎◌, ℕ, zero, suc, ◌+◌, ◌<◌, ◌≤◌, Bool, true, false, List, [], ◌∷◌, ◌++◌, length, map, take, drop, min, Option, Some, None, refl, sym, ap, ap₂, ◌∙◌, subst, inl, inr, arith, append-nil, length-drop, take_all}
 use Rattle.std.specs.Prelude.{nat_le, if◌then◌else◌, ◌==◌, option_map, IfSome, IfNone}
 use Rattle.std.proofs.lemmas.Bool.{eqb-true, leb-false, leb-true}
 use Rattle.std.proofs.lemmas.List.{length-take-le, take_at}
@@ -145,12 +145,12 @@ bytes_some b q out n t a = by (length (stored out)) refl a
     by (suc m) e k = omega (arith, e)
 
 -- as many as fit, or all that there are
-which_is_less : (most there : ℕ) → (min most there ≡ most) ⊎ (min most there ≡ there)
-which_is_less most there = by (nat_le most there) refl
+most_or_all : (n most there : ℕ) → n ≡ min most there → (n ≡ most) ⊎ (n ≡ there)
+most_or_all n most there count = by (nat_le most there) refl
   where
-    by : (t : Bool) → nat_le most there ≡ t → (min most there ≡ most) ⊎ (min most there ≡ there)
-    by true e = let l : most ≤ there = leb-true most there e in inl (omega arith)
-    by false e = let l : there < most = leb-false most there e in inr (omega arith)
+    by : (t : Bool) → nat_le most there ≡ t → (n ≡ most) ⊎ (n ≡ there)
+    by true e = let l : most ≤ there = leb-true most there e in inl (omega (arith, count))
+    by false e = let l : there < most = leb-false most there e in inr (omega (arith, count))
 
 -- nothing is stored, and the peer ended or didn't
 
@@ -373,7 +373,7 @@ module _ (limits : Limits) (pass pass' : PeerPass) (buf places buf' places' : Li
         few = (grind (arith, count, some), grind (arith, count));
         less = less;
         piece = ap (take n) i.bytes ∙ take_at (take n (stored o)) (drop n buf) n (length-take-le n (stored o) less);
-        most = ⊎_elim (λ m. inl (count ∙ m)) (λ m. inr (count ∙ m)) (which_is_less 4096 (length (stored o)));
+        most = most_or_all n 4096 (length (stored o)) count;
       }
 
   front-more-now : (n t : ℕ) → r ≡ took.Bytes n t → length buf ≡ 4096 → (bytes : List ℕ) →
@@ -407,6 +407,7 @@ module _ (limits : Limits) (pass pass' : PeerPass) (buf places buf' places' : Li
   -- where all that is stored is taken, nothing more was put
   all-now : (n t : ℕ) → r ≡ took.Bytes n t → length buf ≡ 4096 → (bytes : List ℕ) (s : HasTaken limits pass bytes) →
       n ≡ length (stored (out_by (before bytes s).peer)) → HasAll limits pass' (bytes ++ take n buf')
+  unfolding front-more-now
   all-now n t e size bytes s whole =
       let b = before bytes s in
       let o : Outgoing = out_by b.peer in
@@ -429,6 +430,13 @@ module _ (limits : Limits) (pass pass' : PeerPass) (buf places buf' places' : Li
         all = now.front ∙ take_all now.out.taken now.out.put.bytes all;
       }
 
+  most-or-all-now : (n t : ℕ) → r ≡ took.Bytes n t → length buf ≡ 4096 → (bytes : List ℕ)
+      (s : HasTaken limits pass bytes) →
+      (n ≡ 4096) ⊎ (n ≡ length (stored (out_by (before bytes s).peer))) →
+      (n ≡ 4096) ⊎ HasAll limits pass' (bytes ++ take n buf')
+  most-or-all-now n t e size bytes s (inl m) = inl m
+  most-or-all-now n t e size bytes s (inr m) = inr (all-now n t e size bytes s m)
+
   pub takes-more : (n t : ℕ) → r ≡ took.Bytes n t → length buf ≡ 4096 → TakesMore limits pass pass' buf' n
   takes-more n t e size = record {
     few = (counts n t e size there.0 there.1).few;
@@ -436,6 +444,5 @@ module _ (limits : Limits) (pass pass' : PeerPass) (buf places buf' places' : Li
         ∙ entries_one pass.seat k.rest pass'.seat.seen (entries.Took pass.peer n) k.apart (longer-here n t e);
     more = front-more-now n t e size;
     most = λ bytes s.
-        ⊎_elim (λ m. inl m) (λ m. inr (all-now n t e size bytes s m))
-        (counts n t e size (before bytes s).peer (before bytes s).there).most;
+        most-or-all-now n t e size bytes s (counts n t e size (before bytes s).peer (before bytes s).there).most;
   }
