@@ -164,12 +164,18 @@ invariant_of-root-2 g c =
     let named : tally_of c.play-answer.new.seat.seen ≡ Some (c.made.result + 1, 0) =
     named-tally (limits g a) c.root.inside.seat (call g a) c.play-answer.new.seat.seen c.play-answer.new.call
     c.play-answer.result c.play-answer.ensures.legal (of g a) (c.made.result + 1) c.in_ok-_number._number refl refl
-    (c.in-Named.is ∙ ap answers.Named some) in
-    (r.0, r.1, r.2, r.3, r.4, λ t e.
-        let is : Some (c.made.result + 1, 0) ≡ Some t =
-        sym named ∙ ap (λ (s : EventSeat). tally_of s.seen) (sym c.split.ensures.left) ∙ e in
-        let n = ap (λ (x : ℕ × ℕ). x.0) (same_Some (c.made.result + 1, 0) t is) in
-        (omega (arith, n), omega (arith, n, next)))
+    (c.in-Named.is ∙ ap answers.Named some) in (
+      r.0,
+      r.1,
+      r.2,
+      r.3,
+      r.4,
+      λ t e.
+          let is : Some (c.made.result + 1, 0) ≡ Some t =
+          sym named ∙ ap (λ (s : EventSeat). tally_of s.seen) (sym c.split.ensures.left) ∙ e in
+          let n = ap (λ (x : ℕ × ℕ). x.0) (same_Some (c.made.result + 1, 0) t is) in
+          (omega (arith, n), omega (arith, n, next)),
+    )
 
 pub returns-clause-fresh : goal.returns-clause-fresh
 returns-clause-fresh g c = none-shown step_of c.split.result.number c.split.result.seen c.split.ensures.fresh
