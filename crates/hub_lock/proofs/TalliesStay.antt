@@ -1,16 +1,17 @@
 -- A tally stays, where its owner notes nothing
-use Rattle.std.proofs.Common.{◌≡◌, ◌≢◌, ℕ, ◌+◌, [], ◌∷◌, ◌++◌, Some, None, refl, ap, sym, ◌∙◌}
-use Rattle.std.specs.Prelude.{if◌then◌else◌}
+use Rattle.std.proofs.Common.{◌≡◌, ◌≢◌, ℕ, ◌+◌, Bool, true, false, [], ◌∷◌, ◌++◌, Some, None, refl, ap, sym, ◌∙◌}
+use Rattle.std.specs.Prelude.{◌==◌, if◌then◌else◌}
 use mathlib.Core.Logic.{dite}
 use native.Mathlib.Decide.{ℕ_discrete}
 use Rattle.std.proofs.lemmas.Bool.{ne_eqb, eq-eqb}
+use Rattle.std.proofs.lemmas.Option.{same_Some}
 use Rattle.turn_lock.specs.Pairs.{own, NoneOf}
 use Rattle.turn_lock.proofs.PairsOfNumbers.{own-here, own-else}
 use Rattle.hub_lock.specs.declared.event.Event.{Event}
 use Rattle.hub_lock.specs.declared.event.Event.TheVariants as events
 use Rattle.hub_lock.specs.declared.event.Note.{Note}
 use Rattle.hub_lock.specs.declared.event.Note.TheVariants as notes
-use Rattle.hub_lock.specs.Events.{Events, Tally, tally_by, tally_noted, tally_from, tally_of, owner_of}
+use Rattle.hub_lock.specs.Events.{Events, Tally, handed_to, tally_by, tally_noted, tally_from, tally_of, owner_of}
 
 tally-append : (t : Tally) (xs ys : Events) → tally_from t (xs ++ ys) ≡ tally_from (tally_from t xs) ys
 tally-append t [] ys = refl
@@ -37,6 +38,22 @@ tally-stays t (x ∷ h) free = dite (ℕ_discrete x.0 (owner_of t))
     (λ other. ap (λ z. tally_from z h) (other-by x.0 x.1 t other)
     ∙ tally-stays t h (sym (own-else (owner_of t) x h other) ∙ free))
 
+-- an event leaves who records
+kept-by : (m : ℕ) (e : Event) (t : ℕ × ℕ) → (s : ℕ × ℕ) × (tally_by m e (Some t) ≡ Some s) × (s.0 ≡ t.0)
+kept-by m (events.Step step) t = (t, refl, refl)
+kept-by m (events.Noted (notes.Names n)) t = (t, refl, refl)
+kept-by m (events.Noted notes.HandsOut) t = (handed_to m t, refl, by (m == t.0))
+  where
+    by : (b : Bool) → (if b then (t.0, t.1 + 1) else t).0 ≡ t.0
+    by true = refl
+    by false = refl
+
+recorder-stays : (t u : ℕ × ℕ) (h : Events) → tally_from (Some t) h ≡ Some u → u.0 ≡ t.0
+recorder-stays t u [] e = ap (λ (x : ℕ × ℕ). x.0) (sym (same_Some t u e))
+recorder-stays t u (x ∷ h) e =
+    let k = kept-by x.0 x.1 t in
+    recorder-stays k.0 u h (ap (λ z. tally_from z h) (sym k.1) ∙ e) ∙ k.2
+
 -- who records was handed one more
 pub handed-one : (n k : ℕ) → tally_noted n notes.HandsOut (Some (n, k)) ≡ Some (n, k + 1)
 handed-one n k = ap (λ b. Some (if b then (n, k + 1) else (n, k))) (eq-eqb n n refl)
@@ -46,3 +63,16 @@ pub tally-seen : (seen rest : Events) (t : Tally) → tally_of seen ≡ t → No
     → tally_of (seen ++ rest) ≡ t
 tally-seen seen rest t is free =
     tally-append None seen rest ∙ ap (λ z. tally_from z rest) is ∙ tally-stays t rest free
+
+-- who records past what was seen, where the root named nobody, recorded before
+pub recorder-before : (seen rest : Events) (u : ℕ × ℕ) → NoneOf 0 rest → tally_of (seen ++ rest) ≡ Some u
+    → (t : ℕ × ℕ) × (tally_of seen ≡ Some t) × (u.0 ≡ t.0)
+recorder-before seen rest u free e = by (tally_of seen) refl
+  where
+    by : (o : Tally) → tally_of seen ≡ o → (t : ℕ × ℕ) × (tally_of seen ≡ Some t) × (u.0 ≡ t.0)
+    by None is = let never = sym (tally-seen seen rest None is free) ∙ e in absurd (cc)
+    by (Some t) is = (
+      t,
+      is,
+      recorder-stays t u rest (ap (λ z. tally_from z rest) (sym is) ∙ sym (tally-append None seen rest) ∙ e),
+    )

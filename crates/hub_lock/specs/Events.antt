@@ -1,5 +1,5 @@
 -- The lock's history: the outer steps, which passes show, and notes of who records
-use Rattle.std.specs.Prelude.{◌≡◌, ◌==◌, ◌+◌, ◌≤◌, ℕ, Bool, true, false, List, [], ◌∷◌, map, reverse, if◌then◌else◌, Option, Some, None, option_map}
+use Rattle.std.specs.Prelude.{◌≡◌, ◌==◌, ◌+◌, ◌<◌, ◌≤◌, ℕ, Bool, true, false, List, [], ◌∷◌, map, reverse, if◌then◌else◌, Option, Some, None, option_map}
 use Rattle.seat_steps.specs.declared.limits.Limits.{Limits}
 use Rattle.turn_lock.specs.Sights.{Sight}
 use Rattle.hub_lock.specs.declared.step.OuterStep.{OuterStep}
@@ -72,9 +72,10 @@ tally_from t (x ∷ h) = tally_from (tally_by x.0 x.1 t) h
 abbrev pub tally_of : Events → Tally
 tally_of h = tally_from None h
 
--- as long as no pass was made from the root, nobody records
-abbrev pub IsUnnamed : EventSeat → Type 0
-IsUnnamed s = s.next ≤ 1 → tally_of s.seen ≡ None
+-- who records is a pass that was made from the root with this seat: never the root itself, and
+-- nobody before a pass was made
+abbrev pub RecordsByAnother : EventSeat → Type 0
+RecordsByAnother s = (t : ℕ × ℕ) → tally_of s.seen ≡ Some t → (1 ≤ t.0) × (t.0 < s.next)
 
 -- who alone changes a tally: who records, or the root
 abbrev pub owner_of : Tally → ℕ

@@ -1,7 +1,7 @@
 -- A take of a peer's writer takes what stands behind all that its takes took before
-use Rattle.std.proofs.Common.{◌≡◌, ℕ, zero, suc, ◌+◌, ◌≤◌, Bool, true, false, List, [], ◌∷◌, ◌++◌, length, map, take, drop, min, Option, Some, None, refl, sym, ap, ap₂, ◌∙◌, subst, inl, inr, arith, append-nil, length-drop, take_all}
-use Rattle.std.specs.Prelude.{if◌then◌else◌, ◌==◌, option_map, IfSome, IfNone}
-use Rattle.std.proofs.lemmas.Bool.{eqb-true}
+use Rattle.std.proofs.Common.{◌≡◌, ◌⊎◌, ℕ, zero, suc, ◌+◌, ◌<◌, ◌≤◌, Bool, true, false, List, [], ◌∷◌, ◌++◌, length, map, take, drop, min, Option, Some, None, refl, sym, ap, ap₂, ◌∙◌, subst, inl, inr, arith, append-nil, length-drop, take_all}
+use Rattle.std.specs.Prelude.{nat_le, if◌then◌else◌, ◌==◌, option_map, IfSome, IfNone}
+use Rattle.std.proofs.lemmas.Bool.{eqb-true, leb-false, leb-true}
 use Rattle.std.proofs.lemmas.List.{length-take-le, take_at}
 use Rattle.relay_model.specs.declared.act.EndCause.{EndCause}
 use Rattle.seat_steps.specs.declared.limits.Limits.{Limits}
@@ -13,6 +13,7 @@ use Rattle.broker_model.specs.Ids.{Joined, peer_at}
 use Rattle.broker_model.specs.Resolve.{past_of}
 use Rattle.broker_model.specs.Out.{Outgoing, stored, out_for}
 use Rattle.broker_model.specs.Settle.{settle, history}
+use Rattle.broker_model.proofs.SettlingEnds.{history_settled}
 use Rattle.broker_core.specs.declared.answers.Took.{Took}
 use Rattle.broker_core.specs.declared.answers.Took.TheVariants as took
 use Rattle.broker_core.specs.Broker.{Broker, full_in, full_for, nothing_left, take_refusal_from, IfBytes, IfNoBytes, IsBytesUnlessMemory}
@@ -32,6 +33,7 @@ use Rattle.pass_calls.specs.Made.{entries_by, journal_of, journal_by, HasEnded, 
 use Rattle.pass_calls.specs.Taken.{HasFront, HasTaken, HasAll, TakesMore, TakesNone}
 use Rattle.pass_calls.proofs.PassesGrow.{entries_same, entries_one}
 use Rattle.pass_calls.proofs.OthersTakeNothing.{entries-append, made-back, took-none}
+use Rattle.pass_calls.proofs.TakesPutNothing.{puts_nothing}
 use Rattle.pass_calls.proofs.FrontsGrow.{Grows, step_grows, step_keeps, history_keeps, IsOnly, only_one, history_grows, own_took, still_within, front_more, front_same}
 
 -- what was taken of what is out for the peer, where the take is played
@@ -141,6 +143,14 @@ bytes_some b q out n t a = by (length (stored out)) refl a
         → 1 ≤ length (stored out)
     by zero e k = absurd (left (end_of b.journal q) k.0)
     by (suc m) e k = omega (arith, e)
+
+-- as many as fit, or all that there are
+most_or_all : (n most there : ℕ) → n ≡ min most there → (n ≡ most) ⊎ (n ≡ there)
+most_or_all n most there count = by (nat_le most there) refl
+  where
+    by : (t : Bool) → nat_le most there ≡ t → (n ≡ most) ⊎ (n ≡ there)
+    by true e = let l : most ≤ there = leb-true most there e in inl (omega (arith, count))
+    by false e = let l : there < most = leb-false most there e in inr (omega (arith, count))
 
 -- nothing is stored, and the peer ended or didn't
 
@@ -350,6 +360,7 @@ module _ (limits : Limits) (pass pass' : PeerPass) (buf places buf' places' : Li
     few : IsWithin 4096 n
     less : n ≤ length (stored (out_by peer))
     piece : take n buf' ≡ take n (stored (out_by peer))
+    most : (n ≡ 4096) ⊎ (n ≡ length (stored (out_by peer)))
 
   counts : (n t : ℕ) → r ≡ took.Bytes n t → length buf ≡ 4096 → (peer : Joined) →
       peer_at (past_of journal) pass.peer ≡ Some peer → Count n peer
@@ -362,6 +373,7 @@ module _ (limits : Limits) (pass pass' : PeerPass) (buf places buf' places' : Li
         few = (grind (arith, count, some), grind (arith, count));
         less = less;
         piece = ap (take n) i.bytes ∙ take_at (take n (stored o)) (drop n buf) n (length-take-le n (stored o) less);
+        most = most_or_all n 4096 (length (stored o)) count;
       }
 
   front-more-now : (n t : ℕ) → r ≡ took.Bytes n t → length buf ≡ 4096 → (bytes : List ℕ) →
@@ -392,10 +404,45 @@ module _ (limits : Limits) (pass pass' : PeerPass) (buf places buf' places' : Li
         front = ap₂ (λ (x y : List ℕ). x ++ y) b.front c.piece ∙ sym (front_more n o o' grows fits);
       }
 
+  -- where all that is stored is taken, nothing more was put
+  all-now : (n t : ℕ) → r ≡ took.Bytes n t → length buf ≡ 4096 → (bytes : List ℕ) (s : HasTaken limits pass bytes) →
+      n ≡ length (stored (out_by (before bytes s).peer)) → HasAll limits pass' (bytes ++ take n buf')
+  unfolding front-more-now
+  all-now n t e size bytes s whole =
+      let b = before bytes s in
+      let o : Outgoing = out_by b.peer in
+      let J' : List Entry = settle limits.store (entries.Took pass.peer n ∷ journal) in
+      let o' : Outgoing = out_for limits.store J' b.peer.label in
+      let now = front-more-now n t e size bytes s in
+      let put : o'.put.bytes ≡ o.put.bytes =
+      puts_nothing limits.store pass.peer n journal b.peer b.there k.lawful.shared.stores
+      (history_settled limits.store (entries_of turn)) b.peer.label in
+      let grows : Grows n o o' =
+      step_grows limits.store (entries.Took pass.peer n) journal b.peer.label n
+      (own_took pass.peer n journal b.peer b.there) in
+      let taken = grows.taken in
+      let left = length-drop o.taken o.put.bytes in
+      let within = b.within in
+      let size' = ap length put in
+      let all : length o'.put.bytes ≤ o'.taken = omega (arith, taken, left, within, whole, size') in
+      record {
+        taken = now;
+        all = now.front ∙ take_all now.out.taken now.out.put.bytes all;
+      }
+
+  most-or-all-now : (n t : ℕ) → r ≡ took.Bytes n t → length buf ≡ 4096 → (bytes : List ℕ)
+      (s : HasTaken limits pass bytes) →
+      (n ≡ 4096) ⊎ (n ≡ length (stored (out_by (before bytes s).peer))) →
+      (n ≡ 4096) ⊎ HasAll limits pass' (bytes ++ take n buf')
+  most-or-all-now n t e size bytes s (inl m) = inl m
+  most-or-all-now n t e size bytes s (inr m) = inr (all-now n t e size bytes s m)
+
   pub takes-more : (n t : ℕ) → r ≡ took.Bytes n t → length buf ≡ 4096 → TakesMore limits pass pass' buf' n
   takes-more n t e size = record {
     few = (counts n t e size there.0 there.1).few;
     entries = ap (λ (p : PeerPass). entries_by p.seat) is
         ∙ entries_one pass.seat k.rest pass'.seat.seen (entries.Took pass.peer n) k.apart (longer-here n t e);
     more = front-more-now n t e size;
+    most = λ bytes s.
+        most-or-all-now n t e size bytes s (counts n t e size (before bytes s).peer (before bytes s).there).most;
   }

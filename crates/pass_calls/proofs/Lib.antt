@@ -1,6 +1,7 @@
 pub mod PassesGrow
 pub mod FrontsGrow
 pub mod OthersTakeNothing
+pub mod TakesPutNothing
 pub mod FrontsTaken
 pub mod StepsRefused
 pub mod EndsStay

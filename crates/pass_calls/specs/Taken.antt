@@ -35,7 +35,8 @@ pub record HasAll (limits : Limits) (p : PeerPass) (bytes : List ℕ) : Type 0 w
   pub taken : HasFront limits p bytes
   pub all : bytes ≡ taken.out.put.bytes
 
--- a take took what stands at the front of the buffer, behind all that was taken before
+-- A take took what stands at the front of the buffer, behind all that was taken before: as many
+-- bytes as fit, or else all that was put.
 pub record TakesMore (limits : Limits) (before after : PeerPass) (buf : List ℕ)
     (count : ℕ) : Type 0 where
   pub few : IsWithin 4096 count
@@ -43,6 +44,8 @@ pub record TakesMore (limits : Limits) (before after : PeerPass) (buf : List ℕ
       ≡ entries_by before.seat ++ entries.Took before.peer count ∷ []
   pub more : (bytes : List ℕ) → HasTaken limits before bytes →
       HasFront limits after (bytes ++ take count buf)
+  pub most : (bytes : List ℕ) → HasTaken limits before bytes →
+      (count ≡ 4096) ⊎ HasAll limits after (bytes ++ take count buf)
 
 -- a take took nothing, for this reason
 pub record TakesNone (limits : Limits) (before after : PeerPass)

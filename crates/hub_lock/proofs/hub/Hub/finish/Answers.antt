@@ -1,11 +1,11 @@
-use Rattle.std.proofs.Common.{◌≡◌, ◌+◌, ◌≤◌, ◌∙◌, ap, sym, subst, arith, length, max, Some}
+use Rattle.std.proofs.Common.{◌≡◌, ◌+◌, ◌∙◌, ap, sym, subst, arith, length, max, Some}
 use Rattle.seat_steps.specs.declared.limits.Limits.{Limits}
 use Rattle.turn_lock.specs.Sights.{IsMeeting, IsTallied, met_with}
 use Rattle.hub_lock.specs.Lawful.{IsLawful}
 use Rattle.hub_lock.specs.Passes.{PassSeat, steps_of, bytes_of, total_steps, total_bytes, journal_seen, HasSeenLawful}
 use Rattle.hub_lock.specs.Finished.{seat_of}
-use Rattle.hub_lock.specs.Events.{EventSeat, IsUnnamed, step_of, pass_seat, tally_of}
-use Rattle.hub_lock.proofs.NobodyNamed.{seen-unnamed}
+use Rattle.hub_lock.specs.Events.{EventSeat, RecordsByAnother, step_of, pass_seat}
+use Rattle.hub_lock.proofs.NobodyNamed.{another-seen}
 use Rattle.hub_lock.proofs.PairsLeftOut.{met_shown, meeting-shown, tallied-shown}
 use Rattle.hub_lock.proofs.MeetingsCounted.{met-steps, met-bytes, met-few, met-entries, seen-lawful}
 use Rattle.hub_lock.proofs.hub.Hub.finish.Goals as goal
@@ -58,12 +58,10 @@ module _ (c : After-meet) where
   tallied : IsTallied now
   tallied = tallied-shown step_of c.meet.new.seat c.meet.ensures.tallied
 
-  unnamed : IsUnnamed c.meet.new.seat
-  unnamed few =
-      let none = c.root.invariant.5 (subst (λ (s : EventSeat). s.next ≤ 1) c.meet.ensures.met few) in
-      ap (λ (s : EventSeat). tally_of s.seen) c.meet.ensures.met
-      ∙ seen-unnamed c.root.inside.seat.seen (met_with c.root.inside.seat c.member.inside.seat).seen
-      c.root.inside.seat.number c.root.invariant.0 none raw.mine
+  another : RecordsByAnother c.meet.new.seat
+  another = subst RecordsByAnother (sym c.meet.ensures.met)
+      (another-seen c.root.inside.seat (met_with c.root.inside.seat c.member.inside.seat).seen c.root.invariant.0
+      c.root.invariant.5 raw.mine)
 
   steps : c.root.inside.steps + c.member.inside.steps ≡ total_steps now
   steps =
@@ -104,7 +102,7 @@ invariant_of-root c =
           ∙ sym (ap (λ (s : PassSeat). length (journal_seen s)) (met a)),
       subst HasSeenLawful (sym (met a))
           (seen-lawful (limits a) (root a) (pass a) c.root.invariant.0 (of a) (of' a) (k a) (mine a) (theirs a)),
-      unnamed a,
+      another a,
     )
 
 pub returns-clause-met : goal.returns-clause-met

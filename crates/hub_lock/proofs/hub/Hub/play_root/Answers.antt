@@ -7,9 +7,9 @@ use Rattle.hub_lock.specs.Passes.{PassSeat, total_steps, total_bytes, journal_se
 use Rattle.hub_lock.specs.Plays.{MayAsk, Plays, is_made}
 use Rattle.hub_lock.specs.Calls.{LegalAsk}
 use Rattle.hub_lock.proofs.TurnsCounted.{legal, entries-after, lawful-after, total-after, total-bytes-after}
-use Rattle.hub_lock.specs.Events.{EventSeat, IsUnnamed, step_of, pass_seat, tally_of}
+use Rattle.hub_lock.specs.Events.{RecordsByAnother, step_of, pass_seat, tally_of}
 use Rattle.hub_lock.specs.Noted.{Hands, note_of}
-use Rattle.hub_lock.proofs.NobodyNamed.{root-quiet, after-unnamed, hands-unnamed}
+use Rattle.hub_lock.proofs.NobodyNamed.{root-quiet, nobody-named, another-after, hands-unnamed}
 use Rattle.hub_lock.proofs.PassesSettled.{settled-after}
 use Rattle.hub_lock.proofs.PairsLeftOut.{tallied-shown}
 use Rattle.hub_lock.proofs.ShownCalls.{shown-legal}
@@ -88,12 +88,12 @@ module _ (g : _) (c : After-play-answer g) where
       c.play-answer.new.call.ask c.play-answer.result.answer c.requires.asks told.answer
 
   nobody : c.root.inside.seat.next ≤ 1 → tally_of c.root.inside.seat.seen ≡ None
-  nobody = c.root.invariant.5
+  nobody = nobody-named c.root.inside.seat c.root.invariant.5
 
-  unnamed : IsUnnamed c.play-answer.new.seat
-  unnamed few = after-unnamed c.root.inside.seat c.args.call.now c.play-answer.new.seat.seen c.play-answer.new.call
-      c.play-answer.result c.play-answer.ensures.legal c.root.invariant.0
-      (nobody (subst (λ (s : EventSeat). s.next ≤ 1) c.play-answer.ensures.seat few)) quiet
+  another : RecordsByAnother c.play-answer.new.seat
+  another = subst RecordsByAnother (sym c.play-answer.ensures.seat)
+      (another-after c.root.inside.seat c.args.call.now c.play-answer.new.seat.seen c.play-answer.new.call
+      c.play-answer.result c.play-answer.ensures.legal c.root.invariant.0 c.root.invariant.5 quiet)
 
   hands : c.args.root.now.next ≤ 1
       → (b : Broker) × Hands 0 c.args.call.now.ask c.play-answer.result.answer b None
@@ -114,14 +114,14 @@ invariant_of-root g c =
     let a = (at.invariant_of-root g c).After-play-answer in
     let s = steps g a in
     let made : is_made c.play-answer.result.answer ≡ true = search rules in
-    let one = ap bit made in (first g a, omega arith, bytes g a, entries g a, lawful g a, unnamed g a)
+    let one = ap bit made in (first g a, omega arith, bytes g a, entries g a, lawful g a, another g a)
 
 pub invariant_of-root-else-is_made : goal.invariant_of-root-else-is_made
 invariant_of-root-else-is_made g c =
     let a = (at.invariant_of-root-else-is_made g c).After-play-answer in
     let s = steps g a in
     let made : is_made c.play-answer.result.answer ≡ false = search rules in
-    let none = ap bit made in (first g a, omega arith, bytes g a, entries g a, lawful g a, unnamed g a)
+    let none = ap bit made in (first g a, omega arith, bytes g a, entries g a, lawful g a, another g a)
 
 pub returns-then-is_made-clause-legal : goal.returns-then-is_made-clause-legal
 returns-then-is_made-clause-legal g c = told g (at.returns-then-is_made-clause-legal g c).After-play-answer

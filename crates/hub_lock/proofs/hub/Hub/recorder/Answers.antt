@@ -1,5 +1,6 @@
 use Rattle.std.proofs.Common.{rules, ◌≡◌, ◌+◌, ◌≤◌, ◌∙◌, ap, sym, subst, refl, length, List, ℕ, false, Option, Some, None, arith}
 use Rattle.std.specs.Prelude.{IsSome}
+use Rattle.std.proofs.lemmas.Option.{same_Some}
 use Rattle.seat_steps.specs.declared.limits.Limits.{Limits}
 use Rattle.broker_core.specs.declared.letting_go.LetGo.{LetGo}
 use Rattle.turn_lock.specs.Pairs.{HasSeen, IsIn}
@@ -10,9 +11,9 @@ use Rattle.hub_lock.specs.declared.call.Answer.TheVariants as answers
 use Rattle.hub_lock.specs.declared.call.Call.{Call}
 use Rattle.hub_lock.specs.Passes.{PassSeat, journal_seen, total_steps, total_bytes, HasSeenLawful}
 use Rattle.hub_lock.specs.Plays.{Plays, is_made}
-use Rattle.hub_lock.specs.Events.{EventSeat, IsUnnamed, step_of, pass_seat, tally_of}
+use Rattle.hub_lock.specs.Events.{EventSeat, RecordsByAnother, step_of, pass_seat, tally_of}
 use Rattle.hub_lock.specs.Noted.{note_of}
-use Rattle.hub_lock.proofs.NobodyNamed.{before-unnamed, after-unnamed}
+use Rattle.hub_lock.proofs.NobodyNamed.{nobody-named, before-unnamed, another-after}
 use Rattle.hub_lock.specs.Recording.{HasFront, recorder, LegalLook}
 use Rattle.hub_lock.proofs.TurnsCounted.{entries-after, lawful-after, total-after, total-bytes-after}
 use Rattle.hub_lock.proofs.PassesSettled.{settled-after}
@@ -90,12 +91,12 @@ module _ (g : _) (c : After-play-answer g) where
     )
 
   nobody : c.root.inside.seat.next ≤ 1 → tally_of c.root.inside.seat.seen ≡ None
-  nobody = c.root.invariant.5
+  nobody = nobody-named c.root.inside.seat c.root.invariant.5
 
-  unnamed : c.play-answer.result.answer ≡ answers.Named None → IsUnnamed c.play-answer.new.seat
-  unnamed told few = after-unnamed c.root.inside.seat call c.play-answer.new.seat.seen c.play-answer.new.call
-      c.play-answer.result c.play-answer.ensures.legal zero
-      (nobody (subst (λ (s : EventSeat). s.next ≤ 1) c.play-answer.ensures.seat few)) (ap note_of told)
+  another : c.play-answer.result.answer ≡ answers.Named None → RecordsByAnother c.play-answer.new.seat
+  another told = subst RecordsByAnother (sym c.play-answer.ensures.seat)
+      (another-after c.root.inside.seat call c.play-answer.new.seat.seen c.play-answer.new.call
+      c.play-answer.result c.play-answer.ensures.legal zero c.root.invariant.5 (ap note_of told))
 
   named : c.args.root.now.next ≡ 1 → (r : Option ℕ) → c.play-answer.result.answer ≡ answers.Named r → IsSome r
   named one r told =
@@ -111,7 +112,7 @@ invariant_of-root g c =
     let a = (at.invariant_of-root g c).After-play-answer in
     let r = root-is g a c.in-Named.named c.in-Named.is in
     let none : c.in-Named.named ≡ None = search rules in
-    (r.0, r.1, r.2, r.3, r.4, unnamed g a (c.in-Named.is ∙ ap answers.Named none))
+    (r.0, r.1, r.2, r.3, r.4, another g a (c.in-Named.is ∙ ap answers.Named none))
 
 pub returns-in_err-_number-clause-first : goal.returns-in_err-_number-clause-first
 returns-in_err-_number-clause-first g c one =
@@ -158,7 +159,23 @@ invariant_of-root-2 g c =
     let next : c.split.new.seat.next ≡ c.made.result + 1 + 1 =
     ap (λ (s : EventSeat). s.next) c.split.ensures.left
     ∙ ap (λ (s : EventSeat). s.next + 1) c.play-answer.ensures.seat ∙ ap (λ n. n + 1) c.made.ensures in
-    (r.0, r.1, r.2, r.3, r.4, λ few. absurd (omega (arith, next, few)))
+    let some : c.in-Named.named ≡ Some c.in_ok-_number._number = c.in_ok-_number.was in
+    let a = (at.invariant_of-root-2 g c).After-play-answer in
+    let named : tally_of c.play-answer.new.seat.seen ≡ Some (c.made.result + 1, 0) =
+    named-tally (limits g a) c.root.inside.seat (call g a) c.play-answer.new.seat.seen c.play-answer.new.call
+    c.play-answer.result c.play-answer.ensures.legal (of g a) (c.made.result + 1) c.in_ok-_number._number refl refl
+    (c.in-Named.is ∙ ap answers.Named some) in (
+      r.0,
+      r.1,
+      r.2,
+      r.3,
+      r.4,
+      λ t e.
+          let is : Some (c.made.result + 1, 0) ≡ Some t =
+          sym named ∙ ap (λ (s : EventSeat). tally_of s.seen) (sym c.split.ensures.left) ∙ e in
+          let n = ap (λ (x : ℕ × ℕ). x.0) (same_Some (c.made.result + 1, 0) t is) in
+          (omega (arith, n), omega (arith, n, next)),
+    )
 
 pub returns-clause-fresh : goal.returns-clause-fresh
 returns-clause-fresh g c = none-shown step_of c.split.result.number c.split.result.seen c.split.ensures.fresh

@@ -1,6 +1,7 @@
-use Rattle.std.proofs.Common.{◌≡◌, ◌∙◌, ap, sym, subst, arith, length}
+use Rattle.std.proofs.Common.{◌≡◌, ◌∙◌, ap, sym, subst, length}
 use Rattle.hub_lock.specs.Passes.{journal_seen, total_steps, total_bytes, HasSeenLawful}
-use Rattle.hub_lock.specs.Events.{EventSeat, IsUnnamed, step_of, pass_seat}
+use Rattle.hub_lock.specs.Events.{EventSeat, RecordsByAnother, step_of, pass_seat}
+use Rattle.hub_lock.proofs.NobodyNamed.{another-split}
 use Rattle.hub_lock.proofs.PairsLeftOut.{none-shown}
 use Rattle.hub_lock.proofs.hub.Hub.split.Goals as goal
 
@@ -17,13 +18,13 @@ invariant_of-root c =
     let left = c.split.ensures.left in
     subst (λ (s : EventSeat). (s.number ≡ 0) × (c.root.inside.steps ≡ total_steps (pass_seat s))
     × (c.root.inside.bytes ≡ total_bytes (pass_seat s)) × (c.root.inside.entries ≡ length (journal_seen (pass_seat s)))
-    × HasSeenLawful (pass_seat s) × IsUnnamed s) (sym left) (
+    × HasSeenLawful (pass_seat s) × RecordsByAnother s) (sym left) (
       c.root.invariant.0,
       c.root.invariant.1,
       c.root.invariant.2,
       c.root.invariant.3,
       c.root.invariant.4,
-      λ few. c.root.invariant.5 (omega (arith, few)),
+      another-split c.root.inside.seat c.root.invariant.5,
     )
 
 pub returns-clause-fresh : goal.returns-clause-fresh
