@@ -1,5 +1,5 @@
 use Rattle.hub_lock.specs.Passes.{IsOf}
-use Rattle.hub_tests.proofs.together_tests.make_objects.Given as goal
+use Rattle.hub_tests.proofs.together_tests.make_all.Given as goal
 
 -- the reader's pass is the hub's
 abbrev pub invariant-loop-request : goal.invariant-loop-request
