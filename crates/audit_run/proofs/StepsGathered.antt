@@ -16,7 +16,7 @@ use Rattle.audit_run.specs.Standing.{GoesOn, Leads}
 
 pub leads_on : (all : ℕ → List ℕ) (line : SessionLine) (before after : Playing) (g h : Gathering) →
     GoesOn all before g → IsPlayed (line_played before.limits line before.play) (Ok tt) after.play →
-    after ≡ record before { play = after.play; stamps = after.stamps } →
+    after ≡ record before { play = after.play; stamps = after.stamps; kept_from = after.kept_from } →
     IsWatched MayGather before.limits.store before.play.journal g after.play.journal h → h.is_short ≡ false →
     Leads (line_played audit_limits line before.play) all (Ok tt) after h
 leads_on all line before after g h o p same w whole =

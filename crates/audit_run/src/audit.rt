@@ -110,6 +110,7 @@ impl Audit {
     /// applications were told from the first field message on that they weren't sent yet.
     pub fn journal(&self) -> &Journal
         ensures entries { result.now.entries ≡ self.now.player.play.journal }
+        ensures kept { result.now.kept_from ≡ self.now.player.kept_from }
         ensures short { IsShort self.now.player.play.journal result.now.kept_from }
     {
         self.player.journal()

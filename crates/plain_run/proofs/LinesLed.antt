@@ -18,11 +18,13 @@ full_of p b e = ap (λ (f : Bool). (if f then Some (number_counted p.play.journa
 
 pub led_on : (player after : Playing) (line : SessionLine)
     → IsPlayed (line_played player.limits line player.play) (Ok tt) after.play
-    → after ≡ record player { play = after.play; stamps = after.stamps } → after.limits ≡ player.limits
+    → after ≡ record player { play = after.play; stamps = after.stamps; kept_from = after.kept_from }
+    → after.limits ≡ player.limits
     → IsLed player after line None
 led_on player after line played same limits = record {
   full = ap (option_map last.Full) (sym (full_of (line_played player.limits line player.play) false played.0));
-  play = λ e. same ∙ ap (λ (x : Play). record player { play = x; stamps = after.stamps }) played.1;
+  play = λ e.
+      same ∙ ap (λ (x : Play). record player { play = x; stamps = after.stamps; kept_from = after.kept_from }) played.1;
   journal = ap (λ (x : Play). x.journal) played.1;
   limits = limits;
 }

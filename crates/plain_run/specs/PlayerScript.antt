@@ -11,7 +11,14 @@ use Rattle.plain_run.specs.Session.{unplayed, session_from, session_of_lines}
 -- a player that played nothing
 abbrev pub fresh : Limits → Playing
 fresh limits =
-    record { limits = limits; play = unplayed; stamps = []; is_spent = false; stopped = None }
+    record {
+      limits = limits;
+      play = unplayed;
+      stamps = [];
+      kept_from = 0;
+      is_spent = false;
+      stopped = None;
+    }
 
 -- the transcript of what a player played is the output so far, and stands before every answer for
 -- these lines and others, of which the next is read at this stage

@@ -18,6 +18,7 @@ pub record IsLed (player player_after : Playing) (line : SessionLine) (end : Opt
   pub play : end ≡ None → player_after ≡ record player {
     play = (line_played player.limits line player.play).play;
     stamps = player_after.stamps;
+    kept_from = player_after.kept_from;
   }
   pub journal : player_after.play.journal
       ≡ (line_played player.limits line player.play).play.journal

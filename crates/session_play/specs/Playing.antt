@@ -1,5 +1,5 @@
 -- A session as far as it is played.
-use Rattle.std.specs.Prelude.{◌≡◌, ℕ, ◌+◌, ◌<◌, ◌==◌, List, [], ◌∷◌, ◌++◌, length, replicate, min, Bool, true, false, string_bytes, Option, Result, Ok, Err, String}
+use Rattle.std.specs.Prelude.{◌≡◌, ℕ, ◌+◌, ◌<◌, ◌==◌, List, [], ◌∷◌, ◌++◌, length, replicate, min, nat_le, Bool, true, false, if◌then◌else◌, string_bytes, Option, Result, Ok, Err, String}
 use Rattle.std.specs.List.{list_any}
 use Rattle.std.specs.Global.{Global}
 use Rattle.seat_steps.specs.declared.limits.Limits.{Limits}
@@ -33,12 +33,13 @@ pub record Ongoing : Type 0 where
   pub stamps : List Stamp
   pub kept_from : ℕ
 
--- what a player's callers see: what was allowed, what was played so far with its stamps, whether
--- nothing more can be played, and why
+-- what a player's callers see: what was allowed, what was played so far with its stamps, how many of
+-- the oldest entries were let go, whether nothing more can be played, and why
 pub record Playing : Type 0 where
   pub limits : Limits
   pub play : Play
   pub stamps : List Stamp
+  pub kept_from : ℕ
   pub is_spent : Bool
   pub stopped : Option Stop
 
@@ -49,6 +50,11 @@ is_waiting q unread = list_any (λ w. w.number == q) unread
 -- fewer than 256 entries of the journal are in memory
 abbrev pub IsShort : (journal : List Entry) (kept_from : ℕ) → Type 0
 IsShort journal kept_from = length journal < kept_from + 256
+
+-- how many entries are gone of a journal with so many, of which so many were gone: where 256 or more
+-- are in memory all are let go, else none
+abbrev pub short_from : (kept_from number : ℕ) → ℕ
+short_from kept_from number = (if nat_le (kept_from + 256) number then number else kept_from)
 
 -- each live peer has its unread bytes
 abbrev pub AreWaiting : List Entry → List Waiting → Type 0

@@ -23,6 +23,7 @@ impl Session {
         requires live { lives self.old.play.journal number ≡ true }
         ensures read { IfOk result (λ found. IsRead self.old number piece.now found self.new) }
         ensures limits { self.new.limits ≡ self.old.limits }
+        ensures kept { self.new.kept_from ≡ self.old.kept_from }
         ensures journal { self.new.play.journal ≡ self.old.play.journal }
         ensures stamps { self.new.stamps ≡ self.old.stamps }
     {
@@ -65,6 +66,7 @@ impl Session {
         requires alive { standing_of self.old.play.journal number ≡ Alive }
         requires live { lives self.old.play.journal number ≡ true }
         ensures limits { self.new.limits ≡ self.old.limits }
+        ensures kept { self.new.kept_from ≡ self.old.kept_from }
         ensures played { IsPlayed (step_played self.old.limits
             (entries.Message number id opcode body.now) self.old.play)
             result self.new.play }
@@ -97,6 +99,7 @@ impl Session {
         watch: &mut W,
     ) -> Result<(), Stop>
         ensures limits { self.new.limits ≡ self.old.limits }
+        ensures kept { self.new.kept_from ≡ self.old.kept_from }
         ensures played { IsPlayed (bytes_played self.old.limits number piece.now self.old.play)
             result self.new.play }
         ensures stamped { AreStamped stamp self.old.play.journal self.old.stamps
@@ -132,6 +135,7 @@ impl Session {
         watch: &mut W,
     ) -> Result<(), Stop>
         ensures limits { self.new.limits ≡ self.old.limits }
+        ensures kept { self.new.kept_from ≡ self.old.kept_from }
         ensures played { IsPlayed (bytes_played self.old.limits number piece.now self.old.play)
             result self.new.play }
         ensures stamped { AreStamped stamp self.old.play.journal self.old.stamps

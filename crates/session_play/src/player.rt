@@ -25,9 +25,11 @@ pub enum PlayEnd {
 }
 
 /// Plays a session line by line. After an error it plays nothing more, and its journal stays what
-/// was played. After each line fewer than 256 entries of it are in memory: older ones were let go.
+/// was played, with as many entries in memory. After each line that it plays fewer than 256 are:
+/// where there are more, all are let go, and else none.
 ///
-/// In contracts it is its limits, what was played so far, and whether and why an error came.
+/// In contracts it is its limits, what was played so far, how many entries were let go, and whether
+/// and why an error came.
 #[derive(Drop)]
 pub struct Player {
     alloc: Global,
@@ -46,6 +48,7 @@ impl Model for Player {
       limits = p.session.value.limits;
       play = p.session.value.play;
       stamps = p.session.value.stamps;
+      kept_from = p.session.value.kept_from;
       is_spent = is_some p.stopped;
       stopped = p.stopped;
     } };
@@ -76,6 +79,7 @@ impl Player {
     ghost use Rattle.session_play.specs.Played.{line_played};
     ghost use Rattle.session_play.specs.Playing.{AreStamped, IsPlayed, IsWatched, IsMore};
     ghost use Rattle.session_play.specs.Playing.{IsShort, IsWritten, IsStopped, IsAgain, stop_of};
+    ghost use Rattle.session_play.specs.Playing.{short_from};
 
     /// Nobody joined yet. Asks for limits in their ranges. `NoMemory` is its one error.
     pub fn new(alloc: Global, limits: Limits) -> Result<Player, NoMemory>
@@ -84,6 +88,7 @@ impl Player {
           limits = limits;
           play = record { journal = []; unread = [] };
           stamps = [];
+          kept_from = 0;
           is_spent = false;
           stopped = None;
         }) }
@@ -112,12 +117,15 @@ impl Player {
         ensures ok { OnOk result (self.new ≡ record self.old {
           play = self.new.play;
           stamps = self.new.stamps;
+          kept_from = self.new.kept_from;
         }) }
         ensures stopped { IfErr result (λ stop. self.new.stopped ≡ Some stop) }
         ensures spent { OnErr result (self.new.is_spent ≡ true) }
         ensures again { IfSome self.old.stopped (λ stop. result ≡ Err stop) }
         ensures stays { self.old.is_spent ≡ true → self.new ≡ self.old }
         ensures limits { self.new.limits ≡ self.old.limits }
+        ensures kept { self.old.is_spent ≡ false →
+            self.new.kept_from ≡ short_from self.old.kept_from (length self.new.play.journal) }
         ensures stamped { AreStamped stamp self.old.play.journal self.old.stamps
             self.new.play.journal self.new.stamps }
         ensures watched { IsWatched W.may_follow self.old.limits.store self.old.play.journal
@@ -149,12 +157,15 @@ impl Player {
         ensures ok { OnOk result (self.new ≡ record self.old {
           play = self.new.play;
           stamps = self.new.stamps;
+          kept_from = self.new.kept_from;
         }) }
         ensures stopped { IfErr result (λ stop. self.new.stopped ≡ Some stop) }
         ensures spent { OnErr result (self.new.is_spent ≡ true) }
         ensures again { IfSome self.old.stopped (λ stop. result ≡ Err stop) }
         ensures stays { self.old.is_spent ≡ true → self.new ≡ self.old }
         ensures limits { self.new.limits ≡ self.old.limits }
+        ensures kept { self.old.is_spent ≡ false →
+            self.new.kept_from ≡ short_from self.old.kept_from (length self.new.play.journal) }
         ensures stamped { AreStamped stamp self.old.play.journal self.old.stamps
             self.new.play.journal self.new.stamps }
         ensures watched { IsWatched W.may_follow self.old.limits.store self.old.play.journal
@@ -179,10 +190,13 @@ impl Player {
         ensures ok { OnOk result.0 (self.new ≡ record self.old {
           play = self.new.play;
           stamps = self.new.stamps;
+          kept_from = self.new.kept_from;
         }) }
         ensures stopped { IfErr result.0 (λ stop. self.new.stopped ≡ Some stop) }
         ensures spent { OnErr result.0 (self.new.is_spent ≡ true) }
         ensures limits { self.new.limits ≡ self.old.limits }
+        ensures kept { self.old.is_spent ≡ false →
+            self.new.kept_from ≡ short_from self.old.kept_from (length self.new.play.journal) }
         ensures stamped { AreStamped stamp self.old.play.journal self.old.stamps
             self.new.play.journal self.new.stamps }
         ensures grew { IsMore self.old.play.journal self.new.play.journal }
@@ -204,7 +218,7 @@ impl Player {
         ensures ok { self.old.is_spent ≡ false → IfOk result
             (λ text. let p = line_played self.old.limits line.now self.old.play in
             (p.is_full ≡ false) × (self.new ≡ record self.old
-            { play = p.play; stamps = self.new.stamps }) ×
+            { play = p.play; stamps = self.new.stamps; kept_from = self.new.kept_from }) ×
             IsWritten self.old.limits.store self.old.play p.play text) }
         ensures full { self.old.is_spent ≡ false → IfErr result (IsStopped self.old.limits.store
             (line_played self.old.limits line.now self.old.play) self.old.play self.new.play) }
@@ -213,6 +227,8 @@ impl Player {
         ensures again { IfSome self.old.stopped (λ stop. IsAgain stop result) }
         ensures stays { self.old.is_spent ≡ true → self.new ≡ self.old }
         ensures limits { self.new.limits ≡ self.old.limits }
+        ensures kept { self.old.is_spent ≡ false →
+            self.new.kept_from ≡ short_from self.old.kept_from (length self.new.play.journal) }
         ensures stamped { AreStamped stamp self.old.play.journal self.old.stamps
             self.new.play.journal self.new.stamps }
     {
@@ -254,6 +270,7 @@ impl Player {
     /// entries are in memory: it answers those alone.
     pub fn journal(&self) -> &Journal
         ensures entries { result.now.entries ≡ self.now.play.journal }
+        ensures kept { result.now.kept_from ≡ self.now.kept_from }
         ensures short { IsShort self.now.play.journal result.now.kept_from }
         ensures history { history self.now.limits.store (outer self.now.play.journal)
             ≡ self.now.play.journal }
@@ -265,6 +282,7 @@ impl Player {
     /// given with its line. Those of entries that were let go went with them.
     pub fn stamps(&self) -> &StampList
         ensures stamps { result.now.stamps ≡ self.now.stamps }
+        ensures kept { result.now.kept_from ≡ self.now.kept_from }
         ensures short { IsShort self.now.play.journal result.now.kept_from }
         ensures each { length self.now.stamps ≡ length self.now.play.journal }
         ensures stamped { stamps self.now.play.journal (step_stamps self.now.play.journal

@@ -95,7 +95,7 @@ impl Session {
     ghost use Rattle.session_play.specs.Played.{step_played, gone_played, join_played, take_played};
     ghost use Rattle.session_play.specs.Played.{tokens_played, line_played};
     ghost use Rattle.session_play.specs.Playing.{AreStamped, IsPlayed, IsWatched, IsThere};
-    ghost use Rattle.session_play.specs.Playing.{IsEnough, IsShort};
+    ghost use Rattle.session_play.specs.Playing.{IsEnough, IsShort, short_from};
 
     /// Nobody joined yet. `NoMemory` is its one error.
     pub(crate) fn new(alloc: Global, limits: Limits) -> Result<Session, NoMemory>
@@ -143,10 +143,13 @@ impl Session {
         self.shared.stamps()
     }
 
-    /// Where many entries of the journal are in memory, all are let go, with their stamps.
+    /// Where many entries of the journal are in memory, all are let go, with their stamps, and else
+    /// none.
     #[inline(always)]
     pub(crate) fn let_go(&mut self)
-        ensures same { self.new ≡ record self.old { kept_from = self.new.kept_from } }
+        ensures same { self.new ≡ record self.old {
+          kept_from = short_from self.old.kept_from (length self.old.play.journal);
+        } }
         ensures short { IsShort self.new.play.journal self.new.kept_from }
     {
         keep_short(&mut self.shared);
@@ -163,6 +166,7 @@ impl Session {
         requires said { IsSaid step.now }
         requires there { IsThere step.now self.old.play.journal }
         ensures limits { self.new.limits ≡ self.old.limits }
+        ensures kept { self.new.kept_from ≡ self.old.kept_from }
         ensures played { IsPlayed (step_played self.old.limits (entry_of step.now) self.old.play)
             result self.new.play }
         ensures stamped { AreStamped stamp self.old.play.journal self.old.stamps
@@ -189,6 +193,7 @@ impl Session {
         watch: &mut W,
     ) -> Result<(), Stop>
         ensures limits { self.new.limits ≡ self.old.limits }
+        ensures kept { self.new.kept_from ≡ self.old.kept_from }
         ensures played { IsPlayed (join_played self.old.limits (entries.Join role) self.old.play)
             result self.new.play }
         ensures stamped { AreStamped stamp self.old.play.journal self.old.stamps
@@ -218,6 +223,7 @@ impl Session {
         watch: &mut W,
     ) -> Result<(), Stop>
         ensures limits { self.new.limits ≡ self.old.limits }
+        ensures kept { self.new.kept_from ≡ self.old.kept_from }
         ensures played { IsPlayed (gone_played self.old.limits number self.old.play)
             result self.new.play }
         ensures stamped { AreStamped stamp self.old.play.journal self.old.stamps
@@ -241,6 +247,7 @@ impl Session {
     ) -> Result<(), Stop>
         requires { IsWithin token_limit (length tokens.now) }
         ensures limits { self.new.limits ≡ self.old.limits }
+        ensures kept { self.new.kept_from ≡ self.old.kept_from }
         ensures played { IsPlayed (tokens_played self.old.limits number tokens.now self.old.play)
             result self.new.play }
         ensures stamped { AreStamped stamp self.old.play.journal self.old.stamps
@@ -271,6 +278,7 @@ impl Session {
         requires enough { IfSome (out_at self.old.limits.store self.old.play.journal number)
             (IsEnough (length bytes.old) most) }
         ensures limits { self.new.limits ≡ self.old.limits }
+        ensures kept { self.new.kept_from ≡ self.old.kept_from }
         ensures played { IsPlayed (take_played self.old.limits number most self.old.play
             (peer_at (past_of self.old.play.journal) number)) result self.new.play }
         ensures stamped { AreStamped stamp self.old.play.journal self.old.stamps
@@ -305,6 +313,7 @@ impl Session {
         requires some { 1 ≤ most }
         requires piece { most ≤ 4096 }
         ensures limits { self.new.limits ≡ self.old.limits }
+        ensures kept { self.new.kept_from ≡ self.old.kept_from }
         ensures played { IsPlayed (take_played self.old.limits number most self.old.play
             (peer_at (past_of self.old.play.journal) number)) result self.new.play }
         ensures stamped { AreStamped stamp self.old.play.journal self.old.stamps
@@ -329,6 +338,7 @@ impl Session {
         requires few { IfSome (out_at self.old.limits.store self.old.play.journal number)
             (λ out. length (stored out) ≤ 256) }
         ensures limits { self.new.limits ≡ self.old.limits }
+        ensures kept { self.new.kept_from ≡ self.old.kept_from }
         ensures played { IsPlayed (take_played self.old.limits number most self.old.play
             (peer_at (past_of self.old.play.journal) number)) result self.new.play }
         ensures stamped { AreStamped stamp self.old.play.journal self.old.stamps
@@ -352,6 +362,7 @@ impl Session {
         requires some { 1 ≤ most }
         requires piece { most ≤ 4096 }
         ensures limits { self.new.limits ≡ self.old.limits }
+        ensures kept { self.new.kept_from ≡ self.old.kept_from }
         ensures played { IsPlayed (take_played self.old.limits number most self.old.play
             (peer_at (past_of self.old.play.journal) number)) result self.new.play }
         ensures stamped { AreStamped stamp self.old.play.journal self.old.stamps
@@ -374,6 +385,7 @@ impl Session {
     ) -> Result<(), Stop>
         requires valid { IsSessionLine line.now }
         ensures limits { self.new.limits ≡ self.old.limits }
+        ensures kept { self.new.kept_from ≡ self.old.kept_from }
         ensures played { IsPlayed (line_played self.old.limits line.now self.old.play)
             result self.new.play }
         ensures stamped { AreStamped stamp self.old.play.journal self.old.stamps

@@ -1,17 +1,19 @@
 //! A journal of which few entries stay in memory.
-ghost use Rattle.std.specs.Prelude.{◌≡◌};
-ghost use Rattle.session_play.specs.Playing.{IsShort};
+ghost use Rattle.std.specs.Prelude.{◌≡◌, length};
+ghost use Rattle.session_play.specs.Playing.{IsShort, short_from};
 
 use broker_core::Shared;
 
 // So many entries are let go at once.
 const MANY: u32 = 256;
 
-/// Where 256 entries of the journal or more are in memory, all are let go, with their stamps. Who
-/// calls it after each line keeps fewer, however long the session is.
+/// Where 256 entries of the journal or more are in memory, all are let go, with their stamps, and
+/// else none. Who calls it after each line keeps fewer, however long the session is.
 #[inline(always)]
 pub fn keep_short(shared: &mut Shared)
-    ensures same { shared.new ≡ record shared.old { kept_from = shared.new.kept_from } }
+    ensures same { shared.new ≡ record shared.old {
+      kept_from = short_from shared.old.kept_from (length shared.old.journal);
+    } }
     ensures short { IsShort shared.new.journal shared.new.kept_from }
 {
     let journal = shared.journal();

@@ -10,6 +10,7 @@ use Rattle.session_play.proofs.session.Session.message_bytes.Goals as goal
 pub loop-rest-init : goal.loop-rest-init
 loop-rest-init g c = record {
   limits = refl;
+  kept = refl;
   left = refl;
   stamped = none_stamped c.args.stamp c.args.self.now.play.journal c.args.self.now.stamps;
   watched = watched_none g.W.Watch.may_follow c.args.self.now.limits.store c.args.self.now.play.journal
@@ -88,6 +89,7 @@ returns-then-is_empty-clause-watched g c =
 pub loop-rest-preserved : goal.loop-rest-preserved
 loop-rest-preserved g c = record {
   limits = c.step.ensures.limits ∙ c.read.ensures.limits ∙ c.loop-rest.invariant.limits;
+  kept = c.step.ensures.kept ∙ c.read.ensures.kept ∙ c.loop-rest.invariant.kept;
   left =
       message_goes c.args.self.now c.loop-rest.self c.read.new.self c.step.new.self c.args.number c.args.piece.now
       c.loop-rest.rest.now c.split_at.result.1.now

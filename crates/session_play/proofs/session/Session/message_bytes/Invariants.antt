@@ -7,6 +7,7 @@ use Rattle.session_play.proofs.session.Session.message_bytes.Given as goal
 abbrev pub invariant-loop-rest : goal.invariant-loop-rest
 invariant-loop-rest g l = record {
   limits : l.self.limits ≡ l.fn.self.limits;
+  kept : l.self.kept_from ≡ l.fn.self.kept_from;
   left : bytes_played l.fn.self.limits l.number l.rest l.self.play
       ≡ bytes_played l.fn.self.limits l.number l.fn.piece l.fn.self.play;
   stamped : AreStamped l.stamp l.fn.self.play.journal l.fn.self.stamps l.self.play.journal l.self.stamps;
