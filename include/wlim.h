@@ -237,9 +237,9 @@ struct wlim_event {
 #define WLIM_TEXT_MAX 4084
 
 /*
- * Hands out the event that waits longest: writes it to `event`, and to `text` its text with a zero behind it. Answers
- * WLIM_GIVEN, or WLIM_NOTHING where none waits. Where `room` is too little it answers WLIM_SHORT, the event waits on, and
- * nothing is written; WLIM_TEXT_MAX is always enough.
+ * Hands out the event that waits longest: writes it to `event`, and to `text` its text with a zero behind it, and nothing
+ * behind that. Answers WLIM_GIVEN, or WLIM_NOTHING where none waits. Where `room` is too little it answers WLIM_SHORT, the
+ * event waits on, and nothing is written; WLIM_TEXT_MAX is always enough.
  */
 int64_t wlim_next(struct wlim *seat, struct wlim_event *event, char *text, size_t room);
 
@@ -254,7 +254,7 @@ struct wlim_shown {
 	uint32_t standing; /* the grab that stands: the modifiers of the seat's keyboard go to it, else to your clients */
 };
 
-/* Writes what stands on the seat. False: none is open, and nothing is written. */
+/* Writes what stands on the seat, which stays as it is. False: none is open, and nothing is written. */
 bool wlim_look(struct wlim *seat, struct wlim_shown *shown);
 
 /* Your number of a label, as of the surface of WLIM_ENTER; 0 where it has none, or no seat is open. */
@@ -320,7 +320,8 @@ int64_t wlim_broker_join(struct wlim_broker *broker, uint64_t moment, uint32_t r
  *
  * WLIM_GIVEN: all steps were taken, the last of which may have ended the peer. WLIM_ENDED: the peer had ended, or did by a
  * step before the last; the rest says nothing. WLIM_FULL, WLIM_NO_MEMORY: the first steps were taken, and the peer has
- * ended (WLIM_GONE), since its bytes can't be read on: close its link. WLIM_NOBODY; WLIM_RANGE: more than 256 tokens.
+ * ended (WLIM_GONE, unless a step before ended it), since its bytes can't be read on: close its link. WLIM_NOBODY;
+ * WLIM_RANGE: more than 256 tokens.
  */
 int64_t wlim_broker_receive(struct wlim_broker *broker, uint64_t moment, uint32_t peer, const uint8_t *bytes, size_t length,
 	const uint32_t *tokens, size_t count);
@@ -419,8 +420,9 @@ int64_t wlim_broker_repeat(struct wlim_broker *broker, uint64_t moment, int32_t 
  */
 struct wlim_told {
 	uint32_t kind;   /* WLIM_PASS, WLIM_PLACED, WLIM_VMODS */
-	uint32_t peer;   /* whose message told it: its peer; 0 where none did, as with a key of the seat's keyboard */
-	uint32_t id;     /* to which object the message went, as a virtual keyboard: its id there; 0 where none told it */
+	uint32_t peer;   /* WLIM_PASS, WLIM_VMODS: whose message told it; 0 where none did, as with a key of the seat's keyboard.
+	                  * WLIM_PLACED: 0, also where a message placed it, as a field's commit */
+	uint32_t id;     /* to which object the message went, as a virtual keyboard: its id there; 0 where peer is 0 */
 	uint32_t first;  /* WLIM_PASS: the time;  WLIM_PLACED: the popup's peer; WLIM_VMODS: depressed */
 	uint32_t second; /* WLIM_PASS: the key;   WLIM_PLACED: its id there;     WLIM_VMODS: latched */
 	int64_t third;   /* WLIM_PASS: its state; WLIM_PLACED: x;                WLIM_VMODS: locked */

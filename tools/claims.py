@@ -8,8 +8,8 @@
    name a field of its own records all the same). `ensures` and `definitions` name no clause.
 2. Links resolve. Words in back quotes that are a path or a file's name are there; those that are a name with `_`, a
    path with `::` or a word `InThisForm` stand somewhere in the sources.
-3. docs/AUDIT.md tells how many must-fail edits there are. All documents together have at most so many words, and none
-   has a mark of an unfinished merge.
+3. docs/AUDIT.md tells how many must-fail edits there are, and how many exports; docs/EMBEDDING.md how many crates the
+   library is of. All documents together have at most so many words, and none has a mark of an unfinished merge.
 4. With a program: each line `$ COMMAND` in a block of README.md, docs/FORMATS.md and docs/AUDITING.md ends well,
    and writes what stands below it, if anything does. Without one it says how many were not run.
 
@@ -101,6 +101,19 @@ def below():
         if stands_on or names_of_it.strip():
             name = names_of_it.split(" ")[0]
             found[name] = {name}.union(*[found.get(other, set()) for other in stands_on.split()])
+    return found
+
+
+def stood_on(crate):
+    """The crate and all those on which it stands, in whichever order crates.txt has them."""
+    lines = (line.partition(":") for line in read(f"{ROOT}/crates.txt").splitlines() if line[:1] not in ("", "#"))
+    deps = {names_of_it.split(" ")[0]: others.split() for names_of_it, _, others in lines}
+    found, left = set(), [crate]
+    while left:
+        name = left.pop()
+        if name in deps and name not in found:
+            found.add(name)
+            left += deps[name]
     return found
 
 
@@ -201,12 +214,18 @@ def runs(program):
 
 
 def counts(documents):
-    """A problem, or none, for the must-fail edits that docs/AUDIT.md counts, the number of words, and each merge."""
+    """A problem, or none, for what docs/AUDIT.md and docs/EMBEDDING.md count, the number of words, and each merge."""
     edits = sources("crates/*/must-fail/*.edit")
     counted = (len({os.path.dirname(edit) for edit in edits}), len(edits))
     told = re.search(r"of (\d+) crates have (\d+)\s+such\s+changes", read(f"{ROOT}/docs/AUDIT.md"))
     good = told and tuple(map(int, told.groups())) == counted
     yield None if good else f"docs/AUDIT.md: {counted[1]} edits of {counted[0]} crates are there"
+    exports = sum(read(path).count("#[unsafe(no_mangle)]") for path in sources("crates/*/src/*.rt"))
+    told = re.search(r"its (\d+) exports", read(f"{ROOT}/docs/AUDIT.md"))
+    yield None if told and int(told[1]) == exports else f"docs/AUDIT.md: {exports} exports are there"
+    proved = len(stood_on("wlim_c"))
+    told = re.search(r"make libwlim +# proves (\d+) crates", read(f"{ROOT}/docs/EMBEDDING.md"))
+    yield None if told and int(told[1]) == proved else f"docs/EMBEDDING.md: wlim_c is proved with {proved} crates"
     words = sum(len(re.findall(r"\S*\w\S*", read(path))) for path in documents)
     yield None if words <= MOST_WORDS else f"{words} words in all documents"
     for path in documents:

@@ -148,8 +148,8 @@ impl ByteSeat {
     /// `NoPeer` comes where no peer has the number, and `Ended` where it had ended: all is as before.
     /// Else each step is taken unless the one before ended the peer (`Ended`), the journal is full for
     /// it (`JournalFull`), or there is no memory (`NoMemory`); the steps before stay taken. After
-    /// `JournalFull` and `NoMemory` nothing more of the peer is read: it ends as if its link had, and
-    /// what was held of its bytes is dropped.
+    /// `JournalFull` and `NoMemory` nothing more of the peer is read: it ends as if its link had,
+    /// unless a step before ended it, and what was held of its bytes is dropped.
     pub fn receive(
         &mut self,
         peer: u32,

@@ -35,18 +35,20 @@ fits (acts.MPreedit m text begin end) = nat_le (length text) 4075
 fits (acts.MString m text) = nat_le (length text) 4083
 fits _ = true
 
--- An act was taken: it does something, has the next number, and what it tells waits behind what
--- waited. Or it does nothing, and costs no number. Or it was refused. In the last two the seat
--- stands for what it stood for, and the same events wait.
+-- An act was taken: it does something, its texts can be carried, it has the next number, and what it
+-- tells waits behind what waited. Or it does nothing, and costs no number. Or it was refused; where
+-- no number is left, or it makes one too many, it does something. In the last two the seat stands
+-- for what it stood for, and the same events wait.
 abbrev pub Takes : Seat → List Act → List Heard → Act → Result (Option ℕ) Refusal → Type 0
 Takes new log waits act (Ok (Some number)) =
-    (number ≡ length log + 1) × (is_live act (history log) ≡ true)
+    (number ≡ length log + 1) × (is_live act (history log) ≡ true) × (fits act ≡ true)
     × Seated new (act ∷ log) (waits ++ heard act log)
 Takes new log waits act (Ok None) = (is_live act (history log) ≡ false) × Seated new log waits
 Takes new log waits act (Err NoMemory) = Seated new log waits
-Takes new log waits act (Err Full) = (length log ≡ 4294967295) × Seated new log waits
+Takes new log waits act (Err Full) =
+    (length log ≡ 4294967295) × (is_live act (history log) ≡ true) × Seated new log waits
 Takes new log waits act (Err Long) = (fits act ≡ false) × Seated new log waits
-Takes new log waits act (Err Many) = Seated new log waits
+Takes new log waits act (Err Many) = (is_live act (history log) ≡ true) × Seated new log waits
 
 -- An act that was taken makes none too many, and is counted. One that was refused for that makes one
 -- too many. After that and all else the same are counted.

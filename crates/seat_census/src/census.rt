@@ -1,5 +1,5 @@
 //! The live objects, counted.
-ghost use Rattle.std.specs.Prelude.{◌≡◌, ◌<◌, ◌==◌, ◌&&◌, ◌∷◌, List, [], not, count_by, filter, option_map};
+ghost use Rattle.std.specs.Prelude.{◌≡◌, ◌<◌, ◌≤◌, ◌==◌, ◌&&◌, ◌∷◌, List, [], not, count_by, filter, option_map};
 ghost use Rattle.std.specs.Prelude.{OnOk};
 ghost use Rattle.relay_model.specs.declared.act.Act.{Act};
 ghost use Rattle.relay_model.specs.Objects.{made, maker, next};
@@ -152,6 +152,7 @@ impl Census {
         ensures limits { self.new.limits ≡ self.old.limits }
         ensures living { self.new.living ≡ self.old.living }
         ensures room { OnOk result (0 < self.new.room) }
+        ensures never_less { self.old.room ≤ self.new.room }
     {
         self.living.reserve(1)?;
         Ok(())

@@ -1,5 +1,5 @@
 -- What C is given of the events that wait.
-use Rattle.std.specs.Prelude.{◌≡◌, ◌⊎◌, ◌≤◌, ℕ, ℤ, pos, negsuc, ◌++◌, List, [], ◌∷◌, length, Option, Some, None}
+use Rattle.std.specs.Prelude.{◌≡◌, ◌⊎◌, ◌+◌, ◌≤◌, ℕ, ℤ, pos, negsuc, ◌++◌, List, [], ◌∷◌, length, drop, Option, Some, None}
 use Rattle.relay_model.specs.declared.act.Act.{Act}
 use Rattle.relay_core.specs.Stands.{StandsFor}
 use Rattle.relay_seat.specs.Events.{Heard}
@@ -7,9 +7,9 @@ use Rattle.relay_seat.specs.Seated.{Seat}
 use Rattle.numbered_seat.specs.Numbers.{Numbered, number_at}
 use Rattle.wlim_c.specs.declared.events.Given.{Given}
 
--- the text with a zero behind it stands at the front of the bytes
-abbrev pub IsZeroEnded : (text bytes : List ℕ) → Type 0
-IsZeroEnded text bytes = (behind : List ℕ) × (bytes ≡ text ++ 0 ∷ behind)
+-- the text with a zero behind it stands at the front of the bytes after, which are else those before
+abbrev pub IsZeroEnded : (text before after : List ℕ) → Type 0
+IsZeroEnded text before after = after ≡ text ++ 0 ∷ drop (length text + 1) before
 
 -- nothing waits, which is answered by 0, or the event that does has no room, by -6; nothing is
 -- written
@@ -29,11 +29,11 @@ IsSame old new =
 
 -- the event that waited longest was written, with its text and its object's number, and waits no
 -- more; the seat stands for the same acts
-pub record GaveFirst (old new : Numbered) (given : Given) (bytes : List ℕ) : Type 0 where
+pub record GaveFirst (old new : Numbered) (given : Given) (before after : List ℕ) : Type 0 where
   pub text : List ℕ
   pub first : old.seat.heard ≡ record { event = given.event; text = text } ∷ new.seat.heard
   pub number : given.number ≡ number_at old.numbers given.event.to
-  pub written : IsZeroEnded text bytes
+  pub written : IsZeroEnded text before after
   pub relay : (log : List Act) → StandsFor old.seat.relay log → StandsFor new.seat.relay log
   pub living : new.seat.living ≡ old.seat.living
   pub limits : new.seat.limits ≡ old.seat.limits
@@ -43,7 +43,7 @@ pub record GaveFirst (old new : Numbered) (given : Given) (bytes : List ℕ) : T
 abbrev pub Gave : (old new : Numbered) → (was given : Given) → (before after : List ℕ) → ℤ → Type 0
 Gave old new was given before after result =
     (GaveNone old.seat before result × IsSame old new × (given ≡ was) × (after ≡ before))
-    ⊎ ((result ≡ pos 1) × GaveFirst old new given after)
+    ⊎ ((result ≡ pos 1) × GaveFirst old new given before after)
 
 -- what C had was asked: none, which answers that it is closed and writes nothing, or a seat
 abbrev pub GaveOf : (old new : Option Numbered) → (was given : Given) → (before after : List ℕ) →

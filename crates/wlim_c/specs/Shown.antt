@@ -27,15 +27,12 @@ shown_of log = record {
 }
 
 -- What C had was asked: none, which is answered by false, with nothing written. Or a seat, which
--- stands for the same acts, and where the same events wait and each label has the number that it
--- had.
+-- stays as it was, and what stands on it is shown.
 abbrev pub IsShown : (old new : Option Numbered) → (before after : Shown) → Bool → Type 0
 IsShown None new before after result = (new ≡ None) × (result ≡ false) × (after ≡ before)
-IsShown (Some old) None before after result = ⊥
-IsShown (Some old) (Some new) before after result =
-    (result ≡ true) × (new.numbers ≡ old.numbers)
-    × ((log : List Act) → (waits : List Heard) → Seated old.seat log waits →
-    Seated new.seat log waits × (after ≡ shown_of log))
+IsShown (Some old) new before after result =
+    (new ≡ Some old) × (result ≡ true)
+    × ((log : List Act) → (waits : List Heard) → Seated old.seat log waits → after ≡ shown_of log)
 
 -- the label's number was asked; 0 where it has none, or no seat is open
 abbrev pub IsNumber : (old new : Option Numbered) → (label result : ℕ) → Type 0

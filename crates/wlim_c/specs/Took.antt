@@ -1,6 +1,6 @@
 -- What the functions that C calls owe where they give the seat an act, in the words of the safe
 -- calls.
-use Rattle.std.specs.Prelude.{◌≡◌, ◌⊎◌, ◌<◌, ℕ, ℤ, pos, negsuc, List, [], length, Bool, true, false, Option, Some, None, Result, Ok, Err}
+use Rattle.std.specs.Prelude.{◌≡◌, ◌⊎◌, ◌<◌, ◌≤◌, ℕ, ℤ, pos, negsuc, List, [], length, Bool, true, false, Option, Some, None, Result, Ok, Err}
 use Rattle.wl_wire.specs.Texts.{is_text}
 use Rattle.relay_model.specs.declared.act.Act.{Act}
 use Rattle.relay_model.specs.declared.act.Act.TheVariants as acts
@@ -50,15 +50,22 @@ NoText most bytes answer =
     ((answer ≡ negsuc 2) × (most < length bytes)) ⊎ (answer ≡ negsuc 0)
     ⊎ ((answer ≡ negsuc 3) × (is_text bytes ≡ false))
 
+-- the bytes are a text, of so many at most
+abbrev pub IsTextOf : (most : ℕ) → List ℕ → Type 0
+IsTextOf most bytes = (is_text bytes ≡ true) × (length bytes ≤ most)
+
+-- the text is the bytes, which are one, or why they were not taken
 abbrev pub TextRead : (most : ℕ) → List ℕ → Result (List ℕ) ℤ → Type 0
-TextRead most bytes (Ok text) = text ≡ bytes
+TextRead most bytes (Ok text) = IsTextOf most bytes × (text ≡ bytes)
 TextRead most bytes (Err answer) = NoText most bytes answer
 
--- an act with a text was given to what C had, or the bytes were not taken and all is as before
+-- the bytes are a text, and an act with it was given to what C had, or they were not taken and all
+-- is as before
 abbrev pub TookText : Option Numbered → Option Numbered → (most : ℕ) → List ℕ → (List ℕ → Act) → ℤ →
     Type 0
 TookText old new most bytes act result =
-    Took old new (act bytes) result ⊎ ((new ≡ old) × NoText most bytes result)
+    (IsTextOf most bytes × Took old new (act bytes) result)
+    ⊎ ((new ≡ old) × NoText most bytes result)
 
 -- a seat that took no act, with these limits, where no label has a number, or none, as the answer
 -- says

@@ -14,9 +14,11 @@ use std::alloc::Global;
 pub struct Told {
     /// `PASS`, `PLACED` or `VMODS` of `kind`.
     pub kind: u32,
-    /// Whose message told it: its peer; 0 where none did, as with a key of the seat's keyboard.
+    /// Of `PASS` and `VMODS` whose message told it: its peer; 0 where none did, as with a key of the
+    /// seat's keyboard. Of `PLACED` 0, also where a message placed it, as a field's commit.
     pub peer: u32,
-    /// The object that the message went to, as a virtual keyboard, by its id there; 0 where none told it.
+    /// The object that the message went to, as a virtual keyboard, by its id there; 0 where `peer`
+    /// is 0.
     pub id: u32,
     /// Of `PASS` the time, of `PLACED` the popup's peer, of `VMODS` the depressed modifiers.
     pub first: u32,

@@ -37,9 +37,10 @@ fn give(seat: &mut NumberedSeat, given: &mut Given, text: &mut [u8]) -> i64
     answer::GIVEN
 }
 
-/// Hands out the event that waits longest: writes it to `event`, and to `text` its text with a zero behind it. 1 with
-/// an event, 0 where none waits. Where `text` has no room for the text and the zero, the event waits on, and nothing is
-/// written; with 4,084 bytes there is room always.
+/// Hands out the event that waits longest: writes it to `event`, and to `text` its text with a zero
+/// behind it; what stands behind the zero stays. 1 with an event, 0 where none waits. Where `text`
+/// has no room for the text and the zero, the event waits on, and nothing is written; with 4,084
+/// bytes there is room always.
 #[unsafe(no_mangle)]
 pub extern "C" fn wlim_next(
     seat: &mut Wlim,

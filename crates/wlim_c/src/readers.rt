@@ -48,7 +48,8 @@ fn show(seat: &RelaySeat) -> Shown
     }
 }
 
-/// Writes what stands on the seat. False where none is open: nothing is written then.
+/// Writes what stands on the seat, which stays as it is. False where none is open: nothing is
+/// written then.
 #[unsafe(no_mangle)]
 pub extern "C" fn wlim_look(seat: &mut Wlim, alloc: Global, shown: &mut Shown) -> bool
     ensures { IsShown seat.old.held.seat seat.new.held.seat shown.old shown.new result }

@@ -10,7 +10,7 @@ use Rattle.relay_seat.proofs.laws.served_law.Goals as goal
 pub returns-clause-taken : goal.returns-clause-taken
 returns-clause-taken c = λ old new log handed act number takes s. record {
   waits = s.waits ++ heard act log;
-  seated = (takes s.waits s.seated).2;
+  seated = (takes s.waits s.seated).3;
   whole = sym (append_assoc handed s.waits (heard act log)) ∙ ap (λ w. w ++ heard act log) s.whole;
 }
 
@@ -21,9 +21,9 @@ returns-clause-idle c =
 seated_still : (new : Seat) (log : List Act) (waits : List Heard) (act : Act) (refusal : Refusal) →
     Takes new log waits act (Err refusal) → Seated new log waits
 seated_still new log waits act NoMemory h = h
-seated_still new log waits act Full h = h.1
+seated_still new log waits act Full h = h.2
 seated_still new log waits act Long h = h.1
-seated_still new log waits act Many h = h
+seated_still new log waits act Many h = h.1
 
 pub returns-clause-refused : goal.returns-clause-refused
 returns-clause-refused c = λ old new log handed act refusal takes s.

@@ -24,9 +24,9 @@ returns c =
     let same : c.in-Some.first.length ≡ event.length = ap (first_length 0) (sym first.2 ∙ handed.1) in
     let room : 0 < length (drop (length text) before) =
     omega (arith, length-drop (length text) before, n, same, c.if-text-first.false) in
-    let zero : IsZeroEnded text (slice_set c.pull.new.text event.length 0) =
-    subst (λ bytes. IsZeroEnded text (slice_set bytes event.length 0)) (sym handed.3)
-    (zero_behind text (drop (length text) before) event.length n room) in
+    let zero : IsZeroEnded text before (slice_set c.pull.new.text event.length 0) =
+    subst (λ bytes. IsZeroEnded text before (slice_set bytes event.length 0)) (sym handed.3)
+    (zero_behind text before event.length n room) in
     inr (
       refl,
       record {

@@ -10,4 +10,4 @@ returns c =
     let same : c.seat.result.now ≡ old.seat = c.seat.ensures ∙ ap (λ (s : Numbered). s.seat) c.deref.ensures in
     subst (λ before. IsShown before c.put.new.w.held.seat c.args.shown.now c.show.result true) c.in-Some.ensures.value
     (subst (λ after. IsShown (Some old) after c.args.shown.now c.show.result true) (sym c.put.ensures)
-    (refl, refl, λ log waits s. (s, c.show.ensures log waits (subst (λ (v : Seat). Seated v log waits) (sym same) s))))
+    (refl, refl, λ log waits s. c.show.ensures log waits (subst (λ (v : Seat). Seated v log waits) (sym same) s)))

@@ -27,6 +27,7 @@ returns-clause-takes c = λ log waits s.
           subst (λ r. Takes new log waits act r) (sym w.result-is) (
             omega (arith, counted),
             sym (c.is_live.ensures log before) ∙ c.if-not-is_live.false,
+            sym c.fits.ensures ∙ c.if-not-fits.false,
             record {
               relay = w.in-Ok.ensures.stands log before;
               queue = w.in-Ok.ensures.told log before ∙ ap (λ h. h ++ heard act log) wait;
