@@ -24,17 +24,15 @@ use Rattle.ready_jobs.specs.Begun.{AreBack}
 use Rattle.ready_jobs.proofs.LightMessages.{light_next}
 use Rattle.ready_jobs.proofs.StepsFew.{joined_one, back_one, back_few}
 
--- a join that was refused for the journal
+-- a join that was refused by the rules
 
 abbrev none_joined : JoinRefusal → Result ℕ JoinRefusal
 none_joined why = Err why
 
-refused_full : (o : Option JoinRefusal) (kept : Kept) →
-    IfSome o (λ why. none_joined (join.JournalFull kept) ≡ Err why) →
-    IfNone o (IsOkUnless (none_joined (join.JournalFull kept)) join.NoMemory) → o ≡ Some (join.JournalFull kept)
-refused_full None kept some none = absurd (let no : join.JournalFull kept ≡ join.NoMemory = none in cc)
-refused_full (Some why) kept some none =
-    let e : none_joined (join.JournalFull kept) ≡ none_joined why = some in cc
+refused_so : (o : Option JoinRefusal) (why : JoinRefusal) → (why ≡ join.NoMemory → ⊥) →
+    IfSome o (λ w. none_joined why ≡ Err w) → IfNone o (IsOkUnless (none_joined why) join.NoMemory) → o ≡ Some why
+refused_so None why other some none = absurd (other none)
+refused_so (Some w) why other some none = let e : none_joined why ≡ none_joined w = some in cc
 
 full_there : (many : Bool) (o : Option Kept) (kept : Kept) →
     (if many then Some (join.TooManyPeers 64) else option_map (λ k. join.JournalFull k) o)
@@ -45,7 +43,14 @@ full_there false (Some k) kept e = let same : Some (join.JournalFull k) ≡ Some
 
 join_cause : (limits : Limits) (root : PassSeat) (after : History) (role : Role) (why : JoinRefusal) →
     LegalJoin limits root after role (Err why) → HasCause limits after (refused_by why)
-join_cause limits root after role (join.TooManyPeers alive) k = tt
+join_cause limits root after role (join.TooManyPeers alive) k =
+    let turn : History = root.seen ++ k.rest in
+    let b : Broker = broker_of limits turn in record {
+      role = role;
+      refused = ap (λ (h : History). join_refusal (broker_of limits h) role) k.answer.same
+          ∙ refused_so (join_refusal b role) (join.TooManyPeers alive)
+          (λ (e : join.TooManyPeers alive ≡ join.NoMemory). cc) k.answer.refused k.answer.accepted;
+    }
 join_cause limits root after role join.NoMemory k = tt
 join_cause limits root after role (join.JournalFull kept) k =
     let turn : History = root.seen ++ k.rest in
@@ -56,7 +61,8 @@ join_cause limits root after role (join.JournalFull kept) k =
       entry = entries.Join role;
       light = omega arith;
       full = full_there (nat_le 64 (number_alive b.journal)) (full_for b (entries.Join role)) kept
-          (refused_full (join_refusal b role) kept k.answer.refused k.answer.accepted);
+          (refused_so (join_refusal b role) (join.JournalFull kept)
+          (λ (e : join.JournalFull kept ≡ join.NoMemory). cc) k.answer.refused k.answer.accepted);
     }
 
 pub join_without : (hub : HubId) (root after : PassSeat) (role : Role) (most : ℕ) (why : JoinRefusal) →
@@ -67,6 +73,7 @@ join_without hub root after role most why ours is k =
       of = subst (λ (s : PassSeat). IsOf hub s) (sym is) ours;
       number = number;
       out = ap (λ (s : PassSeat). s.out) is;
+      next = (let next = ap (λ (s : PassSeat). s.next) is in omega arith);
       cause = join_cause hub.limits root after.seen role why k;
       made = subst (λ (n : ℕ). length (own n after.seen) ≤ steps_of root + 1) (sym number)
           (joined_one hub.limits root after.seen role (Err why) k);
@@ -81,6 +88,7 @@ untried hub root most ours = record {
   of = ours;
   number = refl;
   out = refl;
+  next = omega arith;
   cause = tt;
   made = omega arith;
   back = [];
@@ -117,12 +125,16 @@ setup_cause limits before after q setup (stops.JournalFull kept) k = record {
   full = k.why;
 }
 
+-- a set-up isn't left out because of many peers
+abbrev pub IsNotMany : NoJob → Type 0
+IsNotMany why = (n : ℕ) → why ≡ none.TooManyPeers n → ⊥
+
 -- what was full was so, whatever the root has seen besides
-cause_more : (limits : Limits) (seen rest after : History) (why : NoJob) → after ≡ seen ++ rest →
+cause_more : (limits : Limits) (seen rest after : History) (why : NoJob) → IsNotMany why → after ≡ seen ++ rest →
     HasCause limits seen why → HasCause limits after why
-cause_more limits seen rest after (none.TooManyPeers alive) is k = tt
-cause_more limits seen rest after none.NoMemory is k = tt
-cause_more limits seen rest after (none.JournalFull kept) is k = record {
+cause_more limits seen rest after (none.TooManyPeers alive) few is k = absurd (few alive refl)
+cause_more limits seen rest after none.NoMemory few is k = tt
+cause_more limits seen rest after (none.JournalFull kept) few is k = record {
   front = k.front;
   more = k.more ++ rest;
   is = is ∙ ap (λ (h : History). h ++ rest) k.is ∙ append_assoc k.front k.more rest;
@@ -134,20 +146,24 @@ cause_more limits seen rest after (none.JournalFull kept) is k = record {
 pub back_without : (hub : HubId) (before root after : PassSeat) (role : Role) (first reader writer : PeerPass)
     (most : ℕ) (why : NoJob) → IsOf hub before → IsJoined hub.limits before root role first writer →
     NoneOf writer.seat.number writer.seat.seen → AreBack root after reader.seat writer.seat →
-    HasCause hub.limits reader.seat.seen why → steps_of reader.seat ≤ most → IsWithout hub before after most why
-back_without hub before root after role first reader writer most why ours k fresh back cause few =
+    HasCause hub.limits reader.seat.seen why → IsNotMany why → steps_of reader.seat ≤ most →
+    IsWithout hub before after most why
+back_without hub before root after role first reader writer most why ours k fresh back cause not few =
     let mid : PassSeat = met_with root reader.seat in
     let theirs = back.first.theirs in
     let mine = back.then.mine in
     let out : after.out ≡ root.out - 1 - 1 = ap (λ (s : PassSeat). s.out) back.left in
     let two : root.out ≡ before.out + 1 + 1 = ap (λ (s : PassSeat). s.out) k.left in
+    let next : after.next ≡ before.next + 1 + 1 =
+    ap (λ (s : PassSeat). s.next) back.left ∙ ap (λ (s : PassSeat). s.next) k.left in
     let number : after.number ≡ before.number =
     ap (λ (s : PassSeat). s.number) back.left ∙ ap (λ (s : PassSeat). s.number) k.left in record {
       of = subst (λ (s : PassSeat). IsOf hub s) (sym back.left) (subst (λ (s : PassSeat). IsOf hub s) (sym k.left) ours);
       number = number;
       out = omega (arith, out, two);
-      cause = cause_more hub.limits mid.seen mine.0 after.seen why mine.1
-          (cause_more hub.limits reader.seat.seen theirs.0 mid.seen why theirs.1 cause);
+      next = omega (arith, next);
+      cause = cause_more hub.limits mid.seen mine.0 after.seen why not mine.1
+          (cause_more hub.limits reader.seat.seen theirs.0 mid.seen why not theirs.1 cause);
       made = subst (λ (n : ℕ). length (own n after.seen) ≤ steps_of before + 1) (sym number)
           (back_one hub.limits before root after role first reader writer k back);
       back = writer.seat.number ∷ reader.seat.number ∷ [];

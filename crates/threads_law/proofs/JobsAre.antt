@@ -10,7 +10,7 @@ use Rattle.turn_lock.specs.Pairs.{IsIn}
 use Rattle.hub_lock.specs.declared.step.OuterStep.{OuterStep}
 use Rattle.hub_lock.specs.Histories.{History}
 use Rattle.hub_lock.specs.Passes.{HubId, PeerPass}
-use Rattle.pass_calls.specs.Counted.{AreOfPasses}
+use Rattle.pass_calls.specs.Counted.{entries_of_pass, AreOfPasses}
 use Rattle.trial_run.specs.declared.typist.TrialTypist.{TrialTypist}
 use Rattle.trial_run.specs.Trial.{typist_of}
 use Rattle.method_law.specs.MethodLaws.{IsWritten}
@@ -28,6 +28,7 @@ use Rattle.trial_threads.specs.Back.{numbers_of, numbers_after, numbers_in}
 use Rattle.trial_threads.specs.Peers.{IsPeer, PeerOf, ArePeers}
 use Rattle.trial_threads.specs.Whole.{IsSeenBy, ArePasses, IsTrial, users_of}
 use Rattle.threads_law.proofs.JobsShaped.{AreFields, HasShape, all_front, all_back, HasRunning, running_of}
+use Rattle.trial_threads.proofs.JoinsOfJobs.{only_joins}
 use Rattle.trial_threads.proofs.ScriptFits.{is_fresh, committed_front, short_front, orders_fit}
 
 -- ---- peers
@@ -240,7 +241,7 @@ jobs_are s t written w p =
         method_peer = k.method_peer;
         field_peers = k.field_peers;
         shell_seen = subst (ArePasses h) p.rest.last_is k.last.seen;
-        joins = w.root;
+        joins = only_joins (entries_of_pass 0 h) w.jobs w.root;
         each = each_of w.jobs s.fields time s.actions p h w.passes;
         fresh = is_fresh s written;
         short = short_front p.method s.actions p.batches written.actions

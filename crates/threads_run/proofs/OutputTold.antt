@@ -1,10 +1,9 @@
 -- What is told of an output, where words ask for a number.
-use Rattle.std.proofs.Common.{◌≡◌, ℕ, ◌<◌, ◌≤◌, List, length, take, Option, Some, sym, ap, ◌∙◌, subst, arith}
+use Rattle.std.proofs.Common.{◌≡◌, ℕ, ◌<◌, List, length, take, Option, Some, sym, ap, ◌∙◌, subst, arith}
 use Rattle.std.specs.Prelude.{IfSome}
 use Rattle.std.specs.Io.KnownBytes.{Appends}
-use Rattle.gen_run.specs.Texts.{GrowsByFront}
 use Rattle.trial_threads.specs.declared.trial.ThreadTrial.{ThreadTrial}
-use Rattle.threads_run.specs.Output.{output_of}
+use Rattle.threads_run.specs.Output.{output_of, GrowsByPart}
 use Rattle.threads_run.specs.Played.{IsPlayed}
 
 -- the text is the output of a trial of the number
@@ -19,12 +18,12 @@ asked_whole held held' asked n text bytes is told same appends =
     subst (λ a. IfSome a (λ n. (t : ThreadTrial) × IsPlayed n t × Appends held held' (output_of t))) (sym is)
     (told.0, told.1, subst (Appends held held') (same ∙ told.2) appends)
 
--- a front of it did
+-- a front of it did, and not the whole
 pub asked_front : (held held' : Option (List ℕ)) (asked : Option ℕ) (n : ℕ) (text bytes : List ℕ) → asked ≡ Some n
     → IsOutputOf n text → bytes ≡ text → ((m : ℕ) × (m < length bytes) × Appends held held' (take m bytes))
-    → IfSome asked (λ n. (t : ThreadTrial) × IsPlayed n t × GrowsByFront held held' (output_of t))
+    → IfSome asked (λ n. (t : ThreadTrial) × IsPlayed n t × GrowsByPart held held' (output_of t))
 asked_front held held' asked n text bytes is told same front =
     let whole : bytes ≡ output_of told.0 = same ∙ told.2 in
-    let within : front.0 ≤ length (output_of told.0) = (let lt = front.1 in let len = ap length whole in omega (arith, lt, len)) in
-    subst (λ a. IfSome a (λ n. (t : ThreadTrial) × IsPlayed n t × GrowsByFront held held' (output_of t))) (sym is)
+    let within : front.0 < length (output_of told.0) = (let lt = front.1 in let len = ap length whole in omega (arith, lt, len)) in
+    subst (λ a. IfSome a (λ n. (t : ThreadTrial) × IsPlayed n t × GrowsByPart held held' (output_of t))) (sym is)
     (told.0, told.1, (front.0, within, subst (λ b. Appends held held' (take front.0 b)) whole front.2))

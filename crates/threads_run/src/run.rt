@@ -3,10 +3,9 @@ ghost use Rattle.std.specs.Prelude.{◌≡◌, ◌≢◌, ◌≤◌, ◌↔◌, 
 ghost use Rattle.std.specs.Io.KnownBytes.{Appends};
 ghost use Rattle.wio_core.specs.Io.{Rose};
 ghost use Rattle.broker_model.specs.declared.journal.Kept.{Kept};
-ghost use Rattle.gen_run.specs.Texts.{GrowsByFront};
 ghost use Rattle.trial_threads.specs.declared.trial.ThreadTrial.{ThreadTrial};
 ghost use Rattle.threads_run.specs.Words.{number_asked};
-ghost use Rattle.threads_run.specs.Output.{output_of};
+ghost use Rattle.threads_run.specs.Output.{output_of, GrowsByPart};
 ghost use Rattle.threads_run.specs.Played.{IsPlayed, IsCutOff, MayCome};
 
 use crate::command::number_asked;
@@ -42,11 +41,11 @@ pub fn run_threads<R: Threads + Wait + Sync, G: Gate + Sync, K: Sink>(
         (λ n. (t : ThreadTrial) × IsPlayed n t
         × Appends (K.held output.old) (K.held output.new) (output_of t)) }
 
-    // Where a write failed, a front of such an output was written.
+    // Where a write failed, a front of such an output was written, and not the whole.
     ensures front { result ≡ Status.WriteFault →
         IfSome (number_asked (map string_bytes words.now))
         (λ n. (t : ThreadTrial) × IsPlayed n t
-        × GrowsByFront (K.held output.old) (K.held output.new) (output_of t)) }
+        × GrowsByPart (K.held output.old) (K.held output.new) (output_of t)) }
 
     // The journal was full for a step of a trial of the number.
     ensures full { result ≡ Status.JournalFull →
@@ -60,7 +59,7 @@ pub fn run_threads<R: Threads + Wait + Sync, G: Gate + Sync, K: Sink>(
     // No other status comes.
     ensures known { MayCome result }
 
-    // A fault has its cause, and no write that failed is tried again.
+    // A fault has its cause, and no other status hides a failed write.
     ensures write_fault { result ≡ Status.WriteFault →
         Rose (K.fault_count output.old) (K.fault_count output.new) }
     ensures writes_never_fall { K.fault_count output.old ≤ K.fault_count output.new }

@@ -1,6 +1,5 @@
 -- As many peers have joined as the root made steps, where these are joins
 use Rattle.std.proofs.Common.{◌≡◌, ◌≢◌, ℕ, zero, suc, ◌+◌, List, [], ◌∷◌, ◌++◌, length, map, reverse, Bool, true, false, Option, Some, None, refl, sym, ap, subst, ◌∙◌, arith, length-append}
-use Rattle.std.specs.List.{AllByRecursion}
 use Rattle.std.proofs.lemmas.List.{reverse-append}
 use Rattle.std.proofs.lemmas.Bool.{false≢true}
 use mathlib.Core.Logic.{dite}
@@ -18,6 +17,7 @@ use Rattle.hub_lock.specs.Histories.{History, entries_of}
 use Rattle.hub_lock.specs.Lawful.{IsLawful, IsMadeBy, AreMadeBy}
 use Rattle.pass_calls.specs.Made.{journal_of}
 use Rattle.pass_calls.specs.Counted.{entries_of_pass, is_join}
+use Rattle.trial_threads.proofs.JoinsOfJobs.{AreJoins}
 
 -- how many of the entries are joins
 
@@ -62,9 +62,6 @@ joined_in store (e ∷ older) =
     let same = ap length (same_settled store (e ∷ journal)).joined in omega arith
 
 -- a step is a join exactly where it is the root's
-
-abbrev AreJoins : List Entry → Type 0
-AreJoins es = AllByRecursion (λ (e : Entry). is_join e ≡ true) es
 
 abbrev entry_in : OuterStep → Entry
 entry_in s = s.entry

@@ -9,6 +9,7 @@ pub mod JobsPlayed
 pub mod PartsTaken
 pub mod PassesBack
 pub mod TrialTold
+pub mod JoinsOfJobs
 pub mod JoinsCounted
 pub mod PeersBegin
 pub mod PeersStay

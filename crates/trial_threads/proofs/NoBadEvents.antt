@@ -47,6 +47,7 @@ use Rattle.trial_threads.specs.Jobs.{part_of, parts_in, HasEnd, HasRun}
 use Rattle.trial_threads.specs.Back.{numbers_of, numbers_after, numbers_in}
 use Rattle.trial_threads.specs.Peers.{IsPeer, PeerOf, ArePeers}
 use Rattle.trial_threads.specs.Whole.{IsSeenBy, ArePasses, IsTrial}
+use Rattle.trial_threads.proofs.JoinsOfJobs.{only_joins}
 use Rattle.trial_threads.proofs.ScriptFits.{FitsBatch, all_fit, committed_front, short_by, orders_fit}
 
 -- ---- users
@@ -302,4 +303,5 @@ pub trials_hear_no_bad_event : (typist : TrialTypist) (number time : ℕ) (all :
 trials_hear_no_bad_event typist number time all t fresh each trial =
     none_heard_bad trial.hub typist trial.h trial.jobs fresh
     (subst AreUsers (sym trial.users) (users_are number time all each))
-    trial.run trial.seen trial.lawful trial.peers trial.root trial.passes
+    trial.run trial.seen trial.lawful trial.peers
+    (only_joins (entries_of_pass 0 trial.h) trial.jobs trial.root) trial.passes

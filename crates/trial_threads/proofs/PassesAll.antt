@@ -1,6 +1,5 @@
--- Each step of a trial's history is the root's or of one of the jobs' passes, and the root only joined
-use Rattle.std.proofs.Common.{◌≡◌, ℕ, ◌≤◌, ◌+◌, ◌-◌, List, [], ◌∷◌, ◌++◌, length, map, true, Ok, refl, sym, ap, subst, ◌∙◌, arith}
-use Rattle.std.specs.List.{AllByRecursion}
+-- Each step of a trial's history is the root's or of one of the jobs' passes, and the root joined the jobs' peers alone
+use Rattle.std.proofs.Common.{◌≡◌, ℕ, ◌≤◌, ◌+◌, ◌-◌, List, [], ◌∷◌, ◌++◌, length, map, Ok, refl, sym, ap, subst, ◌∙◌, arith}
 use Rattle.seat_steps.specs.declared.limits.Limits.{Limits}
 use Rattle.broker_model.specs.declared.journal.Entry.{Entry}
 use Rattle.broker_model.specs.Settle.{outer}
@@ -15,11 +14,11 @@ use Rattle.hub_lock.specs.Histories.{History, broker_of}
 use Rattle.hub_lock.specs.Passes.{PassSeat, total_steps}
 use Rattle.hub_lock.specs.Calls.{LegalCopy}
 use Rattle.hub_lock.proofs.JournalOfSteps.{length-entries, outer-journal}
-use Rattle.pass_calls.specs.Counted.{entries_of_pass, AreOfPasses, is_join}
+use Rattle.pass_calls.specs.Counted.{entries_of_pass, AreOfPasses}
 use Rattle.pass_calls.proofs.PassesCounted.{steps_are_of_passes, seen_stays}
 use Rattle.trial_threads.specs.declared.running.Running.{Running}
 use Rattle.trial_threads.specs.Back.{numbers_after, numbers_in, TookAllBack}
-use Rattle.trial_threads.specs.Peers.{HaveJoined}
+use Rattle.trial_threads.specs.Peers.{joins_of, HaveJoined}
 
 -- the session has as many outer steps as the history
 pub as_long : (limits : Limits) (root after : PassSeat) (s : Session) → LegalCopy limits root after.seen (Ok s) →
@@ -63,12 +62,11 @@ module _ (root root' : PassSeat) (n : ℕ) (rs : List Running) (fields : List (L
         steps_are_of_passes (0 ∷ numbers_in rs) root''.seen once_all
         (ap (λ (ns : List ℕ). total (0 ∷ ns) root''.seen) (sym taken) ∙ sym (steps none_out) ∙ as_long limits root' root'' s k)
 
--- what the root made are joins
+-- what the root made are the joins of the jobs' peers
 pub root_joins : (limits : Limits) (root root' : PassSeat) (n : ℕ) (rs : List Running) (fields : List (List FieldEntry))
     (method : List MethodEntry) (after : History) (s : Session) → HaveJoined root n rs →
     TookAllBack root root' rs fields method → LegalCopy limits root' after (Ok s) →
-    AllByRecursion (λ (e : Entry). is_join e ≡ true) (entries_of_pass 0 after)
+    entries_of_pass 0 after ≡ joins_of rs
 root_joins limits root root' n rs fields method after s h took k =
-    subst (λ (steps : List OuterStep). AllByRecursion (λ (e : Entry). is_join e ≡ true)
-    (map (λ (x : OuterStep). x.entry) steps))
-    (sym (own-seen after root.seen 0 (seen_since limits root root' rs fields method after s h.number took k))) h.joins
+    ap (map (λ (x : OuterStep). x.entry))
+    (own-seen after root.seen 0 (seen_since limits root root' rs fields method after s h.number took k)) ∙ h.joins

@@ -1,9 +1,9 @@
--- The peers of jobs that begin have numbers in order, and the root only joins
-use Rattle.std.proofs.Common.{◌≡◌, ℕ, ◌+◌, List, [], ◌∷◌, ◌++◌, length, map, true, Some, Ok, refl, sym, ap, subst, ◌∙◌, arith, append-nil, length-append}
+-- The peers of jobs that begin have numbers in order, and the root only joins them, each in its role
+use Rattle.std.proofs.Common.{◌≡◌, ℕ, ◌+◌, List, [], ◌∷◌, ◌++◌, length, map, Some, Ok, refl, sym, ap, subst, ◌∙◌, arith, append-nil, length-append}
 use Rattle.std.specs.Prelude.{option_map}
-use Rattle.std.specs.List.{AllByRecursion}
 use Rattle.std.proofs.lemmas.List.{map-append}
 use Rattle.relay_model.specs.declared.role.Role.{Role}
+use Rattle.relay_model.specs.declared.role.Role.TheVariants as roles
 use Rattle.seat_steps.specs.declared.limits.Limits.{Limits}
 use Rattle.broker_model.specs.declared.journal.Entry.{Entry}
 use Rattle.broker_model.specs.declared.journal.Entry.TheVariants as entries
@@ -14,7 +14,7 @@ use Rattle.hub_lock.specs.declared.step.OuterStep.{OuterStep}
 use Rattle.hub_lock.specs.Histories.{History, reader_of, writer_of, joining}
 use Rattle.hub_lock.specs.Passes.{HubId, PassSeat, PeerPass}
 use Rattle.hub_lock.specs.Calls.{IsJoined, LegalJoin}
-use Rattle.pass_calls.specs.Counted.{entries_of_pass, is_join}
+use Rattle.pass_calls.specs.Counted.{entries_of_pass}
 use Rattle.pass_calls.specs.Made.{entries_by}
 use Rattle.pass_calls.proofs.PassesGrow.{same_peer}
 use Rattle.ready_jobs.specs.Begun.{HasBegun}
@@ -25,13 +25,10 @@ use Rattle.trial_jobs.specs.declared.job.TrialJob.TheVariants as jobs
 use Rattle.trial_threads.specs.declared.running.Running.{Running}
 use Rattle.trial_threads.specs.Back.{numbers_of, numbers_in}
 use Rattle.trial_threads.specs.Jobs.{idle_job}
-use Rattle.trial_threads.specs.Peers.{IsPeer, SeesPeer, SeePeers, HaveJoined}
-use Rattle.trial_threads.proofs.JobsListed.{all_both}
+use Rattle.trial_threads.specs.Peers.{IsPeer, SeesPeer, SeePeers, join_of, joins_of, HaveJoined}
 use Rattle.trial_threads.proofs.JoinsCounted.{joined_count}
+use Rattle.trial_threads.proofs.JoinsOfJobs.{only_joins, joins_more}
 use Rattle.trial_threads.proofs.PassesBack.{numbers_more}
-
-abbrev AreJoins : List Entry → Type 0
-AreJoins es = AllByRecursion (λ (e : Entry). is_join e ≡ true) es
 
 abbrev entry_in : OuterStep → Entry
 entry_in s = s.entry
@@ -49,7 +46,8 @@ join_more before rest after s free is =
 
 module _ (limits : Limits) (root : PassSeat) (seen : History) (role : Role) (q n : ℕ)
     (k : LegalJoin limits root seen role (Ok q)) (zero-is : root.number ≡ 0) (made : length (own 0 root.seen) ≡ n)
-    (old : AreJoins (entries_of_pass 0 root.seen)) where
+    (rs : List Running) (r : Running) (job : join_of r.job ≡ entries.Join role ∷ [])
+    (old : entries_of_pass 0 root.seen ≡ joins_of rs) where
   abbrev step : OuterStep
   step = joining (entries.Join role) root.next
 
@@ -60,14 +58,17 @@ module _ (limits : Limits) (root : PassSeat) (seen : History) (role : Role) (q n
   pub made_one : length (own 0 seen) ≡ n + 1
   made_one = let l = ap length steps in let m = length-append (own 0 root.seen) (step ∷ []) in omega arith
 
-  pub joins_one : AreJoins (entries_of_pass 0 seen)
+  pub joins_one : entries_of_pass 0 seen ≡ joins_of (rs ++ r ∷ [])
   joins_one =
-      subst (λ (l : List OuterStep). AreJoins (map entry_in l)) (sym steps)
-      (subst AreJoins (sym (map-append entry_in (own 0 root.seen) (step ∷ [])))
-      (all_both (λ (e : Entry). is_join e ≡ true) (entries_of_pass 0 root.seen) (entry_in step ∷ []) old (refl, tt)))
+      ap (map entry_in) steps ∙ map-append entry_in (own 0 root.seen) (step ∷ [])
+      ∙ ap (λ (es : List Entry). es ++ entries.Join role ∷ []) old
+      ∙ ap (λ (es : List Entry). joins_of rs ++ es) (sym job) ∙ sym (joins_more rs r)
 
   pub peer_next : q ≡ n + 1
-  peer_next = k.answer.number ∙ joined_count limits seen k.lawful_after joins_one ∙ made_one
+  peer_next =
+      k.answer.number
+      ∙ joined_count limits seen k.lawful_after (only_joins (entries_of_pass 0 seen) (rs ++ r ∷ []) joins_one)
+      ∙ made_one
 
 -- ---- a peer's passes, as they begin
 
@@ -113,7 +114,7 @@ pub none_joined : (root : PassSeat) → root.number ≡ 0 → root.seen ≡ [] �
 none_joined root number seen out taken = record {
   number = number;
   made = ap (λ (h : History). length (own 0 h)) seen;
-  joins = subst (λ (h : History). AreJoins (entries_of_pass 0 h)) (sym seen) tt;
+  joins = ap (λ (h : History). entries_of_pass 0 h) seen;
   out = out;
   none = taken;
   peers = tt;
@@ -121,44 +122,49 @@ none_joined root number seen out taken = record {
 
 peer_joined : (limits : Limits) (root root' : PassSeat) (role : Role) (reader writer : PeerPass) (rs : List Running)
     (r : Running) → HasBegun limits root root' role reader writer → NoneOf writer.seat.number writer.seat.seen →
-    length (numbers_of r.job) ≡ 2 →
+    length (numbers_of r.job) ≡ 2 → join_of r.job ≡ entries.Join role ∷ [] →
     ((q : ℕ) → IsPeer writer.seat.seen q reader writer → SeesPeer q r.job) → HaveJoined root (length rs) rs →
     HaveJoined root' (length (rs ++ r ∷ [])) (rs ++ r ∷ [])
-peer_joined limits root root' role reader writer rs r b fresh two is h = record {
+peer_joined limits root root' role reader writer rs r b fresh two job is h = record {
   number = ap (λ (s : PassSeat). s.number) b.joined.left ∙ h.number;
   made = ap (λ (s : PassSeat). length (own 0 s.seen)) b.joined.left
-      ∙ made_one limits root b.joined.seen role b.first.peer (length rs) b.joined.legal h.number h.made h.joins
+      ∙ made_one limits root b.joined.seen role b.first.peer (length rs) b.joined.legal h.number h.made rs r job h.joins
       ∙ sym (length-append rs (r ∷ []));
-  joins = subst (λ (s : PassSeat). AreJoins (entries_of_pass 0 s.seen)) (sym b.joined.left)
-      (joins_one limits root b.joined.seen role b.first.peer (length rs) b.joined.legal h.number h.made h.joins);
+  joins = ap (λ (s : PassSeat). entries_of_pass 0 s.seen) b.joined.left
+      ∙ joins_one limits root b.joined.seen role b.first.peer (length rs) b.joined.legal h.number h.made rs r job
+      h.joins;
   out = (let out = ap (λ (s : PassSeat). s.out) b.joined.left in
       let more = count_more rs r in let old = h.out in omega arith);
   none = ap (λ (s : PassSeat). s.taken) b.joined.left ∙ h.none;
   peers = see_more 1 rs r h.peers (subst (λ (m : ℕ). SeesPeer m r.job) (omega arith)
       (is (length rs + 1) (begun_peer limits root root' role reader writer (length rs) b fresh
-      (peer_next limits root b.joined.seen role b.first.peer (length rs) b.joined.legal h.number h.made h.joins))));
+      (peer_next limits root b.joined.seen role b.first.peer (length rs) b.joined.legal h.number h.made rs r job
+      h.joins))));
 }
 
-pub field_joined : (limits : Limits) (root root' : PassSeat) (role : Role) (rs : List Running) (job : FieldJob) →
-    HasBegun limits root root' role job.reader job.writer → NoneOf job.writer.seat.number job.writer.seat.seen →
+pub field_joined : (limits : Limits) (root root' : PassSeat) (rs : List Running) (job : FieldJob) →
+    HasBegun limits root root' roles.App job.reader job.writer → NoneOf job.writer.seat.number job.writer.seat.seen →
     HaveJoined root (length rs) rs →
     HaveJoined root' (length (rs ++ idle_job (jobs.Field job) ∷ [])) (rs ++ idle_job (jobs.Field job) ∷ [])
-field_joined limits root root' role rs job b fresh h =
-    peer_joined limits root root' role job.reader job.writer rs (idle_job (jobs.Field job)) b fresh refl (λ q p. p) h
+field_joined limits root root' rs job b fresh h =
+    peer_joined limits root root' roles.App job.reader job.writer rs (idle_job (jobs.Field job)) b fresh refl refl
+    (λ q p. p) h
 
-pub method_joined : (limits : Limits) (root root' : PassSeat) (role : Role) (rs : List Running) (job : MethodJob) →
-    HasBegun limits root root' role job.reader job.writer → NoneOf job.writer.seat.number job.writer.seat.seen →
+pub method_joined : (limits : Limits) (root root' : PassSeat) (rs : List Running) (job : MethodJob) →
+    HasBegun limits root root' roles.Method job.reader job.writer → NoneOf job.writer.seat.number job.writer.seat.seen →
     HaveJoined root (length rs) rs →
     HaveJoined root' (length (rs ++ idle_job (jobs.Method job) ∷ [])) (rs ++ idle_job (jobs.Method job) ∷ [])
-method_joined limits root root' role rs job b fresh h =
-    peer_joined limits root root' role job.reader job.writer rs (idle_job (jobs.Method job)) b fresh refl (λ q p. p) h
+method_joined limits root root' rs job b fresh h =
+    peer_joined limits root root' roles.Method job.reader job.writer rs (idle_job (jobs.Method job)) b fresh refl refl
+    (λ q p. p) h
 
 pub shell_joined : (root root' : PassSeat) (n : ℕ) (rs : List Running) (job : ShellJob) → root' ≡ after_split root →
     HaveJoined root n rs → HaveJoined root' n (rs ++ idle_job (jobs.Shell job) ∷ [])
 shell_joined root root' n rs job left h = record {
   number = ap (λ (s : PassSeat). s.number) left ∙ h.number;
   made = ap (λ (s : PassSeat). length (own 0 s.seen)) left ∙ h.made;
-  joins = subst (λ (s : PassSeat). AreJoins (entries_of_pass 0 s.seen)) (sym left) h.joins;
+  joins = ap (λ (s : PassSeat). entries_of_pass 0 s.seen) left ∙ h.joins
+      ∙ sym (joins_more rs (idle_job (jobs.Shell job)) ∙ append-nil (joins_of rs));
   out = (let out = ap (λ (s : PassSeat). s.out) left in
       let more = count_more rs (idle_job (jobs.Shell job)) in let old = h.out in omega arith);
   none = ap (λ (s : PassSeat). s.taken) left ∙ h.none;

@@ -19,6 +19,7 @@ use Rattle.trial_threads.specs.Back.{numbers_of, numbers_after, numbers_in}
 use Rattle.trial_threads.specs.Peers.{IsPeer, PeerOf, ArePeers, SeesPeer, SeePeers, HaveJoined, AllJoined}
 use Rattle.trial_threads.specs.Whole.{IsSeenBy, ArePasses}
 use Rattle.trial_threads.proofs.JobsListed.{pairs_length}
+use Rattle.trial_threads.proofs.JoinsOfJobs.{joins_keep}
 
 -- the passes go on
 
@@ -99,7 +100,7 @@ joined_keep limits R root before after f k j = record {
   joined = record {
     number = j.joined.number;
     made = j.joined.made;
-    joins = j.joined.joins;
+    joins = j.joined.joins ∙ sym (joins_keep limits R before after f k);
     out = j.joined.out ∙ ap length (sym (all_numbers limits [] R before after f k));
     none = j.joined.none;
     peers = see_keep limits 1 R before after f k j.joined.peers;

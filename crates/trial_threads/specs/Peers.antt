@@ -1,12 +1,12 @@
 -- The peers of jobs, and what the root made of them
-use Rattle.std.specs.Prelude.{◌≡◌, ◌≤◌, ◌+◌, ℕ, true, List, [], ◌∷◌, length, map, Some}
-use Rattle.std.specs.List.{AllByRecursion}
+use Rattle.std.specs.Prelude.{◌≡◌, ◌≤◌, ◌+◌, ℕ, List, [], ◌∷◌, ◌++◌, length, map, Some}
+use Rattle.relay_model.specs.declared.role.Role.TheVariants as roles
 use Rattle.broker_model.specs.declared.journal.Entry.{Entry}
 use Rattle.broker_model.specs.declared.journal.Entry.TheVariants as entries
 use Rattle.turn_lock.specs.Pairs.{own}
 use Rattle.hub_lock.specs.Histories.{History, reader_of, writer_of}
 use Rattle.hub_lock.specs.Passes.{PassSeat, PeerPass}
-use Rattle.pass_calls.specs.Counted.{entries_of_pass, is_join}
+use Rattle.pass_calls.specs.Counted.{entries_of_pass}
 use Rattle.pass_calls.specs.Made.{entries_by}
 use Rattle.trial_jobs.specs.declared.job.TrialJob.{TrialJob}
 use Rattle.trial_jobs.specs.declared.job.TrialJob.TheVariants as jobs
@@ -43,13 +43,22 @@ abbrev pub SeePeers : ℕ → List Running → Type 0
 SeePeers q [] = Unit {0}
 SeePeers q (r ∷ rs) = SeesPeer q r.job × SeePeers (q + 1) rs
 
--- The root joined so many peers and made nothing else; the passes of these jobs are those that are
--- out, and none came back.
+-- the join of a job's peer, in its role, and those of these jobs, in order; the shell has no peer
+abbrev pub join_of : TrialJob → List Entry
+join_of (jobs.Field job) = entries.Join roles.App ∷ []
+join_of (jobs.Method job) = entries.Join roles.Method ∷ []
+join_of (jobs.Shell job) = []
+
+abbrev pub joins_of : List Running → List Entry
+joins_of [] = []
+joins_of (r ∷ rs) = join_of r.job ++ joins_of rs
+
+-- The root joined the peers of these jobs, so many, in order, each in its role, and made nothing
+-- else; their passes are those that are out, and none came back.
 pub record HaveJoined (root : PassSeat) (n : ℕ) (rs : List Running) : Type 0 where
   pub number : root.number ≡ 0
   pub made : length (own 0 root.seen) ≡ n
-  pub joins : AllByRecursion (λ (e : Entry). is_join e ≡ true)
-      (entries_of_pass 0 root.seen)
+  pub joins : entries_of_pass 0 root.seen ≡ joins_of rs
   pub out : root.out ≡ length (numbers_in rs)
   pub none : root.taken ≡ []
   pub peers : SeePeers 1 rs

@@ -1,8 +1,7 @@
 -- The law of a whole trial in threads
-use Rattle.std.specs.Prelude.{◌≡◌, ◌⊎◌, ◌%◌, ◌^◌, ℕ, List, [], ◌∷◌, Option, Some, None, Result, Ok, Err, IfOk, Bool, true}
+use Rattle.std.specs.Prelude.{◌≡◌, ◌⊎◌, ◌%◌, ◌^◌, ℕ, List, [], ◌∷◌, Option, Some, None, Result, Ok, Err, IfOk, Bool}
 use Rattle.std.specs.List.{AllByRecursion}
 use Rattle.seat_steps.specs.declared.limits.Limits.{Limits}
-use Rattle.broker_model.specs.declared.journal.Entry.{Entry}
 use Rattle.broker_model.specs.declared.journal.Kept.{Kept}
 use Rattle.trial_script.specs.declared.script.Script.{Script}
 use Rattle.turn_lock.specs.Pairs.{HasSeen, IsDistinct}
@@ -10,7 +9,7 @@ use Rattle.hub_lock.specs.Histories.{History, broker_of}
 use Rattle.hub_lock.specs.Lawful.{IsLawful}
 use Rattle.hub_lock.specs.Passes.{HubId, PassSeat}
 use Rattle.hub_lock.specs.Plays.{IsSessionOf}
-use Rattle.pass_calls.specs.Counted.{entries_of_pass, AreOfPasses, is_join}
+use Rattle.pass_calls.specs.Counted.{entries_of_pass, AreOfPasses}
 use Rattle.trial_run.specs.declared.typist.TrialTypist.{TrialTypist}
 use Rattle.trial_run.specs.Trial.{trial_limits, typist_of}
 use Rattle.typing_jobs.specs.declared.job_end.JobEnd.TheVariants as job_ends
@@ -29,7 +28,7 @@ use Rattle.trial_threads.specs.BegunJobs.{IsUnbegun}
 use Rattle.trial_threads.specs.Stops.{stop_by_begin, first_stop_in}
 use Rattle.trial_threads.specs.Back.{numbers_in}
 use Rattle.trial_threads.specs.Drained.{HasRest, least_for_method, least_for_fields}
-use Rattle.trial_threads.specs.Peers.{ArePeers, AllJoined}
+use Rattle.trial_threads.specs.Peers.{ArePeers, joins_of, AllJoined}
 
 -- a pass has seen a front of the history, which has no later step of it; so it is with each pass of
 -- a job
@@ -43,8 +42,9 @@ ArePasses h (jobs.Shell job) = IsSeenBy h job.pass
 
 -- There are jobs of these users over one hub, each with its law. What their passes have seen are
 -- fronts of one lawful history with no later step of them; the session is its journal, and the logs
--- are theirs. The peers have numbers in order, the root joined them and made nothing else, and each
--- step is the root's or of one of the jobs' passes.
+-- are theirs. The peers have numbers in order, the root joined them in that order, the method's as a
+-- method and each field's as an application, and made nothing else, and each step is the root's or of
+-- one of the jobs' passes.
 pub record IsTrial (typist : TrialTypist) (parts : List Part) (t : ThreadTrial) : Type 0 where
   pub hub : HubId
   pub limits : hub.limits ≡ trial_limits
@@ -58,7 +58,7 @@ pub record IsTrial (typist : TrialTypist) (parts : List Part) (t : ThreadTrial) 
   pub logs : t.logs ≡ field_logs jobs
   pub method_log : t.method_log ≡ method_log_in jobs []
   pub peers : ArePeers h 1 jobs
-  pub root : AllByRecursion (λ (e : Entry). is_join e ≡ true) (entries_of_pass 0 h)
+  pub root : entries_of_pass 0 h ≡ joins_of jobs
   pub once : IsDistinct (0 ∷ numbers_in jobs)
   pub passes : AreOfPasses (0 ∷ numbers_in jobs) h
 

@@ -23,7 +23,8 @@ returns-in-Err-clause-none g c =
     back_without c.args.hub.now c.args.root.now c.join_peer.new.root c.give_back.new.root c.args.role
     c.in_ok-reader.reader c.send_setup.new.reader c.in_ok-reader.writer (count_in c.args.setup.now) c.in-Err.why
     c.requires.own c.in_ok-reader.ensures.joined c.in_ok-reader.ensures.fresh.1 c.give_back.ensures
-    c.in-Err.ensures.cause c.in-Err.ensures.made
+    c.in-Err.ensures.cause (λ n is. c.send_setup.ensures.few n (c.in-Err.is ∙ ap (λ (x : NoJob). Err x) is))
+    c.in-Err.ensures.made
 
 pub returns-in-Err-clause-few : goal.returns-in-Err-clause-few
 returns-in-Err-clause-few g c few n is =

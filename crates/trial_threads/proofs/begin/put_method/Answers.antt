@@ -1,6 +1,5 @@
 use Rattle.std.proofs.Common.{ℕ, Err, List, length, subst, sym, ap, ◌∙◌}
 use Rattle.std.proofs.lemmas.Result.{err_from_is_err_and}
-use Rattle.relay_model.specs.declared.role.Role.TheVariants as roles
 use Rattle.ready_jobs.specs.declared.no_job.NoJob.{NoJob}
 use Rattle.trial_threads.specs.declared.running.Running.{Running}
 use Rattle.trial_threads.specs.Peers.{HaveJoined}
@@ -23,5 +22,5 @@ pub returns-clause-joined : goal.returns-clause-joined
 returns-clause-joined g c h =
     let e = c.in_ok-method.ensures in
     subst (λ (rs : List Running). HaveJoined c.begin_method.new.root (length rs) rs) (sym c.in_ok-put.ensures.ok)
-    (method_joined c.args.hub.now.limits c.args.root.now c.begin_method.new.root roles.Method c.args.jobs.now.items
+    (method_joined c.args.hub.now.limits c.args.root.now c.begin_method.new.root c.args.jobs.now.items
     c.in_ok-method.method e.begun e.ready.begun.fresh h)
