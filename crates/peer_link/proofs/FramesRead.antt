@@ -198,16 +198,16 @@ reading-ends limits q a b read waiting waiting' taken left faults end mine is qu
       holds = held-more r.frames f read taken r.each r.is o;
       ends = subst (λ (x : ReadEnd). EndsAs limits b (r.frames ++ f ∷ []) [] left faults (entries_by b.seat) x)
           (sym m.is) (
-        m.ended,
-        inl (
-          quiet (λ x. (let e : ends.Ended m.cause ≡ ends.ReadFault = sym m.is ∙ x in cc)),
-          inl (
-              subst (λ q. entries_by b.seat ≡ link_steps q (r.frames ++ f ∷ [])) (sym peer)
-              (m.entries ∙ ap₂ (λ (es : List Entry) (w : List ℕ). es ++ frame_steps q w f) r.made r.waits
-              ∙ sym (steps-more q [] r.frames f))
-              ),
-        ),
-      );
+            m.ended,
+            inl (
+              quiet (λ x. (let e : ends.Ended m.cause ≡ ends.ReadFault = sym m.is ∙ x in cc)),
+              inl (
+                  subst (λ q. entries_by b.seat ≡ link_steps q (r.frames ++ f ∷ [])) (sym peer)
+                  (m.entries ∙ ap₂ (λ (es : List Entry) (w : List ℕ). es ++ frame_steps q w f) r.made r.waits
+                  ∙ sym (steps-more q [] r.frames f))
+                  ),
+            ),
+          );
       no_fault = quiet;
     }
 

@@ -85,7 +85,7 @@ returns-in-Err-read_frame-clause-reads g c =
           (begun c.read_frame.new.cutter) r.0 (g.S.Source.left c.read_frame.new.source)
           (g.S.Source.fault_count c.read_frame.new.source - g.S.Source.fault_count c.args.source.now)
           c.in-Err-read_frame.end
-          (same-peer c.args.pass.now c.loop.pass i.pass) c.in-Err-read_frame.ensures.pass 
+          (same-peer c.args.pass.now c.loop.pass i.pass) c.in-Err-read_frame.ensures.pass
           (λ n. none-counted (g.S.Source.fault_count c.args.source.now) (g.S.Source.fault_count c.loop.source)
           (g.S.Source.fault_count c.read_frame.new.source)
           (c.in-Err-read_frame.ensures.no_fault (other-end c.in-Err-read_frame.end n)) i.no_fault)
