@@ -23,7 +23,8 @@ pub struct ReaderDone<S: Source + Drop> {
     pub end: ReadEnd,
     /// The number of the link that was read.
     pub link: u64,
-    pub ghost law: { ∥ HasRead pass (S.given source) (S.left source) (S.fault_count source) end ∥₁ },
+    pub ghost law: { ∥ HasRead pass (S.given source) (S.left source)
+        (S.fault_count source) end ∥₁ },
     pub ghost cause: { end ≡ read_ends.ReadFault → 1 ≤ S.fault_count source },
     pub ghost no_fault: { TellsNoFault end → S.fault_count source ≡ 0 },
 }

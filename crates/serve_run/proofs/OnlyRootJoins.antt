@@ -114,13 +114,16 @@ plain_made : (limits : Limits) (p : PeerPass) (frames : List Frame) (rest : List
     (end : ReadEnd) → EndsAs limits p frames rest left faults made end → all_plain made ≡ true
 plain_made limits p frames rest left faults made ends.Closed is = ap all_plain is.all ∙ plain_link p.peer [] frames
 plain_made limits p frames rest left faults made (ends.Torn n) is = ap all_plain is.all ∙ plain_link p.peer [] frames
-plain_made limits p frames rest left faults made (ends.BadFrame n t) is = ap all_plain is.all ∙ plain_link p.peer [] frames
+plain_made limits p frames rest left faults made (ends.BadFrame n t) is =
+    ap all_plain is.all ∙ plain_link p.peer [] frames
 plain_made limits p frames rest left faults made ends.ReadFault is = ap all_plain is.all ∙ plain_link p.peer [] frames
 plain_made limits p frames rest left faults made (ends.Ended cause) is =
     plain_before p.peer frames rest left faults made is.1
-plain_made limits p frames rest left faults made (ends.JournalFull kept) is = plain_stopped p.peer frames rest made is.0 is.1
+plain_made limits p frames rest left faults made (ends.JournalFull kept) is =
+    plain_stopped p.peer frames rest made is.0 is.1
 plain_made limits p frames rest left faults made ends.NoMemory (inl none) = ap all_plain none.made_none
-plain_made limits p frames rest left faults made ends.NoMemory (inr some) = plain_stopped p.peer frames rest made some.0 some.1
+plain_made limits p frames rest left faults made ends.NoMemory (inr some) =
+    plain_stopped p.peer frames rest made some.0 some.1
 
 plain_gone : (q : ℕ) (end : ReadEnd) → all_plain (gone_after q end) ≡ true
 plain_gone q ends.Closed = refl
@@ -135,8 +138,8 @@ plain_read : (limits : Limits) (p : PeerPass) (bytes : List ℕ) (left : Option 
     → ReadsPeer limits p bytes left faults end → all_plain (entries_by p.seat) ≡ true
 plain_read limits p bytes left faults end law =
     ap all_plain law.entries
-    ∙ plain_both law.made (gone_after p.peer end) (plain_made limits p law.frames law.rest left faults law.made end law.ends)
-    (plain_gone p.peer end)
+    ∙ plain_both law.made (gone_after p.peer end)
+    (plain_made limits p law.frames law.rest left faults law.made end law.ends) (plain_gone p.peer end)
 
 -- of any pass in the history
 

@@ -30,7 +30,8 @@ has-read limits pass before after left_before left old new end constant is quiet
       constant = constant;
       read = law.0;
       told = told-new before after law.0 is.gave quiet law.1.given;
-      law = subst (λ n. ReadsPeer limits pass law.0 left n end) (let same : new - old ≡ new = omega arith in same) law.2;
+      law = subst (λ n. ReadsPeer limits pass law.0 left n end)
+          (let same : new - old ≡ new = omega arith in same) law.2;
     }
 
 pub invariant_of-result-clause-law : goal.invariant_of-result-clause-law
@@ -38,5 +39,6 @@ invariant_of-result-clause-law g c =
     merely (has-read c.deref.result.now.limits c.read_peer-end.new.pass (g.S.Source.given c.args.job.source)
     (g.S.Source.given c.read_peer-end.new.source) (g.S.Source.left c.args.job.source)
     (g.S.Source.left c.read_peer-end.new.source)
-    (g.S.Source.fault_count c.args.job.source) (g.S.Source.fault_count c.read_peer-end.new.source) c.read_peer-end.result
+    (g.S.Source.fault_count c.args.job.source) (g.S.Source.fault_count c.read_peer-end.new.source)
+    c.read_peer-end.result
     (grind (arith, common_steps)) c.args.job.link c.read_peer-end.ensures.given_quiet c.read_peer-end.ensures.law)

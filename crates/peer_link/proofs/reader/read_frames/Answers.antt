@@ -13,7 +13,8 @@ use Rattle.peer_link.proofs.FramesRead.{Reading, reading-begins, reading-goes, r
 use Rattle.peer_link.proofs.reader.read_frames.Goals as goal
 
 -- no other end is a failed read
-other-end : (end : ReadEnd) → end ≢ ends.ReadFault → (let e : Result (Unit {0}) ReadEnd = Err end in e ≢ Err ends.ReadFault)
+other-end : (end : ReadEnd) → end ≢ ends.ReadFault →
+    (let e : Result (Unit {0}) ReadEnd = Err end in e ≢ Err ends.ReadFault)
 other-end end n x = n (cc)
 
 -- where the count stands, no fault was counted
