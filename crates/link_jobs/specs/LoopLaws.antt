@@ -15,13 +15,15 @@ use Rattle.link_nets.specs.NewLinks.{IsNothing}
 abbrev pub IsTold : (told : Option (List ℕ)) → List ℕ → Type 0
 IsTold told bytes = IfSome told (λ all. all ≡ bytes)
 
--- a reader: of the bytes that its source gave, its pass made what the law of readers says
-pub record HasRead (pass : PeerPass) (given left : Option (List ℕ)) (end : ReadEnd) : Type 0 where
+-- a reader: of the bytes that its source gave, its pass made what the law of readers says, where so
+-- many faults were counted
+pub record HasRead (pass : PeerPass) (given left : Option (List ℕ)) (faults : ℕ)
+    (end : ReadEnd) : Type 0 where
   pub limits : Limits
   pub constant : pass.seat.constant ≡ Some limits
   pub read : List ℕ
   pub told : IsTold given read
-  pub law : ReadsPeer limits pass read left end
+  pub law : ReadsPeer limits pass read left faults end
 
 -- a writer: its sink, which held nothing, gained what the law of writers says
 pub record HasWritten (pass : PeerPass) (held : Option (List ℕ)) (end : WriteEnd) : Type 0 where

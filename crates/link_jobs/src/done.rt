@@ -12,7 +12,7 @@ use peer_link::{ReadEnd, ShellEnd, WriteEnd};
 use wio_core::Source;
 
 /// A reading that ended: the law of readers holds of it, and a fault has its cause; an end that can't
-/// come of a fault came without one.
+/// come of a fault came without one. Where the peer had ended, the law says when one may have come.
 #[derive(Drop)]
 pub struct ReaderDone<S: Source + Drop> {
     /// The reader's pass, given back.
@@ -23,7 +23,8 @@ pub struct ReaderDone<S: Source + Drop> {
     pub end: ReadEnd,
     /// The number of the link that was read.
     pub link: u64,
-    pub ghost law: { ∥ HasRead pass (S.given source) (S.left source) end ∥₁ },
+    pub ghost law: { ∥ HasRead pass (S.given source) (S.left source)
+        (S.fault_count source) end ∥₁ },
     pub ghost cause: { end ≡ read_ends.ReadFault → 1 ≤ S.fault_count source },
     pub ghost no_fault: { TellsNoFault end → S.fault_count source ≡ 0 },
 }

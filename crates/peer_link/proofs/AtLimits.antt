@@ -86,9 +86,11 @@ at-limit-later limits seen rest k =
 
 -- where a loop answers that the journal was full, what its pass has seen is at its limit
 
-pub reader-at-limit : (limits : Limits) (p : PeerPass) (read : List ℕ) (left : Option (List ℕ)) (kept : Kept)
-    → ReadsPeer limits p read left (read_ends.JournalFull kept) → IsAtLimit limits (journal_of limits p.seat.seen)
-reader-at-limit limits p read left kept law = law.ends.2.at_limit
+pub reader-at-limit : (limits : Limits) (p : PeerPass) (read : List ℕ) (left : Option (List ℕ)) (faults : ℕ)
+    (kept : Kept)
+    → ReadsPeer limits p read left faults (read_ends.JournalFull kept) →
+    IsAtLimit limits (journal_of limits p.seat.seen)
+reader-at-limit limits p read left faults kept law = law.ends.2.at_limit
 
 pub writer-at-limit : (limits : Limits) (p : PeerPass) (held held' : Option (List ℕ)) (end : WriteEnd) (kept : Kept)
     → taking_of end ≡ takes.JournalFull kept → WritesPeer limits p held held' end →

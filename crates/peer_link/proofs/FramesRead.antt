@@ -23,7 +23,7 @@ use Rattle.peer_link.specs.declared.ends.ReadEnd.TheVariants as ends
 use Rattle.peer_link.specs.Made.{entries_by, journal_of, SawMore, IsAtLimit, HasSeenFull}
 use Rattle.peer_link.specs.LinkSteps.{frame_steps, steps_behind, link_steps, AreFrames, spelled, HoldFrames}
 use Rattle.peer_link.specs.Submits.{WhyNot, MadeFirst, IsGoneRefusal}
-use Rattle.peer_link.specs.ReadsPeer.{StopsAt, StopsBy, BeganNothing, EndsAs, gone_after, ReadsPeer}
+use Rattle.peer_link.specs.ReadsPeer.{StopsAt, StopsBy, MadeBefore, BeganNothing, EndsAs, gone_after, ReadsPeer}
 use Rattle.peer_link.specs.ReadsFrame.{got_of, NoFrame, EndedAfter, OneFrame, MakesFrame, ReadsFrame, ReadsLink}
 use Rattle.peer_link.proofs.ShellServed.{joined-more}
 use Rattle.peer_link.proofs.MessagesMade.{same-peer}
@@ -116,13 +116,16 @@ stops-at limits q a b read waiting f end r m =
       nothing_past = refl;
     }
 
-ends-first : (limits : Limits) (q : ℕ) (b : PeerPass) (frames : List Frame) (left : Option (List ℕ)) (e : Entry)
-    (end : ReadEnd)
-    → b.peer ≡ q → StopsAt q frames [] (entries_by b.seat) e → WhyNot limits b e end
-    → EndsAs limits b frames [] left (entries_by b.seat) end
-ends-first limits q b frames left e (ends.Ended cause) same s why =
-    (why, inr (e, subst (λ q. StopsAt q frames [] (entries_by b.seat) e) (sym same) s))
-ends-first limits q b frames left e (ends.JournalFull kept) same s why = (
+ends-first : (limits : Limits) (q : ℕ) (b : PeerPass) (frames : List Frame) (left : Option (List ℕ))
+    (faults : ℕ) (e : Entry) (end : ReadEnd)
+    → b.peer ≡ q → (end ≢ ends.ReadFault → faults ≡ 0) → StopsAt q frames [] (entries_by b.seat) e →
+    WhyNot limits b e end
+    → EndsAs limits b frames [] left faults (entries_by b.seat) end
+ends-first limits q b frames left faults e (ends.Ended cause) same quiet s why = (
+  why,
+  inl (quiet (λ x. cc), inr (e, subst (λ q. StopsAt q frames [] (entries_by b.seat) e) (sym same) s)),
+)
+ends-first limits q b frames left faults e (ends.JournalFull kept) same quiet s why = (
   e,
   subst (λ q. StopsAt q frames [] (entries_by b.seat) e) (sym same) s,
   record {
@@ -133,20 +136,20 @@ ends-first limits q b frames left e (ends.JournalFull kept) same s why = (
     at_limit = why.1;
   },
 )
-ends-first limits q b frames left e ends.NoMemory same s why =
+ends-first limits q b frames left faults e ends.NoMemory same quiet s why =
     inr (e, subst (λ q. StopsAt q frames [] (entries_by b.seat) e) (sym same) s)
-ends-first limits q b frames left e ends.Closed same s why = absurd why
-ends-first limits q b frames left e (ends.Torn n) same s why = absurd why
-ends-first limits q b frames left e (ends.BadFrame n t) same s why = absurd why
-ends-first limits q b frames left e ends.ReadFault same s why = absurd why
+ends-first limits q b frames left faults e ends.Closed same quiet s why = absurd why
+ends-first limits q b frames left faults e (ends.Torn n) same quiet s why = absurd why
+ends-first limits q b frames left faults e (ends.BadFrame n t) same quiet s why = absurd why
+ends-first limits q b frames left faults e ends.ReadFault same quiet s why = absurd why
 
 -- no frame came
 
 ends-none : (limits : Limits) (q : ℕ) (b : PeerPass) (frames : List Frame) (rest : List ℕ) (left : Option (List ℕ))
-    (end : ReadEnd) (why : Got)
+    (faults : ℕ) (end : ReadEnd) (why : Got)
     → b.peer ≡ q → entries_by b.seat ≡ link_steps q frames → got_of end ≡ Some why → Stops why rest left
-    → EndsAs limits b frames rest left (entries_by b.seat) end
-ends-none limits q b frames rest left end why same made is stops =
+    → EndsAs limits b frames rest left faults (entries_by b.seat) end
+ends-none limits q b frames rest left faults end why same made is stops =
     by end is (subst (λ q. entries_by b.seat ≡ link_steps q frames) (sym same) made)
   where
     stopped : (g : Got) → Some g ≡ Some why → entries_by b.seat ≡ link_steps b.peer frames →
@@ -155,7 +158,7 @@ ends-none limits q b frames rest left end why same made is stops =
         record { all = made; stops = subst (λ w. Stops w rest left) (let same : g ≡ why = cc in sym same) stops }
 
     by : (end : ReadEnd) → got_of end ≡ Some why → entries_by b.seat ≡ link_steps b.peer frames →
-        EndsAs limits b frames rest left (entries_by b.seat) end
+        EndsAs limits b frames rest left faults (entries_by b.seat) end
     by ends.Closed e made = stopped got.End e made
     by (ends.Torn n) e made = stopped (got.Torn n) e made
     by (ends.BadFrame n t) e made = stopped (got.BadFrame n t) e made
@@ -166,10 +169,10 @@ ends-none limits q b frames rest left end why same made is stops =
 
 -- the link's reading ends with a frame, or with none
 pub reading-ends : (limits : Limits) (q : ℕ) (a b : PeerPass) (read waiting waiting' taken : List ℕ)
-    (left : Option (List ℕ)) (end : ReadEnd)
-    → a.peer ≡ q → b ≡ pass_having_seen a b.seat.seen → Reading q a read waiting
-    → ReadsFrame limits a b waiting waiting' taken left (Err end) → ReadsLink limits b (read ++ taken) left end
-reading-ends limits q a b read waiting waiting' taken left end mine is r k =
+    (left : Option (List ℕ)) (faults : ℕ) (end : ReadEnd)
+    → a.peer ≡ q → b ≡ pass_having_seen a b.seat.seen → (end ≢ ends.ReadFault → faults ≡ 0) → Reading q a read waiting
+    → ReadsFrame limits a b waiting waiting' taken left (Err end) → ReadsLink limits b (read ++ taken) left faults end
+reading-ends limits q a b read waiting waiting' taken left faults end mine is quiet r k =
     by (subst (λ p.
     (NoFrame a b taken left end ⊎ (f : Frame) × OneFrame taken f
     × (MadeFirst limits a b (frame_steps p waiting f) end
@@ -180,47 +183,56 @@ reading-ends limits q a b read waiting waiting' taken left end mine is r k =
 
     in-frame : (f : Frame) → OneFrame taken f →
         MadeFirst limits a b (frame_steps q waiting f) end ⊎ EndedAfter limits a b (frame_steps q waiting f) end
-        → ReadsLink limits b (read ++ taken) left end
+        → ReadsLink limits b (read ++ taken) left faults end
     in-frame f o (inl m) = record {
       frames = r.frames ++ f ∷ [];
       rest = [];
       holds = held-more r.frames f read taken r.each r.is o;
-      ends = ends-first limits q b (r.frames ++ f ∷ []) left m.e end peer
+      ends = ends-first limits q b (r.frames ++ f ∷ []) left faults m.e end peer quiet
           (stops-at limits q a b read waiting f end r m) m.why;
+      no_fault = quiet;
     }
     in-frame f o (inr m) = record {
       frames = r.frames ++ f ∷ [];
       rest = [];
       holds = held-more r.frames f read taken r.each r.is o;
-      ends = subst (λ (x : ReadEnd). EndsAs limits b (r.frames ++ f ∷ []) [] left (entries_by b.seat) x) (sym m.is) (
-        m.ended,
-        inl (
-            subst (λ q. entries_by b.seat ≡ link_steps q (r.frames ++ f ∷ [])) (sym peer)
-            (m.entries ∙ ap₂ (λ (es : List Entry) (w : List ℕ). es ++ frame_steps q w f) r.made r.waits
-            ∙ sym (steps-more q [] r.frames f))
+      ends = subst (λ (x : ReadEnd). EndsAs limits b (r.frames ++ f ∷ []) [] left faults (entries_by b.seat) x)
+          (sym m.is) (
+            m.ended,
+            inl (
+              quiet (λ x. (let e : ends.Ended m.cause ≡ ends.ReadFault = sym m.is ∙ x in cc)),
+              inl (
+                  subst (λ q. entries_by b.seat ≡ link_steps q (r.frames ++ f ∷ [])) (sym peer)
+                  (m.entries ∙ ap₂ (λ (es : List Entry) (w : List ℕ). es ++ frame_steps q w f) r.made r.waits
+                  ∙ sym (steps-more q [] r.frames f))
+                  ),
             ),
-      );
+          );
+      no_fault = quiet;
     }
 
     by : (NoFrame a b taken left end ⊎ (f : Frame) × OneFrame taken f
         × (MadeFirst limits a b (frame_steps q waiting f) end
-        ⊎ EndedAfter limits a b (frame_steps q waiting f) end)) → ReadsLink limits b (read ++ taken) left end
+        ⊎ EndedAfter limits a b (frame_steps q waiting f) end)) → ReadsLink limits b (read ++ taken) left faults end
     by (inl n) = record {
       frames = r.frames;
       rest = taken;
       holds = record { each = r.each; is = ap (λ (x : List ℕ). x ++ taken) r.is };
-      ends = ends-none limits q b r.frames taken left end n.why peer (n.same ∙ r.made) n.is n.stops;
+      ends = ends-none limits q b r.frames taken left faults end n.why peer (n.same ∙ r.made) n.is n.stops;
+      no_fault = quiet;
     }
     by (inr k) = in-frame k.0 k.1 k.2
 
 -- nothing was begun
-pub nothing-read : (limits : Limits) (pass : PeerPass) (left : Option (List ℕ)) → entries_by pass.seat ≡ []
-    → ReadsLink limits pass [] left ends.NoMemory
-nothing-read limits pass left none = record {
+pub nothing-read : (limits : Limits) (pass : PeerPass) (left : Option (List ℕ)) (faults : ℕ) →
+    entries_by pass.seat ≡ [] → faults ≡ 0
+    → ReadsLink limits pass [] left faults ends.NoMemory
+nothing-read limits pass left faults none quiet = record {
   frames = [];
   rest = [];
   holds = record { each = tt; is = refl };
   ends = inl (record { frames_none = refl; rest_none = refl; made_none = none });
+  no_fault = λ x. quiet;
 }
 
 -- and then the link's end is said
@@ -238,40 +250,41 @@ full-later limits a b e kept s f = record {
 
 -- the end says the same of a pass of the same peer that has seen more, if it isn't that the peer had ended
 ends-later : (limits : Limits) (a b : PeerPass) (frames : List Frame) (rest : List ℕ) (left : Option (List ℕ))
-    (made : List Entry) (end : ReadEnd)
+    (faults : ℕ) (made : List Entry) (end : ReadEnd)
     → b.peer ≡ a.peer → SawMore limits a.seat.seen b.seat.seen → ((cause : EndCause) → end ≢ ends.Ended cause)
-    → EndsAs limits a frames rest left made end → EndsAs limits b frames rest left made end
-ends-later limits a b frames rest left made ends.Closed peer s other k =
+    → EndsAs limits a frames rest left faults made end → EndsAs limits b frames rest left faults made end
+ends-later limits a b frames rest left faults made ends.Closed peer s other k =
     subst (λ q. StopsBy q frames rest left made got.End) (sym peer) k
-ends-later limits a b frames rest left made (ends.Torn n) peer s other k =
+ends-later limits a b frames rest left faults made (ends.Torn n) peer s other k =
     subst (λ q. StopsBy q frames rest left made (got.Torn n)) (sym peer) k
-ends-later limits a b frames rest left made (ends.BadFrame n t) peer s other k =
+ends-later limits a b frames rest left faults made (ends.BadFrame n t) peer s other k =
     subst (λ q. StopsBy q frames rest left made (got.BadFrame n t)) (sym peer) k
-ends-later limits a b frames rest left made ends.ReadFault peer s other k =
+ends-later limits a b frames rest left faults made ends.ReadFault peer s other k =
     subst (λ q. StopsBy q frames rest left made got.ReadFault) (sym peer) k
-ends-later limits a b frames rest left made (ends.Ended cause) peer s other k = absurd (other cause refl)
-ends-later limits a b frames rest left made (ends.JournalFull kept) peer s other k = (
+ends-later limits a b frames rest left faults made (ends.Ended cause) peer s other k = absurd (other cause refl)
+ends-later limits a b frames rest left faults made (ends.JournalFull kept) peer s other k = (
   k.0,
   subst (λ q. StopsAt q frames rest made k.0) (sym peer) k.1,
   full-later limits a.seat.seen b.seat.seen k.0 kept s k.2,
 )
-ends-later limits a b frames rest left made ends.NoMemory peer s other k =
+ends-later limits a b frames rest left faults made ends.NoMemory peer s other k =
     subst (λ q. (BeganNothing frames rest made ⊎ (e : Entry) × StopsAt q frames rest made e)) (sym peer) k
 
 -- what any end says of the steps that were made
-made-so : (limits : Limits) (a : PeerPass) (frames : List Frame) (rest : List ℕ) (left : Option (List ℕ))
-    (made : List Entry) (end : ReadEnd)
-    → EndsAs limits a frames rest left made end →
-    (made ≡ link_steps a.peer frames) ⊎ (e : Entry) × StopsAt a.peer frames rest made e
-made-so limits a frames rest left made ends.Closed k = inl k.all
-made-so limits a frames rest left made (ends.Torn n) k = inl k.all
-made-so limits a frames rest left made (ends.BadFrame n t) k = inl k.all
-made-so limits a frames rest left made ends.ReadFault k = inl k.all
-made-so limits a frames rest left made (ends.Ended cause) k = k.1
-made-so limits a frames rest left made (ends.JournalFull kept) k = inr (k.0, k.1)
-made-so limits a frames rest left made ends.NoMemory (inl n) =
-    inl (n.made_none ∙ ap (link_steps a.peer) (sym n.frames_none))
-made-so limits a frames rest left made ends.NoMemory (inr k) = inr k
+made-before : (limits : Limits) (a : PeerPass) (frames : List Frame) (rest : List ℕ) (left : Option (List ℕ))
+    (faults : ℕ) (made : List Entry) (end : ReadEnd)
+    → (end ≢ ends.ReadFault → faults ≡ 0) → EndsAs limits a frames rest left faults made end →
+    MadeBefore a.peer frames rest left faults made
+made-before limits a frames rest left faults made ends.Closed quiet k = inl (quiet (λ x. cc), inl k.all)
+made-before limits a frames rest left faults made (ends.Torn n) quiet k = inl (quiet (λ x. cc), inl k.all)
+made-before limits a frames rest left faults made (ends.BadFrame n t) quiet k = inl (quiet (λ x. cc), inl k.all)
+made-before limits a frames rest left faults made ends.ReadFault quiet k = inr k
+made-before limits a frames rest left faults made (ends.Ended cause) quiet k = k.1
+made-before limits a frames rest left faults made (ends.JournalFull kept) quiet k =
+    inl (quiet (λ x. cc), inr (k.0, k.1))
+made-before limits a frames rest left faults made ends.NoMemory quiet (inl n) =
+    inl (quiet (λ x. cc), inl (n.made_none ∙ ap (link_steps a.peer) (sym n.frames_none)))
+made-before limits a frames rest left faults made ends.NoMemory quiet (inr k) = inl (quiet (λ x. cc), inr k)
 
 gone-else : (q : ℕ) (end : ReadEnd) → ((cause : EndCause) → end ≢ ends.Ended cause) →
     gone_after q end ≡ entries.End q Gone ∷ []
@@ -284,9 +297,11 @@ gone-else q (ends.JournalFull kept) other = refl
 gone-else q ends.NoMemory other = refl
 
 -- the peer had ended
-pub ended-reads : (limits : Limits) (pass : PeerPass) (read : List ℕ) (left : Option (List ℕ)) (cause : EndCause)
-    → ReadsLink limits pass read left (ends.Ended cause) → ReadsPeer limits pass read left (ends.Ended cause)
-ended-reads limits pass read left cause r = record {
+pub ended-reads : (limits : Limits) (pass : PeerPass) (read : List ℕ) (left : Option (List ℕ)) (faults : ℕ)
+    (cause : EndCause)
+    → ReadsLink limits pass read left faults (ends.Ended cause) →
+    ReadsPeer limits pass read left faults (ends.Ended cause)
+ended-reads limits pass read left faults cause r = record {
   frames = r.frames;
   rest = r.rest;
   holds = r.holds;
@@ -295,12 +310,13 @@ ended-reads limits pass read left cause r = record {
   ends = r.ends;
 }
 
-pub gone-said : (limits : Limits) (a b : PeerPass) (read : List ℕ) (left : Option (List ℕ)) (end : ReadEnd)
+pub gone-said : (limits : Limits) (a b : PeerPass) (read : List ℕ) (left : Option (List ℕ)) (faults : ℕ)
+    (end : ReadEnd)
     → b ≡ pass_having_seen a b.seat.seen → SawMore limits a.seat.seen b.seat.seen →
     ((cause : EndCause) → end ≢ ends.Ended cause)
     → entries_by b.seat ≡ entries_by a.seat ++ entries.End a.peer Gone ∷ []
-    → ReadsLink limits a read left end → ReadsPeer limits b read left end
-gone-said limits a b read left end is s other made r =
+    → ReadsLink limits a read left faults end → ReadsPeer limits b read left faults end
+gone-said limits a b read left faults end is s other made r =
     let peer = same-peer a b is in record {
       frames = r.frames;
       rest = r.rest;
@@ -308,16 +324,16 @@ gone-said limits a b read left end is s other made r =
       made = entries_by a.seat;
       entries = made ∙ ap (λ (es : List Entry). entries_by a.seat ++ es)
           (sym (gone-else b.peer end other ∙ ap (λ q. entries.End q Gone ∷ []) peer));
-      ends = ends-later limits a b r.frames r.rest left (entries_by a.seat) end peer s other r.ends;
+      ends = ends-later limits a b r.frames r.rest left faults (entries_by a.seat) end peer s other r.ends;
     }
 
 -- the peer had ended before its link's end was said
-pub gone-late : (limits : Limits) (a b : PeerPass) (read : List ℕ) (left : Option (List ℕ)) (end : ReadEnd)
-    (cause : EndCause)
+pub gone-late : (limits : Limits) (a b : PeerPass) (read : List ℕ) (left : Option (List ℕ)) (faults : ℕ)
+    (end : ReadEnd) (cause : EndCause)
     → b ≡ pass_having_seen a b.seat.seen → entries_by b.seat ≡ entries_by a.seat →
     end_of (journal_of limits b.seat.seen) b.peer ≡ Some cause
-    → ReadsLink limits a read left end → ReadsPeer limits b read left (ends.Ended cause)
-gone-late limits a b read left end cause is same ended r =
+    → ReadsLink limits a read left faults end → ReadsPeer limits b read left faults (ends.Ended cause)
+gone-late limits a b read left faults end cause is same ended r =
     let peer = same-peer a b is in record {
       frames = r.frames;
       rest = r.rest;
@@ -326,9 +342,8 @@ gone-late limits a b read left end cause is same ended r =
       entries = same ∙ sym (append-nil (entries_by a.seat));
       ends = (
         ended,
-        subst (λ q. ((entries_by a.seat ≡ link_steps q r.frames) ⊎ (e : Entry)
-            × StopsAt q r.frames r.rest (entries_by a.seat) e)) (sym peer)
-            (made-so limits a r.frames r.rest left (entries_by a.seat) end r.ends),
+        subst (λ q. MadeBefore q r.frames r.rest left faults (entries_by a.seat)) (sym peer)
+            (made-before limits a r.frames r.rest left faults (entries_by a.seat) end r.no_fault r.ends),
       );
     }
 
@@ -338,21 +353,21 @@ single x e (m ∷ []) more is = absurd (cc)
 single x e (m ∷ n ∷ made) more is = absurd (cc)
 
 -- the link's end was refused
-pub gone-refused : (limits : Limits) (a b : PeerPass) (read : List ℕ) (left : Option (List ℕ)) (end other : ReadEnd)
-    (e : Entry)
+pub gone-refused : (limits : Limits) (a b : PeerPass) (read : List ℕ) (left : Option (List ℕ)) (faults : ℕ)
+    (end other : ReadEnd) (e : Entry)
     → b ≡ pass_having_seen a b.seat.seen → MadeFirst limits a b (e ∷ []) other → IsGoneRefusal other
-    → ReadsLink limits a read left end → ReadsPeer limits b read left other
-gone-refused limits a b read left end (ends.Ended cause) e is m k r =
-    gone-late limits a b read left end cause is
+    → ReadsLink limits a read left faults end → ReadsPeer limits b read left faults other
+gone-refused limits a b read left faults end (ends.Ended cause) e is m k r =
+    gone-late limits a b read left faults end cause is
     (m.entries ∙ ap (λ (es : List Entry). entries_by a.seat ++ es) (single e m.e m.made m.more m.steps_are)
     ∙ append-nil (entries_by a.seat))
     m.why r
-gone-refused limits a b read left end ends.Closed e is m k r = absurd k
-gone-refused limits a b read left end (ends.Torn n) e is m k r = absurd k
-gone-refused limits a b read left end (ends.BadFrame n t) e is m k r = absurd k
-gone-refused limits a b read left end ends.ReadFault e is m k r = absurd k
-gone-refused limits a b read left end (ends.JournalFull kept) e is m k r = absurd k
-gone-refused limits a b read left end ends.NoMemory e is m k r = absurd k
+gone-refused limits a b read left faults end ends.Closed e is m k r = absurd k
+gone-refused limits a b read left faults end (ends.Torn n) e is m k r = absurd k
+gone-refused limits a b read left faults end (ends.BadFrame n t) e is m k r = absurd k
+gone-refused limits a b read left faults end ends.ReadFault e is m k r = absurd k
+gone-refused limits a b read left faults end (ends.JournalFull kept) e is m k r = absurd k
+gone-refused limits a b read left faults end ends.NoMemory e is m k r = absurd k
 
 -- the frame that was read
 

@@ -1,5 +1,5 @@
 -- What one frame made of a peer's link, and the reading of it before its end is said
-use Rattle.std.specs.Prelude.{◌≡◌, ◌⊎◌, ℕ, List, ◌++◌, Option, Some, None, Result, Ok, Err}
+use Rattle.std.specs.Prelude.{◌≡◌, ◌≢◌, ◌⊎◌, ℕ, List, ◌++◌, Option, Some, None, Result, Ok, Err}
 use Rattle.relay_model.specs.declared.act.EndCause.{EndCause}
 use Rattle.seat_steps.specs.declared.limits.Limits.{Limits}
 use Rattle.wl_wire.specs.Messages.{bad_size_at, behind}
@@ -71,11 +71,12 @@ ReadsFrame limits before after waiting waiting_after taken left (Err end) =
     × (MadeFirst limits before after (frame_steps before.peer waiting f) end
     ⊎ EndedAfter limits before after (frame_steps before.peer waiting f) end)
 
--- the link was read up to its end, which isn't said yet
+-- the link was read up to its end, which isn't said yet, and so many faults were counted
 pub record ReadsLink (limits : Limits) (pass : PeerPass) (read : List ℕ) (left : Option (List ℕ))
-    (end : ReadEnd)
+    (faults : ℕ) (end : ReadEnd)
     : Type 0 where
   pub frames : List Frame
   pub rest : List ℕ
   pub holds : HoldFrames read frames rest
-  pub ends : EndsAs limits pass frames rest left (entries_by pass.seat) end
+  pub no_fault : end ≢ ends.ReadFault → faults ≡ 0
+  pub ends : EndsAs limits pass frames rest left faults (entries_by pass.seat) end

@@ -41,26 +41,36 @@ pub record BeganNothing (frames : List Frame) (rest : List ℕ) (made : List Ent
   pub rest_none : rest ≡ []
   pub made_none : made ≡ []
 
--- what each end says of the frames that were read, of the rest behind them and of the entries that
--- were made of them
-abbrev pub EndsAs : Limits → PeerPass → List Frame → List ℕ → Option (List ℕ) → List Entry →
-    ReadEnd → Type 0
-EndsAs limits p frames rest left made ends.Closed = StopsBy p.peer frames rest left made got.End
-EndsAs limits p frames rest left made (ends.Torn n) =
+-- what was made before the peer had ended: no fault was counted, and all steps that the frames give
+-- were made or one wasn't taken; or all were made, and then no frame came since a read failed
+abbrev pub MadeBefore : ℕ → List Frame → List ℕ → Option (List ℕ) → (faults : ℕ) → List Entry →
+    Type 0
+MadeBefore q frames rest left faults made =
+    (faults ≡ 0) × ((made ≡ link_steps q frames) ⊎ (e : Entry) × StopsAt q frames rest made e)
+    ⊎ StopsBy q frames rest left made got.ReadFault
+
+-- what each end says of the frames that were read, of the rest behind them, of how many faults were
+-- counted and of the entries that were made of the frames
+abbrev pub EndsAs : Limits → PeerPass → List Frame → List ℕ → Option (List ℕ) → (faults : ℕ) →
+    List Entry → ReadEnd → Type 0
+EndsAs limits p frames rest left faults made ends.Closed =
+    StopsBy p.peer frames rest left made got.End
+EndsAs limits p frames rest left faults made (ends.Torn n) =
     StopsBy p.peer frames rest left made (got.Torn n)
-EndsAs limits p frames rest left made (ends.BadFrame n t) =
+EndsAs limits p frames rest left faults made (ends.BadFrame n t) =
     StopsBy p.peer frames rest left made (got.BadFrame n t)
-EndsAs limits p frames rest left made ends.ReadFault =
+EndsAs limits p frames rest left faults made ends.ReadFault =
     StopsBy p.peer frames rest left made got.ReadFault
-EndsAs limits p frames rest left made (ends.Ended cause) =
+EndsAs limits p frames rest left faults made (ends.Ended cause) =
     (end_of (journal_of limits p.seat.seen) p.peer ≡ Some cause)
-    × ((made ≡ link_steps p.peer frames) ⊎ (e : Entry) × StopsAt p.peer frames rest made e)
-EndsAs limits p frames rest left made (ends.JournalFull kept) =
+    × MadeBefore p.peer frames rest left faults made
+EndsAs limits p frames rest left faults made (ends.JournalFull kept) =
     (e : Entry) × StopsAt p.peer frames rest made e × HasSeenFull limits p.seat.seen e kept
-EndsAs limits p frames rest left made ends.NoMemory =
+EndsAs limits p frames rest left faults made ends.NoMemory =
     BeganNothing frames rest made ⊎ (e : Entry) × StopsAt p.peer frames rest made e
 
--- no read failed before the link ended so: where the peer had ended, one may have
+-- no fault was counted where the link ended so: where the peer had ended, one may have been
+-- (MadeBefore)
 abbrev pub TellsNoFault : ReadEnd → Type 0
 TellsNoFault ends.ReadFault = ⊥
 TellsNoFault (ends.Ended cause) = ⊥
@@ -71,15 +81,15 @@ abbrev pub gone_after : ℕ → ReadEnd → List Entry
 gone_after q (ends.Ended cause) = []
 gone_after q _ = entries.End q Gone ∷ []
 
--- Of the bytes that were read, these are the frames and that the rest behind them. The pass's
--- entries are a prefix of the steps that the frames give, in order, and then that the link is gone,
--- unless its peer had ended.
+-- Of the bytes that were read, these are the frames and that the rest behind them, and so many
+-- faults were counted. The pass's entries are a prefix of the steps that the frames give, in order,
+-- and then that the link is gone, unless its peer had ended.
 pub record ReadsPeer (limits : Limits) (pass : PeerPass) (read : List ℕ) (left : Option (List ℕ))
-    (end : ReadEnd)
+    (faults : ℕ) (end : ReadEnd)
     : Type 0 where
   pub frames : List Frame
   pub rest : List ℕ
   pub holds : HoldFrames read frames rest
   pub made : List Entry
   pub entries : entries_by pass.seat ≡ made ++ gone_after pass.peer end
-  pub ends : EndsAs limits pass frames rest left made end
+  pub ends : EndsAs limits pass frames rest left faults made end

@@ -1,5 +1,5 @@
 //! The reading of a peer's link.
-ghost use Rattle.std.specs.Prelude.{◌≡◌, ◌≢◌, ◌≤◌, ℕ, List, Option, None, Err};
+ghost use Rattle.std.specs.Prelude.{◌≡◌, ◌≢◌, ◌≤◌, ◌-◌, ℕ, List, Option, None, Err};
 ghost use Rattle.wio_core.specs.Io.{Rose, StaysQuiet};
 ghost use Rattle.wio_core.specs.Lines.{TookFrom};
 ghost use Rattle.wl_wire.specs.Messages.{bad_size_at};
@@ -80,7 +80,8 @@ fn read_frames<R: Wait, S: Source, G: Gate>(
     ensures reads { (read : List ℕ)
         × TookFrom (S.given source.old) (S.given source.new)
         (S.left source.old) (S.left source.new) read
-        × ReadsLink hub.now.limits pass.new read (S.left source.new) result }
+        × ReadsLink hub.now.limits pass.new read (S.left source.new)
+        (S.fault_count source.new - S.fault_count source.old) result }
     ensures given_quiet { StaysQuiet (S.given source.old) (S.given source.new) }
     ensures left_quiet { StaysQuiet (S.left source.old) (S.left source.new) }
     ensures never_falls { S.fault_count source.old ≤ S.fault_count source.new }
@@ -124,9 +125,9 @@ fn say_gone<R: Wait, G: Gate>(
     requires own { IsOf hub.now pass.old.seat }
     ensures pass { pass.new ≡ pass_having_seen pass.old pass.new.seat.seen }
     ensures saw { SawMore hub.now.limits pass.old.seat.seen pass.new.seat.seen }
-    ensures reads { (read : List ℕ) (left : Option (List ℕ))
-        → ReadsLink hub.now.limits pass.old read left end
-        → ReadsPeer hub.now.limits pass.new read left result }
+    ensures reads { (read : List ℕ) (left : Option (List ℕ)) (faults : ℕ)
+        → ReadsLink hub.now.limits pass.old read left faults end
+        → ReadsPeer hub.now.limits pass.new read left faults result }
     ensures cause { result ≡ ReadEnd.ReadFault → end ≡ ReadEnd.ReadFault }
     ensures no_fault { TellsNoFault result → end ≢ ReadEnd.ReadFault }
 {
@@ -145,9 +146,10 @@ fn say_gone<R: Wait, G: Gate>(
 /// that the link is gone.
 ///
 /// `Closed`, `Torn`, `BadFrame` and `ReadFault` come of the frames, where all their steps were made.
-/// `Ended` comes where the peer has ended, for that cause; `JournalFull` where the journal was full
-/// for the next step; `NoMemory` may come at any step. Where a step but the last was refused, no
-/// byte past its frame was read. (Wait: it promises what it does if it returns.)
+/// `Ended` comes where the peer has ended, for that cause; a read may have failed before it, but
+/// only where all steps were made. `JournalFull` comes where the journal was full for the next step;
+/// `NoMemory` may come at any step. Where a step but the last was refused, no byte past its frame
+/// was read. (Wait: it promises what it does if it returns.)
 pub fn read_peer<R: Wait, S: Source, G: Gate>(
     rt: &R,
     alloc: Global,
@@ -163,7 +165,8 @@ pub fn read_peer<R: Wait, S: Source, G: Gate>(
     ensures law { (read : List ℕ)
         × TookFrom (S.given source.old) (S.given source.new)
         (S.left source.old) (S.left source.new) read
-        × ReadsPeer hub.now.limits pass.new read (S.left source.new) result }
+        × ReadsPeer hub.now.limits pass.new read (S.left source.new)
+        (S.fault_count source.new - S.fault_count source.old) result }
     ensures given_quiet { StaysQuiet (S.given source.old) (S.given source.new) }
     ensures left_quiet { StaysQuiet (S.left source.old) (S.left source.new) }
     ensures never_falls { S.fault_count source.old ≤ S.fault_count source.new }

@@ -90,7 +90,7 @@ end_full : (limits : Limits) (h : History) (r : Report) (end : End) → LawOf li
     → brought_by end ≡ troubles.JournalFull → IsAtLimit limits (journal_of limits h)
 end_full limits h r (read (read_ends.JournalFull kept)) law is =
     pass_at_limit limits law.law.limits h r law.pass.seat law.law.constant law.seat
-    (reader-at-limit law.law.limits law.pass law.law.read r.left kept law.law.law)
+    (reader-at-limit law.law.limits law.pass law.law.read r.left r.source_faults kept law.law.law)
 end_full limits h r (read read_ends.Closed) law is = absurd (cc)
 end_full limits h r (read (read_ends.Torn n)) law is = absurd (cc)
 end_full limits h r (read (read_ends.BadFrame n t)) law is = absurd (cc)

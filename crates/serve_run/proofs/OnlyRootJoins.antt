@@ -20,7 +20,7 @@ use Rattle.peer_link.specs.declared.ends.ReadEnd.{ReadEnd}
 use Rattle.peer_link.specs.declared.ends.ReadEnd.TheVariants as ends
 use Rattle.peer_link.specs.Made.{entries_by}
 use Rattle.peer_link.specs.LinkSteps.{token_steps, steps_unless_bad, byte_steps, steps_behind, link_steps}
-use Rattle.peer_link.specs.ReadsPeer.{ReadsPeer, StopsAt, EndsAs, gone_after}
+use Rattle.peer_link.specs.ReadsPeer.{ReadsPeer, StopsAt, MadeBefore, EndsAs, gone_after}
 use Rattle.link_jobs.specs.Tags.{Report, End, Part}
 use Rattle.link_jobs.specs.Tags.End.{read, wrote, ordered}
 use Rattle.link_jobs.specs.Tags.Part.{reader, writer, shell}
@@ -102,20 +102,28 @@ plain_stopped : (q : ℕ) (frames : List Frame) (rest : List ℕ) (made : List E
 plain_stopped q frames rest made e at =
     plain_front made (e ∷ at.more) (ap all_plain (sym at.given) ∙ plain_link q [] frames)
 
+plain_before : (q : ℕ) (frames : List Frame) (rest : List ℕ) (left : Option (List ℕ)) (faults : ℕ) (made : List Entry)
+    → MadeBefore q frames rest left faults made → all_plain made ≡ true
+plain_before q frames rest left faults made (inl quiet) =
+    ⊎_elim (λ (all : made ≡ link_steps q frames). ap all_plain all ∙ plain_link q [] frames)
+    (λ (some : (e : Entry) × StopsAt q frames rest made e). plain_stopped q frames rest made some.0 some.1) quiet.1
+plain_before q frames rest left faults made (inr stops) = ap all_plain stops.all ∙ plain_link q [] frames
+
 plain_made : (limits : Limits) (p : PeerPass) (frames : List Frame) (rest : List ℕ) (left : Option (List ℕ))
-    (made : List Entry)
-    (end : ReadEnd) → EndsAs limits p frames rest left made end → all_plain made ≡ true
-plain_made limits p frames rest left made ends.Closed is = ap all_plain is.all ∙ plain_link p.peer [] frames
-plain_made limits p frames rest left made (ends.Torn n) is = ap all_plain is.all ∙ plain_link p.peer [] frames
-plain_made limits p frames rest left made (ends.BadFrame n t) is = ap all_plain is.all ∙ plain_link p.peer [] frames
-plain_made limits p frames rest left made ends.ReadFault is = ap all_plain is.all ∙ plain_link p.peer [] frames
-plain_made limits p frames rest left made (ends.Ended cause) is =
-    ⊎_elim (λ (all : made ≡ link_steps p.peer frames). ap all_plain all ∙ plain_link p.peer [] frames)
-    (λ (some : (e : Entry) × StopsAt p.peer frames rest made e). plain_stopped p.peer frames rest made some.0 some.1)
-    is.1
-plain_made limits p frames rest left made (ends.JournalFull kept) is = plain_stopped p.peer frames rest made is.0 is.1
-plain_made limits p frames rest left made ends.NoMemory (inl none) = ap all_plain none.made_none
-plain_made limits p frames rest left made ends.NoMemory (inr some) = plain_stopped p.peer frames rest made some.0 some.1
+    (faults : ℕ) (made : List Entry)
+    (end : ReadEnd) → EndsAs limits p frames rest left faults made end → all_plain made ≡ true
+plain_made limits p frames rest left faults made ends.Closed is = ap all_plain is.all ∙ plain_link p.peer [] frames
+plain_made limits p frames rest left faults made (ends.Torn n) is = ap all_plain is.all ∙ plain_link p.peer [] frames
+plain_made limits p frames rest left faults made (ends.BadFrame n t) is =
+    ap all_plain is.all ∙ plain_link p.peer [] frames
+plain_made limits p frames rest left faults made ends.ReadFault is = ap all_plain is.all ∙ plain_link p.peer [] frames
+plain_made limits p frames rest left faults made (ends.Ended cause) is =
+    plain_before p.peer frames rest left faults made is.1
+plain_made limits p frames rest left faults made (ends.JournalFull kept) is =
+    plain_stopped p.peer frames rest made is.0 is.1
+plain_made limits p frames rest left faults made ends.NoMemory (inl none) = ap all_plain none.made_none
+plain_made limits p frames rest left faults made ends.NoMemory (inr some) =
+    plain_stopped p.peer frames rest made some.0 some.1
 
 plain_gone : (q : ℕ) (end : ReadEnd) → all_plain (gone_after q end) ≡ true
 plain_gone q ends.Closed = refl
@@ -126,12 +134,12 @@ plain_gone q (ends.Ended cause) = refl
 plain_gone q (ends.JournalFull kept) = refl
 plain_gone q ends.NoMemory = refl
 
-plain_read : (limits : Limits) (p : PeerPass) (bytes : List ℕ) (left : Option (List ℕ)) (end : ReadEnd)
-    → ReadsPeer limits p bytes left end → all_plain (entries_by p.seat) ≡ true
-plain_read limits p bytes left end law =
+plain_read : (limits : Limits) (p : PeerPass) (bytes : List ℕ) (left : Option (List ℕ)) (faults : ℕ) (end : ReadEnd)
+    → ReadsPeer limits p bytes left faults end → all_plain (entries_by p.seat) ≡ true
+plain_read limits p bytes left faults end law =
     ap all_plain law.entries
-    ∙ plain_both law.made (gone_after p.peer end) (plain_made limits p law.frames law.rest left law.made end law.ends)
-    (plain_gone p.peer end)
+    ∙ plain_both law.made (gone_after p.peer end)
+    (plain_made limits p law.frames law.rest left faults law.made end law.ends) (plain_gone p.peer end)
 
 -- of any pass in the history
 
@@ -148,7 +156,7 @@ plain_law : (limits : Limits) (h : History) (r : Report) (end : End) → LawOf l
 plain_law limits h r (read end) law =
     plain_at h r.number law.pass.seat law.seat.number
     (subst (λ n. HasSeen h n law.pass.seat.seen) law.seat.number law.seat.seen)
-    (plain_read law.law.limits law.pass law.law.read r.left end law.law.law)
+    (plain_read law.law.limits law.pass law.law.read r.left r.source_faults end law.law.law)
 plain_law limits h r (wrote end) law =
     plain_at h r.number law.pass.seat law.seat.number
     (subst (λ n. HasSeen h n law.pass.seat.seen) law.seat.number law.seat.seen)

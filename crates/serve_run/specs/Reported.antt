@@ -28,7 +28,7 @@ pub record IsReader (limits : Limits) (h : History) (r : Report) (end : ReadEnd)
   pub seat : IsSeatOf limits h r pass.seat
   pub peer : pass.peer ≡ r.peer
   pub reads : reader_of h r.peer ≡ Some r.number
-  pub law : HasRead pass r.given r.left end
+  pub law : HasRead pass r.given r.left r.source_faults end
   pub fault : end ≡ read_ends.ReadFault → 1 ≤ r.source_faults
   pub no_fault : TellsNoFault end → r.source_faults ≡ 0
 

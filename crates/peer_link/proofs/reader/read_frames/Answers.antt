@@ -1,20 +1,33 @@
-use Rattle.std.proofs.Common.{◌++◌, ◌∙◌, [], refl, sym, ap, subst, arith}
+use Rattle.std.proofs.Common.{◌≡◌, ◌≢◌, ◌-◌, ◌++◌, ◌∙◌, ℕ, [], refl, sym, ap, subst, arith}
+use Rattle.std.specs.Prelude.{Result, Err}
 use Rattle.wio_core.proofs.ReadsTogether.{TookFrom-both}
 use Rattle.wl_wire.specs.Messages.{bad_size_at}
 use Rattle.wl_wire.specs.Streams.{Assembly, begun}
 use Rattle.hub_lock.specs.Passes.{IsOf, PeerPass}
+use Rattle.peer_link.specs.declared.ends.ReadEnd.{ReadEnd}
+use Rattle.peer_link.specs.declared.ends.ReadEnd.TheVariants as ends
 use Rattle.peer_link.proofs.StepsMade.{saw-none, saw-both, pass-both}
 use Rattle.peer_link.proofs.ShellServed.{entries-none, took-none}
 use Rattle.peer_link.proofs.MessagesMade.{same-peer}
 use Rattle.peer_link.proofs.FramesRead.{Reading, reading-begins, reading-goes, reading-ends, nothing-read}
 use Rattle.peer_link.proofs.reader.read_frames.Goals as goal
 
+-- no other end is a failed read
+other-end : (end : ReadEnd) → end ≢ ends.ReadFault →
+    (let e : Result (Unit {0}) ReadEnd = Err end in e ≢ Err ends.ReadFault)
+other-end end n x = n (cc)
+
+-- where the count stands, no fault was counted
+none-counted : (a b c : ℕ) → c ≡ b → b ≡ a → c - a ≡ 0
+none-counted a b c later before = omega arith
+
 pub returns-in-Err-clause-reads : goal.returns-in-Err-clause-reads
 returns-in-Err-clause-reads g c = (
   [],
   took-none (g.S.Source.given c.args.source.now) (g.S.Source.left c.args.source.now),
   nothing-read c.args.hub.now.limits c.args.pass.now (g.S.Source.left c.args.source.now)
-      (entries-none c.args.pass.now.seat c.requires.fresh),
+      (g.S.Source.fault_count c.args.source.now - g.S.Source.fault_count c.args.source.now)
+      (entries-none c.args.pass.now.seat c.requires.fresh) (omega arith),
 )
 
 pub loop-init : goal.loop-init
@@ -70,8 +83,14 @@ returns-in-Err-read_frame-clause-reads g c =
           (g.S.Source.left c.read_frame.new.source) i.reads.0 r.0 i.reads.1 r.1,
       reading-ends c.args.hub.now.limits c.args.pass.now.peer c.loop.pass c.read_frame.new.pass i.reads.0
           (begun c.loop.cutter)
-          (begun c.read_frame.new.cutter) r.0 (g.S.Source.left c.read_frame.new.source) c.in-Err-read_frame.end
-          (same-peer c.args.pass.now c.loop.pass i.pass) c.in-Err-read_frame.ensures.pass i.reads.2 r.2,
+          (begun c.read_frame.new.cutter) r.0 (g.S.Source.left c.read_frame.new.source)
+          (g.S.Source.fault_count c.read_frame.new.source - g.S.Source.fault_count c.args.source.now)
+          c.in-Err-read_frame.end
+          (same-peer c.args.pass.now c.loop.pass i.pass) c.in-Err-read_frame.ensures.pass
+          (λ n. none-counted (g.S.Source.fault_count c.args.source.now) (g.S.Source.fault_count c.loop.source)
+          (g.S.Source.fault_count c.read_frame.new.source)
+          (c.in-Err-read_frame.ensures.no_fault (other-end c.in-Err-read_frame.end n)) i.no_fault)
+          i.reads.2 r.2,
     )
 
 pub read_frame-requires-clause-own : goal.read_frame-requires-clause-own

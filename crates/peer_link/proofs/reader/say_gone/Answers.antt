@@ -10,20 +10,20 @@ use Rattle.peer_link.proofs.FramesRead.{ended-reads, gone-said, gone-refused}
 use Rattle.peer_link.proofs.reader.say_gone.Goals as goal
 
 pub returns-in-Ended-clause-reads : goal.returns-in-Ended-clause-reads
-returns-in-Ended-clause-reads g c = λ read left r.
-    subst (λ (e : ReadEnd). ReadsPeer c.args.hub.now.limits c.args.pass.now read left e) (sym c.in-Ended.is)
-    (ended-reads c.args.hub.now.limits c.args.pass.now read left c.in-Ended.field-0
-    (subst (λ (e : ReadEnd). ReadsLink c.args.hub.now.limits c.args.pass.now read left e) c.in-Ended.is r))
+returns-in-Ended-clause-reads g c = λ read left faults r.
+    subst (λ (e : ReadEnd). ReadsPeer c.args.hub.now.limits c.args.pass.now read left faults e) (sym c.in-Ended.is)
+    (ended-reads c.args.hub.now.limits c.args.pass.now read left faults c.in-Ended.field-0
+    (subst (λ (e : ReadEnd). ReadsLink c.args.hub.now.limits c.args.pass.now read left faults e) c.in-Ended.is r))
 
 pub returns-in-Ok-clause-reads : goal.returns-in-Ok-clause-reads
-returns-in-Ok-clause-reads g c = λ read left r.
-    gone-said c.args.hub.now.limits c.args.pass.now c.submit_step.new.pass read left c.args.end
+returns-in-Ok-clause-reads g c = λ read left faults r.
+    gone-said c.args.hub.now.limits c.args.pass.now c.submit_step.new.pass read left faults c.args.end
     c.submit_step.ensures.pass
     c.submit_step.ensures.saw (λ cause e. c.in_default.not-Ended cause e) c.in-Ok.ensures.made r
 
 pub returns-in-Err-clause-reads : goal.returns-in-Err-clause-reads
-returns-in-Err-clause-reads g c = λ read left r.
-    gone-refused c.args.hub.now.limits c.args.pass.now c.submit_step.new.pass read left c.args.end c.in-Err.other
+returns-in-Err-clause-reads g c = λ read left faults r.
+    gone-refused c.args.hub.now.limits c.args.pass.now c.submit_step.new.pass read left faults c.args.end c.in-Err.other
     (entries.End c.args.pass.now.peer Gone) c.submit_step.ensures.pass c.in-Err.ensures.made c.in-Err.ensures.refusal r
 
 -- who has ended may have a read that failed

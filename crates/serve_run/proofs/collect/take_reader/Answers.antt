@@ -10,7 +10,8 @@ returns-clause-law g c =
     let done = c.args.done in
     let theirs = c.finish.ensures.both.theirs in
     ∥∥₁_map done.law
-    (λ (law : HasRead done.pass (g.S.Source.given done.source) (g.S.Source.left done.source) done.end). record {
+    (λ (law : HasRead done.pass (g.S.Source.given done.source) (g.S.Source.left done.source)
+    (g.S.Source.fault_count done.source) done.end). record {
       pass = done.pass;
       seat = record { number = refl; constant = c.requires.own.1; seen = theirs };
       peer = refl;
