@@ -146,6 +146,15 @@ fn serve_shared<R: Abort + Threads + Wait + Copy + Send + Sync + 'static>(
     serve_links(rt, alloc, &mut net, gate, line, &mut output)
 }
 
+// The three doors open before the first link is accepted, and each once: else the net fails.
+#[test]
+fn doors_open_first(rt: HostRuntime) -> Result<(), Fail> {
+    let alloc = rt.alloc();
+    let gate = Arc::new(alloc, Open)?;
+    let shared = Arc::new(alloc, Shared::new())?;
+    serve_shared(rt, alloc, &gate, &shared)
+}
+
 // A writer runs beside its reader: the link ends only once its own sink has gained bytes.
 #[test]
 fn the_writer_beside_the_reader(rt: HostRuntime) -> Result<(), Fail> {
