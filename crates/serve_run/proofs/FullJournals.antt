@@ -31,7 +31,7 @@ use Rattle.serve_run.specs.declared.stop.Stop.TheVariants as stops
 use Rattle.serve_run.specs.declared.stop.Trouble.{Trouble}
 use Rattle.serve_run.specs.declared.stop.Trouble.TheVariants as troubles
 use Rattle.serve_run.specs.LinkJobs.{role_at}
-use Rattle.serve_run.specs.Refused.{stopped, stop_of, HasMet, WasRefused, JoinedUnless}
+use Rattle.serve_run.specs.Refused.{stopped, IsStoppedBy, HasMet, WasRefused, JoinedUnless}
 use Rattle.serve_run.specs.Reported.{IsSeatOf, LawOf, HaveLaws}
 use Rattle.serve_run.specs.Statuses.{brought_by, worse, worst_from, worst, status_by}
 
@@ -148,25 +148,23 @@ rule_full true full kept some none = absurd (cc)
 rule_full false None kept some none = absurd (cc)
 rule_full false (Some k) kept some none = cc
 
-join_full : (limits : Limits) (h : History) (role : Role) (why : JoinRefusal) → stop_of why ≡ stops.JournalFull
-    → HasMet limits h role why → IsAtLimit limits (journal_of limits h)
-join_full limits h role (refusals.TooManyPeers n) is met = absurd (cc)
-join_full limits h role refusals.NoMemory is met = absurd (cc)
-join_full limits h role (refusals.JournalFull kept) is met =
+join_full : (limits : Limits) (h : History) (role : Role) (stop : Result (Unit {0}) Stop) (why : JoinRefusal)
+    → stop ≡ stopped stops.JournalFull → IsStoppedBy why stop → HasMet limits h role why
+    → IsAtLimit limits (journal_of limits h)
+join_full limits h role stop (refusals.TooManyPeers n) is by met = absurd by
+join_full limits h role stop refusals.NoMemory is by met = absurd (cc)
+join_full limits h role stop (refusals.JournalFull kept) is by met =
     let j : List Entry = journal_of limits met.earlier in
     let full : full_in limits j (entries.Join role) ≡ Some kept =
     rule_full (nat_le 64 (number_alive j)) (full_in limits j (entries.Join role)) kept met.by_rule met.otherwise in
     subst (λ (g : History). IsAtLimit limits (journal_of limits g)) (sym met.is)
     (at-limit-later limits met.earlier met.later (at-limit limits j (entries.Join role) kept full (omega arith)))
 
-same_stop : (stop : Result (Unit {0}) Stop) (a b : Stop) → stop ≡ stopped a → stop ≡ stopped b → a ≡ b
-same_stop stop a b one two = let e : stopped a ≡ stopped b = sym one ∙ two in cc
-
 refused_full : (limits : Limits) (h : History) (role : Option Role) (stop : Result (Unit {0}) Stop)
     → stop ≡ stopped stops.JournalFull → WasRefused limits h role stop → IsAtLimit limits (journal_of limits h)
 refused_full limits h None stop is was = absurd was
 refused_full limits h (Some role) stop is was =
-    join_full limits h role was.0 (same_stop stop (stop_of was.0) stops.JournalFull was.1 is) was.2
+    join_full limits h role stop was.0 is was.1 was.2
 
 unless_full : (limits : Limits) (h : History) (letters : List ℕ) (joined accepted : ℕ) (stop : Result (Unit {0}) Stop)
     → stop ≡ stopped stops.JournalFull → JoinedUnless limits h letters joined accepted stop

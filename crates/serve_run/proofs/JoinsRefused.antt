@@ -1,5 +1,5 @@
 -- Why a join was refused
-use Rattle.std.proofs.Common.{◌≡◌, ◌++◌, [], ℕ, Option, Some, None, Result, Err, IfSome, sym, ap, ◌∙◌, append-nil}
+use Rattle.std.proofs.Common.{◌≡◌, ◌++◌, [], ℕ, Option, Some, None, Result, Err, IfSome, sym, ◌∙◌, append-nil}
 use Rattle.relay_model.specs.declared.role.Role.{Role}
 use Rattle.seat_steps.specs.declared.limits.Limits.{Limits}
 use Rattle.broker_core.specs.declared.answers.JoinRefusal.{JoinRefusal}
@@ -8,7 +8,7 @@ use Rattle.hub_lock.specs.Histories.{History, broker_of}
 use Rattle.hub_lock.specs.Passes.{PassSeat}
 use Rattle.hub_lock.specs.Calls.{LegalJoin}
 use Rattle.serve_run.specs.declared.stop.Stop.{Stop}
-use Rattle.serve_run.specs.Refused.{stopped, stop_of, WasRefused}
+use Rattle.serve_run.specs.Refused.{stopped, IsStoppedBy, WasRefused}
 
 abbrev refused_as : JoinRefusal → Result ℕ JoinRefusal
 refused_as why = Err why
@@ -22,10 +22,10 @@ by_rule None why refused = tt
 by_rule (Some rule) why refused = same_why why rule refused
 
 pub was_refused : (limits : Limits) (root : PassSeat) (seen : History) (role : Role) (why : JoinRefusal) (stop : Stop)
-    → stop ≡ stop_of why → LegalJoin limits root seen role (Err why) → WasRefused limits seen (Some role) (stopped stop)
+    → IsStoppedBy why (stopped stop) → LegalJoin limits root seen role (Err why) → WasRefused limits seen (Some role) (stopped stop)
 was_refused limits root seen role why stop is legal = (
   why,
-  ap stopped is,
+  is,
   record {
     earlier = root.seen ++ legal.rest;
     later = [];

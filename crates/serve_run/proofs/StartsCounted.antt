@@ -11,7 +11,7 @@ use Rattle.wio_core.specs.Io.{Rose}
 use Rattle.serve_run.specs.declared.stop.Stop.{Stop}
 use Rattle.serve_run.specs.declared.stop.Stop.TheVariants as stops
 use Rattle.serve_run.specs.Started.{MayLack, IsRefusal, LinkStarted, Starts}
-use Rattle.serve_run.specs.Refused.{stopped, stop_of, WasRefused}
+use Rattle.serve_run.specs.Refused.{stopped, IsStoppedBy, WasRefused}
 
 pub rose_since : (a b c : ℕ) → a ≤ b → Rose b c → Rose a c
 rose_since a b c le rose = omega arith
@@ -96,10 +96,10 @@ join_has_threads stops.NoThread is e = absurd is
 refused_has_net : (limits : Limits) (h : History) (role : Option Role) → WasRefused limits h role (Err stops.NetFault) → ⊥
 refused_has_net limits h None was = was
 refused_has_net limits h (Some role) was = by was.0 was.1 where
-  by : (why : JoinRefusal) → stopped stops.NetFault ≡ stopped (stop_of why) → ⊥
+  by : (why : JoinRefusal) → IsStoppedBy why (stopped stops.NetFault) → ⊥
   by (refusals.JournalFull kept) e = cc
   by refusals.NoMemory e = cc
-  by (refusals.TooManyPeers n) e = cc
+  by (refusals.TooManyPeers n) e = e
 
 -- a link's start is no fault of a net
 

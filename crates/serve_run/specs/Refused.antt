@@ -15,10 +15,12 @@ use Rattle.serve_run.specs.LinkJobs.{role_at}
 abbrev pub stopped : Stop → Result (Unit {0}) Stop
 stopped stop = Err stop
 
--- the cause that a refused join is
-abbrev pub stop_of : JoinRefusal → Stop
-stop_of (refusals.JournalFull kept) = stops.JournalFull
-stop_of _ = stops.NoMemory
+-- The accepting stopped for a join that was refused so: for a full journal, or where memory lacked.
+-- No join is refused for too many peers: an order has letters for 64 at most.
+abbrev pub IsStoppedBy : JoinRefusal → Result (Unit {0}) Stop → Type 0
+IsStoppedBy (refusals.JournalFull kept) stop = stop ≡ stopped stops.JournalFull
+IsStoppedBy refusals.NoMemory stop = stop ≡ stopped stops.NoMemory
+IsStoppedBy (refusals.TooManyPeers most) stop = ⊥
 
 -- by the journal of an earlier moment the rules refuse a join so, or they don't and memory lacked
 pub record HasMet (limits : Limits) (h : History) (role : Role) (why : JoinRefusal) : Type 0 where
@@ -32,7 +34,7 @@ pub record HasMet (limits : Limits) (h : History) (role : Role) (why : JoinRefus
 abbrev pub WasRefused : Limits → History → Option Role → Result (Unit {0}) Stop → Type 0
 WasRefused limits h None stop = ⊥
 WasRefused limits h (Some role) stop =
-    (why : JoinRefusal) × (stop ≡ stopped (stop_of why)) × HasMet limits h role why
+    (why : JoinRefusal) × IsStoppedBy why stop × HasMet limits h role why
 
 -- so it was with the link behind those that joined
 abbrev pub IsRefusedAt : Limits → History → List ℕ → (joined accepted : ℕ) →

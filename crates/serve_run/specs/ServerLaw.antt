@@ -119,7 +119,7 @@ pub record ServerLaw (asked : Serving) (before after : Sides) (status : ServeSta
   pub net : stop ≡ Err stops.NetFault → Rose before.net_faults after.net_faults
   pub threads : stop ≡ Err stops.NoThread → Rose before.refusals after.refusals
   pub write : status ≡ statuses.WriteFault → Rose before.output_faults after.output_faults
-  -- no accept, start or write that failed is tried again
+  -- no accept, start or write that failed is tried again and then hidden
   pub no_net : stop ≢ Err stops.NetFault → after.net_faults ≡ before.net_faults
   pub no_thread : stop ≢ Err stops.NoThread → after.refusals ≡ before.refusals
   pub no_write : status ≢ statuses.WriteFault → after.output_faults ≡ before.output_faults

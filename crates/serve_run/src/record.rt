@@ -2,7 +2,6 @@
 ghost use Rattle.std.specs.Prelude.{◌≡◌, ◌≢◌, ◌⊎◌, ◌≤◌, ◌∷◌, ℕ, List, [], length, Option, Err, OnOk};
 ghost use Rattle.wio_core.specs.Io.{Rose};
 ghost use Rattle.turn_lock.specs.Pairs.{NoneOf, HasSeen, IsIn, total};
-ghost use Rattle.hub_lock.specs.Histories.{broker_of};
 ghost use Rattle.hub_lock.specs.Lawful.{IsLawful};
 ghost use Rattle.hub_lock.specs.Passes.{IsOf};
 ghost use Rattle.serve_record.specs.Handed.{WritesHanded, MadeNoStep};

@@ -1,7 +1,6 @@
 //! The server.
-ghost use Rattle.std.specs.Prelude.{◌≡◌, ◌≢◌, ◌⊎◌, ◌≤◌, ◌+◌, ◌*◌, ◌^◌, ◌++◌, ℕ, []};
-ghost use Rattle.std.specs.Prelude.{length, map, take, string_bytes, true, Some, None, Err, OnOk};
-ghost use Rattle.std.specs.Prelude.{IfSome};
+ghost use Rattle.std.specs.Prelude.{◌≡◌, ◌≢◌, ◌⊎◌, ◌≤◌, ◌+◌, ◌*◌, ◌^◌, []};
+ghost use Rattle.std.specs.Prelude.{length, map, string_bytes, true, Some, None, Err, OnOk, IfSome};
 ghost use Rattle.std.specs.Arc.{arc_value};
 ghost use Rattle.wio_core.specs.Io.{Rose};
 ghost use Rattle.seat_steps.specs.Ranges.{IsLimits};

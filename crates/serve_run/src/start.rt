@@ -1,6 +1,6 @@
 //! The jobs of a link start.
 ghost use Rattle.std.specs.Prelude.{◌≡◌, ◌≤◌, ◌^◌, ◌++◌, ◌∷◌, [], length, Some, None, Err};
-ghost use Rattle.std.specs.Prelude.{OnOk, OnErr, IfOk, IfErr};
+ghost use Rattle.std.specs.Prelude.{OnOk, OnErr, IfOk, IfErr, IsSomeAnd, true};
 ghost use Rattle.std.specs.Arc.{arc_value};
 ghost use Rattle.wio_core.specs.Io.{Rose};
 ghost use Rattle.turn_lock.specs.Pairs.{HasSeen};
@@ -10,6 +10,7 @@ ghost use Rattle.hub_lock.specs.Finished.{seat_of};
 ghost use Rattle.hub_lock.specs.Histories.{reader_of};
 ghost use Rattle.hub_lock.specs.Calls.{pass_having_seen};
 ghost use Rattle.peer_link.specs.Made.{journal_of};
+ghost use Rattle.link_jobs.specs.Tags.Part.{writer};
 ghost use Rattle.link_jobs.specs.LinkTags.{job_tag};
 ghost use Rattle.serve_run.specs.LinkJobs.{IsOnHub};
 ghost use Rattle.serve_run.specs.Started.{IsRootOf, IsGivenBack, IsJoinedBy, IsNotJoined};
@@ -63,13 +64,14 @@ fn take_reader_back<R: Wait>(rt: &R, hub: &Hub, root: &mut HubPass, mut pass: Re
     take_back(hub, root, Pass::Reader(pass));
 }
 
-// Takes back the pass of a writer that doesn't run, and hangs its link up: its reader would go on
-// alone, and nobody would hear of it.
-fn take_writer_back<K: LinkSink>(hub: &Hub, root: &mut HubPass, job: WriterJob<K>)
+// Takes back the pass of a writer that doesn't run, and gives its link back, hung up: its reader
+// would go on alone, and nobody would hear of it.
+fn take_writer_back<K: LinkSink>(hub: &Hub, root: &mut HubPass, job: WriterJob<K>) -> K
     requires root { IsRootOf hub.now root.old }
     requires own { IsOf hub.now job.pass.seat }
     ensures back { IsGivenBack hub.now root.old root.new job.pass.seat.number }
     ensures theirs { HasSeen root.new.seen job.pass.seat.number job.pass.seat.seen }
+    ensures hung_up { K.hung_up result ≡ true }
 {
     let WriterJob {
         hub: _,
@@ -78,24 +80,34 @@ fn take_writer_back<K: LinkSink>(hub: &Hub, root: &mut HubPass, job: WriterJob<K
     } = job;
     sink.hang_up();
     take_back(hub, root, Pass::Writer(pass));
+    sink
 }
 
-// Takes back the pass of a job that wasn't started.
+// Takes back the pass of a job that wasn't started, and gives back the link that it hung up, that of
+// a writer.
 fn take_job_back<R: Wait, S: LinkSource, K: LinkSink, G: Gate + Drop>(
     rt: &R,
     hub: &Hub,
     root: &mut HubPass,
     job: LinkJob<S, K, G>,
-)
+) -> Option<K>
     requires root { IsRootOf hub.now root.old }
     requires own { IsOnHub hub.now (job_tag job) }
     ensures back { IsGivenBack hub.now root.old root.new (job_tag job).number }
     ensures made { MadeBy hub.now.limits root.new.seen (job_tag job).number (job_tag job).part }
+    ensures hung_up { (job_tag job).part ≡ writer →
+        IsSomeAnd result (λ sink. K.hung_up sink ≡ true) }
 {
     match job {
-        LinkJob::Reader(job) => take_reader_back(rt, hub, root, job.pass),
-        LinkJob::Writer(job) => take_writer_back(hub, root, job),
-        LinkJob::Shell(job) => take_back(hub, root, Pass::Shell(job.pass)),
+        LinkJob::Reader(job) => {
+            take_reader_back(rt, hub, root, job.pass);
+            None
+        }
+        LinkJob::Writer(job) => Some(take_writer_back(hub, root, job)),
+        LinkJob::Shell(job) => {
+            take_back(hub, root, Pass::Shell(job.pass));
+            None
+        }
     }
 }
 
@@ -130,7 +142,7 @@ fn start_job<R: Wait, S: LinkSource, K: LinkSink, G: Gate + Drop, W: Spawner<Lin
     match spawner.start(job) {
         Ok(()) => Ok(()),
         Err(job) => {
-            take_job_back(rt, hub, root, job);
+            let _ = take_job_back(rt, hub, root, job);
             Err(Stop::NoThread)
         }
     }

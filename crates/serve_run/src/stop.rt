@@ -2,7 +2,7 @@
 ghost use Rattle.std.specs.Prelude.{◌≡◌, ℕ};
 ghost use Rattle.link_jobs.specs.Tags.End.{read, wrote, ordered};
 ghost use Rattle.link_jobs.specs.LinkTags.{done_report};
-ghost use Rattle.serve_run.specs.Refused.{stop_of};
+ghost use Rattle.serve_run.specs.Refused.{IsStoppedBy, stopped};
 ghost use Rattle.serve_run.specs.Started.{IsRefusal};
 ghost use Rattle.serve_run.specs.Statuses.{brought_by, worse, status_by, status_with};
 
@@ -47,7 +47,7 @@ pub enum Trouble {
 pub(crate) fn refused(why: JoinRefusal) -> Stop
     requires few { (n : ℕ) → why ≡ JoinRefusal.TooManyPeers n → ⊥ }
     ensures refusal { IsRefusal result }
-    ensures is { result ≡ stop_of why }
+    ensures is { IsStoppedBy why (stopped result) }
 {
     match why {
         JoinRefusal::JournalFull(_) => Stop::JournalFull,

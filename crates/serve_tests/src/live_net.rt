@@ -1,5 +1,5 @@
 //! A net with one link or two. The source of each ends only once its sink has gained bytes, or was
-//! hung up.
+//! hung up. Each of the three doors opens once, and before the first link.
 ghost use Rattle.std.specs.Prelude.{◌≡◌, None, true, false, IfSome, IfOk};
 ghost use Rattle.std.proofs.Props.{props};
 
@@ -164,12 +164,16 @@ fn link_of(
     Ok((source, LiveSink::new(shared)?))
 }
 
-/// A net with the link that is accepted next, and the one behind it.
+// How many doors there are.
+const DOORS: usize = 3;
+
+/// A net with the link that is accepted next, and the one behind it, and the doors that it opened.
 #[derive(Drop)]
 pub(crate) struct LiveNet {
     link: Option<(LiveSource, LiveSink)>,
     behind: Option<(LiveSource, LiveSink)>,
     links: Vec<Door>,
+    doors: Vec<Door>,
     faults: u64,
     ghost whole: { IfSome link (λ l. l.0.bytes.faults ≡ 0) } by { Prim.hlevel props },
     ghost rest: { IfSome behind (λ l. l.0.bytes.faults ≡ 0) } by { Prim.hlevel props },
@@ -188,6 +192,7 @@ impl LiveNet {
             link: Some(link_of(alloc, bytes, shared)?),
             behind: None,
             links: Vec::new(alloc),
+            doors: Vec::new(alloc),
             faults: 0,
         })
     }
@@ -202,6 +207,7 @@ impl LiveNet {
             link: Some(link_of(alloc, bytes[0], shared[0])?),
             behind: Some(link_of(alloc, bytes[1], shared[1])?),
             links: Vec::new(alloc),
+            doors: Vec::new(alloc),
             faults: 0,
         })
     }
@@ -218,11 +224,21 @@ impl Net for LiveNet {
 
     ghost fault_count = { λ n. n.faults };
 
-    fn listen(&mut self, _door: Door, _path: &str) -> Result<(), Failed> {
+    /// Fails at a door that it opened.
+    fn listen(&mut self, door: Door, _path: &str) -> Result<(), Failed> {
+        if self.doors.contains(&door) || self.doors.push(door).is_err() {
+            self.faults = self.faults.saturating_add(1);
+            return Err(Failed);
+        }
         Ok(())
     }
 
+    /// Fails where a door wasn't opened.
     fn accept(&mut self, door: Door) -> Result<(LiveSource, LiveSink), Failed> {
+        if self.doors.len() < DOORS {
+            self.faults = self.faults.saturating_add(1);
+            return Err(Failed);
+        }
         let next = self.link.take();
         self.link = self.behind.take();
         if let Some((mut source, mut sink)) = next {

@@ -84,6 +84,7 @@ pub invariant_of-link : goal.invariant_of-link
 invariant_of-link g c = record {
   link_in = c.in-Ok.ensures.source;
   link_out = c.in-Ok.ensures.sink;
+  live = c.in-Ok.ensures.live;
   one = c.in-Ok.ensures.number_in ∙ sym c.in-Ok.ensures.number_out;
 }
 
