@@ -1,5 +1,5 @@
 -- The stamps after calls are those for what the calls gave.
-use Rattle.std.proofs.Common.{◌≡◌, ℕ, zero, suc, List, [], ◌∷◌, map, true, false, Option, Some, None, refl, sym, ap, ◌∙◌}
+use Rattle.std.proofs.Common.{◌≡◌, ℕ, zero, suc, List, [], ◌∷◌, true, false, Option, Some, None, refl, sym, ap, ◌∙◌}
 use Rattle.seat_steps.specs.declared.limits.Limits.{Limits}
 use Rattle.seat_steps.specs.declared.stamp.Stamp.{Stamp}
 use Rattle.broker_model.specs.declared.journal.Entry.{Entry}
@@ -7,8 +7,9 @@ use Rattle.broker_model.specs.declared.journal.Entry.TheVariants as entries
 use Rattle.broker_model.specs.Settle.{refused, due, cause_of, with_end, settled, settle, number_alive}
 use Rattle.broker_model.specs.Stamps.{follows, stamp_of, no_stamp, stamps, step_stamps}
 use Rattle.broker_model.proofs.StampsAgain.{step_stamped, end_stamped, again}
-use Rattle.broker_core.specs.Broker.{Broker, with_step}
-use Rattle.broker_core.specs.Calls.{Call, after_calls, IsOfCalls, CallLaw}
+use Rattle.broker_core.specs.Broker.{Broker, with_step, letting_go}
+use Rattle.broker_core.specs.Calls.{Call, after_calls, given_by, IsOfCalls, CallLaw}
+use Rattle.broker_core.specs.Calls.Call.{Put, LetGo}
 use Rattle.broker_core.proofs.FirstDueIsSettled.{cause_follows}
 
 -- the stamps of the ends that follow stand on those before them alone
@@ -50,20 +51,26 @@ step_given capacity e journal given gave now f h =
     step_same capacity e journal given gave (step_stamps journal now) f
     (sym (again journal gave) ∙ ap (λ (ss : List Stamp). stamps journal (step_stamps journal ss)) h)
 
-one_more : (limits : Limits) (call : Call) (older : List Call) (b : Broker) → follows call.step ≡ false →
-    IsOfCalls limits older b →
-    IsOfCalls limits (call ∷ older) (with_step call.step call.given b)
-one_more limits call older b f is =
-    let after : List Entry = settle b.limits.store (call.step ∷ b.journal) in
-    let gave : List Stamp = map (λ (c : Call). c.given) older in
+one_more : (limits : Limits) (step : Entry) (given : Stamp) (older : List Call) (b : Broker) →
+    follows step ≡ false → IsOfCalls limits older b →
+    IsOfCalls limits (Put step given ∷ older) (with_step step given b)
+one_more limits step given older b f is =
     record {
       allowed = is.allowed;
       steps =
-          ap (λ (allowed : Limits). settle allowed.store (call.step ∷ b.journal)) is.allowed
-          ∙ ap (λ (journal : List Entry). settle limits.store (call.step ∷ journal)) is.steps;
-      stamped = sym (step_given b.limits.store call.step b.journal call.given gave b.stamps f (sym is.stamped));
+          ap (λ (allowed : Limits). settle allowed.store (step ∷ b.journal)) is.allowed
+          ∙ ap (λ (journal : List Entry). settle limits.store (step ∷ journal)) is.steps;
+      stamped = sym (step_given b.limits.store step b.journal given (given_by older) b.stamps f (sym is.stamped));
     }
+
+-- to let entries go changes neither
+fewer_kept : (limits : Limits) (number : ℕ) (older : List Call) (b : Broker) → IsOfCalls limits older b →
+    IsOfCalls limits (LetGo number ∷ older) (letting_go number b)
+fewer_kept limits number older b is = record { allowed = is.allowed; steps = is.steps; stamped = is.stamped }
 
 pub call_law : CallLaw
 call_law limits [] a = record { allowed = refl; steps = refl; stamped = refl }
-call_law limits (call ∷ older) a = one_more limits call older (after_calls limits older) a.0 (call_law limits older a.1)
+call_law limits (Put step given ∷ older) a =
+    one_more limits step given older (after_calls limits older) a.0 (call_law limits older a.1)
+call_law limits (LetGo number ∷ older) a =
+    fewer_kept limits number older (after_calls limits older) (call_law limits older a.1)

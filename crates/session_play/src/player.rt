@@ -25,8 +25,8 @@ pub enum PlayEnd {
 }
 
 /// Plays a session line by line. After an error it plays nothing more, and its journal stays what
-/// was played, with as many entries in memory. After each line that it plays fewer than 256 are:
-/// where there are more, all are let go, and else none.
+/// was played, with as many entries in memory. Where 256 or more are in memory after a line that it
+/// played, all are let go, and else none.
 ///
 /// In contracts it is its limits, what was played so far, how many entries were let go, and whether
 /// and why an error came.
