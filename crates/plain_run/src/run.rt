@@ -189,7 +189,7 @@ pub fn run_plain<S: Source, K: Sink>(
     ensures reads_never_fall { S.fault_count input.old ≤ S.fault_count input.new }
     ensures writes_never_fall { K.fault_count output.old ≤ K.fault_count output.new }
 
-    // No other answer comes after a read or a write that failed: none is tried again.
+    // No other answer hides a read or a write that failed.
     ensures no_read_fault { result ≢ Status.ReadFault →
         S.fault_count input.new ≡ S.fault_count input.old }
     ensures no_write_fault { result ≢ Status.WriteFault →
