@@ -9,7 +9,7 @@ use Rattle.broker_model.specs.Stamps.{follows, stamp_of, no_stamp, stamps, step_
 use Rattle.broker_model.proofs.StampsAgain.{step_stamped, end_stamped, again}
 use Rattle.broker_core.specs.Broker.{Broker, with_step, letting_go}
 use Rattle.broker_core.specs.Calls.{Call, after_calls, given_by, IsOfCalls, CallLaw}
-use Rattle.broker_core.specs.Calls.Call.{Put, LetGo}
+use Rattle.broker_core.specs.Calls.Call.{Put, LettingGo}
 use Rattle.broker_core.proofs.FirstDueIsSettled.{cause_follows}
 
 -- the stamps of the ends that follow stand on those before them alone
@@ -65,12 +65,12 @@ one_more limits step given older b f is =
 
 -- to let entries go changes neither
 fewer_kept : (limits : Limits) (number : ℕ) (older : List Call) (b : Broker) → IsOfCalls limits older b →
-    IsOfCalls limits (LetGo number ∷ older) (letting_go number b)
+    IsOfCalls limits (LettingGo number ∷ older) (letting_go number b)
 fewer_kept limits number older b is = record { allowed = is.allowed; steps = is.steps; stamped = is.stamped }
 
 pub call_law : CallLaw
 call_law limits [] a = record { allowed = refl; steps = refl; stamped = refl }
 call_law limits (Put step given ∷ older) a =
     one_more limits step given older (after_calls limits older) a.0 (call_law limits older a.1)
-call_law limits (LetGo number ∷ older) a =
+call_law limits (LettingGo number ∷ older) a =
     fewer_kept limits number older (after_calls limits older) (call_law limits older a.1)

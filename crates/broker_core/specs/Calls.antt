@@ -12,18 +12,18 @@ use Rattle.broker_core.specs.Broker.{Broker, begun, with_step, letting_go}
 -- entries up to a number were let go, by `pop_oldest` one more than were gone
 pub data Call : Type 0 where
   Put : (step : Entry) (given : Stamp) → Call
-  LetGo : (number : ℕ) → Call
+  LettingGo : (number : ℕ) → Call
 
 -- what calls lead to from the beginning on, the newest first
 abbrev pub after_calls : Limits → List Call → Broker
 after_calls limits [] = begun limits
 after_calls limits (Put step given ∷ older) = with_step step given (after_calls limits older)
-after_calls limits (LetGo number ∷ older) = letting_go number (after_calls limits older)
+after_calls limits (LettingGo number ∷ older) = letting_go number (after_calls limits older)
 
 -- its step, if it put one, is no end that follows from another
 abbrev pub IsOwn : Call → Type 0
 IsOwn (Put step given) = follows step ≡ false
-IsOwn (LetGo number) = Unit {0}
+IsOwn (LettingGo number) = Unit {0}
 
 -- no call is an end that follows from another
 abbrev pub AreSteps : List Call → Type 0
@@ -33,13 +33,13 @@ AreSteps calls = AllByRecursion IsOwn calls
 abbrev pub steps_of : List Call → List Entry
 steps_of [] = []
 steps_of (Put step given ∷ older) = step ∷ steps_of older
-steps_of (LetGo number ∷ older) = steps_of older
+steps_of (LettingGo number ∷ older) = steps_of older
 
 -- the stamps that they gave with these
 abbrev pub given_by : List Call → List Stamp
 given_by [] = []
 given_by (Put step given ∷ older) = given ∷ given_by older
-given_by (LetGo number ∷ older) = given_by older
+given_by (LettingGo number ∷ older) = given_by older
 
 -- the journal is the history of their steps, and its stamps are those for what they gave
 pub record IsOfCalls (limits : Limits) (calls : List Call) (b : Broker) : Type 0 where

@@ -1,5 +1,5 @@
-//! Two writers that sleep, and a step that tells both their peers something, or ends one and tells the
-//! other: it wakes both. A writer that isn't woken would keep the test from ending.
+//! Two writers that sleep, and a step that tells both their peers something, or ends one and tells
+//! the other: it wakes both. A writer that isn't woken would keep the test from ending.
 ghost use Rattle.std.specs.Prelude.{◌≡◌, IfOk};
 ghost use Rattle.seat_steps.specs.Ranges.{IsPeerStep};
 ghost use Rattle.hub_lock.specs.Passes.{IsOf};
@@ -242,8 +242,8 @@ fn a_step_wakes_two_writers(rt: HostRuntime) -> Result<(), Fail> {
     Ok(())
 }
 
-// Both take what they were told so far. Then the application goes, which ends its own writer and tells
-// the method; when that was taken the method goes too.
+// Both take what they were told so far. Then the application goes, which ends its own writer and
+// tells the method; when that was taken the method goes too.
 fn end_holder<R: Wait + Clock>(
     rt: &R,
     hub: &Hub,

@@ -1,5 +1,5 @@
 //! The jobs of a link.
-ghost use Rattle.std.specs.Prelude.{◌≡◌, false};
+ghost use Rattle.std.specs.Prelude.{◌≡◌};
 ghost use Rattle.std.specs.Arc.{arc_value};
 ghost use Rattle.std.proofs.Props.{props};
 ghost use Rattle.hub_lock.specs.Passes.{IsOf, steps_of};
@@ -28,8 +28,7 @@ pub struct ReaderJob<S: LinkSource, G: Gate + Drop> {
     pub ghost link: { IsNewSource (S.Source.given source) (S.Source.fault_count source) } by { Prim.hlevel props },
 }
 
-/// The writing to a peer's link. Its pass is this hub's and took nothing, and its link is new and
-/// open.
+/// The writing to a peer's link. Its pass is this hub's and took nothing, and its link is new.
 #[derive(Drop)]
 pub struct WriterJob<K: LinkSink> {
     /// The hub for whose peer it writes.
@@ -41,11 +40,10 @@ pub struct WriterJob<K: LinkSink> {
     pub ghost own: { IsOf (arc_value hub) pass.seat },
     pub ghost fresh: { steps_of pass.seat ≡ 0 },
     pub ghost link: { IsNewSink (K.Sink.held sink) (K.Sink.fault_count sink) } by { Prim.hlevel props },
-    pub ghost live: { K.hung_up sink ≡ false },
 }
 
-/// The serving of a shell's link. Its pass is this hub's and gave no order, and its link is new,
-/// open and one.
+/// The serving of a shell's link. Its pass is this hub's and gave no order, and its link is new and
+/// one.
 #[derive(Drop)]
 pub struct ShellJob<S: LinkSource, K: LinkSink> {
     /// Where memory comes from.
@@ -62,6 +60,5 @@ pub struct ShellJob<S: LinkSource, K: LinkSink> {
     pub ghost fresh: { steps_of pass ≡ 0 },
     pub ghost link_in: { IsNewSource (S.Source.given source) (S.Source.fault_count source) } by { Prim.hlevel props },
     pub ghost link_out: { IsNewSink (K.Sink.held sink) (K.Sink.fault_count sink) } by { Prim.hlevel props },
-    pub ghost live: { K.hung_up sink ≡ false },
     pub ghost one: { S.number source ≡ K.number sink },
 }

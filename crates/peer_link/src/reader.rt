@@ -147,9 +147,9 @@ fn say_gone<R: Wait, G: Gate>(
 ///
 /// `Closed`, `Torn`, `BadFrame` and `ReadFault` come of the frames, where all their steps were made.
 /// `Ended` comes where the peer has ended, for that cause; a read may have failed before it, but
-/// only where all steps were made. `JournalFull` comes where the journal was full for the next step;
-/// `NoMemory` may come at any step. Where a step but the last was refused, no byte past its frame
-/// was read. (Wait: it promises what it does if it returns.)
+/// only where all steps were made. `JournalFull` comes where the journal was full for the next
+/// step; `NoMemory` may come at any step. Where a step but the last was refused, no byte past its
+/// frame was read. (Wait: it promises what it does if it returns.)
 pub fn read_peer<R: Wait, S: Source, G: Gate>(
     rt: &R,
     alloc: Global,

@@ -22,7 +22,8 @@ by_rule None why refused = tt
 by_rule (Some rule) why refused = same_why why rule refused
 
 pub was_refused : (limits : Limits) (root : PassSeat) (seen : History) (role : Role) (why : JoinRefusal) (stop : Stop)
-    → IsStoppedBy why (stopped stop) → LegalJoin limits root seen role (Err why) → WasRefused limits seen (Some role) (stopped stop)
+    → IsStoppedBy why (stopped stop) → LegalJoin limits root seen role (Err why)
+    → WasRefused limits seen (Some role) (stopped stop)
 was_refused limits root seen role why stop is legal = (
   why,
   is,

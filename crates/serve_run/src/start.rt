@@ -83,8 +83,8 @@ fn take_writer_back<K: LinkSink>(hub: &Hub, root: &mut HubPass, job: WriterJob<K
     sink
 }
 
-// Takes back the pass of a job that wasn't started, and gives back the link that it hung up, that of
-// a writer.
+// Takes back the pass of a job that wasn't started, and gives back the link that it hung up, that
+// of a writer.
 fn take_job_back<R: Wait, S: LinkSource, K: LinkSink, G: Gate + Drop>(
     rt: &R,
     hub: &Hub,

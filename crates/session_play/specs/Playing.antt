@@ -53,8 +53,8 @@ IsShort journal kept_from = length journal < kept_from + 256
 
 -- how many entries are gone of a journal with so many, of which so many were gone: where 256 or more
 -- are in memory all are let go, else none
-abbrev pub short_from : (kept_from number : ℕ) → ℕ
-short_from kept_from number = (if nat_le (kept_from + 256) number then number else kept_from)
+abbrev pub kept_from_after : (kept_from number : ℕ) → ℕ
+kept_from_after kept_from number = (if nat_le (kept_from + 256) number then number else kept_from)
 
 -- each live peer has its unread bytes
 abbrev pub AreWaiting : List Entry → List Waiting → Type 0

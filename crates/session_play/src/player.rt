@@ -79,7 +79,7 @@ impl Player {
     ghost use Rattle.session_play.specs.Played.{line_played};
     ghost use Rattle.session_play.specs.Playing.{AreStamped, IsPlayed, IsWatched, IsMore};
     ghost use Rattle.session_play.specs.Playing.{IsShort, IsWritten, IsStopped, IsAgain, stop_of};
-    ghost use Rattle.session_play.specs.Playing.{short_from};
+    ghost use Rattle.session_play.specs.Playing.{kept_from_after};
 
     /// Nobody joined yet. Asks for limits in their ranges. `NoMemory` is its one error.
     pub fn new(alloc: Global, limits: Limits) -> Result<Player, NoMemory>
@@ -125,7 +125,7 @@ impl Player {
         ensures stays { self.old.is_spent ≡ true → self.new ≡ self.old }
         ensures limits { self.new.limits ≡ self.old.limits }
         ensures kept { self.old.is_spent ≡ false →
-            self.new.kept_from ≡ short_from self.old.kept_from (length self.new.play.journal) }
+            self.new.kept_from ≡ kept_from_after self.old.kept_from (length self.new.play.journal) }
         ensures stamped { AreStamped stamp self.old.play.journal self.old.stamps
             self.new.play.journal self.new.stamps }
         ensures watched { IsWatched W.may_follow self.old.limits.store self.old.play.journal
@@ -165,7 +165,7 @@ impl Player {
         ensures stays { self.old.is_spent ≡ true → self.new ≡ self.old }
         ensures limits { self.new.limits ≡ self.old.limits }
         ensures kept { self.old.is_spent ≡ false →
-            self.new.kept_from ≡ short_from self.old.kept_from (length self.new.play.journal) }
+            self.new.kept_from ≡ kept_from_after self.old.kept_from (length self.new.play.journal) }
         ensures stamped { AreStamped stamp self.old.play.journal self.old.stamps
             self.new.play.journal self.new.stamps }
         ensures watched { IsWatched W.may_follow self.old.limits.store self.old.play.journal
@@ -196,7 +196,7 @@ impl Player {
         ensures spent { OnErr result.0 (self.new.is_spent ≡ true) }
         ensures limits { self.new.limits ≡ self.old.limits }
         ensures kept { self.old.is_spent ≡ false →
-            self.new.kept_from ≡ short_from self.old.kept_from (length self.new.play.journal) }
+            self.new.kept_from ≡ kept_from_after self.old.kept_from (length self.new.play.journal) }
         ensures stamped { AreStamped stamp self.old.play.journal self.old.stamps
             self.new.play.journal self.new.stamps }
         ensures grew { IsMore self.old.play.journal self.new.play.journal }
@@ -228,7 +228,7 @@ impl Player {
         ensures stays { self.old.is_spent ≡ true → self.new ≡ self.old }
         ensures limits { self.new.limits ≡ self.old.limits }
         ensures kept { self.old.is_spent ≡ false →
-            self.new.kept_from ≡ short_from self.old.kept_from (length self.new.play.journal) }
+            self.new.kept_from ≡ kept_from_after self.old.kept_from (length self.new.play.journal) }
         ensures stamped { AreStamped stamp self.old.play.journal self.old.stamps
             self.new.play.journal self.new.stamps }
     {

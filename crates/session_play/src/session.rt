@@ -95,7 +95,7 @@ impl Session {
     ghost use Rattle.session_play.specs.Played.{step_played, gone_played, join_played, take_played};
     ghost use Rattle.session_play.specs.Played.{tokens_played, line_played};
     ghost use Rattle.session_play.specs.Playing.{AreStamped, IsPlayed, IsWatched, IsThere};
-    ghost use Rattle.session_play.specs.Playing.{IsEnough, IsShort, short_from};
+    ghost use Rattle.session_play.specs.Playing.{IsEnough, IsShort, kept_from_after};
 
     /// Nobody joined yet. `NoMemory` is its one error.
     pub(crate) fn new(alloc: Global, limits: Limits) -> Result<Session, NoMemory>
@@ -148,7 +148,7 @@ impl Session {
     #[inline(always)]
     pub(crate) fn let_go(&mut self)
         ensures same { self.new ≡ record self.old {
-          kept_from = short_from self.old.kept_from (length self.old.play.journal);
+          kept_from = kept_from_after self.old.kept_from (length self.old.play.journal);
         } }
         ensures short { IsShort self.new.play.journal self.new.kept_from }
     {

@@ -1,6 +1,6 @@
 //! A journal of which few entries stay in memory.
 ghost use Rattle.std.specs.Prelude.{◌≡◌, length};
-ghost use Rattle.session_play.specs.Playing.{IsShort, short_from};
+ghost use Rattle.session_play.specs.Playing.{IsShort, kept_from_after};
 
 use broker_core::Shared;
 
@@ -12,7 +12,7 @@ const MANY: u32 = 256;
 #[inline(always)]
 pub fn keep_short(shared: &mut Shared)
     ensures same { shared.new ≡ record shared.old {
-      kept_from = short_from shared.old.kept_from (length shared.old.journal);
+      kept_from = kept_from_after shared.old.kept_from (length shared.old.journal);
     } }
     ensures short { IsShort shared.new.journal shared.new.kept_from }
 {

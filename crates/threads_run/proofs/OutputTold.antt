@@ -24,6 +24,8 @@ pub asked_front : (held held' : Option (List ℕ)) (asked : Option ℕ) (n : ℕ
     → IfSome asked (λ n. (t : ThreadTrial) × IsPlayed n t × GrowsByPart held held' (output_of t))
 asked_front held held' asked n text bytes is told same front =
     let whole : bytes ≡ output_of told.0 = same ∙ told.2 in
-    let within : front.0 < length (output_of told.0) = (let lt = front.1 in let len = ap length whole in omega (arith, lt, len)) in
+    let lt = front.1 in
+    let len = ap length whole in
+    let within : front.0 < length (output_of told.0) = omega (arith, lt, len) in
     subst (λ a. IfSome a (λ n. (t : ThreadTrial) × IsPlayed n t × GrowsByPart held held' (output_of t))) (sym is)
     (told.0, told.1, (front.0, within, subst (λ b. Appends held held' (take front.0 b)) whole front.2))

@@ -24,7 +24,7 @@ use Rattle.trial_run.specs.declared.typist.TrialTypist.{TrialTypist}
 use Rattle.method_law.specs.TypedLogs.{requests_of}
 use Rattle.typing_jobs.specs.Ends.{end_by}
 use Rattle.typing_jobs.specs.Fronts.{IsFrontOf}
-use Rattle.typing_jobs.specs.Sending.{HasSentFront, HasMade, HasRest, IsFullForMessage}
+use Rattle.typing_jobs.specs.Sending.{HasSentFront, HasMade, IsCaughtUp, IsFullForMessage}
 use Rattle.typing_jobs.specs.declared.job_end.JobEnd.{JobEnd}
 use Rattle.typing_jobs.specs.declared.job_end.JobEnd.TheVariants as ends
 use Rattle.typing_jobs.proofs.RequestsWhole.{AreShort}
@@ -114,7 +114,7 @@ module _ (limits : Limits) (typist : TrialTypist) (job : MethodJob) (reader' : P
     client = record job.client { state = record s { to_send = [] } };
   }
 
-  sent-going : (q : Bool) → (q ≡ true → HasRest limits job.writer h.taken) → HasMade limits reader' (h.sents ++ waits) →
+  sent-going : (q : Bool) → (q ≡ true → IsCaughtUp limits job.writer h.taken) → HasMade limits reader' (h.sents ++ waits) →
       IsMethodGoing limits typist sent-job own [] q
   sent-going q rests made = record {
     taken = h.taken;
@@ -274,7 +274,7 @@ module _ (limits : Limits) (typist : TrialTypist) (job : MethodJob) (client : Cl
 
 same_going : (limits : Limits) (typist : TrialTypist) (job : MethodJob) (writer' : PeerPass) (own : List Batch)
     (q : Bool) (h : IsMethodAt limits typist job own false true) → HasTaken limits writer' (h.taken ++ []) →
-    (q ≡ true → HasRest limits writer' h.taken) → IsMethodGoing limits typist (record job { writer = writer' }) own [] q
+    (q ≡ true → IsCaughtUp limits writer' h.taken) → IsMethodGoing limits typist (record job { writer = writer' }) own [] q
 same_going limits typist job writer' own q h took rests = record {
   taken = h.taken;
   took = took;
@@ -293,7 +293,7 @@ pub took_none : (limits : Limits) (typist : TrialTypist) (job : MethodJob) (writ
     IsMethodAt limits typist (record job { writer = writer' }) own true true
 took_none limits typist job writer' own buf t h =
     same_going limits typist job writer' own true h (inr (t.0.same (h.taken ++ []) h.took))
-    (λ e. subst (λ (bytes : List ℕ). HasRest limits writer' bytes) (append-nil h.taken)
+    (λ e. subst (λ (bytes : List ℕ). IsCaughtUp limits writer' bytes) (append-nil h.taken)
     (record { all = t.0.why (h.taken ++ []) h.took; lives = t.1 }))
 
 pub took_closed : (limits : Limits) (typist : TrialTypist) (job : MethodJob) (writer' : PeerPass) (own : List Batch)

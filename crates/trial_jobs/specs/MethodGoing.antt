@@ -13,7 +13,7 @@ use Rattle.typing_jobs.specs.declared.job_end.JobEnd.{JobEnd}
 use Rattle.typing_jobs.specs.declared.turn.Turn.{Turn}
 use Rattle.typing_jobs.specs.declared.turn.Turn.TheVariants as turns
 use Rattle.typing_jobs.specs.Fronts.{IsFrontOf}
-use Rattle.typing_jobs.specs.Sending.{HasMade, HasRest, IsOver, HaveSeenMore}
+use Rattle.typing_jobs.specs.Sending.{HasMade, IsCaughtUp, IsOver, HaveSeenMore}
 use Rattle.trial_jobs.specs.declared.method_job.MethodJob.{MethodJob}
 use Rattle.trial_jobs.specs.MethodAsked.{IsAsked}
 use Rattle.trial_jobs.specs.MethodHearing.{Heard, HasShort}
@@ -43,7 +43,7 @@ pub record IsMethodBehind (limits : Limits) (typist : TrialTypist) (job : Method
   pub made : HasMade limits job.reader sents
   pub short : HasShort (method_log job.log)
   pub fresh : IsFresh typist
-  pub rests : quiet ≡ true → HasRest limits job.writer taken
+  pub rests : quiet ≡ true → IsCaughtUp limits job.writer taken
 
 -- it heard all that was taken
 abbrev pub IsMethodGoing : Limits → TrialTypist → MethodJob → List Batch → List Sent → Bool →
@@ -70,7 +70,8 @@ abbrev pub IsMethodAt : Limits → TrialTypist → MethodJob → List Batch → 
 IsMethodAt limits typist job own quiet true = IsMethodGoing limits typist job own [] quiet
 IsMethodAt limits typist job own quiet false = IsMethodOver limits typist job own
 
--- all rounds were made, and the peer goes on and nothing is left to take, or it has ended
+-- All rounds were made, the peer lives and nothing is left to take, as far as its writer has seen; or
+-- it has ended behind a front of them.
 abbrev pub IsMethodPlayed : Limits → TrialTypist → MethodJob → Bool → Type 0
 IsMethodPlayed limits typist job goes_on =
     IsMethodAt limits typist job (first_batches job rounds) true goes_on

@@ -18,7 +18,7 @@ use Rattle.trial_run.specs.Rounds.{with_broker, sends, rounds}
 use Rattle.trial_run.specs.Lines.{edit_of, batch_of, acted, line_played, actions_played}
 use Rattle.trial_run.specs.Trial.{unplayed, typist_of, method_joined, field_joined, fields_joined, played_with, trial_played}
 use Rattle.trial_run.proofs.FieldsChanged.{changed_length}
-use Rattle.trial_law.specs.ShownTexts.{paused_by, paused_behind, is_paused_behind}
+use Rattle.trial_law.specs.ShownTexts.{is_paused_by, is_paused_from, is_paused_behind}
 use Rattle.trial_law.proofs.PhasesKeep.{IsKept, after, take_entry, with_entry, sends_keep, rounds_keep, shell_keeps, pressed_keeps}
 use Rattle.trial_law.proofs.TakesCount.{both_went}
 use Rattle.trial_law.proofs.FieldFollowed.{same_or_not, changed_at, changed_other}
@@ -156,7 +156,7 @@ so_paused j k b stops t h = by (same_or_not j k)
         (so_other j k b (λ f. record f { is_paused = stops }) t.fields d h)
 
 acted_so : (k : ℕ) (b : Bool) (time : ℕ) (action : Action) (t : TrialPlay) → IsPausedSo k b t.fields →
-    IsPausedSo k (paused_by action k b) (acted time action t).now.fields
+    IsPausedSo k (is_paused_by action k b) (acted time action t).now.fields
 unfolding acted
 acted_so k b time (actions.Use f) t h = shell_keeps (λ u. IsPausedSo k b u.fields) (so_kept k b) _ t h
 acted_so k b time actions.Leave t h = shell_keeps (λ u. IsPausedSo k b u.fields) (so_kept k b) _ t h
@@ -172,22 +172,22 @@ acted_so k b time (actions.Resume f) t h = so_paused (f - 1) k b false t h
 acted_so k b time (actions.Show f) t h = h
 
 line_so : (k : ℕ) (b : Bool) (time : ℕ) (action : Action) (t : TrialPlay) → IsPausedSo k b t.fields →
-    IsPausedSo k (paused_by action k b) (line_played time action t).now.fields
+    IsPausedSo k (is_paused_by action k b) (line_played time action t).now.fields
 unfolding line_played
 line_so k b time action t h =
-    let b_after : Bool = paused_by action k b in
+    let b_after : Bool = is_paused_by action k b in
     after (λ u. IsPausedSo k b_after u.fields) (acted time action t) (λ now. rounds now.most now)
     (acted_so k b time action t h)
     (λ now g. rounds_keep (λ u. IsPausedSo k b_after u.fields) (so_kept k b_after) now.most now g)
 
 actions_so : (k : ℕ) (b : Bool) (time : ℕ) (all : List Action) (t end : TrialPlay) → IsPausedSo k b t.fields →
-    actions_played time all t ≡ went end → IsPausedSo k (paused_behind all k b) end.fields
+    actions_played time all t ≡ went end → IsPausedSo k (is_paused_from all k b) end.fields
 unfolding actions_played
 actions_so k b time [] t end h e = subst (λ (r : Ran TrialPlay). IsPausedSo k b r.now.fields) e h
 actions_so k b time (action ∷ more) t end h e =
     let both = both_went (line_played time action t) (actions_played ((time + 1) % 2 ^ 32) more) end e in
-    actions_so k (paused_by action k b) ((time + 1) % 2 ^ 32) more both.mid end
-    (subst (λ (r : Ran TrialPlay). IsPausedSo k (paused_by action k b) r.now.fields) both.first
+    actions_so k (is_paused_by action k b) ((time + 1) % 2 ^ 32) more both.mid end
+    (subst (λ (r : Ran TrialPlay). IsPausedSo k (is_paused_by action k b) r.now.fields) both.first
     (line_so k b time action t h)) both.second
 
 -- each field of a script that is played to its end

@@ -24,19 +24,19 @@ use Rattle.trial_law.specs.RelayedAsBatches.{batches_of}
 
 -- whether the field with the index k is paused behind an action, where it was so before or not;
 -- actions number fields from 1
-abbrev pub paused_by : Action → ℕ → Bool → Bool
-paused_by (Pause f) k before = if f - 1 == k then true else before
-paused_by (Resume f) k before = if f - 1 == k then false else before
-paused_by _ k before = before
+abbrev pub is_paused_by : Action → ℕ → Bool → Bool
+is_paused_by (Pause f) k before = if f - 1 == k then true else before
+is_paused_by (Resume f) k before = if f - 1 == k then false else before
+is_paused_by _ k before = before
 
 -- whether it is so behind actions
-abbrev pub paused_behind : List Action → ℕ → Bool → Bool
-paused_behind [] k before = before
-paused_behind (action ∷ more) k before = paused_behind more k (paused_by action k before)
+abbrev pub is_paused_from : List Action → ℕ → Bool → Bool
+is_paused_from [] k before = before
+is_paused_from (action ∷ more) k before = is_paused_from more k (is_paused_by action k before)
 
 -- the last action that pauses or resumes the field pauses it
 abbrev pub is_paused_behind : List Action → ℕ → Bool
-is_paused_behind all k = paused_behind all k false
+is_paused_behind all k = is_paused_from all k false
 
 -- The action with the index n shows the field f, one of the script's, in the trial t that the
 -- actions before it play. Behind what these show stands the line of the field with the text of a
@@ -66,7 +66,7 @@ pub record IsShownText (limits : Limits) (bytes : List ℕ) (n f : ℕ) (t : Tri
   pub none : ((object : ℕ) → IsFieldOf t.broker.journal peer.label object → ⊥) →
       batches_in (told_in log) ≡ []
 
--- What the bytes show is a line for each `show` in turn, and each that the trial comes to is such a
+-- What the bytes show is a line for each `show` that the trial comes to, in turn; each is such a
 -- text.
 pub record AreShownTexts (limits : Limits) (bytes : List ℕ) : Type 0 where
   pub lines : (trial_within limits bytes).lines

@@ -15,7 +15,7 @@ use Rattle.typing_jobs.specs.declared.turn.Turn.TheVariants as turns
 use Rattle.typing_jobs.specs.FieldHearing.{Heard}
 use Rattle.typing_jobs.specs.FieldAsked.{IsSent}
 use Rattle.typing_jobs.specs.FieldLaw.{FieldStops}
-use Rattle.typing_jobs.specs.Sending.{HasMade, HasRest, IsOver, HaveSeenMore}
+use Rattle.typing_jobs.specs.Sending.{HasMade, IsCaughtUp, IsOver, HaveSeenMore}
 
 -- its passes are the hub's and one peer's
 pub record IsFieldOf (hub : HubId) (job : FieldJob) : Type 0 where
@@ -60,7 +60,7 @@ IsFieldAt limits job own false =
 -- the peer doesn't go on.
 abbrev pub HasFieldRest : Limits → FieldJob → List Entry → Bool → Type 0
 HasFieldRest limits job own true =
-    (going : IsFieldGoing limits job own []) × HasRest limits job.writer going.taken
+    (going : IsFieldGoing limits job own []) × IsCaughtUp limits job.writer going.taken
 HasFieldRest limits job own false = IsFieldAt limits job own false
 
 -- All own edits were made, and the peer goes on, or it doesn't. Where there was an edit, nothing is

@@ -25,7 +25,7 @@ IsOver limits reader writer =
 
 -- these bytes are all that was put for the writer's peer, and the peer lives, as far as the writer
 -- has seen
-pub record HasRest (limits : Limits) (writer : PeerPass) (bytes : List ℕ) : Type 0 where
+pub record IsCaughtUp (limits : Limits) (writer : PeerPass) (bytes : List ℕ) : Type 0 where
   pub all : HasAll limits writer bytes
   pub lives : end_of (journal_by limits writer) writer.peer ≡ None
 

@@ -14,8 +14,8 @@ use std::alloc::Global;
 pub struct Told {
     /// `PASS`, `PLACED` or `VMODS` of `kind`.
     pub kind: u32,
-    /// Of `PASS` and `VMODS` whose message told it: its peer; 0 where none did, as with a key of the
-    /// seat's keyboard. Of `PLACED` 0, also where a message placed it, as a field's commit.
+    /// Of `PASS` and `VMODS` whose message told it: its peer; 0 where none did, as with a key of
+    /// the seat's keyboard. Of `PLACED` 0, also where a message placed it, as a field's commit.
     pub peer: u32,
     /// The object that the message went to, as a virtual keyboard, by its id there; 0 where `peer`
     /// is 0.
