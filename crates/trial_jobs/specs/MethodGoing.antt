@@ -70,8 +70,8 @@ abbrev pub IsMethodAt : Limits → TrialTypist → MethodJob → List Batch → 
 IsMethodAt limits typist job own quiet true = IsMethodGoing limits typist job own [] quiet
 IsMethodAt limits typist job own quiet false = IsMethodOver limits typist job own
 
--- All rounds were made, the peer lives and nothing is left to take, as far as its writer has seen; or
--- it has ended behind a front of them.
+-- All rounds were made, the peer lives and nothing is left to take, as far as its writer has seen;
+-- or it has ended behind a front of them.
 abbrev pub IsMethodPlayed : Limits → TrialTypist → MethodJob → Bool → Type 0
 IsMethodPlayed limits typist job goes_on =
     IsMethodAt limits typist job (first_batches job rounds) true goes_on
