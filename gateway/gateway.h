@@ -15,6 +15,7 @@ struct object {
 	uint32_t keymap; /* of a board: the number of its keymap */
 	bool is_ours; /* the compositor doesn't know it: it lives at the broker, a manager nowhere */
 	bool of_seat; /* a wl_seat or a wl_keyboard of the one seat that the broker has */
+	bool is_gone; /* a surface that its client destroyed, whose id the compositor hasn't freed yet */
 };
 
 struct client {
@@ -67,7 +68,7 @@ void client_send(struct client *client, const struct message *message);
 void client_told(struct client *client, uint8_t *bytes, size_t size, const uint32_t *tokens);
 /* The object is ours. The compositor, which takes no gaps in a client's ids, gets a `sync` in its place. */
 struct object *request_hold(struct client *client, uint32_t id);
-/* The surface is known to the broker too, from now on. False: it is none of the client's. */
+/* The surface is known to the broker too, from now on. False: it is none of the client's, or destroyed. */
 bool request_mirror(struct client *client, uint32_t surface);
 
 /* ---- Globals (globals.c) ---- */

@@ -27,7 +27,7 @@ static void make_there(struct client *client, struct object *object, const struc
 
 bool request_mirror(struct client *client, uint32_t surface) {
 	struct object *object = object_live(client, surface);
-	if (!object || object->interface != &wl_surface_table)
+	if (!object || object->interface != &wl_surface_table || object->is_gone)
 		return false;
 	if (object->made[0] == 0)
 		make_there(client, object, draft(OWN + GLOBAL_COMPOSITOR, wl_compositor_request_create_surface, "u", surface));
@@ -113,6 +113,7 @@ void request_play(struct client *client, struct message *message, const int *fil
 		if (object->made[0] > 0)
 			broker_receive(client, message, 0);
 		object->made[0] = 0;
+		object->is_gone = true;
 	}
 	forward(client, message, files);
 }
