@@ -74,7 +74,10 @@ bool request_mirror(struct client *client, uint32_t surface);
 /* ---- Globals (globals.c) ---- */
 /* The broker's globals by their names there; and the gateway's own objects at each peer, which no client reaches. */
 enum { GLOBAL_COMPOSITOR = 1, GLOBAL_SEAT, GLOBAL_FIELDS, GLOBAL_METHODS, GLOBAL_BOARDS };
-enum { OWN = 0x7e000000 /* its registry; and that and a global's name: what was bound of it */ };
+enum {
+	OWN = 0x7e000000, /* its registry; and that and a global's name: what was bound of it */
+	OWN_METHOD = OWN + 16, /* one that lives for a moment, at a renewal */
+};
 /* What the broker offers to a role, where the gateway alone binds what is ALL's; the last has no interface. */
 extern const struct offer { uint32_t global; enum role role; const struct interface *interface; } offers[];
 /* The offer of a manager, or NULL. */
