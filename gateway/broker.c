@@ -84,7 +84,8 @@ int broker_renewal(void) {
 		return -1;
 	uint64_t last = self.moment, passed = (broker_now() - last) / 1000;
 	self.moment = last;
-	return passed >= QUIET || used.entries > gateway.entries + ENTRIES / 8 ? 0 : QUIET;
+	bool full = used.entries > gateway.entries + ENTRIES / 8 || used.weight > WEIGHT_OLD + WEIGHT / 8;
+	return full || passed >= QUIET ? 0 : QUIET;
 }
 
 static struct client *client_of(uint32_t peer) {
