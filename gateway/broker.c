@@ -125,7 +125,7 @@ int64_t broker_done(int64_t answer) {
 		struct client *client = client_of(told.peer);
 		const struct object *board = client ? object_live(client, told.id) : NULL;
 		if (board && told.kind != WLIM_PLACED)
-			keyboard_give(board->keymap, &told);
+			keyboard_give(client, board->keymap, &told);
 	}
 	if (next == WLIM_MISSED)
 		say("more keys were given back at once than wait: some are lost");

@@ -27,10 +27,13 @@ struct client *client_open(int socket, enum role role) {
 
 void client_close(struct client *client) {
 	keyboard_leave(client, 0);
+	request_release(client, 0);
 	if (client->peer > 0)
 		broker_order(gone, "gone %u", client->peer);
 	if (client->serves > 0)
-		keyboard_method_ended();
+		keyboard_method_ended(client);
+	else
+		keyboard_board_ended(client);
 	wire_close(&client->near);
 	wire_close(&client->far);
 	open_count--;

@@ -4,7 +4,7 @@
 #include "wire.h"
 #include <wlim.h>
 
-enum { DISPLAY = 1, CLIENTS_MAX = 1000, OBJECTS_MAX = 65536 /* ids of each side */ };
+enum { DISPLAY = 1, CLIENTS_MAX = 1000, OBJECTS_MAX = 65536 /* ids of each side */, DOWN_MAX = 64 };
 #define FIRST_SERVER_ID 0xff000000u /* ids from here on are the compositor's */
 
 struct object {
@@ -26,6 +26,8 @@ struct client {
 	bool ending; /* nothing of it is read any more; it ends when the round does */
 	uint32_t serves; /* the id of its first input method that wasn't told that it is unavailable; 0 none */
 	uint32_t keymap, modifiers[4]; /* what its wl_keyboards of the seat were told: a keymap's number, 0 none */
+	struct down { uint32_t board, key, time; } down[DOWN_MAX]; /* keys that its boards hold down, those that fit */
+	unsigned down_count;
 	struct wire near, far; /* to the client, and for it to the compositor */
 	uint32_t counts[2]; /* of ids that ever named something: the client's, and the compositor's */
 	struct object objects[2][OBJECTS_MAX];
@@ -70,6 +72,8 @@ void client_told(struct client *client, uint8_t *bytes, size_t size, const uint3
 struct object *request_hold(struct client *client, uint32_t id);
 /* The surface is known to the broker too, from now on. False: it is none of the client's, or destroyed. */
 bool request_mirror(struct client *client, uint32_t surface);
+/* The keys that are down on the board are released at the broker, which tells nobody when a board ends; 0: on each. */
+void request_release(struct client *client, uint32_t board);
 
 /* ---- Globals (globals.c) ---- */
 /* The broker's globals by their names there; and the gateway's own objects at each peer, which no client reaches. */
@@ -110,11 +114,12 @@ void renew(void);
 /* An event of a wl_keyboard of the seat: whether the client gets it. The focus leaves its surface; 0: any of its. */
 bool keyboard_event(struct client *client, const struct message *message, const int *files);
 void keyboard_leave(const struct client *client, uint32_t surface);
-/* A key or modifiers that a board sent and no grab has: for the client that has the focus, with the board's keymap. */
-void keyboard_give(uint32_t keymap, const struct wlim_told *told);
-/* A board ends: its keys are released. The serving method does: the field is left and entered, and keeps no preedit. */
-void keyboard_board_ended(void);
-void keyboard_method_ended(void);
+/* A key or modifiers that a client's board sent and no grab has: for who has the focus, with the board's keymap. */
+void keyboard_give(const struct client *from, uint32_t keymap, const struct wlim_told *told);
+/* A board of the client ends: the keys that it pressed are released, of NULL those of all boards. The serving method
+ * does, which is the client's: the field is left and entered besides, and keeps no preedit. */
+void keyboard_board_ended(const struct client *client);
+void keyboard_method_ended(const struct client *client);
 /* The client is a peer from now on. The broker goes, with the keys that are down; a new one is told what stands. */
 void keyboard_client_joined(const struct client *client);
 void keyboard_leave_broker(void);

@@ -38,6 +38,8 @@ static void make(struct client *client, uint32_t id, struct object *object) {
 }
 
 void renew(void) {
+	for (struct client *client = gateway.clients; client; client = client->next)
+		request_release(client, 0);
 	keyboard_leave_broker();
 	broker_close();
 	if (!broker_open())

@@ -60,6 +60,27 @@ static void board_keymap(struct client *client, const struct message *message, i
 	broker_receive(client, message, number);
 }
 
+/* A key of a board, which the broker was told. */
+static void board_key(struct client *client, uint32_t board, const uint32_t *words) {
+	struct down *down = client->down, *end = down + client->down_count;
+	while (down < end && (down->board != board || down->key != words[1]))
+		down++;
+	if (words[2] == 0 && down < end)
+		*down = client->down[--client->down_count];
+	if (words[2] != 0 && down == end && client->down_count < DOWN_MAX)
+		client->down[client->down_count++] = (struct down){ board, words[1], words[0] };
+}
+
+void request_release(struct client *client, uint32_t board) {
+	for (unsigned at = client->down_count; at-- > 0; ) {
+		struct down down = client->down[at];
+		if (board > 0 && down.board != board)
+			continue;
+		client->down[at] = client->down[--client->down_count];
+		broker_receive(client, draft(down.board, zwp_virtual_keyboard_v1_request_key, "uuu", down.time, down.key, 0), 0);
+	}
+}
+
 static void to_broker(struct client *client, struct message *message, const int *files) {
 	struct object *object = object_at(client, message->object);
 	int made = message->signature->new_id;
@@ -75,12 +96,16 @@ static void to_broker(struct client *client, struct message *message, const int 
 	object->count += IS(message, zwp_text_input_v3, request, commit);
 	if (IS(message, zwp_input_method_v2, request, commit))
 		message_set(message, 0, message->numbers[0] - object->base);
-	broker_receive(client, message, 0);
 	if (IS(message, zwp_virtual_keyboard_v1, request, destroy))
-		keyboard_board_ended();
+		request_release(client, message->object);
+	broker_receive(client, message, 0);
+	if (IS(message, zwp_virtual_keyboard_v1, request, key))
+		board_key(client, message->object, message->numbers);
+	if (IS(message, zwp_virtual_keyboard_v1, request, destroy))
+		keyboard_board_ended(client);
 	if (message->object == client->serves && IS(message, zwp_input_method_v2, request, destroy)) {
 		client->serves = 0;
-		keyboard_method_ended();
+		keyboard_method_ended(client);
 	}
 }
 
