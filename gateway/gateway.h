@@ -126,7 +126,7 @@ void keyboard_leave_broker(void);
 void keyboard_join_broker(void);
 
 /* ---- Keymaps: the same text has the same number, which is its token at the broker (keymaps.c) ---- */
-struct keymap { uint32_t format, size; int file; char *text; };
+struct keymap { uint32_t format, size; int file; char *text; }; /* the file is a copy that nobody can change */
 /* The number of what the file holds, from 1. 0: it can't be read, is larger than 1 MiB, or is the 65th. */
 uint32_t keymap_number(uint32_t format, int file, uint32_t size);
 /* The keymap with the number, and a new descriptor of its file; NULL and -1: there is none. */

@@ -3,12 +3,30 @@
 #include <fcntl.h>
 #include <stdlib.h>
 #include <string.h>
+#include <sys/mman.h>
 #include <unistd.h>
 
-enum { KEPT = 64, TEXT_MAX = 1048576 };
+enum {
+	KEPT = 64, TEXT_MAX = 1048576,
+	SEALS = F_SEAL_SEAL | F_SEAL_SHRINK | F_SEAL_GROW | F_SEAL_FUTURE_WRITE, /* it can still be mapped, shared too */
+};
 
 static struct keymap kept[KEPT];
 static uint32_t count;
+
+/* A file with the text, which who gets it can read and map, and nobody can change; -1: there is none. */
+static int sealed_file(const char *text, uint32_t size) {
+	int file = memfd_create("keymap", MFD_CLOEXEC | MFD_ALLOW_SEALING);
+	bool whole = file >= 0;
+	for (uint32_t at = 0; whole && at < size; ) {
+		ssize_t went = pwrite(file, text + at, size - at, at);
+		whole = went > 0;
+		at += whole ? (uint32_t)went : 0;
+	}
+	if (file >= 0 && !(whole && fcntl(file, F_ADD_SEALS, SEALS) == 0))
+		return close(file), -1;
+	return file;
+}
 
 uint32_t keymap_number(uint32_t format, int file, uint32_t size) {
 	char *text = size > 0 && size <= TEXT_MAX ? malloc(size) : NULL;
@@ -17,7 +35,7 @@ uint32_t keymap_number(uint32_t format, int file, uint32_t size) {
 		return free(text), 0;
 	while (at < count && (kept[at].format != format || kept[at].size != size || memcmp(kept[at].text, text, size) != 0))
 		at++;
-	int own = at == count && at < KEPT ? fcntl(file, F_DUPFD_CLOEXEC, 0) : -1;
+	int own = at == count && at < KEPT ? sealed_file(text, size) : -1;
 	if (own >= 0)
 		kept[count++] = (struct keymap){ format, size, own, text };
 	else
