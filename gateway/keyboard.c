@@ -90,7 +90,7 @@ static void tell_focus(void) {
 
 /* Connections are read in any order, but the compositor's serials rise. What it wrote to the last one comes first. */
 static void on_enter(struct client *client, uint32_t serial, uint32_t surface) {
-	if (seat.focus && seat.focus != client)
+	if (seat.focus && seat.focus != client && !seat.focus->ending)
 		client_read(seat.focus, false);
 	if ((seat.focus == client && seat.surface == surface) || (int32_t)(serial - seat.entered) < 0)
 		return; /* another keyboard of the client, or the focus went on since */

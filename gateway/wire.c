@@ -40,7 +40,10 @@ enum reading wire_read(struct wire *wire) {
 	memmove(wire->in, wire->in + wire->in_from, wire->in_to - wire->in_from);
 	wire->in_to -= wire->in_from;
 	wire->in_from = 0;
-	struct iovec place = { wire->in + wire->in_to, WIRE_READ };
+	size_t room = sizeof wire->in - wire->in_to;
+	if (room == 0)
+		return READ_NOTHING;
+	struct iovec place = { wire->in + wire->in_to, room < WIRE_READ ? room : WIRE_READ };
 	struct msghdr header = {
 		.msg_iov = &place, .msg_iovlen = 1, .msg_control = control, .msg_controllen = sizeof control,
 	};

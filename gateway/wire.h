@@ -24,7 +24,8 @@ struct wire {
 	uint8_t in[65536 + WIRE_READ], out[WIRE_FULL];
 };
 
-/* Reads once, after what is read and not taken. READ_FLOOD: too many descriptors wait for their messages. */
+/* Reads once, after what is read and not taken, as much as has room. READ_FLOOD: too many descriptors wait for their
+ * messages. */
 enum reading { READ_NOTHING, READ_SOME, READ_END, READ_FLOOD };
 enum reading wire_read(struct wire *wire);
 
