@@ -15,6 +15,7 @@ struct object {
 	uint32_t keymap; /* of a board: the number of its keymap */
 	bool is_ours; /* the compositor doesn't know it: it lives at the broker, a manager nowhere */
 	bool of_seat; /* a wl_seat or a wl_keyboard of the one seat that the broker has */
+	bool is_fresh; /* a wl_keyboard of that seat that was told an enter, and no modifiers of it yet */
 	bool is_gone; /* a surface that its client destroyed, whose id the compositor hasn't freed yet */
 };
 

@@ -148,18 +148,29 @@ static bool on_key(struct client *client, uint32_t serial, uint32_t time, uint32
 	return seat.key_given;
 }
 
-/* Whether the client gets modifiers. Where a grab does, the method gives them back, behind the keys before them. */
-static bool on_modifiers(struct client *client, uint32_t serial, const uint32_t m[4]) {
+/*
+ * Whether the client's keyboard gets modifiers. Where a grab does, the method gives them back, behind the keys before
+ * them: a keyboard that was entered after another one is told what that was.
+ */
+static bool on_modifiers(struct client *client, uint32_t keyboard, uint32_t serial, const uint32_t m[4]) {
+	struct object *object = object_at(client, keyboard);
+	const uint32_t *last = client->modifiers;
+	bool fresh = object->is_fresh;
 	if (client != seat.focus)
 		return true;
 	seat.serial = serial;
+	object->is_fresh = false;
 	if (!seat.has_modifiers || memcmp(seat.modifiers, m, sizeof seat.modifiers) != 0) {
 		seat.has_modifiers = true;
 		memcpy(seat.modifiers, m, sizeof seat.modifiers);
 		broker_order(mods, "mods %u %u %u %u", m[0], m[1], m[2], m[3]);
 	}
-	if (wlim_broker_grab(&broker) > 0 && !seat.fresh)
+	if (wlim_broker_grab(&broker) > 0 && !seat.fresh) {
+		if (fresh)
+			client_send(client, draft(keyboard, wl_keyboard_event_modifiers, "uuuuu", serial, last[0], last[1], last[2],
+				last[3]));
 		return false;
+	}
 	memcpy(client->modifiers, m, sizeof client->modifiers);
 	seat.fresh = false;
 	return true;
@@ -176,6 +187,7 @@ bool keyboard_event(struct client *client, const struct message *message, const 
 		return true;
 	case wl_keyboard_event_enter:
 		client_send(client, message); /* before its field hears of it */
+		object_at(client, message->object)->is_fresh = true;
 		on_enter(client, words[0], words[1]);
 		return false;
 	case wl_keyboard_event_leave:
@@ -184,7 +196,7 @@ bool keyboard_event(struct client *client, const struct message *message, const 
 	case wl_keyboard_event_key:
 		return on_key(client, words[0], words[1], words[2], words[3]);
 	case wl_keyboard_event_modifiers:
-		return on_modifiers(client, words[0], &words[1]);
+		return on_modifiers(client, message->object, words[0], &words[1]);
 	case wl_keyboard_event_repeat_info:
 		seat.repeats = true;
 		seat.rate = words[0];
