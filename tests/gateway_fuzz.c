@@ -28,18 +28,6 @@ static uint32_t random_below(uint32_t bound)
 	return (uint32_t)(state >> 33) % bound;
 }
 
-static void close_client(struct place *place)
-{
-	struct client **at = &gateway.clients;
-	while (*at != place->client)
-		at = &(*at)->next;
-	*at = place->client->next;
-	client_close(place->client);
-	close(place->near);
-	close(place->far);
-	ended++;
-}
-
 /* An id that mostly names something. */
 static uint32_t random_id(struct client *client)
 {
@@ -207,6 +195,7 @@ static void finish(struct place *place, unsigned at)
 	if (!client->ending && random_below(5000))
 		return;
 	close_client(place);
+	ended++;
 	open_client(place, at == 0 ? METHOD : PROGRAM);
 }
 
@@ -239,7 +228,7 @@ int main(int count, char **words)
 	for (unsigned at = 0; at < CLIENTS; at++)
 		close_client(&places[at]);
 	broker_close();
-	printf("%lu messages, %lu clients ended\n", messages, ended);
+	printf("%lu messages, %lu clients ended\n", messages, ended + CLIENTS);
 	if (open_files() > files + KEYMAPS)
 		printf("%u descriptors are left open\n", open_files() - files);
 	return open_files() > files + KEYMAPS;

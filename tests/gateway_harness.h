@@ -55,3 +55,14 @@ static void open_client(struct place *place, enum role role)
 		exit(1);
 	place->far = last_far;
 }
+
+static void close_client(struct place *place)
+{
+	struct client **at = &gateway.clients;
+	while (*at != place->client)
+		at = &(*at)->next;
+	*at = place->client->next;
+	client_close(place->client);
+	close(place->near);
+	close(place->far);
+}

@@ -1,16 +1,22 @@
 /*
- * The focus, where the compositor's events of two programs are read in another order than they were written in. Built
- * by tests/gateway.sh. Prints what doesn't hold.
+ * What comes in an order that sockets seldom show: the compositor's events of two programs, a surface's end and its
+ * focus, ends of clients with keys down, renewals of the broker. Built by tests/gateway.sh. Prints what doesn't hold.
  */
 #include "gateway_harness.h"
 #include <string.h>
+#include <sys/mman.h>
 
-enum { REGISTRY = 2, SEAT, COMPOSITOR, KEYBOARD, SURFACE, FIELDS, FIELD };
+enum { REGISTRY = 2, SEAT, COMPOSITOR, KEYBOARD, SURFACE, FIELDS, FIELD, KEYBOARD_2 }; /* of a program */
+enum { METHODS = COMPOSITOR, BOARDS, BOARD, METHOD_1, GRAB }; /* of a method */
+enum { A = 30, B = 48, C = 46 }; /* keys */
 
-static struct program {
+/* A program or a method. */
+struct user {
 	struct place place;
 	bool entered; /* its field was told so, and no leave since */
-} one, two;
+	size_t size; /* of what it was told last */
+	uint8_t told[65536];
+};
 
 static int failed;
 
@@ -22,75 +28,143 @@ static void put(int socket, const struct message *message)
 		exit(1);
 }
 
-/* A request, which is read; an event, which is read later. */
-static void request(struct program *program, const struct message *message)
+/* A request, which is read; an event, which is read later; and reads those. */
+static void request(struct user *user, const struct message *message)
 {
-	put(program->place.near, message);
-	client_read(program->place.client, true);
+	put(user->place.near, message);
+	client_read(user->place.client, true);
 }
 
-static void event(struct program *program, uint16_t opcode, uint32_t serial)
+static void event(struct user *user, uint16_t opcode, uint32_t serial)
 {
-	put(program->place.far, draft(KEYBOARD, opcode, opcode == wl_keyboard_event_enter ? "uuu" : "uu", serial, SURFACE, 0));
+	put(user->place.far, draft(KEYBOARD, opcode, opcode == wl_keyboard_event_enter ? "uuu" : "uu", serial, SURFACE, 0));
 }
 
-static void global(struct program *program, uint32_t name, const char *interface)
+static void read_events(struct user *user)
 {
-	put(program->place.far, draft(REGISTRY, wl_registry_event_global, "usu", name, interface, 1));
-	client_read(program->place.client, false);
+	client_read(user->place.client, false);
 }
 
-static void bind_global(struct program *program, uint32_t name, const char *interface, uint32_t id)
+static void enter(struct user *user, uint32_t serial)
 {
-	request(program, draft(REGISTRY, wl_registry_request_bind, "usuu", name, interface, 1, id));
+	event(user, wl_keyboard_event_enter, serial);
+	read_events(user);
 }
 
-/* A program with a window and a field. */
-static void start(struct program *program)
+static void global(struct user *user, uint32_t name, const char *interface)
 {
-	open_client(&program->place, PROGRAM);
-	request(program, draft(DISPLAY, wl_display_request_get_registry, "u", REGISTRY));
-	global(program, 1, "wl_seat");
-	global(program, 2, "wl_compositor");
-	bind_global(program, 1, "wl_seat", SEAT);
-	bind_global(program, 2, "wl_compositor", COMPOSITOR);
-	request(program, draft(SEAT, wl_seat_request_get_keyboard, "u", KEYBOARD));
-	request(program, draft(COMPOSITOR, wl_compositor_request_create_surface, "u", SURFACE));
-	bind_global(program, 0xffff0000 + GLOBAL_FIELDS, "zwp_text_input_manager_v3", FIELDS);
-	request(program, draft(FIELDS, zwp_text_input_manager_v3_request_get_text_input, "uu", FIELD, SEAT));
+	put(user->place.far, draft(REGISTRY, wl_registry_event_global, "usu", name, interface, 1));
+	read_events(user);
 }
 
-/* Reads what the compositor wrote for the program; and what each field was told. */
-static void read_events(struct program *program)
+static void bind_global(struct user *user, uint32_t name, const char *interface, uint32_t id)
 {
-	client_read(program->place.client, false);
+	request(user, draft(REGISTRY, wl_registry_request_bind, "usuu", name, interface, 1, id));
 }
 
-static void look(struct program *program)
+static void start(struct user *user, enum role role)
 {
-	static uint8_t bytes[65536];
+	open_client(&user->place, role);
+	request(user, draft(DISPLAY, wl_display_request_get_registry, "u", REGISTRY));
+	global(user, 1, "wl_seat");
+	global(user, 2, "wl_compositor");
+	bind_global(user, 1, "wl_seat", SEAT);
+}
+
+static void make_field(struct user *user)
+{
+	request(user, draft(FIELDS, zwp_text_input_manager_v3_request_get_text_input, "uu", FIELD, SEAT));
+}
+
+/* A program with a window, and maybe with a field. */
+static void start_program(struct user *user, bool with_field)
+{
+	start(user, PROGRAM);
+	bind_global(user, 2, "wl_compositor", COMPOSITOR);
+	request(user, draft(SEAT, wl_seat_request_get_keyboard, "u", KEYBOARD));
+	request(user, draft(COMPOSITOR, wl_compositor_request_create_surface, "u", SURFACE));
+	bind_global(user, 0xffff0000 + GLOBAL_FIELDS, "zwp_text_input_manager_v3", FIELDS);
+	if (with_field)
+		make_field(user);
+}
+
+static void send_keymap(struct user *user)
+{
+	static struct wire wire;
+	static const char text[] = "xkb_keymap {}";
+	const struct message *message = draft(BOARD, zwp_virtual_keyboard_v1_request_keymap, "uu", 1, sizeof text);
+	int file = memfd_create("keymap", MFD_CLOEXEC);
+	HOLDS(write(file, text, sizeof text) == sizeof text);
+	wire.socket = user->place.near;
+	wire_send(&wire, message->bytes, message->size, &file, 1);
+	HOLDS(wire_flush(&wire));
+	client_read(user->place.client, true);
+}
+
+static void make_method(struct user *user)
+{
+	request(user, draft(METHODS, zwp_input_method_manager_v2_request_get_input_method, "uu", SEAT, METHOD_1));
+}
+
+static void make_board(struct user *user)
+{
+	request(user, draft(BOARDS, zwp_virtual_keyboard_manager_v1_request_create_virtual_keyboard, "uu", SEAT, BOARD));
+	send_keymap(user);
+}
+
+/* A method, with no object but its managers. */
+static void start_method(struct user *user)
+{
+	start(user, METHOD);
+	bind_global(user, 0xffff0000 + GLOBAL_METHODS, "zwp_input_method_manager_v2", METHODS);
+	bind_global(user, 0xffff0000 + GLOBAL_BOARDS, "zwp_virtual_keyboard_manager_v1", BOARDS);
+}
+
+static void press(struct user *user, uint32_t key, uint32_t state)
+{
+	request(user, draft(BOARD, zwp_virtual_keyboard_v1_request_key, "uuu", 1, key, state));
+}
+
+/* Takes what a user was told since the last look. It lives. */
+static void look(struct user *user)
+{
 	struct message message;
-	HOLDS(!program->place.client->ending && wire_flush(&program->place.client->near));
-	ssize_t size = recv(program->place.near, bytes, sizeof bytes, MSG_DONTWAIT);
-	for (ssize_t at = 0; at < size && message_front(bytes + at, (size_t)(size - at), &message) == FRONT_WHOLE; at += message.size)
+	HOLDS(!user->place.client->ending && wire_flush(&user->place.client->near));
+	ssize_t came;
+	user->size = 0;
+	while ((came = recv(user->place.near, user->told + user->size, sizeof user->told - user->size, MSG_DONTWAIT)) > 0)
+		user->size += (size_t)came; /* up to the next descriptor */
+	for (size_t at = 0; message_front(user->told + at, user->size - at, &message) == FRONT_WHOLE; at += message.size)
 		if (message.object == FIELD && message.opcode <= zwp_text_input_v3_event_leave)
-			program->entered = message.opcode == zwp_text_input_v3_event_enter;
+			user->entered = message.opcode == zwp_text_input_v3_event_enter;
 }
 
-int main(void)
+/* How many events of an object there were in that, whose last words are these, where any are given. */
+static unsigned heard(struct user *user, uint32_t id, uint16_t opcode, const uint32_t *words, size_t count)
 {
-	if (!broker_open())
-		return 1;
-	start(&one);
-	start(&two);
-	event(&one, wl_keyboard_event_enter, 1);
-	read_events(&one);
+	struct message message;
+	unsigned found = 0;
+	size_t size = count * sizeof *words;
+	for (size_t at = 0; message_front(user->told + at, user->size - at, &message) == FRONT_WHOLE; at += message.size)
+		found += message.object == id && message.opcode == opcode && message.size >= HEADER_SIZE + size
+			&& memcmp(message.bytes + message.size - size, words, size) == 0;
+	return found;
+}
+
+#define HEARD(user, id, opcode, ...) heard(user, id, opcode, (const uint32_t[]){ __VA_ARGS__ }, \
+	sizeof((uint32_t[]){ __VA_ARGS__ }) / sizeof(uint32_t))
+
+static void focus(void)
+{
+	static struct user one, two;
+	start_program(&one, true);
+	start_program(&two, true);
+	enter(&one, 1);
 	look(&one);
 	HOLDS(one.entered);
 	/* The new one is read before the last one. */
 	event(&one, wl_keyboard_event_leave, 2);
-	event(&two, wl_keyboard_event_enter, 3);
-	read_events(&two);
+	enter(&two, 3);
 	read_events(&one);
 	look(&one);
 	look(&two);
@@ -99,12 +173,197 @@ int main(void)
 	event(&two, wl_keyboard_event_leave, 4);
 	event(&one, wl_keyboard_event_enter, 5);
 	event(&one, wl_keyboard_event_leave, 6);
-	event(&two, wl_keyboard_event_enter, 7);
-	read_events(&two);
+	enter(&two, 7);
 	read_events(&one);
 	look(&one);
 	look(&two);
 	HOLDS(!one.entered && two.entered);
-	printf("the focus in the compositor's order: %s\n", failed ? "not as it should be" : "ok");
+	/* The second ends in this round: of it nothing is read, however often the first hears of what was. */
+	client_end(two.place.client, "a test");
+	for (int at = 0; at < 8; at++) {
+		static uint8_t bytes[WIRE_READ];
+		HOLDS(write(two.place.far, bytes, sizeof bytes) == sizeof bytes);
+		enter(&one, 5);
+	}
+	HOLDS(two.place.client->far.in_to == 0);
+	close_client(&two.place);
+	close_client(&one.place);
+}
+
+/* A surface is destroyed before the compositor's enter comes: its id is free at the broker too, once it is here. */
+static void destroyed_surface(void)
+{
+	static struct user one;
+	start_program(&one, true);
+	enter(&one, 11);
+	event(&one, wl_keyboard_event_leave, 12);
+	read_events(&one);
+	request(&one, draft(SURFACE, wl_surface_request_destroy, ""));
+	enter(&one, 13);
+	event(&one, wl_keyboard_event_leave, 14);
+	put(one.place.far, draft(DISPLAY, wl_display_event_delete_id, "u", SURFACE));
+	read_events(&one);
+	look(&one);
+	HOLDS(!one.entered && HEARD(&one, DISPLAY, wl_display_event_delete_id, SURFACE) == 1);
+	request(&one, draft(COMPOSITOR, wl_compositor_request_create_surface, "u", SURFACE));
+	enter(&one, 15);
+	look(&one);
+	HOLDS(one.entered);
+	close_client(&one.place);
+}
+
+/* A client ends, or its board does, with a key down: who got the key is told its release, and no other board's. */
+static void boards_end(void)
+{
+	static struct user one, first, second, third;
+	start_program(&one, true);
+	start_method(&first);
+	start_method(&second);
+	start_method(&third);
+	make_board(&first);
+	make_board(&second);
+	make_board(&third);
+	enter(&one, 21);
+	press(&first, A, 1);
+	press(&second, B, 1);
+	look(&one);
+	HOLDS(HEARD(&one, KEYBOARD, wl_keyboard_event_key, A, 1) == 1);
+	HOLDS(HEARD(&one, KEYBOARD, wl_keyboard_event_key, B, 1) == 1);
+	make_method(&third);
+	request(&third, draft(METHOD_1, zwp_input_method_v2_request_grab_keyboard, "u", GRAB));
+	press(&first, C, 1);
+	look(&third);
+	HOLDS(HEARD(&third, GRAB, zwp_input_method_keyboard_grab_v2_event_key, C, 1) == 1);
+	close_client(&first.place);
+	look(&one);
+	HOLDS(HEARD(&one, KEYBOARD, wl_keyboard_event_key, A, 0) == 1);
+	HOLDS(HEARD(&one, KEYBOARD, wl_keyboard_event_key, B, 0) == 0);
+	look(&third);
+	HOLDS(HEARD(&third, GRAB, zwp_input_method_keyboard_grab_v2_event_key, C, 0) == 1);
+	press(&second, C, 1);
+	request(&second, draft(BOARD, zwp_virtual_keyboard_v1_request_destroy, ""));
+	look(&one);
+	HOLDS(HEARD(&one, KEYBOARD, wl_keyboard_event_key, B, 0) == 1);
+	look(&third);
+	HOLDS(HEARD(&third, GRAB, zwp_input_method_keyboard_grab_v2_event_key, C, 0) == 1);
+	close_client(&third.place);
+	close_client(&second.place);
+	close_client(&one.place);
+}
+
+/* Each wl_keyboard of a program is told the modifiers at an enter, also where a grab gets them. */
+static void keyboards(void)
+{
+	static struct user one, first;
+	start_program(&one, true);
+	start_method(&first);
+	make_board(&first);
+	make_method(&first);
+	request(&first, draft(METHOD_1, zwp_input_method_v2_request_grab_keyboard, "u", GRAB));
+	request(&one, draft(SEAT, wl_seat_request_get_keyboard, "u", KEYBOARD_2));
+	for (uint32_t id = KEYBOARD; id <= KEYBOARD_2; id += KEYBOARD_2 - KEYBOARD)
+		put(one.place.far, draft(id, wl_keyboard_event_enter, "uuu", 31, SURFACE, 0));
+	for (int times = 0; times < 2; times++)
+		for (uint32_t id = KEYBOARD; id <= KEYBOARD_2; id += KEYBOARD_2 - KEYBOARD)
+			put(one.place.far, draft(id, wl_keyboard_event_modifiers, "uuuuu", 32 + times, 4 - times, 0, 0, 0));
+	read_events(&one);
+	look(&one);
+	HOLDS(HEARD(&one, KEYBOARD, wl_keyboard_event_modifiers, 4, 0, 0, 0) == 1);
+	HOLDS(HEARD(&one, KEYBOARD_2, wl_keyboard_event_modifiers, 4, 0, 0, 0) == 1);
+	HOLDS(HEARD(&one, KEYBOARD, wl_keyboard_event_modifiers, 3, 0, 0, 0) == 0);
+	HOLDS(HEARD(&one, KEYBOARD_2, wl_keyboard_event_modifiers, 3, 0, 0, 0) == 0);
+	/* A third that comes later is told what the others were, by the method too. */
+	request(&first, draft(BOARD, zwp_virtual_keyboard_v1_request_modifiers, "uuuu", 1, 0, 0, 0));
+	request(&one, draft(SEAT, wl_seat_request_get_keyboard, "u", KEYBOARD_2 + 1));
+	put(one.place.far, draft(KEYBOARD_2 + 1, wl_keyboard_event_enter, "uuu", 34, SURFACE, 0));
+	put(one.place.far, draft(KEYBOARD_2 + 1, wl_keyboard_event_modifiers, "uuuuu", 35, 3, 0, 0, 0));
+	read_events(&one);
+	look(&one);
+	HOLDS(HEARD(&one, KEYBOARD, wl_keyboard_event_modifiers, 1, 0, 0, 0) == 1);
+	HOLDS(HEARD(&one, KEYBOARD_2 + 1, wl_keyboard_event_modifiers, 1, 0, 0, 0) > 0);
+	HOLDS(HEARD(&one, KEYBOARD_2 + 1, wl_keyboard_event_modifiers, 3, 0, 0, 0) == 0);
+	close_client(&first.place);
+	close_client(&one.place);
+}
+
+/* A renewal: who has a manager alone can use it then, and a method that is unavailable stays so. */
+static void renewals(void)
+{
+	static struct user one, first, second, third;
+	start_program(&one, false);
+	start_method(&first);
+	start_method(&second);
+	start_method(&third);
+	make_board(&first);
+	make_board(&second);
+	make_method(&first);
+	make_method(&second);
+	look(&second);
+	HOLDS(HEARD(&second, METHOD_1, zwp_input_method_v2_event_unavailable) == 1);
+	request(&first, draft(METHOD_1, zwp_input_method_v2_request_destroy, ""));
+	renew();
+	make_field(&one);
+	make_board(&third);
+	make_method(&third);
+	enter(&one, 41);
+	request(&one, draft(FIELD, zwp_text_input_v3_request_enable, ""));
+	request(&one, draft(FIELD, zwp_text_input_v3_request_commit, ""));
+	for (int times = 0; times < 2; times++) {
+		look(&one);
+		look(&second);
+		look(&third);
+		HOLDS(one.entered && HEARD(&second, METHOD_1, zwp_input_method_v2_event_activate) == 0);
+		HOLDS(HEARD(&third, METHOD_1, zwp_input_method_v2_event_unavailable) == 0);
+		HOLDS(HEARD(&third, METHOD_1, zwp_input_method_v2_event_activate) == 1);
+		renew();
+		request(&one, draft(FIELD, zwp_text_input_v3_request_enable, ""));
+		request(&one, draft(FIELD, zwp_text_input_v3_request_commit, ""));
+	}
+	request(&second, draft(METHOD_1, zwp_input_method_v2_request_destroy, ""));
+	look(&second);
+	close_client(&third.place);
+	close_client(&second.place);
+	close_client(&first.place);
+	close_client(&one.place);
+}
+
+/* Who fills the broker by weight brings its renewal, also without a pause. */
+static void weight(void)
+{
+	enum { TEXT = 4072, MESSAGES = 130000 };
+	static struct user one;
+	static uint32_t words[(HEADER_SIZE + 4 + TEXT + 8) / 4] = { FIELD, 0, TEXT };
+	struct message message;
+	start_program(&one, true);
+	words[1] = sizeof words << 16 | zwp_text_input_v3_request_set_surrounding_text;
+	memset(&words[3], 'a', TEXT - 1);
+	HOLDS(message_front((uint8_t *)words, sizeof words, &message) == FRONT_WHOLE);
+	int sent = 0;
+	while (sent < MESSAGES && !one.place.client->ending && broker_renewal() != 0) {
+		broker_receive(one.place.client, &message, 0);
+		sent++;
+	}
+	HOLDS(sent > 90000 && broker_renewal() == 0);
+	look(&one);
+	renew();
+	HOLDS(broker_renewal() == -1);
+	enter(&one, 51);
+	look(&one);
+	HOLDS(one.entered);
+	close_client(&one.place);
+}
+
+int main(void)
+{
+	if (!broker_open())
+		return 1;
+	focus();
+	destroyed_surface();
+	boards_end();
+	keyboards();
+	renewals();
+	weight();
+	broker_close();
+	printf("focus, ends and renewals in any order: %s\n", failed ? "not as they should be" : "ok");
 	return failed;
 }

@@ -15,7 +15,7 @@ import time
 from gateway_client import Client, Ended, Method, Window, keymap_text, memory_file, message, words
 from gateway_desk import Desk, until
 
-A, B = 30, 48  # keys
+A, B, C = 30, 48, 46  # keys
 
 
 def holds(what, found, wanted):
@@ -170,22 +170,41 @@ def held_key(pair):
 
 
 def keymaps(pair):
-    """A board with another keymap: the window has it while its keys come, and the seat's after."""
+    """A board with another keymap: the window has it while its keys come, and the seat's after. Nobody changes it."""
     one, method = pair.one, pair.method
     text = keymap_text(b"de")
     file = memory_file(text)
     method.send(method.board, "keymap", 1, file, len(text))
-    os.close(file)
     method.send(method.board, "key", 1, A, 1)
     method.send(method.board, "key", 1, A, 0)
     _, keymap, size = one.wait(one.keyboard, "keymap")
+    os.ftruncate(file, 0)
+    os.close(file)
     holds("keymap", os.pread(keymap, size, 0), text)
+    for change in (lambda: os.pwrite(keymap, b"x", 0), lambda: os.ftruncate(keymap, 0)):
+        try:
+            change()
+        except PermissionError:
+            continue
+        raise AssertionError("a program can change the keymap")
     one.wait(one.keyboard, "key")
     one.wait(one.keyboard, "key")
     pair.desk.press(A)
     _, keymap, size = one.wait(one.keyboard, "keymap")
     holds("keymap", os.pread(keymap, size, 0), keymap_text())
     holds("key", [one.wait(one.keyboard, "key")[2:] for _ in range(2)], [[A, 1], [A, 0]])
+
+
+def board_ends(pair):
+    """A client ends with its board's key down: the window is told the release."""
+    one, text = pair.one, keymap_text()
+    other, file = Method(pair.desk.path("wlim-methods"), pair.desk.interfaces), memory_file(text)
+    other.send(other.board, "keymap", 1, file, len(text))
+    os.close(file)
+    other.send(other.board, "key", 1, C, 1)
+    holds("press", one.wait(one.keyboard, "key")[2:], [C, 1])
+    other.close()
+    holds("release", one.wait(one.keyboard, "key")[2:], [C, 0])
 
 
 def method_ends(pair):
@@ -215,10 +234,12 @@ def batches_again(pair, text):
 
 
 def renewed(desk):
-    """The broker is renewed at each pause: counts go on, each batch comes once, a popup and a board live on."""
+    """The broker is renewed at each pause: counts go on, each batch comes once, a manager, popup and board live on."""
     desk.start_gateway("--entries", "150")
     pair = Pair(desk)
-    one, method, commits = pair.one, pair.method, 1
+    one, method, commits, idle = pair.one, pair.method, 1, Client(desk.path("wlim-programs"), desk.interfaces)
+    seat, manager = idle.bind("wl_seat"), idle.bind("zwp_text_input_manager_v3")
+    idle.roundtrip()
     surface = method.send(method.bind("wl_compositor"), "create_surface")
     popup = method.send(method.method, "get_input_popup_surface", surface)
     method.take_keys()
@@ -240,6 +261,9 @@ def renewed(desk):
         holds("keys", [one.wait(one.keyboard, "key")[2:] for _ in range(2)], [[A, 1], [A, 0]])
     method.send(popup, "destroy")
     method.roundtrip()
+    idle.send(manager, "get_text_input", seat)
+    idle.roundtrip()
+    idle.close()
     pair.close()
     count = len([name for name in os.listdir(desk.work) if name.startswith(f"session.{desk.gateways}")])
     holds("the gateway's end", desk.end_gateway(), 0)
@@ -407,7 +431,7 @@ def compositor_ends(desk, pair):
 def run(desk):
     desk.start_gateway()
     pair = Pair(desk)
-    for trial in (batches, late_batch, keys, late_key, held_key, keymaps, method_ends):
+    for trial in (batches, late_batch, keys, late_key, held_key, keymaps, board_ends, method_ends):
         trial(pair)
         print(f"{trial.__name__}: {trial.__doc__}", flush=True)
     bad(desk, pair)

@@ -1,9 +1,10 @@
 /*
- * The gateway's parts by themselves: messages, objects by ids, and descriptors over a socket. Built by tests/gateway.sh.
- * Prints what doesn't hold.
+ * The gateway's parts by themselves: messages, objects by ids, descriptors over a socket, keymaps. Built by
+ * tests/gateway.sh. Prints what doesn't hold.
  */
 #include "gateway.h"
 #include "tables.h"
+#include <fcntl.h>
 #include <stdio.h>
 #include <string.h>
 #include <sys/mman.h>
@@ -172,6 +173,55 @@ static void bounds(void)
 	wire_close(&from);
 }
 
+/* Who takes nothing of what is read has a bounded buffer, and reads on where it took some. */
+static void reads_without_taking(void)
+{
+	static struct wire to;
+	static uint8_t bytes[WIRE_READ];
+	int sockets[2];
+	HOLDS(socketpair(AF_UNIX, SOCK_STREAM | SOCK_NONBLOCK | SOCK_CLOEXEC, 0, sockets) == 0);
+	to.socket = sockets[0];
+	for (int at = 0; at < 8; at++) {
+		HOLDS(write(sockets[1], bytes, sizeof bytes) == sizeof bytes);
+		enum reading reading = wire_read(&to);
+		HOLDS(to.in_to <= sizeof to.in && reading == (at < 5 ? READ_SOME : READ_NOTHING));
+		if (to.in_to > sizeof to.in)
+			return;
+	}
+	to.in_from = 100;
+	HOLDS(wire_read(&to) == READ_SOME && to.in_to == sizeof to.in);
+	close(sockets[1]);
+	wire_close(&to);
+}
+
+/* What a keymap held when it came is what others get, whatever the sender does to its file; and they can't change it. */
+static void keymaps(void)
+{
+	static const char text[] = "xkb_keymap {}", other[] = "xkb_keymap ()";
+	char found[sizeof text];
+	int file = memfd_create("keymap", MFD_CLOEXEC);
+	HOLDS(write(file, text, sizeof text) == sizeof text);
+	HOLDS(keymap_number(1, file, sizeof text + 1) == 0 && keymap_number(1, file, 0) == 0);
+	uint32_t number = keymap_number(1, file, sizeof text);
+	HOLDS(number > 0 && keymap_find(number)->size == sizeof text && strcmp(keymap_find(number)->text, text) == 0);
+	int given = keymap_file(number);
+	HOLDS(pwrite(given, other, sizeof other, 0) < 0 && ftruncate(given, 0) < 0 && ftruncate(given, 4096) < 0);
+	HOLDS(fcntl(given, F_ADD_SEALS, F_SEAL_WRITE) < 0);
+	HOLDS(mmap(NULL, sizeof text, PROT_READ | PROT_WRITE, MAP_SHARED, given, 0) == MAP_FAILED);
+	HOLDS(pwrite(file, other, sizeof other, 0) == sizeof other && ftruncate(file, 1) == 0);
+	HOLDS(read(given, found, sizeof found) == sizeof found && strcmp(found, text) == 0);
+	for (int flags = MAP_SHARED; flags <= MAP_PRIVATE; flags++) {
+		char *mapped = mmap(NULL, sizeof text, PROT_READ, flags, given, 0);
+		HOLDS(mapped != MAP_FAILED && strcmp(mapped, text) == 0);
+		munmap(mapped, sizeof text);
+	}
+	close(given);
+	close(file);
+	file = memfd_create("keymap", MFD_CLOEXEC);
+	HOLDS(write(file, text, sizeof text) == sizeof text && keymap_number(1, file, sizeof text) == number);
+	close(file);
+}
+
 int main(void)
 {
 	fronts();
@@ -181,6 +231,8 @@ int main(void)
 	ids();
 	descriptors();
 	bounds();
+	reads_without_taking();
+	keymaps();
 	printf("the gateway's parts: %s\n", failed ? "not as they should be" : "ok");
 	return failed;
 }
