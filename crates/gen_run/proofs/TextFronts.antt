@@ -1,5 +1,5 @@
--- What is written of a generated session is a front of its text.
-use Rattle.std.proofs.Common.{◌≡◌, ℕ, zero, suc, ◌+◌, ◌-◌, ◌≤◌, List, [], ◌++◌, length, take, drop, Option, refl, sym, ap, subst, ◌∙◌, arith, add-one, take-append-drop, append_assoc, length-append}
+-- What is written of a generated session is a front of its text, and all of it at the end alone.
+use Rattle.std.proofs.Common.{◌≡◌, ℕ, zero, suc, ◌+◌, ◌-◌, ◌<◌, ◌≤◌, List, [], ◌++◌, length, take, drop, Option, refl, sym, ap, subst, ◌∙◌, arith, add-one, take-append-drop, append_assoc, length-append, length-take-le}
 use Rattle.std.specs.Prelude.{codes, Result, Ok, Err, OnOk, OnErr}
 use Rattle.std.specs.Io.KnownBytes.{Appends}
 use Rattle.std.proofs.KnownBytes.{Appends-trans}
@@ -9,7 +9,7 @@ use Rattle.std.proofs.KnownBytes.{Appends-nil}
 use Rattle.seat_steps.specs.declared.step.Step.{Step}
 use Rattle.session_gen.specs.Generated.{Progress, step_count}
 use Rattle.gen_run.specs.Journals.{step_at}
-use Rattle.gen_run.specs.Texts.{step_text, text_up_to, text_of, GrowsByFront}
+use Rattle.gen_run.specs.Texts.{step_text, text_up_to, text_of, GrowsByPart}
 use Rattle.gen_run.specs.declared.running.Run.{Run}
 use Rattle.gen_run.specs.Runs.{Stands}
 use Rattle.gen_run.specs.Writing.{Writes}
@@ -58,27 +58,40 @@ front_of_text n made few =
     (subst (λ k. IsFront (text_up_to n made) (text_up_to n k)) all (front_up_to n made (step_count - made)))
     (record { rest = codes "end\n"; is = text_whole n })
 
--- what a sink gained is a front of the text
+-- the text goes on behind the lines of its steps
+shorter : (n made : ℕ) → made ≤ step_count → length (text_up_to n made) < length (text_of n)
+shorter n made few =
+    let all : made + (step_count - made) ≡ step_count = omega arith in
+    let f = subst (λ k. IsFront (text_up_to n made) (text_up_to n k)) all (front_up_to n made (step_count - made)) in
+    let steps : length (text_up_to n step_count) ≡ length (text_up_to n made) + length f.rest =
+    ap length f.is ∙ length-append (text_up_to n made) f.rest in
+    let whole : length (text_of n) ≡ length (text_up_to n step_count) + 4 =
+    ap length (text_whole n) ∙ length-append (text_up_to n step_count) (codes "end\n") in
+    omega (arith, steps, whole)
+
+-- what a sink gained is a front of the text, which goes on behind it
 pub grows_by : (held now : Option (List ℕ)) (done text : List ℕ) → Appends held now done → IsFront done text →
-    GrowsByFront held now text
-grows_by held now done text a f =
-    let long : length text ≡ length done + length f.rest = ap length f.is ∙ length-append done f.rest in
+    length done < length text → GrowsByPart held now text
+grows_by held now done text a f less =
     let same : take (length done) text ≡ done = ap (take (length done)) f.is
     ∙ take-append-le (length done) done f.rest (omega arith) ∙ take-length done in
-    (length done, omega arith, subst (Appends held now) (sym same) a)
+    (length done, less, subst (Appends held now) (sym same) a)
 
 -- the same where behind what was written before, a page was written in part
 pub grows_part : (held mid now : Option (List ℕ)) (done page text : List ℕ) → Appends held mid done →
-    IsFront (done ++ page) text → GrowsByFront mid now page → GrowsByFront held now text
+    IsFront (done ++ page) text → GrowsByPart mid now page → GrowsByPart held now text
 grows_part held mid now done page text a f h =
     let n : ℕ = h.0 in
+    let below = h.1 in
+    let long : length text ≡ length done + length page + length f.rest =
+    ap length f.is ∙ length-append (done ++ page) f.rest ∙ ap (λ k. k + length f.rest) (length-append done page) in
     let both : Appends held now (done ++ take n page) = Appends-trans held mid now done (take n page) a h.2 in
     grows_by held now (done ++ take n page) text both (record {
       rest = drop n page ++ f.rest;
       is = f.is ∙ ap (λ l. (done ++ l) ++ f.rest) (sym (take-append-drop n page))
           ∙ ap (λ l. l ++ f.rest) (sym (append_assoc done (take n page) (drop n page)))
           ∙ append_assoc (done ++ take n page) (drop n page) f.rest;
-    })
+    }) (omega (arith, long, length-append done (take n page), length-take-le n page (omega (arith, below)), below))
 
 -- what is written of a run, with its page
 
@@ -124,15 +137,16 @@ whole_front run page held now few w =
 
 -- what was written so far is a front of the text
 pub cut_off : (run : Run) (page : List ℕ) (held now : Option (List ℕ)) → run.session.made ≤ step_count →
-    Writes run page held now → GrowsByFront held now (text_of run.session.number)
+    Writes run page held now → GrowsByPart held now (text_of run.session.number)
 cut_off run page held now few w =
     grows_by held now w.done (text_of run.session.number) w.written
     (front_more w.done (w.done ++ page) (text_of run.session.number) (record { rest = page; is = refl })
     (whole_front run page held now few w))
+    (omega (arith, shorter run.session.number run.session.made few, ap length w.text, length-append w.done page))
 
 -- so is what was written where a page is cut off
 pub cut_within : (run : Run) (page : List ℕ) (held mid now : Option (List ℕ)) → run.session.made ≤ step_count →
-    Writes run page held mid → GrowsByFront mid now page → GrowsByFront held now (text_of run.session.number)
+    Writes run page held mid → GrowsByPart mid now page → GrowsByPart held now (text_of run.session.number)
 cut_within run page held mid now few w h =
     grows_part held mid now w.done page (text_of run.session.number) w.written (whole_front run page held mid few w) h
 
@@ -140,9 +154,9 @@ cut_within run page held mid now few w h =
 pub cut_in_step : (before after : Run) (step : Step) (page next : List ℕ) (held mid now : Option (List ℕ)) →
     Stands after → after.session ≡ record before.session { made = before.session.made + 1 } →
     step ≡ step_at before.session.number before.session.made → next ≡ page ++ step_text step →
-    Writes before page held mid → GrowsByFront mid now next → GrowsByFront held now (text_of before.session.number)
+    Writes before page held mid → GrowsByPart mid now next → GrowsByPart held now (text_of before.session.number)
 cut_in_step before after step page next held mid now stands e s p w g =
-    subst (λ (n : ℕ). GrowsByFront held now (text_of n)) (ap (λ (x : Progress). x.number) e)
+    subst (λ (n : ℕ). GrowsByPart held now (text_of n)) (ap (λ (x : Progress). x.number) e)
     (cut_within after next held mid now stands.few (line_added before after step page next held mid e s p w) g)
 
 -- behind the last step stands the end
@@ -166,7 +180,7 @@ ends_whole n run page next held mid now h l p w a =
 
 pub ends_part : (n : ℕ) (run : Run) (page next : List ℕ) (held mid now : Option (List ℕ)) → IsRunOf n run →
     step_count - run.session.made ≤ 0 → next ≡ page ++ codes "end\n" → Writes run page held mid →
-    GrowsByFront mid now next → GrowsByFront held now (text_of n)
+    GrowsByPart mid now next → GrowsByPart held now (text_of n)
 ends_part n run page next held mid now h l p w g =
     grows_part held mid now w.done next (text_of n) w.written
     (record { rest = []; is = ends_text n run page next held mid h l p w ∙ sym (append-nil (w.done ++ next)) }) g
@@ -185,11 +199,11 @@ pub err_any : {T E : Type 0} (r : Result T E) (A : Type 0) → A → OnErr r A
 err_any (Ok x) A a = tt
 err_any (Err e) A a = a
 
--- nothing was written, which is a front of any text
-pub nothing_yet : (held : Option (List ℕ)) (text : List ℕ) → GrowsByFront held held text
-nothing_yet held text = (0, omega arith, Appends-nil held)
+-- nothing was written, which is a front of each session
+pub nothing_yet : (held : Option (List ℕ)) (n : ℕ) → GrowsByPart held held (text_of n)
+nothing_yet held n = (0, (let less = shorter n 0 (omega arith) in omega (arith, less)), Appends-nil held)
 
 -- a run of n writes the session of n
 pub of_number : (n : ℕ) (run : Run) (held now : Option (List ℕ)) → IsRunOf n run →
-    GrowsByFront held now (text_of run.session.number) → GrowsByFront held now (text_of n)
-of_number n run held now h g = subst (λ (m : ℕ). GrowsByFront held now (text_of m)) h.number g
+    GrowsByPart held now (text_of run.session.number) → GrowsByPart held now (text_of n)
+of_number n run held now h g = subst (λ (m : ℕ). GrowsByPart held now (text_of m)) h.number g

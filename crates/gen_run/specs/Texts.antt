@@ -1,5 +1,5 @@
 -- A generated session as text.
-use Rattle.std.specs.Prelude.{ℕ, zero, suc, ◌≤◌, List, [], ◌∷◌, ◌++◌, length, take, codes, Option}
+use Rattle.std.specs.Prelude.{ℕ, zero, suc, ◌<◌, List, [], ◌∷◌, ◌++◌, length, take, codes, Option}
 use Rattle.std.specs.Io.KnownBytes.{Appends}
 use Rattle.seat_steps.specs.declared.step.Step.{Step}
 use Rattle.session_text.specs.declared.line.Form.TheVariants as forms
@@ -22,6 +22,6 @@ text_up_to n (suc made) = text_up_to n made ++ step_text (step_at n made)
 unfoldable pub text_of : ℕ → List ℕ
 text_of n = text_up_to n step_count ++ codes "end\n"
 
--- what was written grew by a front of the text
-abbrev pub GrowsByFront : Option (List ℕ) → Option (List ℕ) → List ℕ → Type 0
-GrowsByFront old new text = (n : ℕ) × (n ≤ length text) × Appends old new (take n text)
+-- what was written grew by a front of the text that isn't all of it
+abbrev pub GrowsByPart : Option (List ℕ) → Option (List ℕ) → List ℕ → Type 0
+GrowsByPart old new text = (n : ℕ) × (n < length text) × Appends old new (take n text)

@@ -5,7 +5,7 @@ ghost use Rattle.std.specs.Io.KnownBytes.{Appends};
 ghost use Rattle.wio_core.specs.Io.{Rose};
 ghost use Rattle.seat_steps.specs.Ranges.{IsStep};
 ghost use Rattle.session_gen.specs.Generated.{step_count};
-ghost use Rattle.gen_run.specs.Texts.{step_text, text_of, GrowsByFront};
+ghost use Rattle.gen_run.specs.Texts.{step_text, text_of, GrowsByPart};
 ghost use Rattle.gen_run.specs.Runs.{Stands};
 ghost use Rattle.gen_run.specs.Writing.{Writes};
 
@@ -16,7 +16,7 @@ use thiserror::Error;
 use transcript_text::print_step;
 use wio_core::{Failed, NoMemory, Sink, write_all};
 
-/// Why a session wasn't written whole. A front of it was.
+/// Why a session wasn't written whole. A front of it was, which isn't all of it.
 #[derive(Clone, Copy, Debug, PartialEq, Eq, Error)]
 pub enum WriteEnd {
     /// A write failed.
@@ -83,7 +83,7 @@ fn write_page<K: Sink>(page: &mut String, output: &mut K) -> Result<(), WriteEnd
         (Appends (K.held output.old) (K.held output.new) (string_bytes page.old)) }
     ensures empty { OnOk result (string_bytes page.new ≡ []) }
     ensures part { OnErr result
-        (GrowsByFront (K.held output.old) (K.held output.new) (string_bytes page.old)) }
+        (GrowsByPart (K.held output.old) (K.held output.new) (string_bytes page.old)) }
     ensures never_falls { K.fault_count output.old ≤ K.fault_count output.new }
     ensures cause { OnErr result (Rose (K.fault_count output.old) (K.fault_count output.new)) }
     ensures no_fault { result ≢ Err WriteEnd.WriteFault →
@@ -111,7 +111,7 @@ fn write_step<K: Sink>(
         OnOk result (Writes run.new (string_bytes page.new) held (K.held output.new)) }
     ensures front { (held : Option (List ℕ)) →
         Writes run.old (string_bytes page.old) held (K.held output.old) →
-        OnErr result (GrowsByFront held (K.held output.new) (text_of run.old.session.number)) }
+        OnErr result (GrowsByPart held (K.held output.new) (text_of run.old.session.number)) }
     ensures never_falls { K.fault_count output.old ≤ K.fault_count output.new }
     ensures cause { result ≡ Err WriteEnd.WriteFault →
         Rose (K.fault_count output.old) (K.fault_count output.new) }
@@ -138,7 +138,7 @@ fn write_run<K: Sink>(
     ensures whole { OnOk result
         (Appends (K.held output.old) (K.held output.new) (text_of number)) }
     ensures front { OnErr result
-        (GrowsByFront (K.held output.old) (K.held output.new) (text_of number)) }
+        (GrowsByPart (K.held output.old) (K.held output.new) (text_of number)) }
     ensures never_falls { K.fault_count output.old ≤ K.fault_count output.new }
     ensures cause { result ≡ Err WriteEnd.WriteFault →
         Rose (K.fault_count output.old) (K.fault_count output.new) }
@@ -156,13 +156,13 @@ fn write_run<K: Sink>(
 /// Writes the session of the number: its header, the line of each step, and `end`. It is written
 /// piece by piece, and only the journal grows meanwhile.
 ///
-/// After each error a front of the session was written. `WriteFault` comes only where the sink's
-/// count of faults rose, and `NoMemory` may come at any time.
+/// After each error a front of the session was written, and not all of it. `WriteFault` comes only
+/// where the sink's count of faults rose, and `NoMemory` may come at any time.
 pub fn write_session<K: Sink>(alloc: Global, number: u64, output: &mut K) -> Result<(), WriteEnd>
     ensures whole { OnOk result
         (Appends (K.held output.old) (K.held output.new) (text_of number)) }
     ensures front { OnErr result
-        (GrowsByFront (K.held output.old) (K.held output.new) (text_of number)) }
+        (GrowsByPart (K.held output.old) (K.held output.new) (text_of number)) }
     ensures never_falls { K.fault_count output.old ≤ K.fault_count output.new }
     ensures cause { result ≡ Err WriteEnd.WriteFault →
         Rose (K.fault_count output.old) (K.fault_count output.new) }

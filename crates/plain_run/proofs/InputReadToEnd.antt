@@ -1,11 +1,18 @@
 -- Words, and an input that is read to its end.
-use Rattle.std.proofs.Common.{◌≡◌, ℕ, ◌<◌, ◌≤◌, List, [], ◌∷◌, ◌++◌, length, take, map, get_or, Option, Some, None, String, Global, string_bytes, sym, ap, ap₂, ◌∙◌, append-nil, arith}
-use Rattle.std.specs.Prelude.{IfSome}
+use Rattle.std.proofs.Common.{◌≡◌, ℕ, ◌<◌, ◌≤◌, List, [], ◌∷◌, ◌++◌, length, take, map, get_or, Option, Some, None, String, Global, string_bytes, sym, ap, ap₂, ◌∙◌, ◌⊎◌, inl, inr, subst, append-nil, arith}
+use Rattle.std.specs.Prelude.{IfSome, IfOk, Result, Ok, Err}
+use Rattle.std.specs.Result.{IsErr}
+use Rattle.std.proofs.lemmas.Bool.{false≢true}
 use Rattle.std.specs.Io.KnownBytes.{Consumes, IsAtEnd}
 use Rattle.std.proofs.Math.Seq.{take-append_seam}
 use Rattle.std.proofs.lemmas.List.{take_all}
+use Rattle.wio_core.specs.Lines.{TookFrom}
+use Rattle.wio_core.proofs.ReadsTogether.{TookFrom-both}
 use Rattle.plain_run.specs.declared.reading.TheConstants.{INPUT_LIMIT}
+use Rattle.plain_run.specs.declared.status.Status.{Status}
+use Rattle.plain_run.specs.declared.status.Status.TheVariants as status
 use Rattle.plain_run.specs.Lines.{taken}
+use Rattle.plain_run.specs.Whole.{ReadsWhole}
 use Rattle.plain_run.specs.Run.{task_named, two_named, gen_text_named, task_of}
 
 pub one_word : (ws : List (String Global)) (a : String Global) → 1 ≤ length ws → length ws < 2 → a ≡ get_or ws 0 a →
@@ -52,3 +59,43 @@ read_to_limit None b bs p full = tt
 read_to_limit (Some x) None bs p full = absurd p
 read_to_limit (Some x) (Some y) bs p full =
     sym (ap (λ n. take n x) (sym full) ∙ ap (take (length bs)) p ∙ take-append_seam bs y)
+
+-- bytes that were read, and then more
+pub read_more : (gf g g_after lf l l_after : Option (List ℕ)) (before after read : List ℕ)
+    → TookFrom gf g lf l before → TookFrom g g_after l l_after read → after ≡ before ++ read
+    → TookFrom gf g_after lf l_after after
+read_more gf g g_after lf l l_after before after read first next is =
+    subst (TookFrom gf g_after lf l_after) (sym is) (TookFrom-both gf g g_after lf l l_after before read first next)
+
+-- an error holds no input
+pub none_read : {T E : Type 0} (r : Result T E) (P : T → Type 0) → IsErr r → IfOk r P
+none_read (Ok input) P is = absurd (false≢true is)
+none_read (Err e) P is = tt
+
+-- what the whole input is, whatever came of it
+pub read_whole : {g g_after l l_after : Option (List ℕ)} (result : Status) (input : List ℕ)
+    → ((read : List ℕ) × TookFrom g g_after l l_after read × (length read ≤ INPUT_LIMIT) × (input ≡ read))
+    → IfSome l (λ bytes. input ≡ taken INPUT_LIMIT bytes)
+    → (read : List ℕ) × TookFrom g g_after l l_after read × ReadsWhole l result read
+read_whole {l} result input took all = (
+  took.0,
+  took.1,
+  record {
+    within = took.2;
+    all = λ _ _. subst (λ t. IfSome l (λ bytes. t ≡ taken INPUT_LIMIT bytes)) took.3 all;
+  },
+)
+
+-- what was read of it before a read failed or memory was wanting
+pub read_cut : {g g_after l l_after : Option (List ℕ)} (result : Status)
+    → (result ≡ status.ReadFault) ⊎ (result ≡ status.NoMemory)
+    → ((read : List ℕ) × TookFrom g g_after l l_after read × (length read ≤ INPUT_LIMIT) × Unit {0})
+    → (read : List ℕ) × TookFrom g g_after l l_after read × ReadsWhole l result read
+read_cut result cut took = (
+  took.0,
+  took.1,
+  record {
+    within = took.2;
+    all = λ read memory. absurd (elim cut [ inl e ↦ read e | inr e ↦ memory e ]);
+  },
+)

@@ -61,8 +61,9 @@ near_of : {limit : ℕ} (gf lf g0 l0 g1 l1 : Option (List ℕ)) (before after : 
     (read more bytes : List ℕ)
     → IsReadTo limit gf lf g0 l0 before done read → TookFrom g0 g1 l0 l1 more
     → ReadBytes limit gf lf g1 l1 after done bytes (read ++ more)
-    → (¬ IsOpen before.held → l1 ≡ l0) → StaysNear lf before done read (read ++ more)
+    → (¬ IsOpen before.held → l1 ≡ l0) → StaysNear limit lf before done read (read ++ more)
 near_of {limit} gf lf g0 l0 g1 l1 before after done read more bytes r took b waits = record {
+  within = b.within;
   near = b.near;
   waits = λ held. none_came lf l0 l1 read more r.took.left took.left (waits held);
 }
@@ -72,7 +73,7 @@ pub record LineCame (limit : ℕ) (gf lf g l : Option (List ℕ)) (before after 
     (raw read : List ℕ) : Type 0 where
   pub read_after : List ℕ
   pub up_to : IsReadTo limit gf lf g l after (done ++ raw ∷ []) read_after
-  pub near : StaysNear lf before done read read_after
+  pub near : StaysNear limit lf before done read read_after
   pub fewer : bytes_ahead after < bytes_ahead before
   pub whole : ((rest : List (List ℕ)) × (lines_of true read_after ≡ (done ++ raw ∷ []) ++ rest))
       ⊎ (IsAtEnd l × (lines_of false read_after ≡ done ++ raw ∷ []))
@@ -202,7 +203,7 @@ pub record Came (limit : ℕ) (answer : Bool → List (List ℕ) → Answer) (gf
   pub read_after : List ℕ
   pub took : TookFrom gf g lf l read_after
   pub told : IsTold limit answer lf l done read_after whole
-  pub near : StaysNear lf before done read read_after
+  pub near : StaysNear limit lf before done read read_after
 
 pub end_came : {limit : ℕ} (answer : Bool → List (List ℕ) → Answer) (gf lf g0 l0 g1 l1 : Option (List ℕ))
     (before after : LinesAhead) (done : List (List ℕ)) (read output : List ℕ) (end : End)
@@ -246,7 +247,7 @@ end_came {limit} answer gf lf g0 l0 g1 l1 before after done read output end r h 
           took = took;
           told = told_end answer lf l1 done read (with_front output (ending end)) took.left
               (subst IsAtEnd (sym same.1) d.0) d.1 d.2 names.missing;
-          near = record { near = omega arith; waits = λ held. unread lf };
+          near = record { within = r.within; near = omega arith; waits = λ held. unread lf };
         }
       where
         unread : (o : Option (List ℕ)) → IfSome o (λ bytes. read ≡ read)
@@ -374,18 +375,18 @@ open_front held more h = record {
 }
 
 -- a read failed
-pub record FaultCame (gf lf g l : Option (List ℕ)) (before : LinesAhead) (done : List (List ℕ))
+pub record FaultCame (limit : ℕ) (gf lf g l : Option (List ℕ)) (before : LinesAhead) (done : List (List ℕ))
     (read : List ℕ) : Type 0 where
   pub read_after : List ℕ
   pub took : TookFrom gf g lf l read_after
   pub lines : lines_of true read_after ≡ done
   pub begun : IsOpen before.held
-  pub near : StaysNear lf before done read read_after
+  pub near : StaysNear limit lf before done read read_after
 
 pub fault_came : {limit : ℕ} (gf lf g0 l0 g1 l1 : Option (List ℕ)) (before after : LinesAhead) (done : List (List ℕ))
     (read : List ℕ)
     → IsReadTo limit gf lf g0 l0 before done read → Answers before after g0 g1 l0 l1 answers.ReadFault
-    → (¬ IsOpen before.held → l1 ≡ l0) → FaultCame gf lf g1 l1 before done read
+    → (¬ IsOpen before.held → l1 ≡ l0) → FaultCame limit gf lf g1 l1 before done read
 fault_came {limit} gf lf g0 l0 g1 l1 before after done read r h waits =
     let w = goes gf lf g0 l0 g1 l1 before after answers.ReadFault done read r h (λ e. cc e) in
     let more = w.1.0 in

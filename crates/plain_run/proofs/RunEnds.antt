@@ -1,8 +1,8 @@
 -- How a run ends, and what it owes then.
-use Rattle.std.proofs.Common.{◌≡◌, ◌≢◌, ℕ, ◌+◌, ◌≤◌, Bool, true, false, List, [], ◌++◌, length, take, Option, Some, None, Ok, Err, refl, sym, ap, ◌∙◌, ◌⊎◌, subst, inl, inr, arith, append_assoc, append-nil, length-append}
+use Rattle.std.proofs.Common.{◌≡◌, ℕ, ◌+◌, ◌≤◌, Bool, true, false, List, [], ◌++◌, length, take, Option, Some, None, Ok, Err, refl, sym, ap, ◌∙◌, ◌⊎◌, subst, inl, inr, arith, append_assoc, append-nil, length-append}
 use Rattle.std.specs.Prelude.{IfSome}
 use Rattle.std.specs.Io.KnownBytes.{Appends, IsAtEnd}
-use Rattle.std.proofs.KnownBytes.{Appends-trans, Appends-nil}
+use Rattle.std.proofs.KnownBytes.{Appends-trans, Appends-nil, Consumes-nil}
 use Rattle.std.proofs.Math.Seq.{take-append-add}
 use Rattle.std.proofs.lemmas.List.{take_all, take-append-le}
 use Rattle.wio_core.specs.Io.{Rose}
@@ -13,18 +13,18 @@ use Rattle.plain_run.specs.declared.last_line.LastLine.TheVariants as last
 use Rattle.plain_run.specs.declared.status.Status.{Status}
 use Rattle.plain_run.specs.declared.status.Status.TheVariants as status
 use Rattle.plain_run.specs.Endings.{Answer, with_front, ending, is_long, shown, IsDecided}
-use Rattle.plain_run.specs.Lines.{lines_of, is_cut, size_of}
+use Rattle.plain_run.specs.Lines.{lines_of, lines_read, is_cut, size_of}
 use Rattle.plain_run.specs.Scripts.{Follows}
 use Rattle.plain_run.specs.Reading.{LeadsOff, ComesTo}
 use Rattle.plain_run.specs.Writing.{WritesPart, WritesEnd, IsCutShort}
 use Rattle.plain_run.specs.LineByLine.{IsDecidedBy, LineByLine}
 use Rattle.plain_run.specs.Ran.{GrowsByFront, Ran, answer_read}
-use Rattle.plain_run.proofs.LinesWithin.{IsNear, is_near, shown_of}
-use Rattle.plain_run.proofs.RunOnItsWay.{Going, Ready, leads_done, leads_first, stays_near}
+use Rattle.plain_run.proofs.LinesWithin.{IsNear, is_near, shown_of, within_none}
+use Rattle.plain_run.proofs.RunOnItsWay.{Going, Ready, if_near, leads_done, leads_first, stays_near}
 
--- a count that rose later rose
-pub rose_later : (before middle after : ℕ) → before ≤ middle → Rose middle after → Rose before after
-rose_later before middle after le rose = omega arith
+-- a count that stood and then rose rose
+pub rose_later : (before middle after : ℕ) → middle ≡ before → Rose middle after → Rose before after
+rose_later before middle after same rose = subst (λ n. Rose n after) same rose
 
 -- a status that isn't decided
 
@@ -56,8 +56,10 @@ ran_short limit answer lf held0 held reads reads' writes writes' s short front c
 
 law_short : {limit : ℕ} (answer : Bool → List (List ℕ) → Answer) (lf l held0 held : Option (List ℕ)) (s : Status)
     (read : List ℕ)
-    → IsCutShort s → IsNear limit answer lf held0 held read → LineByLine limit answer lf l held0 held s read
-law_short {limit} answer lf l held0 held s read short near = record {
+    → IsCutShort s → length read ≤ limit → IsNear limit answer lf held0 held read
+    → LineByLine limit answer lf l held0 held s read
+law_short {limit} answer lf l held0 held s read short within near = record {
+  within = within;
   read_failed = λ e. absurd (no_read_fault s short e);
   decided = λ h. absurd (undecided s short h);
   near_deciding = near.deciding;
@@ -108,7 +110,7 @@ pub short_law : {limit : ℕ} {answer : Bool → List (List ℕ) → Answer} {st
     → (at : Going limit answer stands holds gf lf g l held0 held reader) → WritesPart held held' at.ready s
     → LineByLine limit answer lf l held0 held' s at.read
 short_law {limit} {answer} {lf} {l} {held0} {held} held' s at part =
-    law_short answer lf l held0 held' s at.read part.3
+    law_short answer lf l held0 held' s at.read part.3 at.up_to.within
     (is_near answer lf held0 held' at.first at.read (at.written ++ take part.0 at.ready) (length at.written)
     (leads_first at) at.near at.first_within
     (Appends-trans held0 held held' at.written (take part.0 at.ready) at.gained part.2)
@@ -174,22 +176,24 @@ law_end : {limit : ℕ} (answer : Bool → List (List ℕ) → Answer) (lf l hel
     (end : Answer) (result : Status) → Appends held0 held written → WritesEnd held held' end result
     → (answer true (lines_of true read) ≡ with_front written end)
     ⊎ (IsAtEnd l × (answer false (lines_of false read) ≡ with_front written end))
+    → length read ≤ limit
     → ((gained : List ℕ) → Appends held0 held' gained → length written ≤ length gained
     → IsNear limit answer lf held0 held' read)
     → LineByLine limit answer lf l held0 held' result read
-law_end {limit} answer lf l held0 held held' read written end result before (inl wrote) early near =
+law_end {limit} answer lf l held0 held held' read written end result before (inl wrote) early within near =
     let both = Appends-trans held0 held held' written end.0 before wrote.0 in
     let here = near (written ++ end.0) both (omega (arith, length-append written end.0)) in
     let by = λ (cut : Bool) (is : answer cut (lines_of cut read) ≡ with_front written end).
     decided_by answer cut held0 held' read (with_front written end) result is wrote.1 both in
     record {
+      within = within;
       read_failed = λ e. absurd (subst IsDecided e wrote.2);
       decided = λ h. elim early [ inl is ↦ inl (by true is) | inr is ↦ inr (is.0, by false is.1) ];
       near_deciding = here.deciding;
       near_unwritten = here.unwritten;
     }
-law_end {limit} answer lf l held0 held held' read written end result before (inr part) early near =
-    law_short answer lf l held0 held' result read part.3
+law_end {limit} answer lf l held0 held held' read written end result before (inr part) early within near =
+    law_short answer lf l held0 held' result read part.3 within
     (near (written ++ take part.0 end.0)
     (Appends-trans held0 held held' written (take part.0 end.0) before part.2)
     (omega (arith, length-append written (take part.0 end.0))))
@@ -250,7 +254,7 @@ told_law {limit} {answer} {lf} {held0} {held} stands_after holds_after g' l' hel
       law_end answer lf l' held0 held held' come.1 at.written rest result at.gained wrote
           (subst (λ a. (answer true (lines_of true come.1) ≡ a)
           ⊎ (IsAtEnd l' × (answer false (lines_of false come.1) ≡ a))) text come.4.early)
-          (near_first held' at come.1 (stays_near r come.1 come.5)),
+          come.5.within (near_first held' at come.1 (stays_near r come.1 come.5)),
     )
 
 -- it ends where a read failed, or there was no memory
@@ -262,19 +266,21 @@ by_error : (limit : ℕ) (answer : Bool → List (List ℕ) → Answer) (stands 
     → ComesTo limit answer stands holds gf lf g l before after done read output gathered (Err s)
     → (ComesTo limit answer stands holds gf lf g l before after done read output gathered (Err status.ReadFault)
     → P status.ReadFault)
-    → P status.NoMemory → P s
+    → (ComesTo limit answer stands holds gf lf g l before after done read output gathered (Err status.NoMemory)
+    → P status.NoMemory)
+    → P s
 by_error limit answer stands holds gf lf g l before after done read output gathered P s come fault memory = by s come
   where
     by : (s : Status) → ComesTo limit answer stands holds gf lf g l before after done read output gathered (Err s) → P s
     by status.ReadFault come = fault come
-    by status.Ok come = subst P (sym come) memory
-    by status.BadWords come = subst P (sym come) memory
-    by status.BadSession come = subst P (sym come) memory
-    by status.WriteFault come = subst P (sym come) memory
-    by status.NoMemory come = memory
-    by status.JournalFull come = subst P (sym come) memory
-    by status.InputLong come = subst P (sym come) memory
-    by status.AuditNo come = subst P (sym come) memory
+    by status.Ok come = (let e = come.2 in absurd (cc e))
+    by status.BadWords come = (let e = come.2 in absurd (cc e))
+    by status.BadSession come = (let e = come.2 in absurd (cc e))
+    by status.WriteFault come = (let e = come.2 in absurd (cc e))
+    by status.NoMemory come = memory come
+    by status.JournalFull come = (let e = come.2 in absurd (cc e))
+    by status.InputLong come = (let e = come.2 in absurd (cc e))
+    by status.AuditNo come = (let e = come.2 in absurd (cc e))
 
 pub failed_ran : {limit : ℕ} {answer : Bool → List (List ℕ) → Answer} {stands : List (List ℕ) → List ℕ → Type 0}
     {holds : List ℕ → Type 0} {gf lf g l held0 held : Option (List ℕ)} {reader : LinesAhead}
@@ -300,7 +306,7 @@ failed_ran {limit} {answer} {gf} {lf} {held0} {held} {reader} stands_after holds
       write_fault = λ e. absurd (cc e);
       good_words = λ e. cc e;
     })
-    (λ rose. ran_short limit answer lf held0 held reads reads' writes writes' status.NoMemory (inr refl) front
+    (λ come rose. ran_short limit answer lf held0 held reads reads' writes writes' status.NoMemory (inr refl) front
     (λ e. absurd (cc e)))
     rose
   where
@@ -312,11 +318,13 @@ failed_ran {limit} {answer} {gf} {lf} {held0} {held} {reader} stands_after holds
 fault_law : {limit : ℕ} (answer : Bool → List (List ℕ) → Answer) (lf l held0 held : Option (List ℕ))
     (done : List (List ℕ))
     (read output : List ℕ) → lines_of true read ≡ done → Follows answer done output → Appends held0 held output
-    → IsNear limit answer lf held0 held read → LineByLine limit answer lf l held0 held status.ReadFault read
-fault_law {limit} answer lf l held0 held done read output lines follows wrote near =
+    → length read ≤ limit → IsNear limit answer lf held0 held read
+    → LineByLine limit answer lf l held0 held status.ReadFault read
+fault_law {limit} answer lf l held0 held done read output lines follows wrote within near =
     let is : answer true (lines_of true read) ≡ with_front output (ending last.Long) =
     ap (answer true) lines ∙ follows.undecided in
     record {
+      within = within;
       read_failed = λ e.
           (ap (λ a. is_long a.1) is, subst (Appends held0 held) (sym (ap shown is ∙ shown_of output)) wrote);
       decided = λ h. absurd h;
@@ -341,26 +349,28 @@ pub failed_law : {limit : ℕ} {answer : Bool → List (List ℕ) → Answer} {s
     → (r : Ready limit answer stands holds gf lf g l held0 held reader)
     → ComesTo limit answer stands_after holds_after gf lf g' l' reader after
     r.going.done r.going.read (r.going.written ++ r.going.ready) r.going.ready (Err s)
-    → s ≢ status.NoMemory
     → (read : List ℕ) × TookFrom gf g' lf l' read × LineByLine limit answer lf l' held0 held s read
-failed_law {limit} {answer} {gf} {lf} {held0} {held} {reader} stands_after holds_after g' l' after s r come other =
+failed_law {limit} {answer} {gf} {lf} {held0} {held} {reader} stands_after holds_after g' l' after s r come =
     let at = r.going in
     by_error limit answer stands_after holds_after gf lf g' l' reader after at.done at.read
     (at.written ++ at.ready) at.ready
-    (λ x. x ≢ status.NoMemory
-    → (read : List ℕ) × TookFrom gf g' lf l' read × LineByLine limit answer lf l' held0 held x read)
+    (λ x. (read : List ℕ) × TookFrom gf g' lf l' read × LineByLine limit answer lf l' held0 held x read)
     s come
-    (λ come other. (
+    (λ come. (
       come.0,
       come.1,
       fault_law answer lf l' held0 held at.done come.0 (at.written ++ at.ready) come.2 at.follows
-          (nothing_ready r come.4)
+          (nothing_ready r come.4) come.5.within
           (near_first held at come.0 (stays_near r come.0 come.5) at.written at.gained (omega arith)),
     ))
-    (λ other. absurd (other refl))
-    other
+    (λ come. (
+      come.0,
+      come.1,
+      law_short answer lf l' held0 held status.NoMemory come.0 (inr refl) come.3.within
+          (near_first held at come.0 (stays_near r come.0 come.3) at.written at.gained (omega arith)),
+    ))
 
--- nothing was written
+-- nothing was read or written
 
 pub none_ran : (limit : ℕ) (answer : Bool → List (List ℕ) → Answer) (lf held0 : Option (List ℕ))
     (reads reads' writes writes' : ℕ)
@@ -372,3 +382,17 @@ none_ran limit answer lf held0 reads reads' writes writes' =
     front : (o : Option (List ℕ)) → IfSome o (λ bytes. GrowsByFront held0 held0 (answer_read limit answer bytes).0)
     front None = tt
     front (Some bytes) = (0, omega arith, Appends-nil held0)
+
+pub none_law : {limit : ℕ} (answer : Bool → List (List ℕ) → Answer) (g l held : Option (List ℕ))
+    → (read : List ℕ) × TookFrom g g l l read × LineByLine limit answer l l held held status.NoMemory read
+none_law {limit} answer g l held = (
+  [],
+  record { given = Appends-nil g; left = Consumes-nil l },
+  law_short answer l l held held status.NoMemory [] (inr refl) (omega arith)
+      (is_near answer l held held [] [] [] 0 (ahead l) (if_near l 0 16384 (omega arith)) (within_none answer)
+      (Appends-nil held) (omega arith)),
+)
+  where
+    ahead : (o : Option (List ℕ)) → LeadsOff limit o []
+    ahead None = tt
+    ahead (Some bytes) = (lines_read limit bytes, refl)

@@ -50,7 +50,7 @@ pub record Ready (limit : ℕ)
   pub going : Going limit answer stands holds given_first left_first given left held_first held reader
   pub waits : ((going.ready ≡ []) × (going.first ≡ going.done)) ⊎ (¬ IsOpen reader.held)
 
-if_near : (lf : Option (List ℕ)) (read n : ℕ) → read ≤ n → IfSome lf (λ bytes. read ≤ n)
+pub if_near : (lf : Option (List ℕ)) (read n : ℕ) → read ≤ n → IfSome lf (λ bytes. read ≤ n)
 if_near None read n h = tt
 if_near (Some bytes) read n h = h
 
@@ -152,7 +152,7 @@ was_due {limit} {lf} {held0} {held} stands_after holds_after held_after at said 
 pub stays_near : {limit : ℕ} {answer : Bool → List (List ℕ) → Answer} {stands : List (List ℕ) → List ℕ → Type 0}
     {holds : List ℕ → Type 0} {gf lf g l held0 held : Option (List ℕ)} {reader : LinesAhead}
     → (r : Ready limit answer stands holds gf lf g l held0 held reader) (read_after : List ℕ)
-    → StaysNear lf reader r.going.done r.going.read read_after
+    → StaysNear limit lf reader r.going.done r.going.read read_after
     → IfSome lf (λ bytes. length read_after ≤ size_of r.going.first + 16384)
 stays_near {limit} {lf} r read_after stays =
     elim r.waits [

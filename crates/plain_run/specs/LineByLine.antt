@@ -32,6 +32,7 @@ pub record LineByLine
     (left left_after held held_after : Option (List ℕ))
     (result : Status)
     (read : List ℕ) : Type 0 where
+  pub within : length read ≤ limit
   -- a read failed: no whole line decides, and the output lines of all of them were written, without
   -- a last line
   pub read_failed : result ≡ status.ReadFault →

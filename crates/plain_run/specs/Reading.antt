@@ -42,10 +42,11 @@ abbrev pub LeadsOff : ℕ → Option (List ℕ) → List (List ℕ) → Type 0
 LeadsOff limit left_first done =
     IfSome left_first (λ bytes. (rest : List (List ℕ)) × (lines_read limit bytes ≡ done ++ rest))
 
--- the bytes that were read reach at most 16,384 bytes past these lines, and no further than before
--- where the reader held a line
-pub record StaysNear (left_first : Option (List ℕ)) (reader : LinesAhead) (done : List (List ℕ))
-    (read_before read : List ℕ) : Type 0 where
+-- the bytes that were read are at most so many, and reach at most 16,384 bytes past these lines,
+-- and no further than before where the reader held a line
+pub record StaysNear (limit : ℕ) (left_first : Option (List ℕ)) (reader : LinesAhead)
+    (done : List (List ℕ)) (read_before read : List ℕ) : Type 0 where
+  pub within : length read ≤ limit
   pub near : length read ≤ size_of done + 16384
   pub waits : ¬ IsOpen reader.held → IfSome left_first (λ bytes. read ≡ read_before)
 
@@ -64,8 +65,8 @@ pub record IsTold (limit : ℕ) (answer : Bool → List (List ℕ) → Answer)
 abbrev pub bytes_ahead : LinesAhead → ℕ
 bytes_ahead reader = length reader.held + unwrap_or reader.room 0
 
--- What the next line comes to, after these: it was played, it decided or is missing, or a read
--- failed.
+-- What the next line comes to, after these: it was played, it decided or is missing, a read failed,
+-- or there was no memory to play it.
 abbrev pub ComesTo :
     ℕ → (Bool → List (List ℕ) → Answer) → (List (List ℕ) → List ℕ → Type 0) → (List ℕ → Type 0)
     → (given_first left_first given left : Option (List ℕ)) (before after : LinesAhead)
@@ -75,23 +76,25 @@ ComesTo limit answer stands holds given_first left_first given left before after
     (raw read_after : List ℕ)
     × IsReadTo limit given_first left_first given left after (done ++ raw ∷ []) read_after
     × Played answer stands holds done raw output gathered None
-    × StaysNear left_first before done read read_after
+    × StaysNear limit left_first before done read read_after
     × (bytes_ahead after < bytes_ahead before)
 ComesTo limit answer stands holds given_first left_first given left before after done read output
     gathered (Ok (Some end)) =
     (more read_after : List ℕ) × TookFrom given_first given left_first left read_after
     × holds (gathered ++ more)
     × IsTold limit answer left_first left done read_after (with_front (output ++ more) (ending end))
-    × StaysNear left_first before done read read_after
+    × StaysNear limit left_first before done read read_after
 ComesTo limit answer stands holds given_first left_first given left before after done read output
     gathered
     (Err status.ReadFault) =
     (read_after : List ℕ) × TookFrom given_first given left_first left read_after
     × (lines_of true read_after ≡ done) × holds gathered × IsOpen before.held
-    × StaysNear left_first before done read read_after
+    × StaysNear limit left_first before done read read_after
 ComesTo limit answer stands holds given_first left_first given left before after done read output
     gathered (Err why) =
-    why ≡ status.NoMemory
+    (read_after : List ℕ) × TookFrom given_first given left_first left read_after
+    × (why ≡ status.NoMemory)
+    × StaysNear limit left_first before done read read_after
 
 -- what reading and playing the next line comes to, whatever the limit, wherever the reading began
 -- and whatever lines came before

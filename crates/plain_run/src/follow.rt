@@ -29,7 +29,7 @@ pub fn play_input<P: Script, S: Source, K: Sink>(
         (S.fault_count input.old) (S.fault_count input.new)
         (K.held output.old) (K.held output.new)
         (K.fault_count output.old) (K.fault_count output.new) result }
-    ensures line_by_line { result ≢ Status.NoMemory → (read : List ℕ)
+    ensures line_by_line { (read : List ℕ)
         × TookFrom (S.given input.old) (S.given input.new)
         (S.left input.old) (S.left input.new) read
         × LineByLine limit P.answer (S.left input.old) (S.left input.new)

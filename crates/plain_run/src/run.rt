@@ -1,6 +1,6 @@
 //! The call behind all that is done with an input and an output.
 ghost use Rattle.std.specs.Prelude.{◌≡◌, ◌≢◌, ◌≤◌, ◌↔◌, ℕ, List, map, Some, IfSome, string_bytes};
-ghost use Rattle.std.specs.Prelude.{true, false};
+ghost use Rattle.std.specs.Prelude.{◌⊎◌, true, false};
 ghost use Rattle.std.specs.Io.KnownBytes.{Appends};
 ghost use Rattle.wio_core.specs.Io.{Rose};
 ghost use Rattle.wio_core.specs.Lines.{TookFrom};
@@ -12,6 +12,7 @@ ghost use Rattle.plain_run.specs.Run.{is_command, status_of, output_of};
 ghost use Rattle.plain_run.specs.Migrates.{Migrates};
 ghost use Rattle.plain_run.specs.Run.{command_of, limit_of, answer_by, answer_lines};
 ghost use Rattle.plain_run.specs.Run.{line_command, reads_nothing, task_answer, task_of};
+ghost use Rattle.plain_run.specs.Whole.{ReadsWhole};
 
 use crate::act_list::ActList;
 use crate::audit::AuditPlay;
@@ -35,7 +36,7 @@ fn explain<S: Source, K: Sink>(alloc: Global, lines: Lines, input: &mut S, outpu
         (S.fault_count input.old) (S.fault_count input.new)
         (K.held output.old) (K.held output.new)
         (K.fault_count output.old) (K.fault_count output.new) result }
-    ensures line_by_line { result ≢ Status.NoMemory → (read : List ℕ)
+    ensures line_by_line { (read : List ℕ)
         × TookFrom (S.given input.old) (S.given input.new)
         (S.left input.old) (S.left input.new) read
         × LineByLine INPUT_LIMIT (explain_of_lines lines) (S.left input.old) (S.left input.new)
@@ -70,7 +71,7 @@ fn replay<S: Source, K: Sink>(
         (S.fault_count input.old) (S.fault_count input.new)
         (K.held output.old) (K.held output.new)
         (K.fault_count output.old) (K.fault_count output.new) result }
-    ensures line_by_line { result ≢ Status.NoMemory → (read : List ℕ)
+    ensures line_by_line { (read : List ℕ)
         × TookFrom (S.given input.old) (S.given input.new)
         (S.left input.old) (S.left input.new) read
         × LineByLine (limit_of command) (answer_lines command) (S.left input.old) (S.left input.new)
@@ -114,11 +115,17 @@ fn run_task<S: Source, K: Sink>(alloc: Global, task: Task, input: &mut S, output
         (K.held output.old) (K.held output.new)
         (K.fault_count output.old) (K.fault_count output.new) result }
     ensures line_by_line { IfSome (line_command (Some task)) (λ command.
-        result ≢ Status.NoMemory → (read : List ℕ)
+        (read : List ℕ)
         × TookFrom (S.given input.old) (S.given input.new)
         (S.left input.old) (S.left input.new) read
         × LineByLine (limit_of command) (answer_lines command) (S.left input.old) (S.left input.new)
         (K.held output.old) (K.held output.new) result read) }
+    ensures script_read { task ≡ Task.Trial → (read : List ℕ)
+        × TookFrom (S.given input.old) (S.given input.new)
+        (S.left input.old) (S.left input.new) read
+        × ReadsWhole (S.left input.old) result read }
+    ensures script_unwritten { task ≡ Task.Trial →
+        (result ≡ Status.ReadFault) ⊎ (result ≡ Status.NoMemory) → output.new ≡ output.old }
     ensures unread { reads_nothing (Some task) ≡ true → input.new ≡ input.old }
     ensures reads_never_fall { S.fault_count input.old ≤ S.fault_count input.new }
     ensures writes_never_fall { K.fault_count output.old ≤ K.fault_count output.new }
@@ -171,8 +178,7 @@ pub fn run_plain<S: Source, K: Sink>(
         GrowsByFront (K.held output.old) (K.held output.new)
         (output_of (map string_bytes words.now) bytes)) }
 
-    // A status that lines decide is that of words and bytes, and then the whole output was written,
-    // also beside faults.
+    // A status that lines decide is that of words and bytes, and then the whole output was written.
     ensures decided { IsDecided result → IfSome (S.left input.old)
         (λ bytes. (status_of (map string_bytes words.now) bytes ≡ result) ×
         Appends (K.held output.old) (K.held output.new)
@@ -199,9 +205,18 @@ pub fn run_plain<S: Source, K: Sink>(
     ensures unread { reads_nothing (task_of (map string_bytes words.now)) ≡ true →
         input.new ≡ input.old }
 
+    // Of a script at most the limit is read, and all up to it unless a read fails or there is no
+    // memory. After either nothing was written.
+    ensures script_read { task_of (map string_bytes words.now) ≡ Some Task.Trial →
+        (read : List ℕ) × TookFrom (S.given input.old) (S.given input.new)
+        (S.left input.old) (S.left input.new) read
+        × ReadsWhole (S.left input.old) result read }
+    ensures script_unwritten { task_of (map string_bytes words.now) ≡ Some Task.Trial →
+        (result ≡ Status.ReadFault) ⊎ (result ≡ Status.NoMemory) → output.new ≡ output.old }
+
     // Line by line: what it writes and how far it reads stands near the lines that it comes from.
     ensures line_by_line { IfSome (command_of (map string_bytes words.now)) (λ command.
-        result ≢ Status.NoMemory → (read : List ℕ)
+        (read : List ℕ)
         × TookFrom (S.given input.old) (S.given input.new)
         (S.left input.old) (S.left input.new) read
         × LineByLine (limit_of command) (answer_lines command) (S.left input.old) (S.left input.new)

@@ -1,11 +1,13 @@
 //! A script of a trial, which is read whole before it is run.
-ghost use Rattle.std.specs.Prelude.{◌≡◌, ◌≢◌, ◌≤◌, IfOk, string_bytes};
+ghost use Rattle.std.specs.Prelude.{◌≡◌, ◌≢◌, ◌≤◌, ◌⊎◌, ℕ, List, IfOk, string_bytes};
+ghost use Rattle.wio_core.specs.Lines.{TookFrom};
 ghost use Rattle.trial_script.specs.Scripts.{script_of};
 ghost use Rattle.plain_run.specs.declared.reading.TheConstants.{INPUT_LIMIT};
 ghost use Rattle.plain_run.specs.Lines.{lines_of};
 ghost use Rattle.plain_run.specs.Endings.{with_front, ending, IsDecided};
 ghost use Rattle.plain_run.specs.Ran.{answer_read, Ran};
 ghost use Rattle.plain_run.specs.Trials.{bad_last, trial_shown, trial_lines};
+ghost use Rattle.plain_run.specs.Whole.{ReadsWhole};
 
 use crate::last_line::{LastLine, close};
 use crate::reading::INPUT_LIMIT;
@@ -63,6 +65,12 @@ pub fn run_script<S: Source, K: Sink>(alloc: Global, input: &mut S, output: &mut
         (S.fault_count input.old) (S.fault_count input.new)
         (K.held output.old) (K.held output.new)
         (K.fault_count output.old) (K.fault_count output.new) result }
+    ensures script_read { (read : List ℕ)
+        × TookFrom (S.given input.old) (S.given input.new)
+        (S.left input.old) (S.left input.new) read
+        × ReadsWhole (S.left input.old) result read }
+    ensures script_unwritten { (result ≡ Status.ReadFault) ⊎ (result ≡ Status.NoMemory) →
+        output.new ≡ output.old }
     ensures reads_never_fall { S.fault_count input.old ≤ S.fault_count input.new }
     ensures writes_never_fall { K.fault_count output.old ≤ K.fault_count output.new }
     ensures no_read_fault { result ≢ Status.ReadFault →

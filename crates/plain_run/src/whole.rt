@@ -1,8 +1,9 @@
 //! An input that is read whole.
-ghost use Rattle.std.specs.Prelude.{◌≡◌, ◌≢◌, ◌<◌, ◌≤◌, ◌+◌, ℕ, List, Option, length, vec_len, true};
+ghost use Rattle.std.specs.Prelude.{◌≡◌, ◌≢◌, ◌<◌, ◌≤◌, ◌+◌, ◌++◌, ℕ, List, length, vec_len, true};
 ghost use Rattle.std.specs.Prelude.{IfOk, IfSome, OnOk, Err};
-ghost use Rattle.std.specs.Io.KnownBytes.{Consumes, IsAtEnd};
+ghost use Rattle.std.specs.Io.KnownBytes.{IsAtEnd};
 ghost use Rattle.wio_core.specs.Io.{Rose};
+ghost use Rattle.wio_core.specs.Lines.{TookFrom};
 ghost use Rattle.trial_script.specs.Lines.{lines_of as script_lines};
 ghost use Rattle.plain_run.specs.Lines.{lines_of, taken};
 ghost use Rattle.plain_run.specs.Whole.{IsEndOfLines};
@@ -33,10 +34,10 @@ fn read_some<S: Source>(
 ) -> Result<usize, ReadEnd>
     requires room { 0 < room }
     requires piece { 0 < length piece.old }
-    // What was read of a source before, it is still, with more.
-    ensures kept { OnOk result ((first : Option (List ℕ))
-        → Consumes first (S.left source.old) bytes.old.items
-        → Consumes first (S.left source.new) bytes.new.items) }
+    ensures took { (read : List ℕ)
+        × TookFrom (S.given source.old) (S.given source.new)
+        (S.left source.old) (S.left source.new) read
+        × (length read ≤ room) × OnOk result (bytes.new.items ≡ bytes.old.items ++ read) }
     ensures len { IfOk result (λ n. vec_len bytes.new ≡ vec_len bytes.old + n) }
     ensures within { IfOk result (λ n. n ≤ room) }
     ensures end { IfOk result (λ n. n ≡ 0 → IsAtEnd (S.left source.new)) }
@@ -62,6 +63,10 @@ fn read_some<S: Source>(
 pub fn read_all<S: Source>(alloc: Global, source: &mut S) -> Result<Vec<u8>, ReadEnd>
     ensures all { IfOk result (λ input. IfSome (S.left source.old) (λ bytes.
         input.items ≡ taken INPUT_LIMIT bytes)) }
+    ensures took { (read : List ℕ)
+        × TookFrom (S.given source.old) (S.given source.new)
+        (S.left source.old) (S.left source.new) read
+        × (length read ≤ INPUT_LIMIT) × IfOk result (λ input. input.items ≡ read) }
     ensures never_falls { S.fault_count source.old ≤ S.fault_count source.new }
     ensures cause { result ≡ Err ReadEnd.ReadFault
         → Rose (S.fault_count source.old) (S.fault_count source.new) }

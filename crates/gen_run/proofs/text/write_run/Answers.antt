@@ -1,6 +1,5 @@
 use Rattle.std.proofs.Common.{◌∙◌, refl, ap, arith}
 use Rattle.session_gen.specs.Generated.{Progress}
-use Rattle.gen_run.specs.Texts.{text_of}
 use Rattle.gen_run.proofs.RunGoesOn.{begins, goes_on}
 use Rattle.gen_run.proofs.TextFronts.{begins_writing, cut_off, ends_whole, ends_part, nothing_yet, of_number, on_ok, on_err, err_any}
 use Rattle.gen_run.proofs.text.write_run.Goals as goal
@@ -35,7 +34,7 @@ steps-smaller g c =
 
 pub returns-in_err-page-clause-front : goal.returns-in_err-page-clause-front
 returns-in_err-page-clause-front g c =
-    err_any c.from_residual.result _ (nothing_yet (g.K.Sink.held c.args.output.now) (text_of c.args.number))
+    err_any c.from_residual.result _ (nothing_yet (g.K.Sink.held c.args.output.now) c.args.number)
 
 pub returns-in_err-write_step-clause-front : goal.returns-in_err-write_step-clause-front
 returns-in_err-write_step-clause-front g c =

@@ -1,11 +1,14 @@
 use Rattle.std.proofs.Common.{◌++◌, ◌∙◌, refl, ap, arith, Err}
 use Rattle.plain_run.proofs.ReadLines.{first_read}
 use Rattle.plain_run.proofs.RunOnItsWay.{at_first, may_read, was_due, went_on}
-use Rattle.plain_run.proofs.RunEnds.{rose_later, none_ran, short_ran, short_law, told_ran, told_law, failed_ran, failed_law}
+use Rattle.plain_run.proofs.RunEnds.{rose_later, none_ran, none_law, short_ran, short_law, told_ran, told_law, failed_ran, failed_law}
 use Rattle.plain_run.proofs.follow.play_input.Goals as goal
 
 pub returns-in-Err-clause-ran : goal.returns-in-Err-clause-ran
 returns-in-Err-clause-ran g c = none_ran _ g.P.Script.answer _ _ _ _ _ _
+
+pub returns-in-Err-clause-line_by_line : goal.returns-in-Err-clause-line_by_line
+returns-in-Err-clause-line_by_line g c = none_law g.P.Script.answer _ _ _
 
 pub lines-init : goal.lines-init
 lines-init g c = record {
@@ -27,10 +30,10 @@ pub returns-in-Err-write_due-clause-ran : goal.returns-in-Err-write_due-clause-r
 returns-in-Err-write_due-clause-ran g c =
     let i = c.lines.invariant in
     short_ran _ _ _ _ _ c.in-Err-write_due.status i.going (c.in-Err-write_due.ensures.part i.going.ready i.going.kept)
-    (λ e. rose_later _ _ _ i.writes_grow (c.in-Err-write_due.ensures.cause (ap Err e)))
+    (λ e. rose_later _ _ _ i.no_write_fault (c.in-Err-write_due.ensures.cause (ap Err e)))
 
 pub returns-in-Err-write_due-clause-line_by_line : goal.returns-in-Err-write_due-clause-line_by_line
-returns-in-Err-write_due-clause-line_by_line g c = λ other.
+returns-in-Err-write_due-clause-line_by_line g c =
     let i = c.lines.invariant in (
       i.going.read,
       i.going.up_to.took,
@@ -79,11 +82,11 @@ returns-in-Ok-Some-clause-ran g c =
     told_ran (g.P.Script.stands c.next_line.new.script) (g.P.Script.holds c.next_line.new.script) _ _ _
     c.next_line.new.reader _ _ _ _ c.in-Ok-Some.last c.write_end.result r come
     (c.write_end.ensures.ends (r.going.ready ++ come.0) come.3)
-    (λ e. rose_later _ _ _ (omega (arith, i.writes_grow, c.in_default.ensures.never_falls))
+    (λ e. rose_later _ _ _ (c.in_default.ensures.no_fault (λ f. cc f) ∙ i.no_write_fault)
     (c.write_end.ensures.cause e))
 
 pub returns-in-Ok-Some-clause-line_by_line : goal.returns-in-Ok-Some-clause-line_by_line
-returns-in-Ok-Some-clause-line_by_line g c = λ other.
+returns-in-Ok-Some-clause-line_by_line g c =
     let i = c.lines.invariant in
     let r = was_due (g.P.Script.stands c.write_due.new.script) (g.P.Script.holds c.write_due.new.script) _ i.going
     (c.in_default.ensures.stays i.going.done (i.going.written ++ i.going.ready) i.going.said)
@@ -106,10 +109,10 @@ returns-in-Err-next_line-clause-ran g c =
     (r.going.written ++ r.going.ready) r.going.ready r.going.up_to r.going.said r.going.kept r.going.follows in
     failed_ran (g.P.Script.stands c.next_line.new.script) (g.P.Script.holds c.next_line.new.script) _ _
     c.next_line.new.reader _ _ _ _ c.in-Err-next_line.status r come
-    (λ e. rose_later _ _ _ i.reads_grow (c.in-Err-next_line.ensures.cause (ap Err e)))
+    (λ e. rose_later _ _ _ i.no_read_fault (c.in-Err-next_line.ensures.cause (ap Err e)))
 
 pub returns-in-Err-next_line-clause-line_by_line : goal.returns-in-Err-next_line-clause-line_by_line
-returns-in-Err-next_line-clause-line_by_line g c = λ other.
+returns-in-Err-next_line-clause-line_by_line g c =
     let i = c.lines.invariant in
     let r = was_due (g.P.Script.stands c.write_due.new.script) (g.P.Script.holds c.write_due.new.script) _ i.going
     (c.in_default.ensures.stays i.going.done (i.going.written ++ i.going.ready) i.going.said)
@@ -117,4 +120,4 @@ returns-in-Err-next_line-clause-line_by_line g c = λ other.
     let come = c.in-Err-next_line.ensures.comes _ _ _ r.going.done r.going.read
     (r.going.written ++ r.going.ready) r.going.ready r.going.up_to r.going.said r.going.kept r.going.follows in
     failed_law (g.P.Script.stands c.next_line.new.script) (g.P.Script.holds c.next_line.new.script) _ _
-    c.next_line.new.reader c.in-Err-next_line.status r come other
+    c.next_line.new.reader c.in-Err-next_line.status r come

@@ -1,4 +1,4 @@
-use Rattle.std.proofs.Common.{[], ap, sym, subst, append-nil}
+use Rattle.std.proofs.Common.{[], refl, ap, sym, subst, append-nil}
 use Rattle.plain_run.proofs.LinePlayed.{line_played, few_done}
 use Rattle.plain_run.proofs.LinesTold.{line_came, end_or_long_came, limit_came, fault_came}
 use Rattle.plain_run.proofs.reading.next_line.Goals as goal
@@ -11,6 +11,13 @@ returns-in-Ok-clause-comes g c = λ limit given left done read output gathered r
     line_played g.P.Script.answer (g.P.Script.stands c.line.new.self) (g.P.Script.holds c.line.new.self) given left _ _
     _ _ done c.in-Line.raw.now read output gathered c.in-Ok.end
     came (c.in-Ok.ensures done output gathered (few_done given left _ _ _ done read r) st ho)
+
+pub returns-in-Err-clause-comes : goal.returns-in-Err-clause-comes
+returns-in-Err-clause-comes g c = λ limit given left done read output gathered r st ho follows.
+    let came = line_came given left _ _ _ _ _ c.next.follows.lender-at-none c.in-Line.raw done read r
+    (rw c.in-Line.is at c.next.follows.holds-at-none)
+    (λ held. ap g.S.Source.left (c.next.ensures.waits held)) in
+    (came.read_after, came.up_to.took, refl, came.near)
 
 pub returns-in-End-clause-comes : goal.returns-in-End-clause-comes
 returns-in-End-clause-comes g c = λ limit given left done read output gathered r st ho follows.

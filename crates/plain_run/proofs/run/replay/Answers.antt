@@ -1,3 +1,7 @@
+use Rattle.std.proofs.Common.{[]}
+use Rattle.plain_run.specs.declared.status.Status.TheVariants as status
+use Rattle.plain_run.specs.Transcript.{answer_from}
+use Rattle.plain_run.proofs.RunEnds.{none_law}
 use Rattle.plain_run.proofs.RunsWrite.{acts_ran, session_ran, migrated_ran, seats_ran, audit_ran, explain_ran, acts_law, session_law, migrated_law, seats_law, audit_law, explain_law}
 use Rattle.plain_run.proofs.MigratedLines.{migration_begins}
 use Rattle.plain_run.proofs.ActsPlayed.{acts_begin}
@@ -20,8 +24,8 @@ returns-in-Replay-clause-ran g c = session_ran c.args.command _ _ _ _ _ _ _ c.pl
     c.play_input.ensures.ran
 
 pub returns-in-Replay-clause-line_by_line : goal.returns-in-Replay-clause-line_by_line
-returns-in-Replay-clause-line_by_line g c = λ other.
-    let l = c.play_input.ensures.line_by_line other in
+returns-in-Replay-clause-line_by_line g c =
+    let l = c.play_input.ensures.line_by_line in
     (l.0, l.1, session_law c.args.command _ _ _ _ c.play_input.result l.0 c.in-Replay.is l.2)
 
 pub returns-in-Ok-clause-ran : goal.returns-in-Ok-clause-ran
@@ -29,9 +33,14 @@ returns-in-Ok-clause-ran g c = acts_ran c.args.command _ _ _ _ _ _ _ c.play_inpu
     c.play_input-in-Ok.ensures.ran
 
 pub returns-in-Ok-clause-line_by_line : goal.returns-in-Ok-clause-line_by_line
-returns-in-Ok-clause-line_by_line g c = λ other.
-    let l = c.play_input-in-Ok.ensures.line_by_line other in
+returns-in-Ok-clause-line_by_line g c =
+    let l = c.play_input-in-Ok.ensures.line_by_line in
     (l.0, l.1, acts_law c.args.command _ _ _ _ c.play_input-in-Ok.result l.0 c.in-ReplayActs.is l.2)
+
+pub returns-in-Err-clause-line_by_line : goal.returns-in-Err-clause-line_by_line
+returns-in-Err-clause-line_by_line g c =
+    let l = none_law (λ cut lines. answer_from cut [] lines) _ _ _ in
+    (l.0, l.1, acts_law c.args.command _ _ _ _ status.NoMemory l.0 c.in-ReplayActs.is l.2)
 
 pub returns-in-Migrate-clause-ran : goal.returns-in-Migrate-clause-ran
 returns-in-Migrate-clause-ran g c =
@@ -39,8 +48,8 @@ returns-in-Migrate-clause-ran g c =
     c.play_input-in-Migrate.ensures.ran
 
 pub returns-in-Migrate-clause-line_by_line : goal.returns-in-Migrate-clause-line_by_line
-returns-in-Migrate-clause-line_by_line g c = λ other.
-    let l = c.play_input-in-Migrate.ensures.line_by_line other in
+returns-in-Migrate-clause-line_by_line g c =
+    let l = c.play_input-in-Migrate.ensures.line_by_line in
     (l.0, l.1, migrated_law c.args.command _ _ _ _ c.play_input-in-Migrate.result l.0 c.in-Migrate.is l.2)
 
 pub play_input-requires-in-ReplaySeats-clause-follows : goal.play_input-requires-in-ReplaySeats-clause-follows
@@ -52,8 +61,8 @@ returns-in-ReplaySeats-clause-ran g c =
     c.play_input-in-ReplaySeats.ensures.ran
 
 pub returns-in-ReplaySeats-clause-line_by_line : goal.returns-in-ReplaySeats-clause-line_by_line
-returns-in-ReplaySeats-clause-line_by_line g c = λ other.
-    let l = c.play_input-in-ReplaySeats.ensures.line_by_line other in
+returns-in-ReplaySeats-clause-line_by_line g c =
+    let l = c.play_input-in-ReplaySeats.ensures.line_by_line in
     (l.0, l.1, seats_law c.args.command _ _ _ _ c.play_input-in-ReplaySeats.result l.0 c.in-ReplaySeats.is l.2)
 
 pub play_input-requires-in-Audit-clause-follows : goal.play_input-requires-in-Audit-clause-follows
@@ -65,8 +74,8 @@ returns-in-Audit-clause-ran g c =
     c.play_input-in-Audit.ensures.ran
 
 pub returns-in-Audit-clause-line_by_line : goal.returns-in-Audit-clause-line_by_line
-returns-in-Audit-clause-line_by_line g c = λ other.
-    let l = c.play_input-in-Audit.ensures.line_by_line other in
+returns-in-Audit-clause-line_by_line g c =
+    let l = c.play_input-in-Audit.ensures.line_by_line in
     (l.0, l.1, audit_law c.args.command _ _ _ _ c.play_input-in-Audit.result l.0 c.in-Audit.is l.2)
 
 pub returns-in-Explain-clause-ran : goal.returns-in-Explain-clause-ran
@@ -75,6 +84,6 @@ returns-in-Explain-clause-ran g c =
     c.explain.ensures.ran
 
 pub returns-in-Explain-clause-line_by_line : goal.returns-in-Explain-clause-line_by_line
-returns-in-Explain-clause-line_by_line g c = λ other.
-    let l = c.explain.ensures.line_by_line other in
+returns-in-Explain-clause-line_by_line g c =
+    let l = c.explain.ensures.line_by_line in
     (l.0, l.1, explain_law c.in-Explain.lines c.args.command _ _ _ _ c.explain.result l.0 c.in-Explain.is l.2)

@@ -2,6 +2,7 @@ use Rattle.std.proofs.Common.{◌∙◌, ap, ◌≡◌, eqb, length, string_byte
 use Rattle.plain_run.specs.declared.reading.TheConstants.{INPUT_LIMIT}
 use Rattle.plain_run.specs.Lines.{lines_of}
 use Rattle.plain_run.specs.Trials.{trial_lines}
+use Rattle.plain_run.proofs.InputReadToEnd.{read_whole}
 use Rattle.plain_run.proofs.RunsWrite.{script_is, ran_all, ran_part}
 use Rattle.plain_run.proofs.trial.run_script.Goals as goal
 
@@ -16,6 +17,13 @@ returns-in-Ok-write_all-clause-ran g c =
     (ap (λ n. eqb n INPUT_LIMIT) size) c.in-Ok.ensures.all told in
     ran_all _ _ _ _ _ _ _ _ (string_bytes c.in-Ok-trial_output.answer.0) c.in-Ok-trial_output.answer.1 is
     c.in-Ok-trial_output.ensures.decided (rw c.as_bytes.ensures.value at c.in-Ok-write_all.ensures.whole)
+
+pub returns-in-Ok-write_all-clause-script_read : goal.returns-in-Ok-write_all-clause-script_read
+returns-in-Ok-write_all-clause-script_read g c =
+    read_whole _ c.in-Ok.bytes.items c.in-Ok.ensures.took c.in-Ok.ensures.all
+
+pub returns-clause-script_read : goal.returns-clause-script_read
+returns-clause-script_read g c = read_whole _ c.in-Ok.bytes.items c.in-Ok.ensures.took c.in-Ok.ensures.all
 
 pub returns-clause-ran : goal.returns-clause-ran
 returns-clause-ran g c =
