@@ -1,5 +1,5 @@
 -- The reading of a peer's link, frame by frame
-use Rattle.std.proofs.Common.{◌≡◌, ◌≢◌, ℕ, List, [], ◌∷◌, ◌++◌, map, take, Option, Some, refl, sym, ap, ap₂, ◌∙◌, subst, ◌⊎◌, inl, inr, append_assoc, append-nil}
+use Rattle.std.proofs.Common.{◌≡◌, ◌≢◌, ◌≤◌, ℕ, List, [], ◌∷◌, ◌++◌, map, take, Option, Some, refl, sym, ap, ap₂, ◌∙◌, subst, ◌⊎◌, inl, inr, append_assoc, append-nil, arith}
 use Rattle.std.specs.Prelude.{Result, Ok, Err}
 use Rattle.std.proofs.lemmas.List.{map-append}
 use Rattle.relay_model.specs.declared.act.EndCause.{EndCause}
@@ -23,7 +23,7 @@ use Rattle.peer_link.specs.declared.ends.ReadEnd.TheVariants as ends
 use Rattle.peer_link.specs.Made.{entries_by, journal_of, SawMore, IsAtLimit, HasSeenFull}
 use Rattle.peer_link.specs.LinkSteps.{frame_steps, steps_behind, link_steps, AreFrames, spelled, HoldFrames}
 use Rattle.peer_link.specs.Submits.{WhyNot, MadeFirst, IsGoneRefusal}
-use Rattle.peer_link.specs.ReadsPeer.{StopsAt, StopsBy, MadeBefore, BeganNothing, EndsAs, gone_after, ReadsPeer}
+use Rattle.peer_link.specs.ReadsPeer.{StopsAt, StopsBy, MadeAll, MadeBefore, BeganNothing, EndsAs, gone_after, ReadsPeer}
 use Rattle.peer_link.specs.ReadsFrame.{got_of, NoFrame, EndedAfter, OneFrame, MakesFrame, ReadsFrame, ReadsLink}
 use Rattle.peer_link.proofs.ShellServed.{joined-more}
 use Rattle.peer_link.proofs.MessagesMade.{same-peer}
@@ -123,7 +123,7 @@ ends-first : (limits : Limits) (q : ℕ) (b : PeerPass) (frames : List Frame) (l
     → EndsAs limits b frames [] left faults (entries_by b.seat) end
 ends-first limits q b frames left faults e (ends.Ended cause) same quiet s why = (
   why,
-  inl (quiet (λ x. cc), inr (e, subst (λ q. StopsAt q frames [] (entries_by b.seat) e) (sym same) s)),
+  inl (quiet (λ x. cc), inr (inr (e, subst (λ q. StopsAt q frames [] (entries_by b.seat) e) (sym same) s))),
 )
 ends-first limits q b frames left faults e (ends.JournalFull kept) same quiet s why = (
   e,
@@ -170,9 +170,10 @@ ends-none limits q b frames rest left faults end why same made is stops =
 -- the link's reading ends with a frame, or with none
 pub reading-ends : (limits : Limits) (q : ℕ) (a b : PeerPass) (read waiting waiting' taken : List ℕ)
     (left : Option (List ℕ)) (faults : ℕ) (end : ReadEnd)
-    → a.peer ≡ q → b ≡ pass_having_seen a b.seat.seen → (end ≢ ends.ReadFault → faults ≡ 0) → Reading q a read waiting
+    → a.peer ≡ q → b ≡ pass_having_seen a b.seat.seen → (end ≢ ends.ReadFault → faults ≡ 0) → faults ≤ 1
+    → Reading q a read waiting
     → ReadsFrame limits a b waiting waiting' taken left (Err end) → ReadsLink limits b (read ++ taken) left faults end
-reading-ends limits q a b read waiting waiting' taken left faults end mine is quiet r k =
+reading-ends limits q a b read waiting waiting' taken left faults end mine is quiet few r k =
     by (subst (λ p.
     (NoFrame a b taken left end ⊎ (f : Frame) × OneFrame taken f
     × (MadeFirst limits a b (frame_steps p waiting f) end
@@ -191,6 +192,7 @@ reading-ends limits q a b read waiting waiting' taken left faults end mine is qu
       ends = ends-first limits q b (r.frames ++ f ∷ []) left faults m.e end peer quiet
           (stops-at limits q a b read waiting f end r m) m.why;
       no_fault = quiet;
+      few = few;
     }
     in-frame f o (inr m) = record {
       frames = r.frames ++ f ∷ [];
@@ -201,14 +203,16 @@ reading-ends limits q a b read waiting waiting' taken left faults end mine is qu
             m.ended,
             inl (
               quiet (λ x. (let e : ends.Ended m.cause ≡ ends.ReadFault = sym m.is ∙ x in cc)),
-              inl (
-                  subst (λ q. entries_by b.seat ≡ link_steps q (r.frames ++ f ∷ [])) (sym peer)
-                  (m.entries ∙ ap₂ (λ (es : List Entry) (w : List ℕ). es ++ frame_steps q w f) r.made r.waits
-                  ∙ sym (steps-more q [] r.frames f))
-                  ),
+              inl (record {
+                all = subst (λ q. entries_by b.seat ≡ link_steps q (r.frames ++ f ∷ [])) (sym peer)
+                    (m.entries ∙ ap₂ (λ (es : List Entry) (w : List ℕ). es ++ frame_steps q w f) r.made r.waits
+                    ∙ sym (steps-more q [] r.frames f));
+                nothing_past = refl;
+              }),
             ),
           );
       no_fault = quiet;
+      few = few;
     }
 
     by : (NoFrame a b taken left end ⊎ (f : Frame) × OneFrame taken f
@@ -220,6 +224,7 @@ reading-ends limits q a b read waiting waiting' taken left faults end mine is qu
       holds = record { each = r.each; is = ap (λ (x : List ℕ). x ++ taken) r.is };
       ends = ends-none limits q b r.frames taken left faults end n.why peer (n.same ∙ r.made) n.is n.stops;
       no_fault = quiet;
+      few = few;
     }
     by (inr k) = in-frame k.0 k.1 k.2
 
@@ -233,6 +238,7 @@ nothing-read limits pass left faults none quiet = record {
   holds = record { each = tt; is = refl };
   ends = inl (record { frames_none = refl; rest_none = refl; made_none = none });
   no_fault = λ x. quiet;
+  few = omega (arith, quiet);
 }
 
 -- and then the link's end is said
@@ -273,18 +279,28 @@ ends-later limits a b frames rest left faults made ends.NoMemory peer s other k 
 -- what any end says of the steps that were made
 made-before : (limits : Limits) (a : PeerPass) (frames : List Frame) (rest : List ℕ) (left : Option (List ℕ))
     (faults : ℕ) (made : List Entry) (end : ReadEnd)
-    → (end ≢ ends.ReadFault → faults ≡ 0) → EndsAs limits a frames rest left faults made end →
+    → (end ≢ ends.ReadFault → faults ≡ 0) → faults ≤ 1 → EndsAs limits a frames rest left faults made end →
     MadeBefore a.peer frames rest left faults made
-made-before limits a frames rest left faults made ends.Closed quiet k = inl (quiet (λ x. cc), inl k.all)
-made-before limits a frames rest left faults made (ends.Torn n) quiet k = inl (quiet (λ x. cc), inl k.all)
-made-before limits a frames rest left faults made (ends.BadFrame n t) quiet k = inl (quiet (λ x. cc), inl k.all)
-made-before limits a frames rest left faults made ends.ReadFault quiet k = inr k
-made-before limits a frames rest left faults made (ends.Ended cause) quiet k = k.1
-made-before limits a frames rest left faults made (ends.JournalFull kept) quiet k =
-    inl (quiet (λ x. cc), inr (k.0, k.1))
-made-before limits a frames rest left faults made ends.NoMemory quiet (inl n) =
-    inl (quiet (λ x. cc), inl (n.made_none ∙ ap (link_steps a.peer) (sym n.frames_none)))
-made-before limits a frames rest left faults made ends.NoMemory quiet (inr k) = inl (quiet (λ x. cc), inr k)
+made-before limits a frames rest left faults made ends.Closed quiet few k =
+    inl (quiet (λ x. cc), inr (inl (got.End, k)))
+made-before limits a frames rest left faults made (ends.Torn n) quiet few k =
+    inl (quiet (λ x. cc), inr (inl (got.Torn n, k)))
+made-before limits a frames rest left faults made (ends.BadFrame n t) quiet few k =
+    inl (quiet (λ x. cc), inr (inl (got.BadFrame n t, k)))
+made-before limits a frames rest left faults made ends.ReadFault quiet few k = inr (few, k)
+made-before limits a frames rest left faults made (ends.Ended cause) quiet few k = k.1
+made-before limits a frames rest left faults made (ends.JournalFull kept) quiet few k =
+    inl (quiet (λ x. cc), inr (inr (k.0, k.1)))
+made-before limits a frames rest left faults made ends.NoMemory quiet few (inl n) =
+    inl (
+      quiet (λ x. cc),
+      inl (record {
+        all = n.made_none ∙ ap (link_steps a.peer) (sym n.frames_none);
+        nothing_past = n.rest_none;
+      }),
+    )
+made-before limits a frames rest left faults made ends.NoMemory quiet few (inr k) =
+    inl (quiet (λ x. cc), inr (inr k))
 
 gone-else : (q : ℕ) (end : ReadEnd) → ((cause : EndCause) → end ≢ ends.Ended cause) →
     gone_after q end ≡ entries.End q Gone ∷ []
@@ -343,7 +359,7 @@ gone-late limits a b read left faults end cause is same ended r =
       ends = (
         ended,
         subst (λ q. MadeBefore q r.frames r.rest left faults (entries_by a.seat)) (sym peer)
-            (made-before limits a r.frames r.rest left faults (entries_by a.seat) end r.no_fault r.ends),
+            (made-before limits a r.frames r.rest left faults (entries_by a.seat) end r.no_fault r.few r.ends),
       );
     }
 

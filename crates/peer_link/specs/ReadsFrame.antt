@@ -1,5 +1,5 @@
 -- What one frame made of a peer's link, and the reading of it before its end is said
-use Rattle.std.specs.Prelude.{◌≡◌, ◌≢◌, ◌⊎◌, ℕ, List, ◌++◌, Option, Some, None, Result, Ok, Err}
+use Rattle.std.specs.Prelude.{◌≡◌, ◌≢◌, ◌⊎◌, ◌≤◌, ℕ, List, ◌++◌, Option, Some, None, Result, Ok, Err}
 use Rattle.relay_model.specs.declared.act.EndCause.{EndCause}
 use Rattle.seat_steps.specs.declared.limits.Limits.{Limits}
 use Rattle.wl_wire.specs.Messages.{bad_size_at, behind}
@@ -79,4 +79,5 @@ pub record ReadsLink (limits : Limits) (pass : PeerPass) (read : List ℕ) (left
   pub rest : List ℕ
   pub holds : HoldFrames read frames rest
   pub no_fault : end ≢ ends.ReadFault → faults ≡ 0
+  pub few : faults ≤ 1
   pub ends : EndsAs limits pass frames rest left faults (entries_by pass.seat) end

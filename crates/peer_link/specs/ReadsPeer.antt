@@ -1,5 +1,5 @@
 -- The law of a peer's reader: which steps it made of the frames that it read, and how far it read
-use Rattle.std.specs.Prelude.{◌≡◌, ◌⊎◌, ℕ, List, [], ◌∷◌, ◌++◌, Option, Some}
+use Rattle.std.specs.Prelude.{◌≡◌, ◌⊎◌, ◌≤◌, ℕ, List, [], ◌∷◌, ◌++◌, Option, Some}
 use Rattle.relay_model.specs.declared.act.EndCause.TheVariants.{Gone}
 use Rattle.seat_steps.specs.declared.limits.Limits.{Limits}
 use Rattle.broker_model.specs.declared.journal.Entry.{Entry}
@@ -41,13 +41,21 @@ pub record BeganNothing (frames : List Frame) (rest : List ℕ) (made : List Ent
   pub rest_none : rest ≡ []
   pub made_none : made ≡ []
 
+-- all steps that the frames give were made, and no byte past them was read
+pub record MadeAll (q : ℕ) (frames : List Frame) (rest : List ℕ) (made : List Entry) : Type 0 where
+  pub all : made ≡ link_steps q frames
+  pub nothing_past : rest ≡ []
+
 -- what was made before the peer had ended: no fault was counted, and all steps that the frames give
--- were made or one wasn't taken; or all were made, and then no frame came since a read failed
+-- were made, with no byte past them read or no further frame there, or one wasn't taken; or all were
+-- made, and then no frame came since one read failed
 abbrev pub MadeBefore : ℕ → List Frame → List ℕ → Option (List ℕ) → (faults : ℕ) → List Entry →
     Type 0
 MadeBefore q frames rest left faults made =
-    (faults ≡ 0) × ((made ≡ link_steps q frames) ⊎ (e : Entry) × StopsAt q frames rest made e)
-    ⊎ StopsBy q frames rest left made got.ReadFault
+    (faults ≡ 0) × (MadeAll q frames rest made
+    ⊎ ((why : Got) × StopsBy q frames rest left made why)
+    ⊎ ((e : Entry) × StopsAt q frames rest made e))
+    ⊎ (faults ≤ 1) × StopsBy q frames rest left made got.ReadFault
 
 -- what each end says of the frames that were read, of the rest behind them, of how many faults were
 -- counted and of the entries that were made of the frames

@@ -1,5 +1,5 @@
 -- What stands at the front of some bytes is one thing alone.
-use Rattle.std.proofs.Common.{◌≡◌, ℕ, ◌+◌, ◌<◌, ◌≤◌, List, ◌∷◌, ◌++◌, length, take, drop, get_or, arith, sym, ap, ◌∙◌, length-take, length-append, ◌⊎◌, inl, inr, subst, Option, Some, None, IfSome, true}
+use Rattle.std.proofs.Common.{◌≡◌, ℕ, ◌+◌, List, ◌∷◌, ◌++◌, length, take, drop, get_or, arith, sym, ap, ◌∙◌, length-take, ◌⊎◌, inl, inr, subst, Option, Some, None, IfSome, true}
 use Rattle.std.specs.Option.{is_some}
 use Rattle.std.proofs.lemmas.Grind.{common_steps}
 use Rattle.wio_core.specs.Lines.{IsOpen, HasLine, IsTooLong, IsFront}

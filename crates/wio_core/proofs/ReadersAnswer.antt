@@ -2,7 +2,7 @@
 use Rattle.std.proofs.Common.{◌≡◌, ℕ, ◌≤◌, List, length, Option, Some, None, MatchOption, refl, ap, subst, arith, length-append}
 use Rattle.std.specs.Option.{OnSome}
 use Rattle.wio_core.specs.Lines.{TookFrom, Gathers}
-use Rattle.wio_core.specs.LineAnswers.{LinesAhead, Tells, GoesOn, Answers}
+use Rattle.wio_core.specs.LineAnswers.{LinesAhead, Tells, Answers}
 use Rattle.wio_core.specs.declared.line_reader.LineStop.{LineStop}
 use Rattle.wio_core.specs.declared.line_reader.NextLine.{NextLine}
 

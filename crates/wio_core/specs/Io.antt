@@ -7,9 +7,9 @@ use Rattle.std.specs.Io.KnownBytes.{Appends, Consumes, IsAtEnd}
 abbrev pub raised : ℕ → ℕ
 raised n = min (n + 1) (2 ^ 64 - 1)
 
--- the count went up, or stands at its last value
+-- the count went up by one, or stands at its last value
 abbrev pub Rose : ℕ → ℕ → Type 0
-Rose before after = raised before ≤ after
+Rose before after = after ≡ raised before
 
 -- what doesn't tell its bytes never begins to
 abbrev pub StaysQuiet : Option (List ℕ) → Option (List ℕ) → Type 0

@@ -21,7 +21,7 @@ pub use mem_sink::MemSink;
 pub use mem_source::MemSource;
 pub use std_io::{StdSink, StdSource};
 
-/// A read or a write failed. The source or the sink counts it among its faults.
+/// A read or a write failed. The source or the sink counts it, once, among its faults.
 #[derive(Clone, Copy, Debug, PartialEq, Eq, Error)]
 #[error("a read or a write failed")]
 pub struct Failed;
@@ -56,7 +56,8 @@ pub trait Source {
 
     /// Moves the first bytes that are left into the front of the buffer, and says how many; 0 says
     /// that nothing is left. The buffer behind them holds anything. After `Failed` nothing was
-    /// given, and the next call goes on as if this one hadn't been. No other call counts a fault.
+    /// given, one fault is counted, and the next call goes on as if this one hadn't been. No other
+    /// call counts a fault.
     fn read(&mut self, buf: &mut [u8]) -> Result<usize, Failed>
         requires { 0 < length buf.old }
         ensures moved { IfOk result (λ n. Reads (given self.old) (given self.new) (left self.old)
@@ -85,8 +86,8 @@ pub trait Sink {
     /// How often it failed.
     ghost fault_count: { Self → ℕ };
 
-    /// Appends the first bytes of the piece, at least one, and says how many. After `Failed` none
-    /// were appended. No other call counts a fault.
+    /// Appends the first bytes of the piece, at least one, and says how many. After `Failed` none were
+    /// appended, and one fault is counted. No other call counts a fault.
     fn write(&mut self, piece: &[u8]) -> Result<usize, Failed>
         requires { 0 < length piece.now }
         ensures some { IfOk result (λ n. 0 < n) }
@@ -106,7 +107,8 @@ pub trait Sink {
         ensures { result ≡ fault_count self.now };
 }
 
-/// Writes the whole piece. After `Failed` the sink has gained a proper prefix of it; an empty piece never fails.
+/// Writes the whole piece. After `Failed` the sink has gained a proper prefix of it, and one write failed; an empty
+/// piece never fails.
 pub fn write_all<K: Sink>(sink: &mut K, piece: &[u8]) -> Result<(), Failed>
     ensures whole { OnOk result (Appends (K.held sink.old) (K.held sink.new) piece.now) }
     ensures prefix { OnErr result ((n : ℕ) × (n < length piece.now) ×

@@ -1,5 +1,6 @@
-use Rattle.std.proofs.Common.{◌≡◌, ◌≢◌, ◌-◌, ◌++◌, ◌∙◌, ℕ, [], refl, sym, ap, subst, arith}
+use Rattle.std.proofs.Common.{◌≡◌, ◌≢◌, ◌≤◌, ◌-◌, ◌++◌, ◌∙◌, ℕ, [], refl, sym, ap, subst, arith}
 use Rattle.std.specs.Prelude.{Result, Err}
+use Rattle.wio_core.specs.Io.{Rose}
 use Rattle.wio_core.proofs.ReadsTogether.{TookFrom-both}
 use Rattle.wl_wire.specs.Messages.{bad_size_at}
 use Rattle.wl_wire.specs.Streams.{Assembly, begun}
@@ -20,6 +21,18 @@ other-end end n x = n (cc)
 -- where the count stands, no fault was counted
 none-counted : (a b c : ℕ) → c ≡ b → b ≡ a → c - a ≡ 0
 none-counted a b c later before = omega arith
+
+-- where one read failed, or none, one fault was counted at most
+one-counted : (end : ReadEnd) (a b c : ℕ)
+    → (let e : Result (Unit {0}) ReadEnd = Err end in e ≡ Err ends.ReadFault → Rose b c)
+    → (let e : Result (Unit {0}) ReadEnd = Err end in e ≢ Err ends.ReadFault → c ≡ b) → b ≡ a → c - a ≤ 1
+one-counted ends.ReadFault a b c rose stood before = let one = rose refl in omega (arith, one, before)
+one-counted ends.Closed a b c rose stood before = let none = stood (λ x. cc) in omega (arith, none, before)
+one-counted (ends.Torn n) a b c rose stood before = let none = stood (λ x. cc) in omega (arith, none, before)
+one-counted (ends.BadFrame n t) a b c rose stood before = let none = stood (λ x. cc) in omega (arith, none, before)
+one-counted (ends.Ended cause) a b c rose stood before = let none = stood (λ x. cc) in omega (arith, none, before)
+one-counted (ends.JournalFull kept) a b c rose stood before = let none = stood (λ x. cc) in omega (arith, none, before)
+one-counted ends.NoMemory a b c rose stood before = let none = stood (λ x. cc) in omega (arith, none, before)
 
 pub returns-in-Err-clause-reads : goal.returns-in-Err-clause-reads
 returns-in-Err-clause-reads g c = (
@@ -90,6 +103,9 @@ returns-in-Err-read_frame-clause-reads g c =
           (λ n. none-counted (g.S.Source.fault_count c.args.source.now) (g.S.Source.fault_count c.loop.source)
           (g.S.Source.fault_count c.read_frame.new.source)
           (c.in-Err-read_frame.ensures.no_fault (other-end c.in-Err-read_frame.end n)) i.no_fault)
+          (one-counted c.in-Err-read_frame.end (g.S.Source.fault_count c.args.source.now)
+          (g.S.Source.fault_count c.loop.source) (g.S.Source.fault_count c.read_frame.new.source)
+          c.in-Err-read_frame.ensures.cause c.in-Err-read_frame.ensures.no_fault i.no_fault)
           i.reads.2 r.2,
     )
 
