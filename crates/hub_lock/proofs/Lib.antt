@@ -21,6 +21,7 @@ pub mod NotesTaken
 pub mod ShownCalls
 pub mod NobodyNamed
 pub mod RootJoins
+pub mod LinesAreFacts
 pub mod LinesOfEntries
 pub mod EntriesHandedOut
 pub mod TakersRung

@@ -1,6 +1,7 @@
 -- Each entry of a lawful journal is such that its line can give it
 use Rattle.std.proofs.Common.{◌≡◌, ℕ, zero, suc, ◌+◌, List, [], ◌∷◌, ◌++◌, length, Bool, true, false, Option, Some, None, Result, Ok, Err, IfOk, ap, sym, subst}
 use Rattle.std.specs.Prelude.{◌==◌, if◌then◌else◌}
+use mathlib.Core.Logic.{∥∥₁_elim}
 use Rattle.seat_steps.specs.declared.limits.Limits.{Limits}
 use Rattle.broker_model.specs.declared.journal.Entry.{Entry}
 use Rattle.broker_model.specs.declared.journal.Entry.TheVariants as entries
@@ -15,6 +16,7 @@ use Rattle.hub_lock.specs.declared.session.NoSession.{NoSession}
 use Rattle.hub_lock.specs.Passes.{PassSeat, Recorder}
 use Rattle.hub_lock.specs.Calls.{LegalCopy}
 use Rattle.hub_lock.specs.Recording.{LegalHandOut}
+use Rattle.hub_lock.proofs.LinesAreFacts.{fits-fact}
 use Rattle.hub_lock.specs.Steps.{IsGiven, FitsLine, HaveLines, AreLegalEntries, HasLegalSteps}
 
 -- the ends that follow need nothing
@@ -67,6 +69,12 @@ pub entry-fits : (journal : List Entry) (number : ℕ) (e : Entry) → HaveLines
 entry-fits [] number e lines is = absurd (cc)
 entry-fits (x ∷ older) number e lines is =
     at-by (number == length older + 1) e x (entry_at older number) lines.0 (entry-fits older number e lines.1) is
+
+-- so it is where only that they have them is known
+pub any-fits : (journal : List Entry) (number : ℕ) (e : Entry) → ∥ HaveLines journal ∥₁ →
+    entry_at journal number ≡ Some e → FitsLine e
+any-fits journal number e lines is =
+    ∥∥₁_elim lines (fits-fact e) (λ (l : HaveLines journal). entry-fits journal number e l is)
 
 pub handed-fits : (limits : Limits) (p : Recorder) (after : History) (it : LetGo) →
     LegalHandOut limits p after (Some it)

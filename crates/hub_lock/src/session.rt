@@ -1,5 +1,6 @@
 //! What a hub's users did, as it can be written down.
-ghost use Rattle.std.specs.Prelude.{◌≡◌};
+ghost use Rattle.std.specs.Prelude.{◌≡◌, length};
+ghost use Rattle.hub_lock.specs.Steps.{HaveLines};
 
 use broker_model::{Journal, StampList};
 use seat_steps::Limits;
@@ -17,7 +18,8 @@ pub enum NoSession {
 }
 
 /// A copy of a hub's limits, of its whole journal and of the stamps of the journal's entries: none of
-/// them was let go. The author of a step's stamp is the number of the pass whose call made the step.
+/// them was let go, and each entry is one that its line can give. The author of a step's stamp is the
+/// number of the pass whose call made the step.
 #[derive(Drop)]
 pub struct Session {
     /// The limits that the hub was made with.
@@ -28,4 +30,6 @@ pub struct Session {
     pub stamps: StampList,
     pub ghost whole: { journal.kept_from ≡ 0 },
     pub ghost all_stamps: { stamps.kept_from ≡ 0 },
+    pub ghost each: { length stamps.stamps ≡ length journal.entries },
+    pub ghost lines: { ∥ HaveLines journal.entries ∥₁ },
 }

@@ -3,11 +3,7 @@ use Rattle.std.proofs.Common.{◌≡◌, ◌≢◌, ◌<◌, ◌≤◌, ◌++◌
 use Rattle.std.proofs.lemmas.List.{append_assoc}
 use Rattle.std.specs.Io.KnownBytes.{Appends}
 use Rattle.wio_core.specs.Io.{Rose}
-use Rattle.serve_record.specs.declared.record.RecordStop.{RecordStop}
-use Rattle.serve_record.specs.declared.record.RecordStop.TheVariants as stops
-use Rattle.serve_record.specs.declared.record.LineStop.{LineStop}
-use Rattle.serve_record.specs.declared.record.LineStop.TheVariants as line_stops
-use Rattle.serve_record.specs.Lines.{Holds, GainsFront, Gains, line_result}
+use Rattle.serve_record.specs.Lines.{Holds, GainsFront, Gains}
 
 -- bytes behind bytes
 pub appends_more : (a b c : Option (List ℕ)) (xs ys : List ℕ) → Appends a b xs → Appends b c ys → Appends a c (xs ++ ys)
@@ -143,61 +139,12 @@ module _ {S T E : Type 0} (held : S → Option (List ℕ)) (faults : S → ℕ) 
     no_fault = none_failed;
   }
 
--- the same of the answer where an entry may have no line
+-- what follows from what an answer tells, it tells too
 
-module _ {S T : Type 0} {held : S → Option (List ℕ)} {faults : S → ℕ} {old new : S} {waiting text : List ℕ} where
-  gains_line : (r : Result T RecordStop) → Gains held faults old new waiting text stops.WriteFault r
-      → Gains held faults old new waiting text line_stops.WriteFault (line_result r)
-  gains_line (Ok x) g = record {
-    whole = g.whole;
-    front = tt;
-    never_falls = g.never_falls;
-    cause = λ e. absurd (cc);
-    no_fault = λ not. g.no_fault (λ e. cc);
-  }
-  gains_line (Err stops.WriteFault) g = record {
-    whole = tt;
-    front = g.front;
-    never_falls = g.never_falls;
-    cause = λ e. g.cause refl;
-    no_fault = λ not. absurd (not refl);
-  }
-  gains_line (Err stops.NoMemory) g = record {
-    whole = tt;
-    front = g.front;
-    never_falls = g.never_falls;
-    cause = λ e. absurd (cc);
-    no_fault = λ not. g.no_fault (λ e. cc);
-  }
+pub ok_by : {T E : Type 0} (r : Result T E) (P Q : Type 0) → (P → Q) → OnOk r P → OnOk r Q
+ok_by (Ok x) P Q f p = f p
+ok_by (Err e) P Q f p = tt
 
-  pub gains_as : {r : Result T RecordStop} {s : Result T LineStop} → s ≡ line_result r
-      → Gains held faults old new waiting text stops.WriteFault r
-      → Gains held faults old new waiting text line_stops.WriteFault s
-  gains_as {r} is g =
-      subst (Gains held faults old new waiting text line_stops.WriteFault) (sym is) (gains_line r g)
-
-pub has_line : {T : Type 0} (r : Result T RecordStop) → line_result r ≡ Err line_stops.NoLine → ⊥
-has_line (Ok x) e = cc
-has_line (Err stops.WriteFault) e = cc
-has_line (Err stops.NoMemory) e = cc
-
-pub line_fault : {T : Type 0} (r : Result T RecordStop) → line_result r ≡ Err line_stops.WriteFault
-    → r ≡ Err stops.WriteFault
-line_fault (Ok x) e = absurd (cc)
-line_fault (Err stops.WriteFault) e = refl
-line_fault (Err stops.NoMemory) e = absurd (cc)
-
--- another answer is another one's line
-pub not_line_fault : {T : Type 0} (r : Result T RecordStop) → line_result r ≢ Err line_stops.WriteFault
-    → r ≢ Err stops.WriteFault
-not_line_fault r not e = not (ap line_result e)
-
-pub ok_line : {T : Type 0} (r : Result T RecordStop) (P Q : Type 0) → (P → Q) → OnOk r P → OnOk (line_result r) Q
-ok_line (Ok x) P Q f p = f p
-ok_line (Err stops.WriteFault) P Q f p = tt
-ok_line (Err stops.NoMemory) P Q f p = tt
-
-pub err_line : {T : Type 0} (r : Result T RecordStop) (P Q : Type 0) → (P → Q) → OnErr r P → OnErr (line_result r) Q
-err_line (Ok x) P Q f p = tt
-err_line (Err stops.WriteFault) P Q f p = f p
-err_line (Err stops.NoMemory) P Q f p = f p
+pub err_by : {T E : Type 0} (r : Result T E) (P Q : Type 0) → (P → Q) → OnErr r P → OnErr r Q
+err_by (Ok x) P Q f p = tt
+err_by (Err e) P Q f p = f p

@@ -1,5 +1,5 @@
 -- The lines of a recorded session
-use Rattle.std.specs.Prelude.{◌≡◌, ◌≢◌, ◌≤◌, ℕ, List, [], ◌∷◌, ◌++◌, drop, Option, Some, None, IfSome, Result, Ok, Err, OnOk, OnErr}
+use Rattle.std.specs.Prelude.{◌≡◌, ◌≢◌, ◌≤◌, ℕ, List, [], ◌∷◌, ◌++◌, drop, Option, Some, None, IfSome, Result, Err, OnOk, OnErr}
 use Rattle.std.specs.List.{flat_map}
 use Rattle.std.specs.Io.KnownBytes.{Appends}
 use Rattle.wio_core.specs.Io.{Rose}
@@ -12,11 +12,6 @@ use Rattle.session_text.specs.declared.line.SessionLine.{SessionLine}
 use Rattle.session_text.specs.Steps.{step_line}
 use Rattle.broker_model.specs.declared.journal.Entry.{Entry}
 use Rattle.broker_model.specs.Recorded.{entry_at}
-use Rattle.hub_lock.specs.Steps.{HaveLines}
-use Rattle.serve_record.specs.declared.record.RecordStop.{RecordStop}
-use Rattle.serve_record.specs.declared.record.RecordStop.TheVariants as stops
-use Rattle.serve_record.specs.declared.record.LineStop.{LineStop}
-use Rattle.serve_record.specs.declared.record.LineStop.TheVariants as line_stops
 use Rattle.serve_record.specs.Recorded.{text_line, steps_text, entry_lines}
 
 -- the line of a step, if there is one
@@ -66,13 +61,3 @@ pub record Gains {S T E : Type 0} (held : S → Option (List ℕ)) (faults : S �
   pub never_falls : faults old ≤ faults new
   pub cause : r ≡ Err fault → Rose (faults old) (faults new)
   pub no_fault : r ≢ Err fault → faults new ≡ faults old
-
--- the same answer, where an entry may have no line
-abbrev pub line_result : {T : Type 0} → Result T RecordStop → Result T LineStop
-line_result (Ok x) = Ok x
-line_result (Err stops.WriteFault) = Err line_stops.WriteFault
-line_result (Err stops.NoMemory) = Err line_stops.NoMemory
-
--- where each entry of a journal has a line, the answer isn't that one has none
-abbrev pub NeverNoLine : {T : Type 0} → List Entry → Result T LineStop → Type 0
-NeverNoLine journal r = HaveLines journal → ¬ (r ≡ Err line_stops.NoLine)

@@ -3,13 +3,12 @@
 #![tactic(auto)]
 
 mod entry_lines;
-mod fits;
 mod laws;
 mod record;
 mod record_hub;
 mod record_text;
 
 pub use laws::recorded_session;
-pub use record::{LineStop, RecordStop, write_record};
+pub use record::{RecordStop, write_record};
 pub use record_hub::record_handed;
 pub use record_text::RecordText;

@@ -5,11 +5,8 @@ ghost use Rattle.wio_core.specs.Io.{Rose};
 ghost use Rattle.session_text.specs.declared.line.Line.TheVariants.{Header};
 ghost use Rattle.serve_record.specs.Recorded.{recorded, text_line};
 ghost use Rattle.serve_record.specs.declared.record.RecordStop.TheVariants as stops;
-ghost use Rattle.serve_record.specs.declared.record.LineStop.TheVariants as line_stops;
-ghost use Rattle.hub_lock.specs.Steps.{HaveLines};
-ghost use Rattle.serve_record.specs.Lines.{text_at, GainsFront, Gains, line_result, NeverNoLine};
+ghost use Rattle.serve_record.specs.Lines.{text_at, GainsFront, Gains};
 
-use crate::fits::fits_line;
 use crate::record_text::RecordText;
 use broker_model::{Journal, StampList};
 use hub_lock::Session;
@@ -45,47 +42,6 @@ impl From<NoMemory> for RecordStop {
     }
 }
 
-/// Why what may be of no hub isn't written whole. What was written is a front of it.
-#[derive(Clone, Copy, Debug, PartialEq, Eq, Error)]
-pub enum LineStop {
-    /// The output failed.
-    #[error("the output failed")]
-    WriteFault,
-    /// There was no memory.
-    #[error("there was no memory")]
-    NoMemory,
-    /// There is an entry that no line can give. A hub's journal has none.
-    #[error("no line can give an entry")]
-    NoLine,
-}
-
-impl From<Failed> for LineStop {
-    ghost from_gives = { λ _ e. e ≡ line_stops.WriteFault };
-
-    fn from(_: Failed) -> Self {
-        LineStop::WriteFault
-    }
-}
-
-impl From<NoMemory> for LineStop {
-    ghost from_gives = { λ _ e. e ≡ line_stops.NoMemory };
-
-    fn from(_: NoMemory) -> Self {
-        LineStop::NoMemory
-    }
-}
-
-// The answer, where an entry may have no line.
-pub(crate) fn as_line(written: Result<(), RecordStop>) -> Result<(), LineStop>
-    ensures { result ≡ line_result written }
-{
-    match written {
-        Ok(()) => Ok(()),
-        Err(RecordStop::WriteFault) => Err(LineStop::WriteFault),
-        Err(RecordStop::NoMemory) => Err(LineStop::NoMemory),
-    }
-}
-
 // The header and its line feed.
 pub(crate) fn header(alloc: Global, limits: &Limits) -> Result<Vec<u8>, NoMemory>
     ensures { IfOk result (λ text. text.items ≡ text_line (Header limits.now)) }
@@ -103,14 +59,12 @@ fn write_entry<K: Sink>(
     number: u32,
     text: &mut RecordText,
     output: &mut K,
-) -> Result<(), LineStop>
-    requires each { length session.now.stamps.stamps ≡ length session.now.journal.entries }
+) -> Result<(), RecordStop>
     requires first { 1 ≤ number }
     requires last { number ≤ length session.now.journal.entries }
-    ensures gains { Gains K.held K.fault_count output.old output.new text.new (text.old
+    ensures { Gains K.held K.fault_count output.old output.new text.new (text.old
         ++ text_at session.now.journal.entries session.now.stamps.stamps number)
-        LineStop.WriteFault result }
-    ensures no_line { NeverNoLine session.now.journal.entries result }
+        RecordStop.WriteFault result }
 {
     let Some(entry) = session.journal.entry(number) else {
         unreachable!()
@@ -118,36 +72,29 @@ fn write_entry<K: Sink>(
     let Some(stamp) = session.stamps.entry(number) else {
         unreachable!()
     };
-    if !fits_line(entry) {
-        return Err(LineStop::NoLine);
-    }
-    as_line(text.put(alloc, *stamp, entry, output))
+    text.put(alloc, *stamp, entry, output)
 }
 
 /// Writes the recorded session: the header, the line of each entry that no other brings about behind
-/// its stamp, and the end. After `LineStop` a front of it was written. `NoLine` comes of no session
-/// of a hub.
+/// its stamp, and the end. After `RecordStop` a front of it was written.
 pub fn write_record<K: Sink>(
     alloc: Global,
     session: &Session,
     output: &mut K,
-) -> Result<(), LineStop>
-    requires { length session.now.stamps.stamps ≡ length session.now.journal.entries }
+) -> Result<(), RecordStop>
     ensures whole { OnOk result (Appends (K.held output.old) (K.held output.new)
         (recorded session.now.limits session.now.journal.entries session.now.stamps.stamps)) }
     ensures front { OnErr result (GainsFront (K.held output.old) (K.held output.new)
         (recorded session.now.limits session.now.journal.entries session.now.stamps.stamps)) }
     ensures never_falls { K.fault_count output.old ≤ K.fault_count output.new }
-    ensures cause { result ≡ Err LineStop.WriteFault →
+    ensures cause { result ≡ Err RecordStop.WriteFault →
         Rose (K.fault_count output.old) (K.fault_count output.new) }
-    ensures no_fault { result ≢ Err LineStop.WriteFault →
+    ensures no_fault { result ≢ Err RecordStop.WriteFault →
         K.fault_count output.new ≡ K.fault_count output.old }
-    ensures no_line { HaveLines session.now.journal.entries →
-        ¬ (result ≡ Err LineStop.NoLine) }
 {
     let mut text = RecordText::new(alloc, &session.limits)?;
     for before in 0..session.journal.len() {
         write_entry(alloc, session, before + 1, &mut text, output)?;
     }
-    as_line(text.end(output))
+    text.end(output)
 }

@@ -1,16 +1,14 @@
 //! A recorded session as its entries come.
-ghost use Rattle.std.specs.Prelude.{◌≡◌, ◌≢◌, ◌≤◌, ◌↔◌, ◌++◌, [], Some, Err, IfOk, OnOk, OnErr};
+ghost use Rattle.std.specs.Prelude.{◌≡◌, ◌≢◌, ◌≤◌, ◌++◌, [], Some, Err, IfOk, OnOk, OnErr};
 ghost use Rattle.std.specs.Io.KnownBytes.{Appends};
 ghost use Rattle.wio_core.specs.Io.{Rose};
 ghost use Rattle.session_text.specs.declared.line.Line.TheVariants.{Header, End};
 ghost use Rattle.hub_lock.specs.Steps.{FitsLine};
 ghost use Rattle.serve_record.specs.Recorded.{text_line};
-ghost use Rattle.serve_record.specs.Lines.{lines_text, Holds, GainsFront, Gains};
+ghost use Rattle.serve_record.specs.Lines.{lines_text, GainsFront, Gains};
 
 use crate::entry_lines::add_entry;
-use crate::fits::fits_line;
-use crate::record::{LineStop, RecordStop, as_line, header};
-use broker_core::LetGo;
+use crate::record::{RecordStop, header};
 use broker_model::Entry;
 use seat_steps::{Limits, Stamp};
 use std::alloc::Global;
@@ -44,35 +42,8 @@ impl RecordText {
         })
     }
 
-    /// Adds the line of an entry behind its stamp, if it has one, and writes what waits, if it is a
-    /// whole piece. After `LineStop` a front of it was written: none of it after `NoLine`, which
-    /// comes where no line can give the entry, and then nothing changes.
-    pub fn add<K: Sink>(
-        &mut self,
-        alloc: Global,
-        next: &LetGo,
-        output: &mut K,
-    ) -> Result<(), LineStop>
-        ensures whole { OnOk result (Holds (K.held output.old) (K.held output.new) self.new
-            (self.old ++ lines_text (Some next.now.entry) (Some next.now.stamp))) }
-        ensures front { OnErr result (GainsFront (K.held output.old) (K.held output.new)
-            (self.old ++ lines_text (Some next.now.entry) (Some next.now.stamp))) }
-        ensures never_falls { K.fault_count output.old ≤ K.fault_count output.new }
-        ensures cause { result ≡ Err LineStop.WriteFault →
-            Rose (K.fault_count output.old) (K.fault_count output.new) }
-        ensures no_fault { result ≢ Err LineStop.WriteFault →
-            K.fault_count output.new ≡ K.fault_count output.old }
-        ensures no_line { (result ≡ Err LineStop.NoLine) ↔ ¬ (FitsLine next.now.entry) }
-        ensures untouched { result ≡ Err LineStop.NoLine →
-            (self.new ≡ self.old) × (output.new ≡ output.old) }
-    {
-        if !fits_line(&next.entry) {
-            return Err(LineStop::NoLine);
-        }
-        as_line(self.put(alloc, next.stamp, &next.entry, output))
-    }
-
-    // The same of an entry that a line can give, and of its stamp.
+    // Adds the line of an entry behind its stamp, if it has one, and writes what waits, if it is a
+    // whole piece. After `RecordStop` a front of it was written.
     pub(crate) fn put<K: Sink>(
         &mut self,
         alloc: Global,
@@ -92,10 +63,12 @@ impl RecordText {
         self.write(output)
     }
 
-    /// Writes what waits. After `RecordStop` a front of it was written.
+    /// Writes what waits. `WriteFault` is its one error: then a front of it was written, and all waits.
     pub fn write<K: Sink>(&mut self, output: &mut K) -> Result<(), RecordStop>
         ensures whole { OnOk result (Appends (K.held output.old) (K.held output.new) self.old) }
         ensures none { OnOk result (self.new ≡ []) }
+        ensures same { OnErr result (self.new ≡ self.old) }
+        ensures why { OnErr result (result ≡ Err RecordStop.WriteFault) }
         ensures front { OnErr result (GainsFront (K.held output.old) (K.held output.new)
             self.old) }
         ensures never_falls { K.fault_count output.old ≤ K.fault_count output.new }

@@ -1,9 +1,9 @@
-use Rattle.std.proofs.Common.{rules, ◌≡◌, ◌+◌, ◌-◌, ◌++◌, ◌∙◌, [], OnOk, OnErr, length, ap, sym, subst, arith, refl}
+use Rattle.std.proofs.Common.{rules, ◌≡◌, ◌+◌, ◌-◌, ◌++◌, ◌∙◌, [], length, ap, sym, subst, arith, refl}
 use Rattle.std.specs.Io.KnownBytes.{Appends}
 use Rattle.session_text.specs.declared.line.Line.TheVariants.{End}
-use Rattle.serve_record.specs.Recorded.{text_line, recorded}
+use Rattle.serve_record.specs.Recorded.{text_line}
 use Rattle.serve_record.specs.Lines.{Holds, GainsFront, text_without}
-use Rattle.serve_record.proofs.RecordGrows.{appends_none, holds_more, holds_then_front, holds_then_whole, front_of, on_err, has_line, line_fault, not_line_fault, ok_line, err_line}
+use Rattle.serve_record.proofs.RecordGrows.{appends_none, holds_more, holds_then_front, holds_then_whole, front_of, on_err, ok_by, err_by}
 use Rattle.serve_record.proofs.StepsText.{text_begins, text_grows, text_is_front, text_ends}
 use Rattle.serve_record.proofs.record.write_record.Goals as goal
 
@@ -16,7 +16,7 @@ loop-before-init g c =
       holds = (
         [],
         appends_none (g.K.Sink.held c.args.output.now),
-        c.in_ok-text.ensures ∙ (sym (text_begins session.limits journal stamps c.requires)
+        c.in_ok-text.ensures ∙ (sym (text_begins session.limits journal stamps session.each)
             ∙ ap (λ n. text_without session.limits n journal stamps) all),
       );
       never_falls = omega arith;
@@ -30,10 +30,10 @@ returns-in_err-write_entry-clause-front g c =
     let stamps = session.stamps.stamps in
     let before = c.loop-before.before in
     let newest = length journal - (before + 1) in
-    let is = text_is_front session.limits journal stamps newest c.requires in
+    let is = text_is_front session.limits journal stamps newest session.each in
     on_err _ _ (front_of _ _ _ is.0 _
-    (holds_then_front _ _ _ _ _ _ c.loop-before.invariant.holds c.in_err-write_entry.ensures.gains.front)
-    (ap (λ t. t ++ is.0) (text_grows session.limits journal stamps before (search rules) c.requires) ∙ is.1))
+    (holds_then_front _ _ _ _ _ _ c.loop-before.invariant.holds c.in_err-write_entry.ensures.front)
+    (ap (λ t. t ++ is.0) (text_grows session.limits journal stamps before (search rules) session.each) ∙ is.1))
 
 pub loop-before-preserved : goal.loop-before-preserved
 loop-before-preserved g c =
@@ -42,14 +42,14 @@ loop-before-preserved g c =
     let stamps = session.stamps.stamps in
     let before = c.loop-before.before in
     let one = c.loop-before.invariant.never_falls in
-    let two = c.write_entry.ensures.gains.never_falls in record {
+    let two = c.write_entry.ensures.never_falls in record {
       holds = subst
           (Holds (g.K.Sink.held c.args.output.now)
           (g.K.Sink.held c.write_entry.new.output) c.write_entry.new.text)
-          (text_grows session.limits journal stamps before (search rules) c.requires)
-          (holds_more _ _ _ _ _ _ _ c.loop-before.invariant.holds c.in_ok-write_entry.ensures.gains.whole);
+          (text_grows session.limits journal stamps before (search rules) session.each)
+          (holds_more _ _ _ _ _ _ _ c.loop-before.invariant.holds c.in_ok-write_entry.ensures.whole);
       never_falls = omega arith;
-      none_failed = c.in_ok-write_entry.ensures.gains.no_fault (λ e. cc) ∙ c.loop-before.invariant.none_failed;
+      none_failed = c.in_ok-write_entry.ensures.no_fault (λ e. cc) ∙ c.loop-before.invariant.none_failed;
     }
 
 pub returns-clause-whole : goal.returns-clause-whole
@@ -60,10 +60,9 @@ returns-clause-whole g c =
     let held = g.K.Sink.held c.args.output.now in
     let after = g.K.Sink.held c.end.new.output in
     let ends = text_ends session.limits journal stamps (length journal - c.loop-before.before) (search rules) in
-    subst (λ r. OnOk r (Appends held after (recorded session.limits journal stamps))) (sym c.as_line.ensures)
-    (ok_line c.end.result _ _
+    ok_by c.end.result _ _
     (λ out. subst (Appends held after) ends
-    (holds_then_whole _ _ _ _ (text_line End) _ c.loop-before.invariant.holds out)) c.end.ensures.whole)
+    (holds_then_whole _ _ _ _ (text_line End) _ c.loop-before.invariant.holds out)) c.end.ensures.whole
 
 pub returns-clause-front : goal.returns-clause-front
 returns-clause-front g c =
@@ -73,20 +72,14 @@ returns-clause-front g c =
     let held = g.K.Sink.held c.args.output.now in
     let after = g.K.Sink.held c.end.new.output in
     let ends = text_ends session.limits journal stamps (length journal - c.loop-before.before) (search rules) in
-    subst (λ r. OnErr r (GainsFront held after (recorded session.limits journal stamps))) (sym c.as_line.ensures)
-    (err_line c.end.result _ _
+    err_by c.end.result _ _
     (λ cut. subst (GainsFront held after) ends
-    (holds_then_front _ _ _ _ (text_line End) _ c.loop-before.invariant.holds cut)) c.end.ensures.front)
+    (holds_then_front _ _ _ _ (text_line End) _ c.loop-before.invariant.holds cut)) c.end.ensures.front
 
 pub returns-clause-cause : goal.returns-clause-cause
 returns-clause-cause g c is =
-    let before = c.loop-before.invariant.never_falls in
-    let rose = c.end.ensures.cause (line_fault c.end.result (sym c.as_line.ensures ∙ is)) in omega arith
+    let rose = c.end.ensures.cause is in
+    let same = c.loop-before.invariant.none_failed in omega arith
 
 pub returns-clause-no_fault : goal.returns-clause-no_fault
-returns-clause-no_fault g c other =
-    c.end.ensures.no_fault (not_line_fault c.end.result (λ e. other (c.as_line.ensures ∙ e)))
-    ∙ c.loop-before.invariant.none_failed
-
-pub returns-clause-no_line : goal.returns-clause-no_line
-returns-clause-no_line g c lines is = has_line c.end.result (sym c.as_line.ensures ∙ is)
+returns-clause-no_fault g c other = c.end.ensures.no_fault other ∙ c.loop-before.invariant.none_failed
