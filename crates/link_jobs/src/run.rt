@@ -61,7 +61,7 @@ pub fn run_writer<R: Wait, K: LinkSink>(rt: &R, job: WriterJob<K>) -> WriterDone
     }
 }
 
-/// Serves a shell's link up to its end, and hangs up.
+/// Serves a shell's link up to its end, and hangs up, at once where a write fails.
 pub fn run_shell<R: Wait, S: LinkSource, K: LinkSink>(
     rt: &R,
     job: ShellJob<S, K>,
@@ -74,12 +74,14 @@ pub fn run_shell<R: Wait, S: LinkSource, K: LinkSink>(
         hub,
         mut pass,
         mut source,
-        mut sink,
+        sink,
     } = job;
     let link = source.link();
-    let end = read_shell(rt, alloc, &*hub, &mut pass, &mut source, &mut sink);
+    let mut answers = HangsUp { sink };
+    let end = read_shell(rt, alloc, &*hub, &mut pass, &mut source, &mut answers);
     hub.leave();
-    sink.hang_up();
+    answers.sink.hang_up();
+    let HangsUp { sink } = answers;
     ShellDone {
         pass,
         source,

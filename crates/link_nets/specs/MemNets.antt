@@ -8,12 +8,13 @@ use Rattle.link_nets.specs.declared.mem_link.MemLink.{MemLink}
 use Rattle.link_nets.specs.declared.mem_ways.MemIn.{MemIn}
 use Rattle.link_nets.specs.declared.mem_ways.MemOut.{MemOut}
 
--- a net: which doors are open, the links that wait, the doors of those that it gave, the numbers of
--- the accepts that fail, and how many accepts and faults it had
+-- a net: which doors are open, when they were opened, the links that wait, the doors of those that
+-- it gave, the numbers of the accepts that fail, and how many accepts and faults it had
 pub record NetInMemory : Type 0 where
   pub app : Bool
   pub method : Bool
   pub shell : Bool
+  pub listens : List (Door × ℕ)
   pub waiting : List MemLink
   pub links : List Door
   pub fail : List ℕ
@@ -28,9 +29,9 @@ is_open app method shell Shell = shell
 
 -- the net with the door open
 abbrev pub opening : Door → NetInMemory → NetInMemory
-opening App n = record n { app = true }
-opening Method n = record n { method = true }
-opening Shell n = record n { shell = true }
+opening App n = record n { app = true; listens = (App, length n.links) ∷ n.listens }
+opening Method n = record n { method = true; listens = (Method, length n.links) ∷ n.listens }
+opening Shell n = record n { shell = true; listens = (Shell, length n.links) ∷ n.listens }
 
 -- no link waits at the door
 abbrev pub LacksLinkFor : Door → List MemLink → Type 0

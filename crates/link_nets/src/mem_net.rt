@@ -1,6 +1,6 @@
 //! A net in memory, which fails where it is told to.
 ghost use Rattle.std.specs.Prelude.{◌≡◌, ◌⊎◌, ◌↔◌, ◌++◌, ◌∷◌, [], true, false, Ok, List};
-ghost use Rattle.std.specs.Prelude.{◌≤◌, IfOk, OnErr, IsErr, IfSome, IfNone, OnSome};
+ghost use Rattle.std.specs.Prelude.{◌≤◌, IfOk, OnErr, IsErr, IfSome, IfNone, OnSome, length};
 ghost use Rattle.std.specs.List.{Contains};
 ghost use Rattle.wio_core.specs.Io.{raised};
 ghost use Rattle.link_nets.specs.MemNets.{IsPlaceFor, LacksLinkFor};
@@ -10,6 +10,7 @@ use crate::door::Door;
 use crate::mem_link::MemLink;
 use crate::mem_ways::{MemIn, MemOut};
 use crate::net::Net;
+use long_list::Past;
 use std::alloc::Global;
 use std::marker::Model;
 use wio_core::{Failed, NoMemory};
@@ -21,6 +22,8 @@ pub struct MemNet {
     app: bool,
     method: bool,
     shell: bool,
+    // Contracts alone see it.
+    listens: Past<(Door, u64)>,
     waiting: Vec<MemLink>,
     links: Vec<Door>,
     fail: Vec<u64>,
@@ -38,6 +41,7 @@ impl Model for MemNet {
       app = n.app;
       method = n.method;
       shell = n.shell;
+      listens = n.listens;
       waiting = n.waiting.items;
       links = n.links.items;
       fail = n.fail.items;
@@ -58,6 +62,7 @@ impl MemNet {
           app = false;
           method = false;
           shell = false;
+          listens = [];
           waiting = links.items;
           links = [];
           fail = fail.items;
@@ -70,6 +75,7 @@ impl MemNet {
             app: false,
             method: false,
             shell: false,
+            listens: Past::new(),
             waiting: links,
             links: doors,
             fail,
@@ -94,6 +100,16 @@ impl MemNet {
             unreachable!()
         }
         Some(self.waiting.remove(place))
+    }
+
+    // Notes for contracts that the door was opened.
+    fn note(&mut self, door: Door)
+        ensures { self.new ≡ record self.old {
+          listens = (door, length self.old.links) ∷ self.old.listens;
+        } }
+    {
+        let listens = std::mem::replace(&mut self.listens, Past::new());
+        self.listens = listens.with(&(door, self.links.len() as u64));
     }
 
     fn fault<T>(&mut self) -> Result<T, Failed>
@@ -136,6 +152,8 @@ impl Net for MemNet {
 
     ghost opened = { λ n d. is_open n.app n.method n.shell d };
 
+    ghost listens = { λ n. n.listens };
+
     ghost links = { λ n. n.links };
 
     ghost fault_count = { λ n. n.faults };
@@ -145,6 +163,7 @@ impl Net for MemNet {
         ensures ok { result ≡ Ok tt }
         ensures opens { self.new ≡ opening door self.old }
     {
+        self.note(door);
         match door {
             Door::App => self.app = true,
             Door::Method => self.method = true,

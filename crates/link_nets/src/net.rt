@@ -1,5 +1,5 @@
 //! Doors, and the links that come through them.
-ghost use Rattle.std.specs.Prelude.{◌≡◌, ◌≤◌, ◌++◌, ◌∷◌, [], ℕ, List, Option, Bool, true, false};
+ghost use Rattle.std.specs.Prelude.{◌≡◌, ◌⊎◌, ◌≤◌, ◌++◌, ◌∷◌, [], ℕ, List, Option, Bool, true, false};
 ghost use Rattle.std.specs.Prelude.{◌<◌, IfOk, OnOk, OnErr, length, take};
 ghost use Rattle.std.specs.Io.KnownBytes.{Appends, Keeps};
 ghost use Rattle.wio_core.specs.Io.{Rose, StaysQuiet};
@@ -57,8 +57,8 @@ pub trait LinkSink: Sink + Drop {
         ensures same { number self.new ≡ number self.old };
 }
 
-/// Where links come in. It has three meanings for contracts: for each door whether it is open, the
-/// doors of the links that it gave, in order, and how often a call failed.
+/// Where links come in. It has four meanings for contracts: for each door whether it is open, the
+/// doors that it opened, the doors of the links that it gave, in order, and how often a call failed.
 pub trait Net {
     /// A link's way in.
     type In: LinkSource;
@@ -68,6 +68,9 @@ pub trait Net {
 
     ghost opened: { Self → Door → Bool };
 
+    /// The newest first, each with how many links it had given when it opened the door.
+    ghost listens: { Self → List (Door × ℕ) };
+
     ghost links: { Self → List Door };
 
     ghost fault_count: { Self → ℕ };
@@ -76,6 +79,12 @@ pub trait Net {
     fn listen(&mut self, door: Door, path: &str) -> Result<(), Failed>
         ensures opens { OnOk result (opened self.new door ≡ true) }
         ensures stays { (d : Door) → opened self.old d ≡ true → opened self.new d ≡ true }
+        ensures only { (d : Door) → opened self.new d ≡ true →
+            (opened self.old d ≡ true) ⊎ (d ≡ door) }
+        ensures shut { OnErr result ((d : Door) → opened self.new d ≡ opened self.old d) }
+        ensures listens { OnOk result (listens self.new
+            ≡ (door, length (links self.old)) ∷ listens self.old) }
+        ensures none { OnErr result (listens self.new ≡ listens self.old) }
         ensures links { links self.new ≡ links self.old }
         ensures never_falls { fault_count self.old ≤ fault_count self.new }
         ensures cause { OnErr result (Rose (fault_count self.old) (fault_count self.new)) }
@@ -85,7 +94,8 @@ pub trait Net {
     /// came and went on it so far, nothing failed, and nobody hung up.
     fn accept(&mut self, door: Door) -> Result<(Self::In, Self::Out), Failed>
         requires { opened self.old door ≡ true }
-        ensures stays { (d : Door) → opened self.old d ≡ true → opened self.new d ≡ true }
+        ensures doors { (d : Door) → opened self.new d ≡ opened self.old d }
+        ensures listens { listens self.new ≡ listens self.old }
         ensures link { OnOk result (links self.new ≡ links self.old ++ door ∷ []) }
         ensures none { OnErr result (links self.new ≡ links self.old) }
         ensures source { IfOk result (λ link.

@@ -21,6 +21,7 @@ use Rattle.serve_run.specs.declared.status.ServeStatus.TheVariants as statuses
 use Rattle.serve_run.specs.declared.stop.Stop.{Stop}
 use Rattle.serve_run.specs.declared.stop.Stop.TheVariants as stops
 use Rattle.serve_run.specs.LinkJobs.{LinkedJob, role_at, job_reported, job_tagged, jobs_of, joins_of, passes_of}
+use Rattle.serve_run.specs.Opened.{AreOpened}
 use Rattle.serve_run.specs.Reported.{HaveLaws, AreTaken}
 use Rattle.serve_run.specs.Started.{LinksStarted}
 use Rattle.serve_run.specs.Refused.{WasRefused, IsRefusedAt, JoinedUnless}
@@ -85,6 +86,7 @@ pub record Run (asked : Serving) (before after : Sides) (status : ServeStatus) :
   pub links : LinksStarted hub first linked before.started after.started asked.order
       (length before.links + 1) count accepted
   pub all : OnOk accepted (count ≡ length asked.order)
+  pub opened : AreOpened before.links after.links before.listens after.listens accepted
   pub doors_open : OnOk accepted ((d : Door) → after.opened d ≡ true)
   pub starts : (after.before_start ≡ before.before_start) ⊎ (after.before_start ≡ length before.reports)
   pub net : accepted ≡ Err stops.NetFault → Rose before.net_faults after.net_faults
@@ -169,6 +171,7 @@ law_of asked before after status run =
       all_accepted = run.all;
       all_joined = links.all_joined;
       all_served = whole run.accepted links.all_started links.all_joined run.all;
+      opened = run.opened;
       all_open = run.doors_open;
       net = run.net;
       threads = run.threads;

@@ -9,6 +9,7 @@ use Rattle.seat_steps.specs.declared.limits.Limits.{Limits}
 use Rattle.wl_wire.specs.Messages.{messages, bad_size, bad_size_at, behind}
 use Rattle.broker_model.specs.declared.journal.Entry.{Entry}
 use Rattle.broker_model.specs.declared.journal.Entry.TheVariants as entries
+use Rattle.desc_frame.specs.declared.Got.{Got}
 use Rattle.desc_frame.specs.Frames.{Frame}
 use Rattle.step_cutter.specs.Steps.{message_entry, bad_entries, steps_in}
 use Rattle.turn_lock.specs.Pairs.{own, HasSeen, IsIn}
@@ -20,7 +21,7 @@ use Rattle.peer_link.specs.declared.ends.ReadEnd.{ReadEnd}
 use Rattle.peer_link.specs.declared.ends.ReadEnd.TheVariants as ends
 use Rattle.peer_link.specs.Made.{entries_by}
 use Rattle.peer_link.specs.LinkSteps.{token_steps, steps_unless_bad, byte_steps, steps_behind, link_steps}
-use Rattle.peer_link.specs.ReadsPeer.{ReadsPeer, StopsAt, MadeBefore, EndsAs, gone_after}
+use Rattle.peer_link.specs.ReadsPeer.{ReadsPeer, StopsAt, StopsBy, MadeAll, MadeBefore, EndsAs, gone_after}
 use Rattle.link_jobs.specs.Tags.{Report, End, Part}
 use Rattle.link_jobs.specs.Tags.End.{read, wrote, ordered}
 use Rattle.link_jobs.specs.Tags.Part.{reader, writer, shell}
@@ -105,9 +106,12 @@ plain_stopped q frames rest made e at =
 plain_before : (q : ℕ) (frames : List Frame) (rest : List ℕ) (left : Option (List ℕ)) (faults : ℕ) (made : List Entry)
     → MadeBefore q frames rest left faults made → all_plain made ≡ true
 plain_before q frames rest left faults made (inl quiet) =
-    ⊎_elim (λ (all : made ≡ link_steps q frames). ap all_plain all ∙ plain_link q [] frames)
-    (λ (some : (e : Entry) × StopsAt q frames rest made e). plain_stopped q frames rest made some.0 some.1) quiet.1
-plain_before q frames rest left faults made (inr stops) = ap all_plain stops.all ∙ plain_link q [] frames
+    ⊎_elim (λ (m : MadeAll q frames rest made). ap all_plain m.all ∙ plain_link q [] frames)
+    (λ others. ⊎_elim
+    (λ (by : (why : Got) × StopsBy q frames rest left made why). ap all_plain by.1.all ∙ plain_link q [] frames)
+    (λ (some : (e : Entry) × StopsAt q frames rest made e). plain_stopped q frames rest made some.0 some.1) others)
+    quiet.1
+plain_before q frames rest left faults made (inr one) = ap all_plain one.1.all ∙ plain_link q [] frames
 
 plain_made : (limits : Limits) (p : PeerPass) (frames : List Frame) (rest : List ℕ) (left : Option (List ℕ))
     (faults : ℕ) (made : List Entry)

@@ -13,11 +13,13 @@ use Rattle.serve_run.specs.declared.stop.Stop.TheVariants as stops
 use Rattle.serve_run.specs.Started.{MayLack, IsRefusal, LinkStarted, Starts}
 use Rattle.serve_run.specs.Refused.{stopped, IsStoppedBy, WasRefused}
 
-pub rose_since : (a b c : ℕ) → a ≤ b → Rose b c → Rose a c
-rose_since a b c le rose = omega arith
+-- a count that stood before or after it rose
 
-pub rose_until : (a b c : ℕ) → Rose a b → b ≤ c → Rose a c
-rose_until a b c rose le = omega arith
+pub rose_since : (a b c : ℕ) → b ≡ a → Rose b c → Rose a c
+rose_since a b c same rose = subst (λ n. Rose n c) same rose
+
+pub rose_until : (a b c : ℕ) → Rose a b → c ≡ b → Rose a c
+rose_until a b c rose same = same ∙ rose
 
 -- why a job lacks
 
@@ -70,7 +72,7 @@ module _ {W : Type 0} {reports : W → List Report} {before_start refusals : W �
         (λ m. inr (m ∙ ap length one.none_came)) two.last;
     none_came = two.none_came ∙ one.none_came;
     never_falls = let x = one.never_falls in let y = two.never_falls in omega arith;
-    threads = λ is. rose_since _ _ _ one.never_falls (two.threads is);
+    threads = λ is. rose_since _ _ _ (one.no_refusal (λ not. cc)) (two.threads is);
     no_refusal = λ other. two.no_refusal other ∙ one.no_refusal (λ is. cc);
   }
 

@@ -1,4 +1,5 @@
 pub mod LinkJobs
+pub mod Opened
 pub mod Refused
 pub mod Reported
 pub mod ServerLaw

@@ -1,5 +1,5 @@
 -- The loop laws of the reports, for the one history of the hub
-use Rattle.std.specs.Prelude.{◌≡◌, ◌≢◌, ℕ, ◌≤◌, List, [], ◌∷◌, true, false, Some}
+use Rattle.std.specs.Prelude.{◌≡◌, ◌≢◌, ℕ, List, [], ◌∷◌, true, false, Some}
 use Rattle.seat_steps.specs.declared.limits.Limits.{Limits}
 use Rattle.turn_lock.specs.Pairs.{HasSeen, IsIn}
 use Rattle.hub_lock.specs.Histories.{History, reader_of, writer_of}
@@ -29,7 +29,7 @@ pub record IsReader (limits : Limits) (h : History) (r : Report) (end : ReadEnd)
   pub peer : pass.peer ≡ r.peer
   pub reads : reader_of h r.peer ≡ Some r.number
   pub law : HasRead pass r.given r.left r.source_faults end
-  pub fault : end ≡ read_ends.ReadFault → 1 ≤ r.source_faults
+  pub fault : end ≡ read_ends.ReadFault → r.source_faults ≡ 1
   pub no_fault : TellsNoFault end → r.source_faults ≡ 0
 
 -- a writer: its link gained of what its pass, which writes for the peer, took what the law of
@@ -40,7 +40,7 @@ pub record IsWriter (limits : Limits) (h : History) (r : Report) (end : WriteEnd
   pub peer : pass.peer ≡ r.peer
   pub writes : writer_of h r.peer ≡ Some r.number
   pub law : HasWritten pass r.held end
-  pub fault : is_cut end ≡ true → 1 ≤ r.sink_faults
+  pub fault : is_cut end ≡ true → r.sink_faults ≡ 1
   pub no_fault : is_cut end ≡ false → r.sink_faults ≡ 0
   pub hung_up : r.hung_up ≡ true
 
@@ -51,8 +51,8 @@ pub record IsShell (limits : Limits) (h : History) (r : Report) (end : ShellEnd)
   pub seat : IsSeatOf limits h r shell
   pub nobody : r.peer ≡ 0
   pub law : HasOrdered shell r.given r.left r.held end
-  pub read_fault : end ≡ shell_ends.ReadFault → 1 ≤ r.source_faults
-  pub write_fault : end ≡ shell_ends.WriteFault → 1 ≤ r.sink_faults
+  pub read_fault : end ≡ shell_ends.ReadFault → r.source_faults ≡ 1
+  pub write_fault : end ≡ shell_ends.WriteFault → r.sink_faults ≡ 1
   pub no_read_fault : end ≢ shell_ends.ReadFault → r.source_faults ≡ 0
   pub no_write_fault : end ≢ shell_ends.WriteFault → r.sink_faults ≡ 0
   pub hung_up : r.hung_up ≡ true

@@ -18,6 +18,7 @@ use Rattle.serve_run.specs.declared.status.ServeStatus.TheVariants as statuses
 use Rattle.serve_run.specs.declared.stop.Stop.{Stop}
 use Rattle.serve_run.specs.declared.stop.Stop.TheVariants as stops
 use Rattle.serve_run.specs.LinkJobs.{StepsAreOf, job_reported, jobs_of, joins_of, passes_of}
+use Rattle.serve_run.specs.Opened.{AreOpened}
 use Rattle.serve_run.specs.Reported.{HaveLaws}
 use Rattle.serve_run.specs.Started.{MayLack}
 use Rattle.serve_run.specs.Refused.{JoinedUnless}
@@ -27,6 +28,7 @@ use Rattle.serve_run.specs.Unserved.{AreUnserved}
 -- what is seen of the net, the spawner and the output at one moment
 pub record Sides : Type 0 where
   pub opened : Door → Bool
+  pub listens : List (Door × ℕ)
   pub links : List Door
   pub net_faults : ℕ
   pub started : List Tag
@@ -36,19 +38,21 @@ pub record Sides : Type 0 where
   pub held : Option (List ℕ)
   pub output_faults : ℕ
 
-abbrev pub sides : (Door → Bool) → List Door → ℕ → List Tag → List Report → ℕ → ℕ →
-    Option (List ℕ) → ℕ → Sides
-sides opened links net_faults started reports before_start refusals held output_faults = record {
-  opened = opened;
-  links = links;
-  net_faults = net_faults;
-  started = started;
-  reports = reports;
-  before_start = before_start;
-  refusals = refusals;
-  held = held;
-  output_faults = output_faults;
-}
+abbrev pub sides : (Door → Bool) → List (Door × ℕ) → List Door → ℕ → List Tag → List Report → ℕ →
+    ℕ → Option (List ℕ) → ℕ → Sides
+sides opened listens links net_faults started reports before_start refusals held output_faults =
+    record {
+      opened = opened;
+      listens = listens;
+      links = links;
+      net_faults = net_faults;
+      started = started;
+      reports = reports;
+      before_start = before_start;
+      refusals = refusals;
+      held = held;
+      output_faults = output_faults;
+    }
 
 -- the recorded session of a history
 abbrev pub text_of : Serving → History → List ℕ
@@ -80,6 +84,8 @@ pub record ServerLaw (asked : Serving) (before after : Sides) (status : ServeSta
   pub written : IsWritten status before.held after.held (text_of asked history)
   -- why the accepting stopped, if it did
   pub stop : Result (Unit {0}) Stop
+  -- the doors were opened first, in order, each once, or the first of them
+  pub opened : AreOpened before.links after.links before.listens after.listens stop
   -- the links came through the doors of the first letters
   pub accepted : ℕ
   pub within : accepted ≤ length asked.order
@@ -119,7 +125,7 @@ pub record ServerLaw (asked : Serving) (before after : Sides) (status : ServeSta
   pub net : stop ≡ Err stops.NetFault → Rose before.net_faults after.net_faults
   pub threads : stop ≡ Err stops.NoThread → Rose before.refusals after.refusals
   pub write : status ≡ statuses.WriteFault → Rose before.output_faults after.output_faults
-  -- no accept, start or write that failed is tried again and then hidden
+  -- no other answer hides an accept, start or write that failed
   pub no_net : stop ≢ Err stops.NetFault → after.net_faults ≡ before.net_faults
   pub no_thread : stop ≢ Err stops.NoThread → after.refusals ≡ before.refusals
   pub no_write : status ≢ statuses.WriteFault → after.output_faults ≡ before.output_faults

@@ -1,11 +1,13 @@
 -- What a run has written of its recorded session
-use Rattle.std.specs.Prelude.{◌⊎◌, ◌≤◌, ◌++◌, ℕ, List, length, Option, Result, IfOk, OnOk, OnErr}
+use Rattle.std.specs.Prelude.{◌≡◌, ◌≢◌, ◌⊎◌, ◌≤◌, ◌++◌, ℕ, List, length, Option, Result, Err, IfOk, OnOk, OnErr}
 use Rattle.std.specs.Io.KnownBytes.{Appends}
+use Rattle.wio_core.specs.Io.{Rose}
 use Rattle.seat_steps.specs.declared.limits.Limits.{Limits}
 use Rattle.broker_core.specs.declared.letting_go.LetGo.{LetGo}
 use Rattle.session_text.specs.declared.line.Line.TheVariants.{End}
 use Rattle.hub_lock.specs.Histories.{History, broker_of}
 use Rattle.serve_record.specs.declared.record.RecordStop.{RecordStop}
+use Rattle.serve_record.specs.declared.record.RecordStop.TheVariants as stops
 use Rattle.serve_record.specs.Recorded.{recorded, text_line}
 use Rattle.serve_record.specs.Lines.{Holds, GainsFront}
 use Rattle.serve_record.specs.Handed.{handed_text}
@@ -41,3 +43,9 @@ IsRecorded limits held held_after h r =
     let b = broker_of limits h in
     OnOk r (Appends held held_after (recorded limits b.journal b.stamps))
     × OnErr r (GainsFront held held_after (recorded limits b.journal b.stamps))
+
+-- one write failed: at first, and then none was tried again; or since then, where none had before
+abbrev pub FailsOnce : (first : Result (List ℕ) RecordStop) → (faults faults_after : ℕ) → Type 0
+FailsOnce first faults faults_after =
+    ((first ≡ Err stops.WriteFault) × (faults_after ≡ faults))
+    ⊎ ((first ≢ Err stops.WriteFault) × Rose faults faults_after)

@@ -73,6 +73,7 @@ pub(crate) fn accept_all<R: Wait, N: Net, G: Gate + Drop, W: Spawner<LinkJob<N::
     ensures accepted { AreAccepted (arc_value hub.now) root.old root.new (W.started spawner.old)
         (W.started spawner.new) (N.links net.old) (N.links net.new) letters.now result }
     ensures open { (d : Door) → N.opened net.new d ≡ true }
+    ensures listens { N.listens net.new ≡ N.listens net.old }
     ensures jobs { Starts W.reports W.before_start W.refusal_count spawner.old spawner.new result }
     ensures never_falls { N.fault_count net.old ≤ N.fault_count net.new }
     ensures net { result ≡ Err Stop.NetFault →

@@ -1,12 +1,12 @@
 //! The recorded session is written as its entries come.
-ghost use Rattle.std.specs.Prelude.{◌≡◌, ◌≢◌, ◌⊎◌, ◌≤◌, ◌∷◌, ℕ, List, [], length, Option, Err, OnOk};
+ghost use Rattle.std.specs.Prelude.{◌≡◌, ◌≢◌, ◌≤◌, ◌∷◌, ℕ, List, [], length, Option, Err, OnOk};
 ghost use Rattle.wio_core.specs.Io.{Rose};
 ghost use Rattle.turn_lock.specs.Pairs.{NoneOf, HasSeen, IsIn, total};
 ghost use Rattle.hub_lock.specs.Lawful.{IsLawful};
 ghost use Rattle.hub_lock.specs.Passes.{IsOf};
 ghost use Rattle.serve_record.specs.Handed.{WritesHanded, MadeNoStep};
 ghost use Rattle.serve_run.specs.Started.{IsRootOf};
-ghost use Rattle.serve_run.specs.Written.{HoldsHanded, EndsHanded, IsRecorded, AreAllHanded};
+ghost use Rattle.serve_run.specs.Written.{HoldsHanded, EndsHanded, IsRecorded, AreAllHanded, FailsOnce};
 
 use hub_lock::{Hub, HubPass, Pass, RecorderPass};
 use seat_steps::Limits;
@@ -93,8 +93,8 @@ fn record_end<R: Wait, K: Sink>(
         EndsHanded hub.now.limits held (K.held output.new) pass.new.seat.seen root.now.seen
         pass.new.handed result }
     ensures never_falls { K.fault_count output.old ≤ K.fault_count output.new }
-    ensures cause { result ≡ Err RecordStop.WriteFault → (first ≡ Err RecordStop.WriteFault)
-        ⊎ Rose (K.fault_count output.old) (K.fault_count output.new) }
+    ensures cause { result ≡ Err RecordStop.WriteFault →
+        FailsOnce first (K.fault_count output.old) (K.fault_count output.new) }
     ensures no_fault { result ≢ Err RecordStop.WriteFault → (first ≢ Err RecordStop.WriteFault)
         × (K.fault_count output.new ≡ K.fault_count output.old) }
 {
@@ -126,8 +126,8 @@ pub(crate) fn record_last<R: Wait, K: Sink>(
         HoldsHanded hub.now.limits held (K.held output.old) pass.handed first →
         IsRecorded hub.now.limits held (K.held output.new) root.new.seen result }
     ensures never_falls { K.fault_count output.old ≤ K.fault_count output.new }
-    ensures cause { result ≡ Err RecordStop.WriteFault → (first ≡ Err RecordStop.WriteFault)
-        ⊎ Rose (K.fault_count output.old) (K.fault_count output.new) }
+    ensures cause { result ≡ Err RecordStop.WriteFault →
+        FailsOnce first (K.fault_count output.old) (K.fault_count output.new) }
     ensures no_fault { result ≢ Err RecordStop.WriteFault → (first ≢ Err RecordStop.WriteFault)
         × (K.fault_count output.new ≡ K.fault_count output.old) }
 {

@@ -7,6 +7,7 @@ ghost use Rattle.seat_steps.specs.Ranges.{IsLimits};
 ghost use Rattle.link_nets.specs.declared.door.Door.{Door};
 ghost use Rattle.serve_words.specs.Words as grammar;
 ghost use Rattle.serve_words.specs.Asked.{asked as asked'};
+ghost use Rattle.serve_run.specs.Opened.{AreOpened};
 ghost use Rattle.serve_run.specs.Started.{IsRootOf, AreAccepted, Starts};
 ghost use Rattle.serve_run.specs.ServerLaw.{ServerLaw, sides};
 ghost use Rattle.turn_lock.specs.Pairs.{own};
@@ -23,7 +24,7 @@ use link_nets::Net;
 use serve_words::{Serving, WordsRefusal, serve_of};
 use std::alloc::Global;
 use std::sync::{Arc, Wait};
-use wio_core::Sink;
+use wio_core::{Failed, Sink};
 
 // Opens the doors, and accepts and starts the links.
 fn serve_links<R: Wait, N: Net, G: Gate + Drop, W: Spawner<LinkJob<N::In, N::Out, G>>>(
@@ -43,6 +44,8 @@ fn serve_links<R: Wait, N: Net, G: Gate + Drop, W: Spawner<LinkJob<N::In, N::Out
     ensures accepted { AreAccepted (arc_value hub.now) root.old root.new (W.started spawner.old)
         (W.started spawner.new) (N.links net.old) (N.links net.new) asked.now.order.now result }
     ensures open { OnOk result ((d : Door) → N.opened net.new d ≡ true) }
+    ensures opened { AreOpened (N.links net.old) (N.links net.new) (N.listens net.old)
+        (N.listens net.new) result }
     ensures jobs { Starts W.reports W.before_start W.refusal_count spawner.old spawner.new result }
     ensures never_falls { N.fault_count net.old ≤ N.fault_count net.new }
     ensures net { result ≡ Err Stop.NetFault →
@@ -50,10 +53,10 @@ fn serve_links<R: Wait, N: Net, G: Gate + Drop, W: Spawner<LinkJob<N::In, N::Out
     ensures no_net { result ≢ Err Stop.NetFault →
         N.fault_count net.new ≡ N.fault_count net.old }
 {
-    if open_all(net, asked).is_err() {
-        return Err(Stop::NetFault);
+    match open_all(net, asked) {
+        Ok(()) => accept_all(rt, alloc, hub, root, net, spawner, gate, asked.order),
+        Err(Failed) => Err(Stop::NetFault),
     }
-    accept_all(rt, alloc, hub, root, net, spawner, gate, asked.order)
 }
 
 // Serves what the words ask for, by a hub that nobody joined yet.
@@ -75,10 +78,10 @@ fn serve_by<R: Wait, N: Net, W: Spawner<LinkJob<N::In, N::Out, G>>, G: Gate + Dr
     requires new { root.old ≡
         fresh_seat (arc_value hub.now).turn 0 (Some (arc_value hub.now).limits) [] }
     ensures law { ServerLaw (asked' asked.now)
-        (sides (N.opened net.old) (N.links net.old) (N.fault_count net.old)
+        (sides (N.opened net.old) (N.listens net.old) (N.links net.old) (N.fault_count net.old)
         (W.started spawner.old) (W.reports spawner.old) (W.before_start spawner.old)
         (W.refusal_count spawner.old) (K.held output.old) (K.fault_count output.old))
-        (sides (N.opened net.new) (N.links net.new) (N.fault_count net.new)
+        (sides (N.opened net.new) (N.listens net.new) (N.links net.new) (N.fault_count net.new)
         (W.started spawner.new) (W.reports spawner.new) (W.before_start spawner.new)
         (W.refusal_count spawner.new) (K.held output.new) (K.fault_count output.new)) result }
 {
@@ -112,10 +115,10 @@ fn serve<R: Wait, N: Net, W: Spawner<LinkJob<N::In, N::Out, G>>, G: Gate + Drop,
     ensures law { ((result ≡ ServeStatus.NoMemory) × (net.new ≡ net.old)
         × (spawner.new ≡ spawner.old) × (output.new ≡ output.old))
         ⊎ ServerLaw (asked' asked.now)
-        (sides (N.opened net.old) (N.links net.old) (N.fault_count net.old)
+        (sides (N.opened net.old) (N.listens net.old) (N.links net.old) (N.fault_count net.old)
         (W.started spawner.old) (W.reports spawner.old) (W.before_start spawner.old)
         (W.refusal_count spawner.old) (K.held output.old) (K.fault_count output.old))
-        (sides (N.opened net.new) (N.links net.new) (N.fault_count net.new)
+        (sides (N.opened net.new) (N.listens net.new) (N.links net.new) (N.fault_count net.new)
         (W.started spawner.new) (W.reports spawner.new) (W.before_start spawner.new)
         (W.refusal_count spawner.new) (K.held output.new) (K.fault_count output.new)) result }
 {
@@ -160,10 +163,10 @@ pub fn run_serve<R: Wait, N: Net, W: Spawner<LinkJob<N::In, N::Out, G>>, G: Gate
         ((result ≡ ServeStatus.NoMemory) × (net.new ≡ net.old)
         × (spawner.new ≡ spawner.old) × (output.new ≡ output.old))
         ⊎ ServerLaw asked
-        (sides (N.opened net.old) (N.links net.old) (N.fault_count net.old)
+        (sides (N.opened net.old) (N.listens net.old) (N.links net.old) (N.fault_count net.old)
         (W.started spawner.old) (W.reports spawner.old) (W.before_start spawner.old)
         (W.refusal_count spawner.old) (K.held output.old) (K.fault_count output.old))
-        (sides (N.opened net.new) (N.links net.new) (N.fault_count net.new)
+        (sides (N.opened net.new) (N.listens net.new) (N.links net.new) (N.fault_count net.new)
         (W.started spawner.new) (W.reports spawner.new) (W.before_start spawner.new)
         (W.refusal_count spawner.new) (K.held output.new) (K.fault_count output.new)) result) }
 {

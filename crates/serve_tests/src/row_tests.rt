@@ -4,7 +4,7 @@ use crate::gates::{HoldsFirst, Open};
 use crate::links::{link, net_of, serve, sink, words};
 use crate::live_net::{LiveNet, LiveSink, LiveSource, Shared};
 use link_jobs::LinkJob;
-use link_nets::{Door, MemIn, MemLink, MemNet, MemOut, Net};
+use link_nets::{Door, MemIn, MemLink, MemNet, MemOut};
 use serve_run::{ServeStatus, run_serve};
 use std::alloc::{AllocError, Global};
 use std::process::Abort;
@@ -141,30 +141,9 @@ fn serve_shared<R: Abort + Threads + Wait + Copy + Send + Sync + 'static>(
     shared: &Arc<Shared, Global>,
 ) -> Result<(), Fail> {
     let mut net = LiveNet::new(alloc, &REGISTRY, shared)?;
-    serve_strictly(rt, alloc, gate, &mut net)
-}
-
-fn serve_strictly<R: Abort + Threads + Wait + Copy + Send + Sync + 'static>(
-    rt: R,
-    alloc: Global,
-    gate: &Arc<Open, Global>,
-    net: &mut LiveNet,
-) -> Result<(), Fail> {
     let mut output = sink(alloc, &[])?;
     let line = "serve --app a --method m --shell s --order a";
-    serve_links(rt, alloc, net, gate, line, &mut output)
-}
-
-// The three doors open before the first link is accepted, and each once: any other call fails.
-#[test]
-fn doors_open_first(rt: HostRuntime) -> Result<(), Fail> {
-    let alloc = rt.alloc();
-    let gate = Arc::new(alloc, Open)?;
-    let shared = Arc::new(alloc, Shared::new())?;
-    let mut net = LiveNet::new(alloc, &REGISTRY, &shared)?;
-    serve_strictly(rt, alloc, &gate, &mut net)?;
-    equal(&rt, net.faults(), 0);
-    Ok(())
+    serve_links(rt, alloc, &mut net, gate, line, &mut output)
 }
 
 // A writer runs beside its reader: the link ends only once its own sink has gained bytes.

@@ -3,6 +3,7 @@ use crate::equal::equal;
 use crate::gates::Open;
 use crate::links::{replay, sink, told_line, words};
 use link_jobs::LinkJob;
+use link_nets::{Door, Net as Doors};
 use serve_run::{ServeStatus, run_serve};
 use std::alloc::{AllocError, Global};
 use std::fs::{File, Files};
@@ -183,9 +184,9 @@ pub(crate) fn tells_app<R: Abort>(
     Ok(())
 }
 
-// Three doors, each at its own path: an application's, a method's and a shell's bytes go over real
-// sockets. A socket file that nobody listens at is taken away before, and each is gone at the end. The
-// session that was recorded replays to what the application got.
+// Three doors, each at its own path, where none is opened again: an application's, a method's and a
+// shell's bytes go over real sockets. A socket file that nobody listens at is taken away before, and
+// each is gone at the end. The session that was recorded replays to what the application got.
 #[test]
 fn three_doors(rt: HostRuntime) -> Result<(), Fail> {
     let alloc = rt.alloc();
@@ -197,6 +198,7 @@ fn three_doors(rt: HostRuntime) -> Result<(), Fail> {
     let answers = talking.join(&rt)?;
     are_served(&rt, status, &answers);
     is_private(&rt)?;
+    assert!(rt; net.listen(Door::App, "again.sock").is_err());
     drop(net);
     are_gone(&rt);
     has_parts(&rt, output.held());

@@ -27,6 +27,8 @@ impl<J: Job, H: Running<J>, R, F: Fn(J) -> Result<H, J>> ThreadSpawner<J, H, R, 
         ensures given { result.given.items ≡ [] }
         ensures running { result.running.items ≡ [] }
         ensures begin { result.begin ≡ begin }
+        ensures no_refusal_yet { result.refusals ≡ 0 }
+        ensures none_before { result.before_start ≡ 0 }
     {
         ThreadSpawner {
             rt,

@@ -1,11 +1,13 @@
 //! Unix listeners as a net.
-ghost use Rattle.std.specs.Prelude.{◌≡◌, ◌≤◌, [], None, IsErr, IfOk, false};
+ghost use Rattle.std.specs.Prelude.{◌≡◌, ◌≤◌, [], ◌∷◌, None, IsErr, IfOk, false, length};
 ghost use Rattle.wio_core.specs.Io.{raised};
+ghost use Rattle.unix_links.specs.Opened.{is_open};
 
 use crate::open_door::OpenDoor;
 use crate::unix_sink::UnixSink;
 use crate::unix_source::UnixSource;
 use link_nets::{Door, LinkSink, LinkSource, Net};
+use long_list::Past;
 use std::alloc::Global;
 use std::fs::{File, Files};
 use std::time::Duration;
@@ -24,6 +26,8 @@ pub struct UnixNet<R: Files<File = File> + Copy> {
     app: Option<OpenDoor<R>>,
     method: Option<OpenDoor<R>>,
     shell: Option<OpenDoor<R>>,
+    // Contracts alone see it.
+    listens: Past<(Door, u64)>,
     links: Vec<Door>,
     faults: u64,
 }
@@ -34,6 +38,7 @@ impl<R: Files<File = File> + net::Net + Copy> UnixNet<R> {
         ensures app_is_shut { ⟦<UnixNet<R> as Net>⟧.opened result Door.App ≡ false }
         ensures method_is_shut { ⟦<UnixNet<R> as Net>⟧.opened result Door.Method ≡ false }
         ensures shell_is_shut { ⟦<UnixNet<R> as Net>⟧.opened result Door.Shell ≡ false }
+        ensures no_listen_yet { ⟦<UnixNet<R> as Net>⟧.listens result ≡ [] }
         ensures no_link_yet { ⟦<UnixNet<R> as Net>⟧.links result ≡ [] }
         ensures no_fault_yet { ⟦<UnixNet<R> as Net>⟧.fault_count result ≡ 0 }
     {
@@ -43,6 +48,7 @@ impl<R: Files<File = File> + net::Net + Copy> UnixNet<R> {
             app: None,
             method: None,
             shell: None,
+            listens: Past::new(),
             links: Vec::new(alloc),
             faults: 0,
         }
@@ -50,6 +56,27 @@ impl<R: Files<File = File> + net::Net + Copy> UnixNet<R> {
 }
 
 impl<R: Files<File = File> + Copy> UnixNet<R> {
+    // Whether the door is open.
+    fn has_open(&self, door: Door) -> bool
+        ensures { result ≡ is_open self.now.app self.now.method self.now.shell door }
+    {
+        match door {
+            Door::App => self.app.is_some(),
+            Door::Method => self.method.is_some(),
+            Door::Shell => self.shell.is_some(),
+        }
+    }
+
+    // Notes for contracts that the door was opened.
+    fn note(&mut self, door: Door)
+        ensures { self.new ≡ record self.old {
+          listens = (door, length self.old.links.items) ∷ self.old.listens;
+        } }
+    {
+        let listens = std::mem::replace(&mut self.listens, Past::new());
+        self.listens = listens.with(&(door, self.links.len() as u64));
+    }
+
     fn fault<T>(&mut self) -> Result<T, Failed>
         ensures err { IsErr result }
         ensures counted { self.new ≡ record self.old { faults = raised self.old.faults } }
@@ -84,22 +111,27 @@ fn accept_link<R: Files<File = File> + Copy>(
 }
 
 impl<R: Files<File = File> + net::Net + Copy> Net for UnixNet<R> {
-    ghost use Rattle.unix_links.specs.Opened.{is_open};
-
     type In = UnixSource;
 
     type Out = UnixSink;
 
     ghost opened = { λ n d. is_open n.app n.method n.shell d };
 
+    ghost listens = { λ n. n.listens };
+
     ghost links = { λ n. n.links.items };
 
     ghost fault_count = { λ n. n.faults };
 
+    /// Fails at a door that is open.
     fn listen(&mut self, door: Door, path: &str) -> Result<(), Failed> {
+        if self.has_open(door) {
+            return self.fault();
+        }
         let Ok(opened) = OpenDoor::at(self.rt, self.alloc, path) else {
             return self.fault();
         };
+        self.note(door);
         match door {
             Door::App => self.app = Some(opened),
             Door::Method => self.method = Some(opened),

@@ -14,6 +14,7 @@ loop-letter-init g c = record {
       c.args.letters.now (length (g.N.Net.links c.args.net.now) + 1) c.requires.root;
   links = sym (append-nil (g.N.Net.links c.args.net.now));
   jobs = no_starts c.args.spawner.now (Ok tt) (λ is. absurd (cc));
+  listens = refl;
   opened = c.requires.open;
   never_falls = omega arith;
   none_failed = refl;
@@ -132,7 +133,8 @@ loop-letter-preserved g c =
           (omega arith) is i.links c.in-Ok.ensures.link;
       jobs = starts_more c.args.spawner.now c.loop-letter.spawner c.start_link.new.spawner (Ok tt) i.jobs
           c.in_default.ensures.jobs;
-      opened = λ d. c.accept.ensures.stays d (i.opened d);
+      listens = c.accept.ensures.listens ∙ i.listens;
+      opened = λ d. c.accept.ensures.doors d ∙ i.opened d;
       never_falls = (let a = i.never_falls in let b = c.accept.ensures.never_falls in omega arith);
       none_failed = c.in-Ok.ensures.no_fault ∙ i.none_failed;
     }

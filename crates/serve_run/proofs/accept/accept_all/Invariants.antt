@@ -12,6 +12,7 @@ invariant-loop-letter g l = record {
   links : g.N.Net.links l.net ≡ g.N.Net.links l.initial.net ++ take l.letter-index (doors_of l.letters);
   jobs : Starts g.W.Spawner.reports g.W.Spawner.before_start g.W.Spawner.refusal_count l.initial.spawner l.spawner
       (Ok tt);
+  listens : g.N.Net.listens l.net ≡ g.N.Net.listens l.initial.net;
   opened : (d : Door) → g.N.Net.opened l.net d ≡ true;
   never_falls : g.N.Net.fault_count l.initial.net ≤ g.N.Net.fault_count l.net;
   none_failed : g.N.Net.fault_count l.net ≡ g.N.Net.fault_count l.initial.net;

@@ -69,8 +69,8 @@ returns-clause-ended g c =
       written = r;
       recorded = l.written (g.K.Sink.held c.args.output.now) e.written;
       fault = λ fault. ⊎_elim
-          (λ first. rose_until _ _ _ (e.cause first) l.never_falls)
-          (λ later. rose_since _ _ _ e.never_falls later) (l.cause fault);
+          (λ first. rose_until _ _ _ (e.cause first.0) first.1)
+          (λ later. rose_since _ _ _ (e.no_fault later.0) later.1) (l.cause fault);
       no_fault = λ other. (l.no_fault other).1 ∙ e.no_fault (l.no_fault other).0;
       status_is = c.status_with.ensures ∙ ap (status_with r c.args.accepted) k.given.4;
     }

@@ -90,10 +90,11 @@ returns g c =
             c.args.asked.now.order.now (length (g.N.Net.links c.args.net.now) + 1) e.accepted.count
             c.serve_links-accepted.result) (sym started) e.accepted.started_are;
         all = e.accepted.all;
+        opened = e.opened;
         doors_open = e.open;
         starts = ⊎_elim (λ l. inl (f.before ∙ l)) (λ r. inr (f.before ∙ r)) e.jobs.last;
         net = e.net;
-        threads = λ why. rose_until _ _ _ (e.jobs.threads why) f.never_falls;
+        threads = λ why. rose_until _ _ _ (e.jobs.threads why) f.no_refusal;
         no_net = e.no_net;
         no_thread = λ other. f.no_refusal ∙ e.jobs.no_refusal other;
         collected = d.collected;
