@@ -1,1 +1,2 @@
 pub mod HandedBatches
+pub mod TextsFit

@@ -1,8 +1,9 @@
-//! What a seat hands out for each field, over all of its calls: the batches that are relayed to it.
-//! The body does nothing: the law is the contract.
+//! What a seat hands out for each field, over all of its calls: the batches that are relayed to it;
+//! and how long the texts are. The bodies do nothing: the laws are the contracts.
 #![tactic(auto)]
 
 ghost use Rattle.handed_law.specs.HandedBatches.{HandedBatches};
+ghost use Rattle.handed_law.specs.TextsFit.{HandedTextsFit};
 
 /// The promise, for who embeds a seat. Of all events that a seat handed out and that wait there, those
 /// that edit a field's text, and the dones that end batches (`zwp_text_input_v3.delete_surrounding_text`,
@@ -11,4 +12,12 @@ ghost use Rattle.handed_law.specs.HandedBatches.{HandedBatches};
 #[tactic(auto, using(crate::proofs::HandedBatches::handed))]
 pub fn handed_batches()
     ensures { HandedBatches }
+{}
+
+/// The text of each event that a seat hands out has at most 4,083 bytes, where each act was one
+/// whose texts fit a message, as those that a seat takes are. A string that a method commits may
+/// have so many; a preedit and a surrounding text have fewer.
+#[tactic(auto, using(crate::proofs::TextsFit::handed_fit))]
+pub fn handed_texts_fit()
+    ensures { HandedTextsFit }
 {}
