@@ -1,0 +1,3 @@
+pub mod EndsFewer
+pub mod LinesHold
+pub mod SessionsHeld
