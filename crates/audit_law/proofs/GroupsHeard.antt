@@ -53,7 +53,7 @@ first_message m more is =
     tells.0
     ∙ ap₂ (λ (a b : List ℕ). a ∷ messages b) (take_at m more (size_of m) is.1) (drop_at m more (size_of m) is.1)
 
-no_messages : messages [] ≡ []
+pub no_messages : messages [] ≡ []
 unfolding messages
 no_messages = refl
 
@@ -288,7 +288,7 @@ nothing_put capacity e older p (Some f) q = by (made_as (past_of (e ∷ older)).
 
 -- ---- all entries
 
-groups-append : (xs ys : List FieldGroup) → groups_heard (xs ++ ys) ≡ groups_heard xs ++ groups_heard ys
+pub groups-append : (xs ys : List FieldGroup) → groups_heard (xs ++ ys) ≡ groups_heard xs ++ groups_heard ys
 groups-append [] ys = refl
 groups-append (g ∷ xs) ys =
     ap (λ (l : List Heard). group_heard g.id g.group ++ l) (groups-append xs ys)

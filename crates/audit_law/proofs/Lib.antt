@@ -2,4 +2,9 @@ pub mod AppsHaveFields
 pub mod OthersSayNothing
 pub mod PutGroupsQueued
 pub mod GroupsHeard
+pub mod LinesGrow
 pub mod SentIsFront
+pub mod DonesEndGroups
+pub mod SeenOwed
+pub mod LogHolds
+pub mod YesOwed

@@ -28,7 +28,7 @@ use Rattle.audit_law.specs.FieldGroups.{FieldGroup, group_to, group_now, groups_
 
 -- ---- the groups of one field
 
-field-append : (f : ℕ) (xs ys : List FieldGroup) → of_field f (xs ++ ys) ≡ of_field f xs ++ of_field f ys
+pub field-append : (f : ℕ) (xs ys : List FieldGroup) → of_field f (xs ++ ys) ≡ of_field f xs ++ of_field f ys
 field-append f [] ys = refl
 field-append f (g ∷ xs) ys = by (g.field == f) (field-append f xs ys)
   where

@@ -4,6 +4,7 @@
 
 ghost use Rattle.audit_law.specs.OwedGroups.{GroupsAreQueued, GroupsAreWhole, OwedAreGroups};
 ghost use Rattle.audit_law.specs.SeenOwed.{SeenIsOwed};
+ghost use Rattle.audit_law.specs.Yes.{YesIsOwed};
 
 /// What a journal of entries that a program can hold owes an application: its whole field messages
 /// are the groups that were put for its fields, one behind the other. Each group is whole, its one
@@ -14,9 +15,15 @@ pub fn owed_are_groups()
     ensures queued { GroupsAreQueued }
 {}
 
-/// Where an audit stands after lines, all that was sent to an application since it joined is a
-/// front of those groups: so each done that was counted stands at the end of a whole group that was
-/// queued for a field, and what was seen of each field is a front of what was queued for it.
+/// Where each line of an audit is as it should be, what was sent to an application since it joined
+/// is a front of those groups: each done ends a whole group that was queued for a field, and the
+/// groups seen of each field are the first that were queued for it.
 pub fn seen_is_owed()
     ensures { SeenIsOwed }
+{}
+
+/// So it is of each input for which `audit` says yes, whatever its bytes are: its lines are as they
+/// should be, and the count that is written is that of their dones.
+pub fn yes_is_owed()
+    ensures { YesIsOwed }
 {}

@@ -1,4 +1,4 @@
-use Rattle.audit_law.proofs.SentIsFront.{seen_owed}
+use Rattle.audit_law.proofs.SeenOwed.{seen_owed}
 use Rattle.audit_law.proofs.seen_is_owed.Goals as goal
 
 pub returns : goal.returns
