@@ -87,7 +87,8 @@ pub gives_none : (q : ℕ) (given : Stamp) (bytes left : List ℕ) (b : Broker) 
 gives_none q given bytes left b i =
     (ap (λ es. led q given es b) (i.steps q), inl (i.all_left ∙ sym i.all_behind))
 
-pub gives_bad : (q : ℕ) (given : Stamp) (head bytes left : List ℕ) (b after : Broker) → IsLast head bytes →
+pub gives_bad : {waits : List ℕ} (q : ℕ) (given : Stamp) (head bytes left : List ℕ) (b after : Broker) →
+    IsLast head bytes waits →
     Leads q given (entries.BadSize q head ∷ []) b after → Leads q given (steps_in q bytes) b after × Leaves q bytes left
 gives_bad q given head bytes left b after i p =
     (ap (λ es. led q given es b) (i.steps q) ∙ p, inr ([], head, i.steps q))

@@ -110,8 +110,8 @@ way-ends q first a b bytes left w i = record {
   good = ap bad_size_at i.all_left ∙ i.good;
 }
 
-pub way-bad : (q : ℕ) (first : List ℕ) (a b c : PeerPass) (bytes head : List ℕ)
-    → b.peer ≡ q → OnWay q first bytes a b → IsLast head bytes
+pub way-bad : {left : List ℕ} (q : ℕ) (first : List ℕ) (a b c : PeerPass) (bytes head : List ℕ)
+    → b.peer ≡ q → OnWay q first bytes a b → IsLast head bytes left
     → entries_by c.seat ≡ entries_by b.seat ++ entries.BadSize b.peer head ∷ []
     → entries_by c.seat ≡ entries_by a.seat ++ steps_in q first
 way-bad q first a b c bytes head peer w l made =
@@ -122,8 +122,8 @@ way-bad q first a b c bytes head peer w l made =
     ∙ ap (λ (es : List Entry). entries_by a.seat ++ es)
     (sym (w.steps ∙ ap (λ (es : List Entry). w.made ++ es) (l.steps q)))
 
-pub way-bad-stops : (limits : Limits) (q : ℕ) (first : List ℕ) (a b c : PeerPass) (bytes head : List ℕ) (end : ReadEnd)
-    → b.peer ≡ q → OnWay q first bytes a b → IsLast head bytes
+pub way-bad-stops : {left : List ℕ} (limits : Limits) (q : ℕ) (first : List ℕ) (a b c : PeerPass)
+    (bytes head : List ℕ) (end : ReadEnd) → b.peer ≡ q → OnWay q first bytes a b → IsLast head bytes left
     → MadeFirst limits b c (entries.BadSize b.peer head ∷ []) end → MadeFirst limits a c (steps_in q first) end
 way-bad-stops limits q first a b c bytes head end peer w l m =
     first-of limits a b c w.made (entries.BadSize q head ∷ []) [] (steps_in q first) end w.entries

@@ -31,5 +31,6 @@ held_step q id opcode used body bytes piece new step is i o b h =
 pub nothing_yet : (q : ℕ) (bytes left : List ℕ) → cuts.IsUnfinished bytes left → IsUnfinished q bytes left
 nothing_yet q bytes left f = record { steps = f.steps q; all_behind = f.all_behind; all_left = f.all_left }
 
-pub last_step : (q : ℕ) (head bytes : List ℕ) → cuts.IsLast head bytes → IsLast q bytes (peers.BadSize head)
+pub last_step : {left : List ℕ} (q : ℕ) (head bytes : List ℕ) → cuts.IsLast head bytes left →
+    IsLast q bytes (peers.BadSize head)
 last_step q head bytes f = record { head = head; is = refl; valid = f.valid; steps = f.steps q }

@@ -114,10 +114,12 @@ bad_size_steps q bytes bad =
     let none = bad_none bytes (long, λ good. bad.1 (subst IsGoodSize same good)) in
     steps_bad q (size_of bytes) bytes none.0 none.1
 
-pub found_bad_size : (bytes head : List ℕ) → IsBad (take 8 bytes) → head ≡ take 8 bytes → IsLast head bytes
-found_bad_size bytes head bad is = record {
+pub found_bad_size : (bytes head left : List ℕ) → IsBad (take 8 bytes) → head ≡ take 8 bytes → left ≡ head →
+    IsLast head bytes left
+found_bad_size bytes head left bad is same = record {
   valid = subst IsBad (sym is) bad;
   steps = λ q. bad_size_steps q bytes bad ∙ ap (λ (h : List ℕ). entries.BadSize q h ∷ []) (sym is);
+  stays = same;
 }
 
 -- as an assembler finds it
@@ -138,5 +140,7 @@ pub fed_nothing : (old new : Assembly) (piece : List ℕ) → Feeds old piece fe
 fed_nothing old new piece f = found_nothing (begun old ++ piece) (begun new) f.0 (ap begun f.1)
 
 pub fed_bad_size : (n : ℕ) (old new : Assembly) (piece head : List ℕ) → Feeds old piece (fed.BadSize n) new →
-    head ≡ bytes_of new → IsLast head (begun old ++ piece)
-fed_bad_size n old new piece head f h = found_bad_size (begun old ++ piece) head f.0 (h ∙ ap bytes_of f.2)
+    head ≡ bytes_of new → IsLast head (begun old ++ piece) (begun new)
+fed_bad_size n old new piece head f h =
+    let is : head ≡ take 8 (begun old ++ piece) = h ∙ ap bytes_of f.2 in
+    found_bad_size (begun old ++ piece) head (begun new) f.0 is (ap begun f.2 ∙ sym is)

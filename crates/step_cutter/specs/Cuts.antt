@@ -27,10 +27,11 @@ pub record IsUnfinished (bytes left : List ℕ) : Type 0 where
   pub all_left : left ≡ bytes
   pub good : bad_size_at bytes ≡ None
 
--- a header with a bad size, the last step of bytes
-pub record IsLast (head bytes : List ℕ) : Type 0 where
+-- a header with a bad size, the last step of bytes: it stays what waits
+pub record IsLast (head bytes left : List ℕ) : Type 0 where
   pub valid : IsBad head
   pub steps : (q : ℕ) → steps_in q bytes ≡ entries.BadSize q head ∷ []
+  pub stays : left ≡ head
 
 -- the message that is held is the first of the bytes
 abbrev pub IsHeld : Assembly → (bytes piece : List ℕ) → ℕ → Type 0
@@ -43,4 +44,4 @@ Cuts old piece (cut.Message raw used) new =
     IsFirst raw.id raw.opcode raw.body.now (begun old ++ piece) piece used (begun new)
 Cuts old piece (cut.Held used) new = IsHeld new (begun old ++ piece) piece used
 Cuts old piece cut.Nothing new = IsUnfinished (begun old ++ piece) (begun new)
-Cuts old piece (cut.BadSize head) new = IsLast head (begun old ++ piece)
+Cuts old piece (cut.BadSize head) new = IsLast head (begun old ++ piece) (begun new)

@@ -18,6 +18,6 @@ returns-in-Need c =
 
 pub returns-in-BadSize : goal.returns-in-BadSize
 returns-in-BadSize c =
-    subst (λ (a : Assembly). IsLast c.head.result (begun a ++ c.args.piece.now)) c.self.view_is
+    subst (λ (a : Assembly). IsLast c.head.result (begun a ++ c.args.piece.now) (begun c.feed.new.self)) c.self.view_is
     (fed_bad_size c.in-BadSize.field-0 c.self.inside.assembler c.feed.new.self c.args.piece.now c.head.result
     c.in-BadSize.ensures.one c.head.ensures.header)
