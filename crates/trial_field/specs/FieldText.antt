@@ -2,7 +2,10 @@
 use Rattle.std.specs.Prelude.{◌≡◌, ℕ, ◌+◌, ◌-◌, Bool, ◌&&◌, List, [], ◌∷◌, ◌++◌, length, take, drop, nat_le, if◌then◌else◌}
 use Rattle.trial_field.specs.Characters.{first_char, last_char, is_boundary}
 use Rattle.trial_field.specs.Log.{Batch, Entry, inserted, went_left, went_right, rubbed, done}
-use Rattle.trial_field.specs.declared.field.TheConstants.{MAX_TEXT}
+
+-- the most bytes of a text
+abbrev pub text_limit : ℕ
+text_limit = 65536
 
 -- the text before the cursor, the text behind it, and the preedit
 pub record FieldText : Type 0 where
@@ -21,7 +24,7 @@ IsSamePlace old new = (whole new ≡ whole old) × (length new.before ≡ length
 -- the limit
 abbrev pub insert : List ℕ → FieldText → FieldText
 insert text t =
-    if nat_le (length (whole t) + length text) MAX_TEXT then record t { before = t.before ++ text }
+    if nat_le (length (whole t) + length text) text_limit then record t { before = t.before ++ text }
     else t
 
 abbrev pub without_last : List ℕ → List ℕ

@@ -4,7 +4,7 @@ ghost use Rattle.std.specs.Prelude.{take, drop, length, IfOk, IsCharBoundary, st
 ghost use Rattle.std.specs.Prelude.{string_len, string_capacity};
 ghost use Rattle.trial_field.specs.Log.{Entry, done, entry_of, batch_of, IsBatch, HasNoZero};
 ghost use Rattle.trial_field.specs.Log.{IsEdit};
-ghost use Rattle.trial_field.specs.FieldText.{FieldText, whole, after, text_of, insert, left};
+ghost use Rattle.trial_field.specs.FieldText.{FieldText, text_limit, whole, after, text_of, insert, left};
 ghost use Rattle.trial_field.specs.FieldText.{right, rub, delete, IsSamePlace};
 ghost use Rattle.trial_field.specs.Window.{IsWindow};
 
@@ -90,7 +90,7 @@ impl TrialField {
     /// The whole text, at most [`MAX_TEXT`] bytes with no zero byte.
     pub fn text(&self) -> &str
         ensures value { result.now ≡ whole self.now }
-        ensures limit { length result.now ≤ MAX_TEXT }
+        ensures limit { length result.now ≤ text_limit }
         ensures clean { HasNoZero result.now }
     {
         &self.text

@@ -7,8 +7,7 @@ use Rattle.wl_proto.specs.declared.event.Event.{Event}
 use Rattle.wl_proto.specs.declared.event.Event.TheVariants as events
 use Rattle.trial_field.specs.Characters.{goes_on, first_char, last_char}
 use Rattle.trial_field.specs.Log.{Batch, Entry, inserted, went_left, went_right, rubbed, done}
-use Rattle.trial_field.specs.FieldText.{FieldText, whole, insert, can_delete, delete, edit_by, after}
-use Rattle.trial_field.specs.declared.field.TheConstants.{MAX_TEXT}
+use Rattle.trial_field.specs.FieldText.{FieldText, text_limit, whole, insert, can_delete, delete, edit_by, after}
 use Rattle.client_side.specs.Messages.{Sent, spelled}
 use Rattle.client_side.specs.Happenings.{Happening, edited, batch, entered, left as went_out}
 use Rattle.client_side.specs.Window.{window_begin, window_of}
@@ -43,7 +42,7 @@ where_bytes false s t h k = k
 
 insert_bytes : (text : List ℕ) (t : FieldText) → EachByte text → AreTextBytes t → AreTextBytes (insert text t)
 insert_bytes text t e h =
-    where_bytes (nat_le (length (whole t) + length text) MAX_TEXT) (record t { before = t.before ++ text }) t
+    where_bytes (nat_le (length (whole t) + length text) text_limit) (record t { before = t.before ++ text }) t
     (both_bytes t.before text h.0 e, h.1) h
 
 delete_bytes : (before behind : ℕ) (t : FieldText) → AreTextBytes t → AreTextBytes (delete before behind t)
