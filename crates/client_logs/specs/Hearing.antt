@@ -22,7 +22,7 @@ pub record Hears {S X : Type 0} (objects : List Interface) (step : Step S) (logg
   pub state-is : new ≡ after_all step events old
   pub log-is : logging events old log ≡ missing ++ log_after
 
--- they are events and a part of one, and the log has all that they make happen
+-- they are events and a part of a message, and the log has all that they make happen
 pub record Accepts {S X : Type 0} (objects : List Interface) (step : Step S)
     (logging : Logging S X)
     (old new : Client S) (log log_after : List X) (piece : List ℕ)

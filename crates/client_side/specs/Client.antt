@@ -39,7 +39,7 @@ pub record Takes {S : Type 0} (objects : List Interface) (step : Step S) (old ne
   pub front : bytes ≡ joined messages ++ rest
   pub state-is : new ≡ after_all step events old
 
--- the bytes are events and a part of one
+-- the bytes are events and a part of a message
 pub record Accepts {S : Type 0} (objects : List Interface) (step : Step S) (old new : Client S)
     (piece : List ℕ)
     : Type 0 where

@@ -38,11 +38,14 @@ given_sent (Some batch) dones = batch_sent (batch_with batch.0 batch.1) dones
 abbrev pub press_sent : {S : Type 0} → Meanings S → ℕ → Typist S → List Sent
 press_sent means key t = given_sent (means.gives key t.typing) t.dones
 
--- a key counts when it is pressed, and a done is counted
+-- a key counts when it is pressed; a done is counted, and what types takes it, as any other event
 abbrev pub typist_after : {S : Type 0} → Meanings S → Happening → Typist S → Typist S
 typist_after means (came (events.Key serial time key state)) t =
     if state == 1 then record t { typing = means.pressed key t.typing } else t
-typist_after means (came events.InputMethodDone) t = record t { dones = (t.dones + 1) % 2 ^ 32 }
+typist_after means (came events.InputMethodDone) t = record {
+  typing = means.after_event events.InputMethodDone t.typing;
+  dones = (t.dones + 1) % 2 ^ 32;
+}
 typist_after means (came event) t = record t { typing = means.after_event event t.typing }
 typist_after means (committed edits) t = t
 

@@ -74,7 +74,7 @@ impl FieldClient {
     /// Takes bytes that the broker sent, however they are cut: the events that are whole now are
     /// taken, and a cut one waits for its rest.
     ///
-    /// `BadEvent` where the bytes so far aren't events of the client's objects and a part of one;
+    /// `BadEvent` where the bytes so far aren't events of the client's objects and a part of a message;
     /// what stood before is taken, the bytes stay, and from then on each piece is answered so. After
     /// `NoMemory` the client is as before.
     pub fn receive(&mut self, piece: &[u8]) -> Result<(), ClientFault>

@@ -80,7 +80,7 @@ impl<T: Typist> MethodClient<T> {
     /// taken, and a cut one waits for its rest. Each press of a key commits the batch that the typist
     /// gives.
     ///
-    /// `BadEvent` where the bytes so far aren't events of the client's objects and a part of one;
+    /// `BadEvent` where the bytes so far aren't events of the client's objects and a part of a message;
     /// what stood before is taken, the bytes stay, and from then on each piece is answered so. A
     /// client is given no descriptors, so a keymap is such an event. After `NoMemory` the client is
     /// as before.

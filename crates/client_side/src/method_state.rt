@@ -126,7 +126,10 @@ impl<T: Typist> MethodState<T> {
                     press(&mut self.typist, &mut self.out, self.dones, *key);
                 }
             }
-            Event::InputMethodDone => self.dones = self.dones.wrapping_add(1),
+            Event::InputMethodDone => {
+                self.dones = self.dones.wrapping_add(1);
+                self.typist.event(event);
+            }
             _ => self.typist.event(event),
         }
     }

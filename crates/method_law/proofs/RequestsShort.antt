@@ -71,7 +71,7 @@ typist_waits (came (events.Key serial time key state)) t k = by (state == 1)
     by : (b : Bool) → KeysWait (if b then record t { typing = pressed key t.typing } else t).typing
     by true = pressed_waits key t.typing k
     by false = k
-typist_waits (came events.InputMethodDone) t k = k
+typist_waits (came events.InputMethodDone) t k = event_waits events.InputMethodDone t.typing k
 typist_waits (came event) t k = event_waits event t.typing k
 typist_waits (committed b) t k = k
 

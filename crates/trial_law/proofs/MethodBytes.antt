@@ -68,7 +68,7 @@ typist_types (came (events.Key serial time key state)) t k = by (state == 1)
     by : (b : Bool) → TypesBytes (if b then record t { typing = pressed key t.typing } else t).typing
     by true = pressed_types key t.typing k
     by false = k
-typist_types (came events.InputMethodDone) t k = k
+typist_types (came events.InputMethodDone) t k = event_types events.InputMethodDone t.typing k
 typist_types (came event) t k = event_types event t.typing k
 typist_types (committed b) t k = k
 
