@@ -5,6 +5,7 @@ use Rattle.seat_steps.specs.declared.stamp.Stamp.{Stamp}
 use Rattle.seat_steps.specs.Ranges.{store_limit}
 use Rattle.session_text.specs.declared.line.SessionLine.{SessionLine}
 use Rattle.broker_model.specs.declared.journal.Entry.{Entry}
+use Rattle.broker_model.specs.declared.journal.Kept.{Kept}
 use Rattle.broker_model.specs.Ids.{Joined, peer_at}
 use Rattle.broker_model.specs.Resolve.{past_of}
 use Rattle.broker_core.specs.Broker.{kept_in}
@@ -226,6 +227,26 @@ answered_ends line stamp said was a player g r e view is answer l =
     (subst (λ (y : AuditLine). IfErr (answer_of r) (λ why. (lines : List AuditLine) → Stands lines a →
     IsEnd y lines why)) (sym is)
     (step_by_ends stamp said a player g r (subst (λ (b : Auditing). LedTo said b r player g) view l)))
+
+-- where the journal was full, it is the one of the lines
+full_at : (lines : List AuditLine) (stamp : Stamp) (said : SessionLine) (kept : Kept) (a : Auditing)
+    (player : Playing) (g : Gathering) (r : Result (Unit {0}) Stop) → LedTo said a r player g →
+    answer_of r ≡ Err (ends.JournalFull kept) → Stands lines a →
+    player.play.journal ≡ journal_of (Step stamp said ∷ lines)
+full_at lines stamp said kept a player g (Ok done) l e s = cc
+full_at lines stamp said kept a player g (Err stops.NoMemory) l e s = cc
+full_at lines stamp said kept a player g (Err (stops.Full most)) l e s =
+    (l (λ q. sent lines q) s.goes).2
+    ∙ sym (ap (λ (p : Played). p.play.journal) (step_at lines stamp said a s))
+
+pub answered_full : (line : AuditLine) (stamp : Stamp) (said : SessionLine) (was a : Auditing) (player : Playing)
+    (g : Gathering) (r : Result (Unit {0}) Stop) (e : Result (Unit {0}) AuditEnd) (kept : Kept)
+    (lines : List AuditLine) → was ≡ a → line ≡ Step stamp said → e ≡ answer_of r → LedTo said was r player g →
+    e ≡ Err (ends.JournalFull kept) → Stands lines a → player.play.journal ≡ journal_of (line ∷ lines)
+answered_full line stamp said was a player g r e kept lines view is answer l full s =
+    subst (λ (y : AuditLine). player.play.journal ≡ journal_of (y ∷ lines)) (sym is)
+    (full_at lines stamp said kept was player g r l (sym answer ∙ full)
+    (subst (λ (b : Auditing). Stands lines b) (sym view) s))
 
 -- what was heard of bytes that were sent
 abbrev HeardAll : ℕ → List ℕ → ℕ → Gathering → Gathering → Type 0

@@ -41,5 +41,5 @@ pub leads_not : (all : ℕ → List ℕ) (line : SessionLine) (why : Stop) (befo
 leads_not all line (stops.Full kept) before after g h o p =
     let at = subst (λ (l : Limits). IsPlayed (line_played l line before.play) (Err (stops.Full kept)) after.play)
     o.limits p in
-    (at.0, at.1)
+    (at.0, at.1, at.2)
 leads_not all line stops.NoMemory before after g h o p = tt

@@ -52,7 +52,7 @@ abbrev pub Leads : Played → (ℕ → List ℕ) → Result (Unit {0}) Stop → 
 Leads p all (Ok done) player g =
     (p.is_full ≡ false) × (player.play ≡ p.play) × GoesOn all player g
 Leads p all (Err (stops.Full kept)) player g =
-    (p.is_full ≡ true) × (kept ≡ kept_in p.play.journal)
+    (p.is_full ≡ true) × (kept ≡ kept_in p.play.journal) × (player.play.journal ≡ p.play.journal)
 Leads p all (Err stops.NoMemory) player g = Unit {0}
 
 -- these lines are still to be played, and lead to where the whole leads

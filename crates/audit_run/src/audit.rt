@@ -76,7 +76,8 @@ impl Audit {
     ghost use Rattle.std.specs.Prelude.{◌≡◌, ℕ, List, [], ◌∷◌, min, IfOk, IfErr, IfSome, Some};
     ghost use Rattle.std.specs.Prelude.{None, Err, OnOk, OnErr, is_some, true};
     ghost use Rattle.audit_text.specs.declared.audit_line.AuditLine.{AuditLine as Line};
-    ghost use Rattle.audit_run.specs.Judged.{dones_of, most_dones, IsAuditLine, IsFair, IsEnd};
+    ghost use Rattle.audit_run.specs.Judged.{dones_of, journal_of, most_dones, IsAuditLine, IsFair};
+    ghost use Rattle.audit_run.specs.Judged.{IsEnd};
     ghost use Rattle.audit_run.specs.Standing.{Stands};
     ghost use Rattle.session_play.specs.Playing.{IsShort};
 
@@ -129,6 +130,12 @@ impl Audit {
             Stands (line.now ∷ lines) self.new) }
         ensures end { IfErr result (λ why. (lines : List Line) → Stands lines self.old →
             IsEnd line.now lines why) }
+        ensures counted { OnErr result (self.new.dones ≡ self.old.dones) }
+        ensures no { result ≡ Err AuditEnd.No → self.old.ended ≡ None →
+            self.new ≡ record self.old { ended = Some AuditEnd.No } }
+        ensures full { (kept : Kept) (lines : List Line) →
+            result ≡ Err (AuditEnd.JournalFull kept) → Stands lines self.old →
+            self.new.player.play.journal ≡ journal_of (line.now ∷ lines) }
         ensures ended { IfErr result (λ why. self.new.ended ≡ Some why) }
         ensures again { IfSome self.old.ended (λ why. result ≡ Err why) }
         ensures stays { is_some self.old.ended ≡ true → self.new ≡ self.old }
@@ -152,6 +159,12 @@ impl Audit {
             Stands (line.now ∷ lines) self.new) }
         ensures end { IfErr result (λ why. (lines : List Line) → Stands lines self.old →
             IsEnd line.now lines why) }
+        ensures counted { OnErr result (self.new.dones ≡ self.old.dones) }
+        ensures no { result ≡ Err AuditEnd.No → self.new ≡ self.old }
+        ensures full { (kept : Kept) (lines : List Line) →
+            result ≡ Err (AuditEnd.JournalFull kept) → Stands lines self.old →
+            self.new.player.play.journal ≡ journal_of (line.now ∷ lines) }
+        ensures unended { self.new.ended ≡ self.old.ended }
     {
         match line {
             AuditLine::Step(stamp, said) => {

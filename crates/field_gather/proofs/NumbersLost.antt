@@ -18,6 +18,16 @@ lost q n (x ∷ xs) other = by (x == n) refl (lost q n xs other)
         rw (ne_eqb x q differs) rest
     by false e rest = ap (λ (b : Bool). (x == q) || b) rest
 
+-- and the one isn't
+pub none_left : (n : ℕ) (xs : List ℕ) → is_gained n (filter (λ x. not (x == n)) xs) ≡ false
+none_left n [] = refl
+none_left n (x ∷ xs) = by (x == n) refl (none_left n xs)
+  where
+    by : (b : Bool) → (x == n) ≡ b → is_gained n (filter (λ y. not (y == n)) xs) ≡ false →
+        is_gained n (if not b then x ∷ filter (λ y. not (y == n)) xs else filter (λ y. not (y == n)) xs) ≡ false
+    by true e rest = rest
+    by false e rest = rw e rest
+
 -- one more was looked at
 pub one_more : (P : List ℕ → Type 0) (xs : List ℕ) (i d x : ℕ) → i < length xs → x ≡ get_or xs i d →
     P (take i xs ++ x ∷ []) →

@@ -98,6 +98,7 @@ impl Gatherer {
     /// Nothing is stored for the peer with the number any more.
     pub fn empty(&mut self, number: u32)
         ensures sides { self.new ≡ record self.old { gained = self.new.gained } }
+        ensures gone { is_gained number self.new.gained ≡ false }
         ensures others { (q : ℕ) → q ≢ number →
             is_gained q self.new.gained ≡ is_gained q self.old.gained }
     {

@@ -1,7 +1,7 @@
 use Rattle.std.proofs.Common.{arith, subst}
 use Rattle.field_streams.specs.declared.comparison.HearEnd.{HearEnd}
 use Rattle.field_gather.specs.Hearing.{IsUnlike}
-use Rattle.audit_run.proofs.LinesJudged.{answered_fair, answered_stands, answered_ends, heard_fair, heard_stands, heard_ends}
+use Rattle.audit_run.proofs.LinesJudged.{answered_fair, answered_stands, answered_ends, answered_full, heard_fair, heard_stands, heard_ends}
 use Rattle.audit_run.proofs.audit.Audit.judge.Goals as goal
 
 pub returns-in-Step-clause-fair : goal.returns-in-Step-clause-fair
@@ -21,6 +21,12 @@ returns-in-Step-clause-end c =
     answered_ends c.args.line.now c.in-Step.stamp c.in-Step.said _ c.args.self.now c.play_step-played.new.player
     c.play_step-played.new.gatherer c.play_step-played.result c.answer.result c.self.view_is c.in-Step.is
     c.answer.ensures c.play_step-played.ensures
+
+pub returns-in-Step-clause-full : goal.returns-in-Step-clause-full
+returns-in-Step-clause-full c = λ kept lines full s.
+    answered_full c.args.line.now c.in-Step.stamp c.in-Step.said _ c.args.self.now c.play_step-played.new.player
+    c.play_step-played.new.gatherer c.play_step-played.result c.answer.result kept lines c.self.view_is c.in-Step.is
+    c.answer.ensures c.play_step-played.ensures full s
 
 pub returns-in-Ok-clause-fair : goal.returns-in-Ok-clause-fair
 returns-in-Ok-clause-fair c =

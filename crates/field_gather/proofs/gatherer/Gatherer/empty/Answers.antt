@@ -1,7 +1,11 @@
 use Rattle.std.proofs.Common.{ℕ, List, ap, ◌∙◌}
 use Rattle.field_gather.specs.Gathering.{Gathering, is_gained}
-use Rattle.field_gather.proofs.NumbersLost.{lost}
+use Rattle.field_gather.proofs.NumbersLost.{lost, none_left}
 use Rattle.field_gather.proofs.gatherer.Gatherer.empty.Goals as goal
+
+pub returns-clause-gone : goal.returns-clause-gone
+returns-clause-gone c =
+    ap (λ (l : List ℕ). is_gained c.args.number l) c.lose.ensures ∙ none_left c.args.number c.self.inside.gained.items
 
 pub returns-clause-others : goal.returns-clause-others
 returns-clause-others c = λ q other.
