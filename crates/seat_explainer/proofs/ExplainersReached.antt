@@ -9,14 +9,15 @@ use Rattle.broker_model.specs.declared.journal.Entry.{Entry}
 use Rattle.broker_model.specs.Resolve.{resolve}
 use Rattle.broker_core.specs.Watched.{Watched, watched_since}
 use Rattle.seat_explainer.specs.declared.explainer.Lines.{Lines}
-use Rattle.seat_explainer.specs.Explained.{Explaining, closed, explained, IsExplained, MayExplain, IsFront}
+use Rattle.seat_explainer.specs.Explained.{Explaining, closed, explained, IsExplained, MayExplain, IsEither}
 use Rattle.seat_explainer.specs.Journals.{lines_since, at_rest}
 use Rattle.seat_explainer.proofs.LinesSince.{all_explained, since_more}
 
 -- one step, by what was answered
 pub may_explain : {T E : Type 0} (event : Watched) (before after : Explaining) (r : Result T E) →
     before.is_short ≡ false → OnOk r (after ≡ explained event before) →
-    OnErr r (IsFront after.text (explained event before).text) → (explained event before).is_short ≡ before.is_short →
+    OnErr r (IsEither after.text before.text (explained event before).text) →
+    (explained event before).is_short ≡ before.is_short →
     MayExplain before event (record after { is_short = is_err r })
 may_explain event before after (Ok x) s ok err same =
     subst (λ (b : Bool). IsExplained b false before event (record after { is_short = false })) (sym s)

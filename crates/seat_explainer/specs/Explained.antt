@@ -1,5 +1,5 @@
 -- What an explainer holds, and what it makes of each thing that it watches.
-use Rattle.std.specs.Prelude.{◌≡◌, ℕ, ◌+◌, ◌%◌, ◌^◌, List, [], ◌∷◌, ◌++◌, Bool, true, false, Option, Some, None}
+use Rattle.std.specs.Prelude.{◌≡◌, ◌⊎◌, ℕ, ◌+◌, ◌%◌, ◌^◌, List, [], ◌∷◌, ◌++◌, Bool, true, false, Option, Some, None}
 use Rattle.relay_model.specs.declared.act.Act.{Act}
 use Rattle.relay_model.specs.declared.act.Act.TheVariants.{MCommit}
 use Rattle.relay_model.specs.Idle.{history}
@@ -140,15 +140,16 @@ explained (Entered n e act log) x = opened n e act log (closed (seat (history lo
 explained (Put n q bytes tokens) x = record x { newest = put_since x.newest }
 explained _ x = x
 
--- the text begins with the front
-abbrev pub IsFront : List ℕ → List ℕ → Type 0
-IsFront front text = (rest : List ℕ) × front ++ rest ≡ text
+-- the text is as it was, or as it would be: it ends before a line
+abbrev pub IsEither : (text was would : List ℕ) → Type 0
+IsEither text was would = (text ≡ was) ⊎ (text ≡ would)
 
--- by whether it was short and is short: short, it stays so with the text that it has, which is a
--- front of what it would be
+-- by whether it was short and is short: short, it stays so with the text that it has, which ends
+-- before a line
 abbrev pub IsExplained : Bool → Bool → Explaining → Watched → Explaining → Type 0
 IsExplained true is before event after = after ≡ before
-IsExplained false true before event after = IsFront after.text (explained event before).text
+IsExplained false true before event after =
+    IsEither after.text before.text (explained event before).text
 IsExplained false false before event after = after ≡ explained event before
 
 -- which explainers may follow one that is told something

@@ -9,7 +9,7 @@ ghost use Rattle.broker_model.specs.declared.journal.Entry.{Entry};
 ghost use Rattle.broker_model.specs.Resolve.{resolve};
 ghost use Rattle.seat_objects.specs.Reached.{Reached};
 ghost use Rattle.broker_core.specs.Watched.{watched_since};
-ghost use Rattle.seat_explainer.specs.Explained.{closed, blank, line_text, opened, IsFront};
+ghost use Rattle.seat_explainer.specs.Explained.{closed, blank, line_text, opened, IsEither};
 ghost use Rattle.seat_explainer.specs.Explained.{begun_of, MayExplain};
 ghost use Rattle.seat_explainer.specs.Journals.{at_rest, lines_since};
 ghost use Rattle.seat_explainer.specs.declared.explainer.Lines.{Lines};
@@ -154,7 +154,8 @@ impl Explainer {
             OnOk result (self.new ≡ opened number entry.now act.now log
             (closed (seat (history log)) self.old)) }
         ensures err { (log : List Act) → StandsFor relay.now log →
-            OnErr result (IsFront self.new.text (closed (seat (history log)) self.old).text) }
+            OnErr result (IsEither self.new.text self.old.text
+            (closed (seat (history log)) self.old).text) }
     {
         let seat = seat_now(relay);
         self.finish(seat)?;

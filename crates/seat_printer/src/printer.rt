@@ -1,5 +1,5 @@
 //! Prints what it watches, as long as there is memory for it.
-ghost use Rattle.std.specs.Prelude.{◌≡◌, ◌++◌, [], ℕ, List, false, IfSome, IfNone, IfOk, OnOk};
+ghost use Rattle.std.specs.Prelude.{◌≡◌, ◌++◌, [], ℕ, List, true, false, IfSome, IfNone, IfOk, OnOk};
 ghost use Rattle.std.specs.Prelude.{OnErr, string_bytes};
 ghost use Rattle.broker_model.specs.declared.journal.Entry.{Entry};
 ghost use Rattle.seat_objects.specs.Reached.{Reached};
@@ -150,6 +150,7 @@ impl Printer {
         ensures front { (capacity k : ℕ) (journal : List Entry) →
             Reached MayPrint blank (watched_since capacity k journal) self.old →
             IsFront self.new.text (text_since capacity k journal) }
+        ensures stays { self.new.is_short ≡ true → self.new.text ≡ self.old.text }
     {
         if self.is_short {
             return;
