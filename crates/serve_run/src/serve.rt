@@ -1,12 +1,14 @@
 //! The server.
 ghost use Rattle.std.specs.Prelude.{◌≡◌, ◌≢◌, ◌⊎◌, ◌≤◌, ◌+◌, ◌*◌, ◌^◌, []};
-ghost use Rattle.std.specs.Prelude.{length, map, string_bytes, true, Some, None, Err, OnOk, IfSome};
+ghost use Rattle.std.specs.Prelude.{length, map, string_bytes, true, false, Some, None, Err};
+ghost use Rattle.std.specs.Prelude.{OnOk, IfSome};
 ghost use Rattle.std.specs.Arc.{arc_value};
 ghost use Rattle.wio_core.specs.Io.{Rose};
 ghost use Rattle.seat_steps.specs.Ranges.{IsLimits};
 ghost use Rattle.link_nets.specs.declared.door.Door.{Door};
 ghost use Rattle.serve_words.specs.Words as grammar;
 ghost use Rattle.serve_words.specs.Asked.{asked as asked'};
+ghost use Rattle.serve_words.specs.Shape.{is_serve};
 ghost use Rattle.serve_run.specs.Opened.{AreOpened};
 ghost use Rattle.serve_run.specs.Started.{IsRootOf, AreAccepted, Starts};
 ghost use Rattle.serve_run.specs.ServerLaw.{ServerLaw, sides};
@@ -154,6 +156,8 @@ pub fn run_serve<R: Wait, N: Net, W: Spawner<LinkJob<N::In, N::Out, G>>, G: Gate
     // then nothing is done.
     ensures bad_words { result ≡ ServeStatus.BadWords →
         grammar.serve_of (map string_bytes words.now) ≡ None }
+    ensures misspelt { is_serve (map string_bytes words.now) ≡ false →
+        result ≡ ServeStatus.BadWords }
     ensures refused { grammar.serve_of (map string_bytes words.now) ≡ None →
         (result ≡ ServeStatus.BadWords) ⊎ (result ≡ ServeStatus.NoMemory) }
     ensures untouched { grammar.serve_of (map string_bytes words.now) ≡ None →

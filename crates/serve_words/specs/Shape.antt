@@ -1,5 +1,6 @@
 -- The shape of the words, which is tested before `clap` reads them
-use Rattle.std.specs.Prelude.{ℕ, ◌&&◌, Bool, nat_le, List, length, codes}
+use Rattle.std.specs.Prelude.{ℕ, ◌&&◌, Bool, false, nat_le, List, [], ◌∷◌, length, codes}
+use Rattle.std.specs.Str.{bytes_eq}
 use Rattle.serve_words.specs.Words.{are_pairs, values_of}
 
 -- the option with this name stands at most once
@@ -17,3 +18,8 @@ stand_once_at_most words =
 -- pairs of an option and a value, each option at most once
 abbrev pub has_shape : List (List ℕ) → Bool
 has_shape words = are_pairs words && stand_once_at_most words
+
+-- `serve`, and such pairs behind it
+abbrev pub is_serve : List (List ℕ) → Bool
+is_serve [] = false
+is_serve (word ∷ words) = bytes_eq word (codes "serve") && has_shape words

@@ -1,10 +1,12 @@
 //! What the words of `serve` ask for.
-ghost use Rattle.std.specs.Prelude.{◌≡◌, ℕ, List, true, length, map, string_bytes, IfOk, IfSome};
+ghost use Rattle.std.specs.Prelude.{◌≡◌, ℕ, List, true, false, length, map, string_bytes};
+ghost use Rattle.std.specs.Prelude.{Err, IfOk, IfSome};
 ghost use Rattle.std.specs.Option.{option_map};
 ghost use Rattle.serve_words.specs.Words as grammar;
 ghost use Rattle.serve_words.specs.Asked.{asked, needed};
 ghost use Rattle.serve_words.specs.Options.{HoldsValues};
 ghost use Rattle.serve_words.specs.Refusals.{Tells};
+ghost use Rattle.serve_words.specs.Shape.{is_serve};
 ghost use Rattle.seat_steps.specs.Ranges.{IsLimits, IsWithin};
 
 use crate::numbers::number_or;
@@ -150,11 +152,14 @@ fn asked_by<'a>(matches: &ArgMatches<'a>) -> Result<Serving<'a>, WordsRefusal>
 }
 
 /// What the words ask for, the first of which is `serve`. `BadWords` comes where they are in no
-/// grammar, else `NoMemory` may come.
+/// grammar: always where they aren't `serve` and pairs of an option and a value, each option once at
+/// most. Else `NoMemory` may come.
 pub fn serve_of(words: &[String]) -> Result<Serving<'_>, WordsRefusal>
     ensures within { IfOk result (λ asked. IsLimits asked.limits) }
     ensures few { IfOk result (λ asked. IsWithin 64 (length asked.order.now)) }
     ensures told { Tells asked result (grammar.serve_of (map string_bytes words.now)) }
+    ensures misspelt { is_serve (map string_bytes words.now) ≡ false →
+        result ≡ Err WordsRefusal.BadWords }
 {
     let [first, rest @ ..] = words else {
         return Err(WordsRefusal::BadWords);
