@@ -1,18 +1,12 @@
 -- What the lines of an audit play can be held, since each was read.
-use Rattle.std.proofs.Common.{ℕ, zero, suc, ◌+◌, ◌≤◌, ℤ, pos, negsuc, Bool, true, false, List, [], ◌∷◌, length, arith}
-use Rattle.std.specs.Prelude.{if◌then◌else◌, replicate, IsTrue}
+use Rattle.std.proofs.Common.{ℕ, zero, suc, ◌+◌, Bool, true, false, List, [], ◌∷◌, length, arith}
+use Rattle.std.specs.Prelude.{if◌then◌else◌, replicate}
 use Rattle.std.specs.List.{AllByRecursion}
-use Rattle.std.proofs.lemmas.Bool.{ltb-true}
-use Rattle.seat_steps.specs.declared.step.ShellStep.{ShellStep}
-use Rattle.seat_steps.specs.declared.step.ShellStep.TheVariants as shells
 use Rattle.seat_steps.specs.Ranges.{IsLimits}
 use Rattle.session_text.specs.declared.line.SessionLine.{SessionLine}
 use Rattle.session_text.specs.declared.line.SessionLine.TheVariants as sessions
-use Rattle.session_text.specs.SessionGrammar.{HasLinkLine, HasStampedLine}
-use Rattle.session_text.specs.Words.{fits_i32}
 use Rattle.broker_model.specs.Resolve.{past_of}
 use Rattle.broker_model.proofs.EachElement.{each_append}
-use Rattle.told_law.specs.Sayable.{IsInt, IsShellSayable}
 use Rattle.session_play.specs.Laws.{lines_played}
 use Rattle.session_play.specs.Played.{Played, line_played}
 use Rattle.audit_text.specs.declared.audit_line.AuditLine.{AuditLine}
@@ -21,25 +15,8 @@ use Rattle.audit_text.specs.Grammar.{HasAuditLine}
 use Rattle.audit_run.specs.Judged.{judged, journal_of}
 use Rattle.audit_run.specs.Taking.{audit_limits, emptied, step_judged, takes_from, takes_of}
 use Rattle.held_law.specs.Held.{IsHeldJournal}
+use Rattle.held_law.proofs.SessionsHeld.{line_gives}
 use Rattle.held_law.proofs.LinesHold.{GivesHeld, HoldsPlay, nothing_holds, line_holds, lines_hold, is_held}
-
--- ---- what a line in its grammar gives can be held
-
-is_int : (z : ℤ) → IsTrue (fits_i32 z) → IsInt z
-is_int (pos n) e = record { sfits = ltb-true _ _ e }
-is_int (negsuc n) e = record { sfits = ltb-true _ _ e }
-
-shell_gives : (step : ShellStep) → HasLinkLine step → IsShellSayable step
-shell_gives (shells.Key time key state) h = (h.0, h.1, (let few : state ≤ 1 = h.2 in omega arith))
-shell_gives (shells.Mods mods) h = h
-shell_gives (shells.Keymap keymap) h = (h.0, h.2)
-shell_gives (shells.Repeat repeat) h = (is_int repeat.rate h.0, is_int repeat.delay h.1)
-shell_gives _ h = tt
-
-line_gives : (line : SessionLine) → HasStampedLine line → GivesHeld line
-line_gives (sessions.Bytes p bytes) h = h.1.0
-line_gives (sessions.Shell step) h = shell_gives step h
-line_gives _ h = tt
 
 -- ---- takes give nothing
 

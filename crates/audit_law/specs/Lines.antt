@@ -3,9 +3,8 @@ use Rattle.std.specs.Prelude.{ℕ, List, [], ◌∷◌, drop, Option, Some, None
 use Rattle.audit_text.specs.declared.audit_line.AuditLine.{AuditLine}
 use Rattle.audit_text.specs.declared.audit_line.AuditText.{AuditText}
 use Rattle.audit_text.specs.declared.audit_line.AuditText.TheVariants as texts
-use Rattle.plain_run.specs.declared.reading.TheConstants.{INPUT_LIMIT}
 use Rattle.plain_run.specs.Audit.{moment_of, text_after}
-use Rattle.plain_run.specs.Lines.{lines_read}
+use Rattle.plain_run.specs.Lines.{input_limit, lines_read}
 
 -- what a line adds to these; `rest` gives those behind it
 abbrev pub log_by : List AuditLine → Option AuditText → (AuditLine → List AuditLine) →
@@ -23,4 +22,4 @@ log_from log (raw ∷ lines) =
 
 -- those of an input, behind its first line
 abbrev pub audit_log : List ℕ → List AuditLine
-audit_log input = log_from [] (drop 1 (lines_read INPUT_LIMIT input))
+audit_log input = log_from [] (drop 1 (lines_read input_limit input))

@@ -50,7 +50,7 @@ shell_gives (shells.Keymap keymap) h = (h.0, h.2)
 shell_gives (shells.Repeat repeat) h = (is_int repeat.rate h.0, is_int repeat.delay h.1)
 shell_gives (shells.At moment) h = tt
 
-line_gives : (line : SessionLine) → HasStampedLine line → GivesHeld line
+pub line_gives : (line : SessionLine) → HasStampedLine line → GivesHeld line
 line_gives (sessions.Join role) h = tt
 line_gives (sessions.Bytes p bytes) h = h.1.0
 line_gives (sessions.Gone p) h = tt

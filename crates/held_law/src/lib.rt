@@ -11,7 +11,7 @@ pub fn lines_are_held()
 {}
 
 /// So is the journal of which `replay` writes the transcript, whatever session it reads: what holds
-/// of such journals, as that all they tell is read, holds of it without a premise.
+/// of each such journal, as that all it tells can be written and is read, holds of it.
 pub fn sessions_are_held()
     ensures law { SessionsAreHeld }
 {}

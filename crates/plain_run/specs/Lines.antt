@@ -3,6 +3,13 @@ use Rattle.std.specs.Prelude.{ℕ, ◌+◌, ◌==◌, ◌&&◌, ◌||◌, nat_le
 use Rattle.std.specs.List.{slice_split}
 use Rattle.session_text.specs.Reading.{line_limit}
 
+-- the most bytes of an input that are read, and of one that is migrated
+abbrev pub input_limit : ℕ
+input_limit = 4294967296
+
+abbrev pub migrate_limit : ℕ
+migrate_limit = 1073741824
+
 -- the bytes after the last line feed are no line: there are none, or the input was cut off in them
 abbrev pub is_no_line : Bool → List ℕ → Bool
 is_no_line cut part = (length part == 0) || (cut && nat_le (length part) line_limit)

@@ -8,8 +8,7 @@ use Rattle.plain_run.specs.declared.command.Command.TheVariants as commands
 use Rattle.plain_run.specs.declared.command.Task.{Task}
 use Rattle.plain_run.specs.declared.command.Task.TheVariants as tasks
 use Rattle.session_text.specs.Words.{long_number_of}
-use Rattle.plain_run.specs.declared.reading.TheConstants.{INPUT_LIMIT, MIGRATE_LIMIT}
-use Rattle.plain_run.specs.Lines.{taken, is_cut}
+use Rattle.plain_run.specs.Lines.{input_limit, migrate_limit, taken, is_cut}
 use Rattle.plain_run.specs.Endings.{Answer}
 use Rattle.plain_run.specs.Transcript.{answer_of, answer_from}
 use Rattle.plain_run.specs.Session.{session_answer, session_of_lines}
@@ -105,12 +104,12 @@ answer_lines (commands.Explain which) cut lines = explain_of_lines which cut lin
 
 -- the most bytes of its input that a command reads
 abbrev pub limit_of : Command → ℕ
-limit_of commands.Replay = INPUT_LIMIT
-limit_of commands.ReplayActs = INPUT_LIMIT
-limit_of commands.Migrate = MIGRATE_LIMIT
-limit_of commands.ReplaySeats = INPUT_LIMIT
-limit_of commands.Audit = INPUT_LIMIT
-limit_of (commands.Explain which) = INPUT_LIMIT
+limit_of commands.Replay = input_limit
+limit_of commands.ReplayActs = input_limit
+limit_of commands.Migrate = migrate_limit
+limit_of commands.ReplaySeats = input_limit
+limit_of commands.Audit = input_limit
+limit_of (commands.Explain which) = input_limit
 
 -- what a command makes of an input of which at most the limit was read
 abbrev pub answer_to : Command → Bool → List ℕ → Answer
@@ -129,7 +128,7 @@ answer_by command bytes =
 -- what is written of the bytes of an input, and the status
 abbrev pub task_answer : Task → List ℕ → Answer
 task_answer (tasks.Lines command) bytes = answer_by command bytes
-task_answer tasks.Trial bytes = answer_read INPUT_LIMIT trial_lines bytes
+task_answer tasks.Trial bytes = answer_read input_limit trial_lines bytes
 task_answer (tasks.Gen number) bytes = counts_answer number
 task_answer (tasks.GenText number) bytes = text_answer number
 

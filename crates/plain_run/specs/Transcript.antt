@@ -12,13 +12,16 @@ use Rattle.transcript_text.specs.Told.{told_line}
 use Rattle.plain_run.specs.declared.last_line.LastLine.TheVariants as last
 use Rattle.plain_run.specs.declared.act_list.Verdict.{Verdict}
 use Rattle.plain_run.specs.declared.act_list.Verdict.TheVariants as verdict
-use Rattle.plain_run.specs.declared.act_list.TheConstants.{ACT_LIMIT}
 use Rattle.plain_run.specs.Lines.{lines_of}
 use Rattle.plain_run.specs.Endings.{Answer, with_front, ending, without_end}
 
+-- the most acts of a list
+abbrev pub act_limit : ℕ
+act_limit = 100000
+
 -- an act after so many others
 abbrev pub verdict_of_act : ℕ → Act → Verdict
-verdict_of_act count act = if nat_lt count ACT_LIMIT then verdict.Play act else verdict.Full
+verdict_of_act count act = if nat_lt count act_limit then verdict.Play act else verdict.Full
 
 abbrev pub verdict_of_line : ℕ → Option Line → Verdict
 verdict_of_line count None = verdict.Bad
