@@ -57,8 +57,8 @@ impl NumberedSeat {
         self.seat.take(act)
     }
 
-    /// Takes an act that makes an object, and gives the object the number. Where none is made no number changes; so is
-    /// it after a refusal.
+    /// Takes an act that makes an object, and gives the object the number. Where the act does nothing or is refused no
+    /// number changes. (One that makes no object has the number too, until its label is ended: it is for `take`.)
     pub fn make(&mut self, act: &Act, number: u64) -> Result<Option<Label>, Refusal>
         ensures seat { SeatTook self.old.seat self.new.seat act.now result }
         ensures counts { SeatCounts self.old.seat self.new.seat act.now result }
