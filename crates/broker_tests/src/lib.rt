@@ -17,6 +17,8 @@ mod seat_audience_tests;
 #[cfg(test)]
 mod seat_printer_tests;
 #[cfg(test)]
+mod seat_set_tests;
+#[cfg(test)]
 mod seat_wire_tests;
 #[cfg(test)]
 mod session_play_tests;

@@ -1,2 +1,3 @@
 pub mod SeatPlayed
 pub mod SeatsInTurn
+pub mod SeatsBegun

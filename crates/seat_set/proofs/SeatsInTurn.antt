@@ -58,7 +58,7 @@ all_said line i seats text whole past so =
 
 -- ---- one seat
 
-one_test : (s k : ℕ) → s ≡ k → eqb s k ≡ true
+pub one_test : (s k : ℕ) → s ≡ k → eqb s k ≡ true
 one_test s k e = grind (arith, nat_tests)
 
 other_test : (s k : ℕ) → s < k → eqb s k ≡ false

@@ -1,10 +1,11 @@
 //! One of several seats.
-ghost use Rattle.std.specs.Prelude.{◌≡◌, length, IfOk, OnOk, None};
+ghost use Rattle.std.specs.Prelude.{◌≡◌, length, IfOk, OnOk, OnErr, None};
 ghost use Rattle.seat_steps.specs.Ranges.{IsLimits};
 ghost use Rattle.session_text.specs.Steps.{IsSessionLine};
 ghost use Rattle.session_text.specs.declared.line.SessionLine.TheVariants as lines;
 ghost use Rattle.session_play.specs.Playing.{IsWatched};
 ghost use Rattle.seat_set.specs.Seats.{fresh, seat_after};
+ghost use Rattle.seat_set.specs.Begun.{IsBegun};
 
 use seat_steps::{Limits, Stamp};
 use session_play::{Kept, Player, Stop, Watch};
@@ -76,6 +77,7 @@ impl SeatPlayer {
         requires valid { IsSessionLine line.now }
         requires open { self.old.full ≡ None }
         ensures ok { OnOk result (self.new ≡ seat_after line.now self.old) }
+        ensures part { OnErr result (IsBegun line.now self.old self.new) }
         ensures watched { OnOk result (IsWatched W.may_follow self.old.limits.store
             self.old.play.journal watch.old self.new.play.journal watch.new) }
     {
@@ -105,6 +107,7 @@ impl SeatPlayer {
     ) -> Result<(), NoMemory>
         requires open { self.old.full ≡ None }
         ensures ok { OnOk result (self.new ≡ seat_after (lines.Bytes peer piece.now) self.old) }
+        ensures part { OnErr result (IsBegun (lines.Bytes peer piece.now) self.old self.new) }
         ensures watched { OnOk result (IsWatched W.may_follow self.old.limits.store
             self.old.play.journal watch.old self.new.play.journal watch.new) }
     {

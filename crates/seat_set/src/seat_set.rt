@@ -11,9 +11,10 @@ ghost use Rattle.transcript_text.specs.Seats.{seat_lines};
 ghost use Rattle.broker_model.specs.declared.journal.Entry.{Entry};
 ghost use Rattle.seat_objects.specs.Reached.{Reached};
 ghost use Rattle.broker_core.specs.Watched.{watched_since};
-ghost use Rattle.seat_printer.specs.Printed.{MayPrint, blank};
+ghost use Rattle.seat_printer.specs.Printed.{IsFront, MayPrint, blank};
 ghost use Rattle.seat_printer.specs.Transcribed.{text_since};
 ghost use Rattle.seat_set.specs.Seats.{fresh, seat_after, seat_said, seats_after, seats_said};
+ghost use Rattle.seat_set.specs.Begun.{IsBegun, AreBegun};
 
 use crate::seat_player::SeatPlayer;
 use seat_printer::Printer;
@@ -29,8 +30,9 @@ use wio_core::NoMemory;
 // input tell nothing.
 #[inline(always)]
 fn add_lines(number: u32, lines: &str, text: &mut String) -> Result<(), NoMemory>
-    ensures { OnOk result (string_bytes text.new
+    ensures whole { OnOk result (string_bytes text.new
         ≡ string_bytes text.old ++ seat_lines number lines.now) }
+    ensures part { OnErr result (IsFront (string_bytes text.old) (string_bytes text.new)) }
 {
     if lines.is_empty() {
         return Ok(());
@@ -41,10 +43,11 @@ fn add_lines(number: u32, lines: &str, text: &mut String) -> Result<(), NoMemory
 // What a printer that was blank watched of a seat goes behind the text likewise.
 #[inline(always)]
 fn add_printed(number: u32, printer: &mut Printer, text: &mut String) -> Result<(), NoMemory>
-    ensures { (capacity k : ℕ) (journal : List Entry) →
+    ensures whole { (capacity k : ℕ) (journal : List Entry) →
         Reached MayPrint blank (watched_since capacity k journal) printer.old →
         OnOk result (string_bytes text.new
         ≡ string_bytes text.old ++ seat_lines number (text_since capacity k journal)) }
+    ensures part { OnErr result (IsFront (string_bytes text.old) (string_bytes text.new)) }
 {
     printer.close();
     if printer.is_short() {
@@ -66,6 +69,8 @@ fn play_seat(
     ensures seat { OnOk result (seat.new ≡ seat_after line.now seat.old) }
     ensures text { OnOk result (string_bytes text.new ≡ string_bytes text.old
         ++ seat_lines number (seat_said line.now seat.old)) }
+    ensures part { OnErr result (IsBegun line.now seat.old seat.new) }
+    ensures part_text { OnErr result (IsFront (string_bytes text.old) (string_bytes text.new)) }
 {
     if seat.full().is_some() {
         return Ok(());
@@ -88,6 +93,8 @@ fn play_seat_bytes(
     ensures seat { OnOk result (seat.new ≡ seat_after (sessions.Bytes peer piece.now) seat.old) }
     ensures text { OnOk result (string_bytes text.new ≡ string_bytes text.old
         ++ seat_lines number (seat_said (sessions.Bytes peer piece.now) seat.old)) }
+    ensures part { OnErr result (IsBegun (sessions.Bytes peer piece.now) seat.old seat.new) }
+    ensures part_text { OnErr result (IsFront (string_bytes text.old) (string_bytes text.new)) }
 {
     if seat.full().is_some() {
         return Ok(());
@@ -111,6 +118,8 @@ fn play_one(
     ensures seats { OnOk result (seats.new ≡ seats_after (lines.One number line.now) 1 seats.old) }
     ensures text { OnOk result (string_bytes text.new ≡ string_bytes text.old
         ++ seats_said (lines.One number line.now) 1 seats.old) }
+    ensures part { OnErr result (AreBegun (lines.One number line.now) seats.old seats.new) }
+    ensures part_text { OnErr result (IsFront (string_bytes text.old) (string_bytes text.new)) }
 {
     play_seat(
         &mut seats[(number - 1) as usize],
@@ -137,6 +146,9 @@ fn play_one_bytes(
         ≡ seats_after (lines.One seat (sessions.Bytes peer piece.now)) 1 seats.old) }
     ensures text { OnOk result (string_bytes text.new ≡ string_bytes text.old
         ++ seats_said (lines.One seat (sessions.Bytes peer piece.now)) 1 seats.old) }
+    ensures part { OnErr result (AreBegun (lines.One seat (sessions.Bytes peer piece.now))
+        seats.old seats.new) }
+    ensures part_text { OnErr result (IsFront (string_bytes text.old) (string_bytes text.new)) }
 {
     play_seat_bytes(
         &mut seats[(seat - 1) as usize],
@@ -160,6 +172,8 @@ fn play_all(
     ensures seats { OnOk result (seats.new ≡ seats_after (lines.All line.now) 1 seats.old) }
     ensures text { OnOk result (string_bytes text.new ≡ string_bytes text.old
         ++ seats_said (lines.All line.now) 1 seats.old) }
+    ensures part { OnErr result (AreBegun (lines.All line.now) seats.old seats.new) }
+    ensures part_text { OnErr result (IsFront (string_bytes text.old) (string_bytes text.new)) }
 {
     let mut place: usize = 0;
     while place < seats.len() {
@@ -227,6 +241,8 @@ impl SeatSet {
         }) }
         ensures text { OnOk result (string_bytes text.new ≡ string_bytes text.old
             ++ seats_said line.now 1 self.old.seats) }
+        ensures part { OnErr result (AreBegun line.now self.old.seats self.new.seats) }
+        ensures part_text { OnErr result (IsFront (string_bytes text.old) (string_bytes text.new)) }
         ensures count { length self.new.seats ≡ length self.old.seats }
     {
         let seats = self.seats.as_mut_slice();
@@ -252,6 +268,9 @@ impl SeatSet {
         }) }
         ensures text { OnOk result (string_bytes text.new ≡ string_bytes text.old
             ++ seats_said (lines.One seat (sessions.Bytes peer piece.now)) 1 self.old.seats) }
+        ensures part { OnErr result (AreBegun (lines.One seat (sessions.Bytes peer piece.now))
+            self.old.seats self.new.seats) }
+        ensures part_text { OnErr result (IsFront (string_bytes text.old) (string_bytes text.new)) }
         ensures count { length self.new.seats ≡ length self.old.seats }
     {
         let seats = self.seats.as_mut_slice();
@@ -274,8 +293,9 @@ impl SeatSet {
     /// Plays a line on the seat that it is for, or on all in turn, and adds to the text what their
     /// transcripts have more, each line behind its seat's number. A seat that is full plays nothing.
     ///
-    /// `NoMemory` may come at any time. Then the set is spent: each later line answers the same, and
-    /// plays and adds nothing.
+    /// `NoMemory` may come at any time. Then on each seat that the line is for a front of what it
+    /// plays was played, the others are as they were, and the text begins with what it was. The set
+    /// is spent: each later line answers the same, and plays and adds nothing.
     pub fn line_into(&mut self, line: &SeatLine, text: &mut String) -> Result<(), NoMemory>
         requires valid { IsSeatLine (length self.old.seats) line.now }
         ensures seats { OnOk result (self.new ≡ record self.old {
@@ -283,6 +303,8 @@ impl SeatSet {
         }) }
         ensures text { OnOk result (string_bytes text.new ≡ string_bytes text.old
             ++ seats_said line.now 1 self.old.seats) }
+        ensures part { OnErr result (AreBegun line.now self.old.seats self.new.seats) }
+        ensures part_text { OnErr result (IsFront (string_bytes text.old) (string_bytes text.new)) }
         ensures spent { OnErr result (self.new.is_spent ≡ true) }
         ensures again { self.old.is_spent ≡ true → IfOk result (λ _. ⊥) }
         ensures stays { self.old.is_spent ≡ true → (self.new ≡ self.old) × (text.new ≡ text.old) }
@@ -310,6 +332,9 @@ impl SeatSet {
         }) }
         ensures text { OnOk result (string_bytes text.new ≡ string_bytes text.old
             ++ seats_said (lines.One seat (sessions.Bytes peer piece.now)) 1 self.old.seats) }
+        ensures part { OnErr result (AreBegun (lines.One seat (sessions.Bytes peer piece.now))
+            self.old.seats self.new.seats) }
+        ensures part_text { OnErr result (IsFront (string_bytes text.old) (string_bytes text.new)) }
         ensures spent { OnErr result (self.new.is_spent ≡ true) }
         ensures again { self.old.is_spent ≡ true → IfOk result (λ _. ⊥) }
         ensures stays { self.old.is_spent ≡ true → (self.new ≡ self.old) × (text.new ≡ text.old) }
@@ -330,6 +355,7 @@ impl SeatSet {
         }) }
         ensures text { IfOk result (λ text. string_bytes text ≡ seats_said line.now 1
             self.old.seats) }
+        ensures part { OnErr result (AreBegun line.now self.old.seats self.new.seats) }
         ensures spent { OnErr result (self.new.is_spent ≡ true) }
         ensures again { self.old.is_spent ≡ true → IfOk result (λ _. ⊥) }
         ensures stays { self.old.is_spent ≡ true → self.new ≡ self.old }

@@ -1,14 +1,14 @@
 //! Lines that are printed: of what is told, of a session's steps, of its transcript.
 use crate::equal::equal;
 use crate::reading_tests::SHELL_LINES;
-use relay_model::{EndCause, Said, Told};
+use relay_model::{EndCause, Mods, Said, Told};
 use seat_steps::{PeerStep, Stamp, Step, TokenList};
 use session_text::{Form, Line, read_line};
 use std::process::Abort;
 use std::test::Fail;
 use transcript_text::{
     print_ended, print_out, print_pass, print_placed, print_stamped, print_step, print_told,
-    print_took,
+    print_took, print_vmods,
 };
 use wl_wire::{Bytes, Text};
 
@@ -92,6 +92,13 @@ fn prints_transcript_lines(rt: HostRuntime) -> Result<(), Fail> {
         "14 placed 2 8 800 -1",
     );
     prints(&rt, print_pass(alloc, 6, 7, 31, 1)?, "6 pass 7 31 1");
+    let mods = Mods {
+        depressed: 1,
+        latched: 4,
+        locked: 2,
+        group: 3,
+    };
+    prints(&rt, print_vmods(alloc, 8, mods)?, "8 vmods 1 4 2 3");
     Ok(())
 }
 

@@ -117,3 +117,13 @@ next_line seat text added rest line more whole parts grew is =
     ∙ append_assoc text (seat_mark seat ++ line) L
     ∙ ap (λ (t : List ℕ). text ++ t) (append_assoc (seat_mark seat) line L ∙ sym parts)
     ∙ is
+
+-- ---- a text that began so goes on
+
+pub same_front : (text : List ℕ) → (more : List ℕ) × (text ≡ text ++ more)
+same_front text = ([], sym (append-nil text))
+
+pub grown_on : (text added : List ℕ) (before : List ℕ) → (more : List ℕ) × (text ≡ before ++ more)
+    → (more : List ℕ) × (added ≡ text ++ more) → (more : List ℕ) × (added ≡ before ++ more)
+grown_on text added before h k =
+    (h.0 ++ k.0, k.1 ∙ ap (λ (t : List ℕ). t ++ k.0) h.1 ∙ append_assoc before h.0 k.0)

@@ -1,5 +1,6 @@
 //! The lines of a transcript of several seats: each begins with its seat's number.
-ghost use Rattle.std.specs.Prelude.{◌≡◌, ◌<◌, ◌∷◌, ◌++◌, [], ℕ, OnOk, length, string_bytes};
+ghost use Rattle.std.specs.Prelude.{◌≡◌, ◌<◌, ◌∷◌, ◌++◌, [], ℕ, List, OnOk, OnErr, length};
+ghost use Rattle.std.specs.Prelude.{string_bytes};
 ghost use Rattle.transcript_text.specs.Seats.{seat_end_line, seat_full_line, seat_lines};
 ghost use Rattle.transcript_text.specs.Seats.{seat_mark};
 
@@ -22,8 +23,10 @@ fn first_line(lines: &str) -> (&str, &str)
 
 // A line of a seat goes behind the text, which begins with the number's digits and a space.
 fn add_line(digits: &str, line: &str, text: &mut String) -> Result<(), NoMemory>
-    ensures { OnOk result (string_bytes text.new
+    ensures whole { OnOk result (string_bytes text.new
         ≡ string_bytes text.old ++ ((digits.now ++ 32 ∷ []) ++ line.now)) }
+    ensures part { OnErr result ((more : List ℕ) ×
+        (string_bytes text.new ≡ string_bytes text.old ++ more)) }
 {
     text.push_str(digits)?;
     text.push(' ')?;
@@ -32,10 +35,13 @@ fn add_line(digits: &str, line: &str, text: &mut String) -> Result<(), NoMemory>
 }
 
 /// Adds lines of a seat's transcript, of which the last may lack its line feed, to the transcript of
-/// several seats: each with the seat's number and a space before it.
+/// several seats: each with the seat's number and a space before it. Also after `NoMemory` the text
+/// begins with what it was.
 pub fn add_seat_lines(seat: u32, lines: &str, text: &mut String) -> Result<(), NoMemory>
-    ensures { OnOk result (string_bytes text.new
+    ensures lines { OnOk result (string_bytes text.new
         ≡ string_bytes text.old ++ seat_lines seat lines.now) }
+    ensures part { OnErr result ((more : List ℕ) ×
+        (string_bytes text.new ≡ string_bytes text.old ++ more)) }
 {
     let mut buffer = Buffer::new();
     let digits = buffer.format(seat);

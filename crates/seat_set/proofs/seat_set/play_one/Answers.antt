@@ -4,6 +4,7 @@ use Rattle.session_text.specs.declared.seat_line.SeatLine.TheVariants.{One}
 use Rattle.transcript_text.specs.Seats.{seat_lines}
 use Rattle.seat_set.specs.Seats.{Seat, seat_after, seat_said, seats_after, seats_said}
 use Rattle.seat_set.proofs.SeatsInTurn.{one_after, one_said}
+use Rattle.seat_set.proofs.SeatsBegun.{lone_begun, on_err}
 use Rattle.seat_set.proofs.seat_set.play_one.Goals as goal
 
 pub returns-clause-seats : goal.returns-clause-seats
@@ -35,3 +36,9 @@ returns-clause-text c =
           (omega arith) refl))
       | Err e ↦ λ _. tt
     ] c.play_seat.ensures.text
+
+pub returns-clause-part : goal.returns-clause-part
+returns-clause-part c =
+    on_err c.play_seat.result _ _ c.play_seat.ensures.part (λ begun.
+    lone_begun c.args.number (c.args.number - 1) c.args.line.now c.args.seats.now c.play_seat.new.seat
+    c.index-seats-number.result (omega arith) (omega arith) begun)

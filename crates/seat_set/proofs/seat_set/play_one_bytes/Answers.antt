@@ -6,6 +6,7 @@ use Rattle.session_text.specs.declared.seat_line.SeatLine.TheVariants.{One}
 use Rattle.transcript_text.specs.Seats.{seat_lines}
 use Rattle.seat_set.specs.Seats.{Seat, seat_after, seat_said, seats_after, seats_said}
 use Rattle.seat_set.proofs.SeatsInTurn.{one_after, one_said}
+use Rattle.seat_set.proofs.SeatsBegun.{lone_begun, on_err}
 use Rattle.seat_set.proofs.seat_set.play_one_bytes.Goals as goal
 
 pub returns-clause-seats : goal.returns-clause-seats
@@ -39,3 +40,9 @@ returns-clause-text c =
           (omega arith) refl))
       | Err e ↦ λ _. tt
     ] c.play_seat_bytes.ensures.text
+
+pub returns-clause-part : goal.returns-clause-part
+returns-clause-part c =
+    on_err c.play_seat_bytes.result _ _ c.play_seat_bytes.ensures.part (λ begun.
+    lone_begun c.args.seat (c.args.seat - 1) (lines.Bytes c.args.peer c.args.piece.now) c.args.seats.now
+    c.play_seat_bytes.new.seat c.index-seats-seat.result (omega arith) (omega arith) begun)
