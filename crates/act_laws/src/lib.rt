@@ -1,0 +1,13 @@
+//! What holds of lists of acts alone, by the definitions. The bodies do nothing: the laws are the
+//! contracts.
+#![tactic(auto)]
+
+ghost use Rattle.act_laws.specs.Meant.{ActivationsKeepTheirField, BatchesAreMeant};
+
+/// An activation keeps its field: whoever holds the seat while it stands held it ever since it
+/// began. So a batch that is relayed is told to the field that held the seat when its method was
+/// told the done that the batch's serial names, and to no field that took the seat since.
+pub fn batches_are_meant()
+    ensures fields { ActivationsKeepTheirField }
+    ensures batches { BatchesAreMeant }
+{}
