@@ -2,6 +2,7 @@
 //! contracts.
 #![tactic(auto)]
 
+ghost use Rattle.act_laws.specs.FewKeys.{BoardsHaveFewKeys, JournalsHaveFewKeys};
 ghost use Rattle.act_laws.specs.Meant.{ActivationsKeepTheirField, BatchesAreMeant};
 
 /// An activation keeps its field: whoever holds the seat while it stands held it ever since it
@@ -10,4 +11,12 @@ ghost use Rattle.act_laws.specs.Meant.{ActivationsKeepTheirField, BatchesAreMean
 pub fn batches_are_meant()
     ensures fields { ActivationsKeepTheirField }
     ensures batches { BatchesAreMeant }
+{}
+
+/// At most 64 keys are down on each virtual keyboard, after any acts and so after any journal: a
+/// press of another is idle.
+#[tactic(auto, using(crate::proofs::FewKeys::boards_have_few_keys, crate::proofs::FewKeys::journals_have_few_keys))]
+pub fn boards_have_few_keys()
+    ensures acts { BoardsHaveFewKeys }
+    ensures journals { JournalsHaveFewKeys }
 {}
