@@ -1,4 +1,4 @@
--- The steps of a lawful history are legal, and stand within its limits: so its recorded session replays.
+-- The steps of a lawful history are legal, and stand within its limits: so its recorded session is read, and replays.
 use Rattle.std.proofs.Common.{◌≡◌, ℕ, suc, ◌+◌, ◌*◌, ◌^◌, ◌<◌, ◌≤◌, ℤ, pos, negsuc, List, [], ◌∷◌, ◌++◌, length, map, reverse, Bool, true, false, cond, not, ◌&&◌, ◌||◌, Option, Some, None, refl, sym, ap, subst, ◌∙◌, arith}
 use Rattle.std.specs.Prelude.{nat_le, nat_lt, option_map}
 use Rattle.std.specs.List.{AllByRecursion}
@@ -8,6 +8,7 @@ use Rattle.std.proofs.lemmas.List.{reverse-append}
 use Rattle.std.proofs.lemmas.Option.{same_Some}
 use Rattle.relay_model.specs.declared.act.EndCause.TheVariants.{Gone, Bad, Full}
 use Rattle.seat_steps.specs.declared.limits.Limits.{Limits}
+use Rattle.seat_steps.specs.declared.stamp.Stamp.{Stamp}
 use Rattle.seat_steps.specs.declared.step.PeerStep.TheVariants as peers
 use Rattle.seat_steps.specs.declared.step.ShellStep.{ShellStep}
 use Rattle.seat_steps.specs.declared.step.ShellStep.TheVariants as shells
@@ -33,14 +34,17 @@ use Rattle.broker_core.specs.Taking.{lives}
 use Rattle.broker_core.proofs.AliveAfterEntry.{counted_cons, weight_cons, same_settled}
 use Rattle.hub_lock.specs.declared.step.OuterStep.{OuterStep}
 use Rattle.hub_lock.specs.Histories.{History, entries_of, given_of, stamp_by}
-use Rattle.hub_lock.specs.Lawful.{IsMadeBy, AreMadeBy}
+use Rattle.hub_lock.specs.Lawful.{IsMadeBy, AreMadeBy, IsLawful}
 use Rattle.hub_lock.specs.Steps.{IsInt, HasWidths, IsGiven, Finds, AreLegalEntries, HaveAuthors}
 use Rattle.serve_record.specs.Recorded.{recorded}
 use Rattle.session_play.specs.Laws.{IsIdle, AreStored, CanPlay}
-use Rattle.record_law.specs.HubLaw.{HubReplays}
+use Rattle.record_law.specs.HubLaw.{HubReplays, HubIsRead, HubLeadsBack}
 use Rattle.record_law.specs.Legal.{quiet, journal_of, IsLegal, AreLegal, IsLegalSession}
-use Rattle.record_law.specs.RecordLaws.{ReplaysTo}
+use Rattle.record_law.specs.RecordedLines.{lines_in, IsReadAs}
+use Rattle.record_law.specs.RecordLaws.{LeadsBack, ReplaysTo}
 use Rattle.record_law.proofs.GeneratedLines.{IsByte, AreBytes, bytes_are, word_is}
+use Rattle.record_law.proofs.LinesRead.{recorded_is_read}
+use Rattle.record_law.proofs.LinesLead.{recorded_leads_back}
 use Rattle.record_law.proofs.RecordedReplays.{recorded_replays}
 
 -- the step of an entry that follows from no other
@@ -213,19 +217,39 @@ are_stamps h known =
     each_reversed IsStamp (map (λ (s : ℕ × OuterStep). stamp_by s.0) h)
     (each_map IsStamp (λ (s : ℕ × OuterStep). stamp_by s.0) h (authors_given h known))
 
--- ---- the law
+-- ---- the laws
+
+abbrev steps_of : History → List Step
+steps_of h = map step_for (entries_of h)
+
+-- the steps of a lawful history make its journal
+same_journal : (limits : Limits) (h : History) → IsLawful limits h →
+    journal_of limits (steps_of h) ≡ history limits.store (entries_of h)
+same_journal limits h lawful =
+    ap (history limits.store) (same_entries (entries_of h) (all_of_step h lawful.made_by))
+
+-- and lines can give them again
+session_of : (limits : Limits) (h : History) → IsLawful limits h → IsLegalSession limits (steps_of h) (given_of h)
+session_of limits h lawful = record {
+  limited = lawful.limited;
+  legal = are_legal limits (entries_of h) (all_of_step h lawful.made_by) lawful.legal.entries lawful.shared.counted
+      lawful.shared.light;
+  stamped = are_stamps h lawful.legal.authors;
+}
 
 pub hub_replays : HubReplays
 hub_replays limits h lawful =
-    let all : List Entry = entries_of h in
-    let steps : List Step = map step_for all in
-    let of_steps : AllByRecursion IsOfStep all = all_of_step h lawful.made_by in
-    let same : journal_of limits steps ≡ history limits.store all =
-    ap (history limits.store) (same_entries all of_steps) in
-    let session : IsLegalSession limits steps (given_of h) = record {
-      limited = lawful.limited;
-      legal = are_legal limits all of_steps lawful.legal.entries lawful.shared.counted lawful.shared.light;
-      stamped = are_stamps h lawful.legal.authors;
-    } in
-    subst (λ (j : List Entry). ReplaysTo limits (recorded limits j (stamps j (given_of h))) j) same
-    (recorded_replays limits steps (given_of h) session)
+    subst (λ (j : List Entry). ReplaysTo limits (recorded limits j (stamps j (given_of h))) j)
+    (same_journal limits h lawful)
+    (recorded_replays limits (steps_of h) (given_of h) (session_of limits h lawful))
+
+pub hub_is_read : HubIsRead
+hub_is_read limits h lawful =
+    subst (λ (j : List Entry). let made : List Stamp = stamps j (given_of h) in
+    IsReadAs limits (recorded limits j made) (lines_in j made)) (same_journal limits h lawful)
+    (recorded_is_read limits (steps_of h) (given_of h) (session_of limits h lawful))
+
+pub hub_leads_back : HubLeadsBack
+hub_leads_back limits h lawful =
+    subst (λ (j : List Entry). LeadsBack limits j (stamps j (given_of h))) (same_journal limits h lawful)
+    (recorded_leads_back limits (steps_of h) (given_of h) (session_of limits h lawful))

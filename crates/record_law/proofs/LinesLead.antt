@@ -89,7 +89,7 @@ are_read limits (step ∷ older) given =
 
 pub recorded_leads_back : RecordedLeadsBack
 recorded_leads_back limits steps given h = record {
-  journal = lead limits steps given h.legal;
+  leads = lead limits steps given h.legal;
   stamped = ap (stamps (journal_of limits steps)) (are_read limits steps given)
       ∙ again (journal_of limits steps) given;
 }

@@ -64,20 +64,17 @@ pub record IsAt (p : Played) (journal : List Entry) : Type 0 where
 abbrev pub stamps_read : List StampedLine → List Stamp
 stamps_read all = reverse (map (λ (l : StampedLine). l.0) all)
 
--- The lines, played one after the other, lead to the journal again, and the stamps that stand
--- before them to its stamps.
-pub record LeadsBack (limits : Limits) (steps : List Step) (given : List Stamp) : Type 0 where
-  pub journal : IsAt
-      (lines_played limits (played_lines (lines_of_steps limits steps given)) unplayed)
-      (journal_of limits steps)
-  pub stamped : stamps (journal_of limits steps) (stamps_read (lines_of_steps limits steps given))
-      ≡ stamps_of limits steps given
+-- The lines of a journal with these stamps, played one after the other, lead to the journal again,
+-- and the stamps that stand before them to these.
+pub record LeadsBack (limits : Limits) (journal : List Entry) (made : List Stamp) : Type 0 where
+  pub leads : IsAt (lines_played limits (played_lines (lines_in journal made)) unplayed) journal
+  pub stamped : stamps journal (stamps_read (lines_in journal made)) ≡ made
 
 -- so it is with each recorded session
 abbrev pub RecordedLeadsBack : Type 0
 RecordedLeadsBack =
     (limits : Limits) (steps : List Step) (given : List Stamp) → IsLegalSession limits steps given →
-    LeadsBack limits steps given
+    LeadsBack limits (journal_of limits steps) (stamps_of limits steps given)
 
 -- `replay` of the text writes the transcript of the journal and `end N`, where N is how many
 -- entries it has, and answers Ok.

@@ -5,7 +5,7 @@
 ghost use Rattle.record_law.specs.RecordLaws.{RecordedIsRead, RecordedHasStepLines};
 ghost use Rattle.record_law.specs.RecordLaws.{RecordedLeadsBack, RecordedReplays};
 ghost use Rattle.record_law.specs.GeneratedLaw.{GeneratedReplays};
-ghost use Rattle.record_law.specs.HubLaw.{HubReplays};
+ghost use Rattle.record_law.specs.HubLaw.{HubReplays, HubIsRead, HubLeadsBack};
 ghost use Rattle.record_law.specs.Rows.{FewAreLegal};
 
 /// The recorded session of legal steps is read line by line: its header, a line of each step with
@@ -29,9 +29,12 @@ pub fn recorded_session_replays()
 {}
 
 /// So it is with the recorded session of what stands behind a hub's lock, as a server writes it: it
-/// is lawful, and so are its steps legal.
+/// is lawful, and so are its steps legal. It replays, it is read, and its lines lead to the journal
+/// and its stamps again.
 pub fn hub_session_replays()
     ensures law { HubReplays }
+    ensures read { HubIsRead }
+    ensures leads { HubLeadsBack }
 {}
 
 /// `replay` of a generated session, as `gen N text` writes it, writes the transcript of its journal

@@ -1,5 +1,11 @@
-use Rattle.record_law.proofs.HubReplays.{hub_replays}
+use Rattle.record_law.proofs.HubReplays.{hub_replays, hub_is_read, hub_leads_back}
 use Rattle.record_law.proofs.hub_session_replays.Goals as goal
 
-pub returns : goal.returns
-returns c = record { law = hub_replays }
+pub returns-clause-law : goal.returns-clause-law
+returns-clause-law c = hub_replays
+
+pub returns-clause-read : goal.returns-clause-read
+returns-clause-read c = hub_is_read
+
+pub returns-clause-leads : goal.returns-clause-leads
+returns-clause-leads c = hub_leads_back
