@@ -1,0 +1,2 @@
+pub mod EndedHaveAll
+pub mod OneJournal
