@@ -9,6 +9,7 @@ enum { DISPLAY = 1, CLIENTS_MAX = 1000, OBJECTS_MAX = 65536 /* ids of each side 
 
 struct object {
 	const struct interface *interface; /* NULL: the id names nothing */
+	uint64_t number; /* in the order of making, of all clients' objects: who has its id later has another */
 	uint32_t holes; /* how many `sync`s the compositor got in this id's place, and hasn't told the end of */
 	uint32_t made[4]; /* the message by which it was made at the broker; all 0: it isn't there */
 	uint32_t count, base; /* commits of a field or dones of a method, and as many of them at an earlier broker */
@@ -17,6 +18,7 @@ struct object {
 	bool of_seat; /* a wl_seat or a wl_keyboard of the one seat that the broker has */
 	bool is_fresh; /* a wl_keyboard of that seat that was told an enter, and no modifiers of it yet */
 	bool is_gone; /* a surface that its client destroyed, whose id the compositor hasn't freed yet */
+	bool never_stands; /* a grab that was made beside one that stood, or of a method that doesn't serve */
 };
 
 struct client {
@@ -79,10 +81,7 @@ void request_release(struct client *client, uint32_t board);
 /* ---- Globals (globals.c) ---- */
 /* The broker's globals by their names there; and the gateway's own objects at each peer, which no client reaches. */
 enum { GLOBAL_COMPOSITOR = 1, GLOBAL_SEAT, GLOBAL_FIELDS, GLOBAL_METHODS, GLOBAL_BOARDS };
-enum {
-	OWN = 0x7e000000, /* its registry; and that and a global's name: what was bound of it */
-	OWN_METHOD = OWN + 16, /* one that lives for a moment, at a renewal */
-};
+enum { OWN = 0x7e000000 /* its registry; and that and a global's name: what was bound of it */ };
 /* What the broker offers to a role, where the gateway alone binds what is ALL's; the last has no interface. */
 extern const struct offer { uint32_t global; enum role role; const struct interface *interface; } offers[];
 /* The offer of a manager, or NULL. */

@@ -11,6 +11,7 @@ enum {
 static struct {
 	struct client *focus; /* NULL: nobody has it */
 	uint32_t surface, serial, time; /* the focused surface; the last serial that its client was told; of the last key */
+	uint64_t number; /* the focused surface's, whose id may be used again */
 	uint32_t entered, key_serial; /* of the last enter; of the last key, which each of the client's keyboards is told */
 	bool key_given, fresh; /* the client got that key; it got the focus and no modifiers yet */
 	bool has_modifiers, repeats; /* what follows was told */
@@ -18,9 +19,8 @@ static struct {
 	bool down[KEYS]; /* keys that the broker was told are down */
 	unsigned given[KEYS]; /* those that a board pressed at the client: the number of the board's client; 0 none */
 	struct typed { /* a key that went to a grab: given back, it goes to where it was typed */
-		uint32_t time, key, surface;
-		unsigned client; /* its number; 0: none */
-		uint64_t moment;
+		uint32_t time, key;
+		uint64_t surface, moment; /* the surface's number; 0: none */
 	} typed[TYPED_MAX]; /* a ring */
 	unsigned typed_next;
 } seat;
@@ -67,8 +67,7 @@ static bool order_key(uint32_t key, uint32_t state) {
 	bool given = seat.given[key % KEYS] > 0 && state == 0;
 	seat.down[key % KEYS] = state != 0 && way != WLIM_TOO_MANY;
 	if (way == WLIM_TO_GRAB)
-		seat.typed[seat.typed_next++ % TYPED_MAX] =
-			(struct typed){ seat.time, key, seat.surface, seat.focus ? seat.focus->number : 0, broker_now() };
+		seat.typed[seat.typed_next++ % TYPED_MAX] = (struct typed){ seat.time, key, seat.number, broker_now() };
 	if (way == WLIM_NOWHERE) /* the grab that had the press is gone: who was given it back gets the release */
 		seat.given[key % KEYS] = 0;
 	return way == WLIM_NOWHERE ? given : way != WLIM_TO_GRAB;
@@ -90,14 +89,16 @@ static void tell_focus(void) {
 
 /* Connections are read in any order, but the compositor's serials rise. What it wrote to the last one comes first. */
 static void on_enter(struct client *client, uint32_t serial, uint32_t surface) {
+	const struct object *object = object_live(client, surface);
 	if (seat.focus && seat.focus != client && !seat.focus->ending)
 		client_read(seat.focus, false);
 	if ((seat.focus == client && seat.surface == surface) || (int32_t)(serial - seat.entered) < 0)
 		return; /* another keyboard of the client, or the focus went on since */
 	release_all();
 	memset(seat.given, 0, sizeof seat.given);
-	seat.focus = client;
+	seat.focus = object && !object->is_gone ? client : NULL; /* a destroyed one's id is another's soon */
 	seat.surface = surface;
+	seat.number = object ? object->number : 0;
 	seat.serial = seat.entered = serial;
 	seat.fresh = true;
 	tell_focus();
@@ -214,8 +215,8 @@ static bool is_typed_here(uint32_t time, uint32_t key) {
 	bool lately_here = true;
 	uint64_t now = broker_now();
 	for (const struct typed *typed = seat.typed; typed < seat.typed + TYPED_MAX; typed++) {
-		bool here = typed->client == seat.focus->number && typed->surface == seat.surface;
-		if (typed->client == 0 || typed->key != key)
+		bool here = typed->surface == seat.number;
+		if (typed->surface == 0 || typed->key != key)
 			continue;
 		if (typed->time == time)
 			return here;

@@ -13,12 +13,13 @@ struct object *object_live(struct client *client, uint32_t id) {
 }
 
 struct object *object_make(struct client *client, uint32_t id, const struct interface *interface, bool by_server) {
+	static uint64_t last;
 	uint32_t *count = &client->counts[by_server], place = by_server ? id - FIRST_SERVER_ID : id;
 	if (id == 0 || place > *count || place >= OBJECTS_MAX || (!by_server && object_live(client, id)))
 		return NULL;
 	*count += place == *count;
 	struct object *object = object_at(client, id);
-	*object = (struct object){ .interface = interface, .holes = object->holes };
+	*object = (struct object){ .interface = interface, .number = ++last, .holes = object->holes };
 	return object;
 }
 

@@ -9,28 +9,31 @@ static int round_of(const struct client *client, uint32_t id, const struct objec
 	return id == client->serves ? 0 : last ? 2 : 1;
 }
 
-/* Makes a method again that was told that it is unavailable. It stays so: one of the gateway's is there before it. */
-static void make_unavailable(struct client *client, const struct message *message) {
-	broker_receive(client, draft(OWN + GLOBAL_METHODS, zwp_input_method_manager_v2_request_get_input_method, "uu",
-		OWN + GLOBAL_SEAT, OWN_METHOD), 0);
-	broker_receive(client, message, 0);
-	broker_receive(client, draft(OWN_METHOD, zwp_input_method_v2_request_destroy, ""), 0);
+/* Whether the id is of what lives at the broker, and was there when the object was made on it. */
+static bool stays(struct client *client, uint32_t id, const struct object *object) {
+	const struct object *under = object_live(client, id);
+	return under && under->made[0] > 0 && under->number < object->number;
 }
 
-/* Makes an object again, by the message that made it. A popup or a grab without its method lives nowhere then. */
+/* Not an unavailable method, which stays so; a grab that never stood; a grab or a popup whose method or surface ended. */
+static bool is_made_again(struct client *client, uint32_t id, const struct object *object) {
+	if (object->interface == &zwp_input_method_v2_table)
+		return id == client->serves;
+	if (object->interface == &zwp_input_method_keyboard_grab_v2_table)
+		return !object->never_stands && stays(client, object->made[0], object);
+	return object->interface != &zwp_input_popup_surface_v2_table
+		|| (stays(client, object->made[0], object) && stays(client, object->made[3], object));
+}
+
+/* Makes an object again, by the message that made it, or it lives nowhere from now on. */
 static void make(struct client *client, uint32_t id, struct object *object) {
-	const struct object *parent = object_live(client, object->made[0]);
 	const struct keymap *keymap = keymap_find(object->keymap);
 	struct message message;
 	message_front((uint8_t *)object->made, sizeof object->made, &message);
 	object->base = object->count;
-	if (round_of(client, id, object) == 2 && (!parent || parent->interface != &zwp_input_method_v2_table))
+	if (!is_made_again(client, id, object))
 		object->made[0] = 0;
-	if (object->interface == &zwp_input_popup_surface_v2_table && !request_mirror(client, object->made[3]))
-		object->made[0] = 0;
-	if (object->interface == &zwp_input_method_v2_table && id != client->serves)
-		make_unavailable(client, &message);
-	else if (object->made[0] > 0)
+	if (object->made[0] > 0)
 		broker_receive(client, &message, 0);
 	if (keymap)
 		broker_receive(client, draft(id, zwp_virtual_keyboard_v1_request_keymap, "uu", keymap->format, keymap->size),

@@ -37,13 +37,18 @@ bool request_mirror(struct client *client, uint32_t surface) {
 /* The broker has one seat and one manager of each kind, by the gateway's ids, whichever the client names. */
 static void make_at_broker(struct client *client, struct message *message, int made) {
 	const struct interface *interface = message->signature->made;
-	const struct offer *offer = offer_of(object_at(client, message->object)->interface);
+	const struct object *maker = object_at(client, message->object);
+	const struct offer *offer = offer_of(maker->interface);
 	uint32_t id = message->numbers[made], own = offer ? OWN + offer->global : message->object;
 	struct object *object = request_hold(client, id);
+	if (!offer && maker->made[0] == 0)
+		return; /* of a method that lives nowhere, and so does it */
 	if (interface == &zwp_input_method_v2_table && client->serves == 0)
 		client->serves = id;
 	if (interface == &zwp_input_popup_surface_v2_table && !request_mirror(client, message->numbers[1]))
 		return client_refuse(client, message->object, ERROR_OBJECT, "wrong object");
+	if (interface == &zwp_input_method_keyboard_grab_v2_table)
+		object->never_stands = message->object != client->serves || wlim_broker_grab(&broker) > 0;
 	memcpy(message->bytes, &own, sizeof own);
 	if (offer)
 		message_set(message, 1 - (unsigned)made, OWN + GLOBAL_SEAT);
@@ -89,7 +94,9 @@ static void to_broker(struct client *client, struct message *message, const int 
 		return make_at_broker(client, message, made);
 	if (message->descriptors > 0)
 		return board_keymap(client, message, files[0]);
-	if (object->made[0] == 0) { /* it lives nowhere, and its only request ends it */
+	if (object->made[0] == 0) { /* it lives nowhere, and no request is heard but the one that ends it */
+		if (object->interface == &zwp_input_method_v2_table && !IS(message, zwp_input_method_v2, request, destroy))
+			return;
 		object_free(client, message->object);
 		return client_send(client, draft(DISPLAY, wl_display_event_delete_id, "u", message->object));
 	}
