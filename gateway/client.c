@@ -3,6 +3,8 @@
 #include <stdlib.h>
 #include <unistd.h>
 
+enum { CAPABILITY_KEYBOARD = 2 /* of wl_seat.capabilities */ };
+
 static unsigned open_count, last_number;
 
 struct client *client_open(int socket, enum role role) {
@@ -84,6 +86,8 @@ static void event_play(struct client *client, struct message *message, const int
 		client_refuse(client, DISPLAY, ERROR_COMPOSITOR, "the compositor's new id is none");
 	if (object->interface == &wl_keyboard_table && object->of_seat)
 		given = keyboard_event(client, message, files);
+	else if (IS(message, wl_seat, event, capabilities) && object->of_seat && !(message->numbers[0] & CAPABILITY_KEYBOARD))
+		keyboard_leave(client, 0); /* its keyboards are told nothing more */
 	else if (IS(message, wl_registry, event, global))
 		given = globals_add(client, message);
 	else if (IS(message, wl_registry, event, global_remove))

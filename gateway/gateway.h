@@ -28,6 +28,7 @@ struct client {
 	uint32_t peer; /* its number at the broker; 0: it isn't there */
 	bool ending; /* nothing of it is read any more; it ends when the round does */
 	uint32_t serves; /* the id of its first input method that wasn't told that it is unavailable; 0 none */
+	unsigned keyboards; /* its wl_keyboards of the seat that it didn't release */
 	uint32_t keymap, modifiers[4]; /* what its wl_keyboards of the seat were told: a keymap's number, 0 none */
 	struct down { uint32_t board, key, time; } down[DOWN_MAX]; /* keys that its boards hold down, those that fit */
 	unsigned down_count;

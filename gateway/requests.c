@@ -138,8 +138,15 @@ void request_play(struct client *client, struct message *message, const int *fil
 		return;
 	if (IS(message, wl_display, request, get_registry))
 		globals_offer(client, message->numbers[0]);
-	if (IS(message, wl_seat, request, get_keyboard))
+	if (IS(message, wl_seat, request, get_keyboard)) {
 		object_at(client, message->numbers[0])->of_seat = object->of_seat;
+		client->keyboards += object->of_seat;
+	}
+	if (IS(message, wl_keyboard, request, release) && object->of_seat) {
+		object->of_seat = false; /* it is told nothing more, no leave either */
+		if (--client->keyboards == 0)
+			keyboard_leave(client, 0);
+	}
 	if (IS(message, wl_surface, request, destroy)) {
 		keyboard_leave(client, message->object);
 		if (object->made[0] > 0)
