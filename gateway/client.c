@@ -35,7 +35,7 @@ void client_close(struct client *client) {
 	if (client->serves > 0)
 		keyboard_method_ended(client);
 	else
-		keyboard_board_ended(client);
+		keyboard_board_ended(client, 0);
 	wire_close(&client->near);
 	wire_close(&client->far);
 	open_count--;

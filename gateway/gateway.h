@@ -117,9 +117,9 @@ bool keyboard_event(struct client *client, const struct message *message, const 
 void keyboard_leave(const struct client *client, uint32_t surface);
 /* A key or modifiers that a client's board sent and no grab has: for who has the focus, with the board's keymap. */
 void keyboard_give(const struct client *from, uint32_t keymap, const struct wlim_told *told);
-/* A board of the client ends: the keys that it pressed are released, of NULL those of all boards. The serving method
- * does, which is the client's: the field is left and entered besides, and keeps no preedit. */
-void keyboard_board_ended(const struct client *client);
+/* A board of the client ends, of 0 all of them, of NULL all boards: the keys that it pressed are released. The serving
+ * method does, which is the client's: the field is left and entered besides, and keeps no preedit. */
+void keyboard_board_ended(const struct client *client, uint32_t board);
 void keyboard_method_ended(const struct client *client);
 /* The client is a peer from now on. The broker goes, with the keys that are down; a new one is told what stands. */
 void keyboard_client_joined(const struct client *client);

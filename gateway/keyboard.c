@@ -17,7 +17,10 @@ static struct {
 	bool has_modifiers, repeats; /* what follows was told */
 	uint32_t keymap, modifiers[4], rate, delay;
 	bool down[KEYS]; /* keys that the broker was told are down */
-	unsigned given[KEYS]; /* those that a board pressed at the client: the number of the board's client; 0 none */
+	struct given { /* by which board it is pressed at the client */
+		unsigned client; /* the number of the board's; 0: by none */
+		uint32_t board;
+	} given[KEYS];
 	struct typed { /* a key that went to a grab: given back, it goes to where it was typed */
 		uint32_t time, key;
 		uint64_t surface, moment; /* the surface's number; 0: none */
@@ -44,9 +47,9 @@ static void send_modifiers(const uint32_t m[4]) {
 	send_all(draft(0, wl_keyboard_event_modifiers, "uuuuu", seat.serial, m[0], m[1], m[2], m[3]), 0);
 }
 
-/* A key of a board, by the number of the board's client. */
-static void send_key(unsigned giver, uint32_t time, uint32_t key, uint32_t state) {
-	seat.given[key % KEYS] = state != 0 ? giver : 0;
+/* A key of a board, or of none. */
+static void send_key(struct given giver, uint32_t time, uint32_t key, uint32_t state) {
+	seat.given[key % KEYS] = state != 0 ? giver : (struct given){ 0 };
 	send_all(draft(0, wl_keyboard_event_key, "uuuu", seat.serial, time, key, state), 0);
 }
 
@@ -64,12 +67,12 @@ static void send_keymap(uint32_t number) {
 /* Tells the broker a key. Answers whether the client gets it: no grab has it, or has what a board pressed there. */
 static bool order_key(uint32_t key, uint32_t state) {
 	int64_t way = broker_order(key, "key %u %u %u", seat.time, key, state);
-	bool given = seat.given[key % KEYS] > 0 && state == 0;
+	bool given = seat.given[key % KEYS].client > 0 && state == 0;
 	seat.down[key % KEYS] = state != 0 && way != WLIM_TOO_MANY;
 	if (way == WLIM_TO_GRAB)
 		seat.typed[seat.typed_next++ % TYPED_MAX] = (struct typed){ seat.time, key, seat.number, broker_now() };
 	if (way == WLIM_NOWHERE) /* the grab that had the press is gone: who was given it back gets the release */
-		seat.given[key % KEYS] = 0;
+		seat.given[key % KEYS].client = 0;
 	return way == WLIM_NOWHERE ? given : way != WLIM_TO_GRAB;
 }
 
@@ -117,20 +120,23 @@ void keyboard_client_joined(const struct client *client) {
 		tell_focus();
 }
 
-void keyboard_board_ended(const struct client *client) {
-	for (uint32_t key = 0; seat.focus && key < KEYS; key++)
-		if (seat.given[key] > 0 && (!client || seat.given[key] == client->number))
-			send_key(0, seat.time, key, 0);
+void keyboard_board_ended(const struct client *client, uint32_t board) {
+	for (uint32_t key = 0; seat.focus && key < KEYS; key++) {
+		struct given given = seat.given[key];
+		bool ends = !client || (given.client == client->number && (board == 0 || given.board == board));
+		if (given.client > 0 && ends)
+			send_key((struct given){ 0 }, seat.time, key, 0);
+	}
 }
 
 void keyboard_leave_broker(void) {
 	release_all();
-	keyboard_board_ended(NULL);
+	keyboard_board_ended(NULL, 0);
 	broker_order(unfocus, "unfocus");
 }
 
 void keyboard_method_ended(const struct client *client) {
-	keyboard_board_ended(client);
+	keyboard_board_ended(client, 0);
 	broker_order(unfocus, "unfocus");
 	tell_focus();
 }
@@ -230,7 +236,7 @@ void keyboard_give(const struct client *from, uint32_t keymap, const struct wlim
 		return;
 	send_keymap(keymap);
 	if (told->kind == WLIM_PASS)
-		send_key(from->number, told->first, told->second, (uint32_t)told->third);
+		send_key((struct given){ from->number, told->id }, told->first, told->second, (uint32_t)told->third);
 	else
 		send_modifiers((const uint32_t[]){ told->first, told->second, (uint32_t)told->third, (uint32_t)told->fourth });
 }

@@ -109,7 +109,7 @@ static void to_broker(struct client *client, struct message *message, const int 
 	if (IS(message, zwp_virtual_keyboard_v1, request, key))
 		board_key(client, message->object, message->numbers);
 	if (IS(message, zwp_virtual_keyboard_v1, request, destroy))
-		keyboard_board_ended(client);
+		keyboard_board_ended(client, message->object);
 	if (message->object == client->serves && IS(message, zwp_input_method_v2, request, destroy)) {
 		client->serves = 0;
 		keyboard_method_ended(client);
