@@ -148,7 +148,7 @@ static bool on_key(struct client *client, uint32_t serial, uint32_t time, uint32
 	seat.key_serial = seat.serial = serial;
 	seat.time = time;
 	seat.key_given = order_key(key, state);
-	if (seat.key_given)
+	if (seat.key_given && client->keymap > 0) /* else its own isn't kept here: nothing older is told in its place */
 		send_keymap(seat.keymap);
 	if (seat.key_given && seat.has_modifiers && memcmp(client->modifiers, seat.modifiers, sizeof seat.modifiers) != 0)
 		send_modifiers(seat.modifiers);
