@@ -108,11 +108,19 @@ static void let_in(enum wait which) {
 	}
 }
 
+/* Reads what the compositor said before it hung up, as why. */
+static void hear_out(struct client *client) {
+	for (int reads = 0; reads < 64 && !client->ending; reads++)
+		client_read(client, false);
+}
+
 /* Writes to all, and closes those that end, which may tell others something: all are written to once more then. */
 static void finish_round(void) {
 	for (struct client **place = &gateway.clients, *client; (client = *place); ) {
-		if (client->far.full || !wire_flush(&client->far))
+		if (client->far.full || !wire_flush(&client->far)) {
+			hear_out(client);
 			client_end(client, "the compositor takes no more of it");
+		}
 		if (client->near.full)
 			client_end(client, "it doesn't read");
 		client->ending |= client->near.full || !wire_flush(&client->near);
