@@ -119,8 +119,8 @@ static void to_broker(struct client *client, struct message *message, const int 
 /* Makes the object of a message's new id. False: the client was refused. */
 static bool make(struct client *client, const struct message *message) {
 	int new_id = message->signature->new_id;
-	const struct interface *made = message->signature->made;
-	made = made ? made : interface_named(message->texts[new_id - 2]);
+	bool names_it = IS(message, wl_registry, request, bind);
+	const struct interface *made = names_it ? interface_named(message->texts[1]) : message->signature->made;
 	if (!made)
 		client_refuse(client, message->object, ERROR_OBJECT, "no such global");
 	else if (!object_make(client, message->numbers[new_id], made, false))
