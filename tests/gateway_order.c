@@ -88,17 +88,18 @@ static void start_program(struct user *user, bool with_field)
 		make_field(user);
 }
 
-static void send_keymap(struct user *user)
+/* A keymap with a number, to an object or of one, as the opcode says. */
+static void send_keymap(int socket, uint32_t id, uint16_t opcode, int number)
 {
 	static struct wire wire;
-	static const char text[] = "xkb_keymap {}";
-	const struct message *message = draft(BOARD, zwp_virtual_keyboard_v1_request_keymap, "uu", 1, sizeof text);
+	char text[40] = { 0 };
+	const struct message *message = draft(id, opcode, "uu", 1, (uint32_t)sizeof text);
 	int file = memfd_create("keymap", MFD_CLOEXEC);
+	snprintf(text, sizeof text, "xkb_keymap {%d}", number);
 	HOLDS(write(file, text, sizeof text) == sizeof text);
-	wire.socket = user->place.near;
+	wire.socket = socket;
 	wire_send(&wire, message->bytes, message->size, &file, 1);
 	HOLDS(wire_flush(&wire));
-	client_read(user->place.client, true);
 }
 
 static void make_method(struct user *user)
@@ -109,7 +110,8 @@ static void make_method(struct user *user)
 static void make_board(struct user *user)
 {
 	request(user, draft(BOARDS, zwp_virtual_keyboard_manager_v1_request_create_virtual_keyboard, "uu", SEAT, BOARD));
-	send_keymap(user);
+	send_keymap(user->place.near, BOARD, zwp_virtual_keyboard_v1_request_keymap, 0);
+	client_read(user->place.client, true);
 }
 
 /* A method, with no object but its managers. */
@@ -120,9 +122,35 @@ static void start_method(struct user *user)
 	bind_global(user, 0xffff0000 + GLOBAL_BOARDS, "zwp_virtual_keyboard_manager_v1", BOARDS);
 }
 
+/* One with a board; and one that serves besides, where none does, and gets all keys. */
+static void start_board(struct user *user)
+{
+	start_method(user);
+	make_board(user);
+}
+
+static void make_grab(struct user *user, uint32_t id)
+{
+	request(user, draft(METHOD_1, zwp_input_method_v2_request_grab_keyboard, "u", id));
+}
+
+static void start_grab(struct user *user)
+{
+	start_board(user);
+	make_method(user);
+	make_grab(user, GRAB);
+}
+
+/* A key of a board; and one of the seat's keyboard. */
 static void press(struct user *user, uint32_t key, uint32_t state)
 {
 	request(user, draft(BOARD, zwp_virtual_keyboard_v1_request_key, "uuu", 1, key, state));
+}
+
+static void type(struct user *user, uint32_t serial, uint32_t time, uint32_t key)
+{
+	put(user->place.far, draft(KEYBOARD, wl_keyboard_event_key, "uuuu", serial, time, key, 1));
+	read_events(user);
 }
 
 /* Takes what a user was told since the last look. It lives. */
@@ -217,20 +245,22 @@ static void boards_end(void)
 {
 	static struct user one, first, second, third;
 	start_program(&one, true);
-	start_method(&first);
-	start_method(&second);
-	start_method(&third);
-	make_board(&first);
-	make_board(&second);
-	make_board(&third);
+	start_board(&first);
+	start_board(&second);
+	start_board(&third);
 	enter(&one, 21);
 	press(&first, A, 1);
 	press(&second, B, 1);
 	look(&one);
 	HOLDS(HEARD(&one, KEYBOARD, wl_keyboard_event_key, A, 1) == 1);
 	HOLDS(HEARD(&one, KEYBOARD, wl_keyboard_event_key, B, 1) == 1);
+	/* A second board of the second client comes and goes. */
+	request(&second, draft(BOARDS, zwp_virtual_keyboard_manager_v1_request_create_virtual_keyboard, "uu", SEAT, BOARD + 1));
+	request(&second, draft(BOARD + 1, zwp_virtual_keyboard_v1_request_destroy, ""));
+	look(&one);
+	HOLDS(HEARD(&one, KEYBOARD, wl_keyboard_event_key, B, 0) == 0);
 	make_method(&third);
-	request(&third, draft(METHOD_1, zwp_input_method_v2_request_grab_keyboard, "u", GRAB));
+	make_grab(&third, GRAB);
 	press(&first, C, 1);
 	look(&third);
 	HOLDS(HEARD(&third, GRAB, zwp_input_method_keyboard_grab_v2_event_key, C, 1) == 1);
@@ -256,10 +286,7 @@ static void keyboards(void)
 {
 	static struct user one, first;
 	start_program(&one, true);
-	start_method(&first);
-	make_board(&first);
-	make_method(&first);
-	request(&first, draft(METHOD_1, zwp_input_method_v2_request_grab_keyboard, "u", GRAB));
+	start_grab(&first);
 	request(&one, draft(SEAT, wl_seat_request_get_keyboard, "u", KEYBOARD_2));
 	for (uint32_t id = KEYBOARD; id <= KEYBOARD_2; id += KEYBOARD_2 - KEYBOARD)
 		put(one.place.far, draft(id, wl_keyboard_event_enter, "uuu", 31, SURFACE, 0));
@@ -291,11 +318,9 @@ static void renewals(void)
 {
 	static struct user one, first, second, third;
 	start_program(&one, false);
-	start_method(&first);
-	start_method(&second);
+	start_board(&first);
+	start_board(&second);
 	start_method(&third);
-	make_board(&first);
-	make_board(&second);
 	make_method(&first);
 	make_method(&second);
 	look(&second);
@@ -353,6 +378,158 @@ static void weight(void)
 	close_client(&one.place);
 }
 
+/* As many objects as there may be, the last a method that is unavailable: a renewal ends nobody, and it stays so. */
+static void full_renewal(void)
+{
+	enum { LAST = BOARD + 250 /* and the gateway's own five */, LAST_GRAB };
+	static struct user first, second;
+	start_board(&first);
+	make_method(&first);
+	start_method(&second);
+	for (uint32_t id = BOARD; id < LAST; id++)
+		request(&second, draft(BOARDS, zwp_virtual_keyboard_manager_v1_request_create_virtual_keyboard, "uu", SEAT, id));
+	request(&second, draft(METHODS, zwp_input_method_manager_v2_request_get_input_method, "uu", SEAT, LAST));
+	look(&second);
+	HOLDS(HEARD(&second, LAST, zwp_input_method_v2_event_unavailable) == 1);
+	renew();
+	request(&second, draft(LAST, zwp_input_method_v2_request_commit, "u", 0));
+	request(&second, draft(LAST, zwp_input_method_v2_request_grab_keyboard, "u", LAST_GRAB));
+	renew();
+	request(&second, draft(LAST, zwp_input_method_v2_request_destroy, ""));
+	request(&second, draft(LAST_GRAB, zwp_input_method_keyboard_grab_v2_request_release, ""));
+	look(&second);
+	HOLDS(HEARD(&second, DISPLAY, wl_display_event_delete_id, LAST) == 1);
+	HOLDS(HEARD(&second, DISPLAY, wl_display_event_delete_id, LAST_GRAB) == 1);
+	close_client(&second.place);
+	close_client(&first.place);
+}
+
+/* A surface's id is used again, and a method's: the popup and the grab of the first aren't made again on the second. */
+static void used_again(void)
+{
+	enum { COMPOSITOR_1 = GRAB + 1, SURFACE_1, POPUP, POPUP_2 };
+	static struct user one, first;
+	start_program(&one, true);
+	start_grab(&first);
+	bind_global(&first, 2, "wl_compositor", COMPOSITOR_1);
+	request(&first, draft(COMPOSITOR_1, wl_compositor_request_create_surface, "u", SURFACE_1));
+	request(&first, draft(METHOD_1, zwp_input_method_v2_request_get_input_popup_surface, "uu", POPUP, SURFACE_1));
+	request(&first, draft(SURFACE_1, wl_surface_request_destroy, ""));
+	put(first.place.far, draft(DISPLAY, wl_display_event_delete_id, "u", SURFACE_1));
+	read_events(&first);
+	request(&first, draft(COMPOSITOR_1, wl_compositor_request_create_surface, "u", SURFACE_1));
+	request(&first, draft(METHOD_1, zwp_input_method_v2_request_get_input_popup_surface, "uu", POPUP_2, SURFACE_1));
+	renew();
+	look(&first);
+	request(&first, draft(POPUP, zwp_input_popup_surface_v2_request_destroy, ""));
+	look(&first);
+	HOLDS(HEARD(&first, DISPLAY, wl_display_event_delete_id, POPUP) == 1);
+	request(&first, draft(METHOD_1, zwp_input_method_v2_request_destroy, ""));
+	make_method(&first);
+	renew();
+	enter(&one, 55);
+	type(&one, 56, 9000, B);
+	look(&one);
+	HOLDS(HEARD(&one, KEYBOARD, wl_keyboard_event_key, 9000, B, 1) == 1);
+	close_client(&first.place);
+	close_client(&one.place);
+}
+
+/* A surface's id is used again: a key that was typed at the first doesn't come to the second when it is given back. */
+static void typed_before(void)
+{
+	static struct user one, first;
+	start_program(&one, true);
+	start_grab(&first);
+	enter(&one, 61);
+	type(&one, 62, 7000, A);
+	look(&first);
+	HOLDS(HEARD(&first, GRAB, zwp_input_method_keyboard_grab_v2_event_key, 7000, A, 1) == 1);
+	request(&one, draft(SURFACE, wl_surface_request_destroy, ""));
+	enter(&one, 63); /* the compositor doesn't know yet */
+	type(&one, 64, 7001, B);
+	put(one.place.far, draft(DISPLAY, wl_display_event_delete_id, "u", SURFACE));
+	read_events(&one);
+	look(&first);
+	HOLDS(HEARD(&first, GRAB, zwp_input_method_keyboard_grab_v2_event_key, 7001, B, 1) == 0);
+	request(&one, draft(COMPOSITOR, wl_compositor_request_create_surface, "u", SURFACE));
+	enter(&one, 65);
+	request(&first, draft(BOARD, zwp_virtual_keyboard_v1_request_key, "uuu", 7000, A, 1));
+	look(&one);
+	HOLDS(one.entered && HEARD(&one, KEYBOARD, wl_keyboard_event_key, 7000, A, 1) == 0);
+	close_client(&first.place);
+	close_client(&one.place);
+}
+
+/* A program whose keyboards are told nothing more has no focus: the seat has none any more, or it released its last. */
+static void keyboards_go(void)
+{
+	static struct user one;
+	start_program(&one, true);
+	request(&one, draft(SEAT, wl_seat_request_get_keyboard, "u", KEYBOARD_2));
+	enter(&one, 71);
+	look(&one);
+	HOLDS(one.entered);
+	put(one.place.far, draft(SEAT, wl_seat_event_capabilities, "u", 1));
+	read_events(&one);
+	look(&one);
+	HOLDS(!one.entered);
+	put(one.place.far, draft(SEAT, wl_seat_event_capabilities, "u", 3));
+	enter(&one, 72);
+	request(&one, draft(KEYBOARD, wl_keyboard_request_release, ""));
+	look(&one);
+	HOLDS(one.entered);
+	request(&one, draft(KEYBOARD_2, wl_keyboard_request_release, ""));
+	look(&one);
+	HOLDS(!one.entered);
+	close_client(&one.place);
+}
+
+/* A grab that was made beside another never stands, at the next broker neither. */
+static void grabs(void)
+{
+	static struct user one, first;
+	start_program(&one, true);
+	start_grab(&first);
+	make_grab(&first, GRAB + 1);
+	request(&first, draft(GRAB, zwp_input_method_keyboard_grab_v2_request_release, ""));
+	enter(&one, 121);
+	type(&one, 122, 8000, A);
+	look(&one);
+	HOLDS(HEARD(&one, KEYBOARD, wl_keyboard_event_key, 8000, A, 1) == 1);
+	renew();
+	type(&one, 123, 8000, B);
+	look(&one);
+	HOLDS(HEARD(&one, KEYBOARD, wl_keyboard_event_key, 8000, B, 1) == 1);
+	close_client(&first.place);
+	close_client(&one.place);
+}
+
+/* Of a keymap beyond those that are kept nothing older is told before its keys; but a board's is taken back. */
+static void many_keymaps(void)
+{
+	static struct user one, first;
+	start_program(&one, false);
+	start_board(&first);
+	enter(&one, 131);
+	for (int number = 1; number <= 70; number++) {
+		send_keymap(one.place.far, KEYBOARD, wl_keyboard_event_keymap, number);
+		read_events(&one);
+	}
+	look(&one);
+	type(&one, 132, 1, A);
+	look(&one);
+	HOLDS(HEARD(&one, KEYBOARD, wl_keyboard_event_key, A, 1) == 1);
+	HOLDS(HEARD(&one, KEYBOARD, wl_keyboard_event_keymap) == 0);
+	press(&first, C, 1);
+	type(&one, 133, 2, B);
+	look(&one);
+	HOLDS(HEARD(&one, KEYBOARD, wl_keyboard_event_key, C, 1) == 1);
+	HOLDS(HEARD(&one, KEYBOARD, wl_keyboard_event_keymap) == 2);
+	close_client(&first.place);
+	close_client(&one.place);
+}
+
 int main(void)
 {
 	if (!broker_open())
@@ -363,6 +540,12 @@ int main(void)
 	keyboards();
 	renewals();
 	weight();
+	full_renewal();
+	used_again();
+	typed_before();
+	keyboards_go();
+	grabs();
+	many_keymaps();
 	broker_close();
 	printf("focus, ends and renewals in any order: %s\n", failed ? "not as they should be" : "ok");
 	return failed;

@@ -418,6 +418,31 @@ def bad(desk, pair):
         print(f"{trial.__name__}: {trial.__doc__}", flush=True)
 
 
+def hung_up(desk):
+    """A compositor's error comes to the client, also where it is behind more than is read at once, and that hung up."""
+    stand_in, client = socket.socket(socket.AF_UNIX), socket.socket(socket.AF_UNIX)
+    stand_in.bind(desk.path("stand-in"))
+    stand_in.listen()
+    desk.start_gateway("--compositor", "stand-in")
+    own, _ = stand_in.accept()
+    client.connect(desk.path("wlim-programs"))
+    link, _ = stand_in.accept()
+    desk.gateway.send_signal(signal.SIGSTOP)
+    error = message(1, 0, words(1, 7, 4) + b"why\0")
+    link.sendall(message(1, 1, words(60000)) * 3000 + error)
+    link.close()
+    client.sendall(message(1, 0, words(2)))
+    desk.gateway.send_signal(signal.SIGCONT)
+    client.settimeout(10)
+    came = b""
+    while data := client.recv(65536):
+        came += data
+    holds("the last that came", came[-len(error):], error)
+    holds("the gateway's end", desk.end_gateway(), 0)
+    for each in (client, own, stand_in):
+        each.close()
+
+
 def compositor_ends(desk, pair):
     desk.kill(desk.compositor)
     try:
@@ -438,6 +463,8 @@ def run(desk):
     pair.close()
     holds("the gateway's end", desk.end_gateway(), 0)
     print(f"renewed: {renewed(desk)} brokers, one after the other", flush=True)
+    hung_up(desk)
+    print(f"hung_up: {hung_up.__doc__}", flush=True)
     desk.start_gateway()
     compositor_ends(desk, Pair(desk))
     print("compositor_ends: the gateway ends too, and says why", flush=True)
