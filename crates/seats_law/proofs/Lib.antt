@@ -8,3 +8,5 @@ pub mod SeatsFollow
 pub mod LinesShorter
 pub mod SessionsRead
 pub mod SeatsAlone
+pub mod LinesOfFronts
+pub mod SeatsOfFronts

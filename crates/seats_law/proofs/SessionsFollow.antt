@@ -1,6 +1,6 @@
 -- What a session writes from a seat on, by the next line.
 use Rattle.std.proofs.Common.{◌≡◌, ℕ, ◌+◌, Bool, true, false, List, [], ◌∷◌, ◌++◌, length, Option, Some, None, refl, sym, ap, ◌∙◌}
-use Rattle.std.specs.Prelude.{codes, if◌then◌else◌, is_some}
+use Rattle.std.specs.Prelude.{codes, if◌then◌else◌}
 use Rattle.seat_steps.specs.declared.limits.Limits.{Limits}
 use Rattle.broker_model.specs.declared.journal.Kept.{Kept}
 use Rattle.broker_model.specs.Limits.{number_counted}
@@ -13,16 +13,15 @@ use Rattle.transcript_text.specs.Printing.{unstamped}
 use Rattle.seat_printer.specs.Printed.{IsFront}
 use Rattle.seat_printer.specs.Transcribed.{journal_text}
 use Rattle.session_play.specs.Played.{Play, Played, line_played}
-use Rattle.session_play.specs.Playing.{IsMore}
-use Rattle.session_play.proofs.JournalGrows.{no_more}
 use Rattle.seat_set.specs.Seats.{Seat, seat_after, seat_by, seat_said}
+use Rattle.seat_set.proofs.SeatsBegun.{same_limits, seat_grows}
 use Rattle.plain_run.specs.declared.last_line.LastLine.TheVariants as last
 use Rattle.plain_run.specs.declared.session_line.Meaning.{Meaning}
 use Rattle.plain_run.specs.declared.session_line.Meaning.TheVariants as meaning
 use Rattle.plain_run.specs.declared.session_line.Stage.{Stage}
 use Rattle.plain_run.specs.Endings.{Answer, ending}
 use Rattle.plain_run.specs.Session.{by_meaning, closed, first_stage, meaning_of, meaning_of_line, next_stage, session_from}
-use Rattle.plain_run.proofs.SessionLines.{begins, line_grows, text_grows}
+use Rattle.plain_run.proofs.SessionLines.{begins, text_grows}
 use Rattle.seats_law.proofs.SeatsTexts.{own_ending}
 
 abbrev pub stage : Stage
@@ -92,36 +91,6 @@ pub at_end : (seat : Seat) (n : ℕ) → (answer_after seat n (codes "end" ∷ [
 at_end seat n = with_end seat.full seat.limits seat.play n
 
 -- ---- the transcript grows
-
-by_grows : (limits : Limits) (play : Play) (p : Played) (b : Bool) → p.is_full ≡ b → IsMore play.journal p.play.journal
-    → IsMore play.journal (seat_by limits p).play.journal
-by_grows limits play p true is more = rw is more
-by_grows limits play p false is more = rw is more
-
-seat_grows : (line : SessionLine) (seat : Seat) → IsMore seat.play.journal (seat_after line seat).play.journal
-seat_grows line seat = by (is_some seat.full)
-  where
-    by : (b : Bool) →
-        IsMore seat.play.journal
-        (if b then seat else seat_by seat.limits (line_played seat.limits line seat.play)).play.journal
-    by true = no_more seat.play.journal
-    by false =
-        by_grows seat.limits seat.play (line_played seat.limits line seat.play)
-        (line_played seat.limits line seat.play).is_full refl
-        (line_grows seat.limits line seat.play)
-
-limits_by : (limits : Limits) (p : Played) (b : Bool) → p.is_full ≡ b → (seat_by limits p).limits ≡ limits
-limits_by limits p true is = rw is refl
-limits_by limits p false is = rw is refl
-
-same_limits : (line : SessionLine) (seat : Seat) → (seat_after line seat).limits ≡ seat.limits
-same_limits line seat = by (is_some seat.full)
-  where
-    by : (b : Bool) →
-        (if b then seat else seat_by seat.limits (line_played seat.limits line seat.play)).limits ≡ seat.limits
-    by true = refl
-    by false =
-        let p = line_played seat.limits line seat.play in limits_by seat.limits p p.is_full refl
 
 pub text_after : (line : SessionLine) (seat : Seat) →
     text_of (seat_after line seat) ≡ text_of seat ++ seat_said line seat

@@ -61,7 +61,7 @@ with_both : (o : Option (List ℕ)) (a b : List (List ℕ)) → with_line o (a +
 with_both None a b = refl
 with_both (Some line) a b = refl
 
-lines_both : (seat : ℕ) (a b : List (List ℕ)) → told_lines seat (a ++ b) ≡ told_lines seat a ++ told_lines seat b
+pub lines_both : (seat : ℕ) (a b : List (List ℕ)) → told_lines seat (a ++ b) ≡ told_lines seat a ++ told_lines seat b
 lines_both seat [] b = refl
 lines_both seat (line ∷ a) b =
     ap (with_line (behind (seat_mark seat) line)) (lines_both seat a b)

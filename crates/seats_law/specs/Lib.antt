@@ -1,2 +1,3 @@
 pub mod SeatTexts
 pub mod SeatsLaws
+pub mod SeatsFronts

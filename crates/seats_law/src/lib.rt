@@ -3,6 +3,7 @@
 #![tactic(auto)]
 
 ghost use Rattle.seats_law.specs.SeatsLaws.{SeatsAreToldAlone, SeatsAreIsolated};
+ghost use Rattle.seats_law.specs.SeatsFronts.{SeatsAreToldFronts};
 
 /// What `replay-seats` tells a seat is what `replay` writes of the session of that seat: of the lines
 /// that are for it and of those for all, in their order. Where the input ends before its line `end`,
@@ -16,4 +17,10 @@ pub fn seats_are_told_alone()
 /// it isn't played to its own, whatever they give the other seats.
 pub fn seats_are_isolated()
     ensures { SeatsAreIsolated }
+{}
+
+/// Where only a front of the output is written, as a read or a write failed or there was no memory,
+/// what its whole lines tell a seat is a front of what `replay` writes of the session of that seat.
+pub fn seats_are_told_fronts()
+    ensures { SeatsAreToldFronts }
 {}
