@@ -1,0 +1,2 @@
+pub mod InputsRead
+pub mod TrialsShown
