@@ -109,8 +109,8 @@ fn fields_of_the_peer_are_told(rt: HostRuntime) -> Result<(), Fail> {
 
 // A text is copied and handed out.
 fn is_copied(alloc: Global, spare: &mut Spare) -> Result<bool, Fail> {
-    spare.copy_text(alloc, "a")?;
-    spare.copy_preedit(alloc, "b")?;
+    spare.copy_text(alloc, "c")?;
+    spare.copy_batch(alloc, "a", "b")?;
     spare.make_room(alloc)?;
     let text = spare.take_text(alloc);
     let preedit = spare.take_preedit(alloc);
