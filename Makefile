@@ -3,6 +3,7 @@
 # make demo        replays an example, unproved
 # make build       proves and builds the program, and replays an example
 # make examples    compares what the built program makes of all examples
+# make quick       everything that runs without a proof: tests, programs, documents, C; ten minutes; python3, cc
 # make test        the gate
 # make gate-cost   the gate from nothing, on a machine that does nothing else, with what each crate costs; python3
 # make cost        builds the program, and counts the instructions of a step; python3, valgrind
@@ -21,7 +22,7 @@
 #                  `make libwlim`. Installs what it needs of Debian 12: as root, with a network
 # make gateway-mutter-test  after it, types through the gateway beside GNOME's compositor
 PROGRAM = crates/wlim/out/wlim
-.PHONY: demo build examples test gate-cost cost memory claims libwlim embed embed-test embed-speed gateway gateway-test gateway-mutter-test
+.PHONY: demo build examples quick test gate-cost cost memory claims libwlim embed embed-test embed-speed gateway gateway-test gateway-mutter-test
 demo:
 	cd crates/wlim && rt try -- replay-acts < ../../examples/one_string.acts
 
@@ -30,6 +31,9 @@ build:
 
 examples:
 	tests/examples.sh crates/wlim/out/wlim
+
+quick:
+	python3 tools/quick.py
 
 test:
 	rt ci

@@ -10,8 +10,8 @@
    path with `::` or a word `InThisForm` stand somewhere in the sources.
 3. docs/AUDIT.md tells how many must-fail edits there are, and how many exports; docs/EMBEDDING.md how many crates the
    library is of. All documents together have at most so many words, and none has a mark of an unfinished merge.
-4. With a program: each line `$ COMMAND` in a block of README.md, docs/FORMATS.md and docs/AUDITING.md ends well,
-   and writes what stands below it, if anything does. Without one it says how many were not run.
+4. With a program: each line `$ COMMAND` in a block of README.md, docs/TOUR.md, docs/FORMATS.md and docs/AUDITING.md
+   ends well, and writes what stands below it, if anything does. Without one it says how many were not run.
 
 Prints what fails, and how many were looked at; ends with 1 if any failed.
 """
@@ -31,7 +31,7 @@ GHOST = re.compile(r"\b(?:ghost|struct|enum|trait)\s+(\w+)\s*[:={<(]")
 DEFINED = re.compile(r"^\s*(?:(?:abbrev|unfoldable|record|data)\s+)*pub\s+(?:record\s+)?(\w+)", re.M)
 WORDS_OF_NO_CLAUSE = {"ensures", "requires", "result"}
 MOST_WORDS = 52_200
-RUN = ["README.md", "docs/FORMATS.md", "docs/AUDITING.md"]
+RUN = ["README.md", "docs/TOUR.md", "docs/FORMATS.md", "docs/AUDITING.md"]
 FILE = re.compile(r"[\w./-]+\.(?:rt|antt|py|sh|c|h|md|txt|session|acts|transcript|trial|shown|edit)")
 NAME = re.compile(r"[a-z]\w*_\w+|(?:[A-Z][a-z0-9]+){2,}|\w+(?:::\w+)+")
 
@@ -234,7 +234,8 @@ def counts(documents):
 
 
 def main():
-    folders = ["*.md", "docs/*.md", "crates/*/README.md", "examples/**/*.md", "gateway/*.md"]
+    folders = ["*.md", "docs/*.md", "crates/*/README.md", "examples/**/*.md", "gateway/*.md", "modules/**/*.md",
+               "conformance/*.md"]
     documents = sorted(path for pattern in folders for path in sources(pattern))
     found = list(claims(documents)) + list(names(documents)) + list(counts(documents))
     if sys.argv[1:2] == ["--program"]:

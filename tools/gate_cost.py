@@ -1,15 +1,17 @@
 #!/usr/bin/env python3
-"""What the gate costs, in minutes of processor time.
+"""What the gate costs, in minutes of processor time, as Markdown.
 
-  tools/gate_cost.py [CRATE ..]             runs `rt ci --anew` and prints, for each crate, what its proof, its
-                                            tests and its must-fail edits cost, from nothing, then the dearest
-                                            functions (each with its share of the first check of its crate's edits),
-                                            and the edits over half a minute
+  tools/gate_cost.py [CRATE ..]             runs `rt ci --anew` and prints what the whole costs, then for each crate
+                                            what its proof, its tests and its must-fail edits cost, from nothing, then
+                                            the dearest functions (each with its share of the first check of its
+                                            crate's edits), and the edits over half a minute
   tools/gate_cost.py --kept [CRATE ..]      the same of what no earlier run on this machine kept, for a gate in parts
+  tools/gate_cost.py --beside PID [FOLDER]  the same of a gate that runs already as that process, in that checkout
+  tools/gate_cost.py --counts               crates, functions and edits alone
   tools/gate_cost.py --functions CRATE ..   proves each crate anew, function by function, and prints the dearest ten
 
-The first looks at the prover's processes while the gate runs, so a process that lives for less than a fifth of a
-second is missed; the last line has the exact sum of all that ran. Run it on an idle machine.
+It looks at the prover's processes while the gate runs, so a process that lives for less than a fifth of a second is
+missed; after a run of its own the last line has the exact sum of all that ran. Run it on an idle machine.
 """
 import glob
 import os
@@ -79,15 +81,14 @@ def edit_of(folder, crate):
     return ""
 
 
-def watch(command):
-    """Runs the command; what each prover process below it cost, by crate, kind and edit."""
-    gate = subprocess.Popen(command)
+def watch(gate, is_over):
+    """What each prover process below the gate's costs until it is over, by crate, kind and edit."""
     seen, names, functions_of, looked = {}, {}, {}, 0.0
-    while gate.poll() is None:
+    while not is_over():
         for key, parent, words, folder, seconds in processes():
             if "--crate-name" not in words:
                 continue
-            if key not in seen and not descends(parent, gate.pid):
+            if key not in seen and not descends(parent, gate):
                 continue
             crate = words[words.index("--crate-name") + 1]
             kind = kind_of(words, folder)
@@ -95,10 +96,10 @@ def watch(command):
                 names[key] = edit_of(folder, crate) if kind == "edits" else ""
             seen[key] = (crate, kind, folder, seconds, names[key])
         if time.monotonic() - looked > 10:
-            look_at_seeds(gate.pid, functions_of)
+            look_at_seeds(gate, functions_of)
             looked = time.monotonic()
         time.sleep(INTERVAL)
-    return gate.returncode, seen.values(), functions_of
+    return list(seen.values()), functions_of
 
 
 def look_at_seeds(gate, functions_of):
@@ -138,6 +139,43 @@ def dear_edits(seen):
     """The edits that cost more than half a minute."""
     dear = [(seconds, crate, name) for crate, _, _, seconds, name in seen if name and seconds > 30]
     return [f"{seconds:8.1f}  {crate}: {name}" for seconds, crate, name in sorted(dear, reverse=True)]
+
+
+def counts():
+    """How many crates, functions and edits there are, those of tests and benches apart."""
+    functions = {"tests": 0, "others": 0}
+    crates = sorted(edges())
+    for crate in crates:
+        kind = "tests" if is_of_tests(crate) else "others"
+        for path in glob.glob(f"crates/{crate}/src/**/*.rt", recursive=True):
+            with open(path) as file:
+                functions[kind] += len(re.findall(r"^\s*(?:pub(?:\(\w+\))? )?(?:unsafe )?fn \w", file.read(), re.M))
+    edits = glob.glob("crates/*/must-fail/*.edit")
+    return [("crates", len(crates)), ("of them tests and benches", len([it for it in crates if is_of_tests(it)])),
+            ("functions, tests and benches apart", functions["others"]),
+            ("functions of tests and benches", functions["tests"]), ("must-fail edits", len(edits)),
+            ("crates with edits", len({os.path.dirname(it) for it in edits}))]
+
+
+def is_of_tests(crate):
+    return crate.startswith("test_") or crate.endswith(("_tests", "_bench")) or crate == "benches"
+
+
+def summary(seen):
+    """The whole, as a table: counts, and minutes by kind."""
+    minutes = {"proofs": 0.0, "tests, and crates of tests and benches": 0.0, "first checks of crates with edits": 0.0,
+               "edits": 0.0}
+    for crate, kind, _, seconds, name in seen:
+        if kind == "edits":
+            row = "edits" if name else "first checks of crates with edits"
+        else:
+            row = "tests, and crates of tests and benches" if kind == "tests" or is_of_tests(crate) else "proofs"
+        minutes[row] += seconds / 60
+    lines = ["| the gate from nothing | |", "|---|---|"]
+    lines += [f"| {name} | {number:,} |" for name, number in counts()]
+    lines += [f"| minutes: {name} | {number:.0f} |" for name, number in minutes.items()]
+    lines.append(f"| minutes: all | {sum(minutes.values()):.0f} |")
+    return "\n".join(lines)
 
 
 def table(seen):
@@ -215,23 +253,43 @@ def functions(crate, stands_on):
         print(f"{seconds:8.1f}  {name}")
 
 
+def is_running(pid):
+    try:
+        with open(f"/proc/{pid}/stat") as file:
+            return file.read().rpartition(")")[2].split()[0] != "Z"
+    except OSError:
+        return False
+
+
+def told(seen, functions_of):
+    print(summary(seen), "", table(seen), "", sep="\n")
+    print("The dearest functions of crates with edits, in seconds by the clock:", "", sep="\n")
+    print(*dearest_functions(functions_of), sep="\n")
+    print("", "Edits over half a minute, in seconds of processor time:", "", sep="\n")
+    print(*dear_edits(seen), sep="\n", flush=True)
+
+
 def main(words):
+    if words[:1] == ["--beside"]:
+        pid = int(words[1])
+        os.chdir(words[2] if words[2:] else os.readlink(f"/proc/{pid}/cwd"))
+        told(*watch(pid, lambda: not is_running(pid)))
+        return 0
     os.chdir(os.path.join(os.path.dirname(os.path.abspath(__file__)), ".."))
+    if words[:1] == ["--counts"]:
+        print(*(f"{name}: {number:,}" for name, number in counts()), sep="\n")
+        return 0
     if words[:1] == ["--functions"]:
         stands_on = edges()
         for crate in words[1:]:
             functions(crate, stands_on)
         return 0
     command = ["rt", "ci", *words[1:]] if words[:1] == ["--kept"] else ["rt", "ci", "--anew", *words]
-    status, seen, functions_of = watch(command)
-    print(table(seen))
-    print("the dearest functions of crates with edits, in seconds by the clock")
-    print(*dearest_functions(functions_of), sep="\n")
-    print("edits over half a minute, in seconds of processor time")
-    print(*dear_edits(seen), sep="\n")
+    gate = subprocess.Popen(command)
+    told(*watch(gate.pid, lambda: gate.poll() is not None))
     used = resource.getrusage(resource.RUSAGE_CHILDREN)
-    print(f"all that ran: {(used.ru_utime + used.ru_stime) / 60:.1f} minutes of processor time")
-    return status
+    print("", f"All that ran: {(used.ru_utime + used.ru_stime) / 60:.1f} minutes of processor time.", sep="\n")
+    return gate.returncode
 
 
 if __name__ == "__main__":
