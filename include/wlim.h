@@ -23,8 +23,8 @@
 extern "C" {
 #endif
 
-/* What wlim_version answers; it grows where a function of this header changes or goes. */
-#define WLIM_VERSION 1
+/* What wlim_version answers; it grows where a function of this header changes or goes, and where there is a new event. */
+#define WLIM_VERSION 2
 uint32_t wlim_version(void);
 
 /*
@@ -218,6 +218,7 @@ enum wlim_kind {
 	WLIM_PASS = 19,          /* to you: a key that no grab has, for the focused surface: the time, the key, its state */
 	WLIM_PLACED = 20,        /* to you: where a popup stands on the screen: its label, x, y */
 	WLIM_VMODS = 21,         /* to you: modifiers of a board that no grab has: depressed, latched, locked; and the group */
+	WLIM_HIDDEN = 22,        /* to you: a popup that was placed is to be shown no more, until it is placed again: its label */
 };
 
 /* The serial of WLIM_KEY and WLIM_MODS is the number of the act that told it. */

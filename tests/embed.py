@@ -1,5 +1,6 @@
 #!/usr/bin/env python3
-"""Act lists through libwlim in C beside `wlim replay-acts`: the example, the worked rows, and lists made from numbers.
+"""Act lists through libwlim in C beside `wlim replay-acts`: the examples, the worked rows, and lists made from numbers. What
+the library alone says, which popups an act hides, is held against the example's list and against where they were placed.
 
     tests/embed.py PROGRAM PLAYER [LISTS] [ACTS]
 
@@ -99,24 +100,56 @@ def told(command, acts):
     return run.stdout if run.returncode == 0 else f"{run.stdout}status {run.returncode}\n{run.stderr}"
 
 
+def apart(told_lines):
+    """The lines that say that a popup is hidden, and all others."""
+    lines = told_lines.splitlines(True)
+    return [line for line in lines if " hidden " in line], "".join(line for line in lines if " hidden " not in line)
+
+
+def is_hidden_rightly(told_lines):
+    """Each popup that is hidden was placed and not hidden since, and its line stands behind the others of its act."""
+    placed, last = set(), ""
+    for line in told_lines.splitlines():
+        number, _, what, *arguments = (line + " ").split(" ")
+        if last.startswith(f"{number} 0 hidden") and what != "hidden":
+            return False
+        if what == "placed":
+            placed.add(arguments[0])
+        elif what == "hidden" and arguments[0] not in placed:
+            return False
+        elif what == "hidden":
+            placed.remove(arguments[0])
+        last = line
+    return True
+
+
 def main():
     program, player = [sys.argv[1], "replay-acts"], shlex.split(sys.argv[2])
     lists, count = int(sys.argv[3]) if len(sys.argv) > 3 else 1000, int(sys.argv[4]) if len(sys.argv) > 4 else 400
-    with open(os.path.join(TOP, "examples/one_string.acts"), encoding="utf-8") as file:
-        work = [("the example", file.read())]
+    work, wanted_hidden = [], {}
+    for name in ("one_string", "hidden_popups"):
+        with open(os.path.join(TOP, f"examples/{name}.acts"), encoding="utf-8") as file:
+            work.append((name, file.read()))
+    with open(os.path.join(TOP, "examples/hidden_popups.hidden"), encoding="utf-8") as file:
+        wanted_hidden["hidden_popups"] = file.readlines()
     work += [(f"row {at + 1}", row) for at, row in enumerate(rows())]
     work += [(f"list {number}", made(number, count)) for number in range(lists)]
-    lines = 0
+    lines = hidden_lines = 0
     for name, acts in work:
         # The ids of a link are no event of a seat in C.
         wanted = "".join(line for line in told(program, acts).splitlines(True) if " delete_id " not in line)
-        got = told(player, acts)
+        all_told = told(player, acts)
+        hidden, got = apart(all_told)
+        hidden_lines += len(hidden)
+        if not is_hidden_rightly(all_told) or hidden != wanted_hidden.get(name, hidden):
+            print(f"{name}: hidden: {hidden}")
+            return 1
         lines += wanted.count("\n")
         if wanted != got or not wanted.startswith("end ") and "\nend " not in wanted:
             pairs = zip((wanted + "\n").split("\n"), (got + "\n").split("\n"))
             print(f"{name}: differs: {next((pair for pair in pairs if pair[0] != pair[1]), 'in length')}")
             return 1
-    print(f"{len(work)} lists the same, of {lines} lines")
+    print(f"{len(work)} lists the same, of {lines} lines, and {hidden_lines} popups hidden")
     return 0
 
 

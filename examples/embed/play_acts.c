@@ -1,5 +1,6 @@
 /*
- * Plays an act list (docs/FORMATS.md) through libwlim, and prints what `wlim replay-acts` prints.
+ * Plays an act list (docs/FORMATS.md) through libwlim, and prints what `wlim replay-acts` prints, and which popups each act
+ * hides, as `13 0 hidden 7`.
  *
  *     play_acts < one_string.acts
  *
@@ -41,6 +42,7 @@ static const char *const events[][2] = {
 	[WLIM_PASS] = { "pass", "nnn" },
 	[WLIM_PLACED] = { "placed", "lnn" },
 	[WLIM_VMODS] = { "vmods", "nnng" },
+	[WLIM_HIDDEN] = { "hidden", "l" },
 };
 
 /* The list's number of what an event is told to came back as the object's own. */

@@ -11,7 +11,8 @@ use Rattle.relay_model.specs.declared.said.Said.{Said}
 use Rattle.relay_model.specs.declared.said.Said.TheVariants as said
 use Rattle.relay_model.specs.Events.{to}
 use Rattle.relay_model.specs.Told.{told}
-use Rattle.relay_seat.specs.Events.{Heard, heard_of, heard}
+use Rattle.relay_seat.specs.Events.{Heard, heard_of, heard, hidden_heard}
+use Rattle.relay_seat.specs.Hidden.{hidden}
 use Rattle.relay_seat.specs.Served.{all_heard}
 use Rattle.broker_model.proofs.BatchGroupsWhole.{both}
 use Rattle.told_law.specs.BatchesTold.{is_of_batch, is_batch_for, batches_for, batches_told}
@@ -96,12 +97,26 @@ all_of f (t ∷ ts) =
     ∙ sym (heard_append f (batches_for f (t ∷ [])) (batches_for f ts))
     ∙ ap (heard_for f) (sym (split_first f t ts))
 
+-- that a popup is hidden is the shell's
+none_hidden : (f : ℕ) (popups : List ℕ) → filter (is_for f) (map hidden_heard popups) ≡ []
+none_hidden f [] = refl
+none_hidden f (x ∷ xs) = none_hidden f xs
+
+of_act : (f : ℕ) (act : Act) (older : List Act) →
+    filter (is_for f) (heard act older) ≡ heard_for f (batches_for f (told act older))
+of_act f act older =
+    filter_append (is_for f) (flat_map heard_of (told act older)) (map hidden_heard (hidden act older))
+    ∙ ap (λ (hs : List Heard). filter (is_for f) (flat_map heard_of (told act older)) ++ hs)
+    (none_hidden f (hidden act older))
+    ∙ append-nil (filter (is_for f) (flat_map heard_of (told act older)))
+    ∙ all_of f (told act older)
+
 all_told : (f : ℕ) (log : List Act) → filter (is_for f) (all_heard log) ≡ heard_for f (batches_told log f)
 all_told f [] = refl
 all_told f (act ∷ older) =
     filter_append (is_for f) (all_heard older) (heard act older)
     ∙ ap (λ (hs : List Heard). hs ++ filter (is_for f) (heard act older)) (all_told f older)
-    ∙ ap (λ (hs : List Heard). heard_for f (batches_told older f) ++ hs) (all_of f (told act older))
+    ∙ ap (λ (hs : List Heard). heard_for f (batches_told older f) ++ hs) (of_act f act older)
     ∙ sym (heard_append f (batches_told older f) (batches_for f (told act older)))
 
 pub handed : HandedBatches

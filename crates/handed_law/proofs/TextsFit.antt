@@ -1,7 +1,7 @@
 -- What acts tell whose texts fit a message are messages that fit, so the texts that are handed out are short.
-use Rattle.std.proofs.Common.{◌≡◌, ◌≤◌, ℕ, List, [], ◌∷◌, length, Option, Some, None, true, arith}
+use Rattle.std.proofs.Common.{◌≡◌, ◌≤◌, ℕ, List, [], ◌∷◌, ◌++◌, map, length, Option, Some, None, true, arith}
 use Rattle.std.specs.Prelude.{IfSome}
-use Rattle.std.specs.List.{AllByRecursion}
+use Rattle.std.specs.List.{AllByRecursion, flat_map}
 use Rattle.std.proofs.lemmas.Bool.{leb-true}
 use Rattle.wl_proto.specs.declared.interface.Interface.TheVariants as interface
 use Rattle.wl_proto.specs.Grammar.{word, signed, text}
@@ -17,10 +17,11 @@ use Rattle.relay_core.specs.Bounds.{text_of}
 use Rattle.seat_audience.specs.Tells.{IsShort}
 use Rattle.broker_model.specs.Ids.{Made}
 use Rattle.broker_model.specs.Groups.{message_of}
-use Rattle.broker_model.proofs.EachElement.{each_weaker, each_flat}
+use Rattle.broker_model.proofs.EachElement.{each_append, each_weaker, each_flat}
 use Rattle.broker_core.proofs.ToldMessagesFit.{all_short}
 use Rattle.relay_seat.specs.declared.event.Event.{Event}
-use Rattle.relay_seat.specs.Events.{Heard, event_of, heard_at, heard_of}
+use Rattle.relay_seat.specs.Events.{Heard, event_of, heard_at, heard_of, hidden_heard}
+use Rattle.relay_seat.specs.Hidden.{hidden}
 use Rattle.relay_seat.specs.Seated.{fits}
 use Rattle.handed_law.specs.TextsFit.{HandedTextsFit}
 
@@ -53,9 +54,16 @@ short_heard : (o : Option Event) (t : List ℕ) → length t ≤ 4083 → AllByR
 short_heard None t h = tt
 short_heard (Some event) t h = (h, tt)
 
+-- that a popup is hidden has no text
+hidden_short : (popups : List ℕ) → AllByRecursion HasShortText (map hidden_heard popups)
+hidden_short [] = tt
+hidden_short (x ∷ xs) = (omega arith, hidden_short xs)
+
 pub handed_fit : HandedTextsFit
 handed_fit act log h =
-    each_flat HasShortText heard_of (told act log)
+    each_append HasShortText (flat_map heard_of (told act log)) (map hidden_heard (hidden act log))
+    (each_flat HasShortText heard_of (told act log)
     (each_weaker IsShort (λ t. AllByRecursion HasShortText (heard_of t)) (told act log)
     (λ t s. short_heard (event_of t) (text_of t.event) (short_text t.event s))
-    (all_short act log (fitting act h.0) (each_weaker (λ a. fits a ≡ true) FitsMessage log fitting h.1)))
+    (all_short act log (fitting act h.0) (each_weaker (λ a. fits a ≡ true) FitsMessage log fitting h.1))))
+    (hidden_short (hidden act log))

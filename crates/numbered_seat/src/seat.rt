@@ -100,6 +100,7 @@ impl NumberedSeat {
         ensures relay { (log : List Act) → StandsFor self.old.seat.relay log → StandsFor
             self.new.seat.relay log }
         ensures living { self.new.seat.living ≡ self.old.seat.living }
+        ensures popups { self.new.seat.popups ≡ self.old.seat.popups }
         ensures limits { self.new.seat.limits ≡ self.old.seat.limits }
         ensures numbers { self.new.numbers ≡ self.old.numbers }
     {

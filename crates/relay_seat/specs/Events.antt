@@ -1,5 +1,5 @@
--- What is told, as numbers and a text.
-use Rattle.std.specs.Prelude.{ℕ, ℤ, pos, List, [], ◌∷◌, length, Option, Some, None}
+-- What is told, as numbers and a text, and which popups are hidden.
+use Rattle.std.specs.Prelude.{ℕ, ℤ, pos, List, [], ◌∷◌, ◌++◌, length, map, Option, Some, None}
 use Rattle.std.specs.List.{flat_map}
 use Rattle.relay_model.specs.declared.act.Act.{Act}
 use Rattle.relay_model.specs.declared.said.Told.{Told}
@@ -8,6 +8,7 @@ use Rattle.relay_model.specs.declared.said.Said.TheVariants as said
 use Rattle.relay_model.specs.Told.{told}
 use Rattle.relay_core.specs.Bounds.{text_of}
 use Rattle.relay_seat.specs.declared.event.Event.{Event}
+use Rattle.relay_seat.specs.Hidden.{hidden}
 
 -- which event it is, of those that are told to objects that a compositor has
 abbrev pub kind_of : Said → Option ℕ
@@ -95,6 +96,15 @@ heard_at (Some event) text = record { event = event; text = text } ∷ []
 abbrev pub heard_of : Told → List Heard
 heard_of t = heard_at (event_of t) (text_of t.event)
 
--- what it hears of an act after the acts of the list
+-- the shell is told that the popup is hidden
+abbrev pub hidden_event : ℕ → Event
+hidden_event popup = record (numbers (pos popup) (pos 0) (pos 0) (pos 0)) { kind = 22 }
+
+-- what an embedder hears of a popup that is hidden
+abbrev pub hidden_heard : ℕ → Heard
+hidden_heard popup = record { event = hidden_event popup; text = [] }
+
+-- what it hears of an act after the acts of the list: what is told, and then each popup that the act
+-- hides
 abbrev pub heard : Act → List Act → List Heard
-heard act log = flat_map heard_of (told act log)
+heard act log = flat_map heard_of (told act log) ++ map hidden_heard (hidden act log)

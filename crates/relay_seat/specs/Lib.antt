@@ -1,3 +1,5 @@
+pub mod Hidden
+pub mod KeptPopups
 pub mod Events
 pub mod Waiting
 pub mod Seated

@@ -10,6 +10,8 @@ use Rattle.seat_census.specs.declared.census.SeatLimits.{SeatLimits}
 use Rattle.seat_census.specs.Living.{living, is_over}
 use Rattle.relay_seat.specs.declared.seat.Refusal.{Refusal}
 use Rattle.relay_seat.specs.declared.seat.Refusal.TheVariants.{NoMemory, Full, Long, Many}
+use Rattle.relay_seat.specs.declared.popups.KeptPopup.{KeptPopup}
+use Rattle.relay_seat.specs.KeptPopups.{kept_popups}
 use Rattle.relay_seat.specs.Events.{Heard, heard}
 
 -- a seat as contracts see it
@@ -18,10 +20,12 @@ pub record Seat : Type 0 where
   pub heard : List Heard
   pub limits : SeatLimits
   pub living : List Living
+  pub popups : List KeptPopup
 
--- the seat stands for the acts, the newest first, and these events wait
+-- the seat stands for the acts, the newest first, keeps which popups are shown, and these events wait
 pub record Seated (seat : Seat) (log : List Act) (waits : List Heard) : Type 0 where
   pub relay : StandsFor seat.relay log
+  pub popups : seat.popups ≡ kept_popups (history log)
   pub queue : seat.heard ≡ waits
 
 -- the objects that live by the acts are counted

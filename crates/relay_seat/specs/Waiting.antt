@@ -1,17 +1,19 @@
 -- What waits in a queue, and what it has room for.
-use Rattle.std.specs.Prelude.{◌≡◌, ℕ, ◌+◌, ◌<◌, ◌≤◌, List, [], ◌∷◌, ◌++◌, length, take, drop, Option, Some, None, Result, Ok, Err}
+use Rattle.std.specs.Prelude.{◌≡◌, ℕ, ◌+◌, ◌<◌, ◌≤◌, List, [], ◌∷◌, ◌++◌, length, take, drop, Bool, ◌||◌, Option, Some, None, Result, Ok, Err}
 use Rattle.relay_model.specs.declared.said.Told.{Told}
 use Rattle.relay_core.specs.Bounds.{text_of, text_bytes}
 use Rattle.relay_seat.specs.declared.event.Event.{Event}
 use Rattle.relay_seat.specs.declared.queue.TooShort.{TooShort}
 use Rattle.relay_seat.specs.Events.{Heard, heard_of}
+use Rattle.relay_seat.specs.KeptPopups.{tells_place}
 
--- a queue as contracts see it: what waits, the next event first, and room for so many events and
--- bytes of texts more
+-- a queue as contracts see it: what waits, the next event first, room for so many events and bytes
+-- of texts more, and whether a place was told since room was made
 pub record Waiting : Type 0 where
   pub heard : List Heard
   pub places : ℕ
   pub bytes : ℕ
+  pub has_placed : Bool
 
 -- the events with their texts, which stand one behind the other
 abbrev pub heard_from : List Event → List ℕ → List Heard
@@ -34,6 +36,7 @@ pub record Queues (old : Waiting) (told : Told) (new : Waiting) : Type 0 where
   pub gained : HasPlace old told → new.heard ≡ old.heard ++ heard_of told
   pub places : old.places ≤ new.places + 1
   pub bytes : old.bytes ≤ new.bytes + length (text_of told.event)
+  pub placed : new.has_placed ≡ (old.has_placed || tells_place told)
 
 -- the event waits longest, with a text of its length; none where nothing waits
 abbrev pub IsFirst : List Heard → Option Event → Type 0
@@ -55,6 +58,7 @@ Pulls old new before after (Err short) =
     × (length first.text ≡ short.needed) × (length before < short.needed)
     × (new ≡ old) × (after ≡ before)
 
--- there is room for all that is told
-abbrev pub HasRoomFor : Waiting → List Told → Type 0
-HasRoomFor queue told = (length told ≤ queue.places) × (text_bytes told ≤ queue.bytes)
+-- there is room for all that is told, and for so many events more
+abbrev pub HasRoomFor : Waiting → List Told → ℕ → Type 0
+HasRoomFor queue told more =
+    (length told + more ≤ queue.places) × (text_bytes told ≤ queue.bytes)

@@ -1,9 +1,10 @@
 //! An event as numbers, in the form in which a program in C has it.
 ghost use Rattle.std.specs.Prelude.{◌≡◌};
 ghost use Rattle.relay_core.specs.Bounds.{text_of};
-ghost use Rattle.relay_seat.specs.Events.{kind_of, numbers, grouped, arguments, event_of};
+ghost use Rattle.relay_seat.specs.Events.{kind_of, numbers, grouped, arguments, event_of, hidden_event};
+ghost use Rattle.relay_seat.specs.KeptPopups.{tells_place};
 
-use relay_model::{Said, Told};
+use relay_model::{Label, Said, Told};
 
 /// An event without its text. `kind` says which event it is, and what its arguments are, in the protocol's order; the
 /// others are 0.
@@ -94,6 +95,9 @@ pub mod kind {
     /// To the shell, of modifiers of a board that no grab has: what is depressed, latched and locked. The group is in
     /// `group`.
     pub const VMODS: u32 = 21;
+
+    /// To the shell, of a popup that was shown: its label. It isn't any more, until it is placed again.
+    pub const HIDDEN: u32 = 22;
 }
 
 // Which event it is, of those that are told to objects that a compositor has; none of those that only a
@@ -235,6 +239,23 @@ fn arguments(said: &Said) -> Event
         ),
         _ => numbers(0, 0, 0, 0),
     }
+}
+
+/// The shell is told that the popup is hidden.
+pub fn hidden_event(popup: Label) -> Event
+    ensures { result ≡ hidden_event popup }
+{
+    Event {
+        kind: kind::HIDDEN,
+        ..numbers(i64::from(popup), 0, 0, 0)
+    }
+}
+
+/// Whether it is told where a popup stands.
+pub fn tells_place(told: &Told) -> bool
+    ensures { result ≡ tells_place told.now }
+{
+    matches!(told.event, Said::Placed { .. })
 }
 
 /// What is told as numbers, with the length of its text; none for what only a link of ours needs.

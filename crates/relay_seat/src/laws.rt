@@ -21,6 +21,7 @@ pub fn served_law()
         (refusal : Refusal) → ((waits : List Heard) → Seated old log waits → Takes new log waits act
         (Err refusal)) → Served old log handed → Served new log handed }
     ensures handed { (old new : Seat) → (log : List Act) → (handed : List Heard) → (first : Heard) →
-        (StandsFor old.relay log → StandsFor new.relay log) → old.heard ≡ first ∷ new.heard →
-        Served old log handed → Served new log (handed ++ first ∷ []) }
+        (StandsFor old.relay log → StandsFor new.relay log) → new.popups ≡ old.popups →
+        old.heard ≡ first ∷ new.heard → Served old log handed →
+        Served new log (handed ++ first ∷ []) }
 {}

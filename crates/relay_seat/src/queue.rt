@@ -1,14 +1,15 @@
 //! What was told and not asked for yet: the events in one ring, their texts one after the other in
 //! another.
-ghost use Rattle.std.specs.Prelude.{◌≡◌, ◌+◌, ◌^◌, ◌++◌, ◌∷◌, ◌≤◌, ◌<◌, [], length};
+ghost use Rattle.std.specs.Prelude.{◌≡◌, ◌+◌, ◌^◌, ◌++◌, ◌∷◌, ◌≤◌, ◌<◌, [], length, false};
 ghost use Rattle.std.specs.Prelude.{IfOk, OnOk};
 ghost use Rattle.circular_buffer.specs.Buffer.{buffer};
+ghost use Rattle.relay_seat.specs.Events.{hidden_heard};
 ghost use Rattle.relay_seat.specs.Waiting.{IsFirst, Pulls};
 
-use crate::event::{Event, event_of, text_of};
+use crate::event::{Event, event_of, hidden_event, tells_place, text_of};
 use circular_buffer::HeapCircularBuffer;
 use relay_core::Post;
-use relay_model::Told;
+use relay_model::{Label, Told};
 use std::alloc::Global;
 use std::marker::Model;
 use wio_core::NoMemory;
@@ -25,6 +26,7 @@ pub struct TooShort {
 pub struct Queue {
     events: HeapCircularBuffer<Event>,
     texts: HeapCircularBuffer<u8>,
+    has_placed: bool,
 }
 
 impl Model for Queue {
@@ -37,6 +39,7 @@ impl Model for Queue {
       heard = heard_from q.events.items q.texts.items;
       places = q.events.capacity - length q.events.items;
       bytes = q.texts.capacity - length q.texts.items;
+      has_placed = q.has_placed;
     } };
 
     ghost invariant = { λ q. lengths q.events.items ≡ length q.texts.items };
@@ -82,17 +85,21 @@ impl Queue {
         Ok(Queue {
             events: HeapCircularBuffer::with_capacity(alloc, 0)?,
             texts: HeapCircularBuffer::with_capacity(alloc, 0)?,
+            has_placed: false,
         })
     }
 
-    /// Makes room for so many events more, and so many bytes of their texts. What waits stays, also
-    /// after `NoMemory`, which comes where a ring gets no memory. No room has 2^63 places.
+    /// Makes room for so many events more, and so many bytes of their texts, for an act, which told no
+    /// place yet. What waits stays, also after `NoMemory`, which comes where a ring gets no memory. No
+    /// room has 2^63 places.
     pub fn reserve(&mut self, events: usize, bytes: usize) -> Result<(), NoMemory>
         ensures heard { self.new.heard ≡ self.old.heard }
         ensures places { OnOk result (events ≤ self.new.places) }
         ensures bytes { OnOk result (bytes ≤ self.new.bytes) }
         ensures few { OnOk result ((self.new.places < 2 ^ 63) × (self.new.bytes < 2 ^ 63)) }
+        ensures placed { self.new.has_placed ≡ false }
     {
+        self.has_placed = false;
         make_room(&mut self.events, events)?;
         make_room(&mut self.texts, bytes)
     }
@@ -104,6 +111,7 @@ impl Queue {
             self.old.heard ++ record { event = event; text = text.now } ∷ [] }
         ensures places { self.old.places ≤ self.new.places + 1 }
         ensures bytes { self.old.bytes ≤ self.new.bytes + length text.now }
+        ensures placed { self.new.has_placed ≡ self.old.has_placed }
     {
         if text.len() > self.texts.capacity() - self.texts.len() {
             return;
@@ -113,6 +121,22 @@ impl Queue {
         }
         append(&mut self.texts, text);
         push(&mut self.events, event);
+    }
+
+    /// The shell is told that a popup is hidden, where there is room.
+    pub fn hide(&mut self, popup: Label)
+        ensures gained { 0 < self.old.places →
+            self.new.heard ≡ self.old.heard ++ hidden_heard popup ∷ [] }
+        ensures places { self.old.places ≤ self.new.places + 1 }
+    {
+        self.put(hidden_event(popup), &[]);
+    }
+
+    /// Whether a place was told since room was made.
+    pub fn has_placed(&self) -> bool
+        ensures { result ≡ self.now.has_placed }
+    {
+        self.has_placed
     }
 
     /// Hands out the event that waits longest, and writes its text to the front of `text`.
@@ -150,6 +174,7 @@ impl Post for Queue {
     ghost may_follow = { Queues };
 
     fn tell(&mut self, told: &Told) {
+        self.has_placed = self.has_placed || tells_place(told);
         if let Some(event) = event_of(told) {
             self.put(event, text_of(&told.event));
         }

@@ -1,5 +1,5 @@
 //! The seat as a program that embeds it sees it.
-ghost use Rattle.std.specs.Prelude.{◌≡◌, ◌<◌, ◌++◌, ◌∷◌, [], List, length};
+ghost use Rattle.std.specs.Prelude.{◌≡◌, ◌<◌, ◌++◌, ◌∷◌, [], List, length, false};
 ghost use Rattle.std.specs.Prelude.{IfOk, IfErr, OnOk, OnErr};
 ghost use Rattle.relay_model.specs.declared.act.Act.{Act};
 ghost use Rattle.relay_model.specs.Focus.{focus};
@@ -13,12 +13,14 @@ ghost use Rattle.relay_core.specs.Kept.{IsReserved};
 ghost use Rattle.relay_core.specs.Stands.{StandsFor};
 ghost use Rattle.seat_objects.specs.Fits.{FitsMessage};
 ghost use Rattle.relay_seat.specs.Events.{Heard, heard};
+ghost use Rattle.relay_seat.specs.KeptPopups.{IsBefore, kept_popups};
 ghost use Rattle.relay_seat.specs.Waiting.{HasRoomFor, IsFirst, Pulls};
 ghost use Rattle.batch_reasons.specs.Fate.{fate};
 ghost use Rattle.seat_census.specs.Living.{living};
 ghost use Rattle.relay_seat.specs.Seated.{Seated, Takes, IsCounted, Counts, fits};
 
 use crate::event::Event;
+use crate::popups::Popups;
 use crate::queue::{Queue, TooShort};
 use batch_reasons::{BatchFate, batch_fate};
 use relay_core::Relay;
@@ -48,6 +50,7 @@ pub struct RelaySeat {
     relay: Relay,
     queue: Queue,
     census: Census,
+    popups: Popups,
 }
 
 impl Model for RelaySeat {
@@ -65,6 +68,7 @@ impl Model for RelaySeat {
       heard = s.queue.heard;
       limits = s.census.limits;
       living = s.census.living;
+      popups = s.popups.kept;
     } };
 }
 
@@ -78,37 +82,43 @@ fn fits(act: &Act) -> bool
     }
 }
 
-// Makes room for the act, and for what it tells. More than can be counted is asked of the queue as
-// the greatest number, which no memory is enough for.
-fn reserve(relay: &mut Relay, act: &Act, queue: &mut Queue) -> Result<(), NoMemory>
+// Makes room for the act, for what it tells, and for the end of so many popups. More than can be
+// counted is asked of the queue as the greatest number, which no memory is enough for.
+fn reserve(relay: &mut Relay, act: &Act, popups: usize, queue: &mut Queue) -> Result<(), NoMemory>
     requires { FitsMessage act.now }
     ensures acts { relay.new.state.acts ≡ relay.old.state.acts }
     ensures stands { (log : List Act) → StandsFor relay.old log → StandsFor relay.new log }
     ensures heard { queue.new.heard ≡ queue.old.heard }
     ensures reserved { OnOk result (IsReserved relay.new act.now) }
     ensures room { OnOk result ((log : List Act) → StandsFor relay.old log → HasRoomFor queue.new
-        (told act.now log)) }
+        (told act.now log) popups) }
+    ensures placed { OnOk result (queue.new.has_placed ≡ false) }
 {
     relay.reserve(act)?;
-    let events = relay.most_told(act).unwrap_or(usize::MAX);
+    let told = relay.most_told(act).unwrap_or(usize::MAX);
+    let events = told.saturating_add(popups);
     let bytes = relay.most_bytes().unwrap_or(usize::MAX);
     queue.reserve(events, bytes)
 }
 
-// Makes room for the act, and has the relay take it. It is counted under its number.
+// Makes room for the act, and has the relay take it. It is counted under its number, and the shell
+// is told which popups it hides.
 fn play(
     relay: &mut Relay,
     act: &Act,
     number: Label,
     queue: &mut Queue,
     census: &mut Census,
+    popups: &mut Popups,
 ) -> Result<(), NoMemory>
     requires number { relay.old.state.acts < 4294967295 }
     requires fits { FitsMessage act.now }
     ensures stands { (log : List Act) → StandsFor relay.old log → OnOk result (StandsFor relay.new
         (act.now ∷ log)) }
-    ensures told { (log : List Act) → StandsFor relay.old log → OnOk result (queue.new.heard ≡
-        queue.old.heard ++ heard act.now log) }
+    ensures told { (log : List Act) → IsBefore relay.old popups.old.kept act.now number log →
+        OnOk result (queue.new.heard ≡ queue.old.heard ++ heard act.now log) }
+    ensures kept { (log : List Act) → IsBefore relay.old popups.old.kept act.now number log →
+        OnOk result (popups.new.kept ≡ kept_popups (history (act.now ∷ log))) }
     ensures counted { (log : List Act) → census.old.living ≡ living log → number ≡ next log →
         OnOk result (census.new.living ≡ living (act.now ∷ log)) }
     ensures stays { (log : List Act) → StandsFor relay.old log → OnErr result (StandsFor relay.new
@@ -116,11 +126,14 @@ fn play(
     ensures waits { OnErr result (queue.new.heard ≡ queue.old.heard) }
     ensures living { OnErr result (census.new.living ≡ census.old.living) }
     ensures limits { census.new.limits ≡ census.old.limits }
+    ensures popups { OnErr result (popups.new.kept ≡ popups.old.kept) }
 {
     census.reserve()?;
-    reserve(relay, act, queue)?;
+    popups.reserve()?;
+    reserve(relay, act, popups.count(), queue)?;
     let _ = relay.step(act, queue);
     census.enter(act, number);
+    popups.enter(act, number, relay, queue);
     Ok(())
 }
 
@@ -151,14 +164,15 @@ impl RelaySeat {
             relay: Relay::new(alloc)?,
             queue: Queue::new(alloc)?,
             census: Census::new(alloc, limits),
+            popups: Popups::new(alloc),
         })
     }
 
     /// Takes one act, and answers its number, which is the label of what it made. What it tells
-    /// waits behind what waited before. An act that does nothing, as one on an object that isn't
-    /// alive, a key of a board that had no keymap, or a press while 64 keys are down, costs no
-    /// number: the answer is none, and the seat is as before. So is it after a refusal. `Many`
-    /// comes exactly where the act would make one too many.
+    /// waits behind what waited before, and behind that which popups it hides. An act that does
+    /// nothing, as one on an object that isn't alive, a key of a board that had no keymap, or a press
+    /// while 64 keys are down, costs no number: the answer is none, and the seat is as before. So is
+    /// it after a refusal. `Many` comes exactly where the act would make one too many.
     pub fn take(&mut self, act: &Act) -> Result<Option<Label>, Refusal>
         ensures takes { (log : List Act) → (waits : List Heard) → Seated self.old log waits →
             Takes self.new log waits act.now result }
@@ -185,6 +199,7 @@ impl RelaySeat {
             number,
             &mut self.queue,
             &mut self.census,
+            &mut self.popups,
         ) {
             Ok(()) => Ok(Some(number)),
             Err(NoMemory) => Err(Refusal::NoMemory),
@@ -205,6 +220,7 @@ impl RelaySeat {
         ensures relay { (log : List Act) → StandsFor self.old.relay log → StandsFor self.new.relay
             log }
         ensures living { self.new.living ≡ self.old.living }
+        ensures popups { self.new.popups ≡ self.old.popups }
         ensures limits { self.new.limits ≡ self.old.limits }
     {
         self.queue.pull(text)

@@ -25,7 +25,8 @@ abbrev pub IsSame : (old new : Numbered) → Type 0
 IsSame old new =
     ((log : List Act) → StandsFor old.seat.relay log → StandsFor new.seat.relay log)
     × (new.seat.heard ≡ old.seat.heard) × (new.seat.living ≡ old.seat.living)
-    × (new.seat.limits ≡ old.seat.limits) × (new.numbers ≡ old.numbers)
+    × (new.seat.popups ≡ old.seat.popups) × (new.seat.limits ≡ old.seat.limits)
+    × (new.numbers ≡ old.numbers)
 
 -- the event that waited longest was written, with its text and its object's number, and waits no
 -- more; the seat stands for the same acts
@@ -36,6 +37,7 @@ pub record GaveFirst (old new : Numbered) (given : Given) (before after : List �
   pub written : IsZeroEnded text before after
   pub relay : (log : List Act) → StandsFor old.seat.relay log → StandsFor new.seat.relay log
   pub living : new.seat.living ≡ old.seat.living
+  pub popups : new.seat.popups ≡ old.seat.popups
   pub limits : new.seat.limits ≡ old.seat.limits
   pub numbers : new.numbers ≡ old.numbers
 

@@ -75,10 +75,10 @@ pub extern "C" fn wlim_number(seat: &mut Wlim, alloc: Global, label: u32) -> u64
     number
 }
 
-/// The version of these functions: it grows where one of them changes or goes.
+/// The version of these functions: it grows where one of them changes or goes, and where there is a new event.
 #[unsafe(no_mangle)]
 pub extern "C" fn wlim_version() -> u32
-    ensures { result ≡ 1 }
+    ensures { result ≡ 2 }
 {
-    1
+    2
 }

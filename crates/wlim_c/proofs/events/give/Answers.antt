@@ -36,6 +36,7 @@ returns c =
         written = zero;
         relay = c.in-Ok-Some.ensures.relay;
         living = c.in-Ok-Some.ensures.living;
+        popups = c.in-Ok-Some.ensures.popups;
         limits = c.in-Ok-Some.ensures.limits;
         numbers = c.in-Ok-Some.ensures.numbers;
       },

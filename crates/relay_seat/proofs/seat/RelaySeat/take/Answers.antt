@@ -5,6 +5,7 @@ use Rattle.relay_model.specs.Objects.{next}
 use Rattle.relay_model.proofs.ActsOrIdle.{length_history}
 use Rattle.relay_core.specs.Stands.{StandsFor}
 use Rattle.seat_census.specs.Living.{living, is_over}
+use Rattle.relay_seat.specs.KeptPopups.{IsBefore, kept_popups}
 use Rattle.relay_seat.specs.Events.{heard}
 use Rattle.relay_seat.specs.Seated.{Seat, Takes, Counts}
 use Rattle.relay_seat.proofs.LiveHistory.{history_live}
@@ -17,25 +18,41 @@ returns-clause-takes c = λ log waits s.
     let before : StandsFor c.self.inside.relay log =
     subst (λ (v : Seat). StandsFor v.relay log) (sym c.self.view_is) s.relay in
     let wait : c.self.inside.queue.heard ≡ waits = ap (λ (v : Seat). v.heard) c.self.view_is ∙ s.queue in
+    let were : c.self.inside.popups.kept ≡ kept_popups (history log) =
+    ap (λ (v : Seat). v.popups) c.self.view_is ∙ s.popups in
+    let counted = c.acts-number.ensures.length log before in
+    let long = length_history log in
+    let number : c.acts-number.result + 1 ≡ next (history log) = omega (arith, counted, long) in
+    let live : is_live act (history log) ≡ true = sym (c.is_live.ensures log before) ∙ c.if-not-is_live.false in
+    let first : IsBefore c.self.inside.relay c.self.inside.popups.kept act (c.acts-number.result + 1) log =
+    record { stands = before; were = were; live = live; numbered = number } in
     let census = c.play.new.census in
-    let new : Seat =
-    record { relay = c.play.new.relay; heard = c.play.new.queue.heard; limits = census.limits; living = census.living }
-    in
+    let new : Seat = record {
+      relay = c.play.new.relay;
+      heard = c.play.new.queue.heard;
+      limits = census.limits;
+      living = census.living;
+      popups = c.play.new.popups.kept;
+    } in
     elim c.match-play.branch [
       | in-Ok w ↦
-          (let counted = c.acts-number.ensures.length log before in
           subst (λ r. Takes new log waits act r) (sym w.result-is) (
             omega (arith, counted),
-            sym (c.is_live.ensures log before) ∙ c.if-not-is_live.false,
+            live,
             sym c.fits.ensures ∙ c.if-not-fits.false,
             record {
               relay = w.in-Ok.ensures.stands log before;
-              queue = w.in-Ok.ensures.told log before ∙ ap (λ h. h ++ heard act log) wait;
+              popups = w.in-Ok.ensures.kept log first;
+              queue = w.in-Ok.ensures.told log first ∙ ap (λ h. h ++ heard act log) wait;
             },
-          ))
+          )
       | in-Err w ↦
           subst (λ r. Takes new log waits act r) (sym w.result-is)
-          (record { relay = w.in-Err.ensures.stays log before; queue = w.in-Err.ensures.waits ∙ wait })
+          (record {
+            relay = w.in-Err.ensures.stays log before;
+            popups = w.in-Err.ensures.popups ∙ were;
+            queue = w.in-Err.ensures.waits ∙ wait;
+          })
     ]
 
 pub returns-clause-counts : goal.returns-clause-counts
@@ -45,9 +62,13 @@ returns-clause-counts c = λ log waits s same.
     subst (λ (v : Seat). StandsFor v.relay log) (sym c.self.view_is) s.relay in
     let was : c.self.inside.census.living ≡ living (history log) = ap (λ (v : Seat). v.living) c.self.view_is ∙ same in
     let census = c.play.new.census in
-    let new : Seat =
-    record { relay = c.play.new.relay; heard = c.play.new.queue.heard; limits = census.limits; living = census.living }
-    in
+    let new : Seat = record {
+      relay = c.play.new.relay;
+      heard = c.play.new.queue.heard;
+      limits = census.limits;
+      living = census.living;
+      popups = c.play.new.popups.kept;
+    } in
     let counted = c.acts-number.ensures.length log before in
     let long = length_history log in
     let number : c.acts-number.result + 1 ≡ next (history log) = omega (arith, counted, long) in
