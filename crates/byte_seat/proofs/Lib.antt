@@ -3,3 +3,4 @@ pub mod WatchedOn
 pub mod BytesOnWay
 pub mod HeldBytes
 pub mod StoppedPeers
+pub mod LedByCalls

@@ -1,3 +1,5 @@
 pub mod Ears
 pub mod Steps
 pub mod Seated
+pub mod Promise
+pub mod Called

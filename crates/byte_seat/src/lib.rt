@@ -3,11 +3,13 @@
 #![tactic(auto)]
 
 mod ears;
+mod laws;
 mod receive;
 mod seat;
 mod steps;
 
 pub use broker_core::{JoinRefusal, Kept, Refused, Standing, Took};
 pub use ears::{Heard, Sender, ShellEvent};
+pub use laws::byte_law;
 pub use relay_core::Route;
 pub use seat::ByteSeat;

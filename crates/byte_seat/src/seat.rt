@@ -53,6 +53,7 @@ impl ByteSeat {
     ghost use Rattle.broker_core.specs.Broker.{IsBytesUnlessMemory};
     ghost use Rattle.broker_core.specs.Taking.{out_at, standing_of, IsTaken};
     ghost use Rattle.byte_seat.specs.Ears.{Hands, nothing_heard};
+    ghost use Rattle.byte_seat.specs.Promise.{Promise};
     ghost use Rattle.byte_seat.specs.Steps.{Hearing};
     ghost use Rattle.byte_seat.specs.Seated.{WaitsAt, all_gone, IsReady};
 
@@ -258,6 +259,7 @@ impl ByteSeat {
 
     /// How much of the limits is used up: each entry and its weight counts, though it is let go.
     pub fn kept(&self) -> Kept
+        ensures promise { Promise self.now.broker }
         ensures entries { result.entries ≡ number_counted self.now.broker.journal }
         ensures weight { result.weight ≡ weight self.now.broker.journal }
     {
