@@ -12,35 +12,30 @@ static TEXTS: [(&[u8], bool); 5] = [
     (b"\xc3", false),
 ];
 
-// The bytes are a text or come back.
-fn is_text_or_back(rt: &impl Abort, owned: Vec<u8>, bytes: &[u8], is_text: bool) {
-    match Text::from_bytes(owned) {
-        Ok(text) => {
-            equal_at(rt, &bytes, true, is_text);
-            equal(rt, text.as_bytes(), bytes);
-            equal(rt, text.is_empty(), bytes.is_empty());
-        }
-        Err(back) => {
-            equal_at(rt, &bytes, false, is_text);
-            equal(rt, back.as_slice(), bytes);
-        }
-    }
-}
-
+// The bytes are a text, which is copied, or come back.
 #[test]
 fn a_text_is_utf8_without_a_zero_byte(rt: HostRuntime) -> Result<(), Fail> {
     for (bytes, is_text) in &TEXTS {
-        is_text_or_back(&rt, Vec::from_slice(rt.alloc(), bytes)?, bytes, *is_text);
+        match Text::from_bytes(Vec::from_slice(rt.alloc(), bytes)?) {
+            Ok(text) => {
+                equal_at(&rt, bytes, true, *is_text);
+                equal(&rt, text.as_bytes(), *bytes);
+                equal(&rt, text.is_empty(), bytes.is_empty());
+                equal(&rt, text.copy(rt.alloc())?.as_str(), text.as_str());
+            }
+            Err(back) => {
+                equal_at(&rt, bytes, false, *is_text);
+                let bytes_again = Bytes::new(back);
+                let copy = bytes_again.copy(rt.alloc())?;
+                equal(&rt, copy.as_slice(), *bytes);
+            }
+        }
     }
-    Ok(())
-}
-
-#[test]
-fn texts_and_bytes_are_copied(rt: HostRuntime) -> Result<(), Fail> {
-    let text = Text::of(rt.alloc(), "ab")?;
-    equal(&rt, text.copy(rt.alloc())?.as_str(), "ab");
-    let bytes = Bytes::new(text.into_bytes());
-    equal(&rt, bytes.copy(rt.alloc())?.as_slice(), bytes.as_slice());
+    equal(
+        &rt,
+        Text::of(rt.alloc(), "ab")?.into_bytes().as_slice(),
+        b"ab".as_slice(),
+    );
     Ok(())
 }
 
@@ -60,43 +55,36 @@ const STREAM: [u8; 28] = [
     1, 0, 0, 0, 1, 0, 12, 0, 2, 0, 0, 0, 7, 0, 0, 0, 1, 0, 8, 0, 7, 0, 0, 0, 7, 0, 8, 0,
 ];
 
-// The first message byte by byte, and two at once.
-fn come_whole(rt: &impl Abort, assembler: &mut Assembler) {
-    for byte in &STREAM[..11] {
-        equal(rt, assembler.feed(&[*byte]), Fed::Need);
-    }
-    completes(rt, assembler, &STREAM[11..], (1, 1, 1));
-    completes(rt, assembler, &STREAM[12..], (7, 1, 8));
-    completes(rt, assembler, &STREAM[20..], (7, 7, 8));
-    equal(rt, assembler.feed(&[]), Fed::Need);
-}
-
+// The first message comes byte by byte, and two at once.
 #[test]
 fn messages_come_whole_however_they_are_cut(rt: HostRuntime) -> Result<(), Fail> {
     let mut assembler = Assembler::new(rt.alloc())?;
-    come_whole(&rt, &mut assembler);
-    Ok(())
-}
-
-// A header with a bad size, which every later piece is answered by.
-fn stays_bad(rt: &impl Abort, assembler: &mut Assembler, header: &[u8], size: usize) {
-    equal(rt, assembler.feed(header), Fed::BadSize(size));
-    match assembler.feed(b"piece") {
-        Fed::BadSize(again) => {
-            equal(rt, again, size);
-            equal(rt, assembler.head().as_slice(), header);
-        }
-        _ => assert!(rt; false, "the bad size was forgotten"),
+    for byte in &STREAM[..11] {
+        equal(&rt, assembler.feed(&[*byte]), Fed::Need);
     }
+    completes(&rt, &mut assembler, &STREAM[11..], (1, 1, 1));
+    completes(&rt, &mut assembler, &STREAM[12..], (7, 1, 8));
+    completes(&rt, &mut assembler, &STREAM[20..], (7, 7, 8));
+    equal(&rt, assembler.feed(&[]), Fed::Need);
+    Ok(())
 }
 
 static BAD_SIZES: [(u8, u8, usize); 3] = [(4, 0, 4), (10, 0, 10), (4, 16, 4100)];
 
+// Every later piece is answered by a bad size too.
 #[test]
 fn a_bad_size_stays(rt: HostRuntime) -> Result<(), Fail> {
     for (low, high, size) in &BAD_SIZES {
         let mut assembler = Assembler::new(rt.alloc())?;
-        stays_bad(&rt, &mut assembler, &[9, 0, 0, 0, 0, 0, *low, *high], *size);
+        let header = [9, 0, 0, 0, 0, 0, *low, *high];
+        equal(&rt, assembler.feed(&header), Fed::BadSize(*size));
+        match assembler.feed(b"piece") {
+            Fed::BadSize(again) => {
+                equal(&rt, again, *size);
+                equal(&rt, assembler.head().as_slice(), header.as_slice());
+            }
+            _ => assert!(rt; false, "the bad size was forgotten"),
+        }
     }
     Ok(())
 }
@@ -126,7 +114,7 @@ fn a_string_is_read_as_the_grammar_has_it(rt: HostRuntime) {
 const WRITTEN: &[u8; 20] = b"\x01\x02\0\0\xfe\xff\xff\xff\x02\0\0\0a\0\0\0\x09\x09\x09\x09";
 
 #[test]
-fn arguments_are_written_with_zero_padding(rt: HostRuntime) {
+fn arguments_are_written_with_zero_padding_and_read(rt: HostRuntime) {
     let mut out = [9; 20];
     let mut args = ArgWriter::new(&mut out);
     args.uint(513);
@@ -134,10 +122,7 @@ fn arguments_are_written_with_zero_padding(rt: HostRuntime) {
     args.string("a");
     equal(&rt, args.finish(), 16);
     equal(&rt, out, *WRITTEN);
-}
 
-#[test]
-fn arguments_are_read(rt: HostRuntime) {
     let mut args = ArgReader::new(WRITTEN);
     equal(&rt, args.uint(), Ok(513));
     equal(&rt, args.int(), Ok(-2));

@@ -29,20 +29,6 @@ fn events_are_written_as_in_the_examples(rt: HostRuntime) {
     );
 }
 
-// What the body of a commit_string is read as.
-fn committed(body: &[u8]) -> Result<&str, Refuse> {
-    let raw = Raw {
-        id: 5,
-        opcode: 0,
-        body,
-    };
-    match read_request(Interface::InputMethod, &raw, &[]) {
-        Ok(Request::CommitString { text }) => Ok(text),
-        Ok(_) => Err(Refuse::Opcode),
-        Err(refuse) => Err(refuse),
-    }
-}
-
 static BODIES: [(&[u8], Result<&str, Refuse>); 5] = [
     (b"\x02\0\0\0a\0\0\xff", Ok("a")),
     (b"\x02\0\0\0ab\0\0", Err(Refuse::Malformed)),
@@ -51,10 +37,21 @@ static BODIES: [(&[u8], Result<&str, Refuse>); 5] = [
     (b"\x02\0\0\0a\0\0\0\0\0\0\0", Err(Refuse::Malformed)),
 ];
 
+// The body of a commit_string.
 #[test]
 fn a_commit_string_is_read_or_malformed(rt: HostRuntime) {
-    for (body, read) in &BODIES {
-        equal_at(&rt, body, committed(body), *read);
+    for (body, want) in &BODIES {
+        let raw = Raw {
+            id: 5,
+            opcode: 0,
+            body,
+        };
+        let read = match read_request(Interface::InputMethod, &raw, &[]) {
+            Ok(Request::CommitString { text }) => Ok(text),
+            Ok(_) => Err(Refuse::Opcode),
+            Err(refuse) => Err(refuse),
+        };
+        equal_at(&rt, body, read, *want);
     }
 }
 
@@ -100,25 +97,17 @@ static NO_ROWS: [(Interface, u16); 5] = [
     (Interface::VirtualKeyboard, 4),
 ];
 
-// No request has the opcode.
-fn has_no_row(interface: Interface, opcode: u16) -> bool {
-    let raw = Raw {
-        id: 5,
-        opcode,
-        body: &[],
-    };
-    matches!(read_request(interface, &raw, &[]), Err(Refuse::Opcode))
-}
-
 #[test]
-fn an_opcode_without_a_row_is_refused(rt: HostRuntime) {
+fn an_opcode_without_a_row_is_refused_and_opcodes_rise(rt: HostRuntime) {
     for (interface, opcode) in &NO_ROWS {
-        equal_at(&rt, opcode, has_no_row(*interface, *opcode), true);
+        let raw = Raw {
+            id: 5,
+            opcode: *opcode,
+            body: &[],
+        };
+        let read = read_request(*interface, &raw, &[]);
+        assert!(rt; matches!(&read, Err(Refuse::Opcode)), "at {opcode}");
     }
-}
-
-#[test]
-fn opcodes_rise_in_a_table(rt: HostRuntime) {
     assert!(rt; SURFACE_REQUESTS.opcodes_rise());
     let row = Sig {
         opcode: 3,

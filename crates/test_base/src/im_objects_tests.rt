@@ -19,19 +19,6 @@ enum Step {
     Length(usize),
 }
 
-// Makes the object, where no live object has the label.
-fn made(
-    table: &mut Table,
-    interface: Interface,
-    id: u32,
-    label: Label,
-) -> Option<Result<(), MakeRefusal>> {
-    match table.find_label(label) {
-        None => Some(table.make(id, interface, label)),
-        Some(_) => None,
-    }
-}
-
 fn make(
     rt: &impl Abort,
     table: &mut Table,
@@ -40,19 +27,18 @@ fn make(
     label: Label,
     want: Result<(), MakeRefusal>,
 ) {
-    equal_at(rt, &id, made(table, interface, id, label), Some(want));
-}
-
-fn fill(rt: &impl Abort, table: &mut Table) {
-    for id in 2..258 {
-        make(rt, table, Interface::Callback, id, id, Ok(()));
-    }
+    assert!(rt; matches!(&table.find_label(label), None));
+    equal_at(rt, &id, table.make(id, interface, label), want);
 }
 
 fn take(rt: &impl Abort, table: &mut Table, step: Step) {
     match step {
         Step::Make(interface, id, label, want) => make(rt, table, interface, id, label, want),
-        Step::Fill => fill(rt, table),
+        Step::Fill => {
+            for id in 2..258 {
+                make(rt, table, Interface::Callback, id, id, Ok(()));
+            }
+        }
         Step::Drop(id, want) => equal_at(rt, &id, table.drop_id(id), want),
         Step::Find(id, want) => equal_at(rt, &id, table.find(id), want),
         Step::FindLabel(label, want) => equal(rt, table.find_label(label), want),
@@ -116,15 +102,6 @@ const THE_FIRST_REFUSAL_THAT_APPLIES_IS_TOLD: [Step; 14] = [
     Step::Find(0xFEFF_FFFF, Some((CALLBACK, 2000))),
 ];
 
-// Each list is played over a table of its own, whose display has the label 1000.
-fn play(rt: &impl Abort, alloc: Global, steps: &[Step]) -> Result<(), Fail> {
-    let mut table = Table::new(alloc, 1000)?;
-    for step in steps {
-        take(rt, &mut table, *step);
-    }
-    Ok(())
-}
-
 const LISTS: [&[Step]; 4] = [
     &REFUSES_THE_257TH_OBJECT,
     &AN_ID_USED_ANEW_NAMES_THE_NEW_OBJECT,
@@ -132,10 +109,14 @@ const LISTS: [&[Step]; 4] = [
     &THE_FIRST_REFUSAL_THAT_APPLIES_IS_TOLD,
 ];
 
+// Each list is played over a table of its own, whose display has the label 1000.
 #[test]
 fn each_list_of_steps_is_answered(rt: HostRuntime) -> Result<(), Fail> {
     for steps in &LISTS {
-        play(&rt, rt.alloc(), steps)?;
+        let mut table = Table::new(rt.alloc(), 1000)?;
+        for step in *steps {
+            take(&rt, &mut table, *step);
+        }
     }
     Ok(())
 }

@@ -52,17 +52,13 @@ static TOLD: [(u64, Option<u64>, &[u8]); 3] = [
     (3, None, b"focus 2||screen 1000 800|fault"),
 ];
 
+// A line has at most 8,400 bytes.
 #[test]
 fn lines_come_whole_from_pieces(rt: HostRuntime) -> Result<(), Fail> {
     for (fails, limit, want) in &TOLD {
         let told = told_of(rt.alloc(), TEXT.to_vec(rt.alloc())?, *fails, *limit)?;
         equal(&rt, told.as_slice(), *want);
     }
-    Ok(())
-}
-
-#[test]
-fn a_line_has_at_most_8400_bytes(rt: HostRuntime) -> Result<(), Fail> {
     for (length, want) in [(8400, 8404), (8401, 4)] {
         let mut bytes = vec![in rt.alloc(); b'a'; length]?;
         bytes.push(b'\n')?;

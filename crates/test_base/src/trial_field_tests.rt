@@ -94,27 +94,19 @@ fn a_batch_deletes_then_inserts_then_shows(rt: HostRuntime) -> Result<(), Fail> 
     Ok(())
 }
 
-// Whether the edit changes the text.
-fn changes(rt: &impl Abort, field: &mut TrialField, edit: Edit<'_>, changes: bool)
-    requires { IsEdit edit }
-{
-    equal(rt, field.edit(&edit), changes);
-}
-
 #[test]
 fn a_full_text_takes_no_more(rt: HostRuntime) -> Result<(), Fail> {
     let mut field = TrialField::new(rt.alloc())?;
-    let at = &mut field;
     for _ in 0..4_096 {
-        changes(&rt, at, Edit::Insert("0123456789abcdef"), true);
+        equal(&rt, field.edit(&Edit::Insert("0123456789abcdef")), true);
     }
-    equal(&rt, at.text().len(), MAX_TEXT);
-    changes(&rt, at, Edit::Insert("a"), false);
-    changes(&rt, at, Edit::Rub, true);
-    changes(&rt, at, Edit::Insert("é"), false);
-    equal(&rt, at.cursor(), 65_535);
-    changes(&rt, at, Edit::Insert("a"), true);
-    equal(&rt, at.text().len(), 65_536);
+    equal(&rt, field.text().len(), MAX_TEXT);
+    equal(&rt, field.edit(&Edit::Insert("a")), false);
+    equal(&rt, field.edit(&Edit::Rub), true);
+    equal(&rt, field.edit(&Edit::Insert("é")), false);
+    equal(&rt, field.cursor(), 65_535);
+    equal(&rt, field.edit(&Edit::Insert("a")), true);
+    equal(&rt, field.text().len(), 65_536);
     Ok(())
 }
 
@@ -122,15 +114,14 @@ fn a_full_text_takes_no_more(rt: HostRuntime) -> Result<(), Fail> {
 fn a_window_begins_and_ends_between_characters(rt: HostRuntime) -> Result<(), Fail> {
     let mut field = TrialField::new(rt.alloc())?;
     equal(&rt, field.surround_window(), (0, 0));
-    let at = &mut field;
     for _ in 0..10_000 {
-        changes(&rt, at, Edit::Insert("€"), true);
+        equal(&rt, field.edit(&Edit::Insert("€")), true);
     }
-    equal(&rt, at.surround_window(), (28_002, 30_000));
+    equal(&rt, field.surround_window(), (28_002, 30_000));
     for _ in 0..5_000 {
-        changes(&rt, at, Edit::Left, true);
+        equal(&rt, field.edit(&Edit::Left), true);
     }
-    equal(&rt, at.cursor(), 15_000);
-    equal(&rt, at.surround_window(), (13_002, 17_001));
+    equal(&rt, field.cursor(), 15_000);
+    equal(&rt, field.surround_window(), (13_002, 17_001));
     Ok(())
 }

@@ -51,20 +51,6 @@ const UNDER_THE_NEXT: [(u32, bool, Route); 4] = [
     (30, false, Route::Pass),
 ];
 
-#[test]
-fn keys_follow_their_first_press(rt: HostRuntime) -> Result<(), Fail> {
-    let mut grab = Grab::new(rt.alloc())?;
-    turn_all(&rt, &mut grab, &BEFORE_A_GRAB);
-    grab.fall();
-    grab.stand(5);
-    equal(&rt, grab.standing(), Some(5));
-    turn_all(&rt, &mut grab, &UNDER_THE_FIRST);
-    grab.fall();
-    grab.stand(9);
-    turn_all(&rt, &mut grab, &UNDER_THE_NEXT);
-    Ok(())
-}
-
 const MAP: Keymap = Keymap {
     format: 1,
     token: 7,
@@ -83,19 +69,25 @@ const REPEAT: Repeat = Repeat {
     delay: 600,
 };
 
-// Tells each, and compares what is kept.
-fn keeps(rt: &impl Abort, grab: &mut Grab) {
+#[test]
+fn keys_follow_their_first_press_and_what_was_told_last_is_kept(
+    rt: HostRuntime,
+) -> Result<(), Fail> {
+    let mut grab = Grab::new(rt.alloc())?;
+    turn_all(&rt, &mut grab, &BEFORE_A_GRAB);
+    grab.fall();
+    grab.stand(5);
+    equal(&rt, grab.standing(), Some(5));
+    turn_all(&rt, &mut grab, &UNDER_THE_FIRST);
+    grab.fall();
+    grab.stand(9);
+    turn_all(&rt, &mut grab, &UNDER_THE_NEXT);
+
     grab.keymap(MAP);
     grab.repeat(REPEAT);
     grab.mods(MODS);
-    equal(rt, grab.last_keymap(), Some(MAP));
-    equal(rt, grab.last_repeat(), Some(REPEAT));
-    equal(rt, grab.last_mods(), Some(MODS));
-}
-
-#[test]
-fn keeps_what_was_told_last(rt: HostRuntime) -> Result<(), Fail> {
-    let mut grab = Grab::new(rt.alloc())?;
-    keeps(&rt, &mut grab);
+    equal(&rt, grab.last_keymap(), Some(MAP));
+    equal(&rt, grab.last_repeat(), Some(REPEAT));
+    equal(&rt, grab.last_mods(), Some(MODS));
     Ok(())
 }

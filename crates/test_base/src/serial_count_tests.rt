@@ -1,5 +1,5 @@
-//! Worked rows of fresh serials.
-use crate::equal::equal_at;
+//! Counts of dones: serials that are fresh, round the greatest number and at the limit.
+use crate::equal::{equal, equal_at};
 use serial_count::{Count32, Since, fresh};
 
 /// The count of dones, the dones of the activation, a serial, and whether it is fresh.
@@ -28,4 +28,23 @@ fn tells_fresh_serials(rt: HostRuntime) {
         let answer = fresh(Count32::at(*count), Since::at(*since), *serial);
         equal_at(&rt, &(serial, count, since), answer, *want);
     }
+}
+
+#[test]
+fn counts_round_and_stays_at_the_limit(rt: HostRuntime) {
+    let mut count = Count32::at(4294967294);
+    count.next();
+    equal(&rt, count.get(), 4294967295);
+    count.next();
+    equal(&rt, count, Count32::at(0));
+
+    let mut since = Since::at(4294967295);
+    since.next();
+    equal(&rt, since.get(), 4294967296);
+    since.next();
+    equal(&rt, since, Since::at(18446744073709551615));
+    since.begin();
+    equal(&rt, since.get(), 1);
+    since.next();
+    equal(&rt, since.get(), 2);
 }

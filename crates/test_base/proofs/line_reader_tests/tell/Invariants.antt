@@ -1,6 +1,6 @@
 use Rattle.std.proofs.Common.{◌≢◌, Some}
 use Rattle.wio_core.specs.declared.line_reader.LineStop.TheVariants as stop
-use Rattle.base_tests.proofs.line_reader_tests.tell.Given as goal
+use Rattle.test_base.proofs.line_reader_tests.tell.Given as goal
 
 -- no read failed
 abbrev pub invariant-lines : goal.invariant-lines

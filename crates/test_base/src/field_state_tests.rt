@@ -1,5 +1,5 @@
 //! A field's states over its requests, and what it takes.
-use crate::equal::equal;
+use crate::equal::{equal, equal_at};
 use field_state::{Field, Room, SURROUNDING_LIMIT, Taken};
 use popup_place::Rect;
 use std::alloc::Global;
@@ -15,7 +15,8 @@ enum Step {
     Leave,
     Enable,
     Disable,
-    Surround(&'static str, i32, i32, bool),
+    // A text, its cursor and its anchor, whether it has an effect, and whether the room for one is left.
+    Surround(&'static str, i32, i32, bool, bool),
     Cause(u32),
     Content(u32, u32),
     Rectangle(Rect, bool),
@@ -64,20 +65,6 @@ fn surround(
     Ok(Some(field.set_surrounding(&text, cursor, anchor, room)))
 }
 
-fn shows(
-    rt: &impl Abort,
-    field: &Field,
-    surrounding: Option<(&'static str, i32, i32)>,
-    cause: u32,
-    content: (u32, u32),
-    rect: Option<Rect>,
-) {
-    equal(rt, field.surrounding(), surrounding);
-    equal(rt, field.cause(), cause);
-    equal(rt, field.content(), content);
-    equal(rt, field.rect(), rect);
-}
-
 fn take(
     rt: &impl Abort,
     alloc: Global,
@@ -90,11 +77,13 @@ fn take(
         Step::Leave => field.leave(),
         Step::Enable => field.enable(),
         Step::Disable => field.disable(),
-        Step::Surround(text, cursor, anchor, has_effect) => {
-            equal(
+        Step::Surround(text, cursor, anchor, has_effect, is_left) => {
+            let answer = surround(field, alloc, text, (cursor, anchor), room)?;
+            equal_at(
                 rt,
-                surround(field, alloc, text, (cursor, anchor), room)?,
-                Some(has_effect),
+                &text,
+                (answer, room.is_some()),
+                (Some(has_effect), is_left),
             );
         }
         Step::Cause(cause) => field.set_cause(cause),
@@ -102,27 +91,13 @@ fn take(
         Step::Rectangle(rect, has_effect) => equal(rt, field.set_rect(rect), has_effect),
         Step::Commit(taken) => equal(rt, field.commit(), taken),
         Step::Displace => field.displace(),
-        Step::Shows(surrounding, cause, content, rect) => shows(
-            rt,
-            field,
-            surrounding,
-            cause,
-            content,
-            rect,
-        ),
-        Step::Count(count) => equal(rt, field.count(), count),
-    }
-    Ok(())
-}
-
-fn play(rt: &impl Abort, alloc: Global, steps: &[Step]) -> Result<(), NoMemory> {
-    let mut field = Field::new(alloc);
-    let mut room = None;
-    for step in steps {
-        if room.is_none() {
-            room = Some(Room::new(alloc)?);
+        Step::Shows(surrounding, cause, content, rect) => {
+            equal(rt, field.surrounding(), surrounding);
+            equal(rt, field.cause(), cause);
+            equal(rt, field.content(), content);
+            equal(rt, field.rect(), rect);
         }
-        take(rt, alloc, &mut field, &mut room, *step)?;
+        Step::Count(count) => equal(rt, field.count(), count),
     }
     Ok(())
 }
@@ -130,7 +105,7 @@ fn play(rt: &impl Abort, alloc: Global, steps: &[Step]) -> Result<(), NoMemory> 
 const A_COMMIT_SHOWS_WHAT_WAS_SET_AND_THE_NEXT_ONE_NO_CAUSE: [Step; 11] = [
     Step::Enter,
     Step::Enable,
-    Step::Surround("ab", 1, 1, true),
+    Step::Surround("ab", 1, 1, true, false),
     Step::Cause(1),
     Step::Content(2, 3),
     Step::Rectangle(RECT, true),
@@ -143,22 +118,22 @@ const A_COMMIT_SHOWS_WHAT_WAS_SET_AND_THE_NEXT_ONE_NO_CAUSE: [Step; 11] = [
 
 const AN_ENABLE_FORGETS_WHAT_WAS_SET_BEFORE_IT: [Step; 5] = [
     Step::Enter,
-    Step::Surround("ab", 1, 1, true),
+    Step::Surround("ab", 1, 1, true, false),
     Step::Enable,
     Step::Commit(Taken::Begun),
     Step::Shows(None, 0, (0, 0), None),
 ];
 
 const REQUESTS_WITHOUT_EFFECT_ANSWER_FALSE: [Step; 14] = [
-    Step::Surround("é", 2, 2, false),
+    Step::Surround("é", 2, 2, false, true),
     Step::Rectangle(RECT, false),
     Step::Enter,
     Step::Enable,
-    Step::Surround("é", 0, 2, true),
-    Step::Surround("é", 1, 2, false),
-    Step::Surround("é", 2, 1, false),
-    Step::Surround("é", 3, 2, false),
-    Step::Surround("é", 0, -1, false),
+    Step::Surround("é", 0, 2, true, false),
+    Step::Surround("é", 1, 2, false, true),
+    Step::Surround("é", 2, 1, false, true),
+    Step::Surround("é", 3, 2, false, true),
+    Step::Surround("é", 0, -1, false, true),
     Step::Rectangle(RECT, true),
     Step::Rectangle(NARROW, false),
     Step::Rectangle(LOW, false),
@@ -205,7 +180,7 @@ const COMMITS_COUNT_OUTSIDE_AND_A_LEAVE_KEEPS_ONLY_THEIR_COUNT: [Step; 14] = [
     Step::Count(2),
     Step::Enter,
     Step::Enable,
-    Step::Surround("ab", 0, 2, true),
+    Step::Surround("ab", 0, 2, true, false),
     Step::Cause(1),
     Step::Content(2, 3),
     Step::Rectangle(RECT, true),
@@ -215,47 +190,35 @@ const COMMITS_COUNT_OUTSIDE_AND_A_LEAVE_KEEPS_ONLY_THEIR_COUNT: [Step; 14] = [
     Step::Count(3),
 ];
 
-const LISTS: [&[Step]; 6] = [
+const THE_FIRST_TEXT_TAKES_THE_ROOM: [Step; 4] = [
+    Step::Surround("a", 0, 0, false, true),
+    Step::Enter,
+    Step::Surround("a", 0, 0, true, false),
+    Step::Surround("b", 1, 1, true, true),
+];
+
+const LISTS: [&[Step]; 7] = [
     &A_COMMIT_SHOWS_WHAT_WAS_SET_AND_THE_NEXT_ONE_NO_CAUSE,
     &AN_ENABLE_FORGETS_WHAT_WAS_SET_BEFORE_IT,
     &REQUESTS_WITHOUT_EFFECT_ANSWER_FALSE,
     &THE_WORD_OF_A_COMMIT_IS_THE_LAST_SINCE_THE_ONE_BEFORE,
     &A_DISPLACED_FIELD_HOLDS_AGAIN_ONLY_BY_AN_ENABLE,
     &COMMITS_COUNT_OUTSIDE_AND_A_LEAVE_KEEPS_ONLY_THEIR_COUNT,
+    &THE_FIRST_TEXT_TAKES_THE_ROOM,
 ];
 
+// Each list has a field of its own, and a room for a text before each of its steps.
 #[test]
 fn each_list_of_steps_is_answered(rt: HostRuntime) -> Result<(), Fail> {
     for steps in &LISTS {
-        play(&rt, rt.alloc(), steps)?;
+        let mut field = Field::new(rt.alloc());
+        let mut room = None;
+        for step in *steps {
+            if room.is_none() {
+                room = Some(Room::new(rt.alloc())?);
+            }
+            take(&rt, rt.alloc(), &mut field, &mut room, *step)?;
+        }
     }
-    Ok(())
-}
-
-#[test]
-fn the_first_text_takes_the_room(rt: HostRuntime) -> Result<(), Fail> {
-    let alloc = rt.alloc();
-    let mut field = Field::new(alloc);
-    let mut room = Some(Room::new(alloc)?);
-    equal(
-        &rt,
-        surround(&mut field, alloc, "a", (0, 0), &mut room)?,
-        Some(false),
-    );
-    assert!(rt; room.is_some());
-    field.enter();
-    equal(
-        &rt,
-        surround(&mut field, alloc, "a", (0, 0), &mut room)?,
-        Some(true),
-    );
-    assert!(rt; room.is_none());
-    room = Some(Room::new(alloc)?);
-    equal(
-        &rt,
-        surround(&mut field, alloc, "b", (1, 1), &mut room)?,
-        Some(true),
-    );
-    assert!(rt; room.is_some());
     Ok(())
 }
