@@ -43,71 +43,28 @@ enum Call {
     Pop(Option<u32>),
 }
 
-fn ask_registry(alloc: Global, shared: &mut Shared) -> Result<Result<Applied, Refused>, NoMemory> {
-    let registry = PeerStep::Message {
-        id: 1,
-        opcode: 1,
-        body: Bytes::from_slice(alloc, &[2, 0, 0, 0])?,
-    };
-    Ok(shared.apply(&Step::Peer(1, registry), GIVEN))
-}
-
-fn send_tokens(alloc: Global, shared: &mut Shared) -> Result<Result<Applied, Refused>, NoMemory> {
-    let tokens = PeerStep::Tokens(TokenList::from_slice(alloc, &[7, 8])?);
-    Ok(shared.apply(&Step::Peer(1, tokens), GIVEN))
-}
-
-fn go(shared: &mut Shared) -> Result<Applied, Refused> {
-    shared.apply(&Step::Peer(1, PeerStep::Gone), GIVEN)
-}
-
-fn press(shared: &mut Shared) -> Result<Applied, Refused> {
-    let key = ShellStep::Key {
-        time: 5,
-        key: 30,
-        state: 1,
-    };
-    shared.apply(&Step::Shell(key), GIVEN)
-}
+const KEY: ShellStep = ShellStep::Key {
+    time: 5,
+    key: 30,
+    state: 1,
+};
 
 fn answer(
     alloc: Global,
     shared: &mut Shared,
     kind: Kind,
 ) -> Result<Result<Applied, Refused>, NoMemory> {
-    match kind {
-        Kind::Registry => ask_registry(alloc, shared),
-        Kind::Tokens => send_tokens(alloc, shared),
-        Kind::Gone => Ok(go(shared)),
-        Kind::Key => Ok(press(shared)),
-    }
-}
-
-fn join(shared: &mut Shared, role: Role) -> Result<u32, JoinRefusal> {
-    shared.join(role, GIVEN)
-}
-
-fn take(shared: &mut Shared) -> Took {
-    shared.take(1, &mut [0; 200], &mut [0; 256], GIVEN)
-}
-
-fn fill(rt: &impl Abort, shared: &mut Shared) {
-    for number in 1..65 {
-        equal(rt, join(shared, Role::Method), Ok(number));
-    }
-}
-
-fn shows(rt: &impl Abort, shared: &Shared, peers: u32, entries: u32, weight: u64) {
-    equal(rt, shared.peers(), peers);
-    equal(rt, shared.journal().len(), entries);
-    equal(rt, shared.journal().kept().weight, weight);
-    equal(rt, shared.stamps().len(), entries);
-    equal(rt, shared.stamps().entry(entries), Some(&GIVEN));
-}
-
-fn pop(shared: &mut Shared) -> Option<u32> {
-    let out = shared.pop_oldest()?;
-    Some(out.number)
+    let step = match kind {
+        Kind::Registry => PeerStep::Message {
+            id: 1,
+            opcode: 1,
+            body: Bytes::from_slice(alloc, &[2, 0, 0, 0])?,
+        },
+        Kind::Tokens => PeerStep::Tokens(TokenList::from_slice(alloc, &[7, 8])?),
+        Kind::Gone => PeerStep::Gone,
+        Kind::Key => return Ok(shared.apply(&Step::Shell(KEY), GIVEN)),
+    };
+    Ok(shared.apply(&Step::Peer(1, step), GIVEN))
 }
 
 fn make_call(
@@ -117,27 +74,32 @@ fn make_call(
     call: Call,
 ) -> Result<(), NoMemory> {
     match call {
-        Call::Join(role, want) => equal(rt, join(shared, role), want),
-        Call::Fill => fill(rt, shared),
+        Call::Join(role, want) => equal(rt, shared.join(role, GIVEN), want),
+        Call::Fill => {
+            for number in 1..65 {
+                equal(rt, shared.join(Role::Method, GIVEN), Ok(number));
+            }
+        }
         Call::Goes(kind) => assert!(rt; answer(alloc, shared, kind)?.is_ok()),
         Call::Answers(kind, want) => equal(rt, answer(alloc, shared, kind)?, want),
         Call::Stored(want) => equal(rt, shared.stored(1), Some(want)),
-        Call::Take(want) => equal(rt, take(shared), want),
-        Call::Shows(peers, entries, weight) => shows(rt, shared, peers, entries, weight),
+        Call::Take(want) => {
+            let took = shared.take(1, &mut [0; 200], &mut [0; 256], GIVEN);
+            equal(rt, took, want);
+        }
+        Call::Shows(peers, entries, weight) => {
+            let stamps = (shared.stamps().len(), shared.stamps().entry(entries));
+            equal(rt, stamps, (entries, Some(&GIVEN)));
+            let weighs = shared.journal().kept().weight;
+            equal(
+                rt,
+                (shared.peers(), shared.journal().len()),
+                (peers, entries),
+            );
+            equal(rt, weighs, weight);
+        }
         Call::LetGo(number) => shared.let_go(number),
-        Call::Pop(want) => equal(rt, pop(shared), want),
-    }
-    Ok(())
-}
-
-fn call_all(
-    rt: &impl Abort,
-    alloc: Global,
-    shared: &mut Shared,
-    calls: &[Call],
-) -> Result<(), NoMemory> {
-    for each in calls {
-        make_call(rt, alloc, shared, *each)?;
+        Call::Pop(want) => equal(rt, shared.pop_oldest().map(|out| out.number), want),
     }
     Ok(())
 }
@@ -191,28 +153,47 @@ fn play(rt: &impl Abort, alloc: Global, limits: Limits, calls: &[Call]) -> Resul
     requires { IsLimits limits }
 {
     let mut shared = Shared::new(alloc, limits)?;
-    call_all(rt, alloc, &mut shared, calls)
+    for call in calls {
+        make_call(rt, alloc, &mut shared, *call)?;
+    }
+    Ok(())
 }
 
 #[test]
 fn each_list_of_calls_is_answered(rt: HostRuntime) -> Result<(), Fail> {
-    let five = Limits {
-        entries: 5,
-        store: 128,
-        weight: FORM_1_WEIGHT,
-    };
-    play(&rt, rt.alloc(), five, &EACH_CALL_ANSWERS)?;
-    let one = Limits {
-        entries: 1,
-        store: 64,
-        weight: FORM_1_WEIGHT,
-    };
-    play(&rt, rt.alloc(), one, &EACH_REFUSAL_HAS_ITS_CAUSE)?;
-    let hundred = Limits {
-        entries: 100,
-        store: 64,
-        weight: FORM_1_WEIGHT,
-    };
-    play(&rt, rt.alloc(), hundred, &THE_65TH_PEER_IS_REFUSED)?;
+    let (weight, alloc) = (FORM_1_WEIGHT, rt.alloc());
+    let (entries, store) = (5, 128);
+    play(
+        &rt,
+        alloc,
+        Limits {
+            entries,
+            store,
+            weight,
+        },
+        &EACH_CALL_ANSWERS,
+    )?;
+    let (entries, store) = (1, 64);
+    play(
+        &rt,
+        alloc,
+        Limits {
+            entries,
+            store,
+            weight,
+        },
+        &EACH_REFUSAL_HAS_ITS_CAUSE,
+    )?;
+    let (entries, store) = (100, 64);
+    play(
+        &rt,
+        alloc,
+        Limits {
+            entries,
+            store,
+            weight,
+        },
+        &THE_65TH_PEER_IS_REFUSED,
+    )?;
     Ok(())
 }

@@ -19,62 +19,50 @@ const KEYMAP_BYTES: &[u8] = &[7, 0, 0, 0, 0, 0, 16, 0, 1, 0, 0, 0, 5, 0, 0, 0];
 
 const COMMIT_STRING_BYTES: &[u8] = &[9, 0, 0, 0, 3, 0, 16, 0, 3, 0, 0, 0, 104, 105, 0, 0];
 
-fn put_keymap(gathering: &mut Gathering) {
-    gathering.put(7, &KEYMAP, Some(42));
-}
-
-fn put_string(gathering: &mut Gathering) {
-    gathering.put(9, &COMMIT_STRING, None);
-}
-
-// Both are gathered, in this order, with the token at this place.
-fn holds_both(rt: &impl Abort, gathering: &Gathering, first: &[u8], last: &[u8], place: usize) {
-    assert!(rt; !gathering.is_over());
-    equal(rt, gathering.bytes().len(), 32);
-    assert!(rt; gathering.bytes().starts_with(first));
-    assert!(rt; gathering.bytes().ends_with(last));
-    equal(rt, gathering.tokens(), [(place, 42)].as_slice());
-}
-
-// These alone are gathered.
+// These alone are gathered: the front, the end, and how many bytes; and the tokens.
 fn holds(
     rt: &impl Abort,
     gathering: &Gathering,
     is_over: bool,
-    bytes: &[u8],
+    (front, end, length): (&[u8], &[u8], usize),
     tokens: &[(usize, u32)],
 ) {
-    equal(rt, gathering.is_over(), is_over);
-    equal(rt, gathering.bytes(), bytes);
+    let bytes = gathering.bytes();
+    equal(rt, (gathering.is_over(), bytes.len()), (is_over, length));
+    assert!(rt; bytes.starts_with(front) && bytes.ends_with(end));
     equal(rt, gathering.tokens(), tokens);
 }
 
 #[test]
 fn a_keymap_and_a_string_are_gathered(rt: HostRuntime) -> Result<(), Fail> {
     let mut gathering = Gathering::new(rt.alloc(), 32)?;
-    put_keymap(&mut gathering);
-    put_string(&mut gathering);
-    holds_both(&rt, &gathering, KEYMAP_BYTES, COMMIT_STRING_BYTES, 0);
+    gathering.put(7, &KEYMAP, Some(42));
+    gathering.put(9, &COMMIT_STRING, None);
+    let both = (KEYMAP_BYTES, COMMIT_STRING_BYTES, 32);
+    holds(&rt, &gathering, false, both, &[(0, 42)]);
     gathering.clear();
-    holds(&rt, &gathering, false, &[], &[]);
-    put_string(&mut gathering);
-    put_keymap(&mut gathering);
-    holds_both(&rt, &gathering, COMMIT_STRING_BYTES, KEYMAP_BYTES, 16);
+    holds(&rt, &gathering, false, (&[], &[], 0), &[]);
+    gathering.put(9, &COMMIT_STRING, None);
+    gathering.put(7, &KEYMAP, Some(42));
+    let both = (COMMIT_STRING_BYTES, KEYMAP_BYTES, 32);
+    holds(&rt, &gathering, false, both, &[(16, 42)]);
     Ok(())
 }
 
 #[test]
 fn what_follows_one_that_was_left_out_is_left_out(rt: HostRuntime) -> Result<(), Fail> {
     let mut gathering = Gathering::new(rt.alloc(), 31)?;
-    put_keymap(&mut gathering);
-    put_string(&mut gathering);
-    holds(&rt, &gathering, true, KEYMAP_BYTES, &[(0, 42)]);
+    gathering.put(7, &KEYMAP, Some(42));
+    gathering.put(9, &COMMIT_STRING, None);
+    let keymap = (KEYMAP_BYTES, KEYMAP_BYTES, 16);
+    holds(&rt, &gathering, true, keymap, &[(0, 42)]);
     gathering.put(9, &Event::Activate, None);
-    holds(&rt, &gathering, true, KEYMAP_BYTES, &[(0, 42)]);
+    holds(&rt, &gathering, true, keymap, &[(0, 42)]);
     gathering.clear();
-    holds(&rt, &gathering, false, &[], &[]);
-    put_string(&mut gathering);
-    holds(&rt, &gathering, false, COMMIT_STRING_BYTES, &[]);
+    holds(&rt, &gathering, false, (&[], &[], 0), &[]);
+    gathering.put(9, &COMMIT_STRING, None);
+    let string = (COMMIT_STRING_BYTES, COMMIT_STRING_BYTES, 16);
+    holds(&rt, &gathering, false, string, &[]);
     Ok(())
 }
 

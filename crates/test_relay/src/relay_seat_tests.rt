@@ -1,33 +1,9 @@
 //! What no clause tells: that memory is found. The events are those that were worked out by hand.
+use crate::acts::{OPENING, acts_of};
 use crate::equal::equal;
 use relay_model::{Act, Text};
 use relay_seat::{RelaySeat, kind};
-use std::process::Abort;
 use std::test::Fail;
-
-// The acts 1 to 8: a method serves, and the field 3 holds the seat.
-fn opening(number: u32) -> Act {
-    match number {
-        1 | 4 => Act::Peer,
-        2 => Act::Surface { peer: 1 },
-        3 => Act::Field { peer: 1 },
-        5 => Act::Method { peer: 4 },
-        6 => Act::Focus { surface: 2 },
-        7 => Act::Enable { field: 3 },
-        _ => Act::Commit { field: 3 },
-    }
-}
-
-// Each act has the number that it would have alone; an act on no object has none.
-fn open(rt: &impl Abort, seat: &mut RelaySeat) {
-    for number in 1..=8 {
-        equal(rt, seat.take(&Act::Drop { label: 99 }), Ok(None));
-        equal(rt, seat.take(&opening(number)), Ok(Some(number)));
-    }
-    equal(rt, seat.acts(), 8);
-    equal(rt, (seat.focus(), seat.holder()), (Some(2), Some(3)));
-    equal(rt, (seat.serving(), seat.standing()), (Some(5), None));
-}
 
 // The kind of each event, whom it is told to, its first argument and the first byte of its text.
 static EVENTS: [(u32, u32, i64, u8); 6] = [
@@ -39,21 +15,26 @@ static EVENTS: [(u32, u32, i64, u8); 6] = [
     (kind::FIELD_DONE, 3, 1, 0),
 ];
 
+// Each act has the number that it would have alone; an act on no object has none.
 #[test]
 fn one_string_is_pulled(rt: HostRuntime) -> Result<(), Fail> {
     let mut seat = RelaySeat::new(rt.alloc())?;
-    open(&rt, &mut seat);
+    for act in &acts_of(rt.alloc(), OPENING)? {
+        equal(&rt, seat.take(&Act::Drop { label: 99 }), Ok(None));
+        let number = seat.acts().saturating_add(1);
+        equal(&rt, seat.take(act), Ok(Some(number)));
+    }
+    equal(&rt, seat.acts(), 8);
+    equal(&rt, (seat.focus(), seat.holder()), (Some(2), Some(3)));
+    equal(&rt, (seat.serving(), seat.standing()), (Some(5), None));
+    let (method, serial) = (5, 1);
     let text = Text::of(rt.alloc(), "a")?;
+    equal(&rt, seat.take(&Act::MString { method, text }), Ok(Some(9)));
     equal(
         &rt,
-        seat.take(&Act::MString { method: 5, text }),
-        Ok(Some(9)),
+        seat.take(&Act::MCommit { method, serial }),
+        Ok(Some(10)),
     );
-    let batch = Act::MCommit {
-        method: 5,
-        serial: 1,
-    };
-    equal(&rt, seat.take(&batch), Ok(Some(10)));
     for (kind, to, first, byte) in &EVENTS {
         let mut text = [0; 1];
         let Ok(Some(event)) = seat.pull(&mut text) else {

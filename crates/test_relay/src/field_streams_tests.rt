@@ -7,89 +7,45 @@ use std::alloc::Global;
 const TOLD: &[u8] = b"\x07\0\0\0\x03\0\x10\0\x02\0\0\0a\0\0\0\x07\0\0\0\x05\0\x0c\0\x01\0\0\0";
 
 // What is told, the pieces that are sent, and what the last of them comes to.
-struct Row {
-    told: &'static [u8],
-    first: &'static [u8],
-    last: &'static [u8],
-    heard: Result<u64, HearEnd>,
-}
+type Row = (
+    &'static [u8],
+    &'static [u8],
+    &'static [u8],
+    Result<u64, HearEnd>,
+);
 
+#[rattlefmt::skip]
 static ROWS: [Row; 9] = [
     // All of it, whole and cut in mid-message.
-    Row {
-        told: TOLD,
-        first: b"",
-        last: TOLD,
-        heard: Ok(1),
-    },
-    Row {
-        told: TOLD,
-        first: b"\x07\0\0\0\x03\0\x10\0\x02\0\0\0a",
-        last: b"\0\0\0\x07\0\0\0\x05\0\x0c\0\x01\0\0\0",
-        heard: Ok(1),
-    },
+    (TOLD, b"", TOLD, Ok(1)),
+    (TOLD, b"\x07\0\0\0\x03\0\x10\0\x02\0\0\0a", b"\0\0\0\x07\0\0\0\x05\0\x0c\0\x01\0\0\0", Ok(1)),
     // Other padding.
-    Row {
-        told: TOLD,
-        first: b"",
-        last: b"\x07\0\0\0\x03\0\x10\0\x02\0\0\0a\0\x09\x09",
-        heard: Ok(0),
-    },
+    (TOLD, b"", b"\x07\0\0\0\x03\0\x10\0\x02\0\0\0a\0\x09\x09", Ok(0)),
     // A done with another serial, a done that comes too early, another object.
-    Row {
-        told: TOLD,
-        first: b"\x07\0\0\0\x03\0\x10\0\x02\0\0\0a\0\0\0",
-        last: b"\x07\0\0\0\x05\0\x0c\0\x02\0\0\0",
-        heard: Err(HearEnd::Unlike),
-    },
-    Row {
-        told: TOLD,
-        first: b"",
-        last: b"\x07\0\0\0\x05\0\x0c\0\x01\0\0\0",
-        heard: Err(HearEnd::Unlike),
-    },
-    Row {
-        told: TOLD,
-        first: b"",
-        last: b"\x08\0\0\0\x03\0\x10\0\x02\0\0\0a\0\0\0",
-        heard: Err(HearEnd::Unlike),
-    },
+    (TOLD, b"\x07\0\0\0\x03\0\x10\0\x02\0\0\0a\0\0\0", b"\x07\0\0\0\x05\0\x0c\0\x02\0\0\0", Err(HearEnd::Unlike)),
+    (TOLD, b"", b"\x07\0\0\0\x05\0\x0c\0\x01\0\0\0", Err(HearEnd::Unlike)),
+    (TOLD, b"", b"\x08\0\0\0\x03\0\x10\0\x02\0\0\0a\0\0\0", Err(HearEnd::Unlike)),
     // A null string is no empty one.
-    Row {
-        told: b"\x07\0\0\0\x03\0\x10\0\x01\0\0\0\0\0\0\0",
-        first: b"",
-        last: b"\x07\0\0\0\x03\0\x0c\0\0\0\0\0",
-        heard: Err(HearEnd::Unlike),
-    },
+    (b"\x07\0\0\0\x03\0\x10\0\x01\0\0\0\0\0\0\0", b"", b"\x07\0\0\0\x03\0\x0c\0\0\0\0\0", Err(HearEnd::Unlike)),
     // Other messages say nothing, but for a bad size.
-    Row {
-        told: TOLD,
-        first: b"\x07\0\0\0\0\0\x0c\0\x06\0\0\0",
-        last: TOLD,
-        heard: Ok(1),
-    },
-    Row {
-        told: TOLD,
-        first: b"",
-        last: b"\x01\0\0\0\0\0\x07\0",
-        heard: Err(HearEnd::Unlike),
-    },
+    (TOLD, b"\x07\0\0\0\0\0\x0c\0\x06\0\0\0", TOLD, Ok(1)),
+    (TOLD, b"", b"\x01\0\0\0\0\0\x07\0", Err(HearEnd::Unlike)),
 ];
 
 // What the last piece comes to.
-fn heard(alloc: Global, row: &Row) -> Result<u64, HearEnd> {
+fn heard(alloc: Global, told: &[u8], first: &[u8], last: &[u8]) -> Result<u64, HearEnd> {
     let mut streams = Comparison::new(alloc);
-    if streams.tell(row.told).is_err() {
+    if streams.tell(told).is_err() {
         return Err(HearEnd::NoMemory);
     }
-    streams.hear(row.first)?;
-    streams.hear(row.last)
+    streams.hear(first)?;
+    streams.hear(last)
 }
 
 #[test]
 fn pieces_are_heard_or_unlike(rt: HostRuntime) {
-    for row in &ROWS {
-        equal(&rt, heard(rt.alloc(), row), row.heard);
+    for (told, first, last, want) in &ROWS {
+        equal(&rt, heard(rt.alloc(), told, first, last), *want);
     }
 }
 
