@@ -1,19 +1,22 @@
 #!/usr/bin/env python3
 """Writes the sessions of examples/: each is a story of one thing that a broker has to get right.
 
-  tools/stories.py            writes examples/NAME.session for each story
+  tools/stories.py            writes examples/NAME.session for each story, and copies all examples to test_lines
   tools/stories.py --check    says whether the files are those that it would write
 
-What each comes to stands beside it as NAME.transcript, and examples/README.md tells the stories. tests/examples.sh
-replays each of them.
+What each comes to stands beside it as NAME.transcript, and examples/README.md tells the stories. The program test_lines
+plays all examples; since the kit takes no links, its data/examples/ has copies.
 """
+import glob
 import os
 import sys
 
 from messages import (application, board_key, board_keymap, commit, commit_batch, commit_string, cursor_rectangle, delete,
                       disable, enable, input_method, keyed_method, message, preedit, surrounding, text, word)
 
-FOLDER = os.path.join(os.path.dirname(os.path.abspath(__file__)), "..", "examples")
+ROOT = os.path.join(os.path.dirname(os.path.abspath(__file__)), "..")
+FOLDER = os.path.join(ROOT, "examples")
+COPIES = os.path.join(ROOT, "crates", "test_lines", "data", "examples")
 
 
 class Session:
@@ -175,18 +178,33 @@ STORIES = [stale_serial, field_loses_the_seat, peer_that_stops_reading, preedit_
            key_given_back, popup_at_the_edge, hostile_peer, disable_in_time]
 
 
+def read(path):
+    if not os.path.exists(path):
+        return ""
+    with open(path, encoding="utf-8") as file:
+        return file.read()
+
+
+def write(path, text):
+    with open(path, "w", encoding="utf-8") as file:
+        file.write(text)
+
+
+def wanted():
+    """What each file is to hold, by its path: the stories' sessions first, then the copies of all examples."""
+    sessions = {os.path.join(FOLDER, story.__name__ + ".session"): story().text() for story in STORIES}
+    yield from sessions.items()
+    for path in sorted({*glob.glob(f"{FOLDER}/*.*"), *sessions}):
+        if not path.endswith(".md"):
+            yield os.path.join(COPIES, os.path.basename(path)), sessions.get(path) or read(path)
+
+
 def main():
-    changed = []
-    for story in STORIES:
-        path = os.path.join(FOLDER, story.__name__ + ".session")
-        wanted = story().text()
-        stands = open(path, encoding="utf-8").read() if os.path.exists(path) else ""
-        if stands != wanted:
-            changed.append(story.__name__)
-            if "--check" not in sys.argv:
-                open(path, "w", encoding="utf-8").write(wanted)
-    for name in changed:
-        print(name, "is another" if "--check" in sys.argv else "written")
+    changed = [(path, text) for path, text in wanted() if read(path) != text]
+    for path, text in changed:
+        if "--check" not in sys.argv:
+            write(path, text)
+        print(os.path.relpath(path, ROOT), "is another" if "--check" in sys.argv else "written")
     return 1 if changed and "--check" in sys.argv else 0
 
 

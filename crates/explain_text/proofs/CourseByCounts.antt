@@ -2,7 +2,7 @@
 use Rattle.std.proofs.Common.{◌≡◌, ℕ, ◌+◌, ◌%◌, ◌^◌, ◌<◌, ◌≤◌, List, [], ◌∷◌, ◌++◌, length, Bool, true, false, not, Option, Some, None, ap, refl, sym, ◌∙◌, arith}
 use Rattle.std.specs.Prelude.{if◌then◌else◌, ◌&&◌, ◌==◌, min, nat_le, is_some, is_none}
 use Rattle.std.proofs.lemmas.List.{length_push}
-use Rattle.std.proofs.lemmas.Bool.{ne_eqb, eq-eqb, le-leb, lt-leb, true≢false}
+use Rattle.std.proofs.lemmas.Bool.{ne_eqb, eq-eqb, le-leb, lt-leb}
 use Rattle.relay_model.specs.declared.act.Act.{Act}
 use Rattle.relay_model.specs.declared.act.Act.TheVariants.{Method}
 use Rattle.relay_model.specs.Objects.{next}
@@ -12,11 +12,9 @@ use Rattle.relay_model.specs.Idle.{cleaned, history}
 use Rattle.relay_model.proofs.ActsOrIdle.{length_history}
 use Rattle.relay_model.proofs.ActivationLaws.{Each, dones_under, dones_few, dones_by, dones_step, dones_beyond, begun_step, begun_beyond, begun_within}
 use Rattle.relay_core.specs.Stands.{dones_told, count_from, count_since}
-use Rattle.batch_reasons.specs.Seat.{seat}
 use Rattle.explain_text.specs.declared.changes.Course.{Course}
 use Rattle.explain_text.specs.declared.changes.Course.TheVariants.{Begins, GoesOn, Ends}
-use Rattle.explain_text.specs.Changes.{course_of}
-use Rattle.explain_text.specs.Laws.{became, notices, CourseLaw}
+use Rattle.explain_text.specs.Laws.{became, CourseLaw}
 
 -- how many dones aren't below b, with one more done
 

@@ -1,10 +1,12 @@
 -- What an act is, in words for people.
-use Rattle.std.specs.Prelude.{ℕ, List, [], ◌++◌, codes, Some, None}
+use Rattle.std.specs.Prelude.{ℕ, List, [], ◌++◌, ◌==◌, if◌then◌else◌, codes, Some, None}
 use Rattle.std.specs.Fmt.{decimal}
 use Rattle.relay_model.specs.declared.act.Act.{Act}
 use Rattle.relay_model.specs.declared.act.Act.TheVariants as acts
 use Rattle.relay_model.specs.declared.act.EndCause.{EndCause}
 use Rattle.relay_model.specs.declared.act.EndCause.TheVariants as causes
+use Rattle.relay_model.specs.declared.fault.Fault.{Fault}
+use Rattle.relay_model.specs.Faults.{text_of}
 use Rattle.explain_text.specs.declared.deed.Source.{Source}
 use Rattle.explain_text.specs.declared.deed.Source.TheVariants as sources
 use Rattle.explain_text.specs.Phrase.{phrase}
@@ -22,6 +24,10 @@ end_words causes.Gone = codes "ends, its link ended"
 end_words causes.Bad = codes "ends, a message of it was refused"
 end_words causes.Full = codes "ends, a group did not fit its store"
 
+-- why a message is refused, in the words that its sender is told
+abbrev pub refusal_words : Fault → List ℕ
+refusal_words fault = codes "a message is refused: " ++ text_of fault
+
 -- what a peer does that makes no object of the relay
 abbrev pub peer_words : Act → List ℕ
 peer_words acts.Peer = codes "joins"
@@ -30,7 +36,7 @@ peer_words (acts.Registry p role) = codes "get_registry"
 peer_words (acts.Sync p) = codes "sync"
 peer_words (acts.Seat p) = codes "binds the seat"
 peer_words (acts.Thing p) = codes "binds a global"
-peer_words (acts.Bad p fault x) = codes "a message is refused"
+peer_words (acts.Bad p fault x) = refusal_words fault
 peer_words (acts.Took p bytes) = phrase (codes "takes") (Some bytes) (codes " bytes") None
 peer_words acts.Idle = codes "nothing"
 peer_words _ = []
@@ -46,13 +52,19 @@ object_words n (acts.VBoard p) = phrase (codes "makes board") (Some n) (codes ""
 object_words n (acts.Drop x) = phrase (codes "object") (Some x) (codes " is destroyed") None
 object_words n _ = []
 
+-- a key, and whether it is pressed: any state but 1 is a release
+abbrev pub key_words : (key : ℕ) (state : ℕ) → List ℕ
+key_words key state =
+    phrase (codes "key") (Some key) (if state == 1 then codes " pressed" else codes " released")
+    None
+
 -- what the shell says
 abbrev pub shell_words : Act → List ℕ
 shell_words (acts.Focus s) = phrase (codes "focus on surface") (Some s) (codes "") None
 shell_words acts.Unfocus = codes "focus on nothing"
 shell_words (acts.Area s rect) = phrase (codes "area of surface") (Some s) (codes "") None
 shell_words (acts.Screen size) = codes "screen"
-shell_words (acts.Key time key state) = phrase (codes "key") (Some key) (codes "") None
+shell_words (acts.Key time key state) = key_words key state
 shell_words (acts.Mods mods) = codes "modifiers"
 shell_words (acts.Keymap keymap) = codes "keymap"
 shell_words (acts.Repeat repeat) = codes "repeat of keys"
@@ -84,7 +96,7 @@ method_words (acts.MCommit m serial) =
     phrase (codes "method") (Some m) (codes " commit") (Some serial)
 method_words (acts.VKeymap v keymap) = phrase (codes "board") (Some v) (codes " keymap") None
 method_words (acts.VKey v time key state) =
-    phrase (codes "board") (Some v) (codes " key") (Some key)
+    phrase (codes "board") (Some v) (codes " ") None ++ key_words key state
 method_words (acts.VMods v mods) = phrase (codes "board") (Some v) (codes " modifiers") None
 method_words _ = []
 

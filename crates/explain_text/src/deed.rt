@@ -1,12 +1,13 @@
 //! What an act is: how a line begins.
 ghost use Rattle.std.specs.Prelude.{◌≡◌, ◌++◌, Some, None, OnOk, string_bytes};
-ghost use Rattle.explain_text.specs.Deed.{source_words, end_words, peer_words, object_words};
-ghost use Rattle.explain_text.specs.Deed.{shell_words, field_words, method_words, deed, begun};
+ghost use Rattle.explain_text.specs.Deed.{source_words, end_words, refusal_words, peer_words};
+ghost use Rattle.explain_text.specs.Deed.{object_words, shell_words, key_words, field_words, method_words};
+ghost use Rattle.explain_text.specs.Deed.{deed, begun};
 ghost use Rattle.explain_text.specs.Phrase.{phrase};
 
 use crate::phrase::add_phrase;
 use itoa::Buffer;
-use relay_model::{Act, EndCause};
+use relay_model::{Act, EndCause, Fault};
 use wio_core::NoMemory;
 
 /// Whose act it is. Peers are numbered from 1 in the order in which they join.
@@ -35,6 +36,14 @@ fn add_about(line: &mut String, who: &str, number: u32, what: &str) -> Result<()
     add_phrase(line, who, Some(number), what, None)
 }
 
+// A key, and whether it is pressed: any state but 1 is a release.
+fn add_key(line: &mut String, key: u32, state: u32) -> Result<(), NoMemory>
+    ensures { OnOk result (string_bytes line.new ≡ string_bytes line.old ++ key_words key state) }
+{
+    let what = if state == 1 { " pressed" } else { " released" };
+    add_about(line, "key", key, what)
+}
+
 fn add_source(line: &mut String, source: Source) -> Result<(), NoMemory>
     ensures { OnOk result (string_bytes line.new ≡ string_bytes line.old ++ source_words source) }
 {
@@ -58,6 +67,15 @@ fn add_end(line: &mut String, cause: EndCause) -> Result<(), NoMemory>
     }
 }
 
+// Why a message is refused, in the words that its sender is told.
+fn add_refusal(line: &mut String, fault: Fault) -> Result<(), NoMemory>
+    ensures { OnOk result (string_bytes line.new ≡ string_bytes line.old ++ refusal_words fault) }
+{
+    add_words(line, "a message is refused: ")?;
+    add_words(line, fault.text())?;
+    Ok(())
+}
+
 fn add_of_peer(line: &mut String, act: &Act) -> Result<(), NoMemory>
     ensures { OnOk result (string_bytes line.new ≡ string_bytes line.old ++ peer_words act.now) }
 {
@@ -68,7 +86,7 @@ fn add_of_peer(line: &mut String, act: &Act) -> Result<(), NoMemory>
         Act::Sync { .. } => add_words(line, "sync"),
         Act::Seat { .. } => add_words(line, "binds the seat"),
         Act::Thing { .. } => add_words(line, "binds a global"),
-        Act::Bad { .. } => add_words(line, "a message is refused"),
+        Act::Bad { fault, .. } => add_refusal(line, *fault),
         Act::Took { bytes, .. } => add_about(line, "takes", *bytes, " bytes"),
         Act::Idle => add_words(line, "nothing"),
         _ => Ok(()),
@@ -100,7 +118,7 @@ fn add_of_shell(line: &mut String, act: &Act) -> Result<(), NoMemory>
         Act::Unfocus => add_words(line, "focus on nothing"),
         Act::Area { surface, .. } => add_about(line, "area of surface", *surface, ""),
         Act::Screen { .. } => add_words(line, "screen"),
-        Act::Key { key, .. } => add_about(line, "key", *key, ""),
+        Act::Key { key, state, .. } => add_key(line, *key, *state),
         Act::Mods(_) => add_words(line, "modifiers"),
         Act::Keymap(_) => add_words(line, "keymap"),
         Act::Repeat(_) => add_words(line, "repeat of keys"),
@@ -136,7 +154,15 @@ fn add_of_method(line: &mut String, act: &Act) -> Result<(), NoMemory>
             add_phrase(line, "method", Some(*method), " commit", Some(*serial))
         }
         Act::VKeymap { board, .. } => add_about(line, "board", *board, " keymap"),
-        Act::VKey { board, key, .. } => add_phrase(line, "board", Some(*board), " key", Some(*key)),
+        Act::VKey {
+            board,
+            key,
+            state,
+            ..
+        } => {
+            add_about(line, "board", *board, " ")?;
+            add_key(line, *key, *state)
+        }
         Act::VMods { board, .. } => add_about(line, "board", *board, " modifiers"),
         _ => Ok(()),
     }

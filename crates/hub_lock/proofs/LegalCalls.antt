@@ -20,12 +20,12 @@ use Rattle.broker_core.specs.Stands.{end_of}
 use Rattle.broker_core.specs.Taking.{out_at, by_end, standing_in, standing_of}
 use Rattle.broker_core.specs.Broker.{Broker, full_for, peer_entry, peer_refusal, IsAccepted, nothing_left, take_refusal, take_refusal_from, IsBytesUnlessMemory}
 use Rattle.turn_lock.specs.Pairs.{NoneOf, IsGrown}
-use Rattle.turn_lock.specs.Sights.{having_seen}
 use Rattle.turn_lock.proofs.PairsOfNumbers.{none-append}
 use Rattle.hub_lock.specs.declared.step.OuterStep.{OuterStep}
 use Rattle.hub_lock.specs.Histories.{History, broker_of, readers_of, numbered_in, reader_of, writer_of}
 use Rattle.hub_lock.specs.Lawful.{IsLawful}
 use Rattle.hub_lock.specs.Passes.{PassSeat, PeerPass}
+use Rattle.hub_lock.specs.Seats.{having_seen}
 use Rattle.hub_lock.specs.Plays.{Applies}
 use Rattle.hub_lock.specs.Rooms.{Taken}
 use Rattle.hub_lock.specs.Calls.{Legal, TakesInto, IsTake, TakesOut, IsTakeOut, pass_having_seen}

@@ -3,12 +3,12 @@ use Rattle.std.proofs.Common.{◌≡◌, ℕ, ◌+◌, ◌≤◌, ◌∷◌, len
 use Rattle.std.specs.Prelude.{nat_lt, if◌then◌else◌}
 use Rattle.seat_steps.specs.declared.limits.Limits.{Limits}
 use Rattle.turn_lock.specs.Pairs.{own, HasSeen, longer, total}
-use Rattle.turn_lock.specs.Sights.{IsMeeting, IsTallied, met_with}
 use Rattle.turn_lock.proofs.PairsOfNumbers.{own-seen}
 use Rattle.turn_lock.proofs.OwnPairsAfterCalls.{total-meeting}
 use Rattle.hub_lock.specs.Histories.{History, broker_of, bytes_taken}
 use Rattle.hub_lock.specs.Lawful.{IsLawful}
 use Rattle.hub_lock.specs.Passes.{PassSeat, journal_seen, steps_of, bytes_of, total_steps, total_bytes, HasSeenLawful}
+use Rattle.hub_lock.specs.Seats.{IsMeeting, IsTallied, met_with, sight_of}
 use Rattle.hub_lock.proofs.StepsCounted.{taken-same}
 use Rattle.hub_lock.proofs.JournalOfSteps.{journal-longer, few-lawful, taken-few}
 use Rattle.hub_lock.proofs.TurnsCounted.{lawful-seen, entries-seen}
@@ -27,7 +27,7 @@ module _ (limits : Limits) (root pass : PassSeat) (zero : root.number ≡ 0) (of
   met-steps = subst
       (λ n. total (n ∷ pass.number ∷ root.taken) (longer root.seen pass.seen)
       ≡ total (n ∷ root.taken) root.seen + steps_of pass) zero
-      (total-meeting root pass (longer root.seen pass.seen) k)
+      (total-meeting (sight_of root) (sight_of pass) (longer root.seen pass.seen) k)
 
   pub met-bytes : total_bytes (met_with root pass) ≡ total_bytes root + bytes_of pass
   met-bytes =

@@ -1,5 +1,6 @@
 -- Who records is a pass that was made from the root, so as long as none was made, nobody does
-use Rattle.std.proofs.Common.{◌≡◌, ℕ, ◌≤◌, ◌++◌, Some, None, refl, ap, sym, subst, ◌∙◌, arith}
+use Rattle.std.proofs.Common.{◌≡◌, ℕ, ◌≤◌, ◌++◌, Option, Some, None, refl, ap, sym, subst, ◌∙◌, arith}
+use Rattle.std.specs.Prelude.{option_map}
 use Rattle.seat_steps.specs.declared.limits.Limits.{Limits}
 use Rattle.turn_lock.specs.Pairs.{NoneOf, HasSeen}
 use Rattle.turn_lock.specs.Sights.{IsLegal, after_split, having_seen}
@@ -12,9 +13,9 @@ use Rattle.hub_lock.specs.declared.call.Call.{Call}
 use Rattle.hub_lock.specs.declared.call.Reply.{Reply}
 use Rattle.hub_lock.specs.Histories.{History, broker_of}
 use Rattle.hub_lock.specs.Plays.{Answers}
-use Rattle.hub_lock.specs.Events.{Events, EventSeat, Tally, RecordsByAnother, tally_of, tally_after, steps_of_events}
+use Rattle.hub_lock.specs.Events.{Events, EventSeat, Tally, RecordsByAnother, tally_of, tally_from, tally_after, named_in, steps_of_events}
 use Rattle.hub_lock.specs.Noted.{PlaysEvents, Hands, IsOfRoot, note_of}
-use Rattle.hub_lock.proofs.TalliesStay.{tally-seen, recorder-before}
+use Rattle.hub_lock.proofs.TalliesStay.{tally-seen, recorder-before, named-stays}
 
 -- what the root asks but to name who records notes nothing
 pub root-quiet : (limits : Limits) (before after : History) (n : ℕ) (ask ask' : Ask) (a : Answer) → IsOfRoot ask
@@ -65,6 +66,17 @@ another-split s another u e =
     let k = another u e in
     let less = k.1 in (k.0, omega (arith, less))
 
+-- whom the root named it has named past what was seen
+pub named-seen : (s : EventSeat) (h : Events) → s.number ≡ 0 → HasSeen h s.number s.seen → named_in h ≡ named_in s.seen
+named-seen s h zero k = ap named_in k.1 ∙ named-stays s.seen k.0 (subst (λ n. NoneOf n k.0) zero k.2)
+
+-- where it named nobody, nobody records
+pub unnamed-tally : (h : Events) → named_in h ≡ None → tally_of h ≡ None
+unnamed-tally h = by (tally_of h) where
+  by : (t : Tally) → option_map (λ (x : ℕ × ℕ). x.0) t ≡ None → t ≡ None
+  by None e = refl
+  by (Some t) e = absurd (cc)
+
 module _ (seat : EventSeat) (call : Call) (after : Events) (call' : Call) (reply : Reply)
     (k : IsLegal PlaysEvents seat call after call' reply) (zero : seat.number ≡ 0)
   where
@@ -73,6 +85,13 @@ module _ (seat : EventSeat) (call : Call) (after : Events) (call' : Call) (reply
     another-after another quiet u e =
         another-past seat k.rest (subst (λ n. NoneOf n k.rest) zero k.apart) another u
         (sym (k.plays.noted.tally ∙ ap (λ o. tally_after call.number o (tally_of (seat.seen ++ k.rest))) quiet) ∙ e)
+
+    -- and whom it named
+    pub named-after : note_of reply.answer ≡ None → named_in after ≡ named_in seat.seen
+    named-after quiet =
+        ap (option_map (λ (t : ℕ × ℕ). t.0))
+        (k.plays.noted.tally ∙ ap (λ o. tally_after call.number o (tally_of (seat.seen ++ k.rest))) quiet)
+        ∙ named-stays seat.seen k.rest (subst (λ n. NoneOf n k.rest) zero k.apart)
 
     pub before-unnamed : tally_of seat.seen ≡ None → tally_of (seat.seen ++ k.rest) ≡ None
     before-unnamed none = tally-seen seat.seen k.rest None none (subst (λ n. NoneOf n k.rest) zero k.apart)

@@ -9,9 +9,10 @@ use Rattle.hub_lock.specs.declared.call.Reply.{Reply}
 use Rattle.hub_lock.specs.Histories.{History}
 use Rattle.hub_lock.specs.Plays.{Plays}
 use Rattle.hub_lock.specs.Passes.{PassSeat}
+use Rattle.hub_lock.specs.Seats.{sight_of}
 
 module _ (was : PassSeat) (call : Call) (after : History) (call' : Call) (reply : Reply)
-    (k : IsLegal Plays was call after call' reply) (apart : IsIn was.number was.taken → ⊥) where
+    (k : IsLegal Plays (sight_of was) call after call' reply) (apart : IsIn was.number was.taken → ⊥) where
   other : (n : ℕ) → IsIn n was.taken → was.number ≢ n
   other n i e = apart (subst (λ m. IsIn m was.taken) (sym e) i)
 

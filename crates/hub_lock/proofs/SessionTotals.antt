@@ -3,11 +3,11 @@ use Rattle.std.proofs.Common.{◌≡◌, List, ◌∷◌, length, Result, Ok, Er
 use Rattle.seat_steps.specs.declared.limits.Limits.{Limits}
 use Rattle.broker_model.specs.declared.journal.Entry.{Entry}
 use Rattle.broker_model.specs.Settle.{outer}
-use Rattle.turn_lock.specs.Sights.{IsTallied}
 use Rattle.hub_lock.specs.declared.session.Session.{Session}
 use Rattle.hub_lock.specs.declared.session.NoSession.{NoSession}
 use Rattle.hub_lock.specs.Histories.{History, broker_of, taken_in}
 use Rattle.hub_lock.specs.Passes.{PassSeat, total_steps, total_bytes}
+use Rattle.hub_lock.specs.Seats.{IsTallied}
 use Rattle.hub_lock.specs.Calls.{LegalCopy}
 use Rattle.hub_lock.proofs.JournalOfSteps.{length-entries, outer-journal, taken-journal, taken-all}
 

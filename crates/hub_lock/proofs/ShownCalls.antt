@@ -14,8 +14,10 @@ use Rattle.hub_lock.specs.declared.event.Note.TheVariants as notes
 use Rattle.hub_lock.specs.Histories.{History, broker_of}
 use Rattle.hub_lock.specs.Lawful.{IsLawful}
 use Rattle.hub_lock.specs.Plays.{Plays, Answers, MayAsk, IsHandedOut}
-use Rattle.hub_lock.specs.Events.{Events, EventSeat, Tally, step_of, steps_of_events, pass_seat, tally_of, tally_noted, tally_after, notes_in, count_of}
+use Rattle.hub_lock.specs.Events.{Events, EventSeat, Tally, step_of, steps_of_events, pass_seat, root_seat, named_in, tally_of, tally_noted, tally_after, notes_in, count_of}
 use Rattle.hub_lock.specs.Noted.{PlaysEvents, Hands, IsNoted, note_of}
+use Rattle.hub_lock.specs.Shown.{shown_sight}
+use Rattle.hub_lock.specs.Seats.{sight_of, pass_with}
 use Rattle.hub_lock.specs.Calls.{Legal}
 use Rattle.hub_lock.specs.Recording.{Records, recorder, with_next, HandsNext, LegalLook, LegalHandOut}
 use Rattle.hub_lock.proofs.PairsLeftOut.{shown-append, none-shown, grown-shown}
@@ -27,7 +29,7 @@ module _ (seat : EventSeat) (call : Call) (after : Events) (call' : Call) (reply
       steps_of_events (seat.seen ++ k.rest) ≡ steps_of_events seat.seen ++ steps_of_events k.rest
   before-shown = shown-append step_of seat.seen k.rest
 
-  pub shown-legal : IsLegal Plays (pass_seat seat) call (steps_of_events after) call' reply
+  pub shown-legal : IsLegal Plays (sight_of (pass_seat seat)) call (steps_of_events after) call' reply
   shown-legal = record {
     constant = k.constant;
     told = k.told;
@@ -53,9 +55,9 @@ module _ (limits : Limits) (seat : EventSeat) (call : Call) (after : Events) (ca
       → P (steps_of_events seat.seen ++ steps_of_events k.rest)
   is-before P p = subst P (before-shown seat call after call' reply k) p
 
-  legal-by : (Told : History → Type 0) → Told (steps_of_events (seat.seen ++ k.rest))
-      → Legal limits (pass_seat seat) (steps_of_events after) Told
-  legal-by Told told = record {
+  legal-by : (named : Option ℕ) (Told : History → Type 0) → Told (steps_of_events (seat.seen ++ k.rest))
+      → Legal limits (pass_with named (shown_sight step_of seat)) (steps_of_events after) Told
+  legal-by named Told told = record {
     rest = steps_of_events k.rest;
     apart = none-shown step_of seat.number k.rest k.apart;
     grows = is-before (λ h. IsGrown seat.number h (steps_of_events after))
@@ -78,8 +80,8 @@ module _ (limits : Limits) (seat : EventSeat) (call : Call) (after : Events) (ca
         in
         subst (λ x. Answers limits before call.number (asks.Name m) (steps_of_events after) call'.ask x) told (a tt)
 
-    pub named-look : LegalLook limits (pass_seat seat) (steps_of_events after)
-    named-look = legal-by (λ before. steps_of_events after ≡ before) named-same
+    pub named-look : LegalLook limits (root_seat seat) (steps_of_events after)
+    named-look = legal-by (named_in seat.seen) (λ before. steps_of_events after ≡ before) named-same
 
     pub named-some : call.number ≡ 0 → tally_of (seat.seen ++ k.rest) ≡ None → IsSome r
     named-some zero none =
@@ -147,7 +149,7 @@ module _ (limits : Limits) (seat : EventSeat) (call : Call) (after : Events) (ca
 
     pub legal-hand-out : LegalHandOut limits (recorder (pass_seat seat) handed) (steps_of_events after) r
     legal-hand-out =
-        legal-by (λ before. HandsNext limits before (length handed) (steps_of_events after) r)
+        legal-by None (λ before. HandsNext limits before (length handed) (steps_of_events after) r)
         (record { out = out; same = same })
 
     pub records-after : (seat' : EventSeat) → seat' ≡ having_seen seat after → Records seat' (with_next r handed)

@@ -1,6 +1,6 @@
 -- A tally stays, where its owner notes nothing
 use Rattle.std.proofs.Common.{◌≡◌, ◌≢◌, ℕ, ◌+◌, Bool, true, false, [], ◌∷◌, ◌++◌, Some, None, refl, ap, sym, ◌∙◌}
-use Rattle.std.specs.Prelude.{◌==◌, if◌then◌else◌}
+use Rattle.std.specs.Prelude.{◌==◌, if◌then◌else◌, Option, option_map}
 use mathlib.Core.Logic.{dite}
 use native.Mathlib.Decide.{ℕ_discrete}
 use Rattle.std.proofs.lemmas.Bool.{ne_eqb, eq-eqb}
@@ -11,7 +11,7 @@ use Rattle.hub_lock.specs.declared.event.Event.{Event}
 use Rattle.hub_lock.specs.declared.event.Event.TheVariants as events
 use Rattle.hub_lock.specs.declared.event.Note.{Note}
 use Rattle.hub_lock.specs.declared.event.Note.TheVariants as notes
-use Rattle.hub_lock.specs.Events.{Events, Tally, handed_to, tally_by, tally_noted, tally_from, tally_of, owner_of}
+use Rattle.hub_lock.specs.Events.{Events, Tally, named_in, handed_to, tally_by, tally_noted, tally_from, tally_of, owner_of}
 
 tally-append : (t : Tally) (xs ys : Events) → tally_from t (xs ++ ys) ≡ tally_from (tally_from t xs) ys
 tally-append t [] ys = refl
@@ -76,3 +76,22 @@ recorder-before seen rest u free e = by (tally_of seen) refl
       is,
       recorder-stays t u rest (ap (λ z. tally_from z rest) (sym is) ∙ sym (tally-append None seen rest) ∙ e),
     )
+
+-- whom a history names stays named past it
+
+abbrev name : Tally → Option ℕ
+name t = option_map (λ (x : ℕ × ℕ). x.0) t
+
+named-from : (t : ℕ × ℕ) (h : Events) → option_map (λ (x : ℕ × ℕ). x.0) (tally_from (Some t) h) ≡ Some t.0
+named-from t [] = refl
+named-from t (x ∷ h) =
+    let k = kept-by x.0 x.1 t in
+    ap (λ z. option_map (λ (x : ℕ × ℕ). x.0) (tally_from z h)) k.1 ∙ named-from k.0 h ∙ ap (λ n. Some n) k.2
+
+pub named-stays : (seen rest : Events) → NoneOf 0 rest → named_in (seen ++ rest) ≡ named_in seen
+named-stays seen rest free = by (tally_of seen) refl
+  where
+    by : (o : Tally) → tally_of seen ≡ o → named_in (seen ++ rest) ≡ named_in seen
+    by None is = ap name (tally-seen seen rest None is free) ∙ sym (ap name is)
+    by (Some t) is =
+        ap name (tally-append None seen rest ∙ ap (λ z. tally_from z rest) is) ∙ named-from t rest ∙ sym (ap name is)

@@ -4,7 +4,7 @@ use Rattle.seat_steps.specs.declared.limits.Limits.{Limits}
 use Rattle.seat_steps.specs.declared.step.Step.{Step}
 use Rattle.seat_steps.specs.declared.step.Step.TheVariants as steps
 use Rattle.turn_lock.specs.Pairs.{own, IsIn}
-use Rattle.turn_lock.specs.Sights.{IsLegal, IsTallied, having_seen}
+use Rattle.turn_lock.specs.Sights.{IsLegal}
 use Rattle.turn_lock.specs.Rule.{bit}
 use Rattle.turn_lock.proofs.OwnPairsAfterCalls.{own-taken, total-taken}
 use Rattle.hub_lock.specs.declared.call.Ask.{Ask}
@@ -15,6 +15,7 @@ use Rattle.hub_lock.specs.Histories.{History, broker_of, bytes_taken}
 use Rattle.hub_lock.specs.Lawful.{IsLawful}
 use Rattle.hub_lock.specs.Plays.{IsOwn, MayAsk, Answers, Plays, is_made, bytes_made}
 use Rattle.hub_lock.specs.Passes.{PassSeat, journal_seen, journal_with, steps_of, bytes_of, total_steps, total_bytes, HasSeenLawful}
+use Rattle.hub_lock.specs.Seats.{IsTallied, having_seen, sight_of}
 use Rattle.hub_lock.specs.Calls.{Legal}
 use Rattle.hub_lock.proofs.ReadersStay.{reader-stays, writer-stays}
 use Rattle.hub_lock.proofs.StepsCounted.{made, counted, IsCounted, root-takes-none, no-bytes, taken-same}
@@ -43,7 +44,7 @@ pub entries-seen : (limits : Limits) (s : PassSeat) → s.constant ≡ Some limi
 entries-seen limits s e = ap (λ (o : Option Limits). length (journal_with o s.seen)) (sym e)
 
 module _ (limits : Limits) (seat : PassSeat) (call : Call) (after : History) (call' : Call) (reply : Reply)
-    (k : IsLegal Plays seat call after call' reply) (of : seat.constant ≡ Some limits)
+    (k : IsLegal Plays (sight_of seat) call after call' reply) (of : seat.constant ≡ Some limits)
     (number : call.number ≡ seat.number)
     (may : MayAsk seat.seen seat.number call.ask) where
   played : Plays limits (seat.seen ++ k.rest) call after call' reply
@@ -86,7 +87,7 @@ module _ (limits : Limits) (seat : PassSeat) (call : Call) (after : History) (ca
   root-steps zero apart =
       let c : length (own 0 after) ≡ length (own 0 seat.seen) + bit (is_made reply.answer) =
       subst (λ n. length (own n after) ≡ length (own n seat.seen) + bit (is_made reply.answer)) zero counts.steps in
-      let t = total-taken seat call after call' reply k (subst (λ n. IsIn n seat.taken → ⊥) (sym zero) apart) in
+      let t = total-taken (sight_of seat) call after call' reply k (subst (λ n. IsIn n seat.taken → ⊥) (sym zero) apart) in
       omega arith
 
   pub root-bytes : seat.number ≡ 0 → (IsIn 0 seat.taken → ⊥) → total_bytes (having_seen seat after) ≡ total_bytes seat
@@ -96,7 +97,7 @@ module _ (limits : Limits) (seat : PassSeat) (call : Call) (after : History) (ca
       let c : bytes_taken (own 0 after) ≡ bytes_taken (own 0 seat.seen) + bytes_made reply.answer =
       subst (λ n. bytes_taken (own n after) ≡ bytes_taken (own n seat.seen) + bytes_made reply.answer) zero counts.taken
       in
-      let t = taken-same seat.taken seat.seen after (λ n i. own-taken seat call after call' reply k n i
+      let t = taken-same seat.taken seat.seen after (λ n i. own-taken (sight_of seat) call after call' reply k n i
       (λ e. apart (subst (λ m. IsIn m seat.taken) (sym (sym zero ∙ e)) i))) in omega arith
 
   -- the seat after the turn

@@ -14,7 +14,7 @@ use Rattle.broker_core.specs.declared.answers.Took.{Took}
 use Rattle.broker_core.specs.Broker.{take_refusal, IfBytes, IfNoBytes, IsBytesUnlessMemory}
 use Rattle.broker_core.specs.Taking.{out_at, IsTaken}
 use Rattle.turn_lock.specs.Pairs.{NoneOf, IsGrown}
-use Rattle.turn_lock.specs.Sights.{after_split, split_off, having_seen}
+use Rattle.hub_lock.specs.Seats.{after_split, split_off, having_seen}
 use Rattle.hub_lock.specs.declared.session.Session.{Session}
 use Rattle.hub_lock.specs.declared.session.NoSession.{NoSession}
 use Rattle.hub_lock.specs.declared.call.Ask.{Ask}

@@ -11,6 +11,7 @@ use Rattle.hub_lock.specs.declared.event.Mark.{Mark}
 use Rattle.hub_lock.specs.declared.event.Mark.TheVariants as marks
 use Rattle.hub_lock.specs.Histories.{History}
 use Rattle.hub_lock.specs.Passes.{PassSeat}
+use Rattle.hub_lock.specs.Seats.{pass_with}
 use Rattle.hub_lock.specs.Shown.{shown, shown_sight}
 
 -- pairs of a pass's number and an event, the oldest first
@@ -30,9 +31,9 @@ step_of (events.Noted note) = None
 abbrev pub steps_of_events : Events → History
 steps_of_events h = shown step_of h
 
--- the pass that has the seat
+-- the pass that has the seat, unless it is the root
 abbrev pub pass_seat : EventSeat → PassSeat
-pass_seat s = shown_sight step_of s
+pass_seat s = pass_with None (shown_sight step_of s)
 
 -- who records, by the pass's number, and how many entries were handed out to it; none where nobody
 -- records yet
@@ -71,6 +72,14 @@ tally_from t (x ∷ h) = tally_from (tally_by x.0 x.1 t) h
 -- the tally of a history
 abbrev pub tally_of : Events → Tally
 tally_of h = tally_from None h
+
+-- whom a history names to record, by the pass's number
+abbrev pub named_in : Events → Option ℕ
+named_in h = option_map (λ (t : ℕ × ℕ). t.0) (tally_of h)
+
+-- the root that has the seat
+abbrev pub root_seat : EventSeat → PassSeat
+root_seat s = pass_with (named_in s.seen) (shown_sight step_of s)
 
 -- who records is a pass that was made from the root with this seat: never the root itself, and
 -- nobody before a pass was made

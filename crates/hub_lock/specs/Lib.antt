@@ -6,6 +6,7 @@ pub mod Lawful
 pub mod Plays
 pub mod BellLaw
 pub mod Passes
+pub mod Seats
 pub mod Shown
 pub mod Events
 pub mod Noted

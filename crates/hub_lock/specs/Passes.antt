@@ -5,16 +5,22 @@ use Rattle.seat_steps.specs.declared.limits.Limits.{Limits}
 use Rattle.broker_model.specs.declared.journal.Entry.{Entry}
 use Rattle.broker_core.specs.declared.letting_go.LetGo.{LetGo}
 use Rattle.turn_lock.specs.Pairs.{own, total}
-use Rattle.turn_lock.specs.Sights.{Sight}
-use Rattle.hub_lock.specs.declared.step.OuterStep.{OuterStep}
 use Rattle.hub_lock.specs.Histories.{History, broker_of, bytes_taken, total_taken}
 use Rattle.hub_lock.specs.Lawful.{IsLawful}
 
 -- a pass as a seat of the lock: the hub that it is of, its number, the hub's limits and the history
--- that it has seen; of the root besides how many passes are out, and the numbers of those that came
--- back
-abbrev pub PassSeat : Type 0
-PassSeat = Sight OuterStep Limits
+-- that it has seen; of the root besides: the number that the next pass gets, how many passes are
+-- out, the numbers of those that came back, and the number of the pass that it named to record, if
+-- it named one
+pub record PassSeat : Type 0 where
+  pub turn : TableId
+  pub number : ℕ
+  pub constant : Option Limits
+  pub seen : History
+  pub next : ℕ
+  pub out : ℕ
+  pub taken : List ℕ
+  pub named : Option ℕ
 
 -- which hub it is: its lock, and its limits
 pub record HubId : Type 0 where

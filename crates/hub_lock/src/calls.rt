@@ -5,7 +5,7 @@ ghost use Rattle.seat_steps.specs.declared.step.Step.TheVariants as steps;
 ghost use Rattle.seat_steps.specs.Ranges.{IsPeerStep, IsShellStep};
 ghost use Rattle.broker_core.specs.Broker.{IfBytes, IfNoBytes};
 ghost use Rattle.broker_core.specs.Taking.{out_at};
-ghost use Rattle.turn_lock.specs.Sights.{having_seen};
+ghost use Rattle.hub_lock.specs.Seats.{having_seen};
 ghost use Rattle.hub_lock.specs.Passes.{IsOf};
 ghost use Rattle.hub_lock.specs.Plays.{counts_of};
 ghost use Rattle.hub_lock.specs.Rooms.{nothing_taken};

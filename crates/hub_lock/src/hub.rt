@@ -3,8 +3,10 @@ ghost use Rattle.std.specs.Prelude.{◌≡◌, ◌+◌, ◌<◌, ◌≤◌, ◌^
 ghost use Rattle.broker_core.specs.Broker.{Broker};
 ghost use Rattle.seat_steps.specs.Ranges.{IsLimits};
 ghost use Rattle.turn_lock.specs.Pairs.{IsIn, HasSeen};
-ghost use Rattle.turn_lock.specs.Sights.{fresh_seat, having_seen, IsLegal, IsTallied};
+ghost use Rattle.turn_lock.specs.Sights as sights;
+ghost use Rattle.turn_lock.specs.Sights.{IsLegal};
 ghost use Rattle.hub_lock.specs.Passes.{IsOf, bytes_of};
+ghost use Rattle.hub_lock.specs.Seats.{fresh_seat, having_seen, IsTallied};
 ghost use Rattle.hub_lock.specs.Plays.{MayAsk, bytes_made};
 ghost use Rattle.hub_lock.specs.Events.{pass_seat};
 ghost use Rattle.hub_lock.specs.Noted.{IsOfRoot, Hands, PlaysEvents};
@@ -77,10 +79,10 @@ impl Hub {
     ) -> Reply
         requires own { IsOf self.now (pass_seat seat.old) }
         requires number { call.old.number ≡ seat.old.number }
-        ensures seat { seat.new ≡ having_seen seat.old seat.new.seen }
+        ensures seat { seat.new ≡ sights.having_seen seat.old seat.new.seen }
         ensures legal { IsLegal PlaysEvents seat.old call.old seat.new.seen call.new result }
         ensures fits { length seat.new.seen < 2 ^ 64 }
-        ensures tallied { seat.new.number ≡ 0 → IsTallied seat.new }
+        ensures tallied { seat.new.number ≡ 0 → sights.IsTallied seat.new }
     {
         let reply = self.turn.turn(rt, seat, call);
         self.bells.ring(reply.rings);
@@ -124,7 +126,8 @@ impl Hub {
             call.old.ask call.new.ask result }
         ensures tallied { IsTallied root.new }
         ensures settled { (n : ℕ) → IsIn n root.old.taken → HasSeen root.new.seen n root.old.seen }
-        ensures unnamed { root.old.next ≤ 1 →
+        ensures nobody { root.old.next ≤ 1 → root.old.named ≡ None }
+        ensures unnamed { root.old.named ≡ None →
             (b : Broker) × Hands 0 call.old.ask result b None }
     {
         let Reply {

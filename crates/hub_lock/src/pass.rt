@@ -134,16 +134,16 @@ impl Model for HubPass {
     ghost use Rattle.std.specs.Prelude.{◌≡◌, length};
     ghost use Rattle.hub_lock.specs.Passes.{PassSeat, HasSeenLawful, journal_seen};
     ghost use Rattle.hub_lock.specs.Passes.{total_steps, total_bytes};
-    ghost use Rattle.hub_lock.specs.Events.{pass_seat, RecordsByAnother};
+    ghost use Rattle.hub_lock.specs.Events.{root_seat, RecordsByAnother};
 
     ghost Value = { PassSeat };
 
-    ghost view = { λ p. pass_seat p.seat };
+    ghost view = { λ p. root_seat p.seat };
 
-    ghost invariant = { λ p. (p.seat.number ≡ 0) × (p.steps ≡ total_steps (pass_seat p.seat)) ×
-        (p.bytes ≡ total_bytes (pass_seat p.seat)) ×
-        (p.entries ≡ length (journal_seen (pass_seat p.seat))) ×
-        HasSeenLawful (pass_seat p.seat) × RecordsByAnother p.seat };
+    ghost invariant = { λ p. (p.seat.number ≡ 0) × (p.steps ≡ total_steps (root_seat p.seat)) ×
+        (p.bytes ≡ total_bytes (root_seat p.seat)) ×
+        (p.entries ≡ length (journal_seen (root_seat p.seat))) ×
+        HasSeenLawful (root_seat p.seat) × RecordsByAnother p.seat };
 }
 
 /// A pass that is given back.

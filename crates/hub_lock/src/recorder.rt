@@ -1,7 +1,7 @@
 //! Who records: the entries are handed out to it in order, each once, and let go.
-ghost use Rattle.std.specs.Prelude.{◌≡◌, ◌≤◌, ◌^◌, ℕ, [], length, IfSome, IfNone, IsSome};
+ghost use Rattle.std.specs.Prelude.{◌≡◌, ◌≤◌, ◌^◌, ℕ, [], length, None, IfSome, IfNone, IsSome};
 ghost use Rattle.turn_lock.specs.Pairs.{NoneOf, IsIn, HasSeen};
-ghost use Rattle.turn_lock.specs.Sights.{after_split, split_off, having_seen};
+ghost use Rattle.hub_lock.specs.Seats.{after_split, split_off, having_seen, naming};
 ghost use Rattle.hub_lock.specs.Passes.{IsOf, journal_seen};
 ghost use Rattle.hub_lock.specs.Recording.{HasFront, after_handing, recorder, LegalLook};
 ghost use Rattle.hub_lock.specs.Recording.{LegalHandOut};
@@ -15,17 +15,18 @@ use std::sync::Wait;
 
 impl Hub {
     /// The pass of who records. It has the root's next number, and nothing was handed out to it. None
-    /// where one was made before: a hub has one at most, and the root's first pass may be one. (Wait:
-    /// it promises what it does if it returns.)
+    /// where the root named one before: a hub has one at most. (Wait: it promises what it does if it
+    /// returns.)
     pub fn recorder<R: Wait>(&self, rt: &R, root: &mut HubPass) -> Option<RecorderPass>
         requires own { IsOf self.now root.old }
         requires room { root.old.next ≤ 2 ^ 63 }
         ensures left { IfSome result (λ pass.
-            root.new ≡ after_split (having_seen root.old root.new.seen)) }
+            root.new ≡ after_split (naming (having_seen root.old root.new.seen))) }
         ensures right { IfSome result (λ pass.
             pass ≡ recorder (split_off (having_seen root.old root.new.seen)) []) }
         ensures fresh { IfSome result (λ pass. NoneOf pass.seat.number pass.seat.seen) }
         ensures none { IfNone result (root.new ≡ having_seen root.old root.new.seen) }
+        ensures unnamed { root.old.named ≡ None → IsSome result }
         ensures first { root.old.next ≡ 1 → IsSome result }
         ensures legal { LegalLook self.now.limits root.old root.new.seen }
         ensures settled { (n : ℕ) → IsIn n root.old.taken → HasSeen root.new.seen n root.old.seen }

@@ -1,9 +1,9 @@
 //! The calls of the root: peers join, passes are made and come back, and all is copied.
-ghost use Rattle.std.specs.Prelude.{◌≡◌, ◌+◌, ◌<◌, ◌≤◌, ◌^◌, ℕ, IfOk, IfErr, Err, length};
+ghost use Rattle.std.specs.Prelude.{◌≡◌, ◌+◌, ◌<◌, ◌≤◌, ◌^◌, ℕ, IfOk, IfErr, None, Err, length};
 ghost use Rattle.broker_model.specs.Settle.{outer};
 ghost use Rattle.turn_lock.specs.Pairs.{own, NoneOf, IsIn, HasSeen};
-ghost use Rattle.turn_lock.specs.Sights.{after_split, split_off, met_with, having_seen, IsMeeting};
-ghost use Rattle.turn_lock.specs.Sights.{IsTallied};
+ghost use Rattle.hub_lock.specs.Seats.{after_split, split_off, met_with, having_seen, IsMeeting};
+ghost use Rattle.hub_lock.specs.Seats.{IsTallied};
 ghost use Rattle.hub_lock.specs.Histories.{taken_in};
 ghost use Rattle.hub_lock.specs.Finished.{seat_of};
 ghost use Rattle.hub_lock.specs.Passes.{IsOf, steps_of, bytes_of, total_steps, total_bytes};
@@ -120,8 +120,9 @@ impl Hub {
     /// A copy of the limits, of the whole journal as it stands, and of its stamps. Where no pass is
     /// out, the journal's outer steps are as many as the root counts, and they took as many bytes.
     /// It has no later step of a pass that was taken back.
-    /// `HandedOut` comes where entries were handed out, so not before the root has made a pass; else
-    /// `NoMemory` may come. (Wait: it promises what it does if it returns.)
+    /// `HandedOut` comes where entries were handed out, so only once the root has named who records
+    /// (`recorder`), for which it has to have made a pass; else `NoMemory` may come. (Wait: it promises
+    /// what it does if it returns.)
     pub fn session<R: Wait>(&self, rt: &R, root: &mut HubPass) -> Result<Session, NoSession>
         requires own { IsOf self.now root.old }
         ensures root { root.new ≡ having_seen root.old root.new.seen }
@@ -132,7 +133,8 @@ impl Hub {
         ensures bytes { root.old.out ≡ 0 → IfOk result (λ s.
             taken_in s.journal.entries ≡ total_bytes root.new) }
         ensures lines { IfOk result (λ s. HaveLines s.journal.entries) }
-        ensures unhanded { root.old.next ≡ 1 → ¬ (result ≡ Err NoSession.HandedOut) }
+        ensures unhanded { root.old.named ≡ None → ¬ (result ≡ Err NoSession.HandedOut) }
+        ensures unmade { root.old.next ≡ 1 → ¬ (result ≡ Err NoSession.HandedOut) }
     {
         let mut call = Call {
             number: 0,

@@ -37,7 +37,7 @@ use Rattle.typing_jobs.specs.FieldLaw.{IsFieldDone, IsFieldCut, FieldStops, Fiel
 use Rattle.typing_jobs.specs.Sending.{HasSentFront}
 use Rattle.typing_jobs.proofs.RequestsWhole.{AreShort, short-append, sends_short, setup_short}
 use Rattle.trial_law.proofs.TextsBatched.{journal_relays}
-use Rattle.jobs_law.specs.Passes.{ArePassesOf}
+use Rattle.jobs_law.specs.Passes.{ArePassesOf, HasSentIn}
 use Rattle.jobs_law.specs.FieldTold.{told_to, IsFieldTold}
 use Rattle.jobs_law.specs.JobLaws.{FieldsAreTold, FieldsHaveSent}
 use Rattle.jobs_law.proofs.StepsOfPeers.{steps_outer}
@@ -46,6 +46,7 @@ use Rattle.jobs_law.proofs.PassesSeen.{TookIn, took_in}
 use Rattle.jobs_law.proofs.EventsRead.{same_happenings, field_begins}
 use Rattle.jobs_law.proofs.RequestsInOrder.{front_by, front_sent, all_sent}
 use Rattle.jobs_law.proofs.ObjectsMade.{field_own}
+use Rattle.jobs_law.proofs.FieldsThere.{field_made}
 
 -- ---- fronts
 
@@ -213,8 +214,10 @@ pub fields_are_told : FieldsAreTold
 fields_are_told limits h q job r lawful p k = told_by limits h q job lawful p (of_end limits job r k)
 
 pub fields_have_sent : FieldsHaveSent
-fields_have_sent limits h q job lawful p done = record {
-  told = told_by limits h q job lawful p (of_done limits job done);
-  sent = all_sent limits h q job.reader job.writer (field_setup ++ sends_of (field_log job.log)) lawful p
-      (are_short job) done.sent;
-}
+fields_have_sent limits h q job lawful p done =
+    let log : List Happening = field_log job.log in
+    let told : IsFieldTold limits (journal_of limits h) q log = told_by limits h q job lawful p
+    (of_done limits job done) in
+    let sent : HasSentIn (journal_of limits h) q (field_setup ++ sends_of log) =
+    all_sent limits h q job.reader job.writer (field_setup ++ sends_of log) lawful p (are_short job) done.sent in
+    record { told = told; sent = sent; made = field_made limits h q log told.peer lawful told.joined sent }

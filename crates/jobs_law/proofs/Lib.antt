@@ -4,6 +4,7 @@ pub mod PassesSeen
 pub mod EventsRead
 pub mod RequestsInOrder
 pub mod ObjectsMade
+pub mod FieldsThere
 pub mod FieldTold
 pub mod CalmActs
 pub mod PutSilent

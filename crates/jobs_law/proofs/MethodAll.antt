@@ -2,6 +2,7 @@
 use Rattle.std.proofs.Common.{◌≡◌, ℕ, zero, suc, ◌+◌, Bool, true, false, List, [], ◌∷◌, ◌++◌, length, map, Option, Some, None, refl, sym, ap, subst, ◌∙◌, inl, inr, arith, append-nil}
 use Rattle.std.specs.Prelude.{◌⊎◌, ◌==◌, if◌then◌else◌}
 use Rattle.std.specs.List.{AllByRecursion}
+use Rattle.std.proofs.lemmas.Bool.{eq-eqb, ne_eqb, true≢false}
 use Rattle.std.proofs.lemmas.Option.{same_Some}
 use Rattle.seat_steps.specs.declared.limits.Limits.{Limits}
 use Rattle.wl_wire.specs.Messages.{IsPartial, messages}
@@ -18,6 +19,7 @@ use Rattle.client_side.specs.Events.{object_in, method_objects, field_objects}
 use Rattle.client_side.specs.MethodLog.{Happening}
 use Rattle.client_logs.specs.MethodLogs.{settled, method_log}
 use Rattle.broker_model.specs.declared.journal.Entry.{Entry}
+use Rattle.broker_model.specs.declared.journal.Entry.TheVariants as entries
 use Rattle.broker_model.specs.Groups.{message_of}
 use Rattle.broker_model.specs.Ids.{Made, Joined, peer_at, made_as}
 use Rattle.broker_model.specs.Out.{Outgoing, act_at, group_at, fits, before_group, out_for}
@@ -25,9 +27,12 @@ use Rattle.broker_model.specs.Resolve.{means, past_of, resolve}
 use Rattle.broker_model.specs.Settle.{history}
 use Rattle.broker_model.proofs.LivePeersJoined.{joined_stays}
 use Rattle.told_law.proofs.MessagesPut.{ArePut}
-use Rattle.hub_lock.specs.Histories.{History, entries_of}
+use Rattle.turn_lock.specs.Pairs.{own, NoneOf}
+use Rattle.hub_lock.specs.declared.step.OuterStep.{OuterStep}
+use Rattle.hub_lock.specs.Histories.{History, entries_of, writer_of}
+use Rattle.hub_lock.specs.Lawful.{IsMadeBy, AreMadeBy}
 use Rattle.pass_calls.specs.Made.{journal_of}
-use Rattle.pass_calls.proofs.OthersTakeNothing.{entries-append}
+use Rattle.pass_calls.proofs.OthersTakeNothing.{entries-append, made-back}
 use Rattle.trial_run.proofs.FirstMessages.{first_is, found_first}
 use Rattle.trial_run.proofs.FrontOfBytes.{partial_none, bad_none}
 use Rattle.trial_law.proofs.BatchesRelayed.{messages_joined}
@@ -41,7 +46,7 @@ use Rattle.method_law.proofs.ToldHeard.{IsSaid, SpellsAll, put_heard, spelled_ev
 use Rattle.method_law.proofs.TrialSteps.{HasShell}
 use Rattle.typing_jobs.specs.Fronts.{AreEventsIn}
 use Rattle.jobs_law.specs.FieldTold.{OthersAreFields}
-use Rattle.jobs_law.specs.MethodTold.{IsMethodTold, is_key, keys_of}
+use Rattle.jobs_law.specs.MethodTold.{IsMethodTold, is_key, keys_of, is_take_of}
 use Rattle.jobs_law.specs.ShellTold.{is_order}
 use Rattle.jobs_law.specs.JobLaws.{MethodsHaveKeys}
 use Rattle.jobs_law.proofs.StepsOfPeers.{steps_outer}
@@ -194,6 +199,47 @@ nobody_has limits h peer joined known others (suc (suc k)) p j =
     ((λ s. cc), ((λ s. cc), ((λ s. cc), ((λ s. cc), ((λ s. cc), ((λ s. cc), ((λ s. cc), tt)))))))
     (own.known m i mine)
 
+-- ---- what comes past the last take
+
+-- the entry is no order, and takes nothing for the method's peer
+abbrev IsLate : Entry → Type 0
+IsLate e = (is_order e ≡ false) × (is_take_of 1 e ≡ false)
+
+-- a step that isn't its writer's takes nothing for it
+other_take : (h : History) (n m : ℕ) (e : Entry) → IsMadeBy h m e → writer_of h 1 ≡ Some n → (m ≡ n → ⊥) →
+    is_take_of 1 e ≡ false
+other_take h n m (entries.Took k bytes) made w other =
+    ne_eqb k 1 (λ same. other (let number : Some m ≡ Some n = sym made.0 ∙ ap (writer_of h) same ∙ w in cc))
+other_take h n m (entries.Join role) made w other = refl
+other_take h n m (entries.Message k id opcode body) made w other = refl
+other_take h n m (entries.Tokens k tokens) made w other = refl
+other_take h n m (entries.BadSize k head) made w other = refl
+other_take h n m (entries.End k cause) made w other = refl
+other_take h n m (entries.Shell step) made w other = refl
+
+late_steps : (h rest : History) (n : ℕ) → AreMadeBy h rest → writer_of h 1 ≡ Some n → NoneOf n rest →
+    AllByRecursion (λ (s : ℕ × OuterStep). is_order s.1.entry ≡ false) rest →
+    AllByRecursion (λ (s : ℕ × OuterStep). IsLate s.1.entry) rest
+late_steps h [] n made w none each = tt
+late_steps h (x ∷ rest) n made w none each =
+    let one = by (x.0 == n) refl none in (
+      (each.0, other_take h n x.0 x.1.entry made.0 w (λ same. true≢false (sym (eq-eqb x.0 n same) ∙ one.0))),
+      late_steps h rest n made.1 w one.1 each.1,
+    )
+  where
+    by : (b : Bool) → (x.0 == n) ≡ b → (if b then x.1 ∷ own n rest else own n rest) ≡ [] →
+        ((x.0 == n) ≡ false) × NoneOf n rest
+    by true e f = absurd (cc)
+    by false e f = (e, f)
+
+no_orders : (es : List Entry) → AllByRecursion IsLate es → AllByRecursion (λ (e : Entry). is_order e ≡ false) es
+no_orders [] h = tt
+no_orders (e ∷ es) h = (h.0.0, no_orders es h.1)
+
+no_takes : (es : List Entry) → AllByRecursion IsLate es → AllByRecursion (λ (e : Entry). is_take_of 1 e ≡ false) es
+no_takes [] h = tt
+no_takes (e ∷ es) h = (h.0.1, no_takes es h.1)
+
 -- ---- the law
 
 record IsBase (p : ℕ) (base : List Entry) : Type 0 where
@@ -219,10 +265,10 @@ methods_have_keys limits h typist job lawful p fresh short orders done all later
     let base : List Entry = journal_of limits seen in
     let rest : History = p.writer_seen.0 in
     let log : List Happening = method_log job.log in
-    let n : IsNewer (λ (e : Entry). is_order e ≡ false) base
-    (history limits.store (entries_of rest ++ entries_of seen)) =
-    newer_steps (λ (e : Entry). is_order e ≡ false) (λ k cause. refl) limits.store (entries_of rest) (entries_of seen)
-    (entries_each (λ (e : Entry). is_order e ≡ false) rest later) in
+    let n : IsNewer IsLate base (history limits.store (entries_of rest ++ entries_of seen)) =
+    newer_steps IsLate (λ k cause. (refl, refl)) limits.store (entries_of rest) (entries_of seen)
+    (entries_each IsLate rest (late_steps h rest job.writer.seat.number
+    (made-back h seen rest (subst (AreMadeBy h) p.writer_seen.1 lawful.made_by)) p.writes p.writer_seen.2 later)) in
     let grown : journal ≡ n.newer ++ base =
     ap (journal_of limits) p.writer_seen.1 ∙ ap (history limits.store) (entries-append seen rest) ∙ n.is in
     let told : IsMethodTold limits journal typist log =
@@ -257,6 +303,14 @@ methods_have_keys limits h typist job lawful p fresh short orders done all later
     let keys : keys_of (events_told limits.store journal label) ≡ keys_of (events_told limits.store base label) =
     subst (λ (j : List Entry). keys_of (events_told limits.store j label)
     ≡ keys_of (events_told limits.store base label)) (sym grown)
-    (same_keys limits.store n.newer base label n.each
+    (same_keys limits.store n.newer base label (no_orders n.newer n.each)
     (subst HaveNoBoard grown (nobody_has limits h told.peer told.joined known others))) in
-    record { peer = told.peer; joined = told.joined; told = is; keys = ap keys_of is ∙ sym keys }
+    record {
+      newer = n.newer;
+      is = grown;
+      past = no_takes n.newer n.each;
+      peer = told.peer;
+      joined = told.joined;
+      told = is;
+      keys = ap keys_of is ∙ sym keys;
+    }

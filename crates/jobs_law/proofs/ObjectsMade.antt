@@ -5,7 +5,6 @@ use Rattle.std.proofs.lemmas.Bool.{eq-eqb}
 use Rattle.std.proofs.lemmas.List.{append_assoc, append-nil, append_cancel_left}
 use Rattle.std.proofs.lemmas.Option.{same_Some}
 use Rattle.wl_proto.specs.Spelling.{spelling}
-use Rattle.relay_model.specs.declared.role.Role.{Role}
 use Rattle.broker_model.specs.declared.journal.Entry.{Entry}
 use Rattle.broker_model.specs.declared.journal.Entry.TheVariants as entries
 use Rattle.broker_model.specs.Ids.{Made, Joined, Past, peer_in, peer_at, object_at}
@@ -15,6 +14,7 @@ use Rattle.client_side.specs.Messages.{Sent, field_setup}
 use Rattle.client_side.specs.FieldLog.{sent_for, field_of, sends_of}
 use Rattle.client_side.specs.Happenings.{Happening}
 use Rattle.trial_law.proofs.BytesTaken.{step_joined, step_peer}
+use Rattle.trial_law.proofs.FieldsMade.{joined_by}
 use Rattle.trial_law.proofs.ClientIds.{AreOwn, IsOfOther, step_made, others_step, input_step, join_step}
 use Rattle.method_law.specs.TypedLogs.{is_step_of, steps_by, step_of_request, steps_of}
 use Rattle.method_law.proofs.StepsSent.{steps-append, step_steps}
@@ -52,25 +52,6 @@ makes_step capacity q n s journal peer e h own =
     subst (λ (l : List Made). AreOwn l peer.label (n + 1)) (sym (step_made capacity entry journal)) made
 
 -- ---- who joins
-
-last_one : (joined : List Joined) (x peer : Joined) (q : ℕ) → peer_in joined q ≡ None →
-    peer_in (joined ++ x ∷ []) q ≡ Some peer → x ≡ peer
-last_one joined x peer zero a b = cc
-last_one [] x peer (suc zero) a b = same_Some x peer b
-last_one [] x peer (suc (suc k)) a b = cc
-last_one (z ∷ zs) x peer (suc zero) a b = cc
-last_one (z ∷ zs) x peer (suc (suc k)) a b = last_one zs x peer (suc k) a b
-
-joined_by : (e : Entry) (n : ℕ) (joined : List Joined) (peer : Joined) (q : ℕ) → peer_in joined q ≡ None →
-    peer_in (with_joined e n joined) q ≡ Some peer → (role : Role) × (e ≡ entries.Join role) × (peer.label ≡ n)
-joined_by (entries.Join role) n joined peer q a b =
-    (role, refl, ap (λ (x : Joined). x.label) (sym (last_one joined (record { label = n; role = role }) peer q a b)))
-joined_by (entries.Message k id opcode body) n joined peer q a b = cc
-joined_by (entries.Tokens k tokens) n joined peer q a b = cc
-joined_by (entries.BadSize k head) n joined peer q a b = cc
-joined_by (entries.End k why) n joined peer q a b = cc
-joined_by (entries.Shell step) n joined peer q a b = cc
-joined_by (entries.Took k bytes) n joined peer q a b = cc
 
 -- who joined by an entry has its display alone
 new_own : (capacity : ℕ) (e : Entry) (journal : List Entry) (q n : ℕ) (peer : Joined) → 1 ≤ n →

@@ -12,7 +12,7 @@ use Rattle.broker_model.specs.Ids.{Joined, peer_at}
 use Rattle.broker_model.specs.Out.{out_for}
 use Rattle.broker_model.specs.Resolve.{past_of}
 use Rattle.trial_law.specs.FieldLogs.{told_in, events_in, happenings}
-use Rattle.trial_law.specs.RelayedBatches.{batches_in, IsFrontOf, IsFieldOf}
+use Rattle.trial_law.specs.RelayedBatches.{batches_in, IsFrontOf, IsFieldOf, HasMadeField}
 use Rattle.trial_law.specs.RelayedAsBatches.{batches_of}
 use Rattle.method_law.specs.TypedLogs.{steps_by, steps_of}
 use Rattle.jobs_law.specs.Passes.{HasEndIn, HasSentIn}
@@ -36,11 +36,12 @@ pub record IsFieldTold (limits : Limits) (journal : List Entry) (q : ℕ)
   pub none : ((f : ℕ) → IsFieldOf journal peer.label f → ⊥) → batches_in (told_in log) ≡ []
   pub sent : IsFrontOf (steps_by journal q) (steps_of q (field_setup ++ sends_of log))
 
--- so it is, and the steps are all of that, unless the peer ended
+-- so it is, and unless the peer ended the steps are all of that, and it made the field
 pub record IsFieldToldAndSent (limits : Limits) (journal : List Entry) (q : ℕ)
     (log : List Happening) : Type 0 where
   pub told : IsFieldTold limits journal q log
   pub sent : HasSentIn journal q (field_setup ++ sends_of log)
+  pub made : HasMadeField journal q told.peer.label
 
 -- ---- all of it
 

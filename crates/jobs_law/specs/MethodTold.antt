@@ -1,10 +1,12 @@
 -- What the one journal tells the method, and its log of it
-use Rattle.std.specs.Prelude.{◌≡◌, Bool, true, false, List, filter, Some}
+use Rattle.std.specs.Prelude.{◌≡◌, ◌==◌, ◌++◌, ℕ, Bool, true, false, List, filter, Some}
+use Rattle.std.specs.List.{AllByRecursion}
 use Rattle.wl_proto.specs.declared.event.Event.{Event}
 use Rattle.wl_proto.specs.declared.event.Event.TheVariants as events
 use Rattle.seat_steps.specs.declared.limits.Limits.{Limits}
 use Rattle.client_side.specs.MethodLog.{Happening}
 use Rattle.broker_model.specs.declared.journal.Entry.{Entry}
+use Rattle.broker_model.specs.declared.journal.Entry.TheVariants as entries
 use Rattle.broker_model.specs.Ids.{Joined, peer_at}
 use Rattle.broker_model.specs.Resolve.{past_of}
 use Rattle.trial_law.specs.RelayedBatches.{IsFrontOf}
@@ -39,10 +41,19 @@ is_key _ = false
 abbrev pub keys_of : List Event → List Event
 keys_of es = filter is_key es
 
--- The log has the events that the one journal tells the method's peer up to the entries that its
--- writer has seen at its last take, in order, and each key that the whole journal tells it.
+-- the entry takes bytes for the peer q
+abbrev pub is_take_of : ℕ → Entry → Bool
+is_take_of q (entries.Took k bytes) = k == q
+is_take_of q _ = false
+
+-- What was seen is a front of the journal, past which nothing is taken for the method's peer, so its
+-- last take is among it. The log has the events that this front tells the peer, in order, and each
+-- key that the whole journal tells it.
 pub record HasKeys (limits : Limits) (journal seen : List Entry)
     (log : List Happening) : Type 0 where
+  pub newer : List Entry
+  pub is : journal ≡ newer ++ seen
+  pub past : AllByRecursion (λ e. is_take_of 1 e ≡ false) newer
   pub peer : Joined
   pub joined : peer_at (past_of journal) 1 ≡ Some peer
   pub told : events_of log ≡ events_told limits.store seen peer.label

@@ -1,6 +1,6 @@
 //! The running of a link's jobs.
 ghost use Rattle.std.specs.Prelude.{◌≡◌};
-ghost use Rattle.turn_lock.specs.Sights.{having_seen};
+ghost use Rattle.hub_lock.specs.Seats.{having_seen};
 ghost use Rattle.hub_lock.specs.Calls.{pass_having_seen};
 
 use crate::done::{ReaderDone, ShellDone, WriterDone};

@@ -19,7 +19,7 @@ use Rattle.broker_core.specs.declared.answers.Refused.TheVariants as refusals
 use Rattle.broker_core.specs.Broker.{Broker, full_in, full_for, peer_entry, peer_refusal, refusal, IsAccepted}
 use Rattle.broker_core.specs.Stands.{end_of}
 use Rattle.broker_core.specs.Taking.{by_end, standing_in}
-use Rattle.turn_lock.specs.Sights.{having_seen}
+use Rattle.hub_lock.specs.Seats.{having_seen}
 use Rattle.hub_lock.specs.Histories.{History, broker_of}
 use Rattle.hub_lock.specs.Passes.{PassSeat, PeerPass}
 use Rattle.hub_lock.specs.Plays.{Applies}

@@ -1,7 +1,7 @@
 //! An order of the shell.
 ghost use Rattle.std.specs.Prelude.{◌≡◌};
 ghost use Rattle.seat_steps.specs.Ranges.{IsShellStep};
-ghost use Rattle.turn_lock.specs.Sights.{having_seen};
+ghost use Rattle.hub_lock.specs.Seats.{having_seen};
 ghost use Rattle.hub_lock.specs.Passes.{IsOf};
 ghost use Rattle.pass_calls.specs.Made.{SawMore};
 ghost use Rattle.pass_calls.specs.Ordered.{Orders};

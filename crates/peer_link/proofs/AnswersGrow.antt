@@ -13,7 +13,7 @@ use Rattle.broker_core.specs.declared.answers.Refused.{Refused}
 use Rattle.broker_core.specs.declared.answers.Refused.TheVariants as refusals
 use Rattle.broker_core.specs.Broker.{full_in}
 use Rattle.turn_lock.specs.Pairs.{own, NoneOf}
-use Rattle.turn_lock.specs.Sights.{having_seen}
+use Rattle.hub_lock.specs.Seats.{having_seen}
 use Rattle.hub_lock.specs.declared.step.OuterStep.{OuterStep}
 use Rattle.hub_lock.specs.Histories.{History, only}
 use Rattle.hub_lock.specs.Passes.{PassSeat, steps_of}

@@ -6,7 +6,7 @@ use Rattle.broker_model.specs.declared.journal.Entry.{Entry}
 use Rattle.broker_model.specs.declared.journal.Entry.TheVariants as entries
 use Rattle.broker_model.specs.Settle.{due, cause_of, with_end, settled, number_alive, history}
 use Rattle.turn_lock.specs.Pairs.{own, NoneOf}
-use Rattle.turn_lock.specs.Sights.{having_seen}
+use Rattle.hub_lock.specs.Seats.{having_seen}
 use Rattle.turn_lock.proofs.PairsOfNumbers.{own-append, own-here}
 use Rattle.hub_lock.specs.declared.step.OuterStep.{OuterStep}
 use Rattle.hub_lock.specs.Histories.{History, entries_of, only}

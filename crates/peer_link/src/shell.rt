@@ -3,7 +3,7 @@ ghost use Rattle.std.specs.Prelude.{◌≡◌, ◌≢◌, ◌≤◌, ◌<◌, �
 ghost use Rattle.wio_core.specs.Io.{Rose, StaysQuiet};
 ghost use Rattle.wio_core.specs.Lines.{TookFrom};
 ghost use Rattle.turn_lock.specs.Pairs.{NoneOf};
-ghost use Rattle.turn_lock.specs.Sights.{having_seen};
+ghost use Rattle.hub_lock.specs.Seats.{having_seen};
 ghost use Rattle.hub_lock.specs.Passes.{IsOf, steps_of};
 ghost use Rattle.peer_link.specs.Made.{SawMore};
 ghost use Rattle.peer_link.specs.Ordering.{CanGoOn, Serving, ServesOn};

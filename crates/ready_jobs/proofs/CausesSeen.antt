@@ -10,7 +10,7 @@ use Rattle.broker_core.specs.declared.answers.JoinRefusal.{JoinRefusal}
 use Rattle.broker_core.specs.declared.answers.JoinRefusal.TheVariants as join
 use Rattle.broker_core.specs.Broker.{Broker, full_for, join_refusal}
 use Rattle.turn_lock.specs.Pairs.{own, NoneOf}
-use Rattle.turn_lock.specs.Sights.{met_with, having_seen}
+use Rattle.hub_lock.specs.Seats.{met_with, having_seen}
 use Rattle.hub_lock.specs.Histories.{History, broker_of}
 use Rattle.hub_lock.specs.Passes.{HubId, PassSeat, PeerPass, IsOf, steps_of}
 use Rattle.hub_lock.specs.Calls.{LegalJoin, IsJoined}
@@ -72,6 +72,7 @@ join_without hub root after role most why ours is k =
     let number : after.number ≡ root.number = ap (λ (s : PassSeat). s.number) is in record {
       of = subst (λ (s : PassSeat). IsOf hub s) (sym is) ours;
       number = number;
+      named = ap (λ (s : PassSeat). s.named) is;
       out = ap (λ (s : PassSeat). s.out) is;
       next = (let next = ap (λ (s : PassSeat). s.next) is in omega arith);
       cause = join_cause hub.limits root after.seen role why k;
@@ -87,6 +88,7 @@ pub untried : (hub : HubId) (root : PassSeat) (most : ℕ) → IsOf hub root →
 untried hub root most ours = record {
   of = ours;
   number = refl;
+  named = refl;
   out = refl;
   next = omega arith;
   cause = tt;
@@ -160,6 +162,7 @@ back_without hub before root after role first reader writer most why ours k fres
     ap (λ (s : PassSeat). s.number) back.left ∙ ap (λ (s : PassSeat). s.number) k.left in record {
       of = subst (λ (s : PassSeat). IsOf hub s) (sym back.left) (subst (λ (s : PassSeat). IsOf hub s) (sym k.left) ours);
       number = number;
+      named = ap (λ (s : PassSeat). s.named) back.left ∙ ap (λ (s : PassSeat). s.named) k.left;
       out = omega (arith, out, two);
       next = omega (arith, next);
       cause = cause_more hub.limits mid.seen mine.0 after.seen why not mine.1

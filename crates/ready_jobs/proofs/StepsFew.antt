@@ -7,7 +7,7 @@ use Rattle.seat_steps.specs.declared.limits.Limits.{Limits}
 use Rattle.broker_model.specs.declared.journal.Entry.{Entry}
 use Rattle.broker_core.specs.declared.answers.JoinRefusal.{JoinRefusal}
 use Rattle.turn_lock.specs.Pairs.{own, total, NoneOf, IsGrown}
-use Rattle.turn_lock.specs.Sights.{met_with}
+use Rattle.hub_lock.specs.Seats.{met_with}
 use Rattle.turn_lock.proofs.PairsOfNumbers.{own-here, own-append, own-seen}
 use Rattle.hub_lock.specs.declared.step.OuterStep.{OuterStep}
 use Rattle.hub_lock.specs.Histories.{History}

@@ -2,7 +2,7 @@
 use Rattle.std.specs.Prelude.{◌≡◌}
 use Rattle.relay_model.specs.declared.role.Role.{Role}
 use Rattle.seat_steps.specs.declared.limits.Limits.{Limits}
-use Rattle.turn_lock.specs.Sights.{met_with, IsMeeting, IsTallied}
+use Rattle.hub_lock.specs.Seats.{met_with, IsMeeting, IsTallied}
 use Rattle.hub_lock.specs.Passes.{PassSeat, PeerPass}
 use Rattle.hub_lock.specs.Calls.{IsJoined, pass_having_seen}
 use Rattle.pass_calls.specs.Made.{SawMore}

@@ -58,11 +58,12 @@ count_in bytes = length (messages bytes)
 abbrev pub count_of : List Sent → ℕ
 count_of setup = count_in (spelled setup)
 
--- The root is the hub's as before, and no pass is out that wasn't. It made one step at most; the
--- passes that were made, two at most, came back, and made so many steps at most.
+-- The root is the hub's as before, named nobody, and no pass is out that wasn't. It made one step at
+-- most; the passes that were made, two at most, came back, and made so many steps at most.
 pub record IsWithout (hub : HubId) (before after : PassSeat) (most : ℕ) (why : NoJob) : Type 0 where
   pub of : IsOf hub after
   pub number : after.number ≡ before.number
+  pub named : after.named ≡ before.named
   pub out : after.out ≡ before.out
   pub next : after.next ≤ before.next + 2
   pub cause : HasCause hub.limits after.seen why

@@ -1,6 +1,6 @@
 //! The shell's job begins.
 ghost use Rattle.std.specs.Prelude.{◌≡◌, ◌≤◌, ◌^◌};
-ghost use Rattle.turn_lock.specs.Sights.{after_split, split_off};
+ghost use Rattle.hub_lock.specs.Seats.{after_split, split_off};
 ghost use Rattle.hub_lock.specs.Passes.{IsOf};
 ghost use Rattle.typing_jobs.specs.ShellLaw.{IsShellReady};
 

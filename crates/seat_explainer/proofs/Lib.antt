@@ -1,3 +1,4 @@
 pub mod LinesSince
 pub mod ExplainersReached
 pub mod OutcomesGiven
+pub mod OwnGroupPut

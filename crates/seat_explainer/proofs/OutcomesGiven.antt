@@ -50,7 +50,7 @@ unroomed (fates.Unrelayed why) b = (
 
 -- of the newest entry
 
-given : (capacity : ℕ) (e : Entry) (older : List Entry) (m serial : ℕ) → Commits e older m serial →
+pub given : (capacity : ℕ) (e : Entry) (older : List Entry) (m serial : ℕ) → Commits e older m serial →
     outcome_at capacity e older
     ≡ Some (outcome_of (fate (history (resolve older)) m serial) (was_put capacity e older))
 given capacity e older m serial c =

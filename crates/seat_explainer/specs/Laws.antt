@@ -1,15 +1,20 @@
 -- What holds of what is said of batches.
-use Rattle.std.specs.Prelude.{◌≡◌, ◌↔◌, ℕ, List, true, false, Some}
+use Rattle.std.specs.Prelude.{◌≡◌, ◌↔◌, ◌==◌, ◌++◌, ℕ, List, [], ◌∷◌, true, false, Option, Some, if◌then◌else◌}
 use Rattle.relay_model.specs.declared.act.Act.TheVariants.{MCommit}
+use Rattle.relay_model.specs.declared.said.Said.{Said}
+use Rattle.relay_model.specs.declared.act.Act.{Act}
+use Rattle.relay_model.specs.Batch.{batch, group}
 use Rattle.relay_model.specs.Idle.{history}
 use Rattle.batch_reasons.specs.declared.fate.Reason.{Reason}
 use Rattle.batch_reasons.specs.Fate.{reason_holds}
 use Rattle.batch_reasons.specs.Laws.{IsRelayed}
+use Rattle.explain_text.specs.declared.outcome.Outcome.{Outcome}
 use Rattle.explain_text.specs.declared.outcome.Outcome.TheVariants.{Queued, ReachedNobody}
 use Rattle.explain_text.specs.declared.outcome.WhyNobody.TheVariants.{Unrelayed, NoRoom}
 use Rattle.broker_model.specs.declared.journal.Entry.{Entry}
 use Rattle.broker_model.specs.Resolve.{resolve}
 use Rattle.broker_model.specs.Out.{act_at}
+use Rattle.broker_model.specs.Queued.{is_put, queued}
 use Rattle.seat_explainer.specs.Journals.{was_put, outcome_at}
 
 -- the entry commits a batch of the method m with the serial
@@ -40,3 +45,25 @@ NoRoomGiven =
     (outcome_at capacity e older ≡ Some (ReachedNobody NoRoom))
     ↔ ((f : ℕ) × (count : ℕ) × IsRelayed (history (resolve older)) m serial f count
     × (was_put capacity e older ≡ false))
+
+-- of a relayed batch a group was put exactly where the one of its own field was
+abbrev pub PutIsOwn : Type 0
+PutIsOwn =
+    (capacity : ℕ) (e : Entry) (older : List Entry) (m serial f count : ℕ) →
+    Commits e older m serial → IsRelayed (history (resolve older)) m serial f count →
+    (was_put capacity e older ≡ true) ↔ (is_put capacity e older f ≡ true)
+
+-- what is queued for the field f by a batch of the method m after these acts of which that is said
+abbrev pub queued_by : Option Outcome → List Act → (m f : ℕ) → List (List Said)
+queued_by (Some (Queued g count)) log m f =
+    (if g == f then group (batch log m) count ∷ [] else [])
+queued_by _ log m f = []
+
+-- so what is queued for each field grows exactly by the batches that are said to be queued for it
+abbrev pub SaidIsQueued : Type 0
+SaidIsQueued =
+    (capacity : ℕ) (e : Entry) (older : List Entry) (m serial f : ℕ) →
+    Commits e older m serial →
+    queued capacity (e ∷ older) f
+    ≡ queued capacity older f
+    ++ queued_by (outcome_at capacity e older) (history (resolve older)) m f

@@ -2,7 +2,7 @@
 ghost use Rattle.std.specs.Prelude.{◌≡◌, ◌≢◌, ◌≤◌, length, Err, IfOk, OnOk, OnErr};
 ghost use Rattle.wio_core.specs.Io.{Rose};
 ghost use Rattle.turn_lock.specs.Pairs.{HasSeen};
-ghost use Rattle.turn_lock.specs.Sights.{having_seen};
+ghost use Rattle.hub_lock.specs.Seats.{having_seen};
 ghost use Rattle.hub_lock.specs.Histories.{broker_of};
 ghost use Rattle.hub_lock.specs.Passes.{IsOf};
 ghost use Rattle.serve_record.specs.Handed.{WritesHanded, MadeNoStep, HandsOut};

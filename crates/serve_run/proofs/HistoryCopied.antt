@@ -1,7 +1,7 @@
 -- What a run begins with
 use Rattle.std.proofs.Common.{◌≡◌, ◌-◌, ◌<◌, ◌≤◌, ◌++◌, ◌∷◌, [], ℕ, zero, suc, List, length, get_or, Some, sym, ap, ◌∙◌, subst, arith}
 use Rattle.std.specs.List.{slice_get}
-use Rattle.turn_lock.specs.Sights.{fresh_seat}
+use Rattle.hub_lock.specs.Seats.{fresh_seat}
 use Rattle.hub_lock.specs.Passes.{HubId, PassSeat}
 use Rattle.link_jobs.specs.Tags.{Tag}
 use Rattle.serve_run.specs.LinkJobs.{LinkedJob, IsOnHub, AreOnHub}

@@ -4,7 +4,7 @@ use Rattle.std.proofs.lemmas.List.{append_assoc, take_all}
 use Rattle.relay_model.specs.declared.role.Role.{Role}
 use Rattle.seat_steps.specs.declared.limits.Limits.{Limits}
 use Rattle.turn_lock.specs.Pairs.{own, HasSeen, IsIn, IsDistinct, total}
-use Rattle.turn_lock.specs.Sights.{fresh_seat}
+use Rattle.hub_lock.specs.Seats.{fresh_seat}
 use Rattle.turn_lock.proofs.PairsOfNumbers.{own-seen}
 use Rattle.hub_lock.specs.Histories.{History, broker_of}
 use Rattle.hub_lock.specs.Lawful.{IsLawful}

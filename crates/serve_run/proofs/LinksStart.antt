@@ -3,7 +3,7 @@ use Rattle.std.proofs.Common.{◌≡◌, ◌+◌, ◌≤◌, ◌++◌, ◌∷◌
 use Rattle.relay_model.specs.declared.role.Role.{Role}
 use Rattle.turn_lock.specs.Pairs.{own, NoneOf}
 use Rattle.turn_lock.proofs.PairsOfNumbers.{own-seen}
-use Rattle.turn_lock.specs.Sights.{after_split}
+use Rattle.hub_lock.specs.Seats.{after_split}
 use Rattle.hub_lock.specs.Passes.{HubId, PassSeat, PeerPass}
 use Rattle.link_jobs.specs.Tags.{Tag}
 use Rattle.link_jobs.specs.Tags.Part.{reader, writer, shell}

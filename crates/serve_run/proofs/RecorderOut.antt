@@ -3,14 +3,14 @@ use Rattle.std.proofs.Common.{◌≡◌, ◌⊎◌, inl, inr, ◌∷◌, [], ℕ
 use Rattle.std.specs.Prelude.{nat_lt, if◌then◌else◌}
 use Rattle.seat_steps.specs.declared.limits.Limits.{Limits}
 use Rattle.turn_lock.specs.Pairs.{NoneOf, HasSeen, IsIn, longer, total}
-use Rattle.turn_lock.specs.Sights.{IsTallied, IsMeeting, after_split, split_off, having_seen, met_with}
+use Rattle.hub_lock.specs.Seats.{IsTallied, IsMeeting, after_split, split_off, having_seen, naming, met_with}
 use Rattle.turn_lock.proofs.PairsOfNumbers.{own-seen}
 use Rattle.hub_lock.specs.Histories.{History}
 use Rattle.hub_lock.specs.Passes.{HubId, PassSeat, Recorder, IsOf}
 use Rattle.hub_lock.specs.Recording.{LegalLook, recorder}
 use Rattle.serve_run.specs.Started.{IsRootOf}
 
--- the root has seen more, and split off a pass
+-- the root has seen more, named a pass, and split it off
 
 pub root_seen : (hub : HubId) (root root' : PassSeat) → IsRootOf hub root → root' ≡ having_seen root root'.seen
     → IsRootOf hub root'
@@ -20,7 +20,7 @@ root_seen hub root root' r e = record {
 }
 
 pub root_split : (hub : HubId) (root root' : PassSeat) → IsRootOf hub root
-    → root' ≡ after_split (having_seen root root'.seen) → IsRootOf hub root'
+    → root' ≡ after_split (naming (having_seen root root'.seen)) → IsRootOf hub root'
 root_split hub root root' r e = record {
   of = (ap (λ (s : PassSeat). s.turn) e ∙ r.of.0, ap (λ (s : PassSeat). s.constant) e ∙ r.of.1);
   zero = ap (λ (s : PassSeat). s.number) e ∙ r.zero;
@@ -70,8 +70,8 @@ free_on seat seat' e s free =
     (none_later seat'.seen seat.seen seat.number s free)
 
 -- all that came back before is back
-pub in_split : (root root' : PassSeat) (n : ℕ) → root' ≡ after_split (having_seen root root'.seen) → IsIn n root.taken
-    → IsIn n root'.taken
+pub in_split : (root root' : PassSeat) (n : ℕ) → root' ≡ after_split (naming (having_seen root root'.seen))
+    → IsIn n root.taken → IsIn n root'.taken
 in_split root root' n e out = subst (IsIn n) (sym (ap (λ (s : PassSeat). s.taken) e)) out
 
 pub in_seen : (root root' : PassSeat) (n : ℕ) → root' ≡ having_seen root root'.seen → IsIn n root.taken

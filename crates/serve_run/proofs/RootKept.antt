@@ -4,7 +4,7 @@ use Rattle.relay_model.specs.declared.role.Role.{Role}
 use Rattle.broker_model.specs.declared.journal.Entry.TheVariants as entries
 use Rattle.broker_core.specs.declared.answers.JoinRefusal.{JoinRefusal}
 use Rattle.turn_lock.specs.Pairs.{own, NoneOf, HasSeen}
-use Rattle.turn_lock.specs.Sights.{after_split, split_off, met_with, having_seen, IsMeeting}
+use Rattle.hub_lock.specs.Seats.{after_split, split_off, met_with, having_seen, IsMeeting}
 use Rattle.turn_lock.proofs.PairsOfNumbers.{own-append}
 use Rattle.hub_lock.specs.Histories.{History, joining}
 use Rattle.hub_lock.specs.Passes.{HubId, PassSeat, PeerPass, IsOf}

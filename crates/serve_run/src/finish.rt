@@ -1,7 +1,7 @@
 //! A run is brought to its end: the record is written while links run, and the results come back.
 ghost use Rattle.std.specs.Prelude.{◌≡◌, ◌≤◌, ◌+◌, ◌^◌, ℕ, [], length};
 ghost use Rattle.turn_lock.specs.Pairs.{NoneOf, HasSeen, IsIn};
-ghost use Rattle.turn_lock.specs.Sights.{after_split, split_off, having_seen};
+ghost use Rattle.hub_lock.specs.Seats.{after_split, split_off, having_seen, naming};
 ghost use Rattle.hub_lock.specs.Recording.{recorder};
 ghost use Rattle.serve_run.specs.Ended.{IsEnded};
 ghost use Rattle.serve_run.specs.LinkJobs.{AreOnHub};
@@ -23,7 +23,7 @@ use wio_core::Sink;
 fn record_pass<R: Wait>(rt: &R, hub: &Hub, root: &mut HubPass) -> RecorderPass
     requires root { IsRootOf hub.now root.old }
     requires room { root.old.next ≤ 2 ^ 63 }
-    ensures left { root.new ≡ after_split (having_seen root.old root.new.seen) }
+    ensures left { root.new ≡ after_split (naming (having_seen root.old root.new.seen)) }
     ensures right { result ≡ recorder (split_off (having_seen root.old root.new.seen)) [] }
     ensures fresh { NoneOf result.seat.number result.seat.seen }
     ensures mine { HasSeen root.new.seen 0 root.old.seen }

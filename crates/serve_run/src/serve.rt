@@ -13,7 +13,7 @@ ghost use Rattle.serve_run.specs.Opened.{AreOpened};
 ghost use Rattle.serve_run.specs.Started.{IsRootOf, AreAccepted, Starts};
 ghost use Rattle.serve_run.specs.ServerLaw.{ServerLaw, sides};
 ghost use Rattle.turn_lock.specs.Pairs.{own};
-ghost use Rattle.turn_lock.specs.Sights.{fresh_seat};
+ghost use Rattle.hub_lock.specs.Seats.{fresh_seat};
 
 use crate::accept::accept_all;
 use crate::finish::finish_run;

@@ -4,7 +4,7 @@ ghost use Rattle.std.specs.Prelude.{OnOk, OnErr, IfOk, IfErr, IsSomeAnd, true};
 ghost use Rattle.std.specs.Arc.{arc_value};
 ghost use Rattle.wio_core.specs.Io.{Rose};
 ghost use Rattle.turn_lock.specs.Pairs.{HasSeen};
-ghost use Rattle.turn_lock.specs.Sights.{after_split};
+ghost use Rattle.hub_lock.specs.Seats.{after_split};
 ghost use Rattle.hub_lock.specs.Passes.{IsOf, steps_of};
 ghost use Rattle.hub_lock.specs.Finished.{seat_of};
 ghost use Rattle.hub_lock.specs.Histories.{reader_of};

@@ -164,7 +164,7 @@ of_none : (o : Option Joined) (f : Joined → Meaning) → ((peer : Joined) → 
 of_none None f h = refl
 of_none (Some peer) f h = h peer
 
-of_is : (o : Option Joined) (f : Joined → Meaning) (peer : Joined) → o ≡ Some peer → of_peer o f ≡ f peer
+pub of_is : (o : Option Joined) (f : Joined → Meaning) (peer : Joined) → o ≡ Some peer → of_peer o f ≡ f peer
 of_is o f peer e = ap (λ (x : Option Joined). of_peer x f) e
 
 empty_others : (p : ℕ) (new : List Made) → new ≡ [] → AreOthers p new

@@ -28,19 +28,22 @@ use Rattle.trial_law.proofs.BytesTaken.{step_peer}
 use Rattle.trial_law.proofs.ClientIds.{IsOfOther, others_step, input_step, join_step}
 use Rattle.trial_law.proofs.RequestsWait.{AreInputs, none_wait, bytes_each, messages_spelled, waits_for_input, happens_waits, received_waits}
 use Rattle.trial_law.proofs.SetupSent.{OwnTo, setup_short, setup_own}
+use Rattle.trial_law.proofs.FieldsMade.{HasIdIn, step_before, id_stays, join_id, setup_made}
 use Rattle.trial_law.proofs.FieldFollowed.{same_or_not, changed_at, changed_other}
 use Rattle.trial_law.proofs.TakesCount.{both_went}
 use Rattle.trial_law.proofs.FieldsJoin.{AreFollowed, with_new, new_peer, joined_last, last_field, can_join, nobody_edits, field_followed}
 
 -- ---- the field with the index k
 
--- its peer has the objects of its client, and its client has requests to its text input alone to send
+-- its peer has the objects of its client, the text input too unless it ended, and its client has requests to that
+-- alone to send
 pub record IsKnown (k : ℕ) (t : TrialPlay) : Type 0 where
   pub field : FieldPlay
   pub is : slice_get t.fields k ≡ Some field
   pub peer : Joined
   pub joined : peer_at (past_of t.broker.journal) (k + 2) ≡ Some peer
   pub own : OwnTo peer 7 t.broker
+  pub made : HasIdIn (k + 2) peer 7 t.broker
   pub waits : AreInputs field.client.state.to_send
 
 -- another field is as it was
@@ -52,6 +55,7 @@ other_known j k f t d h = record {
   peer = h.peer;
   joined = h.joined;
   own = h.own;
+  made = h.made;
   waits = h.waits;
 }
 
@@ -64,6 +68,7 @@ own_known k f t h waits = record {
   peer = h.peer;
   joined = h.joined;
   own = h.own;
+  made = h.made;
   waits = waits;
 }
 
@@ -76,6 +81,12 @@ field_known j k f t w h = by (same_or_not j k)
     by (inl e) = subst (λ i. IsKnown k (with_field i f t)) (sym e) (own_known k f t h (w h.field h.waits))
     by (inr d) = other_known j k f t d h
 
+id_kept : (q : ℕ) (peer : Joined) (id : ℕ) (e : journals.Entry) (t : TrialPlay) → HasIdIn q peer id t.broker →
+    HasIdIn q peer id (with_entry e t).broker
+id_kept q peer id e t h none =
+    id_stays t.broker.limits.store e t.broker.journal peer.label id
+    (h (step_before t.broker.limits.store e t.broker.journal q none))
+
 -- an entry that isn't a message of its peer
 pub entry_known : (k : ℕ) (e : journals.Entry) (t : TrialPlay) → IsOfOther (k + 2) e → IsKnown k t →
     IsKnown k (with_entry e t)
@@ -85,6 +96,7 @@ entry_known k e t o h = record {
   peer = h.peer;
   joined = step_peer t.broker.limits.store e t.broker.journal (k + 2) h.peer h.joined;
   own = others_step t.broker.limits.store e t.broker.journal (k + 2) 7 h.peer h.joined o h.own;
+  made = id_kept (k + 2) h.peer 7 e t h.made;
   waits = h.waits;
 }
 
@@ -99,6 +111,7 @@ input_known k opcode body t h =
       peer = h.peer;
       joined = step_peer t.broker.limits.store e t.broker.journal (k + 2) h.peer h.joined;
       own = input_step t.broker.limits.store (k + 2) opcode 7 body t.broker.journal h.peer h.joined h.own;
+      made = id_kept (k + 2) h.peer 7 e t h.made;
       waits = h.waits;
     }
 
@@ -129,7 +142,7 @@ taken_known : (k : ℕ) (who : Whose) (t : TrialPlay) → IsKnown k t →
     IsKnown k (hears who (next_bytes (number_of who) t.broker) (with_entry (take_entry who t) t))
 taken_known k whose.Method t h =
     let f = entry_known k (take_entry whose.Method t) t tt h in
-    record { field = f.field; is = f.is; peer = f.peer; joined = f.joined; own = f.own; waits = f.waits }
+    record { field = f.field; is = f.is; peer = f.peer; joined = f.joined; own = f.own; made = f.made; waits = f.waits }
 taken_known k (whose.Field j) t h =
     field_known j k (field_hears (next_bytes (j + 2) t.broker)) (with_entry (take_entry (whose.Field j) t) t)
     (λ x w. received_waits (next_bytes (j + 2) t.broker) x.client w)
@@ -137,7 +150,7 @@ taken_known k (whose.Field j) t h =
 
 sent_known : (k : ℕ) (who : Whose) (t : TrialPlay) → IsKnown k t → IsKnown k (sent who t)
 sent_known k whose.Method t h =
-    record { field = h.field; is = h.is; peer = h.peer; joined = h.joined; own = h.own; waits = h.waits }
+    record { field = h.field; is = h.is; peer = h.peer; joined = h.joined; own = h.own; made = h.made; waits = h.waits }
 sent_known k (whose.Field j) t h = field_known j k field_sent t (λ x w. none_wait) h
 
 pub known_kept : (k : ℕ) → IsKept (IsKnown k)
@@ -158,11 +171,11 @@ pause_known j k paused t h = field_known j k (λ f. record f { is_paused = pause
 
 pub commit_known : (k : ℕ) (batch : field.Batch) (t : TrialPlay) → IsKnown k t → IsKnown k (commits batch t)
 commit_known k batch t h =
-    record { field = h.field; is = h.is; peer = h.peer; joined = h.joined; own = h.own; waits = h.waits }
+    record { field = h.field; is = h.is; peer = h.peer; joined = h.joined; own = h.own; made = h.made; waits = h.waits }
 
 pub show_known : (k : ℕ) (lines : List ℕ) (t : TrialPlay) → IsKnown k t → IsKnown k (record t { shown = lines })
 show_known k lines t h =
-    record { field = h.field; is = h.is; peer = h.peer; joined = h.joined; own = h.own; waits = h.waits }
+    record { field = h.field; is = h.is; peer = h.peer; joined = h.joined; own = h.own; made = h.made; waits = h.waits }
 
 -- ---- joins
 
@@ -183,6 +196,7 @@ known_played k = record {
       peer = h.peer;
       joined = h.joined;
       own = h.own;
+      made = h.made;
       waits = h.waits;
     };
   };
@@ -235,6 +249,12 @@ new_known t mid h e =
     let own : OwnTo peer 7 later.broker =
     subst (λ (ms : List (List ℕ)). OwnTo peer 7 (messages_sent (k + 2) ms new.broker).now) (sym waits)
     (setup_own (k + 2) new.broker peer joined (join_step t.broker.limits.store App t.broker.journal)) in
+    let made : HasIdIn (k + 2) peer 7 later.broker =
+    subst (λ (ms : List (List ℕ)). (messages_sent (k + 2) ms new.broker).is_full ≡ false →
+    HasIdIn (k + 2) peer 7 (messages_sent (k + 2) ms new.broker).now) (sym waits)
+    (setup_made (k + 2) new.broker peer joined (join_step t.broker.limits.store App t.broker.journal)
+    (λ none. join_id t.broker.limits.store App t.broker.journal))
+    (ap (λ (r : Ran TrialPlay). r.is_full) both.first) in
     let seat : Seated (k + 2) peer (sent who later) =
     subst (λ (r : Ran TrialPlay). Seated (k + 2) peer r.now) (e ∙ ap (λ (u : TrialPlay). went u)
     (sym (ap (λ (u : TrialPlay). sent who u) is ∙ ap (λ (r : Ran TrialPlay). r.now) both.second)))
@@ -245,6 +265,7 @@ new_known t mid h e =
       peer = peer;
       joined = seat;
       own = own;
+      made = made;
       waits = none_wait;
     } in
     subst (λ (u : TrialPlay). IsKnown k u)

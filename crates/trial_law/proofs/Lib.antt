@@ -11,10 +11,12 @@ pub mod TextsFolded
 pub mod ClientIds
 pub mod RequestsWait
 pub mod SetupSent
+pub mod FieldsMade
 pub mod ClientsKnown
 pub mod GroupsHeard
 pub mod BatchesRelayed
 pub mod TextsRelayed
+pub mod FieldsThere
 pub mod UnpausedHearAll
 pub mod GroupsRead
 pub mod TextInputsMade

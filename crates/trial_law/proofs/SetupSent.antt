@@ -76,27 +76,32 @@ request_makes past k n peer x s None h own =
     past.made peer.label n refl
     h.there own)
 
+-- it is read so, whichever object of the peer has the id that it goes to
+pub read_as : (past : Past) (n bound : ℕ) (peer : Joined) (s : Sent) (x : Made) → IsMaking n s →
+    AreOwn past.made peer.label bound → object_at past peer.label s.object ≡ Some x →
+    request_reading x.interface s.message.opcode (past.waiting peer.label) (spelling s.message.values) ≡ Ok s.message
+read_as past n bound peer s x h own e =
+    let f = found (log_of past) past.made peer.label s.object x e in
+    let there : object_in field_objects s.object ≡ Some x.interface =
+    subst (λ id. object_in field_objects id ≡ Some x.interface) f.under (own.known x f.among f.peer) in
+    let same : s.message.interface ≡ x.interface = same_Some s.message.interface x.interface (sym h.object ∙ there) in
+    let tokens : List ℕ = past.waiting peer.label in
+    subst (λ (i : Interface). request_reading i s.message.opcode tokens (spelling s.message.values) ≡ Ok s.message) same
+    (reads_back n s tokens h)
+
 pub message_makes : (past : Past) (k n : ℕ) (peer : Joined) (s : Sent) (o : Option Made) → IsMaking n s →
     AreOwn past.made peer.label n → object_at past peer.label s.object ≡ o →
     AreOwn ((of_message past k peer s.message.opcode (spelling s.message.values) o).made ++ past.made)
     peer.label (n + 1)
 message_makes past k n peer s None h own e = more_ids past.made peer.label n (n + 1) (omega arith) own
 message_makes past k n peer s (Some x) h own e =
-    let f = found (log_of past) past.made peer.label s.object x e in
-    let there : object_in field_objects s.object ≡ Some x.interface =
-    subst (λ id. object_in field_objects id ≡ Some x.interface) f.under (own.known x f.among f.peer) in
-    let same : s.message.interface ≡ x.interface = same_Some s.message.interface x.interface (sym h.object ∙ there) in
-    let tokens : List ℕ = past.waiting peer.label in
-    let reads : request_reading x.interface s.message.opcode tokens (spelling s.message.values) ≡ Ok s.message =
-    subst (λ (i : Interface). request_reading i s.message.opcode tokens (spelling s.message.values) ≡ Ok s.message) same
-    (reads_back n s tokens h) in
     subst (λ (r : Result Message Refuse). AreOwn ((of_reading past k peer x.label r).made ++ past.made)
     peer.label (n + 1))
-    (sym reads)
+    (sym (read_as past n n peer s x h own e))
     (request_makes past k n peer x.label s
     (request_fault past peer.label x.label peer.role (label_at past peer.label) s.message) h own)
 
-entry_is : (q n : ℕ) (s : Sent) → IsMaking n s →
+pub entry_is : (q n : ℕ) (s : Sent) → IsMaking n s →
     message_entry q (bytes_of s) ≡ entries.Message q s.object s.message.opcode (spelling s.message.values)
 entry_is q n s h =
     let w = written_whole s.object s.message h.short.object h.short.opcode h.short.size in
@@ -104,7 +109,7 @@ entry_is q n s h =
     ∙ ap (λ opcode. entries.Message q s.object opcode (body_of (bytes_of s))) w.2
     ∙ ap (λ (body : List ℕ). entries.Message q s.object s.message.opcode body) w.3
 
-makes_step : (capacity q n : ℕ) (s : Sent) (journal : List Entry) (peer : Joined) →
+pub makes_step : (capacity q n : ℕ) (s : Sent) (journal : List Entry) (peer : Joined) →
     peer_at (past_of journal) q ≡ Some peer →
     IsMaking n s → AreOwn (past_of journal).made peer.label n →
     AreOwn (past_of (settle capacity (message_entry q (bytes_of s) ∷ journal))).made peer.label (n + 1)

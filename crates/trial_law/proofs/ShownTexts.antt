@@ -23,11 +23,12 @@ use Rattle.trial_run.specs.Play.{FieldPlay, TrialPlay, text_in}
 use Rattle.trial_run.specs.Lines.{show_line}
 use Rattle.trial_run.specs.Trial.{played_with, trial_played}
 use Rattle.trial_law.specs.FieldLogs.{told_in, trial_to, line_of, line_at, lines_to}
-use Rattle.trial_law.specs.RelayedBatches.{batches_in, IsFieldOf}
+use Rattle.trial_law.specs.RelayedBatches.{batches_in, IsFieldOf, HasMadeField}
 use Rattle.trial_law.specs.RelayedAsBatches.{HasByteTexts, IsOfBytes, batches_of, IsBatched}
 use Rattle.trial_law.specs.ShownTexts.{is_paused_behind, IsShownText, ShownTextsAreBatches}
 use Rattle.trial_law.proofs.ShownLines.{shown_in_turn}
 use Rattle.trial_law.proofs.TextsRelayed.{none_in_front}
+use Rattle.trial_law.proofs.FieldsThere.{fields_are_made}
 use Rattle.trial_law.proofs.TextsBatched.{texts_batched, unpaused_have_all_relayed}
 use Rattle.trial_law.proofs.ScriptsOfBytes.{scripts_of_bytes}
 use Rattle.trial_law.proofs.NoneRelayedYet.{none_relayed_yet}
@@ -190,6 +191,9 @@ shown_text limits bytes n f t at e =
       own = b.folded.own;
       peer = b.folded.peer;
       joined = subst (λ q. peer_at (past_of t.broker.journal) q ≡ Some b.folded.peer) number b.folded.joined;
+      made =
+          subst (λ q. HasMadeField t.broker.journal q b.folded.peer.label) number
+          (fields_are_made limits (front_of n script) t k so.field b.folded.peer few e so.is b.folded.joined);
       told = b.folded.told;
       front = b.batches;
       all = λ object h going lives.

@@ -1,5 +1,5 @@
 -- What the groups that are relayed to a field tell its client.
-use Rattle.std.specs.Prelude.{◌≡◌, ℕ, ◌^◌, ◌<◌, ◌≤◌, List, [], ◌∷◌, ◌++◌, length, Some, true, FitsSigned}
+use Rattle.std.specs.Prelude.{◌≡◌, ℕ, ◌^◌, ◌<◌, ◌≤◌, List, [], ◌∷◌, ◌++◌, length, Some, None, true, FitsSigned}
 use Rattle.std.specs.Int.{w32}
 use Rattle.wl_wire.specs.Texts.{is_text}
 use Rattle.wl_wire.specs.Messages.{messages}
@@ -11,6 +11,7 @@ use Rattle.broker_model.specs.declared.journal.Entry.{Entry}
 use Rattle.broker_model.specs.Ids.{Made, made_as}
 use Rattle.broker_model.specs.Groups.{said_piece}
 use Rattle.broker_model.specs.Resolve.{past_of}
+use Rattle.broker_core.specs.Stands.{end_of}
 use Rattle.trial_law.specs.FieldLogs.{events_in, happenings}
 
 -- the batches, in order
@@ -42,6 +43,10 @@ pub record IsFieldOf (journal : List Entry) (p f : ℕ) : Type 0 where
   pub is : made_as (past_of journal).made f ≡ Some made
   pub own : made.peer ≡ p
   pub input : made.id ≡ 7
+
+-- the peer with the number q and the label p made its field, unless it ended
+abbrev pub HasMadeField : List Entry → (q p : ℕ) → Type 0
+HasMadeField journal q p = end_of journal q ≡ None → (f : ℕ) × IsFieldOf journal p f
 
 -- the edits of a batch, as a field takes them
 abbrev pub edits_of : relay.Batch → Batch

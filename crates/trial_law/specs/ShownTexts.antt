@@ -19,7 +19,7 @@ use Rattle.trial_run.specs.Play.{TrialPlay}
 use Rattle.trial_run.specs.Lines.{show_line}
 use Rattle.trial_run.specs.Trial.{trial_within}
 use Rattle.trial_law.specs.FieldLogs.{edits_in, told_in, bytes_taken, events_in, happenings, own_edits, trial_to, lines_to}
-use Rattle.trial_law.specs.RelayedBatches.{batches_in, IsFrontOf, IsFieldOf}
+use Rattle.trial_law.specs.RelayedBatches.{batches_in, IsFrontOf, IsFieldOf, HasMadeField}
 use Rattle.trial_law.specs.RelayedAsBatches.{batches_of}
 
 -- whether the field with the index k is paused behind an action, where it was so before or not;
@@ -44,7 +44,8 @@ is_paused_behind all k = is_paused_from all k false
 -- it is what the events make happen that the one journal tells the field's peer, as far as its
 -- client took their bytes. Its batches are a front of those that the journal relays to the field:
 -- all of them, unless the last of these actions that pauses or resumes it pauses it, or a group
--- that didn't fit ended its peer. There are none where the peer made no field.
+-- that didn't fit ended its peer. The peer made the field, unless it ended; there are none where it
+-- made none.
 pub record IsShownText (limits : Limits) (bytes : List ℕ) (n f : ℕ) (t : TrialPlay) : Type 0 where
   pub named : IsWithin (script_of bytes).fields f
   pub log : List Happening
@@ -54,6 +55,7 @@ pub record IsShownText (limits : Limits) (bytes : List ℕ) (n f : ℕ) (t : Tri
   pub own : edits_in log ≡ own_edits (take n (script_of bytes).actions) (f - 1)
   pub peer : Joined
   pub joined : peer_at (past_of t.broker.journal) (f + 1) ≡ Some peer
+  pub made : HasMadeField t.broker.journal (f + 1) peer.label
   pub told : told_in log
       ≡ happenings (events_in (messages (bytes_taken limits.store t.broker.journal peer.label)))
       no_edits

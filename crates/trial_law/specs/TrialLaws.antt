@@ -21,7 +21,7 @@ use Rattle.trial_run.specs.Play.{FieldPlay, TrialPlay}
 use Rattle.trial_run.specs.Rounds.{is_quiet}
 use Rattle.trial_run.specs.Trial.{trial_played}
 use Rattle.trial_law.specs.FieldLogs.{edits_in, told_in, bytes_taken, events_in, happenings, own_edits, lines_to}
-use Rattle.trial_law.specs.RelayedBatches.{batches_in, group_told, groups_told, IsFrontOf, IsFieldOf, edits_of, IsSayable}
+use Rattle.trial_law.specs.RelayedBatches.{batches_in, group_told, groups_told, IsFrontOf, IsFieldOf, HasMadeField, edits_of, IsSayable}
 
 -- the journal of every trial is the history of its outer steps, wherever it stops
 abbrev pub TrialHistory : Type 0
@@ -65,6 +65,14 @@ TextsAreFolds =
     (limits : Limits) (script : Script) (t : TrialPlay) (k : ℕ) (field : FieldPlay) →
     script.fields ≤ 16 → trial_played limits script ≡ went t → slice_get t.fields k ≡ Some field →
     IsFolded limits script t.broker.journal k field
+
+-- the peer of each of its fields made it, unless the peer ended
+abbrev pub FieldsAreMade : Type 0
+FieldsAreMade =
+    (limits : Limits) (script : Script) (t : TrialPlay) (k : ℕ) (field : FieldPlay)
+    (peer : Joined) → script.fields ≤ 16 → trial_played limits script ≡ went t →
+    slice_get t.fields k ≡ Some field → peer_at (past_of t.broker.journal) (k + 2) ≡ Some peer →
+    HasMadeField t.broker.journal (k + 2) peer.label
 
 -- So it is, and the batches of the log are a front of those that the one journal relays to the
 -- field; there are none where the peer made no field.

@@ -4,6 +4,7 @@
 
 ghost use Rattle.trial_law.specs.TrialLaws.{TrialHistory, RoundsEndQuiet};
 ghost use Rattle.trial_law.specs.TrialLaws.{ShownInTurn, TextsAreFolds, TextsAreRelayed};
+ghost use Rattle.trial_law.specs.TrialLaws.{FieldsAreMade};
 ghost use Rattle.trial_law.specs.TrialLaws.{UnpausedHearAll, UnpausedHaveAll, GroupsAreRead};
 ghost use Rattle.trial_law.specs.RelayedAsBatches.{ScriptsAreOfBytes, MessagesAreBytes};
 ghost use Rattle.trial_law.specs.RelayedAsBatches.{TextsAreBatches};
@@ -38,6 +39,13 @@ pub fn shown_in_turn()
 #[tactic(auto, using(crate::proofs::TextsFolded::texts_folded))]
 pub fn texts_are_folds()
     ensures { TextsAreFolds }
+{}
+
+/// In every such trial the peer of each field made it, under the id by which its client knows it,
+/// unless the peer ended.
+#[tactic(auto, using(crate::proofs::FieldsThere::fields_are_made))]
+pub fn fields_are_made()
+    ensures { FieldsAreMade }
 {}
 
 /// So it is, and the batches of the log are a front of those that the one journal relays to the
@@ -100,9 +108,9 @@ pub fn unpaused_have_all_relayed()
 
 /// With no premise, of any bytes as a script: what they show is a line for each `show` that the
 /// trial comes to, in turn, with the text of a log of the field that it names. The log's own edits
-/// are those of the actions before, all and in order; its batches are a front of those that the one
-/// journal relays to the field, and all of them unless the field is paused there, or a group that
-/// didn't fit ended its peer.
+/// are those of the actions before, all and in order; its peer made the field, unless it ended; its
+/// batches are a front of those that the one journal relays to the field, and all of them unless the
+/// field is paused there, or a group that didn't fit ended its peer.
 pub fn shown_texts_are_batches()
     ensures { ShownTextsAreBatches }
 {}

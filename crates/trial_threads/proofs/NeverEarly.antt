@@ -8,7 +8,7 @@ use Rattle.client_logs.specs.declared.entry.FieldEntry.{FieldEntry}
 use Rattle.client_logs.specs.declared.method_log.MethodEntry.{MethodEntry}
 use Rattle.client_side.specs.Messages.{field_setup, method_setup}
 use Rattle.turn_lock.specs.Pairs.{own, total, HasSeen, IsIn}
-use Rattle.turn_lock.specs.Sights.{having_seen}
+use Rattle.hub_lock.specs.Seats.{having_seen}
 use Rattle.turn_lock.proofs.PairsOfNumbers.{own-seen}
 use Rattle.hub_lock.specs.declared.session.Session.{Session}
 use Rattle.hub_lock.specs.Histories.{History}

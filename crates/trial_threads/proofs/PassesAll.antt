@@ -6,7 +6,7 @@ use Rattle.broker_model.specs.Settle.{outer}
 use Rattle.client_logs.specs.declared.entry.FieldEntry.{FieldEntry}
 use Rattle.client_logs.specs.declared.method_log.MethodEntry.{MethodEntry}
 use Rattle.turn_lock.specs.Pairs.{HasSeen, NoneOf, IsDistinct, total}
-use Rattle.turn_lock.specs.Sights.{having_seen, IsTallied}
+use Rattle.hub_lock.specs.Seats.{having_seen, IsTallied}
 use Rattle.turn_lock.proofs.PairsOfNumbers.{own-seen}
 use Rattle.hub_lock.specs.declared.session.Session.{Session}
 use Rattle.hub_lock.specs.declared.step.OuterStep.{OuterStep}

@@ -5,7 +5,7 @@ use Rattle.std.proofs.lemmas.List.{length-append, drop_more}
 use Rattle.client_logs.specs.declared.entry.FieldEntry.{FieldEntry}
 use Rattle.client_logs.specs.declared.method_log.MethodEntry.{MethodEntry}
 use Rattle.turn_lock.specs.Pairs.{HasSeen, IsIn}
-use Rattle.turn_lock.specs.Sights.{met_with, IsMeeting, IsTallied}
+use Rattle.hub_lock.specs.Seats.{met_with, IsMeeting, IsTallied}
 use Rattle.hub_lock.specs.Passes.{PassSeat}
 use Rattle.pass_calls.proofs.PassesCounted.{seen_stays}
 use Rattle.ready_jobs.specs.Begun as begun
@@ -41,6 +41,7 @@ all_stay before after all goes b =
 pub sees_both : (a b c : PassSeat) → SeesOn a b → SeesOn b c → SeesOn a c
 sees_both a b c one two = record {
   number = two.number ∙ one.number;
+  named = two.named ∙ one.named;
   mine = seen_stays c.seen b.seen a.seen a.number
       (subst (λ (n : ℕ). HasSeen c.seen n b.seen) one.number two.mine) one.mine;
   taken = λ n i. two.taken n (one.taken n i);
@@ -50,6 +51,7 @@ sees_both a b c one two = record {
 pub sees_none : (a : PassSeat) → SeesOn a a
 sees_none a = record {
   number = refl;
+  named = refl;
   mine = ([], sym (append-nil a.seen), refl);
   taken = λ n i. i;
   settled = λ n i. ([], sym (append-nil a.seen), refl);
@@ -60,6 +62,7 @@ pub met_sees : (root pass after : PassSeat) → after ≡ met_with root pass →
     SeesOn root after
 met_sees root pass after is m = record {
   number = ap (λ (s : PassSeat). s.number) is;
+  named = ap (λ (s : PassSeat). s.named) is;
   mine = m.mine;
   taken = λ n i. subst (λ (s : PassSeat). IsIn n s.taken) (sym is) (inr i);
   settled = m.taken;

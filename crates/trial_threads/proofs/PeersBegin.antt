@@ -8,7 +8,7 @@ use Rattle.seat_steps.specs.declared.limits.Limits.{Limits}
 use Rattle.broker_model.specs.declared.journal.Entry.{Entry}
 use Rattle.broker_model.specs.declared.journal.Entry.TheVariants as entries
 use Rattle.turn_lock.specs.Pairs.{own, NoneOf}
-use Rattle.turn_lock.specs.Sights.{after_split}
+use Rattle.hub_lock.specs.Seats.{after_split}
 use Rattle.turn_lock.proofs.PairsOfNumbers.{own-here, own-append}
 use Rattle.hub_lock.specs.declared.step.OuterStep.{OuterStep}
 use Rattle.hub_lock.specs.Histories.{History, reader_of, writer_of, joining}

@@ -11,7 +11,7 @@ use Rattle.client_logs.specs.declared.method_log.MethodEntry.{MethodEntry}
 use Rattle.broker_model.specs.Limits.{weight_of}
 use Rattle.broker_model.specs.Settle.{outer}
 use Rattle.turn_lock.specs.Pairs.{HasSeen, IsIn}
-use Rattle.turn_lock.specs.Sights.{having_seen}
+use Rattle.hub_lock.specs.Seats.{having_seen}
 use Rattle.hub_lock.specs.declared.session.Session.{Session}
 use Rattle.hub_lock.specs.Calls.{LegalCopy}
 use Rattle.hub_lock.specs.Histories.{History, broker_of}

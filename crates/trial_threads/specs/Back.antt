@@ -4,7 +4,7 @@ use Rattle.std.specs.List.{AllByRecursion}
 use Rattle.client_logs.specs.declared.entry.FieldEntry.{FieldEntry}
 use Rattle.client_logs.specs.declared.method_log.MethodEntry.{MethodEntry}
 use Rattle.turn_lock.specs.Pairs.{HasSeen, IsIn}
-use Rattle.turn_lock.specs.Sights.{IsTallied}
+use Rattle.hub_lock.specs.Seats.{IsTallied}
 use Rattle.hub_lock.specs.Histories.{History}
 use Rattle.hub_lock.specs.Passes.{PassSeat}
 use Rattle.trial_jobs.specs.declared.job.TrialJob.{TrialJob}
@@ -39,9 +39,11 @@ JobIsBack root (jobs.Shell job) = IsBack root job.pass
 abbrev pub AreBack : PassSeat → List Running → Type 0
 AreBack root rs = AllByRecursion (λ (r : Running). JobIsBack root r.job) rs
 
--- the root has seen more since, with no later step of its own and of a pass that was back
+-- the root has seen more since, with no later step of its own and of a pass that was back, and named
+-- nobody
 pub record SeesOn (before after : PassSeat) : Type 0 where
   pub number : after.number ≡ before.number
+  pub named : after.named ≡ before.named
   pub mine : HasSeen after.seen before.number before.seen
   pub taken : (n : ℕ) → IsIn n before.taken → IsIn n after.taken
   pub settled : (n : ℕ) → IsIn n before.taken → HasSeen after.seen n before.seen

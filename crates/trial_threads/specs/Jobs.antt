@@ -2,7 +2,7 @@
 use Rattle.std.specs.Prelude.{◌≡◌, Bool, true, List, [], ◌∷◌, ◌++◌, Result, Err, IfOk}
 use Rattle.std.specs.List.{AllByRecursion}
 use Rattle.seat_steps.specs.declared.limits.Limits.{Limits}
-use Rattle.turn_lock.specs.Sights.{having_seen}
+use Rattle.hub_lock.specs.Seats.{having_seen}
 use Rattle.client_logs.specs.declared.entry.FieldEntry.{FieldEntry}
 use Rattle.client_logs.specs.declared.method_log.MethodEntry.{MethodEntry}
 use Rattle.hub_lock.specs.Passes.{HubId, IsOf}

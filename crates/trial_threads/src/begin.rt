@@ -55,6 +55,7 @@ fn put_field<R: Wait>(
     requires room { root.old.next ≤ 2 ^ 63 }
     requires actions { All IsAction actions.now }
     ensures own { IsOf hub.now root.new }
+    ensures named { root.new.named ≡ root.old.named }
     ensures next { OnOk result (root.new.next ≡ root.old.next + 2) }
     ensures put { OnOk result ((typist : TrialTypist) → IsPut hub.now typist
         (of_field (edits_in number actions.now)) jobs.old.items jobs.new.items) }
@@ -87,6 +88,7 @@ fn put_method<R: Wait>(
     requires fresh { IsFresh typist }
     requires actions { All IsAction actions.now }
     ensures own { IsOf hub.now root.new }
+    ensures named { root.new.named ≡ root.old.named }
     ensures next { OnOk result (root.new.next ≡ root.old.next + 2) }
     ensures put { OnOk result (IsPut hub.now typist
         (of_method (batches_in actions.now)) jobs.old.items jobs.new.items) }
@@ -117,6 +119,7 @@ fn put_shell(
     requires room { root.old.next ≤ 2 ^ 63 }
     requires actions { All IsAction actions.now }
     ensures own { IsOf hub.now root.new }
+    ensures named { root.new.named ≡ root.old.named }
     ensures put { OnOk result ((typist : TrialTypist) → IsPut hub.now typist
         (of_shell (orders_in first actions.now)) jobs.old.items jobs.new.items) }
     ensures joined { OnOk result ((n : ℕ) → HaveJoined root.old n jobs.old.items →
@@ -142,6 +145,7 @@ fn put_fields<R: Wait>(
     requires few { users.now.fields ≤ 16 }
     requires actions { All IsAction users.now.actions.now }
     ensures own { IsOf hub.now root.new }
+    ensures named { root.new.named ≡ root.old.named }
     ensures next { OnOk result (root.new.next ≤ 35) }
     ensures all { OnOk result ((typist : TrialTypist) (parts : List Part) →
         HaveBegun hub.now typist parts jobs.old.items →
@@ -179,6 +183,7 @@ pub(crate) fn begin_jobs<R: Wait>(
     requires actions { All IsAction users.now.actions.now }
     requires none { jobs.old.items ≡ [] }
     ensures own { IsOf hub.now root.new }
+    ensures named { root.new.named ≡ root.old.named }
     ensures all { OnOk result (HaveBegun hub.now typist
         (parts_of users.now.fields users.now.first users.now.actions.now) jobs.new.items) }
     ensures idle { AreIdle hub.now jobs.new.items }

@@ -56,6 +56,7 @@ pub(crate) fn play<R: Threads + Wait + Sync, G: Gate + Sync>(
     requires actions { All IsAction users.now.actions.now }
     requires none { jobs.old.items ≡ [] }
     ensures own { IsOf hub.now root.new }
+    ensures named { root.new.named ≡ root.old.named }
     ensures of { AreJobsOf hub.now jobs.new.items }
     ensures played { HaveJoined root.old 0 [] → HavePlayed hub.now typist
         (parts_of users.now.fields users.now.first users.now.actions.now)

@@ -14,7 +14,7 @@ use crate::parts::bad_line;
 use crate::play::play;
 use crate::stop::Stop;
 use crate::trial::{ThreadTrial, ThreadTrialEnd};
-use hub_lock::{Gate, Hub};
+use hub_lock::{Gate, Hub, NoSession};
 use ready_jobs::typist_by;
 use seat_steps::{FORM_1_WEIGHT, Limits};
 use std::alloc::Global;
@@ -54,8 +54,10 @@ fn run_users<R: Threads + Wait + Sync, G: Gate + Sync>(
     let mut jobs = Vec::new(alloc);
     let stopped = play(rt, alloc, &hub, &mut root, typist, users, &mut jobs, gate);
     let logs = collect(alloc, &hub, &mut root, jobs)?;
-    let Ok(session) = hub.session(rt, &mut root) else {
-        return Err(ThreadTrialEnd::NoMemory);
+    let session = match hub.session(rt, &mut root) {
+        Ok(session) => session,
+        Err(NoSession::NoMemory) => return Err(ThreadTrialEnd::NoMemory),
+        Err(NoSession::HandedOut) => unreachable!(),
     };
     let trial = ThreadTrial {
         logs: logs.fields,

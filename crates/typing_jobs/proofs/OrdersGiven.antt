@@ -6,7 +6,7 @@ use Rattle.seat_steps.specs.declared.limits.Limits.{Limits}
 use Rattle.seat_steps.specs.declared.step.ShellStep.{ShellStep}
 use Rattle.broker_model.specs.declared.journal.Entry.{Entry}
 use Rattle.broker_model.specs.declared.journal.Entry.TheVariants as entries
-use Rattle.turn_lock.specs.Sights.{having_seen}
+use Rattle.hub_lock.specs.Seats.{having_seen}
 use Rattle.hub_lock.specs.Passes.{PassSeat}
 use Rattle.pass_calls.specs.declared.stop.PassStop.{PassStop}
 use Rattle.pass_calls.specs.declared.stop.PassStop.TheVariants as stops

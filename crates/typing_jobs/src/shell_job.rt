@@ -1,6 +1,6 @@
 //! The shell's job.
 ghost use Rattle.std.specs.Prelude.{◌≡◌, []};
-ghost use Rattle.turn_lock.specs.Sights.{having_seen};
+ghost use Rattle.hub_lock.specs.Seats.{having_seen};
 ghost use Rattle.hub_lock.specs.Passes.{IsOf};
 ghost use Rattle.pass_calls.specs.Made.{entries_by, SawMore};
 ghost use Rattle.typing_jobs.specs.ShellLaw.{IsShellReady, ShellRuns, Orders};

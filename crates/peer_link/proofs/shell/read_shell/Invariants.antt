@@ -1,7 +1,7 @@
 use Rattle.std.proofs.Common.{◌≡◌, ◌≤◌, ◌<◌, ◌^◌, ℕ, List}
 use Rattle.wio_core.specs.Io.{StaysQuiet}
 use Rattle.wio_core.specs.Lines.{TookFrom}
-use Rattle.turn_lock.specs.Sights.{having_seen}
+use Rattle.hub_lock.specs.Seats.{having_seen}
 use Rattle.hub_lock.specs.Passes.{steps_of}
 use Rattle.peer_link.specs.Made.{SawMore}
 use Rattle.peer_link.specs.Ordering.{CanGoOn, Serving}

@@ -1,5 +1,5 @@
 use Rattle.std.proofs.Common.{◌∙◌, [], ap, refl, arith}
-use Rattle.turn_lock.specs.Sights.{after_split, split_off, having_seen}
+use Rattle.hub_lock.specs.Seats.{after_split, split_off, having_seen, naming}
 use Rattle.hub_lock.specs.Passes.{PassSeat}
 use Rattle.hub_lock.specs.Recording.{recorder}
 use Rattle.serve_run.proofs.LawsKept.{seen_again, seen_through}
@@ -25,7 +25,7 @@ recorder-requires g c =
 pub returns-in-Some-recorder-clause-left : goal.returns-in-Some-recorder-clause-left
 returns-in-Some-recorder-clause-left g c =
     c.in-Some-recorder.ensures.left
-    ∙ ap (λ (s : PassSeat). after_split (having_seen s c.recorder.new.root.seen)) c.loop.invariant.root
+    ∙ ap (λ (s : PassSeat). after_split (naming (having_seen s c.recorder.new.root.seen))) c.loop.invariant.root
 
 pub returns-in-Some-recorder-clause-right : goal.returns-in-Some-recorder-clause-right
 returns-in-Some-recorder-clause-right g c =

@@ -1,6 +1,6 @@
 use Rattle.std.proofs.Common.{◌≡◌, ℕ}
 use Rattle.turn_lock.specs.Pairs.{HasSeen, IsIn}
-use Rattle.turn_lock.specs.Sights.{having_seen}
+use Rattle.hub_lock.specs.Seats.{having_seen}
 use Rattle.serve_run.proofs.finish.record_pass.Given as goal
 
 -- the root has seen more, and made no step

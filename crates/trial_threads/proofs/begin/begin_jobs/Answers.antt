@@ -134,3 +134,16 @@ returns-clause-joined g c h =
           (let l = length-append c.put_fields.new.jobs.items
           ((c.in_ok-put_shell.ensures.put c.args.typist).job ∷ []) in omega (arith, l));
     }
+
+pub returns-in_err-put_method-clause-named : goal.returns-in_err-put_method-clause-named
+returns-in_err-put_method-clause-named g c = c.put_method.ensures.named
+
+pub returns-in_err-put_fields-clause-named : goal.returns-in_err-put_fields-clause-named
+returns-in_err-put_fields-clause-named g c = c.put_fields.ensures.named ∙ c.put_method.ensures.named
+
+pub returns-in_err-put_shell-clause-named : goal.returns-in_err-put_shell-clause-named
+returns-in_err-put_shell-clause-named g c =
+    c.put_shell.ensures.named ∙ c.put_fields.ensures.named ∙ c.put_method.ensures.named
+
+pub returns-clause-named : goal.returns-clause-named
+returns-clause-named g c = c.put_shell.ensures.named ∙ c.put_fields.ensures.named ∙ c.put_method.ensures.named

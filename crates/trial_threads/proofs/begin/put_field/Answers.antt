@@ -1,5 +1,6 @@
 use Rattle.std.proofs.Common.{ℕ, Err, List, length, subst, sym, ap, ◌∙◌}
 use Rattle.std.proofs.lemmas.Result.{err_from_is_err_and}
+use Rattle.hub_lock.specs.Passes.{PassSeat}
 use Rattle.ready_jobs.specs.declared.no_job.NoJob.{NoJob}
 use Rattle.trial_threads.specs.declared.running.Running.{Running}
 use Rattle.trial_threads.specs.Peers.{HaveJoined}
@@ -24,3 +25,12 @@ returns-clause-joined g c h =
     subst (λ (rs : List Running). HaveJoined c.begin_field.new.root (length rs) rs) (sym c.in_ok-put.ensures.ok)
     (field_joined c.args.hub.now.limits c.args.root.now c.begin_field.new.root c.args.jobs.now.items
     c.in_ok-field.field e.begun e.ready.begun.fresh h)
+
+pub returns-in_err-field-clause-named : goal.returns-in_err-field-clause-named
+returns-in_err-field-clause-named g c = c.in_err-field.ensures.none.named
+
+pub returns-in_err-put-clause-named : goal.returns-in_err-put-clause-named
+returns-in_err-put-clause-named g c = ap (λ (s : PassSeat). s.named) c.in_ok-field.ensures.begun.joined.left
+
+pub returns-clause-named : goal.returns-clause-named
+returns-clause-named g c = ap (λ (s : PassSeat). s.named) c.in_ok-field.ensures.begun.joined.left

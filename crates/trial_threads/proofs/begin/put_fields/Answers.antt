@@ -1,4 +1,4 @@
-use Rattle.std.proofs.Common.{◌≡◌, ◌≤◌, ◌++◌, ℕ, List, subst, sym, arith, append-nil}
+use Rattle.std.proofs.Common.{◌≡◌, ◌≤◌, ◌++◌, ◌∙◌, ℕ, List, refl, subst, sym, arith, append-nil}
 use Rattle.std.proofs.lemmas.Result.{err_from_is_err_and}
 use Rattle.trial_threads.specs.declared.running.Running.{Running}
 use Rattle.trial_threads.specs.Users.{Part, fields_from}
@@ -10,6 +10,7 @@ use Rattle.trial_threads.proofs.begin.put_fields.Goals as goal
 pub loop-index-init : goal.loop-index-init
 loop-index-init g c = record {
   own = c.requires.own;
+  named = refl;
   next = c.requires.room;
   begun = λ typist parts h. subst (λ (ps : List Part). HaveBegun c.args.hub.now typist ps c.args.jobs.now.items)
       (sym (append-nil parts)) h;
@@ -51,6 +52,7 @@ loop-index-preserved g c =
     let e = c.in_ok-put_field.ensures in
     let i = c.loop-index.invariant in record {
       own = e.own;
+      named = e.named ∙ i.named;
       next = omega (arith, e.next, i.next);
       begun = λ typist parts h. one_field c.args.hub.now typist parts c.loop-index.index c.args.users.now.actions.now
           c.loop-index.jobs.items c.put_field.new.jobs.items (i.begun typist parts h) (e.put typist);
@@ -60,6 +62,12 @@ loop-index-preserved g c =
 
 pub returns-clause-own : goal.returns-clause-own
 returns-clause-own g c = c.loop-index.invariant.own
+
+pub returns-in_err-put_field-clause-named : goal.returns-in_err-put_field-clause-named
+returns-in_err-put_field-clause-named g c = c.put_field.ensures.named ∙ c.loop-index.invariant.named
+
+pub returns-clause-named : goal.returns-clause-named
+returns-clause-named g c = c.loop-index.invariant.named
 
 pub returns-clause-next : goal.returns-clause-next
 returns-clause-next g c = omega (arith, c.loop-index.invariant.next, c.loop-index.auto.index-end, c.requires.few)

@@ -10,6 +10,7 @@ use Rattle.trial_threads.proofs.begin.put_fields.Given as goal
 abbrev pub invariant-loop-index : goal.invariant-loop-index
 invariant-loop-index g l = record {
   own : IsOf l.hub l.root;
+  named : l.root.named ≡ l.initial.root.named;
   next : l.root.next ≤ 3 + 2 * l.index;
   begun : (typist : TrialTypist) (parts : List Part) → HaveBegun l.hub typist parts l.initial.jobs.items →
       HaveBegun l.hub typist (parts ++ fields_from 1 l.index l.users.actions.now) l.jobs.items;

@@ -1,5 +1,6 @@
-use Rattle.std.proofs.Common.{◌≡◌, ◌++◌, ◌∷◌, [], ℕ, List, Result, Ok, Err, subst, sym}
+use Rattle.std.proofs.Common.{◌≡◌, ◌++◌, ◌∷◌, [], ℕ, List, Result, Ok, Err, ap, subst, sym}
 use Rattle.std.specs.Prelude.{OnOk}
+use Rattle.hub_lock.specs.Passes.{PassSeat}
 use Rattle.trial_jobs.specs.declared.job.TrialJob.TheVariants as jobs
 use Rattle.trial_threads.specs.declared.running.Running.{Running}
 use Rattle.trial_threads.specs.Jobs.{idle_job}
@@ -20,3 +21,6 @@ returns-clause-joined c =
     (λ is n h. subst (λ (rs : List Running). HaveJoined c.begin_shell-shell.new.root n rs) (sym is)
     (shell_joined c.args.root.now c.begin_shell-shell.new.root n before c.begin_shell-shell.result c.begin_shell-shell.ensures.left h))
     c.put.ensures.ok
+
+pub returns-clause-named : goal.returns-clause-named
+returns-clause-named c = ap (λ (s : PassSeat). s.named) c.begin_shell-shell.ensures.left

@@ -1,10 +1,11 @@
-use Rattle.std.proofs.Common.{◌≡◌, ◌∙◌, [], Result, Some, None, length, refl, sym, ap, subst}
+use Rattle.std.proofs.Common.{rules, ◌≡◌, ◌∙◌, [], Result, Err, Some, None, length, refl, sym, ap, subst}
 use Rattle.std.specs.Prelude.{Option, IfOk}
 use Rattle.std.proofs.lemmas.List.Elements.{recursion_from_All}
 use Rattle.trial_script.specs.Grammar.{IsAction}
 use Rattle.broker_model.specs.Settle.{outer}
 use Rattle.hub_lock.specs.Passes.{PassSeat, total_steps}
 use Rattle.hub_lock.specs.declared.session.NoSession.{NoSession}
+use Rattle.hub_lock.specs.declared.session.NoSession.TheVariants as sessions
 use Rattle.hub_lock.specs.declared.session.Session.{Session}
 use Rattle.hub_lock.specs.Calls.{LegalCopy}
 use Rattle.trial_threads.specs.declared.stop.Stop.{Stop}
@@ -64,8 +65,8 @@ returns-in-Full g c =
     (c.play-stopped.ensures.played (subst (λ (s : PassSeat). HaveJoined s 0 []) (sym c.in_ok-hub.ensures.root)
     (none_joined _ refl refl refl refl))))
 
-pub unreachable-requires : goal.unreachable-requires
-unreachable-requires g c =
+pub unreachable-requires-in-TooManyPeers : goal.unreachable-requires-in-TooManyPeers
+unreachable-requires-in-TooManyPeers g c =
     let hub = c.in_ok-hub.hub in
     let u = c.args.users.now in
     let parts = parts_of u.fields u.first u.actions.now in
@@ -112,3 +113,11 @@ unreachable-requires-in-BadEvent g c =
     (subst (λ (s : Option Stop). HavePlayed hub c.args.typist parts root rs s) (c.in-Some.is ∙ ap (λ (why : Stop). Some why) c.in-BadEvent.is)
     (c.play-stopped.ensures.played (subst (λ (s : PassSeat). HaveJoined s 0 []) (sym c.in_ok-hub.ensures.root)
     (none_joined _ refl refl refl refl))))
+
+-- nobody was named to record
+pub unreachable-requires : goal.unreachable-requires
+unreachable-requires g c =
+    let refused : c.session.result ≡ Err sessions.HandedOut = search rules in
+    c.session.ensures.unhanded
+    (c.in_ok-logs.ensures.back.sees.named ∙ c.play-stopped.ensures.named
+    ∙ ap (λ (s : PassSeat). s.named) c.in_ok-hub.ensures.root) refused

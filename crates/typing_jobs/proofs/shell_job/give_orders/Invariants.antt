@@ -1,5 +1,5 @@
 use Rattle.std.proofs.Common.{◌≡◌, take}
-use Rattle.turn_lock.specs.Sights.{having_seen}
+use Rattle.hub_lock.specs.Seats.{having_seen}
 use Rattle.pass_calls.specs.Made.{entries_by, SawMore}
 use Rattle.typing_jobs.specs.ShellLaw.{ordered}
 use Rattle.typing_jobs.proofs.shell_job.give_orders.Given as goal

@@ -1,11 +1,13 @@
 use Rattle.std.proofs.Common.{◌≡◌, ◌+◌, ◌∙◌, ap, sym, subst, arith, length, max, Some}
 use Rattle.seat_steps.specs.declared.limits.Limits.{Limits}
-use Rattle.turn_lock.specs.Sights.{IsMeeting, IsTallied, met_with}
+use Rattle.turn_lock.specs.Sights as sights
 use Rattle.hub_lock.specs.Lawful.{IsLawful}
 use Rattle.hub_lock.specs.Passes.{PassSeat, steps_of, bytes_of, total_steps, total_bytes, journal_seen, HasSeenLawful}
+use Rattle.hub_lock.specs.Seats.{IsMeeting, IsTallied, met_with, pass_with}
 use Rattle.hub_lock.specs.Finished.{seat_of}
-use Rattle.hub_lock.specs.Events.{EventSeat, RecordsByAnother, step_of, pass_seat}
-use Rattle.hub_lock.proofs.NobodyNamed.{another-seen}
+use Rattle.hub_lock.specs.Shown.{shown_sight}
+use Rattle.hub_lock.specs.Events.{EventSeat, RecordsByAnother, step_of, pass_seat, root_seat, named_in}
+use Rattle.hub_lock.proofs.NobodyNamed.{another-seen, named-seen}
 use Rattle.hub_lock.proofs.PairsLeftOut.{met_shown, meeting-shown, tallied-shown}
 use Rattle.hub_lock.proofs.MeetingsCounted.{met-steps, met-bytes, met-few, met-entries, seen-lawful}
 use Rattle.hub_lock.proofs.hub.Hub.finish.Goals as goal
@@ -14,13 +16,13 @@ use Rattle.hub_lock.proofs.hub.Hub.finish.Goals.at
 
 module _ (c : After-meet) where
   abbrev root : PassSeat
-  root = pass_seat c.root.inside.seat
+  root = root_seat c.root.inside.seat
 
   abbrev pass : PassSeat
   pass = pass_seat c.member.inside.seat
 
   abbrev now : PassSeat
-  now = pass_seat c.meet.new.seat
+  now = root_seat c.meet.new.seat
 
   abbrev limits : Limits
   limits = c.args.self.now.limits
@@ -40,28 +42,32 @@ module _ (c : After-meet) where
   theirs : IsLawful limits pass.seen
   theirs = c.member.invariant.2 limits of'
 
-  raw : IsMeeting c.root.inside.seat c.member.inside.seat (met_with c.root.inside.seat c.member.inside.seat).seen
-  raw = subst (λ (s : EventSeat). IsMeeting c.root.inside.seat c.member.inside.seat s.seen) c.meet.ensures.met
+  -- at the lock
+  abbrev joint : EventSeat
+  joint = sights.met_with c.root.inside.seat c.member.inside.seat
+
+  raw : sights.IsMeeting c.root.inside.seat c.member.inside.seat joint.seen
+  raw = subst (λ (s : EventSeat). sights.IsMeeting c.root.inside.seat c.member.inside.seat s.seen) c.meet.ensures.met
       c.meet.ensures.both
 
-  both : pass_seat (met_with c.root.inside.seat c.member.inside.seat) ≡ met_with root pass
-  both = met_shown step_of c.root.inside.seat c.member.inside.seat raw
+  both : root_seat joint ≡ met_with root pass
+  both =
+      ap (λ n. pass_with n (shown_sight step_of joint)) (named-seen c.root.inside.seat joint.seen c.root.invariant.0 raw.mine)
+      ∙ ap (pass_with (named_in c.root.inside.seat.seen)) (met_shown step_of c.root.inside.seat c.member.inside.seat raw)
 
   met : now ≡ met_with root pass
-  met = ap pass_seat c.meet.ensures.met ∙ both
+  met = ap root_seat c.meet.ensures.met ∙ both
 
   k : IsMeeting root pass (met_with root pass).seen
   k = subst (λ (s : PassSeat). IsMeeting root pass s.seen) both
-      (meeting-shown step_of c.root.inside.seat c.member.inside.seat
-      (met_with c.root.inside.seat c.member.inside.seat).seen raw)
+      (meeting-shown step_of c.root.inside.seat c.member.inside.seat joint.seen raw)
 
   tallied : IsTallied now
   tallied = tallied-shown step_of c.meet.new.seat c.meet.ensures.tallied
 
   another : RecordsByAnother c.meet.new.seat
   another = subst RecordsByAnother (sym c.meet.ensures.met)
-      (another-seen c.root.inside.seat (met_with c.root.inside.seat c.member.inside.seat).seen c.root.invariant.0
-      c.root.invariant.5 raw.mine)
+      (another-seen c.root.inside.seat joint.seen c.root.invariant.0 c.root.invariant.5 raw.mine)
 
   steps : c.root.inside.steps + c.member.inside.steps ≡ total_steps now
   steps =

@@ -1,11 +1,12 @@
 use Rattle.std.proofs.Common.{rules, ◌≡◌, ◌∙◌, ap, sym, subst, refl, length, List, ◌∷◌, Option, Some, None}
 use Rattle.seat_steps.specs.declared.limits.Limits.{Limits}
 use Rattle.broker_core.specs.declared.letting_go.LetGo.{LetGo}
-use Rattle.turn_lock.specs.Sights.{IsLegal, having_seen}
+use Rattle.turn_lock.specs.Sights.{IsLegal}
 use Rattle.hub_lock.specs.declared.call.Ask.TheVariants as asks
 use Rattle.hub_lock.specs.declared.call.Answer.TheVariants as answers
 use Rattle.hub_lock.specs.declared.call.Call.{Call}
 use Rattle.hub_lock.specs.Passes.{PassSeat, Recorder, journal_seen, HasSeenLawful}
+use Rattle.hub_lock.specs.Seats.{having_seen, sight_of}
 use Rattle.hub_lock.specs.Plays.{Plays}
 use Rattle.hub_lock.specs.Events.{pass_seat}
 use Rattle.hub_lock.specs.Recording.{HasFront, Records, recorder, with_next, LegalHandOut}
@@ -32,7 +33,7 @@ module _ (g : _) (c : After-play-answer g) where
   of : c.pass.inside.seat.constant ≡ Some limits
   of = ap (λ (p : Recorder). p.seat.constant) c.pass.view_is ∙ c.requires.own.1
 
-  shown : IsLegal Plays pass.seat call now.seen c.play-answer.new.call c.play-answer.result
+  shown : IsLegal Plays (sight_of pass.seat) call now.seen c.play-answer.new.call c.play-answer.result
   shown = shown-legal c.pass.inside.seat call c.play-answer.new.seat.seen c.play-answer.new.call c.play-answer.result
       c.play-answer.ensures.legal
 

@@ -1,7 +1,8 @@
 use Rattle.std.proofs.Common.{rules, ◌≡◌, ◌+◌, ◌∙◌, ap, subst, arith, length, true, false}
 use Rattle.turn_lock.specs.Rule.{bit}
-use Rattle.turn_lock.specs.Sights.{IsLegal, having_seen}
+use Rattle.turn_lock.specs.Sights.{IsLegal}
 use Rattle.hub_lock.specs.Passes.{PassSeat, steps_of, bytes_of, journal_seen, HasSeenLawful}
+use Rattle.hub_lock.specs.Seats.{having_seen, sight_of}
 use Rattle.hub_lock.specs.Plays.{Plays, is_made, bytes_made}
 use Rattle.hub_lock.specs.Events.{step_of, pass_seat}
 use Rattle.hub_lock.proofs.StepsCounted.{own-few}
@@ -19,9 +20,9 @@ module _ (g : _) (c : After-play-answer g) where
   abbrev now : PassSeat
   now = pass_seat c.play-answer.new.seat
 
-  k : IsLegal Plays was c.args.call.now now.seen c.play-answer.new.call c.play-answer.result
+  k : IsLegal Plays (sight_of was) c.args.call.now now.seen c.play-answer.new.call c.play-answer.result
   k = subst (λ
-      (s : PassSeat). IsLegal Plays s c.args.call.now now.seen c.play-answer.new.call c.play-answer.result)
+      (s : PassSeat). IsLegal Plays (sight_of s) c.args.call.now now.seen c.play-answer.new.call c.play-answer.result)
       c.member.view_is
       (shown-legal c.member.inside.seat c.args.call.now c.play-answer.new.seat.seen c.play-answer.new.call
       c.play-answer.result c.play-answer.ensures.legal)

@@ -1,19 +1,22 @@
 use Rattle.std.proofs.Common.{rules, ◌≡◌, ◌+◌, ◌≤◌, ◌∙◌, ap, sym, subst, refl, length, List, ℕ, false, Option, Some, None, arith}
-use Rattle.std.specs.Prelude.{IsSome}
+use Rattle.std.specs.Prelude.{IsSome, IfNone, option_map}
 use Rattle.std.proofs.lemmas.Option.{same_Some}
 use Rattle.seat_steps.specs.declared.limits.Limits.{Limits}
 use Rattle.broker_core.specs.declared.letting_go.LetGo.{LetGo}
 use Rattle.turn_lock.specs.Pairs.{HasSeen, IsIn}
 use Rattle.turn_lock.specs.Rule.{bit}
-use Rattle.turn_lock.specs.Sights.{IsLegal, IsTallied, having_seen}
+use Rattle.turn_lock.specs.Sights as sights
+use Rattle.turn_lock.specs.Sights.{IsLegal}
 use Rattle.hub_lock.specs.declared.call.Ask.TheVariants as asks
 use Rattle.hub_lock.specs.declared.call.Answer.TheVariants as answers
 use Rattle.hub_lock.specs.declared.call.Call.{Call}
-use Rattle.hub_lock.specs.Passes.{PassSeat, journal_seen, total_steps, total_bytes, HasSeenLawful}
+use Rattle.hub_lock.specs.Passes.{PassSeat, Recorder, journal_seen, total_steps, total_bytes, HasSeenLawful}
+use Rattle.hub_lock.specs.Seats.{IsTallied, after_split, having_seen, naming, sight_of, pass_with}
+use Rattle.hub_lock.specs.Shown.{shown_sight}
 use Rattle.hub_lock.specs.Plays.{Plays, is_made}
-use Rattle.hub_lock.specs.Events.{EventSeat, RecordsByAnother, step_of, pass_seat, tally_of}
+use Rattle.hub_lock.specs.Events.{EventSeat, RecordsByAnother, step_of, pass_seat, root_seat, named_in, tally_of}
 use Rattle.hub_lock.specs.Noted.{note_of}
-use Rattle.hub_lock.proofs.NobodyNamed.{nobody-named, before-unnamed, another-after}
+use Rattle.hub_lock.proofs.NobodyNamed.{nobody-named, unnamed-tally, named-after, before-unnamed, another-after}
 use Rattle.hub_lock.specs.Recording.{HasFront, recorder, LegalLook}
 use Rattle.hub_lock.proofs.TurnsCounted.{entries-after, lawful-after, total-after, total-bytes-after}
 use Rattle.hub_lock.proofs.PassesSettled.{settled-after}
@@ -26,18 +29,22 @@ use Rattle.hub_lock.proofs.hub.Hub.recorder.Goals.at
 -- what the invariant of the root says of its seat
 abbrev IsRoot : (steps bytes entries : ℕ) → EventSeat → Type 0
 IsRoot steps bytes entries s =
-    (s.number ≡ 0) × (steps ≡ total_steps (pass_seat s)) × (bytes ≡ total_bytes (pass_seat s))
-    × (entries ≡ length (journal_seen (pass_seat s))) × HasSeenLawful (pass_seat s)
+    (s.number ≡ 0) × (steps ≡ total_steps (root_seat s)) × (bytes ≡ total_bytes (root_seat s))
+    × (entries ≡ length (journal_seen (root_seat s))) × HasSeenLawful (root_seat s)
 
 module _ (g : _) (c : After-play-answer g) where
   abbrev limits : Limits
   limits = c.args.self.now.limits
 
   abbrev was : PassSeat
-  was = pass_seat c.root.inside.seat
+  was = root_seat c.root.inside.seat
+
+  -- the root after the call, but for whom it named by it
+  abbrev with_same : EventSeat → PassSeat
+  with_same s = pass_with (named_in c.root.inside.seat.seen) (shown_sight step_of s)
 
   abbrev now : PassSeat
-  now = pass_seat c.play-answer.new.seat
+  now = with_same c.play-answer.new.seat
 
   abbrev call : Call
   call = record { number = 0; ask = asks.Name (c.made.result + 1); joins = c.call-1.given.0 }
@@ -45,12 +52,12 @@ module _ (g : _) (c : After-play-answer g) where
   of : was.constant ≡ Some limits
   of = ap (λ (s : PassSeat). s.constant) c.root.view_is ∙ c.requires.own.1
 
-  shown : IsLegal Plays was call now.seen c.play-answer.new.call c.play-answer.result
+  shown : IsLegal Plays (sight_of was) call now.seen c.play-answer.new.call c.play-answer.result
   shown = shown-legal c.root.inside.seat call c.play-answer.new.seat.seen c.play-answer.new.call c.play-answer.result
       c.play-answer.ensures.legal
 
   is : now ≡ having_seen was now.seen
-  is = ap pass_seat c.play-answer.ensures.seat
+  is = ap with_same c.play-answer.ensures.seat
 
   zero : was.number ≡ 0
   zero = c.root.invariant.0
@@ -90,22 +97,48 @@ module _ (g : _) (c : After-play-answer g) where
       lawful-after limits was call now.seen c.play-answer.new.call c.play-answer.result shown of (sym zero) tt now is,
     )
 
-  nobody : c.root.inside.seat.next ≤ 1 → tally_of c.root.inside.seat.seen ≡ None
-  nobody = nobody-named c.root.inside.seat c.root.invariant.5
+  unnamed : c.args.root.now.named ≡ None → tally_of c.root.inside.seat.seen ≡ None
+  unnamed none = unnamed-tally c.root.inside.seat.seen (ap (λ (s : PassSeat). s.named) c.root.view_is ∙ none)
+
+  nobody : c.args.root.now.next ≡ 1 → tally_of c.root.inside.seat.seen ≡ None
+  nobody one = nobody-named c.root.inside.seat c.root.invariant.5
+      (let n = ap (λ (s : PassSeat). s.next) c.root.view_is in omega (arith, n, one))
 
   another : c.play-answer.result.answer ≡ answers.Named None → RecordsByAnother c.play-answer.new.seat
   another told = subst RecordsByAnother (sym c.play-answer.ensures.seat)
       (another-after c.root.inside.seat call c.play-answer.new.seat.seen c.play-answer.new.call
       c.play-answer.result c.play-answer.ensures.legal zero c.root.invariant.5 (ap note_of told))
 
-  named : c.args.root.now.next ≡ 1 → (r : Option ℕ) → c.play-answer.result.answer ≡ answers.Named r → IsSome r
-  named one r told =
-      let few : c.root.inside.seat.next ≤ 1 =
-      (let n = ap (λ (s : PassSeat). s.next) c.root.view_is in omega (arith, n, one)) in
+  -- it named nobody by the call
+  same-named : c.play-answer.result.answer ≡ answers.Named None
+      → root_seat c.play-answer.new.seat ≡ having_seen c.args.root.now now.seen
+  same-named told =
+      ap (λ n. pass_with n (shown_sight step_of c.play-answer.new.seat))
+      (named-after c.root.inside.seat call c.play-answer.new.seat.seen c.play-answer.new.call
+      c.play-answer.result c.play-answer.ensures.legal zero (ap note_of told))
+      ∙ is ∙ ap (λ (s : PassSeat). having_seen s now.seen) c.root.view_is
+
+  named : tally_of c.root.inside.seat.seen ≡ None → (r : Option ℕ) → c.play-answer.result.answer ≡ answers.Named r
+      → IsSome r
+  named none r told =
       named-some limits c.root.inside.seat call c.play-answer.new.seat.seen c.play-answer.new.call
       c.play-answer.result c.play-answer.ensures.legal of (c.made.result + 1) r refl told refl
       (before-unnamed c.root.inside.seat call c.play-answer.new.seat.seen c.play-answer.new.call
-      c.play-answer.result c.play-answer.ensures.legal zero (nobody few))
+      c.play-answer.result c.play-answer.ensures.legal zero none)
+
+  -- it named the next pass
+  named-next : (x : ℕ) → c.play-answer.result.answer ≡ answers.Named (Some x)
+      → tally_of c.play-answer.new.seat.seen ≡ Some (c.made.result + 1, 0)
+  named-next x told = named-tally limits c.root.inside.seat call c.play-answer.new.seat.seen c.play-answer.new.call
+      c.play-answer.result c.play-answer.ensures.legal of (c.made.result + 1) x refl refl told
+
+  with-next : (x : ℕ) → c.play-answer.result.answer ≡ answers.Named (Some x)
+      → root_seat c.play-answer.new.seat ≡ naming (having_seen c.args.root.now now.seen)
+  with-next x told =
+      ap (λ n. pass_with n (shown_sight step_of c.play-answer.new.seat))
+      (ap (option_map (λ (t : ℕ × ℕ). t.0)) (named-next x told) ∙ ap (λ n. Some n) (sym c.made.ensures))
+      ∙ ap (λ (s : EventSeat). pass_with (Some c.root.inside.seat.next) (shown_sight step_of s)) c.play-answer.ensures.seat
+      ∙ ap (λ (s : PassSeat). naming (having_seen s now.seen)) c.root.view_is
 
 pub invariant_of-root : goal.invariant_of-root
 invariant_of-root g c =
@@ -116,9 +149,23 @@ invariant_of-root g c =
 
 pub returns-in_err-_number-clause-first : goal.returns-in_err-_number-clause-first
 returns-in_err-_number-clause-first g c one =
+    let a = (at.returns-in_err-_number-clause-first g c).After-play-answer in
     let none : c.in-Named.named ≡ None = search rules in
-    let some = named g (at.returns-in_err-_number-clause-first g c).After-play-answer one None
-    (c.in-Named.is ∙ ap answers.Named none) in cc
+    let some = named g a (nobody g a one) None (c.in-Named.is ∙ ap answers.Named none) in cc
+
+pub returns-in_err-_number-clause-unnamed : goal.returns-in_err-_number-clause-unnamed
+returns-in_err-_number-clause-unnamed g c nobody =
+    let a = (at.returns-in_err-_number-clause-unnamed g c).After-play-answer in
+    let none : c.in-Named.named ≡ None = search rules in
+    let some = named g a (unnamed g a nobody) None (c.in-Named.is ∙ ap answers.Named none) in cc
+
+pub returns-in_err-_number-clause-none : goal.returns-in_err-_number-clause-none
+returns-in_err-_number-clause-none g c =
+    let a = (at.returns-in_err-_number-clause-none g c).After-play-answer in
+    let none : c.in-Named.named ≡ None = search rules in
+    let nobody : c.from_residual.result ≡ None = search rules in
+    subst (λ (r : Option Recorder). IfNone r (root_seat c.play-answer.new.seat ≡ having_seen c.args.root.now (now g a).seen)) (sym nobody)
+    (same-named g a (c.in-Named.is ∙ ap answers.Named none))
 
 pub returns-in_err-_number-clause-legal : goal.returns-in_err-_number-clause-legal
 returns-in_err-_number-clause-legal g c =
@@ -134,9 +181,7 @@ invariant_of-result g c =
     let right = c.split.ensures.right in
     let some : c.in-Named.named ≡ Some c.in_ok-_number._number = c.in_ok-_number.was in
     let named : tally_of c.play-answer.new.seat.seen ≡ Some (c.made.result + 1, 0) =
-    named-tally (limits g a) c.root.inside.seat (call g a) c.play-answer.new.seat.seen c.play-answer.new.call
-    c.play-answer.result c.play-answer.ensures.legal (of g a) (c.made.result + 1) c.in_ok-_number._number refl refl
-    (c.in-Named.is ∙ ap answers.Named some) in
+    named-next g a c.in_ok-_number._number (c.in-Named.is ∙ ap answers.Named some) in
     let number : c.split.result.number ≡ c.made.result + 1 =
     ap (λ (s : EventSeat). s.number) right ∙ ap (λ (s : EventSeat). s.next) c.play-answer.ensures.seat ∙ c.made.ensures
     in (
@@ -162,9 +207,7 @@ invariant_of-root-2 g c =
     let some : c.in-Named.named ≡ Some c.in_ok-_number._number = c.in_ok-_number.was in
     let a = (at.invariant_of-root-2 g c).After-play-answer in
     let named : tally_of c.play-answer.new.seat.seen ≡ Some (c.made.result + 1, 0) =
-    named-tally (limits g a) c.root.inside.seat (call g a) c.play-answer.new.seat.seen c.play-answer.new.call
-    c.play-answer.result c.play-answer.ensures.legal (of g a) (c.made.result + 1) c.in_ok-_number._number refl refl
-    (c.in-Named.is ∙ ap answers.Named some) in (
+    named-next g a c.in_ok-_number._number (c.in-Named.is ∙ ap answers.Named some) in (
       r.0,
       r.1,
       r.2,
@@ -191,3 +234,12 @@ returns-clause-settled g c =
     subst (λ (s : EventSeat). (n : ℕ) → IsIn n c.args.root.now.taken
     → HasSeen (pass_seat s).seen n c.args.root.now.seen) (sym c.split.ensures.left)
     (settled' g (at.returns-clause-settled g c).After-play-answer)
+
+pub returns-clause-left : goal.returns-clause-left
+returns-clause-left g c =
+    let a = (at.returns-clause-left g c).After-play-answer in
+    let some : c.in-Named.named ≡ Some c.in_ok-_number._number = c.in_ok-_number.was in
+    let left : root_seat c.split.new.seat ≡ after_split (naming (having_seen c.args.root.now (now g a).seen)) =
+    ap root_seat c.split.ensures.left
+    ∙ ap after_split (with-next g a c.in_ok-_number._number (c.in-Named.is ∙ ap answers.Named some)) in
+    left ∙ ap (λ h. after_split (naming (having_seen c.args.root.now h))) (sym (ap (λ (s : PassSeat). s.seen) left))

@@ -17,8 +17,11 @@ returns-clause-bytes g c none =
     c.play_root.ensures.tallied (ap (λ (s : PassSeat). s.out) c.play_root.ensures.root ∙ none)
 
 pub returns-clause-unhanded : goal.returns-clause-unhanded
-returns-clause-unhanded g c one none =
-    let h = c.in-Copied.ensures.unnamed (omega (arith, one)) in h.1.0 none
+returns-clause-unhanded g c unnamed none = let h = c.in-Copied.ensures.unnamed unnamed in h.1.0 none
+
+pub returns-clause-unmade : goal.returns-clause-unmade
+returns-clause-unmade g c one none =
+    let h = c.in-Copied.ensures.unnamed (c.play_root.ensures.nobody (omega (arith, one))) in h.1.0 none
 
 pub returns-clause-lines : goal.returns-clause-lines
 returns-clause-lines g c =

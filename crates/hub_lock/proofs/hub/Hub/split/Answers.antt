@@ -1,6 +1,6 @@
 use Rattle.std.proofs.Common.{◌≡◌, ◌∙◌, ap, sym, subst, length}
 use Rattle.hub_lock.specs.Passes.{journal_seen, total_steps, total_bytes, HasSeenLawful}
-use Rattle.hub_lock.specs.Events.{EventSeat, RecordsByAnother, step_of, pass_seat}
+use Rattle.hub_lock.specs.Events.{EventSeat, RecordsByAnother, step_of, pass_seat, root_seat}
 use Rattle.hub_lock.proofs.NobodyNamed.{another-split}
 use Rattle.hub_lock.proofs.PairsLeftOut.{none-shown}
 use Rattle.hub_lock.proofs.hub.Hub.split.Goals as goal
@@ -16,9 +16,9 @@ invariant_of-result c =
 pub invariant_of-root : goal.invariant_of-root
 invariant_of-root c =
     let left = c.split.ensures.left in
-    subst (λ (s : EventSeat). (s.number ≡ 0) × (c.root.inside.steps ≡ total_steps (pass_seat s))
-    × (c.root.inside.bytes ≡ total_bytes (pass_seat s)) × (c.root.inside.entries ≡ length (journal_seen (pass_seat s)))
-    × HasSeenLawful (pass_seat s) × RecordsByAnother s) (sym left) (
+    subst (λ (s : EventSeat). (s.number ≡ 0) × (c.root.inside.steps ≡ total_steps (root_seat s))
+    × (c.root.inside.bytes ≡ total_bytes (root_seat s)) × (c.root.inside.entries ≡ length (journal_seen (root_seat s)))
+    × HasSeenLawful (root_seat s) × RecordsByAnother s) (sym left) (
       c.root.invariant.0,
       c.root.invariant.1,
       c.root.invariant.2,

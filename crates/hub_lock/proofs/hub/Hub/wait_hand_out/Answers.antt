@@ -1,6 +1,6 @@
 use Rattle.std.proofs.Common.{rules, ◌≡◌, ◌++◌, ◌∙◌, ap, Option, None}
 use Rattle.broker_core.specs.declared.letting_go.LetGo.{LetGo}
-use Rattle.turn_lock.specs.Sights.{having_seen}
+use Rattle.hub_lock.specs.Seats.{having_seen}
 use Rattle.hub_lock.specs.Passes.{Recorder}
 use Rattle.hub_lock.specs.Recording.{after_handing}
 use Rattle.hub_lock.proofs.LegalCalls.{waited-more}

@@ -1,5 +1,5 @@
 use Rattle.std.proofs.Common.{rules, ◌≡◌, ◌++◌, ◌∙◌, ap}
-use Rattle.turn_lock.specs.Sights.{having_seen}
+use Rattle.hub_lock.specs.Seats.{having_seen}
 use Rattle.hub_lock.specs.Passes.{PeerPass}
 use Rattle.hub_lock.specs.Calls.{pass_having_seen}
 use Rattle.hub_lock.proofs.LegalCalls.{waited-more, wait-legal}
