@@ -1,3 +1,4 @@
 pub mod EndsFewer
 pub mod LinesHold
 pub mod SessionsHeld
+pub mod SessionsRead

@@ -7,6 +7,7 @@ use Rattle.session_text.specs.declared.line.SessionLine.{SessionLine}
 use Rattle.session_text.specs.SessionGrammar.{HasStampedLine}
 use Rattle.broker_model.specs.declared.journal.Entry.{Entry}
 use Rattle.told_law.specs.Sayable.{AreHeld}
+use Rattle.told_law.specs.Streams.{IsReadStream}
 use Rattle.session_play.specs.Laws.{lines_played}
 use Rattle.plain_run.specs.declared.session_line.Opening.{Opening}
 use Rattle.plain_run.specs.Session.{first_stage, opening_of, unplayed}
@@ -31,3 +32,13 @@ SessionsAreHeld =
     opening_of first ≡ Some opening →
     IsHeldJournal (lines_played opening.limits
     (session_lines (first_stage opening.form) more) unplayed).play.journal
+
+-- and what it puts for any peer is read in turn as what it tells the peer
+abbrev pub SessionsAreRead : Type 0
+SessionsAreRead =
+    (opening : Opening) (first : List ℕ) (more : List (List ℕ)) (p : ℕ) →
+    opening_of first ≡ Some opening →
+    IsReadStream opening.limits.store
+    (lines_played opening.limits
+    (session_lines (first_stage opening.form) more) unplayed).play.journal
+    p

@@ -4,7 +4,6 @@ use Rattle.std.specs.List.{AllByRecursion}
 use Rattle.seat_steps.specs.declared.limits.Limits.{Limits}
 use Rattle.broker_model.specs.declared.journal.Entry.{Entry}
 use Rattle.broker_model.specs.Settle.{history}
-use Rattle.turn_lock.specs.Pairs.{HasSeen}
 use Rattle.hub_lock.specs.declared.step.OuterStep.{OuterStep}
 use Rattle.hub_lock.specs.Histories.{History, entries_of}
 use Rattle.pass_calls.specs.Made.{journal_of}
@@ -22,7 +21,3 @@ newer_front limits h front more is =
     let k = newer_steps (λ (e : Entry). Unit {0}) (λ q cause. tt) limits.store (entries_of more) (entries_of front)
     (entries_each (λ (e : Entry). Unit {0}) more (each_unit more)) in
     (k.newer, ap (journal_of limits) is ∙ ap (history limits.store) (entries-append front more) ∙ k.is)
-
-pub newer_than : (limits : Limits) (h : History) (n : ℕ) (seen : History) → HasSeen h n seen →
-    (newer : List Entry) × (journal_of limits h ≡ newer ++ journal_of limits seen)
-newer_than limits h n seen s = newer_front limits h seen s.0 s.1

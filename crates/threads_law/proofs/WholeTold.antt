@@ -50,7 +50,6 @@ use Rattle.trial_threads.specs.Whole.{IsDone, IsWhole, users_of}
 use Rattle.threads_law.proofs.JobsShaped.{HasShape, has_shape, all_front, all_back, running_of}
 use Rattle.threads_law.proofs.JobsAre.{IsAmong, jobs_are}
 use Rattle.threads_law.specs.Told.{IsToldField, WholesAreTold}
-use Rattle.threads_law.proofs.JournalSeen.{newer_than}
 use Rattle.threads_law.proofs.LogsAre.{OfUser, number_of, user_of, method_log_of}
 
 -- ---- how much was seen
@@ -258,13 +257,6 @@ wholes_are_told bytes t w =
     w.trial.limits
     (subst (λ (j : List Entry). IsToldWhole hub.limits j (typist_of s) p.method p.rest.fields p.rest.shell)
     (sym journal) k.whole) in
-    let newer : (newer : List Entry)
-    × (t.session.journal.entries ≡ newer ++ journal_of trial_limits p.method.writer.seat.seen) =
-    subst (λ (l : Limits). (newer : List Entry)
-    × (t.session.journal.entries ≡ newer ++ journal_of l p.method.writer.seat.seen)) w.trial.limits
-    (subst (λ (j : List Entry). (newer : List Entry)
-    × (j ≡ newer ++ journal_of hub.limits p.method.writer.seat.seen)) (sym journal)
-    (newer_than hub.limits h p.method.writer.seat.number p.method.writer.seat.seen k.passes.writer_seen)) in
     let method : p.method.log ≡ t.method_log = method_log_of s t w.trial p in
     record {
       number = number_of s t w.trial p;
@@ -284,8 +276,6 @@ wholes_are_told bytes t w =
           (typist_of s) (method_log l)) method whole.method_told;
       keys = λ lives. record {
         seen = journal_of trial_limits p.method.writer.seat.seen;
-        newer = newer.0;
-        is = newer.1;
         has = subst (λ (l : List MethodEntry). HasKeys trial_limits t.session.journal.entries
             (journal_of trial_limits p.method.writer.seat.seen) (method_log l)) method (whole.keys_told lives);
       };

@@ -34,12 +34,10 @@ pub record IsToldField (s : Script) (journal : List Entry) (k : ℕ)
   pub all : (HasEndIn journal (k + 2) → ⊥) →
       IsAllTold trial_limits journal (k + 2) (field_log entries)
 
--- the method's log has all events that so much of the journal tells its peer as was there at its
--- last take, in order, and each key that the whole journal tells it
+-- the method's log has all events that a front of the journal with the last take of its peer tells
+-- the peer, in order, and each key that the whole journal tells it
 pub record HasAllKeys (journal : List Entry) (log : List Happening) : Type 0 where
   pub seen : List Entry
-  pub newer : List Entry
-  pub is : journal ≡ newer ++ seen
   pub has : HasKeys trial_limits journal seen log
 
 -- There is such a log for each field. The method's log has the script's first thousand batches, in

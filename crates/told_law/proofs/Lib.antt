@@ -13,3 +13,12 @@ pub mod MessagesPut
 pub mod AllHeard
 pub mod BoardsTold
 pub mod BatchesAreRelayed
+pub mod DeletesLast
+pub mod RequestsMake
+pub mod IdsInOrder
+pub mod HeardInTurn
+pub mod IdsFreed
+pub mod EntryOrdered
+pub mod EntryFrees
+pub mod NewcomersOrdered
+pub mod StreamsRead

@@ -13,13 +13,13 @@ use Rattle.broker_model.specs.Ids.{Made, made_as}
 use Rattle.broker_model.specs.Groups.{nothing, message_of, message_piece, event_piece, group_for}
 use Rattle.broker_model.proofs.EachElement.{each_append}
 
-abbrev said_message : ℕ → Option Message → List (List ℕ)
-said_message id None = []
-said_message id (Some m) = message_bytes id m ∷ []
+abbrev pub said_messages : ℕ → Option Message → List (List ℕ)
+said_messages id None = []
+said_messages id (Some m) = message_bytes id m ∷ []
 
 abbrev pub piece_messages : List Made → ℕ → Said → Option Made → List (List ℕ)
 piece_messages made p event None = []
-piece_messages made p event (Some m) = if m.peer == p then said_message m.id (message_of made event) else []
+piece_messages made p event (Some m) = if m.peer == p then said_messages m.id (message_of made event) else []
 
 abbrev pub told_messages : List Made → ℕ → List Told → List (List ℕ)
 told_messages made p [] = []
@@ -29,7 +29,7 @@ pub joined_both : (xs ys : List (List ℕ)) → joined (xs ++ ys) ≡ joined xs 
 joined_both [] ys = refl
 joined_both (x ∷ xs) ys = ap (λ (r : List ℕ). x ++ r) (joined_both xs ys) ∙ sym (append_assoc x (joined xs) (joined ys))
 
-message_joined : (id : ℕ) (o : Option Message) → (message_piece id o).bytes ≡ joined (said_message id o)
+message_joined : (id : ℕ) (o : Option Message) → (message_piece id o).bytes ≡ joined (said_messages id o)
 message_joined id None = refl
 message_joined id (Some m) = sym (append-nil (message_bytes id m))
 
@@ -39,7 +39,7 @@ piece_joined made p event None = refl
 piece_joined made p event (Some m) = by (m.peer == p)
   where
     by : (b : Bool) → (if b then message_piece m.id (message_of made event) else nothing).bytes
-        ≡ joined (if b then said_message m.id (message_of made event) else [])
+        ≡ joined (if b then said_messages m.id (message_of made event) else [])
     by true = message_joined m.id (message_of made event)
     by false = refl
 
@@ -64,12 +64,12 @@ piece_each : (made : List Made) (p : ℕ) (P : List ℕ → Type 0) (t : Told) (
 piece_each made p P t None e h = tt
 piece_each made p P t (Some m) e h = by (m.peer == p) refl
   where
-    each : (o : Option Message) → message_of made t.event ≡ o → m.peer ≡ p → AllByRecursion P (said_message m.id o)
+    each : (o : Option Message) → message_of made t.event ≡ o → m.peer ≡ p → AllByRecursion P (said_messages m.id o)
     each None q s = tt
     each (Some x) q s = (h m e s x q, tt)
 
     by : (b : Bool) → (m.peer == p) ≡ b →
-        AllByRecursion P (if b then said_message m.id (message_of made t.event) else [])
+        AllByRecursion P (if b then said_messages m.id (message_of made t.event) else [])
     by true q = each (message_of made t.event) refl (eqb-true m.peer p q)
     by false q = tt
 

@@ -4,6 +4,7 @@
 
 ghost use Rattle.told_law.specs.BatchesTold.{BatchesAreRelayed};
 ghost use Rattle.told_law.specs.BoardsApart.{BoardsAreApart};
+ghost use Rattle.told_law.specs.Streams.{StreamsAreRead};
 ghost use Rattle.told_law.specs.ToldRead.{ActsAreSayable, ToldIsWritable, ToldToItsKind};
 ghost use Rattle.told_law.specs.ToldRead.{WritableIsRead, ToldIsRead, AllIsHeard};
 
@@ -61,4 +62,12 @@ pub fn boards_are_apart()
 /// that came with it is at hand.
 pub fn all_is_heard()
     ensures { AllIsHeard }
+{}
+
+/// What any history of such entries puts for a peer is read in turn, message for message, as what it
+/// tells the peer's objects, and as nothing else. An id means to the client the first object that it
+/// made under it whose `delete_id` it hasn't read by then, however often it uses ids again.
+#[tactic(auto, using(crate::proofs::StreamsRead::streams_read))]
+pub fn streams_are_read()
+    ensures { StreamsAreRead }
 {}
