@@ -118,19 +118,62 @@ pub peer_taken : (b : Boards) (after : virt.Boards) (p : ℕ) →
 peer_taken b after p h v =
     ap (λ o. if is_at b.ahead v then None else o) (h v) ∙ of_peer (is_at b.ahead v) p (map.get b.keys v)
 
-put_elsewhere : (m after : virt.Boards) (x v : ℕ) (new : Board) (lives : Option Board) (c : Bool) → (x == v) ≡ c →
-    after ≡ map.insert m x new →
-    map.get m v ≡ (if c then None else lives) → (if c then None else map.get after v) ≡ (if c then None else lives)
-put_elsewhere m after x v new lives true e put h = refl
-put_elsewhere m after x v new lives false e put h =
-    ap (λ n. map.get n v) put ∙ after_insert m x new v ∙ ap (λ d. cond d (Some new) (map.get m v)) (eqb_sym v x ∙ e) ∙ h
+ahead_by : (b : Boards) (mid after : virt.Boards) (x v : ℕ) (new : Board) (c : Bool) → (x == v) ≡ c →
+    mid ≡ map.insert b.keys x new →
+    map.get after v ≡ (if c then map.get mid v else live_board (record { keys = mid; ahead = b.ahead }) v) →
+    (if c then None else map.get after v) ≡ (if c then None else live_board b v)
+ahead_by b mid after x v new true e put h = refl
+ahead_by b mid after x v new false e put h =
+    h
+    ∙ ap (λ o. if is_at b.ahead v then None else o)
+    (ap (λ n. map.get n v) put ∙ after_insert b.keys x new v
+    ∙ ap (λ d. cond d (Some new) (map.get b.keys v)) (eqb_sym v x ∙ e))
 
--- a board is made ahead
-pub ahead_at : (m after : virt.Boards) (x : ℕ) (new : Board) (lives : ℕ → Option Board) → after ≡ map.insert m x new →
-    ((v : ℕ) → map.get m v ≡ (if x == v then None else lives v)) → (v : ℕ) →
-    live_board (record { keys = after; ahead = Some x }) v ≡ (if x == v then None else lives v)
-ahead_at m after x new lives put h v = put_elsewhere m after x v new (lives v) (x == v) refl put (h v)
+-- a board is made ahead, and others that were no more are
+pub ahead_at : (b : Boards) (mid after : virt.Boards) (x : ℕ) (new : Board) → mid ≡ map.insert b.keys x new →
+    ((v : ℕ) → map.get after v
+    ≡ (if x == v then map.get mid v else live_board (record { keys = mid; ahead = b.ahead }) v)) → (v : ℕ) →
+    live_board (record { keys = after; ahead = Some x }) v ≡ (if x == v then None else live_board b v)
+ahead_at b mid after x new put h v = ahead_by b mid after x v new (x == v) refl put (h v)
 
-pub made_at : (m after : virt.Boards) (x : ℕ) (new : Board) → after ≡ map.insert m x new → map.get after x ≡ Some new
-made_at m after x new put =
-    ap (λ n. map.get n x) put ∙ after_insert m x new x ∙ ap (λ d. cond d (Some new) (map.get m x)) (eq-eqb x x refl)
+pub made_at : (b : Boards) (mid after : virt.Boards) (x : ℕ) (new : Board) → mid ≡ map.insert b.keys x new →
+    ((v : ℕ) → map.get after v
+    ≡ (if x == v then map.get mid v else live_board (record { keys = mid; ahead = b.ahead }) v)) →
+    map.get after x ≡ Some new
+made_at b mid after x new put h =
+    h x
+    ∙ ap (λ d. if d then map.get mid x else live_board (record { keys = mid; ahead = b.ahead }) x) (eq-eqb x x refl)
+    ∙ ap (λ n. map.get n x) put ∙ after_insert b.keys x new x
+    ∙ ap (λ d. cond d (Some new) (map.get b.keys x)) (eq-eqb x x refl)
+
+same_by : (c : Bool) (o : Option Board) → o ≡ (if c then o else o)
+same_by true o = refl
+same_by false o = refl
+
+-- where none was made ahead, all stay
+pub none_ahead : (keys : virt.Boards) (x v : ℕ) →
+    map.get keys v ≡ (if x == v then map.get keys v else map.get keys v)
+none_ahead keys x v = same_by (x == v) (map.get keys v)
+
+own_by : (c : Bool) (o : Option Board) → o ≡ (if c then o else (if c then None else o))
+own_by true o = refl
+own_by false o = refl
+
+-- what was made ahead under the label itself stays
+pub own_ahead : (keys : virt.Boards) (x made v : ℕ) → made ≡ x →
+    map.get keys v ≡ (if x == v then map.get keys v else (if made == v then None else map.get keys v))
+own_ahead keys x made v e =
+    own_by (x == v) (map.get keys v)
+    ∙ ap (λ n. if x == v then map.get keys v else (if n == v then None else map.get keys v)) (sym e)
+
+other_by : (x made v : ℕ) (o : Option Board) (c : Bool) → (x == v) ≡ c → (made == x) ≡ false →
+    (if made == v then None else o) ≡ (if c then o else (if made == v then None else o))
+other_by x made v o true e n =
+    ap (λ d. if d then None else o) (ap (λ m. made == m) (sym (eqb-true x v e)) ∙ n)
+other_by x made v o false e n = refl
+
+-- and what was made ahead under another goes
+pub other_ahead : (keys after : virt.Boards) (x made v : ℕ) → (made == x) ≡ false →
+    map.get after v ≡ (if made == v then None else map.get keys v) →
+    map.get after v ≡ (if x == v then map.get keys v else (if made == v then None else map.get keys v))
+other_ahead keys after x made v n h = h ∙ other_by x made v (map.get keys v) (x == v) refl n

@@ -1,5 +1,5 @@
 //! The relay's part on virtual keyboards: the boards that live, and one that may be made ahead.
-ghost use Rattle.std.specs.Prelude.{◌≡◌, ◌<◌, ◌==◌, ℕ, Some, None, OnOk, if◌then◌else◌, is_some};
+ghost use Rattle.std.specs.Prelude.{◌≡◌, ◌<◌, ◌==◌, ℕ, Some, None, OnOk, OnErr, if◌then◌else◌, is_some};
 ghost use Rattle.std.specs.FinMap as map;
 ghost use Rattle.virt_keys.specs.Boards.{new_board, takes_at};
 ghost use Rattle.relay_core.specs.Kept.{state, kept};
@@ -56,27 +56,30 @@ impl Boards {
         }
     }
 
-    // No board is made ahead any more.
-    fn forget_ahead(&mut self)
-        ensures ahead { self.new.ahead ≡ None }
-        ensures keys { (v : ℕ) → map.get self.new.keys v ≡ live_board (kept self.old) v }
+    // No board is made ahead any more, but one with the label.
+    fn forget_others(&mut self, board: Label)
+        ensures ahead { self.new.ahead ≡ self.old.ahead }
+        ensures keys { (v : ℕ) → map.get self.new.keys v
+            ≡ (if board == v then map.get self.old.keys v else live_board (kept self.old) v) }
     {
-        if let Some(board) = self.ahead {
-            self.forget(board);
+        if let Some(made) = self.ahead {
+            if made != board {
+                self.forget(made);
+            }
         }
-        self.ahead = None;
     }
 
-    /// A board of the peer is made ahead. Those that live stay, but one with the label.
+    /// A board of the peer is made ahead, in place of any that has the label. Others that live stay. `NoMemory` is its
+    /// one error, after which all is as before.
     pub fn make_ahead(&mut self, board: Label, peer: Label) -> Result<(), NoMemory>
-        ensures same { (v : ℕ) → live_board (kept self.new) v
-            ≡ (if board == v then None else live_board (kept self.old) v) }
+        ensures same { OnOk result ((v : ℕ) → live_board (kept self.new) v
+            ≡ (if board == v then None else live_board (kept self.old) v)) }
         ensures label { OnOk result (self.new.ahead ≡ Some board) }
         ensures made { OnOk result (map.get self.new.keys board ≡ Some (new_board peer)) }
+        ensures err { OnErr result (kept self.new ≡ kept self.old) }
     {
-        self.forget_ahead();
-        self.forget(board);
         self.keys.make(board, peer)?;
+        self.forget_others(board);
         self.ahead = Some(board);
         Ok(())
     }

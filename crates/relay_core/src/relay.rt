@@ -35,7 +35,7 @@ impl Model for Relay {
 }
 
 impl Relay {
-    ghost use Rattle.std.specs.Prelude.{◌≡◌, ◌<◌, List, [], ◌∷◌, length, true, IfOk, OnOk};
+    ghost use Rattle.std.specs.Prelude.{◌≡◌, ◌<◌, List, [], ◌∷◌, length, true, IfOk, OnOk, OnErr};
     ghost use Rattle.relay_model.specs.declared.act.Act.{Act};
     ghost use Rattle.relay_model.specs.Objects.{has_popup};
     ghost use Rattle.relay_model.specs.Boards.{sends};
@@ -89,20 +89,23 @@ impl Relay {
 
     /// Makes the room for one act, with copies of the texts that it may tell and the place of a
     /// field that it may make. Asks that a message can carry the act's text. The relay stands for
-    /// what it stood for, also after `NoMemory`.
+    /// what it stood for, also after `NoMemory`; then each act for which room was made still has it.
     #[tactic(auto, using(crate::proofs::RoomForActs::has_room))]
     pub fn reserve(&mut self, act: &Act) -> Result<(), NoMemory>
         requires { FitsMessage act.now }
         ensures same { self.new.state ≡ self.old.state }
         ensures stands { (log : List Act) → StandsFor self.old log → StandsFor self.new log }
         ensures reserved { OnOk result (IsReserved self.new act.now) }
+        ensures still { OnErr result ((other : Act) → IsReserved self.old other →
+            IsReserved self.new other) }
     {
-        self.machine.reserve(act)?;
         match act {
             Act::VBoard { peer } if self.machine.acts < u32::MAX => {
-                self.boards.make_ahead(self.machine.acts + 1, *peer)
+                self.machine.reserve_room()?;
+                self.boards.make_ahead(self.machine.acts + 1, *peer)?;
+                Ok(())
             }
-            _ => Ok(()),
+            _ => self.machine.reserve(act),
         }
     }
 

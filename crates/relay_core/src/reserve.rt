@@ -1,5 +1,5 @@
 //! What is made before an act.
-ghost use Rattle.std.specs.Prelude.{◌≡◌, ◌-◌, ◌<◌, Some, None, OnOk, IsTrue};
+ghost use Rattle.std.specs.Prelude.{◌≡◌, ◌-◌, ◌<◌, ◌≤◌, Some, None, OnOk, OnErr, IsTrue};
 ghost use Rattle.wl_wire.specs.Texts.{has_no_zero};
 ghost use Rattle.relay_model.specs.declared.act.Act.{Act};
 ghost use Rattle.seat_objects.specs.Objects.{find, field_in};
@@ -38,6 +38,7 @@ impl Machine {
         ensures objects { self.new.objects ≡ self.old.objects }
         ensures text { OnOk result (self.new.spare.text ≡ text_around
             (holder_state (state self.old)).surrounding) }
+        ensures kept { OnErr result (self.new.spare ≡ self.old.spare) }
     {
         match self.objects.field_at(self.holder) {
             Some(field) => self.spare.copy_text(self.alloc, surrounding_text(field)),
@@ -51,6 +52,7 @@ impl Machine {
         ensures objects { self.new.objects ≡ self.old.objects }
         ensures text { OnOk result (self.new.spare.text ≡ text_pending
             (field_in (find (state self.old).objects field))) }
+        ensures kept { OnErr result (self.new.spare ≡ self.old.spare) }
     {
         match self.objects.field_of(field) {
             Some(field) => self.spare.copy_text(self.alloc, pending_text(field)),
@@ -65,10 +67,11 @@ impl Machine {
         ensures string { OnOk result (self.new.spare.text ≡ (state self.old).edits.string) }
         ensures preedit { OnOk result (self.new.spare.preedit ≡ (state
             self.old).edits.preedit.text) }
+        ensures kept { OnErr result (self.new.spare ≡ self.old.spare) }
     {
         let edits = self.pending.edits();
-        self.spare.copy_text(self.alloc, edits.string)?;
-        self.spare.copy_preedit(self.alloc, edits.preedit)
+        self.spare
+            .copy_batch(self.alloc, edits.string, edits.preedit)
     }
 
     // Makes copies of the texts that the act may tell, and memory for a text of a field.
@@ -76,6 +79,7 @@ impl Machine {
         ensures same { state self.new ≡ state self.old }
         ensures objects { self.new.objects ≡ self.old.objects }
         ensures spare { OnOk result (HasSpare (state self.old) self.new.spare act.now) }
+        ensures kept { OnErr result (self.new.spare ≡ self.old.spare) }
     {
         match act {
             Act::Surround { .. } => self.spare.make_room(self.alloc),
@@ -86,14 +90,26 @@ impl Machine {
         }
     }
 
+    /// Makes the room for one act.
+    pub fn reserve_room(&mut self) -> Result<(), NoMemory>
+        ensures same { state self.new ≡ state self.old }
+        ensures room { OnOk result (0 < self.new.objects.room) }
+        ensures more { self.old.objects.room ≤ self.new.objects.room }
+        ensures kept { self.new.spare ≡ self.old.spare }
+    {
+        self.objects.reserve()
+    }
+
     /// Makes the room for one act, and what else it needs.
     #[inline(always)]
     pub fn reserve(&mut self, act: &Act) -> Result<(), NoMemory>
         ensures same { state self.new ≡ state self.old }
         ensures room { OnOk result (0 < self.new.objects.room) }
         ensures spare { OnOk result (HasSpare (state self.new) self.new.spare act.now) }
+        ensures more { self.old.objects.room ≤ self.new.objects.room }
+        ensures kept { OnErr result (self.new.spare ≡ self.old.spare) }
     {
-        self.objects.reserve()?;
+        self.reserve_room()?;
         self.spare_for(act)
     }
 }

@@ -1,5 +1,5 @@
 //! What is made before an act, so that the act takes no memory.
-ghost use Rattle.std.specs.Prelude.{◌≡◌, [], Some, None, OnOk, IsTrue};
+ghost use Rattle.std.specs.Prelude.{◌≡◌, [], Some, None, OnOk, OnErr, IsTrue};
 ghost use Rattle.wl_wire.specs.Texts.{has_no_zero};
 
 use field_state::Room;
@@ -31,27 +31,35 @@ impl Spare {
         }
     }
 
-    /// Copies a surrounding text, or the string of a batch. `NoMemory` is its one error.
+    /// Copies a surrounding text. `NoMemory` is its one error, after which all is as before.
     pub fn copy_text(&mut self, alloc: Global, text: &str) -> Result<(), NoMemory>
         requires { IsTrue (has_no_zero text.now) }
-        ensures { OnOk result (self.new ≡ record self.old { text = text.now }) }
+        ensures ok { OnOk result (self.new ≡ record self.old { text = text.now }) }
+        ensures err { OnErr result (self.new ≡ self.old) }
     {
         self.text = Text::of(alloc, text)?;
         Ok(())
     }
 
-    /// Copies the preedit of a batch. `NoMemory` is its one error.
-    pub fn copy_preedit(&mut self, alloc: Global, text: &str) -> Result<(), NoMemory>
-        requires { IsTrue (has_no_zero text.now) }
-        ensures { OnOk result (self.new ≡ record self.old { preedit = text.now }) }
+    /// Copies the string and the preedit of a batch. `NoMemory` is its one error, after which all is as before.
+    pub fn copy_batch(&mut self, alloc: Global, string: &str, preedit: &str) -> Result<(), NoMemory>
+        requires string { IsTrue (has_no_zero string.now) }
+        requires preedit { IsTrue (has_no_zero preedit.now) }
+        ensures ok { OnOk result (self.new
+            ≡ record self.old { text = string.now; preedit = preedit.now }) }
+        ensures err { OnErr result (self.new ≡ self.old) }
     {
-        self.preedit = Text::of(alloc, text)?;
+        let string = Text::of(alloc, string)?;
+        let preedit = Text::of(alloc, preedit)?;
+        self.text = string;
+        self.preedit = preedit;
         Ok(())
     }
 
-    /// Makes memory for a field's texts, where none is made. `NoMemory` is its one error.
+    /// Makes memory for a field's texts, where none is made. `NoMemory` is its one error, after which all is as before.
     pub fn make_room(&mut self, alloc: Global) -> Result<(), NoMemory>
-        ensures { OnOk result (self.new ≡ record self.old { room = Some tt }) }
+        ensures ok { OnOk result (self.new ≡ record self.old { room = Some tt }) }
+        ensures err { OnErr result (self.new ≡ self.old) }
     {
         if self.room.is_none() {
             self.room = Some(Room::new(alloc)?);

@@ -52,13 +52,13 @@ impl VKeys {
         })
     }
 
-    /// A board of the peer is made (`create_virtual_keyboard`), with a label that no live board has. Takes room for the
-    /// 64 keys that may be down on it. `NoMemory` is its one error, after which all is as before.
+    /// A board of the peer is made (`create_virtual_keyboard`), in place of a live one that has the label. Takes room
+    /// for the 64 keys that may be down on it. `NoMemory` is its one error, after which all is as before.
     pub fn make(&mut self, board: Label, peer: Label) -> Result<(), NoMemory>
-        requires fresh { map.get self.old board ≡ None }
         ensures ok { OnOk result (self.new ≡ map.insert self.old board (new_board peer)) }
         ensures err { OnErr result (self.new ≡ self.old) }
         ensures history { (calls : List Call) → StandsFor calls self.old →
+            map.get self.old board ≡ None →
             OnOk result (StandsFor (Make board peer ∷ calls) self.new) }
     {
         let made = Board::new(self.alloc, peer)?;

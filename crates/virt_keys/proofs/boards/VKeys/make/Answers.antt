@@ -13,6 +13,6 @@ returns-in-Ok-clause-ok c =
     ∙ ap (λ (m : Boards). map.insert m c.args.board (new_board c.args.peer)) c.self.view_is
 
 pub returns-in-Ok-clause-history : goal.returns-in-Ok-clause-history
-returns-in-Ok-clause-history c calls s =
+returns-in-Ok-clause-history c calls s fresh =
     subst (λ (m : Boards). StandsFor (Make c.args.board c.args.peer ∷ calls) m) (sym (returns-in-Ok-clause-ok c))
-    (made_after calls c.args.self.now c.args.board c.args.peer s c.requires.fresh)
+    (made_after calls c.args.self.now c.args.board c.args.peer s fresh)
