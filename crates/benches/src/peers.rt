@@ -69,21 +69,7 @@ pub fn step_of(alloc: Global, message: &[u8]) -> Option<PeerStep>
     }
 }
 
-/// An application joins.
-fn join<'a, R: Wait>(rt: &R, hub: &'a Hub, root: &mut HubPass) -> Option<(Reader<'a>, Writer<'a>)>
-    requires own { IsOf hub.now root.old }
-    ensures own { IsOf hub.now root.new }
-{
-    if root.made() > MANY {
-        return None;
-    }
-    match hub.join(rt, root, Role::App) {
-        Ok((reader, writer)) => Some((Reader { hub, pass: reader }, Writer { hub, pass: writer })),
-        Err(_) => None,
-    }
-}
-
-/// So many join.
+/// So many applications join.
 pub fn join_all<'a, R: Wait>(
     rt: &R,
     alloc: Global,
@@ -96,20 +82,14 @@ pub fn join_all<'a, R: Wait>(
     let mut readers = Vec::new(alloc);
     let mut writers = Vec::new(alloc);
     for _ in 0..count {
-        let (reader, writer) = join(rt, hub, root)?;
-        readers.push(reader).ok()?;
-        writers.push(writer).ok()?;
+        if root.made() > MANY {
+            return None;
+        }
+        let (reader, writer) = hub.join(rt, root, Role::App).ok()?;
+        readers.push(Reader { hub, pass: reader }).ok()?;
+        writers.push(Writer { hub, pass: writer }).ok()?;
     }
     Some((readers, writers))
-}
-
-// The peer makes its surface.
-fn set_up<R: Wait>(rt: &R, alloc: Global, reader: &mut Reader<'_>) -> Option<()> {
-    for message in &SET_UP {
-        let step = step_of(alloc, message)?;
-        let _answer = reader.hub.submit(rt, &mut reader.pass, &step);
-    }
-    Some(())
 }
 
 // Commits so often, and says how many steps were taken.
@@ -137,8 +117,11 @@ pub fn race<R: Threads + Wait + Clock + Sync>(
 ) -> Option<(u64, u64)> {
     let (hub, mut root) = Hub::new(alloc, LIMITS).ok()?;
     let (mut ready, _writers) = join_all(rt, alloc, &hub, &mut root, readers)?;
-    for reader in ready.iter_mut() {
-        set_up(rt, alloc, reader)?;
+    for message in &SET_UP {
+        let step = step_of(alloc, message)?;
+        for reader in ready.iter_mut() {
+            let _answer = reader.hub.submit(rt, &mut reader.pass, &step);
+        }
     }
     let begun = since(rt, start);
     let all = map_vec(rt, ready, &|reader| commit_often(rt, alloc, reader, count)).ok()?;

@@ -209,17 +209,17 @@ fn do_act<R: Wait + Clock>(rt: &R, alloc: Global, crew: &mut Crew<'_>, taken: &T
         Act::Send(0, messages) => give(rt, &mut crew.one, alloc, messages),
         Act::Send(_, messages) => give(rt, &mut crew.other, alloc, messages),
         Act::Gone(0) => {
-            let _answer = crew.one.hub.submit(rt, &mut crew.one.pass, &PeerStep::Gone);
+            let one = &mut crew.one;
+            let _answer = one.hub.submit(rt, &mut one.pass, &PeerStep::Gone);
         }
         Act::Gone(_) => {
-            let _answer = crew
-                .other
-                .hub
-                .submit(rt, &mut crew.other.pass, &PeerStep::Gone);
+            let other = &mut crew.other;
+            let _answer = other.hub.submit(rt, &mut other.pass, &PeerStep::Gone);
         }
         Act::Focus(peer) => {
             let focus = ShellStep::Focus { peer, id: 6 };
-            let _answer = crew.shell.hub.order(rt, &mut crew.shell.pass, &focus);
+            let shell = &mut crew.shell;
+            let _answer = shell.hub.order(rt, &mut shell.pass, &focus);
         }
         Act::Told(0, bytes) => {
             crew.wanted.0 = crew.wanted.0.saturating_add(bytes);

@@ -50,53 +50,12 @@ const TYPED: [u8; 28] = [
     5, 0, 0, 0, 0, 0, 16, 0, 2, 0, 0, 0, 97, 0, 0, 0, 5, 0, 0, 0, 3, 0, 12, 0, 1, 0, 0, 0,
 ];
 
-/// The pieces that a field's client takes, and what it then sends; and how many enters and leaves were heard so far, and
-/// the serial of the last batch and whether it has edits. The enter is cut.
+/// The pieces that a field's client takes, and what it then sends; and what was heard so far. The enter is cut.
 static FIELD: [(&[u8], &[u8], Heard); 4] = [
-    (
-        &[7, 0, 0, 0, 0],
-        &[],
-        Heard {
-            enters: 0,
-            leaves: 0,
-            serial: 0,
-            has_edits: false,
-            events: 0,
-        },
-    ),
-    (
-        &ENTER,
-        &STATE,
-        Heard {
-            enters: 1,
-            leaves: 0,
-            serial: 0,
-            has_edits: false,
-            events: 0,
-        },
-    ),
-    (
-        &STRING,
-        &STATE_AFTER,
-        Heard {
-            enters: 1,
-            leaves: 0,
-            serial: 1,
-            has_edits: true,
-            events: 0,
-        },
-    ),
-    (
-        &DONE,
-        &[],
-        Heard {
-            enters: 1,
-            leaves: 0,
-            serial: 1,
-            has_edits: false,
-            events: 0,
-        },
-    ),
+    (&[7, 0, 0, 0, 0], &[], (0, 0, 0, false, 0)),
+    (&ENTER, &STATE, (1, 0, 0, false, 0)),
+    (&STRING, &STATE_AFTER, (1, 0, 1, true, 0)),
+    (&DONE, &[], (1, 0, 1, false, 0)),
 ];
 
 /// The same of a method's client, with how many events were heard: a press before the activation types nothing.
@@ -107,46 +66,38 @@ static METHOD: [(&[u8], &[u8], u32); 4] = [
     (&RELEASE, &[], 6),
 ];
 
-/// What was heard.
-#[derive(Clone, Copy, Debug, PartialEq, Eq)]
-struct Heard {
-    enters: u32,
-    leaves: u32,
-    serial: u32,
-    has_edits: bool,
-    events: u32,
+/// What was heard: how many enters and leaves, the serial of the last batch and whether it has edits, and how many events of
+/// the method.
+type Heard = (u32, u32, u32, bool, u32);
+
+/// Who hears that.
+#[derive(Drop)]
+struct Ear {
+    heard: Heard,
 }
 
-const NOTHING: Heard = Heard {
-    enters: 0,
-    leaves: 0,
-    serial: 0,
-    has_edits: false,
-    events: 0,
-};
-
-impl FieldHearer for Heard {
+impl FieldHearer for Ear {
     ghost may_follow = { λ before happening after. Unit {0} };
 
     fn entered(&mut self) {
-        self.enters = self.enters.wrapping_add(1);
+        self.heard.0 = self.heard.0.wrapping_add(1);
     }
 
     fn left(&mut self) {
-        self.leaves = self.leaves.wrapping_add(1);
+        self.heard.1 = self.heard.1.wrapping_add(1);
     }
 
     fn batch(&mut self, edits: &BatchView<'_>, serial: u32) {
-        self.serial = serial;
-        self.has_edits = !edits.string.is_empty();
+        self.heard.2 = serial;
+        self.heard.3 = !edits.string.is_empty();
     }
 }
 
-impl MethodHearer for Heard {
+impl MethodHearer for Ear {
     ghost may_follow = { λ before event after. Unit {0} };
 
     fn came(&mut self, _event: &Event<'_>) {
-        self.events = self.events.wrapping_add(1);
+        self.heard.4 = self.heard.4.wrapping_add(1);
     }
 }
 
@@ -154,7 +105,9 @@ impl MethodHearer for Heard {
 fn a_field_tells_what_it_becomes(rt: HostRuntime) -> Result<(), Fail> {
     let mut client = FieldClient::new(rt.alloc())?;
     let mut other = FieldClient::new(rt.alloc())?;
-    let mut heard = NOTHING;
+    let mut ear = Ear {
+        heard: (0, 0, 0, false, 0),
+    };
     equal(&rt, client.to_send().len(), 164);
     client.sent();
     equal(&rt, client.edit(&Edit::Insert("a")).ok(), Some(true));
@@ -162,8 +115,8 @@ fn a_field_tells_what_it_becomes(rt: HostRuntime) -> Result<(), Fail> {
         equal_at(&rt, piece, client.receive(piece), Ok(()));
         equal_at(&rt, piece, client.to_send(), *wanted);
         client.sent();
-        equal_at(&rt, piece, other.receive_heard(piece, &mut heard), Ok(()));
-        equal_at(&rt, piece, heard, *all);
+        equal_at(&rt, piece, other.receive_heard(piece, &mut ear), Ok(()));
+        equal_at(&rt, piece, ear.heard, *all);
     }
     equal(
         &rt,
@@ -185,15 +138,17 @@ fn a_method_types_what_is_pressed(rt: HostRuntime) -> Result<(), Fail> {
     let mut client = MethodClient::new(alloc, Method::new(alloc, table)?)?;
     let method = Method::new(alloc, ComposeTable::new(alloc)?)?;
     let mut other = MethodClient::new(alloc, method)?;
-    let mut heard = NOTHING;
+    let mut ear = Ear {
+        heard: (0, 0, 0, false, 0),
+    };
     equal(&rt, client.to_send().len(), 124);
     client.sent();
     for (piece, wanted, events) in &METHOD {
         equal_at(&rt, piece, client.receive(piece), Ok(()));
         equal_at(&rt, piece, client.to_send(), *wanted);
         client.sent();
-        equal_at(&rt, piece, other.receive_heard(piece, &mut heard), Ok(()));
-        equal_at(&rt, piece, heard.events, *events);
+        equal_at(&rt, piece, other.receive_heard(piece, &mut ear), Ok(()));
+        equal_at(&rt, piece, ear.heard.4, *events);
     }
     let keymap = [6, 0, 0, 0, 0, 0, 16, 0, 1, 0, 0, 0, 16, 0, 0, 0];
     equal(&rt, client.receive(&keymap), Err(ClientFault::BadEvent));

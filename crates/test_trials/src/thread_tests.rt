@@ -152,19 +152,53 @@ fn play_ten<R: Abort + Threads + Wait + Sync>(
 }
 
 #[test]
-fn trials_are_told_what_a_replay_tells(rt: HostRuntime) -> Result<(), Fail> {
-    for tens in 0u64..5 {
-        play_ten(&rt, rt.alloc(), 10 * tens)?;
-    }
-    Ok(())
+fn ten_trials_are_told_what_a_replay_tells(rt: HostRuntime) -> Result<(), Fail> {
+    play_ten(&rt, rt.alloc(), 0)
+}
+
+#[test]
+fn those_from_10_are(rt: HostRuntime) -> Result<(), Fail> {
+    play_ten(&rt, rt.alloc(), 10)
+}
+
+#[test]
+fn those_from_20_are(rt: HostRuntime) -> Result<(), Fail> {
+    play_ten(&rt, rt.alloc(), 20)
+}
+
+#[test]
+fn those_from_30_are(rt: HostRuntime) -> Result<(), Fail> {
+    play_ten(&rt, rt.alloc(), 30)
+}
+
+#[test]
+fn those_from_40_are(rt: HostRuntime) -> Result<(), Fail> {
+    play_ten(&rt, rt.alloc(), 40)
 }
 
 #[test]
 fn those_from_50_are(rt: HostRuntime) -> Result<(), Fail> {
-    for tens in 5u64..10 {
-        play_ten(&rt, rt.alloc(), 10 * tens)?;
-    }
-    Ok(())
+    play_ten(&rt, rt.alloc(), 50)
+}
+
+#[test]
+fn those_from_60_are(rt: HostRuntime) -> Result<(), Fail> {
+    play_ten(&rt, rt.alloc(), 60)
+}
+
+#[test]
+fn those_from_70_are(rt: HostRuntime) -> Result<(), Fail> {
+    play_ten(&rt, rt.alloc(), 70)
+}
+
+#[test]
+fn those_from_80_are(rt: HostRuntime) -> Result<(), Fail> {
+    play_ten(&rt, rt.alloc(), 80)
+}
+
+#[test]
+fn those_from_90_are(rt: HostRuntime) -> Result<(), Fail> {
+    play_ten(&rt, rt.alloc(), 90)
 }
 
 #[test]
