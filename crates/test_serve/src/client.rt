@@ -10,6 +10,9 @@ use std::{fs, io, thread};
 /// What clients do, one thing after the other. Their links have numbers, from 0.
 #[derive(Clone, Copy)]
 pub(crate) enum Act {
+    /// Over a link without a number at the path, these bytes and no more are sent, and all is read until the server hangs
+    /// up.
+    Talk(&'static str, &'static [u8]),
     /// The next link is opened at the path.
     Open(&'static str),
     Send(usize, &'static [u8]),
@@ -71,6 +74,15 @@ fn drip<R: Clock>(rt: &R, stream: &mut UnixStream) -> io::Result<()> {
     Err(io::Error::from(ErrorKind::TimedOut))
 }
 
+fn talk<R: Net>(rt: &R, alloc: Global, path: &str, bytes: &[u8]) -> io::Result<Vec<u8>> {
+    let mut stream = connect(rt, path)?;
+    stream.write_all(bytes)?;
+    stream.shutdown(Shutdown::Write)?;
+    let mut answer = Vec::new(alloc);
+    stream.read_to_end(&mut answer)?;
+    Ok(answer)
+}
+
 // Reads so many bytes.
 fn read(alloc: Global, stream: &mut UnixStream, count: usize) -> io::Result<Vec<u8>> {
     let mut bytes = vec![in alloc; 0; count]?;
@@ -112,6 +124,10 @@ pub(crate) fn do_all<R: Files + Net + Clock>(
         let link = match *act {
             Act::Open(path) => {
                 links.push(connect(rt, path)?)?;
+                continue;
+            }
+            Act::Talk(path, bytes) => {
+                answers.push(talk(rt, alloc, path, bytes)?)?;
                 continue;
             }
             Act::Remove(path) => {

@@ -15,15 +15,13 @@ use wio_core::{MemSink, MemSource};
 const REGISTRY: [u8; 16] = [12, 0, 0, 0, 1, 0, 0, 0, 1, 0, 12, 0, 2, 0, 0, 0];
 
 /// The words, and a link for each letter: an application's, a method's, or a shell's whose lines are good, or not (`x`).
-/// Which accepts, starts of jobs and writes of the output fail, by their numbers from 1; and what is held. The status; and
+/// Which accepts, which starts of jobs and which writes of the output fail, by their numbers from 1; and what is held. The status; and
 /// the session that is written, or how many lines of it have a word.
 #[derive(Drop)]
 struct Row {
     line: &'static str,
     links: &'static str,
-    accepts: &'static [u64],
-    starts: &'static [u64],
-    writes: &'static [u64],
+    fails: [&'static [u64]; 3],
     hold: Hold,
     status: ServeStatus,
     session: Option<&'static str>,
@@ -35,9 +33,7 @@ static ROWS: [Row; 10] = [
     Row {
         line: "serve --app a --method m --shell s --order amsaksamsamsamsamsamsamsamsamsamsamsamsamsamsamsamsamsamsamsamsa",
         links: "amsaksamsamsamsamsamsamsamsamsamsamsamsamsamsamsamsamsamsamsamsa",
-        accepts: &[],
-        starts: &[],
-        writes: &[],
+        fails: [&[], &[], &[]],
         hold: Hold::Nobody,
         status: ServeStatus::Ok,
         session: None,
@@ -52,9 +48,7 @@ static ROWS: [Row; 10] = [
     Row {
         line: "serve --app a --method m --shell s --order s",
         links: "x",
-        accepts: &[],
-        starts: &[],
-        writes: &[],
+        fails: [&[], &[], &[]],
         hold: Hold::Nobody,
         status: ServeStatus::Ok,
         session: Some("session 2 1000000 65536 134217728\n0 1 key 5 30 1\n0 1 screen 10 10\nend\n"),
@@ -64,9 +58,7 @@ static ROWS: [Row; 10] = [
     Row {
         line: "serve --app a --method m --shell s --order aa",
         links: "aa",
-        accepts: &[],
-        starts: &[],
-        writes: &[],
+        fails: [&[], &[], &[]],
         hold: Hold::UntilAnswered,
         status: ServeStatus::Ok,
         session: None,
@@ -76,9 +68,7 @@ static ROWS: [Row; 10] = [
     Row {
         line: "serve --app a --method m --shell s --order a",
         links: "a",
-        accepts: &[],
-        starts: &[],
-        writes: &[],
+        fails: [&[], &[], &[]],
         hold: Hold::UntilRecorded,
         status: ServeStatus::Ok,
         session: None,
@@ -88,9 +78,7 @@ static ROWS: [Row; 10] = [
     Row {
         line: "serve --app a --method m --shell s --order sss --entries 99",
         links: "sss",
-        accepts: &[2],
-        starts: &[],
-        writes: &[],
+        fails: [&[2], &[], &[]],
         hold: Hold::Nobody,
         status: ServeStatus::NetFault,
         session: Some("session 2 99 65536 134217728\n0 1 key 5 30 1\nend\n"),
@@ -99,9 +87,7 @@ static ROWS: [Row; 10] = [
     Row {
         line: "serve --app a --method m --shell s --order aa --entries 99",
         links: "aa",
-        accepts: &[2],
-        starts: &[],
-        writes: &[],
+        fails: [&[2], &[], &[]],
         hold: Hold::Nobody,
         status: ServeStatus::NetFault,
         session: None,
@@ -111,9 +97,7 @@ static ROWS: [Row; 10] = [
     Row {
         line: "serve --app a --method m --shell s --order as --entries 99",
         links: "as",
-        accepts: &[],
-        starts: &[1],
-        writes: &[],
+        fails: [&[], &[1], &[]],
         hold: Hold::Nobody,
         status: ServeStatus::NoThread,
         session: Some("session 2 99 65536 134217728\n0 0 join app\n0 1 gone 1\nend\n"),
@@ -124,9 +108,7 @@ static ROWS: [Row; 10] = [
     Row {
         line: "serve --app a --method m --shell s --order aa --entries 99",
         links: "aa",
-        accepts: &[],
-        starts: &[3],
-        writes: &[],
+        fails: [&[], &[3], &[]],
         hold: Hold::Nobody,
         status: ServeStatus::NoThread,
         session: None,
@@ -135,9 +117,7 @@ static ROWS: [Row; 10] = [
     Row {
         line: "serve --app a --method m --shell s --order aa --entries 99",
         links: "aa",
-        accepts: &[],
-        starts: &[3],
-        writes: &[1],
+        fails: [&[], &[3], &[1]],
         hold: Hold::Nobody,
         status: ServeStatus::WriteFault,
         session: Some(""),
@@ -147,9 +127,7 @@ static ROWS: [Row; 10] = [
     Row {
         line: "serve --app a --method m --shell s --order aa --entries 99",
         links: "aa",
-        accepts: &[],
-        starts: &[4],
-        writes: &[],
+        fails: [&[], &[4], &[]],
         hold: Hold::Nobody,
         status: ServeStatus::NoThread,
         session: None,
@@ -224,10 +202,18 @@ fn check_row<R: Abort + Threads + Wait + Copy + Send + Sync + 'static>(
     row: &Row,
 ) -> Result<(), Fail> {
     let words = words(alloc, row.line)?;
-    let mut net = net_of(alloc, row.links, row.accepts)?;
-    let mut output = output_of(alloc, row.hold, row.writes)?;
+    let mut net = net_of(alloc, row.links, row.fails[0])?;
+    let mut output = output_of(alloc, row.hold, row.fails[2])?;
     let board = Arc::try_clone(&output.board)?;
-    let status = serve_mem(rt, alloc, &words, &mut net, row.starts, &board, &mut output);
+    let status = serve_mem(
+        rt,
+        alloc,
+        &words,
+        &mut net,
+        row.fails[1],
+        &board,
+        &mut output,
+    );
     equal_at(&rt, &row.line, status, row.status);
     equal_at(&rt, &row.line, board.was_late(), false);
     check_session(&rt, row, output.sink.held());
@@ -244,9 +230,7 @@ fn links_in_memory_are_served(rt: HostRuntime) -> Result<(), Fail> {
         let row = Row {
             line,
             links: "",
-            accepts: &[],
-            starts: &[],
-            writes: &[],
+            fails: [&[], &[], &[]],
             hold: Hold::Nobody,
             status: ServeStatus::BadWords,
             session: Some(""),
