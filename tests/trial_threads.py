@@ -6,7 +6,7 @@ the script that the number draws, which is worked out here.
 
 Each run has to end with status 0 and to show four fields and `end`. A field's text has no letter more often than its
 user inserted it and the shell pressed its key; the cursor stands within the text, at a letter's edge. That each field
-was told what a replay of the session tells it, crates/typing_tests compares.
+was told what a replay of the session tells it, crates/test_trials compares.
 """
 import collections
 import concurrent.futures
