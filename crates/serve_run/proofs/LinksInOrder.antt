@@ -235,7 +235,7 @@ last_came hub first before after a b c letters base i d stop within is all link 
       all_joined = tt;
       all_started = tt;
       refused = inl (refl, never_full stop (link.lacks joined));
-      lacks = inr (link.lacks joined);
+      lacks = inr (link.lacks joined, refl);
     }
     at false joined =
         let none = link.none_else joined in

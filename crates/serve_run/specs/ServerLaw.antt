@@ -108,9 +108,10 @@ pub record ServerLaw (asked : Serving) (before after : Sides) (status : ServeSta
       ≡ take served (jobs_of 1 (length before.links + 1) (take joined asked.order))
   pub before_last : passes_of (take (joined - 1) asked.order) ≤ served
   pub laws : HaveLaws asked.limits history given
-  -- some lack only where memory or a thread did; of those a reader's pass says that its link is
-  -- gone, so that its peer has its end, and no other anything
-  pub lacks : (served ≡ passes_of (take joined asked.order)) ⊎ IfErr stop MayLack
+  -- some lack only where memory or a thread did, and no join was refused; of those a reader's pass
+  -- says that its link is gone, so that its peer has its end, and no other anything
+  pub lacks : (served ≡ passes_of (take joined asked.order))
+      ⊎ (IfErr stop MayLack × (joined ≡ accepted))
   pub unserved : AreUnserved asked.limits history
       (drop served (jobs_of 1 (length before.links + 1) (take joined asked.order)))
   -- as many came as jobs were started, none of them before the last start

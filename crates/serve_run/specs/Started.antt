@@ -151,8 +151,8 @@ pub record AllStarted (hub : HubId) (root root' : PassSeat) (started started' : 
   pub balance : root'.out + length started ≡ root.out + length started'
 
 -- The links of the first letters, from this number on, were joined and started: all that were
--- accepted, or all but the last, whose join was refused. Where memory or a thread lacked, the last
--- of them may lack some of its jobs, whose passes are back.
+-- accepted, or all but the last, whose join was refused. Where memory or a thread lacked and no join
+-- was refused, the last of them may lack some of its jobs, whose passes are back.
 pub record LinksStarted (hub : HubId) (root root' : PassSeat) (started started' : List Tag)
     (letters : List ℕ)
     (first accepted : ℕ) (result : Result (Unit {0}) Stop) : Type 0 where
@@ -172,7 +172,8 @@ pub record LinksStarted (hub : HubId) (root root' : PassSeat) (started started' 
   pub all_joined : OnOk result (joined ≡ accepted)
   pub all_started : OnOk result (count ≡ passes_of (take joined letters))
   pub refused : JoinedUnless hub.limits root'.seen letters joined accepted result
-  pub lacks : (count ≡ passes_of (take joined letters)) ⊎ IfErr result MayLack
+  pub lacks : (count ≡ passes_of (take joined letters))
+      ⊎ (IfErr result MayLack × (joined ≡ accepted))
 
 -- links came through the doors of the first so many letters, of all where nothing stopped it, and
 -- were started; the first of them has the number behind those that came before
