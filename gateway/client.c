@@ -22,8 +22,8 @@ struct client *client_open(int socket, enum role role) {
 	client->role = role;
 	client->near.socket = socket;
 	client->far.socket = far;
-	client->counts[0] = 1; /* no object has the id 0 */
-	object_make(client, DISPLAY, &wl_display_table, false);
+	client->counts[0] = client->far_count = 1; /* no object has the id 0 */
+	object_make(client, DISPLAY, &wl_display_table, false)->far = far_make(client, DISPLAY);
 	return client;
 }
 
@@ -68,12 +68,15 @@ static const char *read_message(struct client *client, bool request, struct mess
 	return message_read(message, &object->interface->rows[request][message->opcode]) ? NULL : "malformed message";
 }
 
-/* Whether the client is told that an id is free. That of a `sync` in an object's place is nothing to it. */
-static bool end_id(struct client *client, uint32_t id) {
-	struct object *object = object_at(client, id);
-	if (object && object->holes > 0)
-		return object->holes--, false;
-	return object_free(client, id), true;
+/* Whether the client is told that an id is free: not of one that it doesn't know. */
+static bool end_id(struct client *client, struct message *message) {
+	uint32_t far = message->numbers[0], id = far < FIRST_SERVER_ID && far != DISPLAY ? near_of(client, far) : 0;
+	if (id == 0)
+		return false;
+	far_end(client, far);
+	object_free(client, id);
+	message_set(message, 0, id);
+	return true;
 }
 
 /* What a message of the compositor does, and whether the client gets it. */
@@ -93,7 +96,7 @@ static void event_play(struct client *client, struct message *message, const int
 	else if (IS(message, wl_registry, event, global_remove))
 		gateway.seat = message->numbers[0] == gateway.seat ? 0 : gateway.seat;
 	else if (IS(message, wl_display, event, delete_id))
-		given = end_id(client, message->numbers[0]);
+		given = end_id(client, message);
 	else if (IS(message, wl_display, event, error))
 		client_end(client, message->texts[2]);
 	if (given)
@@ -101,16 +104,17 @@ static void event_play(struct client *client, struct message *message, const int
 }
 
 static void play(struct client *client, bool near, struct message *message) {
-	const struct object *place = object_at(client, message->object);
 	enum error code = !near ? ERROR_COMPOSITOR : object_live(client, message->object) ? ERROR_METHOD : ERROR_OBJECT;
 	int files[ARGUMENTS_MAX];
-	if (!near && place && place->holes > 0)
-		return; /* the answer of a `sync` in this id's place */
+	if (!near)
+		message_address(message, near_of(client, message->object));
 	const char *why = read_message(client, near, message);
+	if (!why && !near && !ids_to_near(client, message))
+		why = "an argument names no object";
 	if (!why && !wire_take_files(near ? &client->near : &client->far, message->descriptors, files))
 		why = "a descriptor is missing";
 	if (why)
-		return client_refuse(client, message->object, code, why);
+		return client_refuse(client, near ? message->object : DISPLAY, code, why);
 	(near ? request_play : event_play)(client, message, files);
 }
 

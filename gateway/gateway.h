@@ -5,16 +5,16 @@
 #include <wlim.h>
 
 enum { DISPLAY = 1, CLIENTS_MAX = 1000, OBJECTS_MAX = 65536 /* ids of each side */, DOWN_MAX = 64 };
-#define FIRST_SERVER_ID 0xff000000u /* ids from here on are the compositor's */
+#define FIRST_SERVER_ID 0xff000000u /* ids from here on are the compositor's, and the same at the client */
 
 struct object {
 	const struct interface *interface; /* NULL: the id names nothing */
 	uint64_t number; /* in the order of making, of all clients' objects: who has its id later has another */
-	uint32_t holes; /* how many `sync`s the compositor got in this id's place, and hasn't told the end of */
+	uint32_t far; /* its id at the compositor; 0: the compositor doesn't know it */
 	uint32_t made[4]; /* the message by which it was made at the broker; all 0: it isn't there */
 	uint32_t count, base; /* commits of a field or dones of a method, and as many of them at an earlier broker */
 	uint32_t keymap; /* of a board: the number of its keymap */
-	bool is_ours; /* the compositor doesn't know it: it lives at the broker, a manager nowhere */
+	bool is_ours; /* it lives at the broker, a manager nowhere */
 	bool of_seat; /* a wl_seat or a wl_keyboard of the one seat that the broker has */
 	bool is_fresh; /* a wl_keyboard of that seat that was told an enter, and no modifiers of it yet */
 	bool is_gone; /* a surface that its client destroyed, whose id the compositor hasn't freed yet */
@@ -35,6 +35,8 @@ struct client {
 	struct wire near, far; /* to the client, and for it to the compositor */
 	uint32_t counts[2]; /* of ids that ever named something: the client's, and the compositor's */
 	struct object objects[2][OBJECTS_MAX];
+	uint32_t far_count, far_free; /* ids that were ever used at the compositor; the first that can be used again, or 0 */
+	uint32_t nears[OBJECTS_MAX]; /* of each of them the client's id, or FREE and the next that can be used again */
 };
 
 extern struct gateway {
@@ -58,6 +60,20 @@ struct object *object_live(struct client *client, uint32_t id);
 struct object *object_make(struct client *client, uint32_t id, const struct interface *interface, bool by_server);
 void object_free(struct client *client, uint32_t id);
 
+/* ---- Ids: an object of the client's has one of its own, and another at the compositor (ids.c) ---- */
+#define FREE 0x80000000u /* with an id of `nears`: it names nothing */
+/* An id at the compositor, which has to hear of it before the next is made: it takes no gaps. 0: there is none. */
+uint32_t far_make(struct client *client, uint32_t id);
+/* It can be used again: the compositor said so. */
+void far_end(struct client *client, uint32_t far);
+/* The one for the other; 0: it names nothing, or nothing there. */
+uint32_t far_of(struct client *client, uint32_t id);
+uint32_t near_of(const struct client *client, uint32_t far);
+/* Gives a request the compositor's ids, its new one too. False: an argument names nothing there, or there is no id. */
+bool ids_to_far(struct client *client, struct message *message);
+/* Gives an event the client's ids. False: it names no object. */
+bool ids_to_near(const struct client *client, struct message *message);
+
 /* ---- Clients (client.c; requests.c plays their messages) ---- */
 /* A new client, before the others, if it can be let in. One that isn't in the list any more is closed and freed. */
 struct client *client_open(int socket, enum role role);
@@ -72,8 +88,6 @@ void client_refuse(struct client *client, uint32_t object, enum error code, cons
 /* Sends the client a message of the gateway's; the broker's whole messages, where a token is a keymap's number. */
 void client_send(struct client *client, const struct message *message);
 void client_told(struct client *client, uint8_t *bytes, size_t size, const uint32_t *tokens);
-/* The object is ours. The compositor, which takes no gaps in a client's ids, gets a `sync` in its place. */
-struct object *request_hold(struct client *client, uint32_t id);
 /* The surface is known to the broker too, from now on. False: it is none of the client's, or destroyed. */
 bool request_mirror(struct client *client, uint32_t surface);
 /* The keys that are down on the board are released at the broker, which tells nobody when a board ends; 0: on each. */

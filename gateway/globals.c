@@ -53,6 +53,6 @@ bool globals_bind(struct client *client, const struct message *message) {
 	if (name != OFFERED + offer->global || offer->role != client->role || message->numbers[2] != 1)
 		client_refuse(client, message->object, ERROR_OBJECT, "no such global");
 	else if (client->peer || broker_join(client))
-		request_hold(client, id);
+		object->is_ours = true;
 	return false;
 }

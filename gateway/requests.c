@@ -4,19 +4,13 @@
 #include <unistd.h>
 
 /* What a client sends that is refused goes nowhere. */
-static void forward(struct client *client, const struct message *message, const int *files) {
-	if (!client->ending)
+static void forward(struct client *client, struct message *message, const int *files) {
+	uint32_t object = message->object;
+	if (!client->ending && ids_to_far(client, message))
 		return wire_send(&client->far, message->bytes, message->size, files, message->descriptors);
+	client_refuse(client, object, ERROR_METHOD, "an argument names no object of the compositor's");
 	for (unsigned at = 0; at < message->descriptors; at++)
 		close(files[at]);
-}
-
-struct object *request_hold(struct client *client, uint32_t id) {
-	struct object *object = object_at(client, id);
-	object->is_ours = true;
-	object->holes++;
-	forward(client, draft(DISPLAY, wl_display_request_sync, "u", id), NULL);
-	return object;
 }
 
 /* An object is made at the broker, and will be so at another. */
@@ -40,7 +34,8 @@ static void make_at_broker(struct client *client, struct message *message, int m
 	const struct object *maker = object_at(client, message->object);
 	const struct offer *offer = offer_of(maker->interface);
 	uint32_t id = message->numbers[made], own = offer ? OWN + offer->global : message->object;
-	struct object *object = request_hold(client, id);
+	struct object *object = object_at(client, id);
+	object->is_ours = true;
 	if (!offer && maker->made[0] == 0)
 		return; /* of a method that lives nowhere, and so does it */
 	if (interface == &zwp_input_method_v2_table && client->serves == 0)

@@ -20,7 +20,7 @@ for name in fuzz order; do
 	${CC:-cc} $flags $sanitize -I"$checked" -o "$checked/$name" "tests/gateway_$name.c" \
 		$(ls gateway/*.c | grep -v /gateway.c) "$checked/tables.c" out/libwlim/lib/libwlim.a
 done
-${CC:-cc} $flags $sanitize -I"$checked" -o "$checked/units" tests/gateway_units.c gateway/{keymaps,message,objects,wire}.c \
+${CC:-cc} $flags $sanitize -I"$checked" -o "$checked/units" tests/gateway_units.c gateway/{ids,keymaps,message,objects,wire}.c \
 	"$checked/tables.c"
 ${CC:-cc} $flags -O2 -I"$made" -o "$made/speed" tests/gateway_speed.c gateway/message.c "$made/tables.c"
 ${CC:-cc} $flags -o "$checked/entry" tests/embed_entry.c $(pkg-config --cflags --libs gtk4)

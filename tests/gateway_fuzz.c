@@ -42,6 +42,22 @@ static uint32_t random_id(struct client *client)
 	return DISPLAY;
 }
 
+/* The compositor's id of what a client's names; else the same. */
+static uint32_t far_id(struct client *client, uint32_t id)
+{
+	uint32_t far = far_of(client, id);
+	return far > 0 ? far : id;
+}
+
+/* An id that the compositor mostly knows, as that of a seat. */
+static uint32_t argument_id(struct client *client)
+{
+	uint32_t id = random_id(client);
+	for (int tries = 0; tries < 20 && far_of(client, id) == 0 && random_below(200); tries++)
+		id = random_id(client);
+	return id;
+}
+
 static uint32_t new_id(struct client *client, bool by_server)
 {
 	if (random_below(300) == 0)
@@ -96,7 +112,7 @@ static uint32_t random_number(void)
 static size_t write_message(struct client *client, uint32_t id, uint16_t opcode, const struct signature *row,
 	bool by_server, uint8_t *bytes, unsigned *files)
 {
-	size_t at = put(bytes, put(bytes, 0, id), opcode);
+	size_t at = put(bytes, put(bytes, 0, by_server ? far_id(client, id) : id), opcode);
 	const char *kind = row->kinds;
 	*files = 0;
 	if (strncmp(kind, "usu", 3) == 0) {
@@ -113,7 +129,8 @@ static size_t write_message(struct client *client, uint32_t id, uint16_t opcode,
 		else if (*kind == 'n')
 			at = put(bytes, at, new_id(client, by_server));
 		else
-			at = put(bytes, at, *kind == 'o' || *kind == 'O' ? random_id(client) : random_number());
+			at = put(bytes, at, *kind != 'o' && *kind != 'O' ? random_number()
+				: by_server ? far_id(client, argument_id(client)) : argument_id(client));
 	}
 	put(bytes, 4, (uint32_t)at << 16 | opcode);
 	if (random_below(200) == 0)
@@ -170,7 +187,7 @@ static void read_away(int socket)
 static void play(struct place *place, bool near)
 {
 	static uint8_t bytes[LONGEST];
-	uint32_t id = random_id(place->client);
+	uint32_t id = near ? random_id(place->client) : argument_id(place->client);
 	const struct object *object = object_live(place->client, id);
 	const struct interface *interface = object ? object->interface : &wl_display_table;
 	uint32_t rows = interface->counts[near], opcode = rows ? random_below(rows) : 0;

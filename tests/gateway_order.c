@@ -28,6 +28,21 @@ static void put(int socket, const struct message *message)
 		exit(1);
 }
 
+/* An event of the compositor's with the client's ids in it, which here become those of the compositor. */
+static void put_event(struct user *user, const struct message *event)
+{
+	struct client *client = user->place.client;
+	struct message message = *event;
+	const struct object *object = object_live(client, message.object);
+	if (!object || !message_read(&message, &object->interface->rows[0][message.opcode]))
+		exit(1);
+	for (unsigned at = 0; at < message.count; at++)
+		if (message.signature->kinds[at] == 'o' || IS(&message, wl_display, event, delete_id))
+			message_set(&message, at, far_of(client, message.numbers[at]));
+	message_address(&message, object->far);
+	put(user->place.far, &message);
+}
+
 /* A request, which is read; an event, which is read later; and reads those. */
 static void request(struct user *user, const struct message *message)
 {
@@ -37,7 +52,7 @@ static void request(struct user *user, const struct message *message)
 
 static void event(struct user *user, uint16_t opcode, uint32_t serial)
 {
-	put(user->place.far, draft(KEYBOARD, opcode, opcode == wl_keyboard_event_enter ? "uuu" : "uu", serial, SURFACE, 0));
+	put_event(user, draft(KEYBOARD, opcode, opcode == wl_keyboard_event_enter ? "uuu" : "uu", serial, SURFACE, 0));
 }
 
 static void read_events(struct user *user)
@@ -53,7 +68,7 @@ static void enter(struct user *user, uint32_t serial)
 
 static void global(struct user *user, uint32_t name, const char *interface)
 {
-	put(user->place.far, draft(REGISTRY, wl_registry_event_global, "usu", name, interface, 1));
+	put_event(user, draft(REGISTRY, wl_registry_event_global, "usu", name, interface, 1));
 	read_events(user);
 }
 
@@ -149,7 +164,7 @@ static void press(struct user *user, uint32_t key, uint32_t state)
 
 static void type(struct user *user, uint32_t serial, uint32_t time, uint32_t key)
 {
-	put(user->place.far, draft(KEYBOARD, wl_keyboard_event_key, "uuuu", serial, time, key, 1));
+	put_event(user, draft(KEYBOARD, wl_keyboard_event_key, "uuuu", serial, time, key, 1));
 	read_events(user);
 }
 
@@ -229,7 +244,7 @@ static void destroyed_surface(void)
 	request(&one, draft(SURFACE, wl_surface_request_destroy, ""));
 	enter(&one, 13);
 	event(&one, wl_keyboard_event_leave, 14);
-	put(one.place.far, draft(DISPLAY, wl_display_event_delete_id, "u", SURFACE));
+	put_event(&one, draft(DISPLAY, wl_display_event_delete_id, "u", SURFACE));
 	read_events(&one);
 	look(&one);
 	HOLDS(!one.entered && HEARD(&one, DISPLAY, wl_display_event_delete_id, SURFACE) == 1);
@@ -289,10 +304,10 @@ static void keyboards(void)
 	start_grab(&first);
 	request(&one, draft(SEAT, wl_seat_request_get_keyboard, "u", KEYBOARD_2));
 	for (uint32_t id = KEYBOARD; id <= KEYBOARD_2; id += KEYBOARD_2 - KEYBOARD)
-		put(one.place.far, draft(id, wl_keyboard_event_enter, "uuu", 31, SURFACE, 0));
+		put_event(&one, draft(id, wl_keyboard_event_enter, "uuu", 31, SURFACE, 0));
 	for (int times = 0; times < 2; times++)
 		for (uint32_t id = KEYBOARD; id <= KEYBOARD_2; id += KEYBOARD_2 - KEYBOARD)
-			put(one.place.far, draft(id, wl_keyboard_event_modifiers, "uuuuu", 32 + times, 4 - times, 0, 0, 0));
+			put_event(&one, draft(id, wl_keyboard_event_modifiers, "uuuuu", 32 + times, 4 - times, 0, 0, 0));
 	read_events(&one);
 	look(&one);
 	HOLDS(HEARD(&one, KEYBOARD, wl_keyboard_event_modifiers, 4, 0, 0, 0) == 1);
@@ -302,8 +317,8 @@ static void keyboards(void)
 	/* A third that comes later is told what the others were, by the method too. */
 	request(&first, draft(BOARD, zwp_virtual_keyboard_v1_request_modifiers, "uuuu", 1, 0, 0, 0));
 	request(&one, draft(SEAT, wl_seat_request_get_keyboard, "u", KEYBOARD_2 + 1));
-	put(one.place.far, draft(KEYBOARD_2 + 1, wl_keyboard_event_enter, "uuu", 34, SURFACE, 0));
-	put(one.place.far, draft(KEYBOARD_2 + 1, wl_keyboard_event_modifiers, "uuuuu", 35, 3, 0, 0, 0));
+	put_event(&one, draft(KEYBOARD_2 + 1, wl_keyboard_event_enter, "uuu", 34, SURFACE, 0));
+	put_event(&one, draft(KEYBOARD_2 + 1, wl_keyboard_event_modifiers, "uuuuu", 35, 3, 0, 0, 0));
 	read_events(&one);
 	look(&one);
 	HOLDS(HEARD(&one, KEYBOARD, wl_keyboard_event_modifiers, 1, 0, 0, 0) == 1);
@@ -415,7 +430,7 @@ static void used_again(void)
 	request(&first, draft(COMPOSITOR_1, wl_compositor_request_create_surface, "u", SURFACE_1));
 	request(&first, draft(METHOD_1, zwp_input_method_v2_request_get_input_popup_surface, "uu", POPUP, SURFACE_1));
 	request(&first, draft(SURFACE_1, wl_surface_request_destroy, ""));
-	put(first.place.far, draft(DISPLAY, wl_display_event_delete_id, "u", SURFACE_1));
+	put_event(&first, draft(DISPLAY, wl_display_event_delete_id, "u", SURFACE_1));
 	read_events(&first);
 	request(&first, draft(COMPOSITOR_1, wl_compositor_request_create_surface, "u", SURFACE_1));
 	request(&first, draft(METHOD_1, zwp_input_method_v2_request_get_input_popup_surface, "uu", POPUP_2, SURFACE_1));
@@ -448,7 +463,7 @@ static void typed_before(void)
 	request(&one, draft(SURFACE, wl_surface_request_destroy, ""));
 	enter(&one, 63); /* the compositor doesn't know yet */
 	type(&one, 64, 7001, B);
-	put(one.place.far, draft(DISPLAY, wl_display_event_delete_id, "u", SURFACE));
+	put_event(&one, draft(DISPLAY, wl_display_event_delete_id, "u", SURFACE));
 	read_events(&one);
 	look(&first);
 	HOLDS(HEARD(&first, GRAB, zwp_input_method_keyboard_grab_v2_event_key, 7001, B, 1) == 0);
@@ -470,11 +485,11 @@ static void keyboards_go(void)
 	enter(&one, 71);
 	look(&one);
 	HOLDS(one.entered);
-	put(one.place.far, draft(SEAT, wl_seat_event_capabilities, "u", 1));
+	put_event(&one, draft(SEAT, wl_seat_event_capabilities, "u", 1));
 	read_events(&one);
 	look(&one);
 	HOLDS(!one.entered);
-	put(one.place.far, draft(SEAT, wl_seat_event_capabilities, "u", 3));
+	put_event(&one, draft(SEAT, wl_seat_event_capabilities, "u", 3));
 	enter(&one, 72);
 	request(&one, draft(KEYBOARD, wl_keyboard_request_release, ""));
 	look(&one);
@@ -513,7 +528,7 @@ static void many_keymaps(void)
 	start_board(&first);
 	enter(&one, 131);
 	for (int number = 1; number <= 70; number++) {
-		send_keymap(one.place.far, KEYBOARD, wl_keyboard_event_keymap, number);
+		send_keymap(one.place.far, far_of(one.place.client, KEYBOARD), wl_keyboard_event_keymap, number);
 		read_events(&one);
 	}
 	look(&one);

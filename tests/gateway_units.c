@@ -101,14 +101,60 @@ static void ids(void)
 	HOLDS(!object_make(&client, FIRST_SERVER_ID + 1, &wl_seat_table, true));
 	HOLDS(object_make(&client, FIRST_SERVER_ID, &wl_seat_table, true));
 	HOLDS(object_make(&client, FIRST_SERVER_ID, &wl_surface_table, true)->interface == &wl_surface_table);
-	object_at(&client, 2)->holes = 2;
 	object_free(&client, 2);
-	HOLDS(!object_live(&client, 2) && object_make(&client, 2, &wl_surface_table, false)->holes == 2);
+	HOLDS(!object_live(&client, 2) && object_make(&client, 2, &wl_surface_table, false));
 	for (uint32_t id = 3; id < OBJECTS_MAX; id++)
 		if (!object_make(&client, id, &wl_surface_table, false))
 			HOLDS(id == 0);
 	HOLDS(!object_make(&client, OBJECTS_MAX, &wl_surface_table, false));
 	HOLDS(!object_at(&client, OBJECTS_MAX) && !object_at(&client, 0xffffffff));
+}
+
+/* The compositor's ids are used in order, and again when they are free; each names one of the client's, or nothing. */
+static void far_ids(void)
+{
+	static struct client client = { .counts = { 1, 0 }, .far_count = 1 };
+	for (uint32_t id = 1; id <= 4; id++)
+		HOLDS(object_make(&client, id, &wl_surface_table, false));
+	HOLDS(near_of(&client, 0) == 0 && near_of(&client, 1) == 0 && far_of(&client, 4) == 0);
+	object_at(&client, 4)->far = far_make(&client, 4);
+	object_at(&client, 2)->far = far_make(&client, 2);
+	HOLDS(far_of(&client, 4) == 1 && far_of(&client, 2) == 2 && far_of(&client, 3) == 0 && far_of(&client, 99) == 0);
+	HOLDS(near_of(&client, 1) == 4 && near_of(&client, 2) == 2 && near_of(&client, 3) == 0 && near_of(&client, 3000000) == 0);
+	HOLDS(near_of(&client, FIRST_SERVER_ID + 7) == FIRST_SERVER_ID + 7 && far_of(&client, FIRST_SERVER_ID) == 0);
+	HOLDS(object_make(&client, FIRST_SERVER_ID, &wl_buffer_table, true) && far_of(&client, FIRST_SERVER_ID) == FIRST_SERVER_ID);
+	far_end(&client, 1);
+	far_end(&client, 2);
+	HOLDS(near_of(&client, 1) == 0 && near_of(&client, 2) == 0);
+	HOLDS(far_make(&client, 3) == 2 && far_make(&client, 2) == 1 && far_make(&client, 1) == 3);
+	for (uint32_t far = 4; far < OBJECTS_MAX; far++)
+		if (far_make(&client, far) != far)
+			HOLDS(far == 0);
+	HOLDS(far_make(&client, 9) == 0 && near_of(&client, OBJECTS_MAX) == 0);
+}
+
+/* A message's ids become those of the other side, behind texts too; what names nothing there is refused. */
+static void translated(void)
+{
+	static struct client client = { .counts = { 1, 0 }, .far_count = 1 };
+	struct message message;
+	uint8_t *bind = WORDS(2, HEAD(32, 0), 1, 8, 'w' | 'l' << 8 | '_' << 16 | 's' << 24, 'e' | 'a' << 8 | 't' << 16, 1, 3);
+	for (uint32_t id = 1; id <= 3; id++)
+		HOLDS(object_make(&client, id, &wl_surface_table, false));
+	far_make(&client, DISPLAY);
+	object_at(&client, 2)->far = far_make(&client, 2);
+	far_make(&client, 7);
+	HOLDS(reads(bind, "usun", &message) && ids_to_far(&client, &message));
+	HOLDS(message.numbers[3] == 4 && ((uint32_t *)bind)[7] == 4 && object_at(&client, 3)->far == 4 && near_of(&client, 4) == 3);
+	HOLDS(reads(WORDS(2, HEAD(20, 0), 0, 3, 5), "Oou", &message) && ids_to_far(&client, &message));
+	HOLDS(memcmp(message.bytes, WORDS(2, HEAD(20, 0), 0, 4, 5), 20) == 0);
+	HOLDS(reads(WORDS(2, HEAD(12, 0), 9), "o", &message) && !ids_to_far(&client, &message));
+	HOLDS(reads(WORDS(2, HEAD(16, 0), 4, 4), "uO", &message) && ids_to_near(&client, &message));
+	HOLDS(memcmp(message.bytes, WORDS(2, HEAD(16, 0), 4, 3), 16) == 0);
+	HOLDS(reads(WORDS(2, HEAD(12, 0), 5), "o", &message) && !ids_to_near(&client, &message));
+	HOLDS(message_front(WORDS(1, HEAD(24, 0), 5, 0, 1, 0), 24, &message) == FRONT_WHOLE);
+	HOLDS(message_read(&message, &wl_display_events[wl_display_event_error]) && ids_to_near(&client, &message));
+	HOLDS(message.numbers[0] == DISPLAY);
 }
 
 /* A file whose length is a number. */
@@ -229,6 +275,8 @@ int main(void)
 	drafts();
 	tables();
 	ids();
+	far_ids();
+	translated();
 	descriptors();
 	bounds();
 	reads_without_taking();
