@@ -1,10 +1,11 @@
-/* The gateway's parts over messages and wires: clients and their objects, globals, the broker, the seat's keyboard. */
+/* The core's parts over messages and wires: clients and their objects, globals, the broker, the seat's keyboard. */
 #pragma once
+#include "core.h"
 #include "tables.h"
 #include "wire.h"
 #include <wlim.h>
 
-enum { DISPLAY = 1, CLIENTS_MAX = 1000, OBJECTS_MAX = 65536 /* ids of each side */, DOWN_MAX = 64 };
+enum { DISPLAY = 1, OBJECTS_MAX = 65536 /* ids of each side */, DOWN_MAX = 64 };
 #define FIRST_SERVER_ID 0xff000000u /* ids from here on are the compositor's, and the same at the client */
 
 struct object {
@@ -23,8 +24,8 @@ struct object {
 
 struct client {
 	struct client *next;
-	unsigned number; /* from 1, in the order of coming */
-	enum role { ALL, PROGRAM, METHOD } role; /* by which socket it came; never ALL */
+	unsigned link, number; /* as the shell knows it; from 1, in the order of coming */
+	enum role role;
 	uint32_t peer; /* its number at the broker; 0: it isn't there */
 	bool ending; /* nothing of it is read any more; it ends when the round does */
 	uint32_t serves; /* the id of its first input method that wasn't told that it is unavailable; 0 none */
@@ -33,6 +34,7 @@ struct client {
 	struct down { uint32_t board, key, time; } down[DOWN_MAX]; /* keys that its boards hold down, those that fit */
 	unsigned down_count;
 	struct wire near, far; /* to the client, and for it to the compositor */
+	const uint8_t *text; /* what the message that is played asked for */
 	uint32_t counts[2]; /* of ids that ever named something: the client's, and the compositor's */
 	struct object objects[2][OBJECTS_MAX];
 	uint32_t far_count, far_free; /* ids that were ever used at the compositor; the first that can be used again, or 0 */
@@ -40,17 +42,19 @@ struct client {
 };
 
 extern struct gateway {
-	const char *record, *taken; /* where the session is written, and what clients got of it; NULL: nowhere */
+	uint64_t moment; /* of the last call */
 	unsigned long entries; /* after so many of them the broker is renewed */
 	bool renews; /* what is told now was told before */
+	const char *failed; /* not NULL: why it can't go on */
 	struct client *clients;
 	uint32_t seat; /* the name of the wl_seat global whose keyboard is the broker's; 0 none yet */
 } gateway;
 
-/* A line on standard error; one of --log: who told what to whom; a connection to the compositor, or -1 and errno. */
-void say(const char *format, ...) __attribute__((format(printf, 1, 2)));
+/* A line of the log: who told what to whom; one that says what is shown (log.c). */
 void log_message(struct client *client, const char *way, const struct message *message);
-int compositor_connect(void);
+void log_note(const struct client *client, const char *what, const int32_t box[4]);
+/* The shell is asked (core.c). */
+void ask_shell(struct effect effect);
 
 /* ---- Objects (objects.c) ---- */
 /* The place of an id that named something before or does; NULL: it never did. And only if it does. */
@@ -75,19 +79,22 @@ bool ids_to_far(struct client *client, struct message *message);
 bool ids_to_near(const struct client *client, struct message *message);
 
 /* ---- Clients (client.c; requests.c plays their messages) ---- */
-/* A new client, before the others, if it can be let in. One that isn't in the list any more is closed and freed. */
-struct client *client_open(int socket, enum role role);
+/* A new client, before the others, or NULL: there is no memory. One that isn't in the list any more is closed and freed. */
+struct client *client_open(enum role role);
 void client_close(struct client *client);
-/* Reads what came, from the client or from the compositor, and does what it says. The descriptors are the calls'. */
-void client_read(struct client *client, bool near);
-void request_play(struct client *client, struct message *message, const int *files);
+static inline struct wire *wire_of(struct client *client, enum side side) {
+	return side == NEAR ? &client->near : &client->far;
+}
+/* Does what the messages say that came, up to one that waits for the shell. Tokens are the calls'. */
+void client_play(struct client *client, enum side side);
+void request_play(struct client *client, struct message *message, const uint32_t *tokens);
 /* The client ends with the round, and why is said, unless it ended first; and it is told, by wl_display.error. */
 enum error { ERROR_OBJECT, ERROR_METHOD, ERROR_MEMORY, ERROR_COMPOSITOR };
 void client_end(struct client *client, const char *why);
 void client_refuse(struct client *client, uint32_t object, enum error code, const char *why);
 /* Sends the client a message of the gateway's; the broker's whole messages, where a token is a keymap's number. */
 void client_send(struct client *client, const struct message *message);
-void client_told(struct client *client, uint8_t *bytes, size_t size, const uint32_t *tokens);
+void client_told(struct client *client, uint8_t *bytes, size_t size, const uint32_t *numbers);
 /* The surface is known to the broker too, from now on. False: it is none of the client's, or destroyed. */
 bool request_mirror(struct client *client, uint32_t surface);
 /* The keys that are down on the board are released at the broker, which tells nobody when a board ends; 0: on each. */
@@ -108,7 +115,7 @@ bool globals_bind(struct client *client, const struct message *message);
 
 /* ---- The broker: libwlim's family of bytes, and the session's record (broker.c, renew.c) ---- */
 extern struct wlim_broker broker;
-/* Opens the broker, and the files of --record. False: it said why. */
+/* Opens the broker, whose session begins. False: it said why. */
 bool broker_open(void);
 void broker_close(void);
 /* The client is a peer from now on. False: it is refused. */
@@ -117,17 +124,18 @@ bool broker_join(struct client *client);
 void broker_receive(struct client *client, const struct message *message, uint32_t token);
 /* An order of the gateway's, as that: what to call, and its line in a session, both with the arguments. Its answer. */
 #define broker_order(call, format, ...) \
-	broker_done(broker_record(wlim_broker_##call(&broker, broker_now(), ##__VA_ARGS__), format, ##__VA_ARGS__))
+	broker_done(broker_record(wlim_broker_##call(&broker, gateway.moment, ##__VA_ARGS__), format, ##__VA_ARGS__))
 int64_t broker_record(int64_t answer, const char *format, ...) __attribute__((format(printf, 2, 3)));
 int64_t broker_done(int64_t answer);
-uint64_t broker_now(void); /* microseconds; the moment of the next call */
 /* In how many milliseconds it is to be renewed: 0 now, -1 not yet; and moves all peers to a new one, between rounds. */
 int broker_renewal(void);
 void renew(void);
 
 /* ---- The keyboard of the seat (keyboard.c) ---- */
 /* An event of a wl_keyboard of the seat: whether the client gets it. The focus leaves its surface; 0: any of its. */
-bool keyboard_event(struct client *client, const struct message *message, const int *files);
+bool keyboard_event(struct client *client, const struct message *message);
+/* Whether it is an enter, before which what the compositor told the last focus is to be read: that client; NULL: it isn't. */
+struct client *keyboard_reads_first(const struct client *client, const struct message *message);
 void keyboard_leave(const struct client *client, uint32_t surface);
 /* A key or modifiers that a client's board sent and no grab has: for who has the focus, with the board's keymap. */
 void keyboard_give(const struct client *from, uint32_t keymap, const struct wlim_told *told);
@@ -141,9 +149,11 @@ void keyboard_leave_broker(void);
 void keyboard_join_broker(void);
 
 /* ---- Keymaps: the same text has the same number, which is its token at the broker (keymaps.c) ---- */
-struct keymap { uint32_t format, size; int file; char *text; }; /* the file is a copy that nobody can change */
-/* The number of what the file holds, from 1. 0: it can't be read, is larger than 1 MiB, or is the 65th. */
-uint32_t keymap_number(uint32_t format, int file, uint32_t size);
-/* The keymap with the number, and a new descriptor of its file; NULL and -1: there is none. */
+enum { KEYMAP_MAX = 1048576 /* bytes */ };
+struct keymap { uint32_t format, size, token; uint8_t *text; }; /* the token is of a copy that nobody can change */
+/* The number of a keymap with the text, from 1. 0: there is none (NULL), it is the 65th, or there is no memory. */
+uint32_t keymap_number(uint32_t format, const uint8_t *text, uint32_t size);
+/* The keymap with the number, and its token to be sent; NULL and 0: there is none. */
 const struct keymap *keymap_find(uint32_t number);
-int keymap_file(uint32_t number);
+uint32_t keymap_token(uint32_t number);
+void keymaps_end(void);

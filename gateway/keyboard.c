@@ -34,10 +34,9 @@ static void send_all(const struct message *message, uint32_t keymap) {
 		const struct object *object = object_at(seat.focus, id);
 		if (object->interface != &wl_keyboard_table || !object->of_seat)
 			continue;
-		int file = keymap_file(keymap);
+		uint32_t token = keymap_token(keymap);
 		memcpy(message->bytes, &id, sizeof id);
-		if (keymap == 0 || file >= 0)
-			wire_send(&seat.focus->near, message->bytes, message->size, &file, keymap > 0);
+		wire_send(&seat.focus->near, message->bytes, message->size, &token, keymap > 0);
 	}
 }
 
@@ -70,7 +69,7 @@ static bool order_key(uint32_t key, uint32_t state) {
 	bool given = seat.given[key % KEYS].client > 0 && state == 0;
 	seat.down[key % KEYS] = state != 0 && way != WLIM_TOO_MANY;
 	if (way == WLIM_TO_GRAB)
-		seat.typed[seat.typed_next++ % TYPED_MAX] = (struct typed){ seat.time, key, seat.number, broker_now() };
+		seat.typed[seat.typed_next++ % TYPED_MAX] = (struct typed){ seat.time, key, seat.number, gateway.moment };
 	if (way == WLIM_NOWHERE) /* the grab that had the press is gone: who was given it back gets the release */
 		seat.given[key % KEYS].client = 0;
 	return way == WLIM_NOWHERE ? given : way != WLIM_TO_GRAB;
@@ -91,10 +90,13 @@ static void tell_focus(void) {
 }
 
 /* Connections are read in any order, but the compositor's serials rise. What it wrote to the last one comes first. */
+struct client *keyboard_reads_first(const struct client *client, const struct message *message) {
+	bool enters = IS(message, wl_keyboard, event, enter);
+	return enters && seat.focus && seat.focus != client && !seat.focus->ending ? seat.focus : NULL;
+}
+
 static void on_enter(struct client *client, uint32_t serial, uint32_t surface) {
 	const struct object *object = object_live(client, surface);
-	if (seat.focus && seat.focus != client && !seat.focus->ending)
-		client_read(seat.focus, false);
 	if ((seat.focus == client && seat.surface == surface) || (int32_t)(serial - seat.entered) < 0)
 		return; /* another keyboard of the client, or the focus went on since */
 	release_all();
@@ -183,11 +185,11 @@ static bool on_modifiers(struct client *client, uint32_t keyboard, uint32_t seri
 	return true;
 }
 
-bool keyboard_event(struct client *client, const struct message *message, const int *files) {
+bool keyboard_event(struct client *client, const struct message *message) {
 	const uint32_t *words = message->numbers;
 	switch (message->opcode) {
 	case wl_keyboard_event_keymap:
-		client->keymap = keymap_number(words[0], files[0], words[2]);
+		client->keymap = keymap_number(words[0], client->text, words[2]);
 		if (client->keymap > 0 && client->keymap != seat.keymap)
 			broker_order(keymap, "keymap %u %u %u", words[0], client->keymap, words[2]);
 		seat.keymap = client->keymap > 0 ? client->keymap : seat.keymap;
@@ -219,14 +221,13 @@ bool keyboard_event(struct client *client, const struct message *message, const 
  */
 static bool is_typed_here(uint32_t time, uint32_t key) {
 	bool lately_here = true;
-	uint64_t now = broker_now();
 	for (const struct typed *typed = seat.typed; typed < seat.typed + TYPED_MAX; typed++) {
 		bool here = typed->surface == seat.number;
 		if (typed->surface == 0 || typed->key != key)
 			continue;
 		if (typed->time == time)
 			return here;
-		lately_here &= here || now - typed->moment > TYPED_LATELY;
+		lately_here &= here || gateway.moment - typed->moment > TYPED_LATELY;
 	}
 	return lately_here;
 }

@@ -1,16 +1,15 @@
 /* What a message of a client does: it goes to the broker, where its object lives there, and else to the compositor. */
 #include "gateway.h"
 #include <string.h>
-#include <unistd.h>
 
 /* What a client sends that is refused goes nowhere. */
-static void forward(struct client *client, struct message *message, const int *files) {
+static void forward(struct client *client, struct message *message, const uint32_t *tokens) {
 	uint32_t object = message->object;
 	if (!client->ending && ids_to_far(client, message))
-		return wire_send(&client->far, message->bytes, message->size, files, message->descriptors);
+		return wire_send(&client->far, message->bytes, message->size, tokens, message->descriptors);
 	client_refuse(client, object, ERROR_METHOD, "an argument names no object of the compositor's");
 	for (unsigned at = 0; at < message->descriptors; at++)
-		close(files[at]);
+		token_drop(tokens[at]);
 }
 
 /* An object is made at the broker, and will be so at another. */
@@ -51,10 +50,10 @@ static void make_at_broker(struct client *client, struct message *message, int m
 }
 
 /* A board's keymap: the board has its number, which is the broker's token. */
-static void board_keymap(struct client *client, const struct message *message, int file) {
-	uint32_t number = keymap_number(message->numbers[0], file, message->numbers[2]);
+static void board_keymap(struct client *client, const struct message *message, uint32_t token) {
+	uint32_t number = keymap_number(message->numbers[0], client->text, message->numbers[2]);
 	object_at(client, message->object)->keymap = number;
-	close(file);
+	token_drop(token);
 	if (number == 0)
 		return client_refuse(client, message->object, ERROR_OBJECT, "the keymap can't be read");
 	broker_receive(client, message, number);
@@ -81,14 +80,14 @@ void request_release(struct client *client, uint32_t board) {
 	}
 }
 
-static void to_broker(struct client *client, struct message *message, const int *files) {
+static void to_broker(struct client *client, struct message *message, const uint32_t *tokens) {
 	struct object *object = object_at(client, message->object);
 	int made = message->signature->new_id;
 	log_message(client, "->", message);
 	if (made >= 0)
 		return make_at_broker(client, message, made);
 	if (message->descriptors > 0)
-		return board_keymap(client, message, files[0]);
+		return board_keymap(client, message, tokens[0]);
 	if (object->made[0] == 0) { /* it lives nowhere, and no request is heard but the one that ends it */
 		if (object->interface == &zwp_input_method_v2_table && !IS(message, zwp_input_method_v2, request, destroy))
 			return;
@@ -123,12 +122,12 @@ static bool make(struct client *client, const struct message *message) {
 	return !client->ending;
 }
 
-void request_play(struct client *client, struct message *message, const int *files) {
+void request_play(struct client *client, struct message *message, const uint32_t *tokens) {
 	if (message->signature->new_id >= 0 && !make(client, message))
-		return forward(client, message, files);
+		return forward(client, message, tokens);
 	struct object *object = object_at(client, message->object);
 	if (object->is_ours)
-		return to_broker(client, message, files);
+		return to_broker(client, message, tokens);
 	if (IS(message, wl_registry, request, bind) && !globals_bind(client, message))
 		return;
 	if (IS(message, wl_display, request, get_registry))
@@ -149,5 +148,5 @@ void request_play(struct client *client, struct message *message, const int *fil
 		object->made[0] = 0;
 		object->is_gone = true;
 	}
-	forward(client, message, files);
+	forward(client, message, tokens);
 }

@@ -16,16 +16,18 @@ gateway/build.sh "$made"
 mkdir -p "$checked"
 cp -r "$made/protocols" "$checked"
 gateway/build.sh "$checked" $sanitize
-for name in fuzz order; do
-	${CC:-cc} $flags $sanitize -I"$checked" -o "$checked/$name" "tests/gateway_$name.c" \
-		$(ls gateway/*.c | grep -v /gateway.c) "$checked/tables.c" out/libwlim/lib/libwlim.a
+core=$(ls gateway/*.c | grep -v -e /gateway.c -e /sockets.c)
+for name in fuzz order shell play; do
+	${CC:-cc} $flags $sanitize -I"$checked" -o "$checked/$name" "tests/gateway_$name.c" $core "$checked/tables.c" \
+		out/libwlim/lib/libwlim.a
 done
-${CC:-cc} $flags $sanitize -I"$checked" -o "$checked/units" tests/gateway_units.c gateway/{ids,keymaps,message,objects,wire}.c \
-	"$checked/tables.c"
+${CC:-cc} $flags $sanitize -I"$checked" -o "$checked/units" tests/gateway_units.c \
+	gateway/{ids,keymaps,message,objects,tokens,wire}.c "$checked/tables.c"
 ${CC:-cc} $flags -O2 -I"$made" -o "$made/speed" tests/gateway_speed.c gateway/message.c "$made/tables.c"
 ${CC:-cc} $flags -o "$checked/entry" tests/embed_entry.c $(pkg-config --cflags --libs gtk4)
-rm -f "$checked"/*.session* "$checked"/*.taken*
+rm -f "$checked"/*.session* "$checked"/*.taken* "$checked"/*.calls*
 "$checked/units"
+"$checked/shell"
 "$checked/order"
 for seed in 1 2 3; do
 	timeout 300 "$checked/fuzz" 200000 $seed

@@ -1,21 +1,13 @@
 /*
- * Random messages of clients and of a compositor, good, bent and cut, through the gateway's parts but its sockets:
+ * Random messages of clients and of a compositor, good, bent and cut, through the gateway's core:
  *
  *     gateway_fuzz [ROUNDS [SEED]]
  *
  * Built with the address sanitizer by tests/gateway.sh. Says how many messages were read and how many clients ended.
  */
 #include "gateway_harness.h"
-#include <errno.h>
-#include <fcntl.h>
-#include <stdio.h>
-#include <stdlib.h>
-#include <string.h>
-#include <sys/mman.h>
-#include <sys/socket.h>
-#include <unistd.h>
 
-enum { CLIENTS = 4, LONGEST = 70000, KEYMAPS = 64 /* as many keep their files */ };
+enum { CLIENTS = 4, LONGEST = 70000 };
 
 static struct place places[CLIENTS];
 
@@ -140,49 +132,6 @@ static size_t write_message(struct client *client, uint32_t id, uint16_t opcode,
 	return at;
 }
 
-static void send_bytes(int socket, const uint8_t *bytes, size_t size, unsigned count)
-{
-	_Alignas(struct cmsghdr) char control[CMSG_SPACE(64 * sizeof(int))] = { 0 };
-	int file = count > 0 ? memfd_create("fuzz", MFD_CLOEXEC) : -1;
-	struct iovec place = { (void *)(uintptr_t)bytes, size };
-	struct msghdr header = { .msg_iov = &place, .msg_iovlen = 1 };
-	if (file >= 0) {
-		if (ftruncate(file, 4) < 0)
-			exit(1);
-		header.msg_control = control;
-		header.msg_controllen = CMSG_SPACE(count * sizeof(int));
-		struct cmsghdr *part = CMSG_FIRSTHDR(&header);
-		*part = (struct cmsghdr){ CMSG_LEN(count * sizeof(int)), SOL_SOCKET, SCM_RIGHTS };
-		for (unsigned at = 0; at < count; at++)
-			memcpy(CMSG_DATA(part) + at * sizeof(int), &file, sizeof file);
-	}
-	if (sendmsg(socket, &header, MSG_NOSIGNAL) < 0 && errno != EAGAIN && errno != EPIPE && errno != EINVAL)
-		perror("sendmsg");
-	if (file >= 0)
-		close(file);
-}
-
-/* Reads away what the gateway sent, with its descriptors. */
-static void read_away(int socket)
-{
-	static uint8_t bytes[65536];
-	_Alignas(struct cmsghdr) char control[CMSG_SPACE(64 * sizeof(int))];
-	for (;;) {
-		struct iovec place = { bytes, sizeof bytes };
-		struct msghdr header = {
-			.msg_iov = &place, .msg_iovlen = 1, .msg_control = control, .msg_controllen = sizeof control,
-		};
-		if (recvmsg(socket, &header, MSG_DONTWAIT | MSG_CMSG_CLOEXEC) <= 0)
-			return;
-		for (struct cmsghdr *part = CMSG_FIRSTHDR(&header); part; part = CMSG_NXTHDR(&header, part))
-			for (size_t at = 0; at < (part->cmsg_len - CMSG_LEN(0)) / sizeof(int); at++) {
-				int file;
-				memcpy(&file, CMSG_DATA(part) + at * sizeof file, sizeof file);
-				close(file);
-			}
-	}
-}
-
 /* One message, from the client or from the compositor. */
 static void play(struct place *place, bool near)
 {
@@ -191,52 +140,46 @@ static void play(struct place *place, bool near)
 	const struct object *object = object_live(place->client, id);
 	const struct interface *interface = object ? object->interface : &wl_display_table;
 	uint32_t rows = interface->counts[near], opcode = rows ? random_below(rows) : 0;
-	unsigned files;
+	unsigned count;
+	uint32_t tokens[60];
 	if (rows == 0 || (!near && interface == &wl_display_table && opcode == 0 && random_below(20)))
 		return;
 	const struct signature *row = &interface->rows[near][opcode];
-	size_t size = write_message(place->client, id, (uint16_t)opcode, row, !near, bytes, &files);
+	size_t size = write_message(place->client, id, (uint16_t)opcode, row, !near, bytes, &count);
 	if (random_below(300) == 0)
-		files = random_below(60);
-	send_bytes(near ? place->near : place->far, bytes, size, files);
-	client_read(place->client, near);
+		count = random_below(60);
+	for (unsigned at = 0; at < count; at++)
+		tokens[at] = make_file(bytes, random_below(10) ? 4 : 4096);
+	if (near) {
+		send_client(place, bytes, size, tokens, count);
+	} else {
+		write_far(place, bytes, size, tokens, count);
+		read_far(place);
+	}
 	messages++;
 }
 
 static void finish(struct place *place, unsigned at)
 {
-	struct client *client = place->client;
-	client->ending |= !wire_flush(&client->far) | !wire_flush(&client->near) | client->near.full | client->far.full;
-	read_away(place->near);
-	read_away(place->far);
-	if (!client->ending && random_below(5000))
+	if (place->link > 0 && random_below(5000))
 		return;
 	close_client(place);
 	ended++;
 	open_client(place, at == 0 ? METHOD : PROGRAM);
 }
 
-/* How many descriptors are open. */
-static unsigned open_files(void)
-{
-	unsigned number = 0;
-	for (int file = 0; file < 4096; file++)
-		number += fcntl(file, F_GETFD) >= 0;
-	return number;
-}
-
 int main(int count, char **words)
 {
 	unsigned long rounds = count > 1 ? strtoul(words[1], NULL, 10) : 200000;
 	state = count > 2 ? strtoull(words[2], NULL, 10) : 1;
-	if (!broker_open())
+	if (!core_open(now, 3000000))
 		return 1;
-	unsigned files = open_files();
 	for (unsigned at = 0; at < CLIENTS; at++)
 		open_client(&places[at], at == 0 ? METHOD : PROGRAM);
 	for (unsigned long round = 0; round < rounds; round++) {
 		unsigned at = random_below(CLIENTS);
 		play(&places[at], random_below(3) > 0);
+		finish_round();
 		for (unsigned each = 0; each < CLIENTS; each++)
 			finish(&places[each], each);
 		if (random_below(20000) == 0 || broker_renewal() == 0)
@@ -244,9 +187,10 @@ int main(int count, char **words)
 	}
 	for (unsigned at = 0; at < CLIENTS; at++)
 		close_client(&places[at]);
-	broker_close();
+	core_close();
+	do_effects();
 	printf("%lu messages, %lu clients ended\n", messages, ended + CLIENTS);
-	if (open_files() > files + KEYMAPS)
-		printf("%u descriptors are left open\n", open_files() - files);
-	return open_files() > files + KEYMAPS;
+	if (tokens_used() > 0)
+		printf("%u descriptors are left open\n", tokens_used());
+	return tokens_used() > 0;
 }

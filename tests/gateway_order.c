@@ -3,8 +3,6 @@
  * focus, ends of clients with keys down, renewals of the broker. Built by tests/gateway.sh. Prints what doesn't hold.
  */
 #include "gateway_harness.h"
-#include <string.h>
-#include <sys/mman.h>
 
 enum { REGISTRY = 2, SEAT, COMPOSITOR, KEYBOARD, SURFACE, FIELDS, FIELD, KEYBOARD_2 }; /* of a program */
 enum { METHODS = COMPOSITOR, BOARDS, BOARD, METHOD_1, GRAB }; /* of a method */
@@ -15,18 +13,12 @@ struct user {
 	struct place place;
 	bool entered; /* its field was told so, and no leave since */
 	size_t size; /* of what it was told last */
-	uint8_t told[65536];
+	uint8_t told[400000];
 };
 
 static int failed;
 
 #define HOLDS(what) (void)((what) || (failed = 1, printf("%s, line %d: %s\n", __FILE__, __LINE__, #what)))
-
-static void put(int socket, const struct message *message)
-{
-	if (write(socket, message->bytes, message->size) != message->size)
-		exit(1);
-}
 
 /* An event of the compositor's with the client's ids in it, which here become those of the compositor. */
 static void put_event(struct user *user, const struct message *event)
@@ -40,14 +32,13 @@ static void put_event(struct user *user, const struct message *event)
 		if (message.signature->kinds[at] == 'o' || IS(&message, wl_display, event, delete_id))
 			message_set(&message, at, far_of(client, message.numbers[at]));
 	message_address(&message, object->far);
-	put(user->place.far, &message);
+	write_far(&user->place, message.bytes, message.size, NULL, 0);
 }
 
 /* A request, which is read; an event, which is read later; and reads those. */
 static void request(struct user *user, const struct message *message)
 {
-	put(user->place.near, message);
-	client_read(user->place.client, true);
+	send_client(&user->place, message->bytes, message->size, NULL, 0);
 }
 
 static void event(struct user *user, uint16_t opcode, uint32_t serial)
@@ -57,7 +48,8 @@ static void event(struct user *user, uint16_t opcode, uint32_t serial)
 
 static void read_events(struct user *user)
 {
-	client_read(user->place.client, false);
+	now++;
+	read_far(&user->place);
 }
 
 static void enter(struct user *user, uint32_t serial)
@@ -103,18 +95,12 @@ static void start_program(struct user *user, bool with_field)
 		make_field(user);
 }
 
-/* A keymap with a number, to an object or of one, as the opcode says. */
-static void send_keymap(int socket, uint32_t id, uint16_t opcode, int number)
+/* A keymap with a number. */
+static uint32_t keymap_file(int number)
 {
-	static struct wire wire;
 	char text[40] = { 0 };
-	const struct message *message = draft(id, opcode, "uu", 1, (uint32_t)sizeof text);
-	int file = memfd_create("keymap", MFD_CLOEXEC);
 	snprintf(text, sizeof text, "xkb_keymap {%d}", number);
-	HOLDS(write(file, text, sizeof text) == sizeof text);
-	wire.socket = socket;
-	wire_send(&wire, message->bytes, message->size, &file, 1);
-	HOLDS(wire_flush(&wire));
+	return make_file(text, sizeof text);
 }
 
 static void make_method(struct user *user)
@@ -125,8 +111,9 @@ static void make_method(struct user *user)
 static void make_board(struct user *user)
 {
 	request(user, draft(BOARDS, zwp_virtual_keyboard_manager_v1_request_create_virtual_keyboard, "uu", SEAT, BOARD));
-	send_keymap(user->place.near, BOARD, zwp_virtual_keyboard_v1_request_keymap, 0);
-	client_read(user->place.client, true);
+	const struct message *message = draft(BOARD, zwp_virtual_keyboard_v1_request_keymap, "uu", 1, 40);
+	uint32_t token = keymap_file(0);
+	send_client(&user->place, message->bytes, message->size, &token, 1);
 }
 
 /* A method, with no object but its managers. */
@@ -172,11 +159,11 @@ static void type(struct user *user, uint32_t serial, uint32_t time, uint32_t key
 static void look(struct user *user)
 {
 	struct message message;
-	HOLDS(!user->place.client->ending && wire_flush(&user->place.client->near));
-	ssize_t came;
-	user->size = 0;
-	while ((came = recv(user->place.near, user->told + user->size, sizeof user->told - user->size, MSG_DONTWAIT)) > 0)
-		user->size += (size_t)came; /* up to the next descriptor */
+	finish_round();
+	HOLDS(user->place.link > 0);
+	user->size = user->place.told.size;
+	memcpy(user->told, user->place.told.bytes, user->size);
+	user->place.told.size = 0;
 	for (size_t at = 0; message_front(user->told + at, user->size - at, &message) == FRONT_WHOLE; at += message.size)
 		if (message.object == FIELD && message.opcode <= zwp_text_input_v3_event_leave)
 			user->entered = message.opcode == zwp_text_input_v3_event_enter;
@@ -225,10 +212,10 @@ static void focus(void)
 	client_end(two.place.client, "a test");
 	for (int at = 0; at < 8; at++) {
 		static uint8_t bytes[WIRE_READ];
-		HOLDS(write(two.place.far, bytes, sizeof bytes) == sizeof bytes);
+		write_far(&two.place, bytes, sizeof bytes, NULL, 0);
 		enter(&one, 5);
 	}
-	HOLDS(two.place.client->far.in_to == 0);
+	HOLDS(two.place.coming.size == 8 * WIRE_READ);
 	close_client(&two.place);
 	close_client(&one.place);
 }
@@ -528,7 +515,9 @@ static void many_keymaps(void)
 	start_board(&first);
 	enter(&one, 131);
 	for (int number = 1; number <= 70; number++) {
-		send_keymap(one.place.far, far_of(one.place.client, KEYBOARD), wl_keyboard_event_keymap, number);
+		const struct message *message = draft(far_of(one.place.client, KEYBOARD), wl_keyboard_event_keymap, "uu", 1, 40);
+		uint32_t token = keymap_file(number);
+		write_far(&one.place, message->bytes, message->size, &token, 1);
 		read_events(&one);
 	}
 	look(&one);
@@ -547,7 +536,7 @@ static void many_keymaps(void)
 
 int main(void)
 {
-	if (!broker_open())
+	if (!core_open(now, 3000000))
 		return 1;
 	focus();
 	destroyed_surface();
@@ -561,7 +550,9 @@ int main(void)
 	keyboards_go();
 	grabs();
 	many_keymaps();
-	broker_close();
+	core_close();
+	do_effects();
+	HOLDS(tokens_used() == 0);
 	printf("focus, ends and renewals in any order: %s\n", failed ? "not as they should be" : "ok");
 	return failed;
 }

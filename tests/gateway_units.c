@@ -1,16 +1,11 @@
 /*
- * The gateway's parts by themselves: messages, objects by ids, descriptors over a socket, keymaps. Built by
- * tests/gateway.sh. Prints what doesn't hold.
+ * The core's parts by themselves: messages, objects by ids, bytes and tokens, keymaps. Built by tests/gateway.sh. Prints
+ * what doesn't hold.
  */
 #include "gateway.h"
 #include "tables.h"
-#include <fcntl.h>
 #include <stdio.h>
 #include <string.h>
-#include <sys/mman.h>
-#include <sys/socket.h>
-#include <sys/stat.h>
-#include <unistd.h>
 
 static int failed;
 
@@ -157,115 +152,138 @@ static void translated(void)
 	HOLDS(message.numbers[0] == DISPLAY);
 }
 
-/* A file whose length is a number. */
-static int numbered_file(int number)
-{
-	int file = memfd_create("number", MFD_CLOEXEC);
-	HOLDS(file >= 0 && ftruncate(file, number) == 0);
-	return file;
-}
-
-/* Messages of some descriptors each come whole, with theirs, however many are sent at once. */
-static void descriptors(void)
+/* Messages of some tokens each come whole, with theirs, however much is written at once; a token is used till then. */
+static void wires(void)
 {
 	static struct wire from, to;
-	int sockets[2], sent = 0, came = 0;
 	struct message message;
-	HOLDS(socketpair(AF_UNIX, SOCK_STREAM | SOCK_NONBLOCK | SOCK_CLOEXEC, 0, sockets) == 0);
-	from.socket = sockets[0];
-	to.socket = sockets[1];
+	struct written next;
+	uint32_t sent = 0, came = 0, id = 1;
 	for (uint32_t at = 0; at < 60; at++) {
-		int files[3], count = at % 4 == 3 ? 0 : (int)at % 4 + 1;
-		for (int file = 0; file < count; file++)
-			files[file] = numbered_file(sent++);
+		uint32_t tokens[3], count = at % 4 == 3 ? 0 : at % 4 + 1;
+		for (uint32_t each = 0; each < count; each++) {
+			tokens[each] = token_make();
+			HOLDS(tokens[each] == ++sent);
+		}
 		const struct message *made = draft(at + 1, (uint16_t)count, "u", at);
-		wire_send(&from, made->bytes, made->size, files, (unsigned)count);
+		wire_send(&from, made->bytes, made->size, tokens, count);
 	}
-	uint32_t next = 1;
-	for (int tries = 0; tries < 100 && next <= 60; tries++) {
-		HOLDS(wire_flush(&from) && wire_read(&to) != READ_FLOOD);
+	while (wire_next(&from, &next)) {
+		uint32_t bytes = next.size > 5 ? 5 : (uint32_t)next.size;
+		HOLDS(next.count <= TOKENS_AT_ONCE);
+		for (unsigned each = 0; each < next.count; each++)
+			token_keep(next.tokens[each]);
+		HOLDS(wire_keep(&to, next.bytes, bytes, next.tokens, next.count));
+		wire_wrote(&from, bytes);
 		while (message_front(to.in + to.in_from, to.in_to - to.in_from, &message) == FRONT_WHOLE) {
-			int files[3];
-			struct stat state;
-			HOLDS(message.object == next++ && wire_take_files(&to, message.opcode, files));
-			for (int file = 0; file < message.opcode; file++) {
-				HOLDS(fstat(files[file], &state) == 0 && state.st_size == came++);
-				close(files[file]);
+			uint32_t tokens[3];
+			HOLDS(message.object == id++ && wire_take_tokens(&to, message.opcode, tokens));
+			for (int each = 0; each < message.opcode; each++) {
+				HOLDS(tokens[each] == ++came);
+				token_drop(tokens[each]);
 			}
 			to.in_from += message.size;
 		}
 	}
-	HOLDS(next == 61 && came == sent && wire_waiting(&from) == 0 && from.parcel_count == 0);
+	HOLDS(id == 61 && came == sent && wire_waiting(&from) == 0 && from.parcel_count == 0);
+	while (token_close() > 0)
+		;
+	HOLDS(tokens_used() == 0 && !wire_take_tokens(&to, 1, &id));
 	wire_close(&from);
-	HOLDS(wire_read(&to) == READ_END);
 	wire_close(&to);
 }
 
-/* Who doesn't read has a bounded queue. */
+/* Who doesn't take what it is sent has a bounded queue, of tokens too; and who sends tokens that no message takes. */
 static void bounds(void)
 {
-	static struct wire from;
+	static struct wire from, files, to;
 	static uint8_t bytes[4096];
-	int sockets[2];
-	HOLDS(socketpair(AF_UNIX, SOCK_STREAM | SOCK_NONBLOCK | SOCK_CLOEXEC, 0, sockets) == 0);
-	from.socket = sockets[0];
-	for (int at = 0; at < 1000; at++) {
+	uint32_t token;
+	for (int at = 0; at < 1000; at++)
 		wire_send(&from, bytes, sizeof bytes, NULL, 0);
-		HOLDS(wire_flush(&from));
-	}
 	HOLDS(from.full && wire_waiting(&from) <= WIRE_FULL);
-	close(sockets[1]);
-	HOLDS(!wire_flush(&from));
-	wire_close(&from);
+	for (int at = 0; at <= WIRE_TOKENS_OUT; at++) {
+		token = token_make();
+		HOLDS(!files.full);
+		wire_send(&files, bytes, 4, &token, 1);
+	}
+	HOLDS(files.full);
+	for (int at = 0; at < WIRE_TOKENS_IN; at++) {
+		token = token_make();
+		HOLDS(wire_keep(&to, bytes, 1, &token, 1));
+	}
+	token = token_make();
+	HOLDS(!wire_keep(&to, bytes, 1, &token, 1));
+	wire_close(&files);
+	wire_close(&to);
+	while (token_close() > 0)
+		;
+	HOLDS(tokens_used() == 0);
+	token = 0;
+	HOLDS(!wire_keep(&from, bytes, 1, &token, 1)); /* one that couldn't be kept */
 }
 
-/* Who takes nothing of what is read has a bounded buffer, and reads on where it took some. */
-static void reads_without_taking(void)
+/* Who takes nothing of what comes has a bounded buffer, and room again where it took some; none while it waits. */
+static void comes_without_taking(void)
 {
 	static struct wire to;
 	static uint8_t bytes[WIRE_READ];
-	int sockets[2];
-	HOLDS(socketpair(AF_UNIX, SOCK_STREAM | SOCK_NONBLOCK | SOCK_CLOEXEC, 0, sockets) == 0);
-	to.socket = sockets[0];
 	for (int at = 0; at < 8; at++) {
-		HOLDS(write(sockets[1], bytes, sizeof bytes) == sizeof bytes);
-		enum reading reading = wire_read(&to);
-		HOLDS(to.in_to <= sizeof to.in && reading == (at < 5 ? READ_SOME : READ_NOTHING));
-		if (to.in_to > sizeof to.in)
-			return;
+		size_t room = wire_room(&to);
+		HOLDS(room == (at < 5 ? WIRE_READ : 0) && wire_keep(&to, bytes, room, NULL, 0));
+		HOLDS(to.in_to <= sizeof to.in);
 	}
 	to.in_from = 100;
-	HOLDS(wire_read(&to) == READ_SOME && to.in_to == sizeof to.in);
-	close(sockets[1]);
-	wire_close(&to);
+	HOLDS(!wire_keep(&to, bytes, 101, NULL, 0) && wire_room(&to) == 100);
+	to.stands = WAITS;
+	HOLDS(wire_room(&to) == 0);
+	to.stands = PLAYS;
+	HOLDS(wire_keep(&to, bytes, 100, NULL, 0) && to.in_to == sizeof to.in);
 }
 
-/* What a keymap held when it came is what others get, whatever the sender does to its file; and they can't change it. */
+/* There are so many tokens, and one that is closed is made again. */
+static void all_tokens(void)
+{
+	uint32_t token = 0, count = 0;
+	while ((token = token_make()) > 0)
+		count++;
+	HOLDS(count == TOKENS_MAX - 1 && tokens_used() == count);
+	token_keep(7);
+	token_drop(7);
+	HOLDS(token_close() == 0);
+	token_drop(7);
+	HOLDS(token_make() == 0 && token_close() == 7 && token_close() == 0 && token_make() == 7);
+	for (token = 1; token < TOKENS_MAX; token++)
+		token_drop(token);
+	while (token_close() > 0)
+		;
+	HOLDS(tokens_used() == 0);
+}
+
+static struct effect asked;
+
+void ask_shell(struct effect effect)
+{
+	asked = effect;
+}
+
+/* The same text has the same number; the shell is asked once for a file of it, from bytes that stay. */
 static void keymaps(void)
 {
-	static const char text[] = "xkb_keymap {}", other[] = "xkb_keymap ()";
-	char found[sizeof text];
-	int file = memfd_create("keymap", MFD_CLOEXEC);
-	HOLDS(write(file, text, sizeof text) == sizeof text);
-	HOLDS(keymap_number(1, file, sizeof text + 1) == 0 && keymap_number(1, file, 0) == 0);
-	uint32_t number = keymap_number(1, file, sizeof text);
-	HOLDS(number > 0 && keymap_find(number)->size == sizeof text && strcmp(keymap_find(number)->text, text) == 0);
-	int given = keymap_file(number);
-	HOLDS(pwrite(given, other, sizeof other, 0) < 0 && ftruncate(given, 0) < 0 && ftruncate(given, 4096) < 0);
-	HOLDS(fcntl(given, F_ADD_SEALS, F_SEAL_WRITE) < 0);
-	HOLDS(mmap(NULL, sizeof text, PROT_READ | PROT_WRITE, MAP_SHARED, given, 0) == MAP_FAILED);
-	HOLDS(pwrite(file, other, sizeof other, 0) == sizeof other && ftruncate(file, 1) == 0);
-	HOLDS(read(given, found, sizeof found) == sizeof found && strcmp(found, text) == 0);
-	for (int flags = MAP_SHARED; flags <= MAP_PRIVATE; flags++) {
-		char *mapped = mmap(NULL, sizeof text, PROT_READ, flags, given, 0);
-		HOLDS(mapped != MAP_FAILED && strcmp(mapped, text) == 0);
-		munmap(mapped, sizeof text);
-	}
-	close(given);
-	close(file);
-	file = memfd_create("keymap", MFD_CLOEXEC);
-	HOLDS(write(file, text, sizeof text) == sizeof text && keymap_number(1, file, sizeof text) == number);
-	close(file);
+	static const uint8_t text[] = "xkb_keymap {}", other[] = "xkb_keymap ()";
+	HOLDS(keymap_number(1, NULL, sizeof text) == 0);
+	uint32_t number = keymap_number(1, text, sizeof text), token = asked.token;
+	HOLDS(number > 0 && keymap_find(number)->size == sizeof text && memcmp(keymap_find(number)->text, text, sizeof text) == 0);
+	HOLDS(asked.kind == EFFECT_FILE && token > 0 && asked.size == sizeof text && asked.bytes == keymap_find(number)->text);
+	asked.token = 0;
+	HOLDS(keymap_number(1, text, sizeof text) == number && asked.token == 0 && keymap_token(number) == token);
+	HOLDS(keymap_number(1, other, sizeof other) > number && asked.token > 0 && asked.token != token);
+	HOLDS(keymap_number(2, text, sizeof text) > number && keymap_token(0) == 0 && !keymap_find(0));
+	token_drop(token);
+	keymaps_end();
+	while (token_close() > 0)
+		;
+	HOLDS(tokens_used() == 0);
 }
 
 int main(void)
@@ -277,9 +295,10 @@ int main(void)
 	ids();
 	far_ids();
 	translated();
-	descriptors();
+	wires();
 	bounds();
-	reads_without_taking();
+	comes_without_taking();
+	all_tokens();
 	keymaps();
 	printf("the gateway's parts: %s\n", failed ? "not as they should be" : "ok");
 	return failed;
