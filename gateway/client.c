@@ -19,6 +19,7 @@ struct client *client_open(enum role role) {
 }
 
 void client_close(struct client *client) {
+	popups_client_ends(client);
 	keyboard_leave(client, 0);
 	request_release(client, 0);
 	if (client->peer > 0)
@@ -29,6 +30,8 @@ void client_close(struct client *client) {
 		keyboard_board_ended(client, 0);
 	wire_close(&client->near);
 	wire_close(&client->far);
+	for (uint32_t id = 1; client->held > 0 && id < client->counts[0]; id++)
+		object_free(client, id);
 	free(client);
 }
 
@@ -61,9 +64,10 @@ static const char *read_message(struct client *client, bool request, struct mess
 /* Whether the client is told that an id is free: not of one that it doesn't know. */
 static bool end_id(struct client *client, struct message *message) {
 	uint32_t far = message->numbers[0], id = far < FIRST_SERVER_ID && far != DISPLAY ? near_of(client, far) : 0;
+	if (id > 0 || private_of(client, far))
+		far_end(client, far);
 	if (id == 0)
 		return false;
-	far_end(client, far);
 	object_free(client, id);
 	message_set(message, 0, id);
 	return true;
@@ -79,12 +83,14 @@ static void event_play(struct client *client, struct message *message, const uin
 		client_refuse(client, DISPLAY, ERROR_COMPOSITOR, "the compositor's new id is none");
 	if (object->interface == &wl_keyboard_table && object->of_seat)
 		given = keyboard_event(client, message);
+	else if (object->interface == &xdg_popup_table)
+		surface_event(client, object_at(client, message->object), message);
 	else if (IS(message, wl_seat, event, capabilities) && object->of_seat && !(message->numbers[0] & CAPABILITY_KEYBOARD))
 		keyboard_leave(client, 0); /* its keyboards are told nothing more */
 	else if (IS(message, wl_registry, event, global))
 		given = globals_add(client, message);
 	else if (IS(message, wl_registry, event, global_remove))
-		gateway.seat = message->numbers[0] == gateway.seat ? 0 : gateway.seat;
+		globals_remove(client, message->numbers[0]);
 	else if (IS(message, wl_display, event, delete_id))
 		given = end_id(client, message);
 	else if (IS(message, wl_display, event, error))
@@ -113,28 +119,50 @@ static bool asks(struct client *client, enum side side, const struct message *me
 	return true;
 }
 
+static const char *const no_descriptor = "a descriptor is missing", *const no_object = "an argument names no object";
+
+static void play_request(struct client *client, struct message *message, const char *why) {
+	enum error code = object_live(client, message->object) ? ERROR_METHOD : ERROR_OBJECT;
+	uint32_t tokens[ARGUMENTS_MAX];
+	if (!why && !wire_take_tokens(&client->near, message->descriptors, tokens))
+		why = no_descriptor;
+	if (why)
+		client_refuse(client, message->object, code, why);
+	else
+		request_play(client, message, tokens);
+}
+
+static void play_event(struct client *client, struct message *message, const char *why) {
+	uint32_t tokens[ARGUMENTS_MAX];
+	message_address(message, message->object);
+	enum named named = why ? NAMED_OBJECTS : ids_to_near(client, message);
+	if (named == NAMED_NOTHING)
+		why = no_object;
+	else if (!why && !wire_take_tokens(&client->far, message->descriptors, tokens))
+		why = no_descriptor;
+	if (why)
+		return client_refuse(client, DISPLAY, ERROR_COMPOSITOR, why);
+	if (client->own_pointer == 0 && client->own_touch == 0 && named == NAMED_OBJECTS)
+		return event_play(client, message, tokens);
+	if (!popups_hide(object_at(client, message->object), message, named == NAMED_PRIVATE))
+		return event_play(client, message, tokens);
+	for (unsigned at = 0; at < message->descriptors; at++)
+		token_drop(tokens[at]);
+}
+
 /* False: the message waits. */
 static bool play(struct client *client, enum side side, struct message *message) {
 	struct wire *wire = wire_of(client, side);
-	bool near = side == NEAR;
-	enum error code = !near ? ERROR_COMPOSITOR : object_live(client, message->object) ? ERROR_METHOD : ERROR_OBJECT;
-	uint32_t tokens[ARGUMENTS_MAX];
-	if (!near)
+	struct private *private = side == FAR ? private_of(client, message->object) : NULL;
+	if (private)
+		return private_event(client, message->object, private, message), true;
+	if (side == FAR)
 		message->object = near_of(client, message->object);
-	const char *why = read_message(client, near, message);
+	const char *why = read_message(client, side == NEAR, message);
 	if (!why && wire->stands != ANSWERED && asks(client, side, message))
 		return wire->stands = WAITS, false;
 	wire->stands = PLAYS;
-	if (!near)
-		message_address(message, message->object);
-	if (!why && !near && !ids_to_near(client, message))
-		why = "an argument names no object";
-	if (!why && !wire_take_tokens(wire, message->descriptors, tokens))
-		why = "a descriptor is missing";
-	if (why)
-		client_refuse(client, near ? message->object : DISPLAY, code, why);
-	else
-		(near ? request_play : event_play)(client, message, tokens);
+	(side == NEAR ? play_request : play_event)(client, message, why);
 	return true;
 }
 
@@ -152,6 +180,16 @@ void client_play(struct client *client, enum side side) {
 		client_refuse(client, DISPLAY, ERROR_METHOD, "bad size");
 }
 
+/* The serving method is told something: whether it is active, with its done. */
+static void method_told(struct client *client, const struct message *message) {
+	if (IS(message, zwp_input_method_v2, event, activate) || IS(message, zwp_input_method_v2, event, deactivate))
+		client->activating = message->opcode == zwp_input_method_v2_event_activate;
+	else if (IS(message, zwp_input_method_v2, event, done))
+		client->is_active = client->activating;
+	else if (IS(message, zwp_input_method_v2, event, unavailable))
+		client->serves = 0;
+}
+
 /* What happens to the gateway's own objects is nothing to the client; nor is at a renewal what it was told before. */
 static void tell(struct client *client, struct message *message, uint32_t keymap) {
 	struct object *object = object_at(client, message->object), *ended = object_live(client, message->numbers[0]);
@@ -167,8 +205,8 @@ static void tell(struct client *client, struct message *message, uint32_t keymap
 		return;
 	log_message(client, "<-", message);
 	object->count += IS(message, zwp_input_method_v2, event, done);
-	if (message->object == client->serves && IS(message, zwp_input_method_v2, event, unavailable))
-		client->serves = 0;
+	if (message->object == client->serves && object->interface == &zwp_input_method_v2_table)
+		method_told(client, message);
 	uint32_t token = message->descriptors > 0 ? keymap_token(keymap) : 0;
 	wire_send(&client->near, message->bytes, message->size, &token, message->descriptors);
 }

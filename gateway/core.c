@@ -63,6 +63,8 @@ bool core_open(uint64_t moment, unsigned long entries) {
 void core_close(void) {
 	CALLED("close");
 	keymaps_end();
+	token_drop(gateway.clear);
+	gateway.clear = 0;
 	broker_close();
 }
 
@@ -139,6 +141,7 @@ void core_text(uint64_t moment, unsigned link, enum side side, const uint8_t *by
 void core_copied(uint64_t moment, uint32_t token, bool is_whole, bool is_short) {
 	at(moment, 0);
 	CALLED("%" PRIu64 " copied %u %d %d", gateway.moment, token, is_whole, is_short);
+	popups_copied(token, is_whole, is_short);
 }
 
 void core_round(uint64_t moment) {
@@ -146,6 +149,7 @@ void core_round(uint64_t moment) {
 	CALLED("%" PRIu64 " round", gateway.moment);
 	if (broker_renewal() == 0)
 		renew();
+	popups_round();
 }
 
 bool core_sweep(uint64_t moment) {
@@ -178,7 +182,8 @@ void core_end(void) {
 
 int core_wait(uint64_t moment) {
 	at(moment, 0);
-	return broker_renewal();
+	int renewal = broker_renewal(), popups = popups_wait();
+	return renewal < 0 || (popups >= 0 && popups < renewal) ? popups : renewal;
 }
 
 const char *core_failed(void) {

@@ -63,7 +63,7 @@ struct effect {
  * EFFECT_READ:  read once what the compositor has for the client whose link is `from`, tell it and do what comes of that;
  *               then core_go_on with `link` and `side`;
  * EFFECT_TEXT:  core_text with `link` and `side`, and the first `size` bytes of `from`;
- * EFFECT_FILE:  `token` is a file of `size` bytes, as they are at `bytes` now, that nobody can change;
+ * EFFECT_FILE:  `token` is a file of `size` bytes, as they are at `bytes` now, that nobody can change; NULL: of zeros;
  * EFFECT_COPY:  `token` is a file of `size` bytes that `from` has from `offset` on, which nobody can cut off: then core_copied;
  * EFFECT_CLOSE: `token` is nothing any more;
  * EFFECT_END:   close both sides of `link`.

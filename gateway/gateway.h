@@ -2,11 +2,47 @@
 #pragma once
 #include "core.h"
 #include "tables.h"
+#include "popup_want.h"
 #include "wire.h"
 #include <wlim.h>
 
-enum { DISPLAY = 1, OBJECTS_MAX = 65536 /* ids of each side */, DOWN_MAX = 64 };
+enum {
+	DISPLAY = 1, OBJECTS_MAX = 65536 /* ids of each side */, DOWN_MAX = 64, LISTED_MAX = 16,
+	PRIVATES_MAX = 512, PRIVATES_KEPT = 64 /* of each client's ids so many stay for the gateway's own objects */,
+};
+/* Globals of which the gateway has objects of its own in a program's connection, in the order of binding. */
+enum { OWN_COMPOSITOR, OWN_MEMORY, OWN_SUBSURFACES, OWN_SHELL, OWN_VIEWS, OWN_SEAT, OWNS };
 #define FIRST_SERVER_ID 0xff000000u /* ids from here on are the compositor's, and the same at the client */
+
+/* What is known of an object besides, by what it is. */
+union known {
+	struct surface { /* a program's wl_surface (surfaces.c) */
+		uint32_t role; /* its xdg_surface or layer surface */
+		bool attaches, attached; /* its next commit brings a buffer, or none; what it is to have then */
+		bool is_mapped; /* it has a buffer and a role */
+		bool pends; /* its next commit brings something */
+	} surface;
+	struct part { /* what is made of a surface, and of that */
+		uint32_t under, parent; /* the surface; an xdg_popup's parent, an xdg_surface */
+		uint32_t below; /* an xdg_popup: the one that grabbed before it */
+		uint32_t made; /* an xdg_surface: its xdg_toplevel or xdg_popup */
+		bool is_popup; /* that is an xdg_popup */
+		struct box box; /* an xdg_surface: its geometry; an xdg_popup: where it is on its parent's */
+	} role;
+	struct field { /* a text input: what its next commit brings */
+		bool enables, has_cursor;
+		struct box cursor;
+	} field;
+	struct pixels { /* a method's pool or buffer in a file, or 0 */
+		uint32_t token, format;
+		int32_t size, offset, width, height, stride;
+	} pixels;
+	struct view { uint32_t popup; } view; /* a method's wp_viewport of a surface */
+	struct hidden { /* a pointer, touch and the like: what its client isn't told, being about a popup */
+		bool is_inside, conceals, passes; /* it is on one; of this frame something is hidden, something is not */
+		uint32_t points; /* of touch, that began on one */
+	} hidden;
+};
 
 struct object {
 	const struct interface *interface; /* NULL: the id names nothing */
@@ -15,12 +51,18 @@ struct object {
 	uint32_t made[4]; /* the message by which it was made at the broker; all 0: it isn't there */
 	uint32_t count, base; /* commits of a field or dones of a method, and as many of them at an earlier broker */
 	uint32_t keymap; /* of a board: the number of its keymap */
-	bool is_ours; /* it lives at the broker, a manager nowhere */
+	uint32_t version, global; /* a bound one's name */
+	union known known;
+	bool is_ours; /* it lives at the broker or the gateway, a manager nowhere */
 	bool of_seat; /* a wl_seat or a wl_keyboard of the one seat that the broker has */
+	bool is_input; /* a pointer and the like that was on a popup */
+	bool is_of_surface; /* made of a surface that it knows, and asked things of its next commit */
 	bool is_fresh; /* a wl_keyboard of that seat that was told an enter, and no modifiers of it yet */
 	bool is_gone; /* a surface that its client destroyed, whose id the compositor hasn't freed yet */
 	bool never_stands; /* a grab that was made beside one that stood, or of a method that doesn't serve */
 };
+
+struct popup;
 
 struct client {
 	struct client *next;
@@ -37,8 +79,24 @@ struct client {
 	const uint8_t *text; /* what the message that is played asked for */
 	uint32_t counts[2]; /* of ids that ever named something: the client's, and the compositor's */
 	struct object objects[2][OBJECTS_MAX];
+	bool activating, is_active; /* its serving method was told so, and a done with it */
+	unsigned held; /* its pools and buffers whose files are kept */
+	uint32_t field; /* its text input that is enabled; 0 none */
+	bool has_cursor;
+	struct box cursor; /* of that */
+	uint32_t top; /* its xdg_popup that grabbed last, and lives */
+	bool is_wlroots; /* the compositor is of wlroots: it may end who has an xdg_popup, when the focus goes */
+	struct listed { uint32_t ids[LISTED_MAX]; unsigned count; } pointers, touches; /* a method's */
+	struct own { uint32_t name, version, id; } owns[OWNS]; /* globals, and the gateway's objects of them at the compositor */
+	uint32_t own_pointer, own_touch;
+	unsigned private_count;
+	struct private { /* an object of the gateway's at the compositor */
+		const struct interface *interface; /* NULL: there is none, or nobody hears of it */
+		struct popup *owner; /* NULL: it is the connection's */
+		bool is_used; /* the compositor hasn't freed its id */
+	} privates[PRIVATES_MAX];
 	uint32_t far_count, far_free; /* ids that were ever used at the compositor; the first that can be used again, or 0 */
-	uint32_t nears[OBJECTS_MAX]; /* of each of them the client's id, or FREE and the next that can be used again */
+	uint32_t nears[OBJECTS_MAX]; /* of each of them the client's id, PRIVATE and a place in privates, or FREE and the next that can be used again */
 };
 
 extern struct gateway {
@@ -46,13 +104,14 @@ extern struct gateway {
 	unsigned long entries; /* after so many of them the broker is renewed */
 	bool renews; /* what is told now was told before */
 	const char *failed; /* not NULL: why it can't go on */
+	uint32_t clear; /* the token of zeros, for popups that go; 0: there is none yet */
 	struct client *clients;
 	uint32_t seat; /* the name of the wl_seat global whose keyboard is the broker's; 0 none yet */
 } gateway;
 
 /* A line of the log: who told what to whom; one that says what is shown (log.c). */
 void log_message(struct client *client, const char *way, const struct message *message);
-void log_note(const struct client *client, const char *what, const int32_t box[4]);
+void log_note(const struct client *client, const char *what, const struct box *box);
 /* The shell is asked (core.c). */
 void ask_shell(struct effect effect);
 
@@ -66,6 +125,7 @@ void object_free(struct client *client, uint32_t id);
 
 /* ---- Ids: an object of the client's has one of its own, and another at the compositor (ids.c) ---- */
 #define FREE 0x80000000u /* with an id of `nears`: it names nothing */
+#define PRIVATE 0x40000000u /* with a place: it names an object of the gateway's own */
 /* An id at the compositor, which has to hear of it before the next is made: it takes no gaps. 0: there is none. */
 uint32_t far_make(struct client *client, uint32_t id);
 /* It can be used again: the compositor said so. */
@@ -75,8 +135,15 @@ uint32_t far_of(struct client *client, uint32_t id);
 uint32_t near_of(const struct client *client, uint32_t far);
 /* Gives a request the compositor's ids, its new one too. False: an argument names nothing there, or there is no id. */
 bool ids_to_far(struct client *client, struct message *message);
-/* Gives an event the client's ids. False: it names no object. */
-bool ids_to_near(const struct client *client, struct message *message);
+/* Gives an event the client's ids. Whether it names an object of the gateway's own, which is 0 then; or nothing. */
+enum named { NAMED_OBJECTS, NAMED_PRIVATE, NAMED_NOTHING };
+enum named ids_to_near(struct client *client, struct message *message);
+/* A new id of the gateway's own at the compositor; there has to be one (ids_left). What has the id, or NULL. Nobody hears
+ * of it any more. */
+bool ids_left(const struct client *client);
+uint32_t private_make(struct client *client, const struct interface *interface, struct popup *owner);
+struct private *private_of(struct client *client, uint32_t far);
+void private_forget(struct client *client, uint32_t far);
 
 /* ---- Clients (client.c; requests.c plays their messages) ---- */
 /* A new client, before the others, or NULL: there is no memory. One that isn't in the list any more is closed and freed. */
@@ -111,6 +178,7 @@ const struct offer *offer_of(const struct interface *manager);
 /* A registry is told what is offered. The compositor tells a global, a client binds one: whether that goes on. */
 void globals_offer(struct client *client, uint32_t registry);
 bool globals_add(struct client *client, struct message *message);
+void globals_remove(struct client *client, uint32_t name);
 bool globals_bind(struct client *client, const struct message *message);
 
 /* ---- The broker: libwlim's family of bytes, and the session's record (broker.c, renew.c) ---- */
@@ -147,6 +215,40 @@ void keyboard_method_ended(const struct client *client);
 void keyboard_client_joined(const struct client *client);
 void keyboard_leave_broker(void);
 void keyboard_join_broker(void);
+
+/* Who has the focus, and on which surface; NULL: nobody. */
+struct client *keyboard_focus(uint32_t *surface);
+/* A surface isn't shown any more, which the compositor may not say; it is again, and the compositor never said else. */
+void keyboard_unmapped(const struct client *client, uint32_t surface);
+void keyboard_mapped(struct client *client, uint32_t surface);
+
+/* ---- What programs' surfaces are (surfaces.c) ---- */
+/* A program's request, before the compositor hears of it. And an event of one of its xdg_popups. */
+void surface_request(struct client *client, struct object *object, const struct message *message);
+void surface_event(struct client *client, struct object *object, const struct message *message);
+/* The gateway has its own commit of a mapped surface: where its client has nothing pending. */
+bool surface_commits(struct client *client, uint32_t surface);
+/* A text input's request. */
+void field_request(struct client *client, struct object *object, const struct message *message);
+
+/* ---- Popups of methods (popups.c, popup_show.c, popup_input.c) ---- */
+void popups_round(void);
+int popups_wait(void); /* milliseconds; -1: nothing is due */
+void popups_copied(uint32_t token, bool is_whole, bool is_short);
+/* A method's popup is made on its surface; it ends. A request of a method's: whether the compositor hears of it. */
+void popup_make(struct client *client, uint32_t id, uint32_t surface);
+void popup_destroy(struct client *client, uint32_t id);
+bool popup_request(struct client *client, struct object *object, const struct message *message, const uint32_t *tokens);
+void popup_object_ends(struct client *client, struct object *object);
+/* A program's surface or its role goes: so does what the gateway has on it. It was committed. A client ends. */
+void popups_leave(const struct client *program, uint32_t surface);
+void popups_committed(const struct client *program, uint32_t surface);
+void popups_client_ends(struct client *client);
+/* A global of the compositor's. An event of an object of the gateway's own. Whether a client isn't told an event. */
+void popups_global(struct client *client, uint32_t name, const char *interface, uint32_t version);
+void popups_global_gone(struct client *client, uint32_t name);
+void private_event(struct client *program, uint32_t far, struct private *private, struct message *message);
+bool popups_hide(struct object *object, const struct message *message, bool names_private);
 
 /* ---- Keymaps: the same text has the same number, which is its token at the broker (keymaps.c) ---- */
 enum { KEYMAP_MAX = 1048576 /* bytes */ };

@@ -2,6 +2,8 @@
 #include "gateway.h"
 #include <string.h>
 
+enum { SEAT_MAX = 9 /* from version 10 on a key may be repeated by the compositor, which the broker doesn't know */ };
+
 #define OFFERED 0xffff0000u /* and the broker's name for it: so what is offered is named to clients */
 
 const struct offer offers[] = {
@@ -36,11 +38,18 @@ void globals_offer(struct client *client, uint32_t registry) {
 bool globals_add(struct client *client, struct message *message) {
 	uint32_t name = message->numbers[0];
 	const struct interface *interface = interface_named(message->texts[1]);
+	popups_global(client, name, message->texts[1], message->numbers[2]);
 	if (interface == &wl_seat_table && (gateway.seat == 0 || name < gateway.seat))
 		gateway.seat = name;
-	if (interface && message->numbers[2] > interface->version)
-		memcpy(message->bytes + message->size - 4, &interface->version, 4);
+	uint32_t most = interface == &wl_seat_table && interface->version > SEAT_MAX ? SEAT_MAX : interface ? interface->version : 0;
+	if (interface && message->numbers[2] > most)
+		memcpy(message->bytes + message->size - 4, &most, 4);
 	return interface && !is_hidden(client, interface);
+}
+
+void globals_remove(struct client *client, uint32_t name) {
+	popups_global_gone(client, name);
+	gateway.seat = name == gateway.seat ? 0 : gateway.seat;
 }
 
 bool globals_bind(struct client *client, const struct message *message) {

@@ -12,6 +12,8 @@ static struct {
 	struct client *focus; /* NULL: nobody has it */
 	uint32_t surface, serial, time; /* the focused surface; the last serial that its client was told; of the last key */
 	uint64_t number; /* the focused surface's, whose id may be used again */
+	bool is_unmapped; /* it isn't shown: nobody has the focus, but the compositor never said so to `last` */
+	const struct client *last;
 	uint32_t entered, key_serial; /* of the last enter; of the last key, which each of the client's keyboards is told */
 	bool key_given, fresh; /* the client got that key; it got the focus and no modifiers yet */
 	bool has_modifiers, repeats; /* what follows was told */
@@ -101,6 +103,7 @@ static void on_enter(struct client *client, uint32_t serial, uint32_t surface) {
 		return; /* another keyboard of the client, or the focus went on since */
 	release_all();
 	memset(seat.given, 0, sizeof seat.given);
+	seat.is_unmapped = false;
 	seat.focus = object && !object->is_gone ? client : NULL; /* a destroyed one's id is another's soon */
 	seat.surface = surface;
 	seat.number = object ? object->number : 0;
@@ -110,10 +113,33 @@ static void on_enter(struct client *client, uint32_t serial, uint32_t surface) {
 }
 
 void keyboard_leave(const struct client *client, uint32_t surface) {
+	if (seat.last == client && (surface == 0 || seat.surface == surface))
+		seat.is_unmapped = false;
 	if (seat.focus != client || (surface > 0 && seat.surface != surface))
 		return;
 	release_all();
 	seat.focus = NULL;
+	tell_focus();
+}
+
+struct client *keyboard_focus(uint32_t *surface) {
+	*surface = seat.surface;
+	return seat.focus;
+}
+
+void keyboard_unmapped(const struct client *client, uint32_t surface) {
+	if (seat.focus != client || seat.surface != surface)
+		return;
+	keyboard_leave(client, surface);
+	seat.is_unmapped = true;
+	seat.last = client;
+}
+
+void keyboard_mapped(struct client *client, uint32_t surface) {
+	if (!seat.is_unmapped || seat.last != client || seat.surface != surface || seat.number != object_at(client, surface)->number)
+		return;
+	seat.is_unmapped = false;
+	seat.focus = client;
 	tell_focus();
 }
 

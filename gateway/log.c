@@ -18,8 +18,8 @@ void log_message(struct client *client, const char *way, const struct message *m
 	out(OUT_LOG, ")\n");
 }
 
-void log_note(const struct client *client, const char *what, const int32_t box[4]) {
+void log_note(const struct client *client, const char *what, const struct box *box) {
 	if (outlets[OUT_LOG])
-		out(OUT_LOG, "%.6f %u %s (%d, %d, %d, %d)\n", (double)gateway.moment / 1e6, client->number, what, box[0], box[1],
-			box[2], box[3]);
+		out(OUT_LOG, "%.6f %u %s (%d, %d, %d, %d)\n", (double)gateway.moment / 1e6, client->number, what, box->x, box->y,
+			box->width, box->height);
 }

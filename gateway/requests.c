@@ -2,14 +2,18 @@
 #include "gateway.h"
 #include <string.h>
 
+static void drop(const struct message *message, const uint32_t *tokens) {
+	for (unsigned at = 0; at < message->descriptors; at++)
+		token_drop(tokens[at]);
+}
+
 /* What a client sends that is refused goes nowhere. */
 static void forward(struct client *client, struct message *message, const uint32_t *tokens) {
 	uint32_t object = message->object;
 	if (!client->ending && ids_to_far(client, message))
 		return wire_send(&client->far, message->bytes, message->size, tokens, message->descriptors);
 	client_refuse(client, object, ERROR_METHOD, "an argument names no object of the compositor's");
-	for (unsigned at = 0; at < message->descriptors; at++)
-		token_drop(tokens[at]);
+	drop(message, tokens);
 }
 
 /* An object is made at the broker, and will be so at another. */
@@ -38,7 +42,7 @@ static void make_at_broker(struct client *client, struct message *message, int m
 	if (!offer && maker->made[0] == 0)
 		return; /* of a method that lives nowhere, and so does it */
 	if (interface == &zwp_input_method_v2_table && client->serves == 0)
-		client->serves = id;
+		client->serves = id, client->is_active = client->activating = false;
 	if (interface == &zwp_input_popup_surface_v2_table && !request_mirror(client, message->numbers[1]))
 		return client_refuse(client, message->object, ERROR_OBJECT, "wrong object");
 	if (interface == &zwp_input_method_keyboard_grab_v2_table)
@@ -47,6 +51,8 @@ static void make_at_broker(struct client *client, struct message *message, int m
 	if (offer)
 		message_set(message, 1 - (unsigned)made, OWN + GLOBAL_SEAT);
 	make_there(client, object, message);
+	if (interface == &zwp_input_popup_surface_v2_table)
+		popup_make(client, id, message->numbers[1]);
 }
 
 /* A board's keymap: the board has its number, which is the broker's token. */
@@ -84,6 +90,10 @@ static void to_broker(struct client *client, struct message *message, const uint
 	struct object *object = object_at(client, message->object);
 	int made = message->signature->new_id;
 	log_message(client, "->", message);
+	if (object->interface == &zwp_text_input_v3_table)
+		field_request(client, object, message);
+	else if (IS(message, zwp_input_popup_surface_v2, request, destroy))
+		popup_destroy(client, message->object);
 	if (made >= 0)
 		return make_at_broker(client, message, made);
 	if (message->descriptors > 0)
@@ -119,7 +129,12 @@ static bool make(struct client *client, const struct message *message) {
 		client_refuse(client, message->object, ERROR_OBJECT, "no such global");
 	else if (!object_make(client, message->numbers[new_id], made, false))
 		client_refuse(client, DISPLAY, ERROR_OBJECT, "bad new id");
-	return !client->ending;
+	if (client->ending)
+		return false;
+	struct object *object = object_at(client, message->numbers[new_id]);
+	object->version = names_it ? message->numbers[2] : object_at(client, message->object)->version;
+	object->global = names_it ? message->numbers[0] : 0;
+	return true;
 }
 
 void request_play(struct client *client, struct message *message, const uint32_t *tokens) {
@@ -148,5 +163,9 @@ void request_play(struct client *client, struct message *message, const uint32_t
 		object->made[0] = 0;
 		object->is_gone = true;
 	}
+	if (client->role == PROGRAM)
+		surface_request(client, object, message);
+	else if (!popup_request(client, object, message, tokens))
+		return drop(message, tokens);
 	forward(client, message, tokens);
 }

@@ -126,7 +126,7 @@ static int sealed_file(const uint8_t *bytes, int from, uint32_t offset, uint32_t
 		? mmap(NULL, size, PROT_READ | PROT_WRITE, MAP_SHARED, file, 0) : MAP_FAILED;
 	if (place != MAP_FAILED && bytes)
 		memcpy(place, bytes, size);
-	else if (place != MAP_FAILED)
+	else if (place != MAP_FAILED && from > 0)
 		*is_short = pread(from, place, size, offset) != (ssize_t)size;
 	if (place != MAP_FAILED && munmap(place, size) == 0 && fcntl(file, F_ADD_SEALS, SEALS | (bytes ? F_SEAL_FUTURE_WRITE : 0)) == 0)
 		return file;
@@ -157,7 +157,8 @@ void perform(void) {
 			break;
 		case EFFECT_FILE:
 		case EFFECT_COPY:
-			files[effect.token] = sealed_file(effect.bytes, files[effect.from], effect.offset, effect.size, &is_short);
+			files[effect.token] = sealed_file(effect.bytes, effect.from > 0 ? files[effect.from] : -1, effect.offset,
+				effect.size, &is_short);
 			if (effect.kind == EFFECT_COPY)
 				core_copied(moment(), effect.token, files[effect.token] > 0 && !is_short, is_short);
 			break;

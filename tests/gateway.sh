@@ -22,7 +22,7 @@ for name in fuzz order shell play; do
 		out/libwlim/lib/libwlim.a
 done
 ${CC:-cc} $flags $sanitize -I"$checked" -o "$checked/units" tests/gateway_units.c \
-	gateway/{ids,keymaps,message,objects,tokens,wire}.c "$checked/tables.c"
+	gateway/{ids,keymaps,message,objects,popup_want,tokens,wire}.c "$checked/tables.c"
 ${CC:-cc} $flags -O2 -I"$made" -o "$made/speed" tests/gateway_speed.c gateway/message.c "$made/tables.c"
 ${CC:-cc} $flags -o "$checked/entry" tests/embed_entry.c $(pkg-config --cflags --libs gtk4)
 rm -f "$checked"/*.session* "$checked"/*.taken* "$checked"/*.calls*

@@ -144,12 +144,92 @@ static void translated(void)
 	HOLDS(reads(WORDS(2, HEAD(20, 0), 0, 3, 5), "Oou", &message) && ids_to_far(&client, &message));
 	HOLDS(memcmp(message.bytes, WORDS(2, HEAD(20, 0), 0, 4, 5), 20) == 0);
 	HOLDS(reads(WORDS(2, HEAD(12, 0), 9), "o", &message) && !ids_to_far(&client, &message));
-	HOLDS(reads(WORDS(2, HEAD(16, 0), 4, 4), "uO", &message) && ids_to_near(&client, &message));
+	HOLDS(reads(WORDS(2, HEAD(16, 0), 4, 4), "uO", &message) && ids_to_near(&client, &message) == NAMED_OBJECTS);
 	HOLDS(memcmp(message.bytes, WORDS(2, HEAD(16, 0), 4, 3), 16) == 0);
-	HOLDS(reads(WORDS(2, HEAD(12, 0), 5), "o", &message) && !ids_to_near(&client, &message));
+	HOLDS(reads(WORDS(2, HEAD(12, 0), 5), "o", &message) && ids_to_near(&client, &message) == NAMED_NOTHING);
 	HOLDS(message_front(WORDS(1, HEAD(24, 0), 5, 0, 1, 0), 24, &message) == FRONT_WHOLE);
-	HOLDS(message_read(&message, &wl_display_events[wl_display_event_error]) && ids_to_near(&client, &message));
-	HOLDS(message.numbers[0] == DISPLAY);
+	HOLDS(message_read(&message, &wl_display_events[wl_display_event_error]));
+	HOLDS(ids_to_near(&client, &message) == NAMED_OBJECTS && message.numbers[0] == DISPLAY);
+}
+
+/* Ids of the gateway's own: an event that names one says so, nothing of the client's does; they are used again. */
+static void private_ids(void)
+{
+	static struct client client = { .counts = { 1, 0 }, .far_count = 1 };
+	struct message message;
+	HOLDS(object_make(&client, DISPLAY, &wl_display_table, false) && far_make(&client, DISPLAY) == 1 && ids_left(&client));
+	uint32_t one = private_make(&client, &wl_surface_table, NULL), two = private_make(&client, &wl_callback_table, NULL);
+	HOLDS(one == 2 && two == 3 && near_of(&client, one) == 0 && private_of(&client, one)->interface == &wl_surface_table);
+	HOLDS(!private_of(&client, 1) && !private_of(&client, 4) && !private_of(&client, 0xff000000));
+	HOLDS(reads(WORDS(1, HEAD(16, 0), 2, 1), "oo", &message) && ids_to_near(&client, &message) == NAMED_PRIVATE);
+	HOLDS(message.numbers[0] == 0);
+	HOLDS(message_front(WORDS(1, HEAD(24, 0), 2, 0, 1, 0), 24, &message) == FRONT_WHOLE);
+	HOLDS(message_read(&message, &wl_display_events[wl_display_event_error]));
+	HOLDS(ids_to_near(&client, &message) == NAMED_OBJECTS && message.numbers[0] == DISPLAY);
+	private_forget(&client, one);
+	HOLDS(!private_of(&client, one)->interface && private_of(&client, one)->is_used);
+	far_end(&client, one);
+	HOLDS(!private_of(&client, one) && far_make(&client, 7) == one && near_of(&client, one) == 7);
+	while (ids_left(&client))
+		private_make(&client, &wl_callback_table, NULL);
+	for (int at = 0; at < PRIVATES_KEPT - 1; at++)
+		HOLDS(private_make(&client, &wl_callback_table, NULL) > 0);
+}
+
+/* What a buffer or a pool holds is let go elsewhere. */
+void popup_object_ends(struct client *client, struct object *object)
+{
+	HOLDS(client && object);
+}
+
+/* Where a popup is to be. */
+static void places(void)
+{
+	static const struct place { struct asked asked; struct wanted wanted; const char *what; } table[] = {
+		{ { { 0, 0, 640, 480 }, { 100, 50, 2, 20 }, true, 200, 60, false, false }, { INSIDE, { 100, 70, 200, 60 } },
+			"below the cursor" },
+		{ { { 0, 0, 640, 480 }, { 100, 440, 2, 20 }, true, 200, 60, false, false }, { INSIDE, { 100, 380, 200, 60 } },
+			"above it, at the bottom" },
+		{ { { 0, 0, 640, 480 }, { 600, 50, 2, 20 }, true, 200, 60, false, false }, { INSIDE, { 440, 70, 200, 60 } },
+			"as far right as it fits" },
+		{ { { 20, 30, 640, 480 }, { 0, 0, 2, 20 }, true, 200, 60, false, false }, { INSIDE, { 20, 30, 200, 60 } },
+			"in the geometry, not in its shadow" },
+		{ { { 0, 0, 640, 100 }, { 10, 50, 2, 20 }, true, 200, 90, false, false }, { INSIDE, { 10, 10, 200, 90 } },
+			"neither below nor above: as far down as it fits" },
+		{ { { 0, 0, 640, 480 }, { 0, 0, 0, 0 }, false, 200, 60, false, false }, { INSIDE, { 0, 420, 200, 60 } },
+			"nobody said where: at the bottom, at the left" },
+		{ { { 0, 0, 150, 40 }, { 10, 10, 2, 20 }, true, 200, 60, false, false }, { INSIDE, { 0, 0, 200, 60 } },
+			"it doesn't fit: its beginning is seen" },
+		{ { { 0, 0, 150, 40 }, { 10, 10, 2, 20 }, true, 200, 60, true, false }, { INSIDE, { 10, 30, 200, 60 } },
+			"what lies outside is shown too" },
+		{ { { 0, 0, 150, 40 }, { 10, 10, 2, 20 }, true, 200, 60, false, true }, { BESIDE, { 10, 10, 2, 20 } },
+			"an xdg_popup, where it doesn't fit" },
+		{ { { 5, 6, 150, 40 }, { 10, 10, 2, 20 }, true, 200, 60, false, true }, { BESIDE, { 5, 4, 2, 20 } },
+			"the anchor is in the geometry's numbers" },
+		{ { { 0, 0, 150, 40 }, { 400, -7, 0, 0 }, true, 200, 60, false, true }, { BESIDE, { 149, 0, 1, 1 } },
+			"and lies in it" },
+		{ { { 0, 0, 150, 40 }, { 100, 30, 900, 900 }, true, 200, 60, false, true }, { BESIDE, { 100, 30, 50, 10 } },
+			"as a whole" },
+		{ { { 0, 0, 640, 480 }, { 100, 50, 2, 20 }, true, 200, 60, false, true }, { INSIDE, { 100, 70, 200, 60 } },
+			"it fits: no xdg_popup" },
+		{ { { 0, 0, 0, 0 }, { 100, 50, 2, 20 }, true, 200, 60, false, false }, { INSIDE, { 100, 70, 200, 60 } },
+			"nobody knows the geometry" },
+		{ { { 0, 0, 0, 0 }, { 100, 50, 0, 0 }, true, 200, 60, false, true }, { BESIDE, { 100, 50, 1, 1 } },
+			"nor here" },
+		{ { { 0, 0, 640, 480 }, { 100, 50, 2, 20 }, true, 0, 60, false, true }, { NOWHERE, { 0, 0, 0, 0 } }, "nothing" },
+		{ { { 0, 0, 640, 480 }, { INT32_MAX, INT32_MIN, INT32_MAX, INT32_MAX }, true, 200, 60, false, false },
+			{ INSIDE, { 440, 0, 200, 60 } }, "no sum overflows" },
+		{ { { INT32_MIN, INT32_MAX, INT32_MAX, INT32_MAX }, { 1, 2, INT32_MIN, 4 }, true, 200, 60, false, true },
+			{ INSIDE, { -200, 1 << 20, 200, 60 } }, "nor here" },
+	};
+	for (size_t at = 0; at < sizeof table / sizeof *table; at++) {
+		struct wanted found = popup_want(&table[at].asked);
+		if (found.way != table[at].wanted.way || memcmp(&found.box, &table[at].wanted.box, sizeof found.box) != 0) {
+			failed = 1;
+			printf("%s: %d (%d, %d, %d, %d)\n", table[at].what, found.way, found.box.x, found.box.y, found.box.width,
+				found.box.height);
+		}
+	}
 }
 
 /* Messages of some tokens each come whole, with theirs, however much is written at once; a token is used till then. */
@@ -295,6 +375,8 @@ int main(void)
 	ids();
 	far_ids();
 	translated();
+	private_ids();
+	places();
 	wires();
 	bounds();
 	comes_without_taking();
