@@ -134,7 +134,7 @@ bool broker_join(struct client *client) {
 	client->peer = (uint32_t)answer;
 	broker_receive(client, draft(DISPLAY, wl_display_request_get_registry, "u", OWN), 0);
 	for (const struct offer *offer = offers; offer->interface; offer++)
-		if (offer->role == ALL || offer->role == client->role)
+		if (offer->global == offer->broker && (offer->role == ALL || offer->role == client->role))
 			broker_receive(client, draft(OWN, wl_registry_request_bind, "usuu", offer->global, offer->interface->name, 1,
 				OWN + offer->global), 0);
 	keyboard_client_joined(client);

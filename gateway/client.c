@@ -56,9 +56,12 @@ static const char *read_message(struct client *client, bool request, struct mess
 	const struct object *object = object_live(client, message->object);
 	if (!object)
 		return "unknown object";
-	if (message->opcode >= object->interface->counts[request])
+	const struct interface *interface = object->interface;
+	if (!request && interface == &zwp_text_input_v2_table)
+		interface = &zwp_text_input_v3_table; /* as the broker has it */
+	if (message->opcode >= interface->counts[request])
 		return "unknown opcode";
-	return message_read(message, &object->interface->rows[request][message->opcode]) ? NULL : "malformed message";
+	return message_read(message, &interface->rows[request][message->opcode]) ? NULL : "malformed message";
 }
 
 /* Whether the client is told that an id is free: not of one that it doesn't know. */
@@ -207,6 +210,8 @@ static void tell(struct client *client, struct message *message, uint32_t keymap
 	object->count += IS(message, zwp_input_method_v2, event, done);
 	if (message->object == client->serves && object->interface == &zwp_input_method_v2_table)
 		method_told(client, message);
+	if (object->interface == &zwp_text_input_v2_table)
+		return older_event(client, message);
 	uint32_t token = message->descriptors > 0 ? keymap_token(keymap) : 0;
 	wire_send(&client->near, message->bytes, message->size, &token, message->descriptors);
 }

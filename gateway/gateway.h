@@ -38,6 +38,7 @@ union known {
 		int32_t size, offset, width, height, stride;
 	} pixels;
 	struct view { uint32_t popup; } view; /* a method's wp_viewport of a surface */
+	struct older *older; /* a text input of version 2 (text_input_v2.c) */
 	struct hidden { /* a pointer, touch and the like: what its client isn't told, being about a popup */
 		bool is_inside, conceals, passes; /* it is on one; of this frame something is hidden, something is not */
 		uint32_t points; /* of touch, that began on one */
@@ -80,7 +81,7 @@ struct client {
 	uint32_t counts[2]; /* of ids that ever named something: the client's, and the compositor's */
 	struct object objects[2][OBJECTS_MAX];
 	bool activating, is_active; /* its serving method was told so, and a done with it */
-	unsigned held; /* its pools and buffers whose files are kept */
+	unsigned held; /* its pools and buffers whose files are kept, and what else is let go with its object */
 	uint32_t field; /* its text input that is enabled; 0 none */
 	bool has_cursor;
 	struct box cursor; /* of that */
@@ -169,10 +170,14 @@ void request_release(struct client *client, uint32_t board);
 
 /* ---- Globals (globals.c) ---- */
 /* The broker's globals by their names there; and the gateway's own objects at each peer, which no client reaches. */
-enum { GLOBAL_COMPOSITOR = 1, GLOBAL_SEAT, GLOBAL_FIELDS, GLOBAL_METHODS, GLOBAL_BOARDS };
+enum { GLOBAL_COMPOSITOR = 1, GLOBAL_SEAT, GLOBAL_FIELDS, GLOBAL_METHODS, GLOBAL_BOARDS, GLOBAL_OLDER };
 enum { OWN = 0x7e000000 /* its registry; and that and a global's name: what was bound of it */ };
 /* What the broker offers to a role, where the gateway alone binds what is ALL's; the last has no interface. */
-extern const struct offer { uint32_t global; enum role role; const struct interface *interface; } offers[];
+extern const struct offer {
+	uint32_t global, broker; /* as clients know it, and the broker */
+	enum role role;
+	const struct interface *interface;
+} offers[];
 /* The offer of a manager, or NULL. */
 const struct offer *offer_of(const struct interface *manager);
 /* A registry is told what is offered. The compositor tells a global, a client binds one: whether that goes on. */
@@ -229,7 +234,13 @@ void surface_event(struct client *client, struct object *object, const struct me
 /* The gateway has its own commit of a mapped surface: where its client has nothing pending. */
 bool surface_commits(struct client *client, uint32_t surface);
 /* A text input's request. */
-void field_request(struct client *client, struct object *object, const struct message *message);
+void field_request(struct client *client, struct field *field, const struct message *message);
+
+/* ---- text-input-v2 (text_input_v2.c) ---- */
+/* A text input is made: false: there is no memory. A request of it; an event of version 3 that it is told. */
+bool older_make(struct client *client, struct object *object);
+void older_request(struct client *client, const struct message *message);
+void older_event(struct client *client, const struct message *message);
 
 /* ---- Popups of methods (popups.c, popup_show.c, popup_input.c) ---- */
 void popups_round(void);

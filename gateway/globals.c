@@ -7,11 +7,12 @@ enum { SEAT_MAX = 9 /* from version 10 on a key may be repeated by the composito
 #define OFFERED 0xffff0000u /* and the broker's name for it: so what is offered is named to clients */
 
 const struct offer offers[] = {
-	{ GLOBAL_COMPOSITOR, ALL, &wl_compositor_table },
-	{ GLOBAL_SEAT, ALL, &wl_seat_table },
-	{ GLOBAL_FIELDS, PROGRAM, &zwp_text_input_manager_v3_table },
-	{ GLOBAL_METHODS, METHOD, &zwp_input_method_manager_v2_table },
-	{ GLOBAL_BOARDS, METHOD, &zwp_virtual_keyboard_manager_v1_table },
+	{ GLOBAL_COMPOSITOR, GLOBAL_COMPOSITOR, ALL, &wl_compositor_table },
+	{ GLOBAL_SEAT, GLOBAL_SEAT, ALL, &wl_seat_table },
+	{ GLOBAL_FIELDS, GLOBAL_FIELDS, PROGRAM, &zwp_text_input_manager_v3_table },
+	{ GLOBAL_METHODS, GLOBAL_METHODS, METHOD, &zwp_input_method_manager_v2_table },
+	{ GLOBAL_BOARDS, GLOBAL_BOARDS, METHOD, &zwp_virtual_keyboard_manager_v1_table },
+	{ GLOBAL_OLDER, GLOBAL_FIELDS, PROGRAM, &zwp_text_input_manager_v2_table },
 	{ 0 },
 };
 

@@ -1,5 +1,6 @@
 /* The popups of methods: what a method asks of their surfaces, which the compositor never hears of. */
 #include "popups.h"
+#include <stdlib.h>
 #include <string.h>
 
 struct popup popups[POPUPS];
@@ -117,10 +118,13 @@ int popups_wait(void) {
 
 void popup_object_ends(struct client *client, struct object *object) {
 	bool is_file = object->interface == &wl_shm_pool_table || object->interface == &wl_buffer_table;
-	if (!is_file || object->known.pixels.token == 0)
-		return;
-	token_drop(object->known.pixels.token);
-	client->held--;
+	if (is_file && object->known.pixels.token > 0) {
+		token_drop(object->known.pixels.token);
+		client->held--;
+	} else if (object->interface == &zwp_text_input_v2_table && object->known.older) {
+		free(object->known.older);
+		client->held--;
+	}
 }
 
 static void keep_file(struct client *client, struct object *object, struct pixels pixels) {

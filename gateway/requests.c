@@ -36,7 +36,7 @@ static void make_at_broker(struct client *client, struct message *message, int m
 	const struct interface *interface = message->signature->made;
 	const struct object *maker = object_at(client, message->object);
 	const struct offer *offer = offer_of(maker->interface);
-	uint32_t id = message->numbers[made], own = offer ? OWN + offer->global : message->object;
+	uint32_t id = message->numbers[made], own = offer ? OWN + offer->broker : message->object;
 	struct object *object = object_at(client, id);
 	object->is_ours = true;
 	if (!offer && maker->made[0] == 0)
@@ -50,6 +50,8 @@ static void make_at_broker(struct client *client, struct message *message, int m
 	memcpy(message->bytes, &own, sizeof own);
 	if (offer)
 		message_set(message, 1 - (unsigned)made, OWN + GLOBAL_SEAT);
+	if (interface == &zwp_text_input_v2_table && !older_make(client, object))
+		return client_refuse(client, message->object, ERROR_MEMORY, "there is no memory");
 	make_there(client, object, message);
 	if (interface == &zwp_input_popup_surface_v2_table)
 		popup_make(client, id, message->numbers[1]);
@@ -90,8 +92,10 @@ static void to_broker(struct client *client, struct message *message, const uint
 	struct object *object = object_at(client, message->object);
 	int made = message->signature->new_id;
 	log_message(client, "->", message);
+	if (object->interface == &zwp_text_input_v2_table && object->made[0] > 0)
+		return older_request(client, message);
 	if (object->interface == &zwp_text_input_v3_table)
-		field_request(client, object, message);
+		field_request(client, &object->known.field, message);
 	else if (IS(message, zwp_input_popup_surface_v2, request, destroy))
 		popup_destroy(client, message->object);
 	if (made >= 0)

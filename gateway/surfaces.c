@@ -126,8 +126,7 @@ bool surface_commits(struct client *client, uint32_t id) {
 	return true;
 }
 
-void field_request(struct client *client, struct object *object, const struct message *message) {
-	struct field *field = &object->known.field;
+void field_request(struct client *client, struct field *field, const struct message *message) {
 	if (IS(message, zwp_text_input_v3, request, enable)) {
 		*field = (struct field){ .enables = true };
 	} else if (IS(message, zwp_text_input_v3, request, disable)) {
