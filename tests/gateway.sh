@@ -17,7 +17,7 @@ mkdir -p "$checked"
 cp -r "$made/protocols" "$checked"
 gateway/build.sh "$checked" $sanitize
 core=$(ls gateway/*.c | grep -v -e /gateway.c -e /sockets.c)
-for name in fuzz order shell play; do
+for name in fuzz order popups shell play; do
 	${CC:-cc} $flags $sanitize -I"$checked" -o "$checked/$name" "tests/gateway_$name.c" $core "$checked/tables.c" \
 		out/libwlim/lib/libwlim.a
 done
@@ -29,9 +29,11 @@ rm -f "$checked"/*.session* "$checked"/*.taken* "$checked"/*.calls*
 "$checked/units"
 "$checked/shell"
 "$checked/order"
+"$checked/popups"
 for seed in 1 2 3; do
 	timeout 300 "$checked/fuzz" 200000 $seed
 done
+timeout 300 "$checked/fuzz" 100000 4 honest
 timeout -k 10 300 tests/gateway_peers.py "$checked"
 timeout -k 10 900 tests/gateway_programs.py "$checked" "$rounds"
 timeout -k 10 600 tests/gateway_replay.py "$program" "$checked"

@@ -1,15 +1,19 @@
 /*
  * Random messages of clients and of a compositor, good, bent and cut, through the gateway's core:
  *
- *     gateway_fuzz [ROUNDS [SEED]]
+ *     gateway_fuzz [ROUNDS [SEED [honest]]]
  *
- * Built with the address sanitizer by tests/gateway.sh. Says how many messages were read and how many clients ended.
+ * Each program begins with a window, and the method with a popup that is shown in the last one's. Where the compositor is
+ * honest, what it is asked is held against its rules for new ids. Built with the address sanitizer by tests/gateway.sh.
+ * Says how many messages were read, how many clients ended, and how often a popup was shown.
  */
-#include "gateway_harness.h"
+#include "gateway_users.h"
 
 enum { CLIENTS = 4, LONGEST = 70000 };
 
-static struct place places[CLIENTS];
+static struct user users[CLIENTS];
+static struct compositor compositors[CLIENTS];
+static bool honest; /* the compositor says no more than what follows from what it was asked */
 
 static uint64_t state;
 static unsigned long messages, ended;
@@ -139,6 +143,8 @@ static void play(struct place *place, bool near)
 	uint32_t id = near ? random_id(place->client) : argument_id(place->client);
 	const struct object *object = object_live(place->client, id);
 	const struct interface *interface = object ? object->interface : &wl_display_table;
+	if (honest && !near)
+		return read_far(place);
 	uint32_t rows = interface->counts[near], opcode = rows ? random_below(rows) : 0;
 	unsigned count;
 	uint32_t tokens[60];
@@ -159,38 +165,102 @@ static void play(struct place *place, bool near)
 	messages++;
 }
 
+/* A program with a window that has the focus and a field; a method with a popup. */
+static void begin(unsigned at)
+{
+	enum { SHELL = KEYBOARD_2 + 1, XDG, TOP, POINTER, MAKER = GRAB + 1, MEMORY, POOL, BUFFER, PIXELS, POPUP, VIEWS, VIEW };
+	static uint32_t serial;
+	static uint8_t bytes[4096];
+	struct user *user = &users[at];
+	compositors[at] = (struct compositor){ 0 };
+	if (at == 0)
+		start_grab(user);
+	else
+		start_program(user, true);
+	if (at % 2 == 0)
+		global(user, 9, "zwlr_screencopy_manager_v1");
+	global(user, 3, "wl_shm");
+	global(user, 4, "xdg_wm_base");
+	global(user, 5, "wl_subcompositor");
+	global(user, 6, "wp_viewporter");
+	if (at == 0) {
+		bind_global(user, 2, "wl_compositor", MAKER);
+		bind_global(user, 3, "wl_shm", MEMORY);
+		const struct message *message = draft(MEMORY, wl_shm_request_create_pool, "uu", POOL, (uint32_t)sizeof bytes);
+		uint32_t token = make_file(bytes, sizeof bytes);
+		send_client(&user->place, message->bytes, message->size, &token, 1);
+		request(user, draft(POOL, wl_shm_pool_request_create_buffer, "uuuuuu", BUFFER, 0, 30, 20, 120, 0));
+		request(user, draft(MAKER, wl_compositor_request_create_surface, "u", PIXELS));
+		request(user, draft(METHOD_1, zwp_input_method_v2_request_get_input_popup_surface, "uu", POPUP, PIXELS));
+		bind_global(user, 6, "wp_viewporter", VIEWS);
+		request(user, draft(VIEWS, wp_viewporter_request_get_viewport, "uu", VIEW, PIXELS));
+		request(user, draft(PIXELS, wl_surface_request_attach, "uuu", BUFFER, 0, 0));
+		request(user, draft(PIXELS, wl_surface_request_commit, ""));
+		return;
+	}
+	request(user, draft(SEAT, wl_seat_request_get_keyboard, "u", KEYBOARD_2));
+	bind_global(user, 4, "xdg_wm_base", SHELL);
+	request(user, draft(SHELL, xdg_wm_base_request_get_xdg_surface, "uu", XDG, SURFACE));
+	request(user, draft(XDG, xdg_surface_request_get_toplevel, "u", TOP));
+	request(user, draft(XDG, xdg_surface_request_set_window_geometry, "uuuu", 0, 0, at == 1 ? 20 : 640, 480));
+	request(user, draft(SEAT, wl_seat_request_get_pointer, "u", POINTER));
+	request(user, draft(SURFACE, wl_surface_request_attach, "uuu", SEAT, 0, 0));
+	request(user, draft(SURFACE, wl_surface_request_commit, ""));
+	enter(user, ++serial);
+	request(user, draft(FIELD, zwp_text_input_v3_request_enable, ""));
+	request(user, draft(FIELD, zwp_text_input_v3_request_commit, ""));
+}
+
 static void finish(struct place *place, unsigned at)
 {
-	if (place->link > 0 && random_below(5000))
+	if (honest && place->link > 0)
+		look_far(&compositors[at], place);
+	HOLDS(!compositors[at].has_gap);
+	if (place->link > 0 && !compositors[at].wrong && random_below(5000))
 		return;
 	close_client(place);
 	ended++;
-	open_client(place, at == 0 ? METHOD : PROGRAM);
+	begin(at);
+}
+
+/* Whether the window of a program that stands a popup is shown in; it has the focus again now and then. */
+static void stir(unsigned long round, unsigned long *shown)
+{
+	unsigned at = 1 + random_below(CLIENTS - 1);
+	for (unsigned each = 1; each < CLIENTS; each++)
+		*shown += users[each].place.link > 0 && users[each].place.client->owns[OWN_COMPOSITOR].id > 0;
+	if (round % 50 == 0 && users[at].place.link > 0)
+		close_client(&users[at].place);
+	if (round % 1000 == 0)
+		close_client(&users[0].place);
 }
 
 int main(int count, char **words)
 {
-	unsigned long rounds = count > 1 ? strtoul(words[1], NULL, 10) : 200000;
+	unsigned long rounds = count > 1 ? strtoul(words[1], NULL, 10) : 200000, shown = 0;
 	state = count > 2 ? strtoull(words[2], NULL, 10) : 1;
+	honest = count > 3;
 	if (!core_open(now, 3000000))
 		return 1;
 	for (unsigned at = 0; at < CLIENTS; at++)
-		open_client(&places[at], at == 0 ? METHOD : PROGRAM);
-	for (unsigned long round = 0; round < rounds; round++) {
+		begin(at);
+	for (unsigned long round = 0; round < rounds && !failed; round++) {
 		unsigned at = random_below(CLIENTS);
-		play(&places[at], random_below(3) > 0);
+		now += random_below(3000);
+		play(&users[at].place, random_below(3) > 0);
+		stir(round, &shown);
 		finish_round();
 		for (unsigned each = 0; each < CLIENTS; each++)
-			finish(&places[each], each);
+			finish(&users[each].place, each);
 		if (random_below(20000) == 0 || broker_renewal() == 0)
 			renew();
 	}
 	for (unsigned at = 0; at < CLIENTS; at++)
-		close_client(&places[at]);
+		close_client(&users[at].place);
 	core_close();
 	do_effects();
-	printf("%lu messages, %lu clients ended\n", messages, ended + CLIENTS);
-	if (tokens_used() > 0)
-		printf("%u descriptors are left open\n", tokens_used());
-	return tokens_used() > 0;
+	printf("%lu messages, %lu clients ended; the gateway had objects in a program for %lu rounds\n", messages, ended + CLIENTS,
+		shown);
+	HOLDS(tokens_used() == 0 && shown > 0);
+	return failed;
 }

@@ -40,7 +40,7 @@ void out_begin(unsigned number)
 }
 
 /* A token of a file with the bytes. */
-static uint32_t make_file(const void *bytes, size_t size)
+static inline uint32_t make_file(const void *bytes, size_t size)
 {
 	uint32_t token = core_token();
 	files[token].bytes = malloc(size + 1);
@@ -49,7 +49,7 @@ static uint32_t make_file(const void *bytes, size_t size)
 	return token;
 }
 
-static struct place *place_of(unsigned link)
+static inline struct place *place_of(unsigned link)
 {
 	for (unsigned at = 0; at < 16; at++)
 		if (open_places[at] && open_places[at]->link == link)
@@ -60,7 +60,7 @@ static struct place *place_of(unsigned link)
 static void do_effects(void);
 
 /* What the compositor wrote to the client comes. */
-static void read_far(struct place *place)
+static inline void read_far(struct place *place)
 {
 	size_t at = 0, room;
 	while (at < place->coming.size && (room = core_room(place->link, FAR)) > 0) {
@@ -75,7 +75,7 @@ static void read_far(struct place *place)
 	memmove(place->coming.bytes, place->coming.bytes + at, place->coming.size);
 }
 
-static void do_effect(const struct effect *effect)
+static inline void do_effect(const struct effect *effect)
 {
 	bool has = effect->from > 0 && effect->kind != EFFECT_READ && files[effect->from].size >= (size_t)effect->offset + effect->size;
 	const uint8_t *bytes = effect->bytes;
@@ -101,14 +101,14 @@ static void do_effect(const struct effect *effect)
 	}
 }
 
-static void do_effects(void)
+static inline void do_effects(void)
 {
 	struct effect effect;
 	while (core_effect(&effect))
 		do_effect(&effect);
 }
 
-static void open_client(struct place *place, enum role role)
+static inline void open_client(struct place *place, enum role role)
 {
 	unsigned at = 0;
 	while (open_places[at] && open_places[at] != place)
@@ -120,7 +120,7 @@ static void open_client(struct place *place, enum role role)
 		exit(1);
 }
 
-static void send_client(struct place *place, const uint8_t *bytes, size_t size, const uint32_t *tokens, size_t count)
+static inline void send_client(struct place *place, const uint8_t *bytes, size_t size, const uint32_t *tokens, size_t count)
 {
 	for (size_t at = 0, part; at == 0 || at < size; at += part) {
 		part = size - at < 16384 ? size - at : 16384;
@@ -132,7 +132,7 @@ static void send_client(struct place *place, const uint8_t *bytes, size_t size, 
 }
 
 /* The compositor writes something, which isn't read yet. */
-static void write_far(struct place *place, const uint8_t *bytes, size_t size, const uint32_t *tokens, unsigned count)
+static inline void write_far(struct place *place, const uint8_t *bytes, size_t size, const uint32_t *tokens, unsigned count)
 {
 	if (place->coming.size + size > sizeof place->coming.bytes || place->coming.files + count > 64)
 		exit(1);
@@ -142,7 +142,7 @@ static void write_far(struct place *place, const uint8_t *bytes, size_t size, co
 	place->coming.size += size;
 }
 
-static void collect_side(struct place *place, enum side side)
+static inline void collect_side(struct place *place, enum side side)
 {
 	struct pile *pile = side == NEAR ? &place->told : &place->asked;
 	struct written next;
@@ -162,7 +162,7 @@ static void collect_side(struct place *place, enum side side)
 }
 
 /* A round ends: all that is to be sent is, and who ends has ended. */
-static void finish_round(void)
+static inline void finish_round(void)
 {
 	core_round(++now);
 	do {
@@ -175,7 +175,7 @@ static void finish_round(void)
 	} while (core_sweep(now));
 }
 
-static void close_client(struct place *place)
+static inline void close_client(struct place *place)
 {
 	if (place->link > 0)
 		core_hung_up(++now, place->link, NEAR, NULL);

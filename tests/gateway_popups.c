@@ -1,0 +1,626 @@
+/*
+ * Popups of methods in programs' windows, as a compositor and both sides see them: where they stand, what is copied, who
+ * is told what, and each way in which a popup's window, program or method ends. Built by tests/gateway.sh. Prints what
+ * doesn't hold.
+ */
+#include "gateway_users.h"
+
+enum { SHELL = KEYBOARD_2 + 1, XDG, TOP, POINTER, TOUCH, MENU, MENU_XDG, MENU_POPUP, POSITIONER }; /* of a program */
+enum { MAKER = GRAB + 1, MEMORY, POOL, BUFFER, PIXELS, POPUP, MOUSE, FINGER, FRAME, VIEWS, VIEW, MORE }; /* of a method */
+enum { WIDTH = 30, HEIGHT = 20, STRIDE = 4 * WIDTH, POOL_SIZE = 4096 };
+
+static struct user one, two, first;
+static struct compositor desktop;
+static uint32_t serial;
+
+static void global_at(struct user *user, uint32_t name, const char *interface, uint32_t version)
+{
+	put_event(user, draft(REGISTRY, wl_registry_event_global, "usu", name, interface, version));
+	read_events(user);
+}
+
+/* A program with a window of the size and a field; the compositor maybe one of wlroots. */
+static void start_window(struct user *user, bool is_wlroots, uint32_t width, uint32_t height)
+{
+	start_program(user, true);
+	request(user, draft(SEAT, wl_seat_request_get_keyboard, "u", KEYBOARD_2));
+	if (is_wlroots)
+		global_at(user, 9, "zwlr_screencopy_manager_v1", 1);
+	global_at(user, 3, "wl_shm", 1);
+	global_at(user, 4, "xdg_wm_base", 3);
+	global_at(user, 5, "wl_subcompositor", 1);
+	global_at(user, 6, "wp_viewporter", 1);
+	bind_global(user, 4, "xdg_wm_base", SHELL);
+	request(user, draft(SHELL, xdg_wm_base_request_get_xdg_surface, "uu", XDG, SURFACE));
+	request(user, draft(XDG, xdg_surface_request_get_toplevel, "u", TOP));
+	request(user, draft(XDG, xdg_surface_request_set_window_geometry, "uuuu", 10, 20, width, height));
+	request(user, draft(SEAT, wl_seat_request_get_pointer, "u", POINTER));
+	request(user, draft(SEAT, wl_seat_request_get_touch, "u", TOUCH));
+}
+
+/* The window has a buffer, of which nobody asks more: it is the surface's seat that has an id. */
+static void show(struct user *user)
+{
+	request(user, draft(SURFACE, wl_surface_request_attach, "uuu", SEAT, 0, 0));
+	request(user, draft(SURFACE, wl_surface_request_commit, ""));
+}
+
+static void make_pool(struct user *user, uint32_t id, uint32_t size, size_t true_size)
+{
+	static uint8_t bytes[POOL_SIZE];
+	const struct message *message = draft(MEMORY, wl_shm_request_create_pool, "uu", id, size);
+	for (size_t at = 0; at < sizeof bytes; at++)
+		bytes[at] = (uint8_t)at;
+	uint32_t token = make_file(bytes, true_size);
+	send_client(&user->place, message->bytes, message->size, &token, 1);
+}
+
+static void start_popup(struct user *user, size_t true_size)
+{
+	start_grab(user);
+	global_at(user, 3, "wl_shm", 1);
+	global_at(user, 6, "wp_viewporter", 1);
+	bind_global(user, 2, "wl_compositor", MAKER);
+	bind_global(user, 3, "wl_shm", MEMORY);
+	make_pool(user, POOL, POOL_SIZE, true_size);
+	request(user, draft(POOL, wl_shm_pool_request_create_buffer, "uuuuuu", BUFFER, 40, WIDTH, HEIGHT, STRIDE, 0));
+	request(user, draft(MAKER, wl_compositor_request_create_surface, "u", PIXELS));
+	request(user, draft(METHOD_1, zwp_input_method_v2_request_get_input_popup_surface, "uu", POPUP, PIXELS));
+	request(user, draft(SEAT, wl_seat_request_get_pointer, "u", MOUSE));
+	request(user, draft(SEAT, wl_seat_request_get_touch, "u", FINGER));
+}
+
+static void draw(struct user *user, uint32_t frame)
+{
+	request(user, draft(PIXELS, wl_surface_request_attach, "uuu", BUFFER, 0, 0));
+	if (frame)
+		request(user, draft(PIXELS, wl_surface_request_frame, "u", frame));
+	request(user, draft(PIXELS, wl_surface_request_commit, ""));
+}
+
+static void enable_at(struct user *user, uint32_t x, uint32_t y)
+{
+	request(user, draft(FIELD, zwp_text_input_v3_request_enable, ""));
+	request(user, draft(FIELD, zwp_text_input_v3_request_set_cursor_rectangle, "uuuu", x, y, 2, 10));
+	request(user, draft(FIELD, zwp_text_input_v3_request_commit, ""));
+}
+
+/* A round ends, and the compositor hears of it. */
+static void round_ends(void)
+{
+	finish_round();
+	if (one.place.link > 0)
+		look_far(&desktop, &one.place);
+	HOLDS(!desktop.wrong);
+	if (desktop.wrong)
+		printf("%s\n", desktop.wrong);
+	desktop.wrong = NULL;
+}
+
+/* What the compositor says of the gateway's own objects. */
+static void say_far(const struct message *message)
+{
+	write_far(&one.place, message->bytes, message->size, NULL, 0);
+}
+
+static uint32_t of_row(const struct signature *row, unsigned argument)
+{
+	const struct asked_of *asked = asked_last(&desktop, 0, row);
+	return asked ? asked->numbers[argument] : 0;
+}
+
+/* Both stand, a popup is drawn, and the window has the focus. */
+static void stand(bool is_wlroots, uint32_t width, uint32_t height)
+{
+	desktop = (struct compositor){ 0 };
+	start_window(&one, is_wlroots, width, height);
+	start_popup(&first, POOL_SIZE);
+	show(&one);
+	round_ends();
+	enter(&one, ++serial);
+	enable_at(&one, 100, 60);
+	draw(&first, 0);
+	round_ends();
+}
+
+static void fall(void)
+{
+	if (first.place.link > 0)
+		close_client(&first.place);
+	if (one.place.link > 0)
+		close_client(&one.place);
+	HOLDS(tokens_used() <= 2); /* a keymap's, and that of what is clear */
+}
+
+/* As a subsurface: what is copied, who commits, what is told of frames, and how it goes. */
+static void inside(void)
+{
+	stand(true, 640, 480);
+	uint32_t window = far_of(one.place.client, SURFACE);
+	uint32_t sub = of_row(ROW(wl_subcompositor, get_subsurface), 0), surface = of_row(ROW(wl_subcompositor, get_subsurface), 1);
+	HOLDS(sub > 0 && of_row(ROW(wl_subcompositor, get_subsurface), 2) == window);
+	HOLDS(asked_times(&desktop, sub, ROW(wl_subsurface, set_desync)) == 1);
+	HOLDS(of_row(ROW(wl_subsurface, set_position), 0) == 100 && of_row(ROW(wl_subsurface, set_position), 1) == 70);
+	HOLDS(asked_times(&desktop, window, ROW(wl_surface, commit)) == 1);
+	HOLDS(asked_times(&desktop, surface, ROW(wl_surface, commit)) == 1 && one.place.asked.files == 1);
+	HOLDS(of_row(ROW(wl_shm, create_pool), 2) == STRIDE * HEIGHT && of_row(ROW(wl_shm_pool, create_buffer), 2) == WIDTH);
+	uint32_t buffer = of_row(ROW(wl_surface, attach), 0), frame = of_row(ROW(wl_surface, frame), 0);
+	HOLDS(near_of(one.place.client, surface) == 0 && private_of(one.place.client, surface) && buffer > 0 && frame > 0);
+	look(&first);
+	HOLDS(HEARD(&first, BUFFER, wl_buffer_event_release) == 1);
+	look(&one);
+	/* At most one in each of the compositor's frames; the method is told of that. */
+	for (uint32_t at = 0; at < 3; at++)
+		draw(&first, FRAME + at);
+	round_ends();
+	HOLDS(desktop.asked_count == 0);
+	look(&first);
+	HOLDS(HEARD(&first, FRAME, wl_callback_event_done) == 0);
+	say_far(draft(buffer, wl_buffer_event_release, ""));
+	say_far(draft(frame, wl_callback_event_done, "u", 5));
+	say_far(draft(DISPLAY, wl_display_event_delete_id, "u", frame));
+	desktop.faces[frame] = NULL;
+	read_events(&one);
+	look(&first);
+	look(&one);
+	HOLDS(HEARD(&first, FRAME, wl_callback_event_done, 5) == 1 && HEARD(&first, FRAME + 2, wl_callback_event_done, 5) == 1);
+	HOLDS(HEARD(&first, DISPLAY, wl_display_event_delete_id, FRAME) == 1 && one.size == 0);
+	round_ends();
+	HOLDS(asked_times(&desktop, buffer, ROW(wl_buffer, destroy)) == 1);
+	HOLDS(asked_times(&desktop, surface, ROW(wl_surface, commit)) == 1);
+	/* The cursor moves: placed by a commit of the gateway's, or of the program's where that has something pending. */
+	enable_at(&one, 300, 60);
+	round_ends();
+	HOLDS(of_row(ROW(wl_subsurface, set_position), 0) == 300 && asked_times(&desktop, window, ROW(wl_surface, commit)) == 1);
+	request(&one, draft(SURFACE, wl_surface_request_damage, "uuuu", 0, 0, 1, 1));
+	request(&one, draft(TOP, xdg_toplevel_request_set_title, "s", "nothing pending"));
+	enable_at(&one, 310, 60);
+	round_ends();
+	HOLDS(of_row(ROW(wl_subsurface, set_position), 0) == 310 && asked_times(&desktop, window, ROW(wl_surface, commit)) == 0);
+	request(&one, draft(SURFACE, wl_surface_request_commit, ""));
+	round_ends();
+	HOLDS(asked_times(&desktop, window, ROW(wl_surface, commit)) == 1 && desktop.asked_count == 1);
+	/* Its method hides it, and draws it again. */
+	request(&first, draft(PIXELS, wl_surface_request_attach, "uuu", 0, 0, 0));
+	request(&first, draft(PIXELS, wl_surface_request_commit, ""));
+	round_ends();
+	HOLDS(asked_times(&desktop, sub, ROW(wl_subsurface, destroy)) == 1);
+	HOLDS(asked_times(&desktop, window, ROW(wl_surface, damage)) == 1 && asked_times(&desktop, window, ROW(wl_surface, commit)) == 1);
+	draw(&first, 0);
+	round_ends();
+	HOLDS(of_row(ROW(wl_subcompositor, get_subsurface), 2) == window);
+	/* The field goes, and the method with it. */
+	request(&one, draft(FIELD, zwp_text_input_v3_request_disable, ""));
+	request(&one, draft(FIELD, zwp_text_input_v3_request_commit, ""));
+	round_ends();
+	HOLDS(asked_times(&desktop, 0, ROW(wl_subsurface, destroy)) == 1);
+	fall();
+}
+
+/* As an xdg_popup, where it doesn't fit and the compositor isn't of wlroots: configured, moved, taken away. */
+static void beside(void)
+{
+	stand(false, 640, 12);
+	uint32_t popup = of_row(ROW(xdg_surface, get_popup), 0), xdg = of_row(ROW(xdg_wm_base, get_xdg_surface), 0);
+	uint32_t surface = of_row(ROW(xdg_wm_base, get_xdg_surface), 1);
+	HOLDS(popup > 0 && of_row(ROW(xdg_surface, get_popup), 1) == far_of(one.place.client, XDG));
+	HOLDS(of_row(ROW(xdg_positioner, set_anchor_rect), 0) == 90 && of_row(ROW(xdg_positioner, set_anchor_rect), 1) == 11);
+	HOLDS(asked_times(&desktop, surface, ROW(wl_surface, attach)) == 0 && one.place.asked.files == 0);
+	say_far(draft(popup, xdg_popup_event_configure, "uuuu", 100, 210, WIDTH, HEIGHT));
+	say_far(draft(xdg, xdg_surface_event_configure, "u", 77));
+	read_events(&one);
+	round_ends();
+	HOLDS(of_row(ROW(xdg_surface, ack_configure), 0) == 77 && asked_times(&desktop, surface, ROW(wl_surface, attach)) == 1);
+	enable_at(&one, 300, 60);
+	round_ends();
+	HOLDS(asked_times(&desktop, popup, ROW(xdg_popup, reposition)) == 1);
+	HOLDS(of_row(ROW(xdg_positioner, set_anchor_rect), 0) == 290);
+	/* The compositor takes it away, until it is to be elsewhere. */
+	say_far(draft(popup, xdg_popup_event_popup_done, ""));
+	read_events(&one);
+	round_ends();
+	HOLDS(asked_times(&desktop, popup, ROW(xdg_popup, destroy)) == 1);
+	draw(&first, 0);
+	round_ends();
+	HOLDS(of_row(ROW(xdg_surface, get_popup), 0) == 0);
+	enable_at(&one, 400, 60);
+	round_ends();
+	popup = of_row(ROW(xdg_surface, get_popup), 0);
+	HOLDS(popup > 0);
+	/* It fits: a subsurface. The window goes, and before it the popup. */
+	request(&one, draft(XDG, xdg_surface_request_set_window_geometry, "uuuu", 10, 20, 640, 480));
+	request(&one, draft(SURFACE, wl_surface_request_commit, ""));
+	round_ends();
+	HOLDS(asked_times(&desktop, popup, ROW(xdg_popup, destroy)) == 1 && of_row(ROW(wl_subcompositor, get_subsurface), 0) > 0);
+	fall();
+}
+
+/* In a program's own popup that grabs, its place is counted from there. */
+static void menu(void)
+{
+	stand(true, 640, 480);
+	request(&one, draft(COMPOSITOR, wl_compositor_request_create_surface, "u", MENU));
+	request(&one, draft(SHELL, xdg_wm_base_request_create_positioner, "u", POSITIONER - 2));
+	request(&one, draft(SHELL, xdg_wm_base_request_get_xdg_surface, "uu", POSITIONER - 1, MENU));
+	request(&one, draft(POSITIONER - 1, xdg_surface_request_get_popup, "uuu", POSITIONER, XDG, POSITIONER - 2));
+	request(&one, draft(POSITIONER - 1, xdg_surface_request_set_window_geometry, "uuuu", 5, 5, 80, 30));
+	request(&one, draft(POSITIONER, xdg_popup_request_grab, "uu", SEAT, serial));
+	put_event(&one, draft(POSITIONER, xdg_popup_event_configure, "uuuu", 50, 30, 80, 30));
+	read_events(&one);
+	request(&one, draft(MENU, wl_surface_request_attach, "uuu", SEAT, 0, 0));
+	request(&one, draft(MENU, wl_surface_request_commit, ""));
+	round_ends();
+	HOLDS(of_row(ROW(wl_subcompositor, get_subsurface), 2) == far_of(one.place.client, MENU));
+	HOLDS(of_row(ROW(wl_subsurface, set_position), 0) == 100 - 10 - 50 + 5);
+	HOLDS(of_row(ROW(wl_subsurface, set_position), 1) == 70 - 20 - 30 + 5);
+	request(&one, draft(POSITIONER, xdg_popup_request_destroy, ""));
+	round_ends();
+	HOLDS(desktop.asked_count > 2 && asked_times(&desktop, 0, ROW(wl_subsurface, destroy)) == 1);
+	HOLDS(desktop.asked[desktop.asked_count - 1].row != ROW(wl_subsurface, destroy));
+	HOLDS(of_row(ROW(wl_subcompositor, get_subsurface), 2) == far_of(one.place.client, SURFACE));
+	fall();
+}
+
+/* The pointer goes from the window to the popup: the method hears of it, the program of a leave. So do fingers. */
+static void pointed_at(void)
+{
+	stand(true, 640, 480);
+	uint32_t own = one.place.client->owns[OWN_SEAT].id, surface = of_row(ROW(wl_subcompositor, get_subsurface), 1);
+	uint32_t window = far_of(one.place.client, SURFACE), theirs = far_of(one.place.client, POINTER);
+	uint32_t their_touch = far_of(one.place.client, TOUCH);
+	say_far(draft(own, wl_seat_event_capabilities, "u", 7));
+	read_events(&one);
+	round_ends();
+	uint32_t pointer = of_row(ROW(wl_seat, get_pointer), 0), touch = of_row(ROW(wl_seat, get_touch), 0);
+	HOLDS(pointer > 0 && touch > 0);
+	look(&one);
+	say_far(draft(theirs, wl_pointer_event_enter, "uuuu", 150, window, 256, 256));
+	say_far(draft(theirs, wl_pointer_event_leave, "uu", 151, window));
+	say_far(draft(theirs, wl_pointer_event_enter, "uuuu", 152, surface, 512, 768));
+	say_far(draft(theirs, wl_pointer_event_motion, "uuu", 1, 512, 768));
+	say_far(draft(theirs, wl_pointer_event_button, "uuuu", 153, 2, 0x110, 1));
+	say_far(draft(pointer, wl_pointer_event_enter, "uuuu", 152, surface, 512, 768));
+	say_far(draft(pointer, wl_pointer_event_button, "uuuu", 153, 2, 0x110, 1));
+	say_far(draft(pointer, wl_pointer_event_leave, "uu", 154, surface));
+	say_far(draft(theirs, wl_pointer_event_leave, "uu", 154, surface));
+	say_far(draft(theirs, wl_pointer_event_enter, "uuuu", 155, window, 256, 256));
+	say_far(draft(theirs, wl_pointer_event_motion, "uuu", 3, 99, 99));
+	read_events(&one);
+	look(&one);
+	look(&first);
+	HOLDS(HEARD(&one, POINTER, wl_pointer_event_enter) == 2 && HEARD(&one, POINTER, wl_pointer_event_leave) == 1);
+	HOLDS(HEARD(&one, POINTER, wl_pointer_event_motion) == 1 && HEARD(&one, POINTER, wl_pointer_event_button) == 0);
+	HOLDS(HEARD(&first, MOUSE, wl_pointer_event_enter, 152, PIXELS, 512, 768) == 1);
+	HOLDS(HEARD(&first, MOUSE, wl_pointer_event_button, 153, 2, 0x110, 1) == 1 && HEARD(&first, MOUSE, wl_pointer_event_leave) == 1);
+	for (int each = 0; each < 2; each++) { /* one finger on the window, another on the popup */
+		uint32_t id = each ? touch : their_touch;
+		say_far(draft(id, wl_touch_event_down, "uuuuuu", 160, 1, window, 0, 256, 256));
+		say_far(draft(id, wl_touch_event_down, "uuuuuu", 161, 1, surface, 1, 512, 512));
+		say_far(draft(id, wl_touch_event_motion, "uuuu", 2, 1, 600, 600));
+		say_far(draft(id, wl_touch_event_motion, "uuuu", 2, 0, 300, 300));
+		say_far(draft(id, wl_touch_event_up, "uuu", 162, 3, 1));
+		say_far(draft(id, wl_touch_event_frame, ""));
+	}
+	read_events(&one);
+	look(&one);
+	look(&first);
+	HOLDS(HEARD(&one, TOUCH, wl_touch_event_down) == 1 && HEARD(&one, TOUCH, wl_touch_event_motion) == 1);
+	HOLDS(HEARD(&one, TOUCH, wl_touch_event_up) == 0 && HEARD(&one, TOUCH, wl_touch_event_frame) == 1);
+	HOLDS(HEARD(&first, FINGER, wl_touch_event_down, 161, 1, PIXELS, 1, 512, 512) == 1);
+	HOLDS(HEARD(&first, FINGER, wl_touch_event_motion) == 1 && HEARD(&first, FINGER, wl_touch_event_up) == 1);
+	/* It goes with the pointer in it: the method hears of a leave. */
+	say_far(draft(pointer, wl_pointer_event_enter, "uuuu", 170, surface, 512, 768));
+	read_events(&one);
+	request(&one, draft(FIELD, zwp_text_input_v3_request_disable, ""));
+	request(&one, draft(FIELD, zwp_text_input_v3_request_commit, ""));
+	round_ends();
+	look(&first);
+	HOLDS(HEARD(&first, MOUSE, wl_pointer_event_leave) == 1);
+	fall();
+}
+
+/* What the compositor says of private objects, or of ids that nobody knows, names nothing to the program. */
+static void unnamed(void)
+{
+	stand(true, 640, 480);
+	uint32_t surface = of_row(ROW(wl_subcompositor, get_subsurface), 1);
+	look(&one);
+	say_far(draft(DISPLAY, wl_display_event_error, "uus", surface, 7, "of a popup"));
+	read_events(&one);
+	finish_round();
+	one.size = one.place.told.size;
+	memcpy(one.told, one.place.told.bytes, one.size);
+	HOLDS(one.place.link == 0 && HEARD(&one, DISPLAY, wl_display_event_error) == 1 && one.size > 12);
+	HOLDS(memcmp(one.told + 8, (const uint32_t[]){ DISPLAY, 7 }, 8) == 0);
+	fall();
+	stand(true, 640, 480);
+	look(&one);
+	say_far(draft(3000, wl_callback_event_done, "u", 1));
+	read_events(&one);
+	finish_round();
+	HOLDS(one.place.link == 0 && memcmp(one.place.told.bytes + 8, (const uint32_t[]){ DISPLAY }, 4) == 0);
+	fall();
+}
+
+/* Each way in which the window of a popup goes, and its program, its field, its focus and its method. */
+static void ends(void)
+{
+	enum { SURFACE_GOES, TOP_GOES, UNMAPPED, PROGRAM_GOES, PROGRAM_HUNG_UP, FOCUS_GOES, METHOD_GOES, METHOD_ENDS, PIXELS_GO,
+		POPUP_GOES, WAYS };
+	for (int way = 0; way < 2 * WAYS; way++) {
+		stand(way % 2, way % 2 ? 640 : 8, way % 2 ? 480 : 8);
+		uint32_t sub = of_row(ROW(wl_subcompositor, get_subsurface), 0), popup = of_row(ROW(xdg_surface, get_popup), 0);
+		const struct signature *row = way % 2 ? ROW(wl_subsurface, destroy) : ROW(xdg_popup, destroy);
+		HOLDS((sub > 0) == (way % 2 == 1) && (popup > 0) == (way % 2 == 0));
+		switch (way / 2) {
+		case SURFACE_GOES:
+			request(&one, draft(SURFACE, wl_surface_request_destroy, ""));
+			break;
+		case TOP_GOES:
+			request(&one, draft(TOP, xdg_toplevel_request_destroy, ""));
+			break;
+		case UNMAPPED:
+			request(&one, draft(SURFACE, wl_surface_request_attach, "uuu", 0, 0, 0));
+			request(&one, draft(SURFACE, wl_surface_request_commit, ""));
+			break;
+		case PROGRAM_GOES:
+		case PROGRAM_HUNG_UP:
+			core_hung_up(++now, one.place.link, way / 2 == PROGRAM_GOES ? NEAR : FAR, NULL);
+			break;
+		case FOCUS_GOES:
+			event(&one, wl_keyboard_event_leave, ++serial);
+			read_events(&one);
+			break;
+		case METHOD_GOES:
+			request(&first, draft(METHOD_1, zwp_input_method_v2_request_destroy, ""));
+			break;
+		case METHOD_ENDS:
+			core_hung_up(++now, first.place.link, NEAR, NULL);
+			break;
+		case PIXELS_GO:
+			request(&first, draft(PIXELS, wl_surface_request_destroy, ""));
+			break;
+		case POPUP_GOES:
+			request(&first, draft(POPUP, zwp_input_popup_surface_v2_request_destroy, ""));
+		}
+		round_ends();
+		bool lives = way / 2 != PROGRAM_GOES && way / 2 != PROGRAM_HUNG_UP;
+		HOLDS((one.place.link > 0) == lives && (first.place.link > 0) == (way / 2 != METHOD_ENDS));
+		HOLDS(!lives || asked_times(&desktop, 0, row) == 1);
+		if (way / 2 <= UNMAPPED) /* it comes before what the program asked last */
+			HOLDS(desktop.asked_count > 1 && desktop.asked[desktop.asked_count - 1].row != row);
+		fall();
+	}
+}
+
+/* A window that isn't shown has no focus, though the compositor doesn't say so; shown again it has. */
+static void unmapped(void)
+{
+	stand(true, 640, 480);
+	look(&one);
+	HOLDS(one.entered);
+	request(&one, draft(SURFACE, wl_surface_request_attach, "uuu", 0, 0, 0));
+	look(&one);
+	HOLDS(one.entered);
+	request(&one, draft(SURFACE, wl_surface_request_commit, ""));
+	look(&one);
+	HOLDS(!one.entered);
+	show(&one);
+	look(&one);
+	HOLDS(one.entered);
+	request(&one, draft(TOP, xdg_toplevel_request_destroy, ""));
+	look(&one);
+	HOLDS(!one.entered);
+	start_window(&two, true, 640, 480);
+	enter(&two, ++serial);
+	show(&one);
+	look(&one);
+	look(&two);
+	HOLDS(!one.entered && two.entered);
+	close_client(&two.place);
+	fall();
+}
+
+/* A file that is shorter than its pool ends the method; pixels that the compositor wouldn't take aren't shown. */
+static void lies(void)
+{
+	static const uint32_t bad[][5] = { /* offset, width, height, stride, format */
+		{ 40, WIDTH, HEIGHT, STRIDE - 4, 0 }, { 40, WIDTH, HEIGHT, STRIDE + 2, 0 }, { 40, 0, HEIGHT, STRIDE, 0 },
+		{ POOL_SIZE, WIDTH, HEIGHT, STRIDE, 0 }, { 40, WIDTH, 0x7fffffff, STRIDE, 0 }, { 40, WIDTH, HEIGHT, STRIDE, 0x34324241 },
+		{ 0xffffffff, WIDTH, HEIGHT, STRIDE, 0 }, { 40, 0x40000000, 1, 0xffffffff, 0 },
+	};
+	stand(true, 640, 480);
+	for (size_t at = 0; at < sizeof bad / sizeof *bad; at++) {
+		const uint32_t *b = bad[at];
+		request(&first, draft(POOL, wl_shm_pool_request_create_buffer, "uuuuuu", FRAME + at, b[0], b[1], b[2], b[3], b[4]));
+		request(&first, draft(PIXELS, wl_surface_request_attach, "uuu", FRAME + at, 0, 0));
+		request(&first, draft(PIXELS, wl_surface_request_commit, ""));
+		round_ends();
+		look(&first);
+		HOLDS(one.place.link > 0 && HEARD(&first, FRAME + at, wl_buffer_event_release) == 1);
+		HOLDS(asked_times(&desktop, 0, ROW(wl_subsurface, destroy)) == (at == 0));
+	}
+	fall();
+	desktop = (struct compositor){ 0 };
+	start_window(&one, true, 640, 480);
+	start_popup(&first, POOL_SIZE / 2);
+	show(&one);
+	enter(&one, ++serial);
+	enable_at(&one, 100, 60);
+	draw(&first, 0);
+	round_ends();
+	HOLDS(one.place.link > 0 && first.place.link == 0); /* of it there was nothing but what is clear */
+	HOLDS(asked_times(&desktop, 0, ROW(wl_surface, attach)) == 2 && asked_times(&desktop, 0, ROW(wl_subsurface, destroy)) == 1);
+	fall();
+}
+
+/* 20,000 commits at once cost two copies; each buffer comes back; 100 popups are as many as are shown, and no more. */
+static void many(void)
+{
+	stand(true, 640, 480);
+	look(&first);
+	for (int at = 0; at < 20000; at++)
+		draw(&first, 0);
+	round_ends();
+	look(&first);
+	HOLDS(HEARD(&first, BUFFER, wl_buffer_event_release) == 0 && desktop.asked_count == 0 && tokens_used() < 10);
+	for (uint32_t at = 0; at < 100; at++) {
+		request(&first, draft(MAKER, wl_compositor_request_create_surface, "u", FRAME + 2 * at));
+		request(&first, draft(METHOD_1, zwp_input_method_v2_request_get_input_popup_surface, "uu", FRAME + 2 * at + 1, FRAME + 2 * at));
+		request(&first, draft(FRAME + 2 * at, wl_surface_request_attach, "uuu", BUFFER, 0, 0));
+		request(&first, draft(FRAME + 2 * at, wl_surface_request_commit, ""));
+	}
+	round_ends();
+	HOLDS(one.place.link > 0 && first.place.link > 0);
+	HOLDS(asked_times(&desktop, 0, ROW(wl_subcompositor, get_subsurface)) == 15);
+	fall();
+}
+
+/* A destroyed buffer was committed already; one with its id isn't released in its place. */
+static void destroyed_buffer(void)
+{
+	desktop = (struct compositor){ 0 };
+	start_window(&one, true, 640, 480);
+	start_popup(&first, POOL_SIZE);
+	draw(&first, 0);
+	request(&first, draft(BUFFER, wl_buffer_request_destroy, ""));
+	put_event(&first, draft(DISPLAY, wl_display_event_delete_id, "u", BUFFER));
+	read_events(&first);
+	request(&first, draft(POOL, wl_shm_pool_request_create_buffer, "uuuuuu", BUFFER, 40, WIDTH, HEIGHT, STRIDE, 0));
+	show(&one);
+	enter(&one, ++serial);
+	enable_at(&one, 100, 60);
+	round_ends();
+	look(&first);
+	HOLDS(asked_times(&desktop, 0, ROW(wl_surface, attach)) == 2 && HEARD(&first, BUFFER, wl_buffer_event_release) == 0);
+	fall();
+}
+
+/* Of a scale, of a viewport: the size on the screen; what the compositor would refuse isn't shown. */
+static void sizes(void)
+{
+	stand(true, 640, 480);
+	request(&first, draft(PIXELS, wl_surface_request_set_buffer_scale, "u", 2));
+	draw(&first, 0);
+	enable_at(&one, 635, 60);
+	now += 200000;
+	round_ends();
+	HOLDS(of_row(ROW(wl_subsurface, set_position), 0) == 650 - WIDTH / 2 && of_row(ROW(wl_surface, set_buffer_scale), 0) == 2);
+	request(&first, draft(PIXELS, wl_surface_request_set_buffer_scale, "u", 4));
+	draw(&first, 0); /* 30 isn't of fours */
+	now += 200000;
+	round_ends();
+	HOLDS(asked_times(&desktop, 0, ROW(wl_subsurface, destroy)) == 1);
+	request(&first, draft(PIXELS, wl_surface_request_set_buffer_scale, "u", 1));
+	bind_global(&first, 6, "wp_viewporter", FRAME);
+	request(&first, draft(FRAME, wp_viewporter_request_get_viewport, "uu", VIEWS, PIXELS));
+	request(&first, draft(VIEWS, wp_viewport_request_set_destination, "uu", 15, 10));
+	draw(&first, 0);
+	round_ends();
+	HOLDS(of_row(ROW(wl_subsurface, set_position), 0) == 635 && of_row(ROW(wp_viewport, set_destination), 1) == 10);
+	request(&first, draft(VIEWS, wp_viewport_request_set_source, "uuuu", 0, 0, 31 * 256, 256));
+	draw(&first, 0); /* the source lies outside */
+	now += 200000;
+	round_ends();
+	HOLDS(one.place.link > 0 && asked_times(&desktop, 0, ROW(wl_subsurface, destroy)) == 1);
+	fall();
+}
+
+/* Where the compositor tells no frame, a timer does. */
+static void late_frames(void)
+{
+	stand(true, 640, 480);
+	draw(&first, FRAME);
+	round_ends();
+	look(&first);
+	HOLDS(HEARD(&first, FRAME, wl_callback_event_done) == 0);
+	int wait = core_wait(now);
+	HOLDS(wait > 0 && wait <= 101);
+	now += 101000;
+	round_ends();
+	look(&first);
+	HOLDS(HEARD(&first, FRAME, wl_callback_event_done) == 1 && core_wait(now) == -1);
+	fall();
+}
+
+/* text-input-v2: its state comes with its update, a batch comes as its events, at an enter it is asked again. */
+static void version_2(void)
+{
+	enum { OLDER = FIELD, SEEN = KEYBOARD_2 };
+	start_program(&one, false);
+	start_grab(&first);
+	bind_global(&one, 0xffff0000 + GLOBAL_OLDER, "zwp_text_input_manager_v2", OLDER);
+	request(&one, draft(OLDER, zwp_text_input_manager_v2_request_get_text_input, "uu", SEEN, SEAT));
+	request(&one, draft(SEEN, zwp_text_input_v2_request_enable, "u", SURFACE));
+	enter(&one, ++serial);
+	look(&one);
+	HOLDS(HEARD(&one, SEEN, zwp_text_input_v2_event_enter, 1, SURFACE) == 1);
+	look(&first);
+	HOLDS(HEARD(&first, METHOD_1, zwp_input_method_v2_event_activate) == 0);
+	request(&one, draft(SEEN, zwp_text_input_v2_request_set_surrounding_text, "suu", "abc", 1, 2));
+	request(&one, draft(SEEN, zwp_text_input_v2_request_set_content_type, "uu", 0x80, 9));
+	request(&one, draft(SEEN, zwp_text_input_v2_request_set_cursor_rectangle, "uuuu", 1, 2, 3, 4));
+	request(&one, draft(SEEN, zwp_text_input_v2_request_update_state, "uu", 1, 1));
+	look(&first);
+	HOLDS(HEARD(&first, METHOD_1, zwp_input_method_v2_event_activate) == 1);
+	HOLDS(HEARD(&first, METHOD_1, zwp_input_method_v2_event_surrounding_text, 1, 2) == 1);
+	HOLDS(HEARD(&first, METHOD_1, zwp_input_method_v2_event_content_type, 0x80, 10) == 1);
+	HOLDS(one.place.client->field == SEEN && one.place.client->cursor.height == 4);
+	request(&first, draft(METHOD_1, zwp_input_method_v2_request_set_preedit_string, "suu", "xy", 1, 1));
+	request(&first, draft(METHOD_1, zwp_input_method_v2_request_commit, "u", 1));
+	look(&one);
+	HOLDS(HEARD(&one, SEEN, zwp_text_input_v2_event_preedit_cursor, 1) == 1);
+	HOLDS(HEARD(&one, SEEN, zwp_text_input_v2_event_preedit_string, 3, 'x' | 'y' << 8, 1, 0) == 1);
+	request(&first, draft(METHOD_1, zwp_input_method_v2_request_commit_string, "s", "z"));
+	request(&first, draft(METHOD_1, zwp_input_method_v2_request_delete_surrounding_text, "uu", 1, 2));
+	request(&first, draft(METHOD_1, zwp_input_method_v2_request_commit, "u", 1));
+	look(&one);
+	HOLDS(HEARD(&one, SEEN, zwp_text_input_v2_event_delete_surrounding_text, 1, 2) == 1);
+	HOLDS(HEARD(&one, SEEN, zwp_text_input_v2_event_commit_string, 2, 'z') == 1);
+	HOLDS(HEARD(&one, SEEN, zwp_text_input_v2_event_preedit_string, 1, 0, 1, 0) == 1);
+	request(&first, draft(METHOD_1, zwp_input_method_v2_request_commit, "u", 1));
+	look(&one);
+	HOLDS(one.size == 0);
+	/* A reset is a new activation: what was for the one before comes to nobody. */
+	request(&one, draft(SEEN, zwp_text_input_v2_request_update_state, "uu", 1, 2));
+	look(&first);
+	HOLDS(HEARD(&first, METHOD_1, zwp_input_method_v2_event_activate) == 1);
+	request(&first, draft(METHOD_1, zwp_input_method_v2_request_commit_string, "s", "late"));
+	request(&first, draft(METHOD_1, zwp_input_method_v2_request_commit, "u", 1));
+	look(&one);
+	HOLDS(HEARD(&one, SEEN, zwp_text_input_v2_event_commit_string) == 0);
+	request(&one, draft(SEEN, zwp_text_input_v2_request_disable, "u", SURFACE));
+	look(&first);
+	HOLDS(HEARD(&first, METHOD_1, zwp_input_method_v2_event_deactivate) == 1 && one.place.client->field == 0);
+	renew();
+	event(&one, wl_keyboard_event_leave, ++serial);
+	read_events(&one);
+	request(&one, draft(SEEN, zwp_text_input_v2_request_destroy, ""));
+	look(&one);
+	HOLDS(HEARD(&one, SEEN, zwp_text_input_v2_event_leave) > 0 && HEARD(&one, DISPLAY, wl_display_event_delete_id, SEEN) == 1);
+	fall();
+}
+
+int main(void)
+{
+	if (!core_open(now, 3000000))
+		return 1;
+	inside();
+	beside();
+	menu();
+	pointed_at();
+	unnamed();
+	ends();
+	unmapped();
+	lies();
+	many();
+	destroyed_buffer();
+	sizes();
+	late_frames();
+	version_2();
+	core_close();
+	do_effects();
+	HOLDS(tokens_used() == 0);
+	printf("popups, and text inputs of version 2: %s\n", failed ? "not as they should be" : "ok");
+	return failed;
+}
