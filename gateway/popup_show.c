@@ -105,9 +105,11 @@ static void place_inside(struct popup *popup, struct mirror *mirror, const struc
 	}
 	if (is_new || moves) {
 		ASK(program, mirror->sub, wl_subsurface_request_set_position, "uu", want->at.box.x, want->at.box.y);
-		log_note(program, is_new ? "popup is shown inside" : "popup is moved inside", &want->at.box);
 		mirror->waits = true;
 	}
+	if (is_new || moves || mirror->width != want->width || mirror->height != want->height)
+		log_note(program, is_new ? "popup is shown inside" : "popup is moved inside",
+			&(struct box){ want->at.box.x, want->at.box.y, want->width, want->height });
 }
 
 static uint32_t positioner_make(const struct mirror *want) {

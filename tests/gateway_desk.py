@@ -26,6 +26,7 @@ def interfaces(protocols):
     shared = "/usr/share/wayland-protocols"
     files = [file for file in glob.glob(shared + "/unstable/*/*.xml") if "xdg-shell-unstable-v5" not in file]
     files += glob.glob(shared + "/staging/*/*.xml") + glob.glob(shared + "/stable/*/*.xml")
+    files = glob.glob(protocols + "/more/*.xml") + files
     return tables(files + ["/usr/share/wayland/wayland.xml"] + glob.glob(protocols + "/*.xml"))
 
 
