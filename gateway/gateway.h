@@ -88,6 +88,7 @@ struct client {
 	uint32_t top; /* its xdg_popup that grabbed last, and lives */
 	bool is_wlroots; /* the compositor is of wlroots: it may end who has an xdg_popup, when the focus goes */
 	struct listed { uint32_t ids[LISTED_MAX]; unsigned count; } pointers, touches; /* a method's */
+	uint64_t copies_from; /* the moment from which on its pixels are copied */
 	struct own { uint32_t name, version, id; } owns[OWNS]; /* globals, and the gateway's objects of them at the compositor */
 	uint32_t own_pointer, own_touch;
 	unsigned private_count;

@@ -43,11 +43,18 @@ static void set_view(struct popup *popup, struct mirror *mirror) {
 		ASK(program, mirror->view, wp_viewport_request_set_source, "uuuu", no_source, no_source, no_source, no_source);
 }
 
+uint64_t popup_copies_in(const struct popup *popup) {
+	uint64_t from = popup->method->copies_from;
+	return from > gateway.moment ? from - gateway.moment : 0;
+}
+
 /* What was committed last is copied, once it is to be shown: whoever has a pool could cut its file off. */
 static void copy(struct popup *popup) {
 	const struct pixels *p = &popup->pixels;
-	if (popup->copying > 0 || p->token == 0)
+	uint64_t *from = &popup->method->copies_from, size = (uint64_t)p->stride * (uint64_t)p->height;
+	if (popup->copying > 0 || p->token == 0 || popup_copies_in(popup) > 0)
 		return;
+	*from = (*from + COPY_BURST > gateway.moment ? *from : gateway.moment - COPY_BURST) + size * 1000000 / COPIED_MAX;
 	popup->copying = token_make();
 	if (popup->copying == 0)
 		return;

@@ -106,10 +106,13 @@ void popups_round(void) {
 int popups_wait(void) {
 	int least = -1;
 	for (const struct popup *popup = popups; popup < popups + POPUPS; popup++) {
-		uint64_t passed = gateway.moment - popup->since;
-		int left = passed < FRAME_LATE ? (int)((FRAME_LATE - passed) / 1000) + 1 : 1;
-		if (popup->method && popup->frames.count > 0 && (least < 0 || left < least))
-			least = left;
+		uint64_t passed = gateway.moment - popup->since, left = UINT64_MAX;
+		if (popup->method && popup->frames.count > 0)
+			left = passed < FRAME_LATE ? FRAME_LATE - passed : 0;
+		if (popup->method && popup->mirror.program && popup->copied != popup->content && popup_copies_in(popup) > 0)
+			left = popup_copies_in(popup) < left ? popup_copies_in(popup) : left;
+		if (left < UINT64_MAX && (least < 0 || left / 1000 < (uint64_t)least))
+			least = (int)(left / 1000) + 1;
 	}
 	return least;
 }

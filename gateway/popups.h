@@ -5,6 +5,7 @@
 enum {
 	POPUPS = 16, FRAMES = 8, BUFFERS = 4, HELD_MAX = 128, SIDE_MAX = 4096,
 	PIXELS_MAX = 8388608, /* bytes of a popup: its copy takes some 2 ms, at most one in each of the compositor's frames */
+	COPIED_MAX = 16777216, COPY_BURST = 100000, /* bytes of a method's that are copied in a second; microseconds at once */
 	FRAME_LATE = 100000, /* microseconds after which a method's frame is told without the compositor's */
 	SINCE_FRAMES = 5, SINCE_SCALE = 3, SINCE_REPOSITION = 3, /* versions of wl_pointer, wl_surface, xdg_wm_base */
 };
@@ -69,6 +70,8 @@ void mirror_present(struct popup *popup, struct mirror *mirror);
 void mirror_clear(struct popup *popup, struct mirror *mirror);
 /* The method may use its buffer again; its frames are told, or end untold. */
 void popup_let_go(struct popup *popup);
+/* In how many microseconds its pixels may be copied; 0: now. */
+uint64_t popup_copies_in(const struct popup *popup);
 void popup_end_frames(struct popup *popup, struct frames *frames, bool tells, uint32_t time);
 /* Nothing of it is pointed at any more (popup_input.c). Events of the gateway's own seat, pointer and touch. */
 void pointed_leave(const struct popup *popup);

@@ -95,7 +95,8 @@ class CandidateDesk(Desk):
             "gtk4": [self.built + "/entry", window + ".out", window],
             "qt5": [here + "/gateway_qt_entry.py", "5", window + ".out", window],
             "qt6": [here + "/gateway_qt_entry.py", "6", window + ".out", window],
-            "firefox": ["firefox-esr", "--no-remote", "--name", window, "--profile", self.path("profile"), "file://" + page],
+            "firefox": ["env", "HOME=" + self.path("profile"), "XDG_RUNTIME_DIR=" + self.path("profile"),  # root's
+                        "WAYLAND_DISPLAY=" + self.path("wlim-programs"), "firefox-esr", "--no-remote", "--name", window, "--profile", self.path("profile"), "file://" + page],
             "chromium": ["chromium", "--no-sandbox", "--ozone-platform=wayland", "--enable-wayland-ime",
                          "--wayland-text-input-version=3", "--disable-gpu", "--no-first-run", "--class=" + window,
                          "--user-data-dir=" + self.path("chromium"), "file://" + page],

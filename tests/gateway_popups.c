@@ -476,6 +476,35 @@ static void many(void)
 	fall();
 }
 
+/* So many bytes of a method's are copied in a second, and no more; what isn't copied yet is, later. */
+static void too_fast(void)
+{
+	unsigned copies = 0;
+	stand(true, 640, 480);
+	uint64_t begun = now;
+	while (now < begun + 1000000) {
+		uint32_t buffer = of_row(ROW(wl_surface, attach), 0);
+		if (buffer > 0)
+			say_far(draft(buffer, wl_buffer_event_release, ""));
+		now += 101000;
+		read_events(&one);
+		draw(&first, 0);
+		round_ends();
+		copies += asked_times(&desktop, 0, ROW(wl_surface, attach));
+	}
+	HOLDS(copies == 10);
+	first.place.client->copies_from = now + 500000;
+	now += 101000;
+	draw(&first, 0);
+	round_ends();
+	int wait = core_wait(now);
+	HOLDS(asked_times(&desktop, 0, ROW(wl_surface, attach)) == 0 && wait > 390 && wait < 402);
+	now += 400000;
+	round_ends();
+	HOLDS(asked_times(&desktop, 0, ROW(wl_surface, attach)) == 1);
+	fall();
+}
+
 /* A destroyed buffer was committed already; one with its id isn't released in its place. */
 static void destroyed_buffer(void)
 {
@@ -614,6 +643,7 @@ int main(void)
 	unmapped();
 	lies();
 	many();
+	too_fast();
 	destroyed_buffer();
 	sizes();
 	late_frames();
