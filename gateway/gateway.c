@@ -1,11 +1,10 @@
 /* wlim-gateway, between clients and a compositor as it is: its words, files and loop. README.md says what it does. */
-#include "sockets.h"
+#include "shell.h"
 #include "usage.h" /* the text of usage.txt, as `usage` */
 #include <errno.h>
 #include <fcntl.h>
 #include <poll.h>
 #include <signal.h>
-#include <stdarg.h>
 #include <stdio.h>
 #include <stdlib.h>
 #include <string.h>
@@ -22,8 +21,6 @@ enum { ENTRIES_MAX = 3500000, RESTS = 100 /* milliseconds after a client couldn'
 
 static struct {
 	const char *names[WAITS]; /* of what is waited for: a socket's is its path, or its name in XDG_RUNTIME_DIR */
-	const char *files[OUTLETS]; /* where lines go, by name; NULL: nowhere */
-	FILE *outlets[OUTLETS];
 	struct sockaddr_un paths[2];
 	struct pollfd waits[WAITS + 2 * LINKS_MAX];
 	unsigned waiting[LINKS_MAX], waiting_count; /* the links of those */
@@ -33,42 +30,6 @@ static struct {
 	unsigned long entries; /* of a broker */
 	const char *ends; /* why; NULL: it goes on */
 } self = { .names = { "wlim-programs", "wlim-methods", "wayland-0", "signals" } };
-
-bool outlets[OUTLETS];
-
-void out(enum outlet outlet, const char *format, ...) {
-	va_list arguments;
-	if (!self.outlets[outlet])
-		return;
-	if (outlet == OUT_PROBLEMS)
-		fputs("wlim-gateway: ", stderr);
-	va_start(arguments, format);
-	vfprintf(self.outlets[outlet], format, arguments);
-	va_end(arguments);
-}
-
-#define say(format, ...) out(OUT_PROBLEMS, format "\n", ##__VA_ARGS__)
-
-/* Lines go to a new file that is the user's alone; where that can't be, nowhere, which is said. */
-static void open_outlet(enum outlet outlet, unsigned number) {
-	char path[4096];
-	const char *name = self.files[outlet];
-	if (!name)
-		return;
-	if (self.outlets[outlet] && fclose(self.outlets[outlet]) != 0)
-		say("%s isn't whole: %m", name);
-	snprintf(path, sizeof path, number > 1 ? "%s.%u" : "%s", name, number);
-	int file = open(path, O_WRONLY | O_CREAT | O_EXCL | O_NOFOLLOW | O_CLOEXEC, 0600);
-	self.outlets[outlet] = file >= 0 ? fdopen(file, "w") : NULL;
-	outlets[outlet] = self.outlets[outlet];
-	if (!outlets[outlet])
-		say("%s: %m", path);
-}
-
-void out_begin(unsigned number) {
-	open_outlet(OUT_RECORD, number);
-	open_outlet(OUT_TAKEN, number);
-}
 
 /* A new socket, and the address of the name; -1: the name is too long, or there is none. */
 static int socket_for(const char *name, struct sockaddr_un *address) {
@@ -204,9 +165,7 @@ static void run(void) {
 	perform();
 	unlink(self.paths[WAIT_PROGRAMS].sun_path);
 	unlink(self.paths[WAIT_METHODS].sun_path);
-	for (enum outlet outlet = OUT_RECORD; outlet < OUTLETS; outlet++)
-		if (self.outlets[outlet] && fclose(self.outlets[outlet]) != 0)
-			say("%s isn't whole: %m", self.files[outlet]);
+	outlets_close();
 }
 
 /* Reads the options. False: one is none. */
@@ -214,9 +173,9 @@ static bool read_words(int count, char **words) {
 	const char *display = getenv("WAYLAND_DISPLAY"), *entries = "3000000";
 	const struct option { const char *name, **value, *alone; } options[] = {
 		{ "--programs", &self.names[WAIT_PROGRAMS], NULL }, { "--methods", &self.names[WAIT_METHODS], NULL },
-		{ "--compositor", &self.names[WAIT_COMPOSITOR], NULL }, { "--record", &self.files[OUT_RECORD], NULL },
-		{ "--taken", &self.files[OUT_TAKEN], NULL }, { "--calls", &self.files[OUT_CALLS], NULL },
-		{ "--entries", &entries, NULL }, { "--log", &self.files[OUT_LOG], "" }, { 0 },
+		{ "--compositor", &self.names[WAIT_COMPOSITOR], NULL }, { "--record", &outlet_names[OUT_RECORD], NULL },
+		{ "--taken", &outlet_names[OUT_TAKEN], NULL }, { "--calls", &outlet_names[OUT_CALLS], NULL },
+		{ "--entries", &entries, NULL }, { "--log", &outlet_names[OUT_LOG], "" }, { 0 },
 	};
 	if (display)
 		self.names[WAIT_COMPOSITOR] = display;
@@ -237,10 +196,7 @@ static bool open_all(void) {
 	struct rlimit files;
 	umask(0077);
 	signal(SIGPIPE, SIG_IGN);
-	setvbuf(stdout, NULL, _IOLBF, 0);
-	self.outlets[OUT_PROBLEMS] = stderr;
-	self.outlets[OUT_LOG] = self.files[OUT_LOG] ? stdout : NULL;
-	outlets[OUT_LOG] = self.outlets[OUT_LOG];
+	outlets_open();
 	getrlimit(RLIMIT_NOFILE, &files);
 	files.rlim_cur = files.rlim_max;
 	setrlimit(RLIMIT_NOFILE, &files);
@@ -252,11 +208,7 @@ static bool open_all(void) {
 		if (file < 0)
 			return say("%s: %m", self.names[which]), false;
 	}
-	open_outlet(OUT_CALLS, 1);
-	bool opened = core_open(moment(), self.entries);
-	for (enum outlet outlet = OUT_RECORD; outlet < OUTLETS; outlet++)
-		opened &= !self.files[outlet] || outlets[outlet];
-	return opened;
+	return core_open(moment(), self.entries) && outlets_all();
 }
 
 int main(int count, char **words) {

@@ -1,5 +1,5 @@
 /* The shell's sockets and files: what came is told to the core, what it asks for is done. */
-#include "sockets.h"
+#include "shell.h"
 #include <errno.h>
 #include <fcntl.h>
 #include <stdlib.h>

@@ -16,7 +16,7 @@ gateway/build.sh "$made"
 mkdir -p "$checked"
 cp -r "$made/protocols" "$checked"
 gateway/build.sh "$checked" $sanitize
-core=$(ls gateway/*.c | grep -v -e /gateway.c -e /sockets.c)
+core=$(ls gateway/*.c | grep -v -e /gateway.c -e /sockets.c -e /outlets.c)
 for name in fuzz order popups shell play; do
 	${CC:-cc} $flags $sanitize -I"$checked" -o "$checked/$name" "tests/gateway_$name.c" $core "$checked/tables.c" \
 		out/libwlim/lib/libwlim.a
@@ -25,6 +25,7 @@ ${CC:-cc} $flags $sanitize -I"$checked" -o "$checked/units" tests/gateway_units.
 	gateway/{ids,keymaps,message,objects,popup_want,tokens,wire}.c "$checked/tables.c"
 ${CC:-cc} $flags -O2 -I"$made" -o "$made/speed" tests/gateway_speed.c gateway/message.c "$made/tables.c"
 ${CC:-cc} $flags -o "$checked/entry" tests/embed_entry.c $(pkg-config --cflags --libs gtk4)
+${CC:-cc} $flags -o "$checked/entry3" tests/gateway_entry3.c $(pkg-config --cflags --libs gtk+-3.0)
 rm -f "$checked"/*.session* "$checked"/*.taken* "$checked"/*.calls*
 "$checked/units"
 "$checked/shell"
@@ -36,6 +37,8 @@ done
 timeout 300 "$checked/fuzz" 100000 4 honest
 timeout -k 10 300 tests/gateway_peers.py "$checked"
 timeout -k 10 900 tests/gateway_programs.py "$checked" "$rounds"
+timeout -k 10 300 tests/gateway_hostile.py "$checked"
+timeout -k 10 900 tests/gateway_candidates.py "$checked"
 timeout -k 10 600 tests/gateway_replay.py "$program" "$checked"
 # As root above all that else keeps the processors busy.
 timeout -k 10 300 $([ "$(id -u)" != 0 ] || echo chrt -r 1) tests/gateway_figures.py "$made"
