@@ -18,6 +18,7 @@ enum { OWN_COMPOSITOR, OWN_MEMORY, OWN_SUBSURFACES, OWN_SHELL, OWN_VIEWS, OWN_SE
 union known {
 	struct surface { /* a program's wl_surface (surfaces.c) */
 		uint32_t role; /* its xdg_surface or layer surface */
+		uint32_t buffer; /* of a method's: what it attached last */
 		bool attaches, attached; /* its next commit brings a buffer, or none; what it is to have then */
 		bool is_mapped; /* it has a buffer and a role */
 		bool pends; /* its next commit brings something */
@@ -124,6 +125,8 @@ struct object *object_live(struct client *client, uint32_t id);
 /* NULL: the id isn't of this side, is live (the compositor's may be: it tells no end), leaves a gap, or is too high. */
 struct object *object_make(struct client *client, uint32_t id, const struct interface *interface, bool by_server);
 void object_free(struct client *client, uint32_t id);
+/* What it holds besides is let go (popup_pools.c). */
+void object_ends(struct client *client, struct object *object);
 
 /* ---- Ids: an object of the client's has one of its own, and another at the compositor (ids.c) ---- */
 #define FREE 0x80000000u /* with an id of `nears`: it names nothing */
@@ -251,7 +254,6 @@ void popups_copied(uint32_t token, bool is_whole, bool is_short);
 void popup_make(struct client *client, uint32_t id, uint32_t surface);
 void popup_destroy(struct client *client, uint32_t id);
 bool popup_request(struct client *client, struct object *object, const struct message *message, const uint32_t *tokens);
-void popup_object_ends(struct client *client, struct object *object);
 /* A program's surface or its role goes: so does what the gateway has on it. It was committed. A client ends. */
 void popups_leave(const struct client *program, uint32_t surface);
 void popups_committed(const struct client *program, uint32_t surface);

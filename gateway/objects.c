@@ -26,7 +26,7 @@ struct object *object_make(struct client *client, uint32_t id, const struct inte
 void object_free(struct client *client, uint32_t id) {
 	struct object *object = object_at(client, id);
 	if (object)
-		popup_object_ends(client, object);
+		object_ends(client, object);
 	if (object)
 		*object = (struct object){ 0 };
 }

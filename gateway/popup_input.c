@@ -36,6 +36,10 @@ static void touch_ends(void) {
 	touched.points = 0;
 }
 
+struct popup *pointed_at(void) {
+	return pointed.popup;
+}
+
 void pointed_leave(const struct popup *popup) {
 	if (pointed.popup == popup)
 		pointer_leaves();

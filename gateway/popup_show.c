@@ -70,7 +70,7 @@ void mirror_close(struct mirror *mirror) {
 			ASK(program, mirror->buffers[at], wl_buffer_request_destroy, "");
 	if (mirror->sub > 0) {
 		ASK(program, mirror->sub, wl_subsurface_request_destroy, "");
-	} else {
+	} else if (mirror->popup > 0) {
 		ASK(program, mirror->popup, xdg_popup_request_destroy, "");
 		ASK(program, mirror->xdg, xdg_surface_request_destroy, "");
 	}
@@ -81,12 +81,13 @@ void mirror_close(struct mirror *mirror) {
 			mirror->width, mirror->height);
 		surface_commits(program, mirror->parent);
 	}
-	log_note(program, "popup is hidden", &mirror->at.box);
+	if (!popup->is_cursor)
+		log_note(program, "popup is hidden", &mirror->at.box);
 	forget(mirror);
 	*mirror = (struct mirror){ 0 };
 }
 
-static void surface_make(struct popup *popup, struct mirror *mirror) {
+void surface_make(struct popup *popup, struct mirror *mirror) {
 	mirror->surface = private_make(mirror->program, &wl_surface_table, popup);
 	ASK(mirror->program, own_id(mirror->program, OWN_COMPOSITOR), wl_compositor_request_create_surface, "u", mirror->surface);
 }
@@ -214,6 +215,8 @@ static bool is_same(const struct mirror *one, const struct mirror *other) {
 void popup_update(struct popup *popup) {
 	struct mirror want = { .width = popup->width, .height = popup->height }, *mirror = &popup->mirror;
 	struct asked asked = { 0 };
+	if (popup->is_cursor)
+		return cursor_update(popup);
 	bool wanted = is_asked(popup, &want, &asked);
 	if (wanted)
 		want.at = popup_want(&asked);

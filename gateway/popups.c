@@ -1,27 +1,30 @@
 /* The popups of methods: what a method asks of their surfaces, which the compositor never hears of. */
 #include "popups.h"
-#include <stdlib.h>
 #include <string.h>
 
 struct popup popups[POPUPS];
 
-static struct popup *popup_on(const struct client *method, uint32_t surface) {
+struct popup *popup_on(const struct client *method, uint32_t surface) {
 	struct popup *popup = popups;
 	while (popup < popups + POPUPS && (popup->method != method || popup->surface != surface))
 		popup++;
 	return popup < popups + POPUPS ? popup : NULL;
 }
 
-void popup_make(struct client *client, uint32_t id, uint32_t surface) {
+struct popup *popup_new(struct client *method, uint32_t surface) {
 	struct popup *popup = popups;
 	while (popup < popups + POPUPS && popup->method)
 		popup++;
 	if (popup == popups + POPUPS)
-		return out(OUT_PROBLEMS, "client %u's popup isn't shown: there are too many\n", client->number);
-	if (!popup_on(client, surface))
-		*popup = (struct popup){
-			.method = client, .id = id, .surface = surface, .next.scale = 1, .now.scale = 1,
-		};
+		return out(OUT_PROBLEMS, "client %u's popup isn't shown: there are too many\n", method->number), NULL;
+	*popup = (struct popup){ .method = method, .surface = surface, .next.scale = 1, .now.scale = 1 };
+	return popup;
+}
+
+void popup_make(struct client *client, uint32_t id, uint32_t surface) {
+	struct popup *popup = popup_on(client, surface) ? NULL : popup_new(client, surface);
+	if (popup)
+		popup->id = id;
 }
 
 void popup_let_go(struct popup *popup) {
@@ -58,6 +61,7 @@ static void popup_end(struct popup *popup) {
 	popup_let_go(popup);
 	popup_end_frames(popup, &popup->frames, false, 0);
 	popup_end_frames(popup, &popup->next_frames, false, 0);
+	cursor_end(popup);
 	token_drop(popup->pixels.token);
 	token_drop(popup->copy);
 	token_drop(popup->copying);
@@ -117,46 +121,6 @@ int popups_wait(void) {
 	return least;
 }
 
-/* ---- Pixels that a method shares ---- */
-
-void popup_object_ends(struct client *client, struct object *object) {
-	bool is_file = object->interface == &wl_shm_pool_table || object->interface == &wl_buffer_table;
-	if (is_file && object->known.pixels.token > 0) {
-		token_drop(object->known.pixels.token);
-		client->held--;
-	} else if (object->interface == &zwp_text_input_v2_table && object->known.older) {
-		free(object->known.older);
-		client->held--;
-	}
-}
-
-static void keep_file(struct client *client, struct object *object, struct pixels pixels) {
-	if (pixels.token == 0 || client->held == HELD_MAX)
-		return;
-	token_keep(pixels.token);
-	client->held++;
-	object->known.pixels = pixels;
-}
-
-static void pool_request(struct client *client, struct object *pool, const struct message *message) {
-	const int32_t *w = (const int32_t *)message->numbers;
-	struct pixels *pixels = &pool->known.pixels;
-	if (IS(message, wl_shm_pool, request, resize) && w[0] > pixels->size)
-		pixels->size = w[0];
-	else if (IS(message, wl_shm_pool, request, create_buffer))
-		keep_file(client, object_at(client, message->numbers[0]), (struct pixels){ pixels->token, message->numbers[5],
-			pixels->size, w[1], w[2], w[3], w[4] });
-}
-
-/* What the compositor will take, as it would check itself: of wl_shm's ARGB or XRGB, in the pool, not too large. */
-static bool is_good(const struct pixels *p) {
-	return p->token > 0 && p->format <= 1 && p->width > 0 && p->width <= SIDE_MAX && p->height > 0 && p->height <= SIDE_MAX
-		&& p->stride % 4 == 0 && p->stride / 4 >= p->width && p->stride <= PIXELS_MAX / p->height && p->offset >= 0
-		&& p->stride * p->height <= p->size && p->offset <= p->size - p->stride * p->height;
-}
-
-/* ---- The surfaces of popups ---- */
-
 /* The size on the screen: its viewport's, or its own, of which `scale` pixels are one. A source has to lie in the pixels. */
 static void resize(struct popup *popup) {
 	const struct state *now = &popup->now;
@@ -183,7 +147,7 @@ static void take_buffer(struct popup *popup) {
 	popup->held = is_buffer ? popup->attached : 0;
 	popup->held_number = is_buffer ? buffer->number : 0;
 	popup->content++;
-	if (is_buffer && is_good(&buffer->known.pixels)) {
+	if (is_buffer && pixels_good(&buffer->known.pixels)) {
 		popup->pixels = buffer->known.pixels;
 		token_keep(popup->pixels.token);
 	} else if (is_buffer) {
@@ -214,6 +178,13 @@ static void commit(struct popup *popup) {
 	else if (popup->attaches || resizes)
 		resize(popup);
 	popup->attaches = false;
+}
+
+void popup_had(struct popup *popup, uint32_t buffer) {
+	popup->attaches = true;
+	popup->attached = buffer;
+	commit(popup);
+	popup->held = 0; /* it is the compositor's to release */
 }
 
 /* A request of a popup's surface: the compositor hears of none but its end. */
@@ -274,11 +245,15 @@ bool popup_request(struct client *client, struct object *object, const struct me
 	const uint32_t *w = message->numbers;
 	struct popup *popup;
 	if (IS(message, wl_shm, request, create_pool)) {
-		keep_file(client, object_at(client, w[0]), (struct pixels){ .token = tokens[0], .size = (int32_t)w[2] });
+		pool_make(client, object_at(client, w[0]), tokens[0], (int32_t)w[2]);
 	} else if (object->interface == &wl_shm_pool_table && object->known.pixels.token > 0) {
 		pool_request(client, object, message);
 	} else if (object->interface == &wl_surface_table && (popup = popup_on(client, message->object))) {
 		return surface_asks(popup, message);
+	} else if (IS(message, wl_surface, request, attach)) {
+		object->known.surface.buffer = w[0];
+	} else if (IS(message, wl_pointer, request, set_cursor)) {
+		cursor_set(client, message);
 	} else if (IS(message, wp_viewporter, request, get_viewport)) {
 		object_at(client, w[0])->known.view.popup = w[1];
 	} else if (object->interface == &wp_viewport_table && (popup = popup_on(client, object->known.view.popup))) {

@@ -36,6 +36,8 @@ struct frames { unsigned count; uint32_t ids[FRAMES]; }; /* callbacks of a metho
 struct popup {
 	struct client *method; /* NULL: there is none */
 	uint32_t id, surface; /* the popup's and its surface's, at the method */
+	bool is_cursor, sets; /* it is a pointer's image, of no popup; the compositor is to be told so anew */
+	uint32_t serial, x, y; /* of that: of the pointer's enter; the point in it */
 	bool attaches; /* a buffer or 0 comes with the next commit */
 	uint32_t attached;
 	struct state next, now;
@@ -73,6 +75,23 @@ void popup_let_go(struct popup *popup);
 /* In how many microseconds its pixels may be copied; 0: now. */
 uint64_t popup_copies_in(const struct popup *popup);
 void popup_end_frames(struct popup *popup, struct frames *frames, bool tells, uint32_t time);
-/* Nothing of it is pointed at any more (popup_input.c). Events of the gateway's own seat, pointer and touch. */
+/* A method's pool is made; a request of it. Whether the compositor will take a buffer, as it would check itself: of wl_shm's
+ * ARGB or XRGB, in the pool, not too large (popup_pools.c). */
+void pool_make(struct client *client, struct object *pool, uint32_t token, int32_t size);
+void pool_request(struct client *client, struct object *pool, const struct message *message);
+bool pixels_good(const struct pixels *pixels);
+/* A new one on a method's surface, or NULL. The one that is; NULL: none. */
+struct popup *popup_new(struct client *method, uint32_t surface);
+struct popup *popup_on(const struct client *method, uint32_t surface);
+/* A method's surface had a buffer before it was a popup's or a pointer's: it is shown, as if it was committed now. */
+void popup_had(struct popup *popup, uint32_t buffer);
+void surface_make(struct popup *popup, struct mirror *mirror);
+/* The pointer's image on popups (popup_cursor.c): a method sets it; it is shown, or not. */
+void cursor_set(struct client *method, const struct message *message);
+void cursor_update(struct popup *popup);
+void cursor_end(const struct popup *popup);
+/* Nothing of it is pointed at any more (popup_input.c). The popup that the pointer is in; NULL: none. Events of the
+ * gateway's own seat, pointer and touch. */
 void pointed_leave(const struct popup *popup);
+struct popup *pointed_at(void);
 void input_event(struct client *program, uint32_t far, const struct interface *interface, struct message *message);

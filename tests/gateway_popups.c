@@ -261,6 +261,28 @@ static void menu(void)
 	fall();
 }
 
+/* The image that a method sets for the pointer on its popup, which had its pixels before; it goes with the pointer. */
+static void cursor_image(uint32_t surface, uint32_t pointer)
+{
+	request(&first, draft(MAKER, wl_compositor_request_create_surface, "u", FRAME));
+	request(&first, draft(FRAME, wl_surface_request_attach, "uuu", BUFFER, 0, 0));
+	request(&first, draft(FRAME, wl_surface_request_commit, ""));
+	request(&first, draft(MOUSE, wl_pointer_request_set_cursor, "uuuu", 152, FRAME, 3, 4));
+	round_ends();
+	HOLDS(desktop.asked_count == 0); /* the pointer isn't on it */
+	say_far(draft(pointer, wl_pointer_event_enter, "uuuu", 156, surface, 512, 768));
+	read_events(&one);
+	request(&first, draft(MOUSE, wl_pointer_request_set_cursor, "uuuu", 156, FRAME, 3, 4));
+	round_ends();
+	uint32_t image = of_row(ROW(wl_pointer, set_cursor), 1);
+	HOLDS(image > 0 && of_row(ROW(wl_pointer, set_cursor), 0) == 156 && of_row(ROW(wl_pointer, set_cursor), 3) == 4);
+	HOLDS(asked_times(&desktop, image, ROW(wl_surface, attach)) == 1 && of_row(ROW(wl_shm_pool, create_buffer), 2) == WIDTH);
+	say_far(draft(pointer, wl_pointer_event_leave, "uu", 157, surface));
+	read_events(&one);
+	round_ends();
+	HOLDS(asked_times(&desktop, image, ROW(wl_surface, destroy)) == 1);
+}
+
 /* The pointer goes from the window to the popup: the method hears of it, the program of a leave. So do fingers. */
 static void pointed_at(void)
 {
@@ -292,6 +314,7 @@ static void pointed_at(void)
 	HOLDS(HEARD(&one, POINTER, wl_pointer_event_motion) == 1 && HEARD(&one, POINTER, wl_pointer_event_button) == 0);
 	HOLDS(HEARD(&first, MOUSE, wl_pointer_event_enter, 152, PIXELS, 512, 768) == 1);
 	HOLDS(HEARD(&first, MOUSE, wl_pointer_event_button, 153, 2, 0x110, 1) == 1 && HEARD(&first, MOUSE, wl_pointer_event_leave) == 1);
+	cursor_image(surface, pointer);
 	for (int each = 0; each < 2; each++) { /* one finger on the window, another on the popup */
 		uint32_t id = each ? touch : their_touch;
 		say_far(draft(id, wl_touch_event_down, "uuuuuu", 160, 1, window, 0, 256, 256));

@@ -177,7 +177,7 @@ static void private_ids(void)
 }
 
 /* What a buffer or a pool holds is let go elsewhere. */
-void popup_object_ends(struct client *client, struct object *object)
+void object_ends(struct client *client, struct object *object)
 {
 	HOLDS(client && object);
 }
