@@ -82,7 +82,8 @@ static void take(uint32_t peer) {
 	struct wlim_taken taken;
 	struct client *client = client_of(peer);
 	size_t size = 0, count = 0;
-	while (wlim_broker_take(&broker, gateway.moment, peer, bytes + size, PIECE, tokens + count, 256, &taken) == WLIM_GIVEN) {
+	while (wlim_broker_take(&broker, gateway.moment, peer, bytes + size, PIECE, tokens + count, 256, &taken)
+			== WLIM_GIVEN) {
 		broker_record(WLIM_GIVEN, "take %u %zu", peer, taken.bytes);
 		size += taken.bytes;
 		count += taken.tokens;

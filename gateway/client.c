@@ -104,7 +104,7 @@ static void event_play(struct client *client, struct message *message, const uin
 		token_drop(tokens[at]);
 }
 
-/* Whether the message waits for what the shell is asked now: a keymap's text, or what the last focus was told before. */
+/* Whether the message waits for what the shell is asked now: a keymap's text, or what the last focus was told. */
 static bool asks(struct client *client, enum side side, const struct message *message) {
 	struct wire *wire = wire_of(client, side);
 	const struct object *object = object_at(client, message->object);

@@ -93,8 +93,8 @@ uint32_t core_token(void) {
 	return token_make();
 }
 
-void core_receive(uint64_t moment, unsigned link, enum side side, const uint8_t *bytes, size_t size, const uint32_t *tokens,
-		size_t count) {
+void core_receive(uint64_t moment, unsigned link, enum side side, const uint8_t *bytes, size_t size,
+		const uint32_t *tokens, size_t count) {
 	struct client *client = at(moment, link);
 	called_with("receive", link, side, bytes, size, tokens, count);
 	if (client && !client->ending) {

@@ -24,8 +24,8 @@ unsigned core_join(uint64_t moment, enum role role);
 size_t core_room(unsigned link, enum side side);
 uint32_t core_token(void);
 /* What came: bytes, however cut, and the tokens of what came with them; 0: one that couldn't be kept. */
-void core_receive(uint64_t moment, unsigned link, enum side side, const uint8_t *bytes, size_t size, const uint32_t *tokens,
-	size_t count);
+void core_receive(uint64_t moment, unsigned link, enum side side, const uint8_t *bytes, size_t size,
+	const uint32_t *tokens, size_t count);
 /* That side hung up, or takes no more; why is NULL where it did so by itself. */
 void core_hung_up(uint64_t moment, unsigned link, enum side side, const char *why);
 /* After what came: what is to be shown is. Then ends what is to end, once the rest was written: whether anybody did. */
@@ -60,11 +60,12 @@ struct effect {
 };
 /*
  * False: there is nothing to do. Else
- * EFFECT_READ:  read once what the compositor has for the client whose link is `from`, tell it and do what comes of that;
- *               then core_go_on with `link` and `side`;
+ * EFFECT_READ:  read once what the compositor has for the client whose link is `from`, and do what comes of that; then
+ *               core_go_on with `link` and `side`;
  * EFFECT_TEXT:  core_text with `link` and `side`, and the first `size` bytes of `from`;
  * EFFECT_FILE:  `token` is a file of `size` bytes, as they are at `bytes` now, that nobody can change; NULL: of zeros;
- * EFFECT_COPY:  `token` is a file of `size` bytes that `from` has from `offset` on, which nobody can cut off: then core_copied;
+ * EFFECT_COPY:  `token` is a file of `size` bytes that `from` has from `offset` on, which nobody can cut off; then
+ *               core_copied;
  * EFFECT_CLOSE: `token` is nothing any more;
  * EFFECT_END:   close both sides of `link`.
  */

@@ -52,7 +52,7 @@ static int compositor_connect(void) {
 	return close(file), -1;
 }
 
-/* A socket that clients connect to, the user's alone; -1: there is none, somebody listens at it, or it is another file. */
+/* A socket that clients connect to, the user's alone; -1: somebody listens at it, or it is no socket. */
 static int listen_at(const char *name, struct sockaddr_un *address) {
 	int file = socket_for(name, address);
 	struct stat state;

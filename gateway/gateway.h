@@ -90,7 +90,7 @@ struct client {
 	bool is_wlroots; /* the compositor is of wlroots: it may end who has an xdg_popup, when the focus goes */
 	struct listed { uint32_t ids[LISTED_MAX]; unsigned count; } pointers, touches; /* a method's */
 	uint64_t copies_from; /* the moment from which on its pixels are copied */
-	struct own { uint32_t name, version, id; } owns[OWNS]; /* globals, and the gateway's objects of them at the compositor */
+	struct own { uint32_t name, version, id; } owns[OWNS]; /* globals, and the gateway's objects of them there */
 	uint32_t own_pointer, own_touch;
 	unsigned private_count;
 	struct private { /* an object of the gateway's at the compositor */
@@ -99,7 +99,8 @@ struct client {
 		bool is_used; /* the compositor hasn't freed its id */
 	} privates[PRIVATES_MAX];
 	uint32_t far_count, far_free; /* ids that were ever used at the compositor; the first that can be used again, or 0 */
-	uint32_t nears[OBJECTS_MAX]; /* of each of them the client's id, PRIVATE and a place in privates, or FREE and the next that can be used again */
+	/* Of each of them the client's id, or PRIVATE and a place in privates, or FREE and the next that can be used again. */
+	uint32_t nears[OBJECTS_MAX];
 };
 
 extern struct gateway {
@@ -143,15 +144,15 @@ bool ids_to_far(struct client *client, struct message *message);
 /* Gives an event the client's ids. Whether it names an object of the gateway's own, which is 0 then; or nothing. */
 enum named { NAMED_OBJECTS, NAMED_PRIVATE, NAMED_NOTHING };
 enum named ids_to_near(struct client *client, struct message *message);
-/* A new id of the gateway's own at the compositor; there has to be one (ids_left). What has the id, or NULL. Nobody hears
- * of it any more. */
+/* A new id of the gateway's own at the compositor; there has to be one (ids_left). What has the id, or NULL. Nobody
+ * hears of it any more. */
 bool ids_left(const struct client *client);
 uint32_t private_make(struct client *client, const struct interface *interface, struct popup *owner);
 struct private *private_of(struct client *client, uint32_t far);
 void private_forget(struct client *client, uint32_t far);
 
 /* ---- Clients (client.c; requests.c plays their messages) ---- */
-/* A new client, before the others, or NULL: there is no memory. One that isn't in the list any more is closed and freed. */
+/* A new client, before the others, or NULL: there is no memory. One that isn't in the list any more is closed. */
 struct client *client_open(enum role role);
 void client_close(struct client *client);
 static inline struct wire *wire_of(struct client *client, enum side side) {
@@ -211,7 +212,7 @@ void renew(void);
 /* ---- The keyboard of the seat (keyboard.c) ---- */
 /* An event of a wl_keyboard of the seat: whether the client gets it. The focus leaves its surface; 0: any of its. */
 bool keyboard_event(struct client *client, const struct message *message);
-/* Whether it is an enter, before which what the compositor told the last focus is to be read: that client; NULL: it isn't. */
+/* Of an enter: the client that had the focus, for which what the compositor told is to be read before; or NULL. */
 struct client *keyboard_reads_first(const struct client *client, const struct message *message);
 void keyboard_leave(const struct client *client, uint32_t surface);
 /* A key or modifiers that a client's board sent and no grab has: for who has the focus, with the board's keymap. */

@@ -42,7 +42,9 @@ bool globals_add(struct client *client, struct message *message) {
 	popups_global(client, name, message->texts[1], message->numbers[2]);
 	if (interface == &wl_seat_table && (gateway.seat == 0 || name < gateway.seat))
 		gateway.seat = name;
-	uint32_t most = interface == &wl_seat_table && interface->version > SEAT_MAX ? SEAT_MAX : interface ? interface->version : 0;
+	uint32_t most = interface ? interface->version : 0;
+	if (interface == &wl_seat_table && most > SEAT_MAX)
+		most = SEAT_MAX;
 	if (interface && message->numbers[2] > most)
 		memcpy(message->bytes + message->size - 4, &most, 4);
 	return interface && !is_hidden(client, interface);

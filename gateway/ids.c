@@ -44,7 +44,7 @@ bool ids_left(const struct client *client) {
 
 uint32_t private_make(struct client *client, const struct interface *interface, struct popup *owner) {
 	uint32_t place = 0;
-	while (client->privates[place].is_used)
+	while (place + 1 < PRIVATES_MAX && client->privates[place].is_used)
 		place++;
 	client->private_count++;
 	client->privates[place] = (struct private){ interface, owner, true };
@@ -64,8 +64,11 @@ void private_forget(struct client *client, uint32_t far) {
 
 bool ids_to_far(struct client *client, struct message *message) {
 	const char *kinds = message->signature->kinds;
+	bool is_full = client->far_free == 0 && client->far_count > OBJECTS_MAX - PRIVATES_KEPT;
 	for (unsigned at = 0; at < message->count; at++) {
 		uint32_t id = message->numbers[at], far = id;
+		if (kinds[at] == 'n' && is_full)
+			return false;
 		if (kinds[at] == 'n')
 			far = object_at(client, id)->far = far_make(client, id);
 		else if ((kinds[at] == 'o' || kinds[at] == 'O') && id > 0)

@@ -136,7 +136,8 @@ void keyboard_unmapped(const struct client *client, uint32_t surface) {
 }
 
 void keyboard_mapped(struct client *client, uint32_t surface) {
-	if (!seat.is_unmapped || seat.last != client || seat.surface != surface || seat.number != object_at(client, surface)->number)
+	if (!seat.is_unmapped || seat.last != client || seat.surface != surface
+			|| seat.number != object_at(client, surface)->number)
 		return;
 	seat.is_unmapped = false;
 	seat.focus = client;

@@ -10,7 +10,8 @@ static uint32_t count;
 
 uint32_t keymap_number(uint32_t format, const uint8_t *text, uint32_t size) {
 	uint32_t at = 0;
-	while (text && at < count && (kept[at].format != format || kept[at].size != size || memcmp(kept[at].text, text, size) != 0))
+	while (text && at < count
+			&& (kept[at].format != format || kept[at].size != size || memcmp(kept[at].text, text, size) != 0))
 		at++;
 	if (!text || at < count || at == KEPT)
 		return text && at < count ? at + 1 : 0;

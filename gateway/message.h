@@ -41,7 +41,7 @@ struct message {
 /* Whether the bytes begin with a whole message; FRONT_BAD: its size is under 8 or no multiple of 4. */
 enum front { FRONT_WAITS, FRONT_WHOLE, FRONT_BAD };
 enum front message_front(uint8_t *bytes, size_t length, struct message *message);
-/* Reads the arguments. False: the body isn't a spelling of them. And gives a message another word, or another object. */
+/* Reads the arguments. False: the body isn't a spelling of them. And gives it another word, or another object. */
 bool message_read(struct message *message, const struct signature *signature);
 void message_set(struct message *message, unsigned argument, uint32_t word);
 void message_address(struct message *message, uint32_t object);

@@ -1,4 +1,4 @@
-/* Pointer and touch on popups: what the gateway's own seat tells goes to the method, and nothing of it to the program. */
+/* Pointer and touch on popups: what the gateway's own seat tells goes to the method, nothing of it to the program. */
 #include "popups.h"
 #include <string.h>
 
@@ -9,7 +9,8 @@ static struct { struct popup *popup; uint32_t surface; } pointed;
 static struct { struct popup *popup; uint32_t points; } touched;
 
 /* An event, to each of the method's objects of that kind and version. */
-static void tell(const struct popup *popup, const struct listed *listed, uint32_t since, const struct message *message) {
+static void tell(const struct popup *popup, const struct listed *listed, uint32_t since,
+		const struct message *message) {
 	for (unsigned at = 0; at < listed->count; at++) {
 		const struct object *object = object_live(popup->method, listed->ids[at]);
 		if (!object || object->version < since)
@@ -102,8 +103,8 @@ static void touch_event(struct client *program, const struct message *message) {
 			return;
 		touched.popup = popup;
 		touched.points |= point;
-		return tell(popup, &popup->method->touches, 1, draft(0, wl_touch_event_down, "uuuuuu", w[0], w[1], popup->surface, w[3],
-			w[4], w[5]));
+		return tell(popup, &popup->method->touches, 1, draft(0, wl_touch_event_down, "uuuuuu", w[0], w[1], popup->surface,
+			w[3], w[4], w[5]));
 	}
 	if (!is_here(touched.popup, program))
 		return;
@@ -160,7 +161,8 @@ static bool is_named(const struct message *message, const char *const names[3]) 
 }
 
 bool popups_hide(struct object *object, const struct message *message, bool names_private) {
-	static const char *const begins[3] = { "enter", "proximity_in", "begin" }, *const ends[3] = { "leave", "proximity_out", "end" };
+	static const char *const begins[3] = { "enter", "proximity_in", "begin" };
+	static const char *const ends[3] = { "leave", "proximity_out", "end" };
 	struct hidden *hidden = &object->known.hidden;
 	if (object->interface == &wl_touch_table)
 		return hides_touch(hidden, message, names_private);

@@ -33,9 +33,10 @@ static void set_view(struct popup *popup, struct mirror *mirror) {
 	}
 	if (mirror->view == 0)
 		return;
-	uint32_t none = (uint32_t)-1, no_source = (uint32_t)-256;
-	ASK(program, mirror->view, wp_viewport_request_set_destination, "uu", now->view_width > 0 ? now->view_width : (int32_t)none,
-		now->view_width > 0 ? now->view_height : (int32_t)none);
+	bool has_size = now->view_width > 0;
+	uint32_t no_source = (uint32_t)-256;
+	ASK(program, mirror->view, wp_viewport_request_set_destination, "uu", has_size ? now->view_width : -1,
+		has_size ? now->view_height : -1);
 	if (now->has_source)
 		ASK(program, mirror->view, wp_viewport_request_set_source, "uuuu", now->source[0], now->source[1], now->source[2],
 			now->source[3]);

@@ -2,49 +2,7 @@
 #include "popups.h"
 #include <string.h>
 
-enum { BOTTOM_LEFT = 6, BOTTOM_RIGHT = 8, SLIDE_AND_FLIP = 1 | 2 | 8 /* of xdg_positioner: slide in x and y, flip in y */ };
-
-static const struct { const struct interface *interface; uint32_t version; bool may_lack; } owns[OWNS] = {
-	[OWN_COMPOSITOR] = { &wl_compositor_table, 4, false }, [OWN_MEMORY] = { &wl_shm_table, 1, false },
-	[OWN_SUBSURFACES] = { &wl_subcompositor_table, 1, false }, [OWN_SHELL] = { &xdg_wm_base_table, 3, true },
-	[OWN_VIEWS] = { &wp_viewporter_table, 1, true }, [OWN_SEAT] = { &wl_seat_table, 5, false },
-};
-
-void popups_global(struct client *client, uint32_t name, const char *interface, uint32_t version) {
-	for (unsigned at = 0; at < OWNS; at++)
-		if (client->owns[at].name == 0 && strcmp(interface, owns[at].interface->name) == 0) {
-			client->owns[at].name = name;
-			client->owns[at].version = version < owns[at].version ? version : owns[at].version;
-		}
-	client->is_wlroots |= strcmp(interface, "zwlr_screencopy_manager_v1") == 0;
-}
-
-void popups_global_gone(struct client *client, uint32_t name) {
-	for (unsigned at = 0; at < OWNS; at++)
-		if (client->owns[at].name == name && client->owns[at].id == 0)
-			client->owns[at].name = 0;
-}
-
-/* The gateway's own objects in a program's connection. False: they can't be had. */
-static bool has_own(struct client *program) {
-	for (unsigned at = 0; at < OWNS; at++)
-		if (program->owns[at].name == 0 && !owns[at].may_lack)
-			return false;
-	if (!ids_left(program) || wire_waiting(&program->far) > WIRE_SLOW)
-		return false;
-	if (program->owns[OWN_COMPOSITOR].id > 0)
-		return true;
-	uint32_t registry = private_make(program, &wl_registry_table, NULL);
-	ASK(program, DISPLAY, wl_display_request_get_registry, "u", registry);
-	for (unsigned at = 0; at < OWNS; at++) {
-		struct own *own = &program->owns[at];
-		if (own->name == 0)
-			continue;
-		own->id = private_make(program, owns[at].interface, NULL);
-		ASK(program, registry, wl_registry_request_bind, "usuu", own->name, owns[at].interface->name, own->version, own->id);
-	}
-	return true;
-}
+enum { BOTTOM_LEFT = 6, BOTTOM_RIGHT = 8, SLIDE_AND_FLIP = 1 | 2 | 8 /* of xdg_positioner: in x and y; in y */ };
 
 static void forget(struct mirror *mirror) {
 	const uint32_t ids[] = { mirror->surface, mirror->sub, mirror->xdg, mirror->popup, mirror->view, mirror->frame };
@@ -75,10 +33,10 @@ void mirror_close(struct mirror *mirror) {
 		ASK(program, mirror->xdg, xdg_surface_request_destroy, "");
 	}
 	ASK(program, mirror->surface, wl_surface_request_destroy, "");
-	if (mirror->sub > 0 && far_of(program, mirror->parent) > 0 && object_at(program, mirror->parent)->number == mirror->number
-			&& !object_at(program, mirror->parent)->is_gone) {
-		ASK(program, far_of(program, mirror->parent), wl_surface_request_damage, "uuuu", mirror->at.box.x, mirror->at.box.y,
-			mirror->width, mirror->height);
+	const struct object *parent = mirror->sub > 0 ? object_live(program, mirror->parent) : NULL;
+	if (parent && parent->number == mirror->number && !parent->is_gone) {
+		ASK(program, parent->far, wl_surface_request_damage, "uuuu", mirror->at.box.x, mirror->at.box.y, mirror->width,
+			mirror->height);
 		surface_commits(program, mirror->parent);
 	}
 	if (!popup->is_cursor)
@@ -88,8 +46,9 @@ void mirror_close(struct mirror *mirror) {
 }
 
 void surface_make(struct popup *popup, struct mirror *mirror) {
-	mirror->surface = private_make(mirror->program, &wl_surface_table, popup);
-	ASK(mirror->program, own_id(mirror->program, OWN_COMPOSITOR), wl_compositor_request_create_surface, "u", mirror->surface);
+	struct client *program = mirror->program;
+	mirror->surface = private_make(program, &wl_surface_table, popup);
+	ASK(program, own_id(program, OWN_COMPOSITOR), wl_compositor_request_create_surface, "u", mirror->surface);
 }
 
 /* As a subsurface, for which nothing is configured: a compositor that takes popups away can't meet a request of it. */
@@ -126,14 +85,17 @@ static uint32_t positioner_make(const struct mirror *want) {
 	return positioner;
 }
 
+static bool is_placed(const struct mirror *mirror, const struct mirror *want) {
+	return mirror->width == want->width && mirror->height == want->height
+		&& memcmp(&mirror->at, &want->at, sizeof want->at) == 0;
+}
+
 /* As an xdg_popup, which the compositor keeps on the screen. */
 static void place_beside(struct popup *popup, struct mirror *mirror, const struct mirror *want) {
 	struct client *program = want->program;
-	const struct object *surface = object_at(program, want->parent), *role = object_at(program, surface->known.surface.role);
+	const struct object *role = object_at(program, object_at(program, want->parent)->known.surface.role);
 	bool is_new = !mirror->program, is_xdg = role->interface == &xdg_surface_table;
-	bool same = memcmp(&mirror->at, &want->at, sizeof want->at) == 0 && mirror->width == want->width
-		&& mirror->height == want->height;
-	if (!is_new && same)
+	if (!is_new && is_placed(mirror, want))
 		return;
 	mirror->program = program;
 	if (is_new)
@@ -178,7 +140,9 @@ static const struct object *top_popup(struct client *program, uint32_t window, s
 static bool is_asked(const struct popup *popup, struct mirror *want, struct asked *asked) {
 	const struct client *method = popup->method;
 	struct client *program = want->program = keyboard_focus(&want->parent);
-	if (popup->width < 1 || !method->is_active || method->serves == 0 || !program || program->ending || program->field == 0)
+	if (popup->width < 1 || !method->is_active || method->serves == 0)
+		return false;
+	if (!program || program->ending || program->field == 0)
 		return false;
 	const struct object *surface = object_live(program, want->parent);
 	const struct object *role = surface && !surface->is_gone && surface->known.surface.is_mapped
@@ -208,8 +172,7 @@ static bool is_asked(const struct popup *popup, struct mirror *want, struct aske
 }
 
 static bool is_same(const struct mirror *one, const struct mirror *other) {
-	return one->program == other->program && one->number == other->number && one->width == other->width
-		&& one->height == other->height && memcmp(&one->at, &other->at, sizeof one->at) == 0;
+	return one->program == other->program && one->number == other->number && is_placed(one, other);
 }
 
 void popup_update(struct popup *popup) {
@@ -223,7 +186,8 @@ void popup_update(struct popup *popup) {
 	if (want.at.way == INSIDE) /* it may have another size without being placed anew */
 		want.at.box.width = want.at.box.height = 0;
 	wanted &= want.at.way != NOWHERE;
-	bool may_stay = wanted && mirror->program == want.program && mirror->number == want.number && mirror->at.way == want.at.way;
+	bool may_stay = wanted && mirror->program == want.program && mirror->number == want.number
+		&& mirror->at.way == want.at.way;
 	bool may_move = want.at.way == INSIDE || is_same(mirror, &want)
 		|| (want.program && want.program->owns[OWN_SHELL].version >= SINCE_REPOSITION);
 	if (mirror->program && !(may_stay && may_move))
@@ -257,7 +221,8 @@ static void output_event(struct popup *popup, uint16_t opcode, uint32_t far) {
 	}
 }
 
-static void mirror_event(struct popup *popup, uint32_t far, const struct interface *interface, struct message *message) {
+static void mirror_event(struct popup *popup, uint32_t far, const struct interface *interface,
+		struct message *message) {
 	struct mirror *mirror = &popup->mirror;
 	if (interface == &xdg_surface_table) {
 		ASK(mirror->program, far, xdg_surface_request_ack_configure, "u", message->numbers[0]);

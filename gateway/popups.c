@@ -121,20 +121,32 @@ int popups_wait(void) {
 	return least;
 }
 
-/* The size on the screen: its viewport's, or its own, of which `scale` pixels are one. A source has to lie in the pixels. */
-static void resize(struct popup *popup) {
+/* Whether the compositor will take the scale and the viewport's source: else it would end the program. */
+static bool can_be_shown(const struct popup *popup) {
 	const struct state *now = &popup->now;
 	const struct pixels *p = &popup->pixels;
 	uint64_t right = (uint64_t)now->source[0] + now->source[2], bottom = (uint64_t)now->source[1] + now->source[3];
-	bool whole = right <= (uint64_t)p->width * 256 / (uint64_t)now->scale && bottom <= (uint64_t)p->height * 256 / (uint64_t)now->scale;
-	popup->width = now->view_width > 0 ? now->view_width : now->has_source ? (int32_t)(now->source[2] / 256) : p->width / now->scale;
-	popup->height = now->view_width > 0 ? now->view_height : now->has_source ? (int32_t)(now->source[3] / 256)
-		: p->height / now->scale;
-	bool even = p->width % now->scale == 0 && p->height % now->scale == 0;
-	bool fixed = now->view_width > 0 || (now->source[2] % 256 == 0 && now->source[3] % 256 == 0);
-	if (!even || !fixed || (now->has_source && !whole) || popup->width < 1 || popup->height < 1 || popup->width > SIDE_MAX
-			|| popup->height > SIDE_MAX || popup->width > PIXELS_MAX / 4 / popup->height)
-		popup->width = popup->height = 0; /* the compositor would refuse it, and with it the program */
+	uint64_t width = (uint64_t)(p->width / now->scale), height = (uint64_t)(p->height / now->scale);
+	bool is_whole = now->view_width > 0 || (now->source[2] % 256 == 0 && now->source[3] % 256 == 0);
+	return p->width % now->scale == 0 && p->height % now->scale == 0 && is_whole
+		&& (!now->has_source || (right <= width * 256 && bottom <= height * 256));
+}
+
+/* The size on the screen: its viewport's, its source's, or its own, of which `scale` pixels are one. */
+static void resize(struct popup *popup) {
+	const struct state *now = &popup->now;
+	int32_t width = popup->pixels.width / now->scale, height = popup->pixels.height / now->scale;
+	if (now->view_width > 0) {
+		width = now->view_width;
+		height = now->view_height;
+	} else if (now->has_source) {
+		width = (int32_t)(now->source[2] / 256);
+		height = (int32_t)(now->source[3] / 256);
+	}
+	bool is_large = width > SIDE_MAX || height > SIDE_MAX || (height > 0 && width > PIXELS_MAX / 4 / height);
+	bool shows = can_be_shown(popup) && width > 0 && height > 0 && !is_large;
+	popup->width = shows ? width : 0;
+	popup->height = shows ? height : 0;
 }
 
 static void take_buffer(struct popup *popup) {
@@ -159,8 +171,9 @@ static void take_buffer(struct popup *popup) {
 
 static void commit(struct popup *popup) {
 	const struct state *next = &popup->next, *now = &popup->now;
-	bool resizes = next->scale != now->scale || next->view_width != now->view_width || next->view_height != now->view_height
-		|| next->has_source != now->has_source || memcmp(next->source, now->source, sizeof now->source) != 0;
+	bool resizes = next->scale != now->scale || next->view_width != now->view_width
+		|| next->view_height != now->view_height || next->has_source != now->has_source
+		|| memcmp(next->source, now->source, sizeof now->source) != 0;
 	if (popup->frames.count == 0)
 		popup->since = gateway.moment;
 	for (unsigned at = 0; at < popup->next_frames.count; at++)
@@ -241,7 +254,8 @@ static void unlist(struct listed *listed, uint32_t id) {
 			listed->ids[at--] = listed->ids[--listed->count];
 }
 
-bool popup_request(struct client *client, struct object *object, const struct message *message, const uint32_t *tokens) {
+bool popup_request(struct client *client, struct object *object, const struct message *message,
+		const uint32_t *tokens) {
 	const uint32_t *w = message->numbers;
 	struct popup *popup;
 	if (IS(message, wl_shm, request, create_pool)) {

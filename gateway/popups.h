@@ -1,4 +1,4 @@
-/* The popups of methods: the gateway is the compositor of their surfaces, and shows them in the focused program's windows. */
+/* The popups of methods: the gateway is the compositor of their surfaces, and shows them in the focused window. */
 #pragma once
 #include "gateway.h"
 
@@ -64,10 +64,12 @@ static inline uint32_t own_id(const struct client *program, unsigned which) {
 	return program->owns[which].id;
 }
 
+/* The gateway's own objects in a program's connection (popup_own.c). False: they can't be had. */
+bool has_own(struct client *program);
 /* Shows it where it is to be, or not (popup_show.c). And hides it. */
 void popup_update(struct popup *popup);
 void mirror_close(struct mirror *mirror);
-/* Shows what was committed last, and asks when the next is worth drawing (popup_pixels.c). Nothing is seen of it any more. */
+/* Shows what was committed last, and asks when the next is worth drawing (popup_pixels.c). Nothing is seen of it. */
 void mirror_present(struct popup *popup, struct mirror *mirror);
 void mirror_clear(struct popup *popup, struct mirror *mirror);
 /* The method may use its buffer again; its frames are told, or end untold. */
@@ -75,8 +77,8 @@ void popup_let_go(struct popup *popup);
 /* In how many microseconds its pixels may be copied; 0: now. */
 uint64_t popup_copies_in(const struct popup *popup);
 void popup_end_frames(struct popup *popup, struct frames *frames, bool tells, uint32_t time);
-/* A method's pool is made; a request of it. Whether the compositor will take a buffer, as it would check itself: of wl_shm's
- * ARGB or XRGB, in the pool, not too large (popup_pools.c). */
+/* A method's pool is made; a request of it. Whether the compositor will take a buffer: of wl_shm's ARGB or XRGB, in the
+ * pool, not too large (popup_pools.c). */
 void pool_make(struct client *client, struct object *pool, uint32_t token, int32_t size);
 void pool_request(struct client *client, struct object *pool, const struct message *message);
 bool pixels_good(const struct pixels *pixels);

@@ -128,7 +128,8 @@ static int sealed_file(const uint8_t *bytes, int from, uint32_t offset, uint32_t
 		memcpy(place, bytes, size);
 	else if (place != MAP_FAILED && from > 0)
 		*is_short = pread(from, place, size, offset) != (ssize_t)size;
-	if (place != MAP_FAILED && munmap(place, size) == 0 && fcntl(file, F_ADD_SEALS, SEALS | (bytes ? F_SEAL_FUTURE_WRITE : 0)) == 0)
+	int seals = SEALS | (bytes ? F_SEAL_FUTURE_WRITE : 0);
+	if (place != MAP_FAILED && munmap(place, size) == 0 && fcntl(file, F_ADD_SEALS, seals) == 0)
 		return file;
 	if (file >= 0)
 		close(file);

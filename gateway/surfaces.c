@@ -1,4 +1,4 @@
-/* What programs' surfaces are: windows or not, what their next commit brings, which popup grabbed last; and their fields. */
+/* What programs' surfaces are: windows or not, what their next commit brings, which popup grabbed last; fields. */
 #include "gateway.h"
 #include <string.h>
 
@@ -11,7 +11,7 @@ static struct object *surface_of(struct client *client, uint32_t id) {
 	return live_of(client, id, &wl_surface_table);
 }
 
-/* Whether it is what makes a surface a window, and knows its surface: an xdg_surface or a layer surface, or on the first. */
+/* Whether it is what makes a surface a window: an xdg_surface or a layer surface, or what is on the first. */
 static bool is_role(const struct object *object) {
 	return object->interface == &xdg_surface_table || object->interface == &xdg_toplevel_table
 		|| object->interface == &xdg_popup_table || object->interface == &zwlr_layer_surface_v1_table;
@@ -32,7 +32,9 @@ static bool is_beside(const struct object *object, const struct message *message
 /* The surface that a request writes to, so that its next commit brings that; what is made of a surface knows it. */
 static uint32_t written(struct client *client, const struct object *object, const struct message *message) {
 	int made = message->signature->new_id;
-	uint32_t under = object->interface == &wl_surface_table ? message->object : object->is_of_surface ? object->known.role.under : 0;
+	uint32_t under = object->is_of_surface ? object->known.role.under : 0;
+	if (object->interface == &wl_surface_table)
+		under = message->object;
 	for (unsigned at = 0; made >= 0 && at < message->count; at++) {
 		struct object *child = object_at(client, message->numbers[made]);
 		if (!strchr("oO", message->signature->kinds[at]) || !surface_of(client, message->numbers[at]))
@@ -43,7 +45,7 @@ static uint32_t written(struct client *client, const struct object *object, cons
 	return under;
 }
 
-/* The surface is shown no more: what the gateway has on it goes first, and the focus, which some compositors don't say. */
+/* The surface is shown no more: what the gateway has on it goes first, and the focus, which sway doesn't say. */
 static void unmap(struct client *client, uint32_t id) {
 	struct object *surface = surface_of(client, id);
 	popups_leave(client, id);
@@ -94,7 +96,8 @@ void surface_request(struct client *client, struct object *object, const struct 
 	struct object *surface = surface_of(client, under);
 	if (surface && !is_beside(object, message))
 		surface->known.surface.pends = true;
-	if (surface && (message->signature->made == &xdg_surface_table || message->signature->made == &zwlr_layer_surface_v1_table))
+	const struct interface *made = message->signature->made;
+	if (surface && (made == &xdg_surface_table || made == &zwlr_layer_surface_v1_table))
 		surface->known.surface.role = message->numbers[message->signature->new_id];
 	if (is_role(object))
 		return role_request(client, object, message);

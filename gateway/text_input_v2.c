@@ -38,8 +38,8 @@ bool older_make(struct client *client, struct object *object) {
 }
 
 /* A message of any length whose arguments are words and at most two texts. */
-static const struct message *spell(uint32_t object, uint16_t opcode, const struct text *texts[2], const uint32_t *numbers,
-	unsigned count) {
+static const struct message *spell(uint32_t object, uint16_t opcode, const struct text *texts[2],
+		const uint32_t *numbers, unsigned count) {
 	static uint32_t words[2 + 2 * (EVENT_TEXT / 4 + 2) + 4];
 	static struct message made;
 	size_t at = 2;

@@ -1,4 +1,4 @@
-/* One side of a link: the bytes and tokens that came from it and aren't played, and those that are to be written to it. */
+/* One side of a link: the bytes and tokens that came from it and aren't played, and those that are to be written. */
 #pragma once
 #include "core.h"
 

@@ -261,6 +261,44 @@ static void menu(void)
 	fall();
 }
 
+/* On a panel: all of it is shown, or it is an xdg_popup that the layer surface gets. */
+static void panel(void)
+{
+	enum { LAYERS = SHELL, LAYER };
+	for (int is_wlroots = 0; is_wlroots < 2; is_wlroots++) {
+		desktop = (struct compositor){ 0 };
+		start_program(&one, true);
+		request(&one, draft(SEAT, wl_seat_request_get_keyboard, "u", KEYBOARD_2));
+		if (is_wlroots)
+			global_at(&one, 9, "zwlr_screencopy_manager_v1", 1);
+		global_at(&one, 3, "wl_shm", 1);
+		global_at(&one, 4, "xdg_wm_base", 3);
+		global_at(&one, 5, "wl_subcompositor", 1);
+		global_at(&one, 8, "zwlr_layer_shell_v1", 1);
+		bind_global(&one, 8, "zwlr_layer_shell_v1", LAYERS);
+		request(&one, draft(LAYERS, zwlr_layer_shell_v1_request_get_layer_surface, "uuuus", LAYER, SURFACE, 0, 1, "a panel"));
+		start_popup(&first, POOL_SIZE);
+		show(&one);
+		enter(&one, ++serial);
+		enable_at(&one, 100, 5);
+		draw(&first, 0);
+		round_ends();
+		uint32_t layer = far_of(one.place.client, LAYER);
+		if (is_wlroots) {
+			HOLDS(of_row(ROW(wl_subsurface, set_position), 0) == 100 && of_row(ROW(wl_subsurface, set_position), 1) == 15);
+		} else {
+			HOLDS(of_row(ROW(xdg_surface, get_popup), 0) > 0 && of_row(ROW(xdg_surface, get_popup), 1) == 0);
+			HOLDS(asked_times(&desktop, layer, ROW(zwlr_layer_surface_v1, get_popup)) == 1);
+		}
+		request(&one, draft(LAYER, zwlr_layer_surface_v1_request_destroy, ""));
+		look(&one);
+		HOLDS(!one.entered);
+		round_ends();
+		HOLDS(desktop.asked[desktop.asked_count - 1].object == layer);
+		fall();
+	}
+}
+
 /* The image that a method sets for the pointer on its popup, which had its pixels before; it goes with the pointer. */
 static void cursor_image(uint32_t surface, uint32_t pointer)
 {
@@ -284,7 +322,7 @@ static void cursor_image(uint32_t surface, uint32_t pointer)
 }
 
 /* The pointer goes from the window to the popup: the method hears of it, the program of a leave. So do fingers. */
-static void pointed_at(void)
+static void pointer_on_it(void)
 {
 	stand(true, 640, 480);
 	uint32_t own = one.place.client->owns[OWN_SEAT].id, surface = of_row(ROW(wl_subcompositor, get_subsurface), 1);
@@ -660,7 +698,8 @@ int main(void)
 	inside();
 	beside();
 	menu();
-	pointed_at();
+	panel();
+	pointer_on_it();
 	unnamed();
 	ends();
 	unmapped();
