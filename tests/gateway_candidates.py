@@ -22,7 +22,8 @@ from gateway_desk import Desk, until, PAUSE
 SHOWN = r"popup is (?:shown|moved) (?:inside|beside) \((-?\d+), (-?\d+), (\d+), (\d+)\)"
 BUTTON_LEFT, SECOND = 0x110, (62, 15)  # where the second candidate is, of one syllable
 EDGE = 5  # pixels at a popup's edges that may be translucent
-PAGE = "<meta charset=utf-8><title>-</title><input id=i autofocus oninput='document.title=this.value'><script>i.focus()</script>"
+PAGE = ("<meta charset=utf-8><title>-</title><input id=i autofocus oninput='document.title=this.value'>"
+        "<script>i.focus()</script>")
 
 
 class Screen:
@@ -44,7 +45,8 @@ class Screen:
         for top in range(len(self.rows) - len(picture) + 1):
             left = self.rows[top].find(picture[0])
             while left >= 0:
-                if left % 3 == 0 and all(self.rows[top + at][left:left + width] == row for at, row in enumerate(picture)):
+                rows = (self.rows[top + at][left:left + width] == row for at, row in enumerate(picture))
+                if left % 3 == 0 and all(rows):
                     return left // 3, top
                 left = self.rows[top].find(picture[0], left + 1)
         return None
@@ -88,15 +90,17 @@ class CandidateDesk(Desk):
                 ("browser.shell.checkDefaultBrowser", "false"), ("browser.aboutwelcome.enabled", "false"),
                 ("datareporting.policy.dataSubmissionEnabled", "false"), ("browser.tabs.inTitlebar", "0"),
                 ("toolkit.telemetry.reportingpolicy.firstRun", "false"), ("gfx.webrender.software", "true"))))
+        raw = ["sh", "-c", f"stty raw -echo; exec cat > {window}.out"]
         command = {
-            "foot": ["foot", "-c", "/dev/null", "-a", window, "sh", "-c", f"stty raw -echo; exec cat > {window}.out"],
-            "kitty": ["kitty", "--config", "NONE", "--class", window, "sh", "-c", f"stty raw -echo; exec cat > {window}.out"],
+            "foot": ["foot", "-c", "/dev/null", "-a", window, *raw],
+            "kitty": ["kitty", "--config", "NONE", "--class", window, *raw],
             "gtk3": [self.built + "/entry3", window + ".out", window],
             "gtk4": [self.built + "/entry", window + ".out", window],
             "qt5": [here + "/gateway_qt_entry.py", "5", window + ".out", window],
             "qt6": [here + "/gateway_qt_entry.py", "6", window + ".out", window],
             "firefox": ["env", "HOME=" + self.path("profile"), "XDG_RUNTIME_DIR=" + self.path("profile"),  # root's
-                        "WAYLAND_DISPLAY=" + self.path("wlim-programs"), "firefox-esr", "--no-remote", "--name", window, "--profile", self.path("profile"), "file://" + page],
+                        "WAYLAND_DISPLAY=" + self.path("wlim-programs"), "firefox-esr", "--no-remote", "--name", window,
+                        "--profile", self.path("profile"), "file://" + page],
             "chromium": ["chromium", "--no-sandbox", "--ozone-platform=wayland", "--enable-wayland-ime",
                          "--wayland-text-input-version=3", "--disable-gpu", "--no-first-run", "--class=" + window,
                          "--user-data-dir=" + self.path("chromium"), "file://" + page],
@@ -119,7 +123,8 @@ class CandidateDesk(Desk):
 
     def got(self, window):
         if window.startswith("foot"):  # foot 1.13 may keep a word back: what it is told is looked at
-            return "".join(re.findall(r'<- zwp_text_input_v3@\d+\.commit_string\("(.*?)"\)', self.read(self.gateway.log)))
+            return "".join(re.findall(r'<- zwp_text_input_v3@\d+\.commit_string\("(.*?)"\)',
+                                      self.read(self.gateway.log)))
         if window in ("firefox", "chromium"):
             return re.split(r" [-\u2014] ", self.titles().get(self.app(window), "-"))[0].strip("-")
         return self.read(window + ".out")
@@ -142,8 +147,9 @@ class CandidateDesk(Desk):
                     pixels = data.read()
             except OSError:
                 continue
-            rows = [pixels[(at * width + EDGE) * 4:(at * width + width - EDGE) * 4] for at in range(EDGE, height - EDGE)]
-            yield [b"".join(row[at + 2:at + 3] + row[at + 1:at + 2] + row[at:at + 1] for at in range(0, len(row), 4)) for row in rows]
+            yield [b"".join(pixels[at + 2:at + 3] + pixels[at + 1:at + 2] + pixels[at:at + 1]
+                            for at in range((row * width + EDGE) * 4, (row * width + width - EDGE) * 4, 4))
+                   for row in range(EDGE, height - EDGE)]
 
     def seen(self, name):
         """Where the popup is seen on the screen; None: it isn't."""

@@ -1,6 +1,6 @@
 /*
- * What the gateway's tests have in the place of a compositor: it knows the objects by the ids that it was asked for, keeps
- * what is asked, and says when an id is free. What a compositor would refuse ends the test.
+ * What the gateway's tests have in the place of a compositor: it knows the objects by the ids that it was asked for,
+ * keeps what is asked, and says when an id is free. What a compositor would refuse ends the test.
  */
 #include "gateway_harness.h"
 
@@ -85,7 +85,8 @@ static inline unsigned asked_times(const struct compositor *compositor, uint32_t
 	return found;
 }
 
-static inline const struct asked_of *asked_last(const struct compositor *compositor, uint32_t object, const struct signature *row)
+static inline const struct asked_of *asked_last(const struct compositor *compositor, uint32_t object,
+	const struct signature *row)
 {
 	for (unsigned at = compositor->asked_count; at-- > 0; )
 		if (compositor->asked[at].row == row && (object == 0 || compositor->asked[at].object == object))

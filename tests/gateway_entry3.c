@@ -12,7 +12,8 @@ int main(int count, char **words)
 		return 2;
 	g_set_prgname(words[2]); /* the window's application id */
 	gtk_init(&count, &words);
-	GtkWidget *window = gtk_window_new(GTK_WINDOW_TOPLEVEL), *entry = gtk_entry_new(), *box = gtk_box_new(GTK_ORIENTATION_VERTICAL, 0);
+	GtkWidget *window = gtk_window_new(GTK_WINDOW_TOPLEVEL), *entry = gtk_entry_new();
+	GtkWidget *box = gtk_box_new(GTK_ORIENTATION_VERTICAL, 0);
 	g_signal_connect(entry, "changed", G_CALLBACK(on_changed), words[1]);
 	g_signal_connect(window, "destroy", G_CALLBACK(gtk_main_quit), NULL);
 	gtk_box_pack_start(GTK_BOX(box), entry, FALSE, FALSE, 0);

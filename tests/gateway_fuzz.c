@@ -3,8 +3,8 @@
  *
  *     gateway_fuzz [ROUNDS [SEED [honest]]]
  *
- * Each program begins with a window, and the method with a popup that is shown in the last one's. Where the compositor is
- * honest, what it is asked is held against its rules for new ids. Built with the address sanitizer by tests/gateway.sh.
+ * Each program begins with a window, and the method with a popup that is shown in the last one's. Where the compositor
+ * is honest, what it is asked is held against its rules for new ids. Built with the address sanitizer by tests/gateway.sh.
  * Says how many messages were read, how many clients ended, and how often a popup was shown.
  */
 #include "gateway_users.h"
@@ -259,8 +259,8 @@ int main(int count, char **words)
 		close_client(&users[at].place);
 	core_close();
 	do_effects();
-	printf("%lu messages, %lu clients ended; the gateway had objects in a program for %lu rounds\n", messages, ended + CLIENTS,
-		shown);
+	printf("%lu messages, %lu clients ended; the gateway had objects in a program for %lu rounds\n", messages,
+		ended + CLIENTS, shown);
 	HOLDS(tokens_used() == 0 && shown > 0);
 	return failed;
 }

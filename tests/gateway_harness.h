@@ -77,7 +77,8 @@ static inline void read_far(struct place *place)
 
 static inline void do_effect(const struct effect *effect)
 {
-	bool has = effect->from > 0 && effect->kind != EFFECT_READ && files[effect->from].size >= (size_t)effect->offset + effect->size;
+	bool has = effect->from > 0 && effect->kind != EFFECT_READ
+		&& files[effect->from].size >= (size_t)effect->offset + effect->size;
 	const uint8_t *bytes = effect->bytes;
 	if (effect->kind == EFFECT_READ) {
 		read_far(place_of(effect->from));
@@ -120,7 +121,8 @@ static inline void open_client(struct place *place, enum role role)
 		exit(1);
 }
 
-static inline void send_client(struct place *place, const uint8_t *bytes, size_t size, const uint32_t *tokens, size_t count)
+static inline void send_client(struct place *place, const uint8_t *bytes, size_t size, const uint32_t *tokens,
+	size_t count)
 {
 	for (size_t at = 0, part; at == 0 || at < size; at += part) {
 		part = size - at < 16384 ? size - at : 16384;
@@ -132,7 +134,8 @@ static inline void send_client(struct place *place, const uint8_t *bytes, size_t
 }
 
 /* The compositor writes something, which isn't read yet. */
-static inline void write_far(struct place *place, const uint8_t *bytes, size_t size, const uint32_t *tokens, unsigned count)
+static inline void write_far(struct place *place, const uint8_t *bytes, size_t size, const uint32_t *tokens,
+	unsigned count)
 {
 	if (place->coming.size + size > sizeof place->coming.bytes || place->coming.files + count > 64)
 		exit(1);

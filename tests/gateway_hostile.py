@@ -137,8 +137,8 @@ def request_of(method, name, *arguments):
 def many_commits(scene):
     """20,000 commits at once."""
     buffer = scene.show()
-    data = (b"".join(request_of(scene.method, name, *each) for name, each in (("attach", (buffer, 0, 0)), ("commit", ())))) * 20000
-    scene.method.socket.sendall(data)
+    drawn = request_of(scene.method, "attach", buffer, 0, 0) + request_of(scene.method, "commit")
+    scene.method.socket.sendall(drawn * 20000)
     scene.method.roundtrip()
 
 
@@ -242,7 +242,7 @@ def draws_on(scene, width, height):
 
 
 def largest(scene):
-    """Popups as large as may be, at each frame: others' round trips at p99 take at most twice as long as beside a small one."""
+    """Popups as large as may be, at each frame: others' round trips at p99 take at most twice as long as beside small ones."""
     desk, times = scene.desk, []
     for size in ((200, 40), (WIDE, WIDE)):
         other = Client(desk.path("wlim-programs"), desk.interfaces)
@@ -270,8 +270,8 @@ def trial(desk, what):
 
 def run(desk):
     desk.start_gateway(records=False)
-    for what in (lying_pool, cut_off, destroyed, many_commits, many_popups, larger, moving_cursor, window_goes, role_goes,
-                 surface_goes, method_goes):
+    for what in (lying_pool, cut_off, destroyed, many_commits, many_popups, larger, moving_cursor, window_goes,
+                 role_goes, surface_goes, method_goes):
         trial(desk, what)
         print(f"{what.__name__}: {what.__doc__}", flush=True)
     if not any(trial(desk, largest) for _ in range(5)):  # other processes disturb times

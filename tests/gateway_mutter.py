@@ -70,7 +70,7 @@ class MutterDesk(Desk):
 
 
 def candidates(desk, small):
-    """A popup in a window that fills the screen: the second candidate is clicked. Beside a small one it is an xdg_popup."""
+    """In a window that fills the screen the second candidate is clicked; a small one's are an xdg_popup."""
     words = ["foot", "-c", "/dev/null", "-a", "full", *(["-w", "120x40"] if small else ["-F"])]
     window = desk.start(*words, "sh", "-c", "stty raw -echo; exec cat > full.out", display="wlim-programs")
     entered = desk.logged(r"<- zwp_text_input_v3@\d+\.enter\(")
@@ -91,8 +91,8 @@ def candidates(desk, small):
     until("it is hidden", lambda: not desk.shown())
     if way != ("beside" if small else "inside") or window.poll() is not None:
         raise AssertionError(f"{way}; {window.poll()}")
-    print(f"foot: candidates {way} at {left}, {top}, {width} by {height}; {desk.got('full')} by a {'space' if small else 'click'}",
-          flush=True)
+    by = "a space" if small else "a click"
+    print(f"foot: candidates {way} at {left}, {top}, {width} by {height}; {desk.got('full')} by {by}", flush=True)
     for letter in "shi":
         desk.press(KEYS[letter])
     until("candidates", desk.shown)

@@ -1,7 +1,7 @@
 /*
  * A keyboard and a pointer at Mutter, by its interface for remote desktops on the session bus: reads lines `key CODE
- * STATE` and `button CODE STATE`, of evdev's numbers and 0 or 1, and `move X Y`, by so many pixels, and prints `ok` after
- * each. `ready` comes first.
+ * STATE` and `button CODE STATE`, of evdev's numbers and 0 or 1, and `move X Y`, by so many pixels, and prints `ok`
+ * after each. `ready` comes first.
  */
 #include <gio/gio.h>
 #include <stdio.h>

@@ -1,6 +1,6 @@
 /*
- * Plays again what `wlim-gateway --calls FILE` wrote: the core is told the same, has to ask for the same and to write the
- * same bytes.
+ * Plays again what `wlim-gateway --calls FILE` wrote: the core is told the same, has to ask for the same and to write
+ * the same bytes.
  *
  *     gateway_play < FILE
  */
@@ -67,7 +67,8 @@ static void effect(const unsigned *words)
 {
 	struct effect effect;
 	check(core_effect(&effect), "the core asks for nothing");
-	check(effect.kind == words[0] && effect.link == words[1] && effect.token == words[2], "the core asks for another thing");
+	bool same = effect.kind == words[0] && effect.link == words[1] && effect.token == words[2];
+	check(same, "the core asks for another thing");
 }
 
 static void wrote(const unsigned *words)

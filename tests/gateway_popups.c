@@ -1,12 +1,12 @@
 /*
- * Popups of methods in programs' windows, as a compositor and both sides see them: where they stand, what is copied, who
- * is told what, and each way in which a popup's window, program or method ends. Built by tests/gateway.sh. Prints what
- * doesn't hold.
+ * Popups of methods in programs' windows, as a compositor and both sides see them: where they stand, what is copied,
+ * who is told what, and each way in which a popup's window, program or method ends. Built by tests/gateway.sh. Prints
+ * what doesn't hold.
  */
 #include "gateway_users.h"
 
 enum { SHELL = KEYBOARD_2 + 1, XDG, TOP, POINTER, TOUCH, MENU, MENU_XDG, MENU_POPUP, POSITIONER }; /* of a program */
-enum { MAKER = GRAB + 1, MEMORY, POOL, BUFFER, PIXELS, POPUP, MOUSE, FINGER, FRAME, VIEWS, VIEW, MORE }; /* of a method */
+enum { MAKER = GRAB + 1, MEMORY, POOL, BUFFER, PIXELS, POPUP, MOUSE, FINGER, FRAME, VIEWS }; /* of a method */
 enum { WIDTH = 30, HEIGHT = 20, STRIDE = 4 * WIDTH, POOL_SIZE = 4096 };
 
 static struct user one, two, first;
@@ -137,7 +137,8 @@ static void inside(void)
 {
 	stand(true, 640, 480);
 	uint32_t window = far_of(one.place.client, SURFACE);
-	uint32_t sub = of_row(ROW(wl_subcompositor, get_subsurface), 0), surface = of_row(ROW(wl_subcompositor, get_subsurface), 1);
+	uint32_t sub = of_row(ROW(wl_subcompositor, get_subsurface), 0);
+	uint32_t surface = of_row(ROW(wl_subcompositor, get_subsurface), 1);
 	HOLDS(sub > 0 && of_row(ROW(wl_subcompositor, get_subsurface), 2) == window);
 	HOLDS(asked_times(&desktop, sub, ROW(wl_subsurface, set_desync)) == 1);
 	HOLDS(of_row(ROW(wl_subsurface, set_position), 0) == 100 && of_row(ROW(wl_subsurface, set_position), 1) == 70);
@@ -163,7 +164,8 @@ static void inside(void)
 	read_events(&one);
 	look(&first);
 	look(&one);
-	HOLDS(HEARD(&first, FRAME, wl_callback_event_done, 5) == 1 && HEARD(&first, FRAME + 2, wl_callback_event_done, 5) == 1);
+	HOLDS(HEARD(&first, FRAME, wl_callback_event_done, 5) == 1);
+	HOLDS(HEARD(&first, FRAME + 2, wl_callback_event_done, 5) == 1);
 	HOLDS(HEARD(&first, DISPLAY, wl_display_event_delete_id, FRAME) == 1 && one.size == 0);
 	round_ends();
 	HOLDS(asked_times(&desktop, buffer, ROW(wl_buffer, destroy)) == 1);
@@ -171,12 +173,14 @@ static void inside(void)
 	/* The cursor moves: placed by a commit of the gateway's, or of the program's where that has something pending. */
 	enable_at(&one, 300, 60);
 	round_ends();
-	HOLDS(of_row(ROW(wl_subsurface, set_position), 0) == 300 && asked_times(&desktop, window, ROW(wl_surface, commit)) == 1);
+	HOLDS(of_row(ROW(wl_subsurface, set_position), 0) == 300);
+	HOLDS(asked_times(&desktop, window, ROW(wl_surface, commit)) == 1);
 	request(&one, draft(SURFACE, wl_surface_request_damage, "uuuu", 0, 0, 1, 1));
 	request(&one, draft(TOP, xdg_toplevel_request_set_title, "s", "nothing pending"));
 	enable_at(&one, 310, 60);
 	round_ends();
-	HOLDS(of_row(ROW(wl_subsurface, set_position), 0) == 310 && asked_times(&desktop, window, ROW(wl_surface, commit)) == 0);
+	HOLDS(of_row(ROW(wl_subsurface, set_position), 0) == 310);
+	HOLDS(asked_times(&desktop, window, ROW(wl_surface, commit)) == 0);
 	request(&one, draft(SURFACE, wl_surface_request_commit, ""));
 	round_ends();
 	HOLDS(asked_times(&desktop, window, ROW(wl_surface, commit)) == 1 && desktop.asked_count == 1);
@@ -185,7 +189,8 @@ static void inside(void)
 	request(&first, draft(PIXELS, wl_surface_request_commit, ""));
 	round_ends();
 	HOLDS(asked_times(&desktop, sub, ROW(wl_subsurface, destroy)) == 1);
-	HOLDS(asked_times(&desktop, window, ROW(wl_surface, damage)) == 1 && asked_times(&desktop, window, ROW(wl_surface, commit)) == 1);
+	HOLDS(asked_times(&desktop, window, ROW(wl_surface, damage)) == 1);
+	HOLDS(asked_times(&desktop, window, ROW(wl_surface, commit)) == 1);
 	draw(&first, 0);
 	round_ends();
 	HOLDS(of_row(ROW(wl_subcompositor, get_subsurface), 2) == window);
@@ -210,7 +215,8 @@ static void beside(void)
 	say_far(draft(xdg, xdg_surface_event_configure, "u", 77));
 	read_events(&one);
 	round_ends();
-	HOLDS(of_row(ROW(xdg_surface, ack_configure), 0) == 77 && asked_times(&desktop, surface, ROW(wl_surface, attach)) == 1);
+	HOLDS(of_row(ROW(xdg_surface, ack_configure), 0) == 77);
+	HOLDS(asked_times(&desktop, surface, ROW(wl_surface, attach)) == 1);
 	enable_at(&one, 300, 60);
 	round_ends();
 	HOLDS(asked_times(&desktop, popup, ROW(xdg_popup, reposition)) == 1);
@@ -231,7 +237,8 @@ static void beside(void)
 	request(&one, draft(XDG, xdg_surface_request_set_window_geometry, "uuuu", 10, 20, 640, 480));
 	request(&one, draft(SURFACE, wl_surface_request_commit, ""));
 	round_ends();
-	HOLDS(asked_times(&desktop, popup, ROW(xdg_popup, destroy)) == 1 && of_row(ROW(wl_subcompositor, get_subsurface), 0) > 0);
+	HOLDS(asked_times(&desktop, popup, ROW(xdg_popup, destroy)) == 1);
+	HOLDS(of_row(ROW(wl_subcompositor, get_subsurface), 0) > 0);
 	fall();
 }
 
@@ -285,7 +292,8 @@ static void panel(void)
 		round_ends();
 		uint32_t layer = far_of(one.place.client, LAYER);
 		if (is_wlroots) {
-			HOLDS(of_row(ROW(wl_subsurface, set_position), 0) == 100 && of_row(ROW(wl_subsurface, set_position), 1) == 15);
+			HOLDS(of_row(ROW(wl_subsurface, set_position), 0) == 100);
+			HOLDS(of_row(ROW(wl_subsurface, set_position), 1) == 15);
 		} else {
 			HOLDS(of_row(ROW(xdg_surface, get_popup), 0) > 0 && of_row(ROW(xdg_surface, get_popup), 1) == 0);
 			HOLDS(asked_times(&desktop, layer, ROW(zwlr_layer_surface_v1, get_popup)) == 1);
@@ -351,7 +359,8 @@ static void pointer_on_it(void)
 	HOLDS(HEARD(&one, POINTER, wl_pointer_event_enter) == 2 && HEARD(&one, POINTER, wl_pointer_event_leave) == 1);
 	HOLDS(HEARD(&one, POINTER, wl_pointer_event_motion) == 1 && HEARD(&one, POINTER, wl_pointer_event_button) == 0);
 	HOLDS(HEARD(&first, MOUSE, wl_pointer_event_enter, 152, PIXELS, 512, 768) == 1);
-	HOLDS(HEARD(&first, MOUSE, wl_pointer_event_button, 153, 2, 0x110, 1) == 1 && HEARD(&first, MOUSE, wl_pointer_event_leave) == 1);
+	HOLDS(HEARD(&first, MOUSE, wl_pointer_event_button, 153, 2, 0x110, 1) == 1);
+	HOLDS(HEARD(&first, MOUSE, wl_pointer_event_leave) == 1);
 	cursor_image(surface, pointer);
 	for (int each = 0; each < 2; each++) { /* one finger on the window, another on the popup */
 		uint32_t id = each ? touch : their_touch;
@@ -406,8 +415,8 @@ static void unnamed(void)
 /* Each way in which the window of a popup goes, and its program, its field, its focus and its method. */
 static void ends(void)
 {
-	enum { SURFACE_GOES, TOP_GOES, UNMAPPED, PROGRAM_GOES, PROGRAM_HUNG_UP, FOCUS_GOES, METHOD_GOES, METHOD_ENDS, PIXELS_GO,
-		POPUP_GOES, WAYS };
+	enum { SURFACE_GOES, TOP_GOES, UNMAPPED, PROGRAM_GOES, PROGRAM_HUNG_UP, FOCUS_GOES, METHOD_GOES, METHOD_ENDS,
+		PIXELS_GO, POPUP_GOES, WAYS };
 	for (int way = 0; way < 2 * WAYS; way++) {
 		stand(way % 2, way % 2 ? 640 : 8, way % 2 ? 480 : 8);
 		uint32_t sub = of_row(ROW(wl_subcompositor, get_subsurface), 0), popup = of_row(ROW(xdg_surface, get_popup), 0);
@@ -487,8 +496,9 @@ static void lies(void)
 {
 	static const uint32_t bad[][5] = { /* offset, width, height, stride, format */
 		{ 40, WIDTH, HEIGHT, STRIDE - 4, 0 }, { 40, WIDTH, HEIGHT, STRIDE + 2, 0 }, { 40, 0, HEIGHT, STRIDE, 0 },
-		{ POOL_SIZE, WIDTH, HEIGHT, STRIDE, 0 }, { 40, WIDTH, 0x7fffffff, STRIDE, 0 }, { 40, WIDTH, HEIGHT, STRIDE, 0x34324241 },
-		{ 0xffffffff, WIDTH, HEIGHT, STRIDE, 0 }, { 40, 0x40000000, 1, 0xffffffff, 0 },
+		{ POOL_SIZE, WIDTH, HEIGHT, STRIDE, 0 }, { 40, WIDTH, 0x7fffffff, STRIDE, 0 },
+		{ 40, WIDTH, HEIGHT, STRIDE, 0x34324241 }, { 0xffffffff, WIDTH, HEIGHT, STRIDE, 0 },
+		{ 40, 0x40000000, 1, 0xffffffff, 0 },
 	};
 	stand(true, 640, 480);
 	for (size_t at = 0; at < sizeof bad / sizeof *bad; at++) {
@@ -511,7 +521,8 @@ static void lies(void)
 	draw(&first, 0);
 	round_ends();
 	HOLDS(one.place.link > 0 && first.place.link == 0); /* of it there was nothing but what is clear */
-	HOLDS(asked_times(&desktop, 0, ROW(wl_surface, attach)) == 2 && asked_times(&desktop, 0, ROW(wl_subsurface, destroy)) == 1);
+	HOLDS(asked_times(&desktop, 0, ROW(wl_surface, attach)) == 2);
+	HOLDS(asked_times(&desktop, 0, ROW(wl_subsurface, destroy)) == 1);
 	fall();
 }
 
@@ -525,11 +536,11 @@ static void many(void)
 	round_ends();
 	look(&first);
 	HOLDS(HEARD(&first, BUFFER, wl_buffer_event_release) == 0 && desktop.asked_count == 0 && tokens_used() < 10);
-	for (uint32_t at = 0; at < 100; at++) {
-		request(&first, draft(MAKER, wl_compositor_request_create_surface, "u", FRAME + 2 * at));
-		request(&first, draft(METHOD_1, zwp_input_method_v2_request_get_input_popup_surface, "uu", FRAME + 2 * at + 1, FRAME + 2 * at));
-		request(&first, draft(FRAME + 2 * at, wl_surface_request_attach, "uuu", BUFFER, 0, 0));
-		request(&first, draft(FRAME + 2 * at, wl_surface_request_commit, ""));
+	for (uint32_t at = 0, id = FRAME; at < 100; at++, id += 2) {
+		request(&first, draft(MAKER, wl_compositor_request_create_surface, "u", id));
+		request(&first, draft(METHOD_1, zwp_input_method_v2_request_get_input_popup_surface, "uu", id + 1, id));
+		request(&first, draft(id, wl_surface_request_attach, "uuu", BUFFER, 0, 0));
+		request(&first, draft(id, wl_surface_request_commit, ""));
 	}
 	round_ends();
 	HOLDS(one.place.link > 0 && first.place.link > 0);
@@ -595,7 +606,8 @@ static void sizes(void)
 	enable_at(&one, 635, 60);
 	now += 200000;
 	round_ends();
-	HOLDS(of_row(ROW(wl_subsurface, set_position), 0) == 650 - WIDTH / 2 && of_row(ROW(wl_surface, set_buffer_scale), 0) == 2);
+	HOLDS(of_row(ROW(wl_subsurface, set_position), 0) == 650 - WIDTH / 2);
+	HOLDS(of_row(ROW(wl_surface, set_buffer_scale), 0) == 2);
 	request(&first, draft(PIXELS, wl_surface_request_set_buffer_scale, "u", 4));
 	draw(&first, 0); /* 30 isn't of fours */
 	now += 200000;
@@ -687,7 +699,8 @@ static void version_2(void)
 	read_events(&one);
 	request(&one, draft(SEEN, zwp_text_input_v2_request_destroy, ""));
 	look(&one);
-	HOLDS(HEARD(&one, SEEN, zwp_text_input_v2_event_leave) > 0 && HEARD(&one, DISPLAY, wl_display_event_delete_id, SEEN) == 1);
+	HOLDS(HEARD(&one, SEEN, zwp_text_input_v2_event_leave) > 0);
+	HOLDS(HEARD(&one, DISPLAY, wl_display_event_delete_id, SEEN) == 1);
 	fall();
 }
 

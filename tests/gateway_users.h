@@ -1,4 +1,4 @@
-/* What the gateway's tests have of programs and methods: their requests, the compositor's events, and what they are told. */
+/* What the gateway's tests have of programs and methods: their requests, the compositor's events, what they are told. */
 #include "gateway_compositor.h"
 
 enum { REGISTRY = 2, SEAT, COMPOSITOR, KEYBOARD, SURFACE, FIELDS, FIELD, KEYBOARD_2 }; /* of a program */
