@@ -35,6 +35,7 @@ for seed in 1 2 3; do
 	timeout 300 "$checked/fuzz" 200000 $seed
 done
 timeout 300 "$checked/fuzz" 100000 4 honest
+timeout -k 10 100 tests/gateway_start.py "$checked"
 timeout -k 10 300 tests/gateway_peers.py "$checked"
 timeout -k 10 900 tests/gateway_programs.py "$checked" "$rounds"
 timeout -k 10 300 tests/gateway_hostile.py "$checked"
