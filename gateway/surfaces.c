@@ -17,14 +17,15 @@ static bool is_role(const struct object *object) {
 		|| object->interface == &xdg_popup_table || object->interface == &zwlr_layer_surface_v1_table;
 }
 
-/* Nothing that is made or asked so is of the surface's next commit. */
+/* Whether nothing that is made or asked so is of the surface's next commit. */
 static bool is_beside(const struct object *object, const struct message *message) {
-	static const char *const beside[] = { "zwp_idle_inhibitor_v1", "zwp_keyboard_shortcuts_inhibitor_v1",
-		"wp_fractional_scale_v1", "zwp_text_input_v3" };
-	const struct interface *made = message->signature->made;
-	for (size_t at = 0; made && at < sizeof beside / sizeof *beside; at++)
-		if (strcmp(made->name, beside[at]) == 0)
+	static const struct interface *const beside[] = { &zwp_idle_inhibitor_v1_table,
+		&zwp_keyboard_shortcuts_inhibitor_v1_table, &wp_fractional_scale_v1_table };
+	for (size_t at = 0; at < sizeof beside / sizeof *beside; at++)
+		if (message->signature->made == beside[at] || object->interface == beside[at])
 			return true;
+	if (object->interface == &wl_subsurface_table)
+		return message->opcode == wl_subsurface_request_destroy || message->opcode >= wl_subsurface_request_set_sync;
 	return object->interface == &xdg_toplevel_table && !IS(message, xdg_toplevel, request, set_min_size)
 		&& !IS(message, xdg_toplevel, request, set_max_size);
 }
