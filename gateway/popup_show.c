@@ -127,13 +127,24 @@ static const struct object *top_popup(struct client *program, uint32_t window, s
 		const struct object *parent = object_live(program, at->known.role.parent);
 		if (!parent || parent->interface != &xdg_surface_table)
 			return NULL;
-		place->x += at->known.role.box.x;
-		place->y += at->known.role.box.y;
+		place->x += box_bounded(at->known.role.box).x;
+		place->y += box_bounded(at->known.role.box).y;
 		if (at->known.role.parent == window)
 			return top;
 		at = object_live(program, parent->known.role.made);
 	}
 	return NULL;
+}
+
+/* The cursor's numbers are the window's; but GTK 4 tells those of the program's own popup, where its parent is at 0. */
+static void move_cursor(struct asked *asked, int32_t x, int32_t y) {
+	const struct box *cursor = &asked->cursor, *own = &asked->window;
+	bool is_own = cursor->x >= own->x && cursor->x <= own->x + own->width && cursor->y >= own->y
+		&& cursor->y <= own->y + own->height;
+	bool is_moved = cursor->x + x >= own->x && cursor->x + x <= own->x + own->width && cursor->y + y >= own->y
+		&& cursor->y + y <= own->y + own->height;
+	asked->cursor.x += is_own && !is_moved ? 0 : x;
+	asked->cursor.y += is_own && !is_moved ? 0 : y;
 }
 
 /* What is asked of the place, on which surface. False: the popup isn't to be shown. */
@@ -149,10 +160,10 @@ static bool is_asked(const struct popup *popup, struct mirror *want, struct aske
 		? object_live(program, surface->known.surface.role) : NULL;
 	if (!role || !has_own(program))
 		return false;
-	struct box place, window = role->known.role.box;
+	struct box place, window = box_bounded(role->known.role.box);
 	const struct object *top = top_popup(program, surface->known.surface.role, &place);
-	*asked = (struct asked){ .window = window, .cursor = program->cursor, .has_cursor = program->has_cursor,
-		.width = popup->width, .height = popup->height };
+	*asked = (struct asked){ .window = window, .cursor = box_bounded(program->cursor), .width = popup->width,
+		.height = popup->height, .has_cursor = program->has_cursor };
 	const struct object *over = top ? object_live(program, top->known.role.under) : NULL;
 	if (over && over->interface == &wl_surface_table && over->known.surface.is_mapped) {
 		want->parent = top->known.role.under;
@@ -160,9 +171,8 @@ static bool is_asked(const struct popup *popup, struct mirror *want, struct aske
 		role = object_live(program, over->known.surface.role);
 		if (!role)
 			return false;
-		asked->window = role->known.role.box;
-		asked->cursor.x += asked->window.x - window.x - place.x;
-		asked->cursor.y += asked->window.y - window.y - place.y;
+		asked->window = box_bounded(role->known.role.box);
+		move_cursor(asked, asked->window.x - window.x - place.x, asked->window.y - window.y - place.y);
 	}
 	bool is_window = role->interface == &xdg_surface_table && !role->known.role.is_popup;
 	asked->is_free = program->is_wlroots && !is_window;

@@ -7,8 +7,7 @@ static int32_t within(int32_t number, int32_t low, int32_t high) {
 	return number > high && high >= low ? high : number < low || high < low ? low : number;
 }
 
-/* So that no sum overflows. */
-static struct box bounded(struct box box) {
+struct box box_bounded(struct box box) {
 	return (struct box){ within(box.x, -FAR_AWAY, FAR_AWAY), within(box.y, -FAR_AWAY, FAR_AWAY),
 		within(box.width, 0, FAR_AWAY), within(box.height, 0, FAR_AWAY) };
 }
@@ -16,6 +15,10 @@ static struct box bounded(struct box box) {
 static struct wanted inside(const struct asked *asked, struct box window, struct box cursor) {
 	struct wanted wanted = { INSIDE, { cursor.x, cursor.y + cursor.height, asked->width, asked->height } };
 	int32_t right = window.x + window.width - asked->width, bottom = window.y + window.height - asked->height;
+	if (asked->is_free && window.width > 0) { /* at the window at least, whatever cursor is told */
+		wanted.box.x = within(wanted.box.x, window.x, window.x + window.width);
+		wanted.box.y = within(wanted.box.y, window.y, window.y + window.height);
+	}
 	if (asked->is_free || window.width == 0)
 		return wanted;
 	if (wanted.box.y > bottom && cursor.y - asked->height >= window.y)
@@ -40,7 +43,7 @@ static struct wanted beside(struct box window, struct box cursor) {
 }
 
 struct wanted popup_want(const struct asked *asked) {
-	struct box window = bounded(asked->window), cursor = bounded(asked->cursor);
+	struct box window = box_bounded(asked->window), cursor = box_bounded(asked->cursor);
 	if (asked->width < 1 || asked->height < 1 || asked->width > FAR_AWAY || asked->height > FAR_AWAY)
 		return (struct wanted){ NOWHERE, { 0 } };
 	if (!asked->has_cursor) /* nobody said where: at the bottom, at the left */

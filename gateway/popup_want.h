@@ -20,3 +20,5 @@ struct wanted {
 };
 
 struct wanted popup_want(const struct asked *asked);
+/* With numbers of which some can be summed. */
+struct box box_bounded(struct box box);

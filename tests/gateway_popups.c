@@ -260,6 +260,16 @@ static void menu(void)
 	HOLDS(of_row(ROW(wl_subcompositor, get_subsurface), 2) == far_of(one.place.client, MENU));
 	HOLDS(of_row(ROW(wl_subsurface, set_position), 0) == 100 - 10 - 50 + 5);
 	HOLDS(of_row(ROW(wl_subsurface, set_position), 1) == 70 - 20 - 30 + 5);
+	for (uint32_t at = 0; at < 16; at++) { /* no number overflows */
+		static const uint32_t numbers[] = { 0x7fffffff, 0x80000000, 0, 5 };
+		const uint32_t x = numbers[at % 4], y = numbers[at / 4];
+		request(&one, draft(POSITIONER - 1, xdg_surface_request_set_window_geometry, "uuuu", x, y, y, x));
+		request(&one, draft(XDG, xdg_surface_request_set_window_geometry, "uuuu", y, x, x, y));
+		put_event(&one, draft(POSITIONER, xdg_popup_event_configure, "uuuu", y, x, x, y));
+		read_events(&one);
+		enable_at(&one, x, y);
+		round_ends();
+	}
 	request(&one, draft(POSITIONER, xdg_popup_request_destroy, ""));
 	round_ends();
 	HOLDS(desktop.asked_count > 2 && asked_times(&desktop, 0, ROW(wl_subsurface, destroy)) == 1);

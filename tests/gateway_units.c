@@ -205,6 +205,8 @@ static void places(void)
 			"it doesn't fit: its beginning is seen" },
 		{ { { 0, 0, 150, 40 }, { 10, 10, 2, 20 }, true, 200, 60, true, false }, { INSIDE, { 10, 30, 200, 60 } },
 			"what lies outside is shown too" },
+		{ { { 0, 0, 150, 40 }, { -300, 10, 2, 20 }, true, 200, 60, true, false }, { INSIDE, { 0, 30, 200, 60 } },
+			"but at the window" },
 		{ { { 0, 0, 150, 40 }, { 10, 10, 2, 20 }, true, 200, 60, false, true }, { BESIDE, { 10, 10, 2, 20 } },
 			"an xdg_popup, where it doesn't fit" },
 		{ { { 5, 6, 150, 40 }, { 10, 10, 2, 20 }, true, 200, 60, false, true }, { BESIDE, { 5, 4, 2, 20 } },
