@@ -35,8 +35,7 @@ int64_t broker_record(int64_t answer, const char *format, ...) {
 	return answer;
 }
 
-/* The bytes as hexadecimal numbers. */
-static const char *spell(const uint8_t *bytes, size_t size) {
+const char *spell(const uint8_t *bytes, size_t size) {
 	static char text[2 * (STORE + PIECE) + 1];
 	text[2 * size] = 0;
 	for (size_t at = 0; at < 2 * size; at++)

@@ -2,7 +2,10 @@
 #include "gateway.h"
 #include <inttypes.h>
 
-enum { ASKED_MAX = 8192 /* each side of a link waits for one thing at a time, and ends once */ };
+enum {
+	ASKED_MAX = 8192, /* each side of a link waits for one thing at a time, and ends once */
+	CALLS_PIECE = 4096, /* bytes that are spelled at once */
+};
 
 struct gateway gateway;
 
@@ -21,8 +24,10 @@ static void called_with(const char *call, unsigned link, enum side side, const u
 	if (!outlets[OUT_CALLS])
 		return;
 	out(OUT_CALLS, "%" PRIu64 " %s %u %d %zu %zu ", gateway.moment, call, link, side, size, count);
-	for (size_t at = 0; at < size; at++)
-		out(OUT_CALLS, "%02x", bytes[at]);
+	for (size_t at = 0, part; at < size; at += part) {
+		part = size - at < CALLS_PIECE ? size - at : CALLS_PIECE;
+		out(OUT_CALLS, "%s", spell(bytes + at, part));
+	}
 	for (size_t at = 0; at < count; at++)
 		out(OUT_CALLS, " %u", tokens[at]);
 	out(OUT_CALLS, "\n");

@@ -116,6 +116,8 @@ extern struct gateway {
 /* A line of the log: who told what to whom; one that says what is shown (log.c). */
 void log_message(struct client *client, const char *way, const struct message *message);
 void log_note(const struct client *client, const char *what, const struct box *box);
+/* Bytes as hexadecimal numbers, as many as a store has at most; until the next (broker.c). */
+const char *spell(const uint8_t *bytes, size_t size);
 /* The shell is asked (core.c). */
 void ask_shell(struct effect effect);
 

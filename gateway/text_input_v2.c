@@ -38,7 +38,7 @@ bool older_make(struct client *client, struct object *object) {
 }
 
 /* A message of any length whose arguments are words and at most two texts. */
-static const struct message *spell(uint32_t object, uint16_t opcode, const struct text *texts[2],
+static const struct message *draft_texts(uint32_t object, uint16_t opcode, const struct text *texts[2],
 		const uint32_t *numbers, unsigned count) {
 	static uint32_t words[2 + 2 * (EVENT_TEXT / 4 + 2) + 4];
 	static struct message made;
@@ -87,7 +87,7 @@ static void update(struct client *client, uint32_t id, struct older *older, uint
 	if (older->is_new || reason == REASON_RESET || reason == REASON_ENTER)
 		to_field(client, id, draft(id, zwp_text_input_v3_request_enable, ""));
 	if (older->has_text)
-		to_field(client, id, spell(id, zwp_text_input_v3_request_set_surrounding_text, texts,
+		to_field(client, id, draft_texts(id, zwp_text_input_v3_request_set_surrounding_text, texts,
 			(const uint32_t[]){ older->cursor, older->anchor }, 2));
 	if (older->has_content)
 		to_field(client, id, draft(id, zwp_text_input_v3_request_set_content_type, "uu", older->hint, older->purpose));
@@ -148,10 +148,10 @@ static void done(struct client *client, uint32_t id, struct older *older) {
 	if (deletes)
 		client_send(client, draft(id, zwp_text_input_v2_event_delete_surrounding_text, "uu", older->before, older->after));
 	if (deletes || older->string.size > 0)
-		client_send(client, spell(id, zwp_text_input_v2_event_commit_string, string, NULL, 0));
+		client_send(client, draft_texts(id, zwp_text_input_v2_event_commit_string, string, NULL, 0));
 	if (older->preedit.size > 0 || older->shows) {
 		client_send(client, draft(id, zwp_text_input_v2_event_preedit_cursor, "u", older->preedit_cursor));
-		client_send(client, spell(id, zwp_text_input_v2_event_preedit_string, preedit, NULL, 0));
+		client_send(client, draft_texts(id, zwp_text_input_v2_event_preedit_string, preedit, NULL, 0));
 	}
 	older->shows = older->preedit.size > 0;
 	older->string.size = older->preedit.size = older->before = older->after = 0;
