@@ -102,7 +102,7 @@ class CandidateDesk(Desk):
                         "WAYLAND_DISPLAY=" + self.path("wlim-programs"), "firefox-esr", "--no-remote", "--name", window,
                         "--profile", self.path("profile"), "file://" + page],
             "chromium": ["chromium", "--no-sandbox", "--ozone-platform=wayland", "--enable-wayland-ime",
-                         "--wayland-text-input-version=3", "--disable-gpu", "--no-first-run", "--class=" + window,
+                         "--disable-gpu", "--no-first-run", "--class=" + window,
                          "--user-data-dir=" + self.path("chromium"), "file://" + page],
         }[window if window in ("gtk3", "gtk4", "qt5", "qt6") else kind]
         self.env.update(wayland)
