@@ -28,6 +28,7 @@ union known {
 		uint32_t below; /* an xdg_popup: the one that grabbed before it */
 		uint32_t made; /* an xdg_surface: its xdg_toplevel or xdg_popup */
 		bool is_popup; /* that is an xdg_popup */
+		bool is_at_bottom; /* a layer surface: of the screen */
 		struct box box; /* an xdg_surface: its geometry; an xdg_popup: where it is on its parent's */
 	} role;
 	struct field { /* a text input: what its next commit brings */

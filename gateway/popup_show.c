@@ -176,6 +176,7 @@ static bool is_asked(const struct popup *popup, struct mirror *want, struct aske
 	}
 	bool is_window = role->interface == &xdg_surface_table && !role->known.role.is_popup;
 	asked->is_free = program->is_wlroots && !is_window;
+	asked->is_above = asked->is_free && role->known.role.is_at_bottom;
 	asked->may_pop = !program->is_wlroots && own_id(program, OWN_SHELL) > 0;
 	want->number = surface->number;
 	return true;

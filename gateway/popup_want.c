@@ -15,7 +15,9 @@ struct box box_bounded(struct box box) {
 static struct wanted inside(const struct asked *asked, struct box window, struct box cursor) {
 	struct wanted wanted = { INSIDE, { cursor.x, cursor.y + cursor.height, asked->width, asked->height } };
 	int32_t right = window.x + window.width - asked->width, bottom = window.y + window.height - asked->height;
-	if (asked->is_free && window.width > 0) { /* at the window at least, whatever cursor is told */
+	if (asked->is_above) {
+		wanted.box.y = cursor.y - asked->height;
+	} else if (asked->is_free && window.width > 0) { /* at the window at least, whatever cursor is told */
 		wanted.box.x = within(wanted.box.x, window.x, window.x + window.width);
 		wanted.box.y = within(wanted.box.y, window.y, window.y + window.height);
 	}

@@ -10,6 +10,7 @@ struct asked {
 	struct box cursor; /* the field's, on the surface */
 	bool has_cursor;
 	int32_t width, height; /* the popup's */
+	bool is_above; /* it has to be above the cursor: the window lies at the screen's bottom */
 	bool is_free; /* what lies outside of the window is shown too: it is an xdg_popup, or a panel */
 	bool may_pop; /* an xdg_popup may be made */
 };

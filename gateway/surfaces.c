@@ -2,6 +2,8 @@
 #include "gateway.h"
 #include <string.h>
 
+enum { ANCHOR_TOP = 1, ANCHOR_BOTTOM = 2 /* of zwlr_layer_surface_v1 */ };
+
 static struct object *live_of(struct client *client, uint32_t id, const struct interface *interface) {
 	struct object *object = id > 0 ? object_live(client, id) : NULL;
 	return object && object->interface == interface ? object : NULL;
@@ -80,6 +82,8 @@ static void role_request(struct client *client, struct object *object, const str
 	} else if (IS(message, xdg_popup, request, grab)) {
 		role->below = client->top;
 		client->top = message->object;
+	} else if (IS(message, zwlr_layer_surface_v1, request, set_anchor)) {
+		role->is_at_bottom = (message->numbers[0] & (ANCHOR_TOP | ANCHOR_BOTTOM)) == ANCHOR_BOTTOM;
 	} else if (IS(message, xdg_surface, request, set_window_geometry)) {
 		memcpy(&role->box, message->numbers, sizeof role->box);
 	} else if (strcmp(message->signature->name, "destroy") == 0) {

@@ -308,6 +308,10 @@ static void panel(void)
 			HOLDS(of_row(ROW(xdg_surface, get_popup), 0) > 0 && of_row(ROW(xdg_surface, get_popup), 1) == 0);
 			HOLDS(asked_times(&desktop, layer, ROW(zwlr_layer_surface_v1, get_popup)) == 1);
 		}
+		request(&one, draft(LAYER, zwlr_layer_surface_v1_request_set_anchor, "u", 2 | 4 | 8));
+		request(&one, draft(SURFACE, wl_surface_request_commit, ""));
+		round_ends();
+		HOLDS(!is_wlroots || (int32_t)of_row(ROW(wl_subsurface, set_position), 1) == 5 - HEIGHT);
 		request(&one, draft(LAYER, zwlr_layer_surface_v1_request_destroy, ""));
 		look(&one);
 		HOLDS(!one.entered);
