@@ -3,8 +3,8 @@
 
     tests/gateway_candidates.py FOLDER [MOVES [PROGRAM..]]
 
-FOLDER is as tests/gateway.sh builds it. The candidates are found in a screenshot by the pixels that the method drew: the
-gateway's copies of them. Pictures stay in FOLDER.
+FOLDER is as tests/gateway.sh builds it. The candidates are found in a screenshot by the pixels that the method drew.
+Pictures stay in FOLDER.
 """
 import glob
 import os
@@ -137,11 +137,17 @@ class CandidateDesk(Desk):
         found = re.findall(SHOWN, log)
         return [int(word) for word in found[-1]] if found else None
 
+    def start_method(self):
+        self.method = super().start_method()
+        return self.method
+
     def pictures(self, width, height):
-        """All copies of pixels that the gateway has, of that size, without edges, as rows of RGB."""
-        for file in glob.glob(f"/proc/{self.gateway.pid}/fd/*"):
+        """All pixels that the method shares, of that size, without edges, as rows of RGB; root alone can look there, others
+        at the gateway's copies."""
+        files = f"/proc/{self.method.pid}/map_files/*" if os.getuid() == 0 else f"/proc/{self.gateway.pid}/fd/*"
+        for file in glob.glob(files):
             try:
-                if "wlim-gateway" not in os.readlink(file) or os.stat(file).st_size != width * height * 4:
+                if "memfd" not in os.readlink(file) or os.stat(file).st_size != width * height * 4:
                     continue
                 with open(file, "rb") as data:
                     pixels = data.read()
