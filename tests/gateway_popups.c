@@ -1,138 +1,10 @@
 /*
- * Popups of methods in programs' windows, as a compositor and both sides see them: where they stand, what is copied,
- * who is told what, and each way in which a popup's window, program or method ends. Built by tests/gateway.sh. Prints
- * what doesn't hold.
+ * Popups of methods in programs' windows, as a compositor and both sides see them: where they stand, who is told what, and
+ * each way in which a popup's window, program or method ends. Built by tests/gateway.sh. Prints what doesn't hold.
  */
-#include "gateway_users.h"
+#include "gateway_scene.h"
 
-enum { SHELL = KEYBOARD_2 + 1, XDG, TOP, POINTER, TOUCH, MENU, MENU_XDG, MENU_POPUP, POSITIONER }; /* of a program */
-enum { MAKER = GRAB + 1, MEMORY, POOL, BUFFER, PIXELS, POPUP, MOUSE, FINGER, FRAME, VIEWS }; /* of a method */
-enum { WIDTH = 30, HEIGHT = 20, STRIDE = 4 * WIDTH, POOL_SIZE = 4096 };
-
-static struct user one, two, first;
-static struct compositor desktop;
-static uint32_t serial;
-
-static void global_at(struct user *user, uint32_t name, const char *interface, uint32_t version)
-{
-	put_event(user, draft(REGISTRY, wl_registry_event_global, "usu", name, interface, version));
-	read_events(user);
-}
-
-/* A program with a window of the size and a field; the compositor maybe one of wlroots. */
-static void start_window(struct user *user, bool is_wlroots, uint32_t width, uint32_t height)
-{
-	start_program(user, true);
-	request(user, draft(SEAT, wl_seat_request_get_keyboard, "u", KEYBOARD_2));
-	if (is_wlroots)
-		global_at(user, 9, "zwlr_screencopy_manager_v1", 1);
-	global_at(user, 3, "wl_shm", 1);
-	global_at(user, 4, "xdg_wm_base", 3);
-	global_at(user, 5, "wl_subcompositor", 1);
-	global_at(user, 6, "wp_viewporter", 1);
-	bind_global(user, 4, "xdg_wm_base", SHELL);
-	request(user, draft(SHELL, xdg_wm_base_request_get_xdg_surface, "uu", XDG, SURFACE));
-	request(user, draft(XDG, xdg_surface_request_get_toplevel, "u", TOP));
-	request(user, draft(XDG, xdg_surface_request_set_window_geometry, "uuuu", 10, 20, width, height));
-	request(user, draft(SEAT, wl_seat_request_get_pointer, "u", POINTER));
-	request(user, draft(SEAT, wl_seat_request_get_touch, "u", TOUCH));
-}
-
-/* The window has a buffer, of which nobody asks more: it is the surface's seat that has an id. */
-static void show(struct user *user)
-{
-	request(user, draft(SURFACE, wl_surface_request_attach, "uuu", SEAT, 0, 0));
-	request(user, draft(SURFACE, wl_surface_request_commit, ""));
-}
-
-static void make_pool(struct user *user, uint32_t id, uint32_t size, size_t true_size)
-{
-	static uint8_t bytes[POOL_SIZE];
-	const struct message *message = draft(MEMORY, wl_shm_request_create_pool, "uu", id, size);
-	for (size_t at = 0; at < sizeof bytes; at++)
-		bytes[at] = (uint8_t)at;
-	uint32_t token = make_file(bytes, true_size);
-	send_client(&user->place, message->bytes, message->size, &token, 1);
-}
-
-static void start_popup(struct user *user, size_t true_size)
-{
-	start_grab(user);
-	global_at(user, 3, "wl_shm", 1);
-	global_at(user, 6, "wp_viewporter", 1);
-	bind_global(user, 2, "wl_compositor", MAKER);
-	bind_global(user, 3, "wl_shm", MEMORY);
-	make_pool(user, POOL, POOL_SIZE, true_size);
-	request(user, draft(POOL, wl_shm_pool_request_create_buffer, "uuuuuu", BUFFER, 40, WIDTH, HEIGHT, STRIDE, 0));
-	request(user, draft(MAKER, wl_compositor_request_create_surface, "u", PIXELS));
-	request(user, draft(METHOD_1, zwp_input_method_v2_request_get_input_popup_surface, "uu", POPUP, PIXELS));
-	request(user, draft(SEAT, wl_seat_request_get_pointer, "u", MOUSE));
-	request(user, draft(SEAT, wl_seat_request_get_touch, "u", FINGER));
-}
-
-static void draw(struct user *user, uint32_t frame)
-{
-	request(user, draft(PIXELS, wl_surface_request_attach, "uuu", BUFFER, 0, 0));
-	if (frame)
-		request(user, draft(PIXELS, wl_surface_request_frame, "u", frame));
-	request(user, draft(PIXELS, wl_surface_request_commit, ""));
-}
-
-static void enable_at(struct user *user, uint32_t x, uint32_t y)
-{
-	request(user, draft(FIELD, zwp_text_input_v3_request_enable, ""));
-	request(user, draft(FIELD, zwp_text_input_v3_request_set_cursor_rectangle, "uuuu", x, y, 2, 10));
-	request(user, draft(FIELD, zwp_text_input_v3_request_commit, ""));
-}
-
-/* A round ends, and the compositor hears of it. */
-static void round_ends(void)
-{
-	finish_round();
-	if (one.place.link > 0)
-		look_far(&desktop, &one.place);
-	HOLDS(!desktop.wrong);
-	if (desktop.wrong)
-		printf("%s\n", desktop.wrong);
-	desktop.wrong = NULL;
-}
-
-/* What the compositor says of the gateway's own objects. */
-static void say_far(const struct message *message)
-{
-	write_far(&one.place, message->bytes, message->size, NULL, 0);
-}
-
-static uint32_t of_row(const struct signature *row, unsigned argument)
-{
-	const struct asked_of *asked = asked_last(&desktop, 0, row);
-	return asked ? asked->numbers[argument] : 0;
-}
-
-/* Both stand, a popup is drawn, and the window has the focus. */
-static void stand(bool is_wlroots, uint32_t width, uint32_t height)
-{
-	desktop = (struct compositor){ 0 };
-	start_window(&one, is_wlroots, width, height);
-	start_popup(&first, POOL_SIZE);
-	show(&one);
-	round_ends();
-	enter(&one, ++serial);
-	enable_at(&one, 100, 60);
-	draw(&first, 0);
-	round_ends();
-}
-
-static void fall(void)
-{
-	if (first.place.link > 0)
-		close_client(&first.place);
-	if (one.place.link > 0)
-		close_client(&one.place);
-	HOLDS(tokens_used() <= 2); /* a keymap's, and that of what is clear */
-}
-
-/* As a subsurface: what is copied, who commits, what is told of frames, and how it goes. */
+/* As a subsurface: what is copied, who commits, what is told of frames. */
 static void inside(void)
 {
 	stand(true, 640, 480);
@@ -170,7 +42,14 @@ static void inside(void)
 	round_ends();
 	HOLDS(asked_times(&desktop, buffer, ROW(wl_buffer, destroy)) == 1);
 	HOLDS(asked_times(&desktop, surface, ROW(wl_surface, commit)) == 1);
-	/* The cursor moves: placed by a commit of the gateway's, or of the program's where that has something pending. */
+	fall();
+}
+
+/* Where the cursor moves it is placed by a commit of the gateway's, or of the program's, which has something pending. */
+static void moves(void)
+{
+	stand(true, 640, 480);
+	uint32_t window = far_of(one.place.client, SURFACE), sub = of_row(ROW(wl_subcompositor, get_subsurface), 0);
 	enable_at(&one, 300, 60);
 	round_ends();
 	HOLDS(of_row(ROW(wl_subsurface, set_position), 0) == 300);
@@ -480,6 +359,7 @@ static void ends(void)
 /* A window that isn't shown has no focus, though the compositor doesn't say so; shown again it has. */
 static void unmapped(void)
 {
+	static struct user two;
 	stand(true, 640, 480);
 	look(&one);
 	HOLDS(one.entered);
@@ -505,224 +385,12 @@ static void unmapped(void)
 	fall();
 }
 
-/* A file that is shorter than its pool ends the method; pixels that the compositor wouldn't take aren't shown. */
-static void lies(void)
-{
-	static const uint32_t bad[][5] = { /* offset, width, height, stride, format */
-		{ 40, WIDTH, HEIGHT, STRIDE - 4, 0 }, { 40, WIDTH, HEIGHT, STRIDE + 2, 0 }, { 40, 0, HEIGHT, STRIDE, 0 },
-		{ POOL_SIZE, WIDTH, HEIGHT, STRIDE, 0 }, { 40, WIDTH, 0x7fffffff, STRIDE, 0 },
-		{ 40, WIDTH, HEIGHT, STRIDE, 0x34324241 }, { 0xffffffff, WIDTH, HEIGHT, STRIDE, 0 },
-		{ 40, 0x40000000, 1, 0xffffffff, 0 },
-	};
-	stand(true, 640, 480);
-	for (size_t at = 0; at < sizeof bad / sizeof *bad; at++) {
-		const uint32_t *b = bad[at];
-		request(&first, draft(POOL, wl_shm_pool_request_create_buffer, "uuuuuu", FRAME + at, b[0], b[1], b[2], b[3], b[4]));
-		request(&first, draft(PIXELS, wl_surface_request_attach, "uuu", FRAME + at, 0, 0));
-		request(&first, draft(PIXELS, wl_surface_request_commit, ""));
-		round_ends();
-		look(&first);
-		HOLDS(one.place.link > 0 && HEARD(&first, FRAME + at, wl_buffer_event_release) == 1);
-		HOLDS(asked_times(&desktop, 0, ROW(wl_subsurface, destroy)) == (at == 0));
-	}
-	fall();
-	desktop = (struct compositor){ 0 };
-	start_window(&one, true, 640, 480);
-	start_popup(&first, POOL_SIZE / 2);
-	show(&one);
-	enter(&one, ++serial);
-	enable_at(&one, 100, 60);
-	draw(&first, 0);
-	round_ends();
-	HOLDS(one.place.link > 0 && first.place.link == 0); /* of it there was nothing but what is clear */
-	HOLDS(asked_times(&desktop, 0, ROW(wl_surface, attach)) == 2);
-	HOLDS(asked_times(&desktop, 0, ROW(wl_subsurface, destroy)) == 1);
-	fall();
-}
-
-/* 20,000 commits at once cost two copies; each buffer comes back; 100 popups are as many as are shown, and no more. */
-static void many(void)
-{
-	stand(true, 640, 480);
-	look(&first);
-	for (int at = 0; at < 20000; at++)
-		draw(&first, 0);
-	round_ends();
-	look(&first);
-	HOLDS(HEARD(&first, BUFFER, wl_buffer_event_release) == 0 && desktop.asked_count == 0 && tokens_used() < 10);
-	for (uint32_t at = 0, id = FRAME; at < 100; at++, id += 2) {
-		request(&first, draft(MAKER, wl_compositor_request_create_surface, "u", id));
-		request(&first, draft(METHOD_1, zwp_input_method_v2_request_get_input_popup_surface, "uu", id + 1, id));
-		request(&first, draft(id, wl_surface_request_attach, "uuu", BUFFER, 0, 0));
-		request(&first, draft(id, wl_surface_request_commit, ""));
-	}
-	round_ends();
-	HOLDS(one.place.link > 0 && first.place.link > 0);
-	HOLDS(asked_times(&desktop, 0, ROW(wl_subcompositor, get_subsurface)) == 15);
-	fall();
-}
-
-/* So many bytes of a method's are copied in a second, and no more; what isn't copied yet is, later. */
-static void too_fast(void)
-{
-	unsigned copies = 0;
-	stand(true, 640, 480);
-	uint64_t begun = now;
-	while (now < begun + 1000000) {
-		uint32_t buffer = of_row(ROW(wl_surface, attach), 0);
-		if (buffer > 0)
-			say_far(draft(buffer, wl_buffer_event_release, ""));
-		now += 101000;
-		read_events(&one);
-		draw(&first, 0);
-		round_ends();
-		copies += asked_times(&desktop, 0, ROW(wl_surface, attach));
-	}
-	HOLDS(copies == 10);
-	first.place.client->copies_from = now + 500000;
-	now += 101000;
-	draw(&first, 0);
-	round_ends();
-	int wait = core_wait(now);
-	HOLDS(asked_times(&desktop, 0, ROW(wl_surface, attach)) == 0 && wait > 390 && wait < 402);
-	now += 400000;
-	round_ends();
-	HOLDS(asked_times(&desktop, 0, ROW(wl_surface, attach)) == 1);
-	fall();
-}
-
-/* A destroyed buffer was committed already; one with its id isn't released in its place. */
-static void destroyed_buffer(void)
-{
-	desktop = (struct compositor){ 0 };
-	start_window(&one, true, 640, 480);
-	start_popup(&first, POOL_SIZE);
-	draw(&first, 0);
-	request(&first, draft(BUFFER, wl_buffer_request_destroy, ""));
-	put_event(&first, draft(DISPLAY, wl_display_event_delete_id, "u", BUFFER));
-	read_events(&first);
-	request(&first, draft(POOL, wl_shm_pool_request_create_buffer, "uuuuuu", BUFFER, 40, WIDTH, HEIGHT, STRIDE, 0));
-	show(&one);
-	enter(&one, ++serial);
-	enable_at(&one, 100, 60);
-	round_ends();
-	look(&first);
-	HOLDS(asked_times(&desktop, 0, ROW(wl_surface, attach)) == 2 && HEARD(&first, BUFFER, wl_buffer_event_release) == 0);
-	fall();
-}
-
-/* Of a scale, of a viewport: the size on the screen; what the compositor would refuse isn't shown. */
-static void sizes(void)
-{
-	stand(true, 640, 480);
-	request(&first, draft(PIXELS, wl_surface_request_set_buffer_scale, "u", 2));
-	draw(&first, 0);
-	enable_at(&one, 635, 60);
-	now += 200000;
-	round_ends();
-	HOLDS(of_row(ROW(wl_subsurface, set_position), 0) == 650 - WIDTH / 2);
-	HOLDS(of_row(ROW(wl_surface, set_buffer_scale), 0) == 2);
-	request(&first, draft(PIXELS, wl_surface_request_set_buffer_scale, "u", 4));
-	draw(&first, 0); /* 30 isn't of fours */
-	now += 200000;
-	round_ends();
-	HOLDS(asked_times(&desktop, 0, ROW(wl_subsurface, destroy)) == 1);
-	request(&first, draft(PIXELS, wl_surface_request_set_buffer_scale, "u", 1));
-	bind_global(&first, 6, "wp_viewporter", FRAME);
-	request(&first, draft(FRAME, wp_viewporter_request_get_viewport, "uu", VIEWS, PIXELS));
-	request(&first, draft(VIEWS, wp_viewport_request_set_destination, "uu", 15, 10));
-	draw(&first, 0);
-	round_ends();
-	HOLDS(of_row(ROW(wl_subsurface, set_position), 0) == 635 && of_row(ROW(wp_viewport, set_destination), 1) == 10);
-	request(&first, draft(VIEWS, wp_viewport_request_set_source, "uuuu", 0, 0, 31 * 256, 256));
-	draw(&first, 0); /* the source lies outside */
-	now += 200000;
-	round_ends();
-	HOLDS(one.place.link > 0 && asked_times(&desktop, 0, ROW(wl_subsurface, destroy)) == 1);
-	fall();
-}
-
-/* Where the compositor tells no frame, a timer does. */
-static void late_frames(void)
-{
-	stand(true, 640, 480);
-	draw(&first, FRAME);
-	round_ends();
-	look(&first);
-	HOLDS(HEARD(&first, FRAME, wl_callback_event_done) == 0);
-	int wait = core_wait(now);
-	HOLDS(wait > 0 && wait <= 101);
-	now += 101000;
-	round_ends();
-	look(&first);
-	HOLDS(HEARD(&first, FRAME, wl_callback_event_done) == 1 && core_wait(now) == -1);
-	fall();
-}
-
-/* text-input-v2: its state comes with its update, a batch comes as its events, at an enter it is asked again. */
-static void version_2(void)
-{
-	enum { OLDER = FIELD, SEEN = KEYBOARD_2 };
-	start_program(&one, false);
-	start_grab(&first);
-	bind_global(&one, 0xffff0000 + GLOBAL_OLDER, "zwp_text_input_manager_v2", OLDER);
-	request(&one, draft(OLDER, zwp_text_input_manager_v2_request_get_text_input, "uu", SEEN, SEAT));
-	request(&one, draft(SEEN, zwp_text_input_v2_request_enable, "u", SURFACE));
-	enter(&one, ++serial);
-	look(&one);
-	HOLDS(HEARD(&one, SEEN, zwp_text_input_v2_event_enter, 1, SURFACE) == 1);
-	look(&first);
-	HOLDS(HEARD(&first, METHOD_1, zwp_input_method_v2_event_activate) == 0);
-	request(&one, draft(SEEN, zwp_text_input_v2_request_set_surrounding_text, "suu", "abc", 1, 2));
-	request(&one, draft(SEEN, zwp_text_input_v2_request_set_content_type, "uu", 0x80, 9));
-	request(&one, draft(SEEN, zwp_text_input_v2_request_set_cursor_rectangle, "uuuu", 1, 2, 3, 4));
-	request(&one, draft(SEEN, zwp_text_input_v2_request_update_state, "uu", 1, 1));
-	look(&first);
-	HOLDS(HEARD(&first, METHOD_1, zwp_input_method_v2_event_activate) == 1);
-	HOLDS(HEARD(&first, METHOD_1, zwp_input_method_v2_event_surrounding_text, 1, 2) == 1);
-	HOLDS(HEARD(&first, METHOD_1, zwp_input_method_v2_event_content_type, 0x80, 10) == 1);
-	HOLDS(one.place.client->field == SEEN && one.place.client->cursor.height == 4);
-	request(&first, draft(METHOD_1, zwp_input_method_v2_request_set_preedit_string, "suu", "xy", 1, 1));
-	request(&first, draft(METHOD_1, zwp_input_method_v2_request_commit, "u", 1));
-	look(&one);
-	HOLDS(HEARD(&one, SEEN, zwp_text_input_v2_event_preedit_cursor, 1) == 1);
-	HOLDS(HEARD(&one, SEEN, zwp_text_input_v2_event_preedit_string, 3, 'x' | 'y' << 8, 1, 0) == 1);
-	request(&first, draft(METHOD_1, zwp_input_method_v2_request_commit_string, "s", "z"));
-	request(&first, draft(METHOD_1, zwp_input_method_v2_request_delete_surrounding_text, "uu", 1, 2));
-	request(&first, draft(METHOD_1, zwp_input_method_v2_request_commit, "u", 1));
-	look(&one);
-	HOLDS(HEARD(&one, SEEN, zwp_text_input_v2_event_delete_surrounding_text, 1, 2) == 1);
-	HOLDS(HEARD(&one, SEEN, zwp_text_input_v2_event_commit_string, 2, 'z') == 1);
-	HOLDS(HEARD(&one, SEEN, zwp_text_input_v2_event_preedit_string, 1, 0, 1, 0) == 1);
-	request(&first, draft(METHOD_1, zwp_input_method_v2_request_commit, "u", 1));
-	look(&one);
-	HOLDS(one.size == 0);
-	/* A reset is a new activation: what was for the one before comes to nobody. */
-	request(&one, draft(SEEN, zwp_text_input_v2_request_update_state, "uu", 1, 2));
-	look(&first);
-	HOLDS(HEARD(&first, METHOD_1, zwp_input_method_v2_event_activate) == 1);
-	request(&first, draft(METHOD_1, zwp_input_method_v2_request_commit_string, "s", "late"));
-	request(&first, draft(METHOD_1, zwp_input_method_v2_request_commit, "u", 1));
-	look(&one);
-	HOLDS(HEARD(&one, SEEN, zwp_text_input_v2_event_commit_string) == 0);
-	request(&one, draft(SEEN, zwp_text_input_v2_request_disable, "u", SURFACE));
-	look(&first);
-	HOLDS(HEARD(&first, METHOD_1, zwp_input_method_v2_event_deactivate) == 1 && one.place.client->field == 0);
-	renew();
-	event(&one, wl_keyboard_event_leave, ++serial);
-	read_events(&one);
-	request(&one, draft(SEEN, zwp_text_input_v2_request_destroy, ""));
-	look(&one);
-	HOLDS(HEARD(&one, SEEN, zwp_text_input_v2_event_leave) > 0);
-	HOLDS(HEARD(&one, DISPLAY, wl_display_event_delete_id, SEEN) == 1);
-	fall();
-}
-
 int main(void)
 {
 	if (!core_open(now, 3000000))
 		return 1;
 	inside();
+	moves();
 	beside();
 	menu();
 	panel();
@@ -730,16 +398,9 @@ int main(void)
 	unnamed();
 	ends();
 	unmapped();
-	lies();
-	many();
-	too_fast();
-	destroyed_buffer();
-	sizes();
-	late_frames();
-	version_2();
 	core_close();
 	do_effects();
 	HOLDS(tokens_used() == 0);
-	printf("popups, and text inputs of version 2: %s\n", failed ? "not as they should be" : "ok");
+	printf("popups in windows: %s\n", failed ? "not as they should be" : "ok");
 	return failed;
 }
