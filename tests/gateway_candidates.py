@@ -142,8 +142,8 @@ class CandidateDesk(Desk):
         return self.method
 
     def pictures(self, width, height):
-        """All pixels that the method shares, of that size, without edges, as rows of RGB; root alone can look there, others
-        at the gateway's copies."""
+        """All pixels that the method shares, of that size, without edges, as rows of RGB; root alone can look there,
+        others at the gateway's copies."""
         files = f"/proc/{self.method.pid}/map_files/*" if os.getuid() == 0 else f"/proc/{self.gateway.pid}/fd/*"
         for file in glob.glob(files):
             try:

@@ -4,8 +4,9 @@
  *     gateway_fuzz [ROUNDS [SEED [honest]]]
  *
  * Each program begins with a window, and the method with a popup that is shown in the last one's. Where the compositor
- * is honest, what it is asked is held against its rules for new ids. Built with the address sanitizer by tests/gateway.sh.
- * Says how many messages were read, how many clients ended, and how often a popup was shown.
+ * is honest, what it is asked is held against its rules for new ids. Built with the address sanitizer by
+ * tests/gateway.sh. Says how many messages were read, how many clients ended, and for how many rounds the gateway had
+ * objects in a program.
  */
 #include "gateway_users.h"
 

@@ -1,6 +1,6 @@
 /*
- * Popups of methods in programs' windows, as a compositor and both sides see them: where they stand, who is told what, and
- * each way in which a popup's window, program or method ends. Built by tests/gateway.sh. Prints what doesn't hold.
+ * Popups of methods in programs' windows, as a compositor and both sides see them: where they stand, who is told what,
+ * and each way in which a popup's window, program or method ends. Built by tests/gateway.sh. Prints what doesn't hold.
  */
 #include "gateway_scene.h"
 

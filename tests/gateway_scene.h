@@ -1,4 +1,4 @@
-/* A program with a window and a field, a method with a popup, and the compositor of the first, for the gateway's tests. */
+/* A program with a window and a field, a method with a popup, and the compositor of the first, for tests. */
 #include "gateway_users.h"
 
 enum { SHELL = KEYBOARD_2 + 1, XDG, TOP, POINTER, TOUCH, MENU, MENU_XDG, MENU_POPUP, POSITIONER }; /* of a program */
