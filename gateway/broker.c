@@ -3,46 +3,39 @@
 #include <inttypes.h>
 #include <stdarg.h>
 #include <stdio.h>
-#include <time.h>
 
 enum {
 	STORE = 65536, ENTRIES = 4000000, WEIGHT = 536870912, /* what a broker holds at most, as wlim.h says */
 	WEIGHT_OLD = 400000000, /* so heavy it is renewed */
 	QUIET = 500, /* milliseconds without a step, after which a renewal cuts nothing in two */
 	PIECE = 4096, /* bytes of a line of the session, and of one taking */
+	LINE = 2 * PIECE + 100, /* characters of a line of the session */
 };
 
 struct wlim_broker broker;
 
 static struct {
-	FILE *record, *taken;
 	unsigned number; /* of the broker, from 1: each has a record */
-	uint64_t moment; /* of the last call */
+	uint64_t moment; /* of the last step */
 } self;
-
-uint64_t broker_now(void) {
-	struct timespec time;
-	clock_gettime(CLOCK_MONOTONIC, &time);
-	return self.moment = (uint64_t)time.tv_sec * 1000000 + (uint64_t)time.tv_nsec / 1000;
-}
 
 /* Writes a call's line, if it was taken. Answers the answer. */
 int64_t broker_record(int64_t answer, const char *format, ...) {
+	static char line[LINE];
 	va_list arguments;
+	self.moment = gateway.moment;
 	if (answer == WLIM_NO_MEMORY || answer == WLIM_FULL)
-		say(answer == WLIM_FULL ? "the broker is full" : "there is no memory for a step");
-	if (answer < WLIM_GIVEN || !self.record)
+		out(OUT_PROBLEMS, "%s\n", answer == WLIM_FULL ? "the broker is full" : "there is no memory for a step");
+	if (answer < WLIM_GIVEN || !outlets[OUT_RECORD])
 		return answer;
-	fprintf(self.record, "%" PRIu64 " 0 ", self.moment);
 	va_start(arguments, format);
-	vfprintf(self.record, format, arguments);
+	vsnprintf(line, sizeof line, format, arguments);
 	va_end(arguments);
-	putc('\n', self.record);
+	out(OUT_RECORD, "%" PRIu64 " 0 %s\n", gateway.moment, line);
 	return answer;
 }
 
-/* The bytes as hexadecimal numbers. */
-static const char *spell(const uint8_t *bytes, size_t size) {
+const char *spell(const uint8_t *bytes, size_t size) {
 	static char text[2 * (STORE + PIECE) + 1];
 	text[2 * size] = 0;
 	for (size_t at = 0; at < 2 * size; at++)
@@ -50,30 +43,17 @@ static const char *spell(const uint8_t *bytes, size_t size) {
 	return text;
 }
 
-/* Opens a file, where it has a name: from the second broker on with the broker's number. False: it said why. */
-static bool open_record(const char *name, FILE **file) {
-	char path[4096];
-	snprintf(path, sizeof path, self.number > 1 ? "%s.%u" : "%s", name ? name : "", self.number);
-	*file = name ? fopen(path, "we") : NULL;
-	if (name && !*file)
-		say("%s: %m", path);
-	return !name || *file;
-}
-
 bool broker_open(void) {
-	self.number++;
-	if (!open_record(gateway.record, &self.record) || !open_record(gateway.taken, &self.taken))
-		return false;
-	if (self.record)
-		fprintf(self.record, "session 2 %d %d %d\n", ENTRIES, STORE, WEIGHT);
+	out_begin(++self.number);
+	if (outlets[OUT_RECORD])
+		out(OUT_RECORD, "session 2 %d %d %d\n", ENTRIES, STORE, WEIGHT);
 	bool opened = wlim_broker_open(&broker, STORE, ENTRIES, WEIGHT) == WLIM_GIVEN;
-	return opened || (say("there is no memory for a broker"), false);
+	return opened || (out(OUT_PROBLEMS, "there is no memory for a broker\n"), false);
 }
 
 void broker_close(void) {
-	if ((self.record && (fputs("end\n", self.record) < 0 || fclose(self.record) != 0))
-			|| (self.taken && fclose(self.taken) != 0))
-		say("the session isn't whole: %m");
+	if (outlets[OUT_RECORD])
+		out(OUT_RECORD, "end\n");
 	wlim_broker_close(&broker);
 }
 
@@ -82,8 +62,7 @@ int broker_renewal(void) {
 	wlim_broker_used(&broker, &used);
 	if (used.entries <= gateway.entries && used.weight <= WEIGHT_OLD)
 		return -1;
-	uint64_t last = self.moment, passed = (broker_now() - last) / 1000;
-	self.moment = last;
+	uint64_t passed = (gateway.moment - self.moment) / 1000;
 	bool full = used.entries > gateway.entries + ENTRIES / 8 || used.weight > WEIGHT_OLD + WEIGHT / 8;
 	return full || passed >= QUIET ? 0 : QUIET;
 }
@@ -102,13 +81,14 @@ static void take(uint32_t peer) {
 	struct wlim_taken taken;
 	struct client *client = client_of(peer);
 	size_t size = 0, count = 0;
-	while (wlim_broker_take(&broker, broker_now(), peer, bytes + size, PIECE, tokens + count, 256, &taken) == WLIM_GIVEN) {
+	while (wlim_broker_take(&broker, gateway.moment, peer, bytes + size, PIECE, tokens + count, 256, &taken)
+			== WLIM_GIVEN) {
 		broker_record(WLIM_GIVEN, "take %u %zu", peer, taken.bytes);
 		size += taken.bytes;
 		count += taken.tokens;
 	}
-	if (self.taken)
-		fprintf(self.taken, "%u %s\n", peer, spell(bytes, size));
+	if (outlets[OUT_TAKEN])
+		out(OUT_TAKEN, "%u %s\n", peer, spell(bytes, size));
 	if (client)
 		client_told(client, bytes, size, tokens);
 	if (client && wlim_broker_standing(&broker, peer) != WLIM_ALIVE)
@@ -128,16 +108,16 @@ int64_t broker_done(int64_t answer) {
 			keyboard_give(client, board->keymap, &told);
 	}
 	if (next == WLIM_MISSED)
-		say("more keys were given back at once than wait: some are lost");
+		out(OUT_PROBLEMS, "more keys were given back at once than wait: some are lost\n");
 	return answer;
 }
 
 void broker_receive(struct client *client, const struct message *message, uint32_t token) {
-	int64_t answer = wlim_broker_receive(&broker, broker_now(), client->peer, message->bytes, message->size, &token,
+	int64_t answer = wlim_broker_receive(&broker, gateway.moment, client->peer, message->bytes, message->size, &token,
 		token > 0);
 	if (token > 0)
 		broker_record(answer, "tokens %u %u", client->peer, token);
-	for (size_t at = 0; self.record && at < message->size; at += PIECE)
+	for (size_t at = 0; outlets[OUT_RECORD] && at < message->size; at += PIECE)
 		broker_record(answer, "bytes %u %s", client->peer,
 			spell(message->bytes + at, message->size - at < PIECE ? message->size - at : PIECE));
 	if (answer < WLIM_GIVEN)
@@ -147,14 +127,14 @@ void broker_receive(struct client *client, const struct message *message, uint32
 
 bool broker_join(struct client *client) {
 	bool method = client->role == METHOD;
-	int64_t answer = wlim_broker_join(&broker, broker_now(), method ? WLIM_KEYED : WLIM_APP);
+	int64_t answer = wlim_broker_join(&broker, gateway.moment, method ? WLIM_KEYED : WLIM_APP);
 	broker_record(answer, method ? "join keyed" : "join app");
 	if (answer < WLIM_GIVEN)
 		return client_refuse(client, DISPLAY, ERROR_MEMORY, "the broker takes no more clients"), false;
 	client->peer = (uint32_t)answer;
 	broker_receive(client, draft(DISPLAY, wl_display_request_get_registry, "u", OWN), 0);
 	for (const struct offer *offer = offers; offer->interface; offer++)
-		if (offer->role == ALL || offer->role == client->role)
+		if (offer->global == offer->broker && (offer->role == ALL || offer->role == client->role))
 			broker_receive(client, draft(OWN, wl_registry_request_bind, "usuu", offer->global, offer->interface->name, 1,
 				OWN + offer->global), 0);
 	keyboard_client_joined(client);

@@ -1,33 +1,25 @@
 /* A client: a program or a method, its connection to the compositor, and what it is told. */
 #include "gateway.h"
 #include <stdlib.h>
-#include <unistd.h>
 
 enum { CAPABILITY_KEYBOARD = 2 /* of wl_seat.capabilities */ };
 
-static unsigned open_count, last_number;
-
-struct client *client_open(int socket, enum role role) {
-	struct client *client = open_count < CLIENTS_MAX ? calloc(1, sizeof *client) : NULL;
-	int far = client ? compositor_connect() : -1;
-	if (far < 0) {
-		say(client ? "a client isn't let in: %m" : "a client isn't let in: there are too many");
-		close(socket);
-		return free(client), NULL;
-	}
+struct client *client_open(enum role role) {
+	static unsigned last_number;
+	struct client *client = calloc(1, sizeof *client);
+	if (!client)
+		return NULL;
 	client->next = gateway.clients;
 	gateway.clients = client;
-	open_count++;
 	client->number = ++last_number;
 	client->role = role;
-	client->near.socket = socket;
-	client->far.socket = far;
-	client->counts[0] = 1; /* no object has the id 0 */
-	object_make(client, DISPLAY, &wl_display_table, false);
+	client->counts[0] = client->far_count = 1; /* no object has the id 0 */
+	object_make(client, DISPLAY, &wl_display_table, false)->far = far_make(client, DISPLAY);
 	return client;
 }
 
 void client_close(struct client *client) {
+	popups_client_ends(client);
 	keyboard_leave(client, 0);
 	request_release(client, 0);
 	if (client->peer > 0)
@@ -38,13 +30,14 @@ void client_close(struct client *client) {
 		keyboard_board_ended(client, 0);
 	wire_close(&client->near);
 	wire_close(&client->far);
-	open_count--;
+	for (uint32_t id = 1; client->held > 0 && id < client->counts[0]; id++)
+		object_free(client, id);
 	free(client);
 }
 
 void client_end(struct client *client, const char *why) {
 	if (!client->ending)
-		say("client %u ends: %s", client->number, why);
+		out(OUT_PROBLEMS, "client %u ends: %s\n", client->number, why);
 	client->ending = true;
 }
 
@@ -63,21 +56,28 @@ static const char *read_message(struct client *client, bool request, struct mess
 	const struct object *object = object_live(client, message->object);
 	if (!object)
 		return "unknown object";
-	if (message->opcode >= object->interface->counts[request])
+	const struct interface *interface = object->interface;
+	if (!request && interface == &zwp_text_input_v2_table)
+		interface = &zwp_text_input_v3_table; /* as the broker has it */
+	if (message->opcode >= interface->counts[request])
 		return "unknown opcode";
-	return message_read(message, &object->interface->rows[request][message->opcode]) ? NULL : "malformed message";
+	return message_read(message, &interface->rows[request][message->opcode]) ? NULL : "malformed message";
 }
 
-/* Whether the client is told that an id is free. That of a `sync` in an object's place is nothing to it. */
-static bool end_id(struct client *client, uint32_t id) {
-	struct object *object = object_at(client, id);
-	if (object && object->holes > 0)
-		return object->holes--, false;
-	return object_free(client, id), true;
+/* Whether the client is told that an id is free: not of one that it doesn't know. */
+static bool end_id(struct client *client, struct message *message) {
+	uint32_t far = message->numbers[0], id = far < FIRST_SERVER_ID && far != DISPLAY ? near_of(client, far) : 0;
+	if (id > 0 || private_of(client, far))
+		far_end(client, far);
+	if (id == 0)
+		return false;
+	object_free(client, id);
+	message_set(message, 0, id);
+	return true;
 }
 
 /* What a message of the compositor does, and whether the client gets it. */
-static void event_play(struct client *client, struct message *message, const int *files) {
+static void event_play(struct client *client, struct message *message, const uint32_t *tokens) {
 	const struct signature *signature = message->signature;
 	const struct object *object = object_at(client, message->object);
 	bool given = true;
@@ -85,57 +85,117 @@ static void event_play(struct client *client, struct message *message, const int
 			|| !object_make(client, message->numbers[signature->new_id], signature->made, true)))
 		client_refuse(client, DISPLAY, ERROR_COMPOSITOR, "the compositor's new id is none");
 	if (object->interface == &wl_keyboard_table && object->of_seat)
-		given = keyboard_event(client, message, files);
+		given = keyboard_event(client, message);
+	else if (object->interface == &xdg_popup_table)
+		surface_event(client, object_at(client, message->object), message);
 	else if (IS(message, wl_seat, event, capabilities) && object->of_seat && !(message->numbers[0] & CAPABILITY_KEYBOARD))
 		keyboard_leave(client, 0); /* its keyboards are told nothing more */
 	else if (IS(message, wl_registry, event, global))
 		given = globals_add(client, message);
 	else if (IS(message, wl_registry, event, global_remove))
-		gateway.seat = message->numbers[0] == gateway.seat ? 0 : gateway.seat;
+		globals_remove(client, message->numbers[0]);
 	else if (IS(message, wl_display, event, delete_id))
-		given = end_id(client, message->numbers[0]);
+		given = end_id(client, message);
 	else if (IS(message, wl_display, event, error))
 		client_end(client, message->texts[2]);
 	if (given)
-		wire_send(&client->near, message->bytes, message->size, files, message->descriptors);
+		return wire_send(&client->near, message->bytes, message->size, tokens, message->descriptors);
+	for (unsigned at = 0; at < message->descriptors; at++)
+		token_drop(tokens[at]);
 }
 
-static void play(struct client *client, bool near, struct message *message) {
-	const struct object *place = object_at(client, message->object);
-	enum error code = !near ? ERROR_COMPOSITOR : object_live(client, message->object) ? ERROR_METHOD : ERROR_OBJECT;
-	int files[ARGUMENTS_MAX];
-	if (!near && place && place->holes > 0)
-		return; /* the answer of a `sync` in this id's place */
-	const char *why = read_message(client, near, message);
-	if (!why && !wire_take_files(near ? &client->near : &client->far, message->descriptors, files))
-		why = "a descriptor is missing";
+/* Whether the message waits for what the shell is asked now: a keymap's text, or what the last focus was told. */
+static bool asks(struct client *client, enum side side, const struct message *message) {
+	struct wire *wire = wire_of(client, side);
+	const struct object *object = object_at(client, message->object);
+	bool is_keymap = side == FAR ? IS(message, wl_keyboard, event, keymap) && object->of_seat
+		: IS(message, zwp_virtual_keyboard_v1, request, keymap) && object->is_ours;
+	const struct client *first = side == FAR && object->of_seat ? keyboard_reads_first(client, message) : NULL;
+	struct effect effect = { .kind = EFFECT_READ, .link = client->link, .side = side };
+	if (first)
+		effect.from = first->link;
+	else if (is_keymap && message->numbers[2] > 0 && message->numbers[2] <= KEYMAP_MAX && wire->token_count > 0)
+		effect = (struct effect){ EFFECT_TEXT, client->link, side, .from = wire->tokens[0], .size = message->numbers[2] };
+	else
+		return false;
+	ask_shell(effect);
+	return true;
+}
+
+static const char *const no_descriptor = "a descriptor is missing", *const no_object = "an argument names no object";
+
+static void play_request(struct client *client, struct message *message, const char *why) {
+	enum error code = object_live(client, message->object) ? ERROR_METHOD : ERROR_OBJECT;
+	uint32_t tokens[ARGUMENTS_MAX];
+	if (!why && !wire_take_tokens(&client->near, message->descriptors, tokens))
+		why = no_descriptor;
 	if (why)
-		return client_refuse(client, message->object, code, why);
-	(near ? request_play : event_play)(client, message, files);
+		client_refuse(client, message->object, code, why);
+	else
+		request_play(client, message, tokens);
 }
 
-void client_read(struct client *client, bool near) {
-	struct wire *wire = near ? &client->near : &client->far;
-	enum reading reading = wire_read(wire);
+static void play_event(struct client *client, struct message *message, const char *why) {
+	uint32_t tokens[ARGUMENTS_MAX];
+	message_address(message, message->object);
+	enum named named = why ? NAMED_OBJECTS : ids_to_near(client, message);
+	if (named == NAMED_NOTHING)
+		why = no_object;
+	else if (!why && !wire_take_tokens(&client->far, message->descriptors, tokens))
+		why = no_descriptor;
+	if (why)
+		return client_refuse(client, DISPLAY, ERROR_COMPOSITOR, why);
+	if (client->own_pointer == 0 && client->own_touch == 0 && named == NAMED_OBJECTS)
+		return event_play(client, message, tokens);
+	if (!popups_hide(object_at(client, message->object), message, named == NAMED_PRIVATE))
+		return event_play(client, message, tokens);
+	for (unsigned at = 0; at < message->descriptors; at++)
+		token_drop(tokens[at]);
+}
+
+/* False: the message waits. */
+static bool play(struct client *client, enum side side, struct message *message) {
+	struct wire *wire = wire_of(client, side);
+	struct private *private = side == FAR ? private_of(client, message->object) : NULL;
+	if (private)
+		return private_event(client, message->object, private, message), true;
+	if (side == FAR)
+		message->object = near_of(client, message->object);
+	const char *why = read_message(client, side == NEAR, message);
+	if (!why && wire->stands != ANSWERED && asks(client, side, message))
+		return wire->stands = WAITS, false;
+	wire->stands = PLAYS;
+	(side == NEAR ? play_request : play_event)(client, message, why);
+	return true;
+}
+
+void client_play(struct client *client, enum side side) {
+	struct wire *wire = wire_of(client, side);
 	enum front front = FRONT_WAITS;
 	struct message message = { 0 };
-	while (!client->ending
+	while (!client->ending && wire->stands != WAITS
 			&& (front = message_front(wire->in + wire->in_from, wire->in_to - wire->in_from, &message)) == FRONT_WHOLE) {
-		wire->in_from += message.size;
-		play(client, near, &message);
+		if (play(client, side, &message))
+			wire->in_from += message.size;
+		client->text = NULL;
 	}
-	const char *why = front == FRONT_BAD ? "bad size" : "too many descriptors wait for their messages";
-	if (front == FRONT_BAD || reading == READ_FLOOD)
-		client_refuse(client, DISPLAY, ERROR_METHOD, why);
-	if (reading == READ_END && !near)
-		client_end(client, "the compositor closed its connection");
-	client->ending |= reading == READ_END;
+	if (front == FRONT_BAD)
+		client_refuse(client, DISPLAY, ERROR_METHOD, "bad size");
+}
+
+/* The serving method is told something: whether it is active, with its done. */
+static void method_told(struct client *client, const struct message *message) {
+	if (IS(message, zwp_input_method_v2, event, activate) || IS(message, zwp_input_method_v2, event, deactivate))
+		client->activating = message->opcode == zwp_input_method_v2_event_activate;
+	else if (IS(message, zwp_input_method_v2, event, done))
+		client->is_active = client->activating;
+	else if (IS(message, zwp_input_method_v2, event, unavailable))
+		client->serves = 0;
 }
 
 /* What happens to the gateway's own objects is nothing to the client; nor is at a renewal what it was told before. */
-static void tell(struct client *client, struct message *message, uint32_t token) {
+static void tell(struct client *client, struct message *message, uint32_t keymap) {
 	struct object *object = object_at(client, message->object), *ended = object_live(client, message->numbers[0]);
-	int file = message->descriptors > 0 && !gateway.renews ? keymap_file(token) : -1;
 	if (IS(message, wl_display, event, error))
 		client_end(client, message->texts[2]);
 	if (IS(message, wl_display, event, delete_id) && (!ended || !ended->is_ours))
@@ -148,16 +208,17 @@ static void tell(struct client *client, struct message *message, uint32_t token)
 		return;
 	log_message(client, "<-", message);
 	object->count += IS(message, zwp_input_method_v2, event, done);
-	if (message->object == client->serves && IS(message, zwp_input_method_v2, event, unavailable))
-		client->serves = 0;
-	if (message->descriptors > 0 && file < 0)
-		return client_end(client, "a keymap has no descriptor");
-	wire_send(&client->near, message->bytes, message->size, &file, message->descriptors);
+	if (message->object == client->serves && object->interface == &zwp_input_method_v2_table)
+		method_told(client, message);
+	if (object->interface == &zwp_text_input_v2_table)
+		return older_event(client, message);
+	uint32_t token = message->descriptors > 0 ? keymap_token(keymap) : 0;
+	wire_send(&client->near, message->bytes, message->size, &token, message->descriptors);
 }
 
-void client_told(struct client *client, uint8_t *bytes, size_t size, const uint32_t *tokens) {
+void client_told(struct client *client, uint8_t *bytes, size_t size, const uint32_t *numbers) {
 	struct message message;
 	for (size_t at = 0; message_front(bytes + at, size - at, &message) == FRONT_WHOLE; at += message.size)
 		if (!read_message(client, false, &message)) /* else it is of an object of the gateway's own */
-			tell(client, &message, message.descriptors > 0 ? *tokens++ : 0);
+			tell(client, &message, message.descriptors > 0 ? *numbers++ : 0);
 }

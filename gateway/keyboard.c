@@ -12,6 +12,8 @@ static struct {
 	struct client *focus; /* NULL: nobody has it */
 	uint32_t surface, serial, time; /* the focused surface; the last serial that its client was told; of the last key */
 	uint64_t number; /* the focused surface's, whose id may be used again */
+	bool is_unmapped; /* it isn't shown: nobody has the focus, but the compositor never said so to `last` */
+	const struct client *last;
 	uint32_t entered, key_serial; /* of the last enter; of the last key, which each of the client's keyboards is told */
 	bool key_given, fresh; /* the client got that key; it got the focus and no modifiers yet */
 	bool has_modifiers, repeats; /* what follows was told */
@@ -34,10 +36,9 @@ static void send_all(const struct message *message, uint32_t keymap) {
 		const struct object *object = object_at(seat.focus, id);
 		if (object->interface != &wl_keyboard_table || !object->of_seat)
 			continue;
-		int file = keymap_file(keymap);
+		uint32_t token = keymap_token(keymap);
 		memcpy(message->bytes, &id, sizeof id);
-		if (keymap == 0 || file >= 0)
-			wire_send(&seat.focus->near, message->bytes, message->size, &file, keymap > 0);
+		wire_send(&seat.focus->near, message->bytes, message->size, &token, keymap > 0);
 	}
 }
 
@@ -70,7 +71,7 @@ static bool order_key(uint32_t key, uint32_t state) {
 	bool given = seat.given[key % KEYS].client > 0 && state == 0;
 	seat.down[key % KEYS] = state != 0 && way != WLIM_TOO_MANY;
 	if (way == WLIM_TO_GRAB)
-		seat.typed[seat.typed_next++ % TYPED_MAX] = (struct typed){ seat.time, key, seat.number, broker_now() };
+		seat.typed[seat.typed_next++ % TYPED_MAX] = (struct typed){ seat.time, key, seat.number, gateway.moment };
 	if (way == WLIM_NOWHERE) /* the grab that had the press is gone: who was given it back gets the release */
 		seat.given[key % KEYS].client = 0;
 	return way == WLIM_NOWHERE ? given : way != WLIM_TO_GRAB;
@@ -91,14 +92,18 @@ static void tell_focus(void) {
 }
 
 /* Connections are read in any order, but the compositor's serials rise. What it wrote to the last one comes first. */
+struct client *keyboard_reads_first(const struct client *client, const struct message *message) {
+	bool enters = IS(message, wl_keyboard, event, enter);
+	return enters && seat.focus && seat.focus != client && !seat.focus->ending ? seat.focus : NULL;
+}
+
 static void on_enter(struct client *client, uint32_t serial, uint32_t surface) {
 	const struct object *object = object_live(client, surface);
-	if (seat.focus && seat.focus != client && !seat.focus->ending)
-		client_read(seat.focus, false);
 	if ((seat.focus == client && seat.surface == surface) || (int32_t)(serial - seat.entered) < 0)
 		return; /* another keyboard of the client, or the focus went on since */
 	release_all();
 	memset(seat.given, 0, sizeof seat.given);
+	seat.is_unmapped = false;
 	seat.focus = object && !object->is_gone ? client : NULL; /* a destroyed one's id is another's soon */
 	seat.surface = surface;
 	seat.number = object ? object->number : 0;
@@ -108,10 +113,34 @@ static void on_enter(struct client *client, uint32_t serial, uint32_t surface) {
 }
 
 void keyboard_leave(const struct client *client, uint32_t surface) {
+	if (seat.last == client && (surface == 0 || seat.surface == surface))
+		seat.is_unmapped = false;
 	if (seat.focus != client || (surface > 0 && seat.surface != surface))
 		return;
 	release_all();
 	seat.focus = NULL;
+	tell_focus();
+}
+
+struct client *keyboard_focus(uint32_t *surface) {
+	*surface = seat.surface;
+	return seat.focus;
+}
+
+void keyboard_unmapped(const struct client *client, uint32_t surface) {
+	if (seat.focus != client || seat.surface != surface)
+		return;
+	keyboard_leave(client, surface);
+	seat.is_unmapped = true;
+	seat.last = client;
+}
+
+void keyboard_mapped(struct client *client, uint32_t surface) {
+	if (!seat.is_unmapped || seat.last != client || seat.surface != surface
+			|| seat.number != object_at(client, surface)->number)
+		return;
+	seat.is_unmapped = false;
+	seat.focus = client;
 	tell_focus();
 }
 
@@ -183,11 +212,11 @@ static bool on_modifiers(struct client *client, uint32_t keyboard, uint32_t seri
 	return true;
 }
 
-bool keyboard_event(struct client *client, const struct message *message, const int *files) {
+bool keyboard_event(struct client *client, const struct message *message) {
 	const uint32_t *words = message->numbers;
 	switch (message->opcode) {
 	case wl_keyboard_event_keymap:
-		client->keymap = keymap_number(words[0], files[0], words[2]);
+		client->keymap = keymap_number(words[0], client->text, words[2]);
 		if (client->keymap > 0 && client->keymap != seat.keymap)
 			broker_order(keymap, "keymap %u %u %u", words[0], client->keymap, words[2]);
 		seat.keymap = client->keymap > 0 ? client->keymap : seat.keymap;
@@ -219,14 +248,13 @@ bool keyboard_event(struct client *client, const struct message *message, const 
  */
 static bool is_typed_here(uint32_t time, uint32_t key) {
 	bool lately_here = true;
-	uint64_t now = broker_now();
 	for (const struct typed *typed = seat.typed; typed < seat.typed + TYPED_MAX; typed++) {
 		bool here = typed->surface == seat.number;
 		if (typed->surface == 0 || typed->key != key)
 			continue;
 		if (typed->time == time)
 			return here;
-		lately_here &= here || now - typed->moment > TYPED_LATELY;
+		lately_here &= here || gateway.moment - typed->moment > TYPED_LATELY;
 	}
 	return lately_here;
 }

@@ -1,52 +1,44 @@
 /* Keymaps by their content: the same text has the same number, and is the same token at the broker. */
 #include "gateway.h"
-#include <fcntl.h>
 #include <stdlib.h>
 #include <string.h>
-#include <sys/mman.h>
-#include <unistd.h>
 
-enum {
-	KEPT = 64, TEXT_MAX = 1048576,
-	SEALS = F_SEAL_SEAL | F_SEAL_SHRINK | F_SEAL_GROW | F_SEAL_FUTURE_WRITE, /* it can still be mapped, shared too */
-};
+enum { KEPT = 64 };
 
 static struct keymap kept[KEPT];
 static uint32_t count;
 
-/* A file with the text, which who gets it can read and map, and nobody can change; -1: there is none. */
-static int sealed_file(const char *text, uint32_t size) {
-	int file = memfd_create("keymap", MFD_CLOEXEC | MFD_ALLOW_SEALING);
-	bool whole = file >= 0;
-	for (uint32_t at = 0; whole && at < size; ) {
-		ssize_t went = pwrite(file, text + at, size - at, at);
-		whole = went > 0;
-		at += whole ? (uint32_t)went : 0;
-	}
-	if (file >= 0 && !(whole && fcntl(file, F_ADD_SEALS, SEALS) == 0))
-		return close(file), -1;
-	return file;
-}
-
-uint32_t keymap_number(uint32_t format, int file, uint32_t size) {
-	char *text = size > 0 && size <= TEXT_MAX ? malloc(size) : NULL;
+uint32_t keymap_number(uint32_t format, const uint8_t *text, uint32_t size) {
 	uint32_t at = 0;
-	if (!text || pread(file, text, size, 0) != (ssize_t)size)
-		return free(text), 0;
-	while (at < count && (kept[at].format != format || kept[at].size != size || memcmp(kept[at].text, text, size) != 0))
+	while (text && at < count
+			&& (kept[at].format != format || kept[at].size != size || memcmp(kept[at].text, text, size) != 0))
 		at++;
-	int own = at == count && at < KEPT ? sealed_file(text, size) : -1;
-	if (own >= 0)
-		kept[count++] = (struct keymap){ format, size, own, text };
-	else
-		free(text);
-	return at < count ? at + 1 : 0;
+	if (!text || at < count || at == KEPT)
+		return text && at < count ? at + 1 : 0;
+	uint8_t *own = malloc(size);
+	uint32_t token = own ? token_make() : 0;
+	if (token == 0)
+		return free(own), 0;
+	memcpy(own, text, size);
+	kept[count++] = (struct keymap){ format, size, token, own };
+	ask_shell((struct effect){ .kind = EFFECT_FILE, .token = token, .size = size, .bytes = own });
+	return count;
 }
 
 const struct keymap *keymap_find(uint32_t number) {
 	return number > 0 ? &kept[number - 1] : NULL;
 }
 
-int keymap_file(uint32_t number) {
-	return number > 0 ? fcntl(kept[number - 1].file, F_DUPFD_CLOEXEC, 0) : -1;
+uint32_t keymap_token(uint32_t number) {
+	if (number == 0)
+		return 0;
+	token_keep(kept[number - 1].token);
+	return kept[number - 1].token;
+}
+
+void keymaps_end(void) {
+	while (count > 0) {
+		token_drop(kept[--count].token);
+		free(kept[count].text);
+	}
 }

@@ -47,6 +47,7 @@ bool message_read(struct message *message, const struct signature *signature) {
 		size_t word = *kind == 'h' ? 0 : 4; /* bytes of it, behind which a text's follow */
 		message->descriptors += *kind == 'h';
 		message->numbers[argument] = 0;
+		message->places[argument] = (uint16_t)at;
 		if (message->size - at < word)
 			return false;
 		memcpy(&message->numbers[argument], message->bytes + at, word);
@@ -61,7 +62,12 @@ bool message_read(struct message *message, const struct signature *signature) {
 
 void message_set(struct message *message, unsigned argument, uint32_t word) {
 	message->numbers[argument] = word;
-	memcpy(message->bytes + HEADER_SIZE + 4 * argument, &word, sizeof word);
+	memcpy(message->bytes + message->places[argument], &word, sizeof word);
+}
+
+void message_address(struct message *message, uint32_t object) {
+	message->object = object;
+	memcpy(message->bytes, &object, sizeof object);
 }
 
 const struct message *draft(uint32_t object, uint16_t opcode, const char *kinds, ...) {

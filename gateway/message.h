@@ -33,6 +33,7 @@ struct message {
 	uint8_t *bytes;
 	const struct signature *signature; /* set by message_read, as what follows */
 	unsigned count, descriptors;
+	uint16_t places[ARGUMENTS_MAX]; /* where each begins */
 	uint32_t numbers[ARGUMENTS_MAX]; /* the arguments; of an array, or a string without its last zero, its size */
 	const char *texts[ARGUMENTS_MAX]; /* the bytes of those; NULL: the null string, or none */
 };
@@ -40,9 +41,10 @@ struct message {
 /* Whether the bytes begin with a whole message; FRONT_BAD: its size is under 8 or no multiple of 4. */
 enum front { FRONT_WAITS, FRONT_WHOLE, FRONT_BAD };
 enum front message_front(uint8_t *bytes, size_t length, struct message *message);
-/* Reads the arguments. False: the body isn't a spelling of them. And gives a message of words another one. */
+/* Reads the arguments. False: the body isn't a spelling of them. And gives it another word, or another object. */
 bool message_read(struct message *message, const struct signature *signature);
 void message_set(struct message *message, unsigned argument, uint32_t word);
+void message_address(struct message *message, uint32_t object);
 
 /* Whether it is the message of the tables, as in IS(message, wl_surface, request, destroy). */
 #define IS(message, interface, way, name) \

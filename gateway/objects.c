@@ -19,12 +19,14 @@ struct object *object_make(struct client *client, uint32_t id, const struct inte
 		return NULL;
 	*count += place == *count;
 	struct object *object = object_at(client, id);
-	*object = (struct object){ .interface = interface, .number = ++last, .holes = object->holes };
+	*object = (struct object){ .interface = interface, .number = ++last };
 	return object;
 }
 
 void object_free(struct client *client, uint32_t id) {
 	struct object *object = object_at(client, id);
 	if (object)
-		*object = (struct object){ .holes = object->holes };
+		object_ends(client, object);
+	if (object)
+		*object = (struct object){ 0 };
 }

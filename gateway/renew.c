@@ -1,6 +1,5 @@
 /* Another broker. Clients see a leave and an enter; their objects live on, and so do counts that they were told. */
 #include "gateway.h"
-#include <stdlib.h>
 
 /* When it is made again: the serving method before all others, so that it serves; popups and grabs after theirs. */
 static int round_of(const struct client *client, uint32_t id, const struct object *object) {
@@ -45,8 +44,10 @@ void renew(void) {
 		request_release(client, 0);
 	keyboard_leave_broker();
 	broker_close();
-	if (!broker_open())
-		exit(1);
+	if (!broker_open()) {
+		gateway.failed = "there is no memory for a broker";
+		return;
+	}
 	gateway.renews = true;
 	for (struct client *client = gateway.clients; client; client = client->next)
 		client->peer = 0;

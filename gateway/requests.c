@@ -1,22 +1,19 @@
 /* What a message of a client does: it goes to the broker, where its object lives there, and else to the compositor. */
 #include "gateway.h"
 #include <string.h>
-#include <unistd.h>
 
-/* What a client sends that is refused goes nowhere. */
-static void forward(struct client *client, const struct message *message, const int *files) {
-	if (!client->ending)
-		return wire_send(&client->far, message->bytes, message->size, files, message->descriptors);
+static void drop(const struct message *message, const uint32_t *tokens) {
 	for (unsigned at = 0; at < message->descriptors; at++)
-		close(files[at]);
+		token_drop(tokens[at]);
 }
 
-struct object *request_hold(struct client *client, uint32_t id) {
-	struct object *object = object_at(client, id);
-	object->is_ours = true;
-	object->holes++;
-	forward(client, draft(DISPLAY, wl_display_request_sync, "u", id), NULL);
-	return object;
+/* What a client sends that is refused goes nowhere. */
+static void forward(struct client *client, struct message *message, const uint32_t *tokens) {
+	uint32_t object = message->object;
+	if (!client->ending && ids_to_far(client, message))
+		return wire_send(&client->far, message->bytes, message->size, tokens, message->descriptors);
+	client_refuse(client, object, ERROR_METHOD, "an argument names no object of the compositor's");
+	drop(message, tokens);
 }
 
 /* An object is made at the broker, and will be so at another. */
@@ -39,12 +36,13 @@ static void make_at_broker(struct client *client, struct message *message, int m
 	const struct interface *interface = message->signature->made;
 	const struct object *maker = object_at(client, message->object);
 	const struct offer *offer = offer_of(maker->interface);
-	uint32_t id = message->numbers[made], own = offer ? OWN + offer->global : message->object;
-	struct object *object = request_hold(client, id);
+	uint32_t id = message->numbers[made], own = offer ? OWN + offer->broker : message->object;
+	struct object *object = object_at(client, id);
+	object->is_ours = true;
 	if (!offer && maker->made[0] == 0)
 		return; /* of a method that lives nowhere, and so does it */
 	if (interface == &zwp_input_method_v2_table && client->serves == 0)
-		client->serves = id;
+		client->serves = id, client->is_active = client->activating = false;
 	if (interface == &zwp_input_popup_surface_v2_table && !request_mirror(client, message->numbers[1]))
 		return client_refuse(client, message->object, ERROR_OBJECT, "wrong object");
 	if (interface == &zwp_input_method_keyboard_grab_v2_table)
@@ -52,14 +50,18 @@ static void make_at_broker(struct client *client, struct message *message, int m
 	memcpy(message->bytes, &own, sizeof own);
 	if (offer)
 		message_set(message, 1 - (unsigned)made, OWN + GLOBAL_SEAT);
+	if (interface == &zwp_text_input_v2_table && !older_make(client, object))
+		return client_refuse(client, message->object, ERROR_MEMORY, "there is no memory");
 	make_there(client, object, message);
+	if (interface == &zwp_input_popup_surface_v2_table)
+		popup_make(client, id, message->numbers[1]);
 }
 
 /* A board's keymap: the board has its number, which is the broker's token. */
-static void board_keymap(struct client *client, const struct message *message, int file) {
-	uint32_t number = keymap_number(message->numbers[0], file, message->numbers[2]);
+static void board_keymap(struct client *client, const struct message *message, uint32_t token) {
+	uint32_t number = keymap_number(message->numbers[0], client->text, message->numbers[2]);
 	object_at(client, message->object)->keymap = number;
-	close(file);
+	token_drop(token);
 	if (number == 0)
 		return client_refuse(client, message->object, ERROR_OBJECT, "the keymap can't be read");
 	broker_receive(client, message, number);
@@ -86,14 +88,20 @@ void request_release(struct client *client, uint32_t board) {
 	}
 }
 
-static void to_broker(struct client *client, struct message *message, const int *files) {
+static void to_broker(struct client *client, struct message *message, const uint32_t *tokens) {
 	struct object *object = object_at(client, message->object);
 	int made = message->signature->new_id;
 	log_message(client, "->", message);
+	if (object->interface == &zwp_text_input_v2_table && object->made[0] > 0)
+		return older_request(client, message);
+	if (object->interface == &zwp_text_input_v3_table)
+		field_request(client, &object->known.field, message);
+	else if (IS(message, zwp_input_popup_surface_v2, request, destroy))
+		popup_destroy(client, message->object);
 	if (made >= 0)
 		return make_at_broker(client, message, made);
 	if (message->descriptors > 0)
-		return board_keymap(client, message, files[0]);
+		return board_keymap(client, message, tokens[0]);
 	if (object->made[0] == 0) { /* it lives nowhere, and no request is heard but the one that ends it */
 		if (object->interface == &zwp_input_method_v2_table && !IS(message, zwp_input_method_v2, request, destroy))
 			return;
@@ -125,15 +133,20 @@ static bool make(struct client *client, const struct message *message) {
 		client_refuse(client, message->object, ERROR_OBJECT, "no such global");
 	else if (!object_make(client, message->numbers[new_id], made, false))
 		client_refuse(client, DISPLAY, ERROR_OBJECT, "bad new id");
-	return !client->ending;
+	if (client->ending)
+		return false;
+	struct object *object = object_at(client, message->numbers[new_id]);
+	object->version = names_it ? message->numbers[2] : object_at(client, message->object)->version;
+	object->global = names_it ? message->numbers[0] : 0;
+	return true;
 }
 
-void request_play(struct client *client, struct message *message, const int *files) {
+void request_play(struct client *client, struct message *message, const uint32_t *tokens) {
 	if (message->signature->new_id >= 0 && !make(client, message))
-		return forward(client, message, files);
+		return forward(client, message, tokens);
 	struct object *object = object_at(client, message->object);
 	if (object->is_ours)
-		return to_broker(client, message, files);
+		return to_broker(client, message, tokens);
 	if (IS(message, wl_registry, request, bind) && !globals_bind(client, message))
 		return;
 	if (IS(message, wl_display, request, get_registry))
@@ -154,5 +167,9 @@ void request_play(struct client *client, struct message *message, const int *fil
 		object->made[0] = 0;
 		object->is_gone = true;
 	}
-	forward(client, message, files);
+	if (client->role == PROGRAM)
+		surface_request(client, object, message);
+	else if (!popup_request(client, object, message, tokens))
+		return drop(message, tokens);
+	forward(client, message, tokens);
 }

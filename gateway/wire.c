@@ -1,78 +1,50 @@
-/* A socket to a client or to the compositor: bytes, and descriptors that come no later than their messages. */
+/* One side of a link: bytes, and tokens of descriptors, which come no later than their messages. */
 #include "wire.h"
-#include <errno.h>
 #include <string.h>
-#include <sys/socket.h>
-#include <unistd.h>
 
-enum { FILES_AT_ONCE = 28 /* as libwayland sends and reads */, FILES_READ = 253 /* as Linux sends at most */ };
-
-void wire_close(struct wire *wire) {
-	/* What isn't read away would have the other side see a reset and not the error that it is told. */
-	for (int reads = 0; reads < 64 && recv(wire->socket, wire->in, sizeof wire->in, MSG_DONTWAIT) > 0; reads++)
-		;
-	close(wire->socket);
-	for (unsigned at = 0; at < wire->file_count; at++)
-		close(wire->files[at]);
-	for (unsigned at = 0; at < wire->parcel_count; at++)
-		close(wire->parcels[at].file);
+size_t wire_room(const struct wire *wire) {
+	size_t room = sizeof wire->in - (wire->in_to - wire->in_from);
+	return wire->stands == WAITS ? 0 : room < WIRE_READ ? room : WIRE_READ;
 }
 
-/* Keeps the descriptors that came. False: there were too many, which are closed. */
-static bool keep_files(struct wire *wire, struct msghdr *header) {
-	bool kept = !(header->msg_flags & MSG_CTRUNC);
-	for (struct cmsghdr *part = CMSG_FIRSTHDR(header); part; part = CMSG_NXTHDR(header, part)) {
-		for (size_t at = CMSG_LEN(0); at < part->cmsg_len; at += sizeof(int)) {
-			int file;
-			memcpy(&file, (char *)part + at, sizeof file);
-			kept &= wire->file_count < WIRE_FILES_IN;
-			if (kept)
-				wire->files[wire->file_count++] = file;
-			else
-				close(file);
-		}
+bool wire_keep(struct wire *wire, const uint8_t *bytes, size_t size, const uint32_t *tokens, size_t count) {
+	bool kept = size <= sizeof wire->in - (wire->in_to - wire->in_from);
+	for (size_t at = 0; at < count; at++) {
+		kept &= tokens[at] > 0 && wire->token_count < WIRE_TOKENS_IN;
+		if (kept)
+			wire->tokens[wire->token_count++] = tokens[at];
+		else
+			token_drop(tokens[at]);
 	}
-	return kept;
-}
-
-enum reading wire_read(struct wire *wire) {
-	_Alignas(struct cmsghdr) char control[CMSG_SPACE(FILES_READ * sizeof(int))];
-	memmove(wire->in, wire->in + wire->in_from, wire->in_to - wire->in_from);
-	wire->in_to -= wire->in_from;
-	wire->in_from = 0;
-	size_t room = sizeof wire->in - wire->in_to;
-	if (room == 0)
-		return READ_NOTHING;
-	struct iovec place = { wire->in + wire->in_to, room < WIRE_READ ? room : WIRE_READ };
-	struct msghdr header = {
-		.msg_iov = &place, .msg_iovlen = 1, .msg_control = control, .msg_controllen = sizeof control,
-	};
-	ssize_t came = recvmsg(wire->socket, &header, MSG_DONTWAIT | MSG_CMSG_CLOEXEC);
-	if (came < 0)
-		return errno == EAGAIN || errno == EINTR ? READ_NOTHING : READ_END;
-	if (!keep_files(wire, &header))
-		return READ_FLOOD;
-	wire->in_to += (size_t)came;
-	return came == 0 ? READ_END : READ_SOME;
-}
-
-bool wire_take_files(struct wire *wire, unsigned count, int *files) {
-	if (wire->file_count < count)
+	if (!kept)
 		return false;
-	memcpy(files, wire->files, count * sizeof *files);
-	wire->file_count -= count;
-	memmove(wire->files, wire->files + count, wire->file_count * sizeof *files);
+	if (wire->in_from > 0) {
+		wire->in_to -= wire->in_from;
+		memmove(wire->in, wire->in + wire->in_from, wire->in_to);
+		wire->in_from = 0;
+	}
+	memcpy(wire->in + wire->in_to, bytes, size);
+	wire->in_to += size;
 	return true;
 }
 
-void wire_send(struct wire *wire, const uint8_t *bytes, size_t size, const int *files, unsigned count) {
+bool wire_take_tokens(struct wire *wire, unsigned count, uint32_t *tokens) {
+	if (wire->token_count < count)
+		return false;
+	memcpy(tokens, wire->tokens, count * sizeof *tokens);
+	wire->token_count -= count;
+	memmove(wire->tokens, wire->tokens + count, wire->token_count * sizeof *tokens);
+	return true;
+}
+
+void wire_send(struct wire *wire, const uint8_t *bytes, size_t size, const uint32_t *tokens, unsigned count) {
 	size_t waits = wire_waiting(wire);
-	wire->full |= waits + size > WIRE_FULL || wire->parcel_count + count > WIRE_FILES_OUT;
+	wire->full |= waits + size > WIRE_FULL || wire->parcel_count + count > WIRE_TOKENS_OUT;
 	for (unsigned at = 0; at < count; at++) {
 		if (wire->full)
-			close(files[at]);
+			token_drop(tokens[at]);
 		else
-			wire->parcels[wire->parcel_count++] = (struct parcel){ files[at], wire->sent + waits };
+			wire->parcels[wire->parcel_count++] = (struct parcel){ tokens[at], wire->sent + waits };
 	}
 	if (wire->full)
 		return;
@@ -85,31 +57,34 @@ void wire_send(struct wire *wire, const uint8_t *bytes, size_t size, const int *
 	wire->out_to += size;
 }
 
-bool wire_flush(struct wire *wire) {
-	while (wire_waiting(wire) > 0) {
-		_Alignas(struct cmsghdr) char control[CMSG_SPACE(FILES_AT_ONCE * sizeof(int))] = { 0 };
-		struct cmsghdr *part = (struct cmsghdr *)control;
-		struct iovec place = { wire->out + wire->out_from, wire_waiting(wire) };
-		unsigned count = 0;
-		for (; count < wire->parcel_count && count < FILES_AT_ONCE && wire->parcels[count].message <= wire->sent; count++)
-			memcpy(CMSG_DATA(part) + count * sizeof(int), &wire->parcels[count].file, sizeof(int));
-		*part = (struct cmsghdr){ CMSG_LEN(count * sizeof(int)), SOL_SOCKET, SCM_RIGHTS };
-		if (count < wire->parcel_count) /* the next one's message waits, but where it is this one */
-			place.iov_len = count < FILES_AT_ONCE ? wire->parcels[count].message - wire->sent : 1;
-		struct msghdr header = {
-			.msg_iov = &place, .msg_iovlen = 1, .msg_control = control,
-			.msg_controllen = count > 0 ? CMSG_SPACE(count * sizeof(int)) : 0,
-		};
-		ssize_t went = sendmsg(wire->socket, &header, MSG_DONTWAIT | MSG_NOSIGNAL);
-		if (went < 0)
-			return errno == EAGAIN || errno == EINTR;
-		for (unsigned at = 0; at < count; at++)
-			close(wire->parcels[at].file);
-		wire->parcel_count -= count;
-		memmove(wire->parcels, wire->parcels + count, wire->parcel_count * sizeof *wire->parcels);
-		wire->sent += (uint64_t)went;
-		wire->out_from += (size_t)went;
+bool wire_next(const struct wire *wire, struct written *next) {
+	*next = (struct written){ .bytes = wire->out + wire->out_from, .size = wire_waiting(wire) };
+	while (next->count < wire->parcel_count && next->count < TOKENS_AT_ONCE
+			&& wire->parcels[next->count].message <= wire->sent) {
+		next->tokens[next->count] = wire->parcels[next->count].token;
+		next->count++;
 	}
-	wire->out_from = wire->out_to = 0;
-	return true;
+	if (next->count < wire->parcel_count) /* the next one's message waits, but where it is this one */
+		next->size = next->count < TOKENS_AT_ONCE ? wire->parcels[next->count].message - wire->sent : 1;
+	return next->size > 0;
+}
+
+void wire_wrote(struct wire *wire, size_t size) {
+	unsigned count = 0;
+	while (count < wire->parcel_count && count < TOKENS_AT_ONCE && wire->parcels[count].message <= wire->sent)
+		token_drop(wire->parcels[count++].token);
+	wire->parcel_count -= count;
+	memmove(wire->parcels, wire->parcels + count, wire->parcel_count * sizeof *wire->parcels);
+	wire->sent += size;
+	wire->out_from += size;
+	if (wire->out_from == wire->out_to)
+		wire->out_from = wire->out_to = 0;
+}
+
+void wire_close(struct wire *wire) {
+	for (unsigned at = 0; at < wire->token_count; at++)
+		token_drop(wire->tokens[at]);
+	for (unsigned at = 0; at < wire->parcel_count; at++)
+		token_drop(wire->parcels[at].token);
+	wire->token_count = wire->parcel_count = 0;
 }

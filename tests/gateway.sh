@@ -16,22 +16,32 @@ gateway/build.sh "$made"
 mkdir -p "$checked"
 cp -r "$made/protocols" "$checked"
 gateway/build.sh "$checked" $sanitize
-for name in fuzz order; do
-	${CC:-cc} $flags $sanitize -I"$checked" -o "$checked/$name" "tests/gateway_$name.c" \
-		$(ls gateway/*.c | grep -v /gateway.c) "$checked/tables.c" out/libwlim/lib/libwlim.a
+core=$(ls gateway/*.c | grep -v -e /gateway.c -e /sockets.c -e /outlets.c)
+for name in fuzz order popups pixels version_2 shell play; do
+	${CC:-cc} $flags $sanitize -I"$checked" -o "$checked/$name" "tests/gateway_$name.c" $core "$checked/tables.c" \
+		out/libwlim/lib/libwlim.a
 done
-${CC:-cc} $flags $sanitize -I"$checked" -o "$checked/units" tests/gateway_units.c gateway/{keymaps,message,objects,wire}.c \
-	"$checked/tables.c"
+${CC:-cc} $flags $sanitize -I"$checked" -o "$checked/units" tests/gateway_units.c \
+	gateway/{ids,keymaps,message,objects,popup_want,tokens,wire}.c "$checked/tables.c"
 ${CC:-cc} $flags -O2 -I"$made" -o "$made/speed" tests/gateway_speed.c gateway/message.c "$made/tables.c"
 ${CC:-cc} $flags -o "$checked/entry" tests/embed_entry.c $(pkg-config --cflags --libs gtk4)
-rm -f "$checked"/*.session* "$checked"/*.taken*
+${CC:-cc} $flags -o "$checked/entry3" tests/gateway_entry3.c $(pkg-config --cflags --libs gtk+-3.0)
+rm -f "$checked"/*.session* "$checked"/*.taken* "$checked"/*.calls*
 "$checked/units"
+"$checked/shell"
 "$checked/order"
+"$checked/popups"
+"$checked/pixels"
+"$checked/version_2"
 for seed in 1 2 3; do
 	timeout 300 "$checked/fuzz" 200000 $seed
 done
+timeout 300 "$checked/fuzz" 100000 4 honest
+timeout -k 10 100 tests/gateway_start.py "$checked"
 timeout -k 10 300 tests/gateway_peers.py "$checked"
 timeout -k 10 900 tests/gateway_programs.py "$checked" "$rounds"
+timeout -k 10 300 tests/gateway_hostile.py "$checked"
+timeout -k 10 900 tests/gateway_candidates.py "$checked"
 timeout -k 10 600 tests/gateway_replay.py "$program" "$checked"
 # As root above all that else keeps the processors busy.
 timeout -k 10 300 $([ "$(id -u)" != 0 ] || echo chrt -r 1) tests/gateway_figures.py "$made"

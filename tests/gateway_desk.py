@@ -26,6 +26,7 @@ def interfaces(protocols):
     shared = "/usr/share/wayland-protocols"
     files = [file for file in glob.glob(shared + "/unstable/*/*.xml") if "xdg-shell-unstable-v5" not in file]
     files += glob.glob(shared + "/staging/*/*.xml") + glob.glob(shared + "/stable/*/*.xml")
+    files = glob.glob(protocols + "/more/*.xml") + files
     return tables(files + ["/usr/share/wayland/wayland.xml"] + glob.glob(protocols + "/*.xml"))
 
 
@@ -59,7 +60,8 @@ class Desk(Programs):
         if logs:
             words += ("--log",)
         if records:
-            words += ("--record", self.path(f"session.{self.gateways}"), "--taken", self.path(f"taken.{self.gateways}"))
+            for what, file in (("record", "session"), ("taken", "taken"), ("calls", "calls")):
+                words += ("--" + what, self.path(f"{file}.{self.gateways}"))
         self.gateway = self.start(self.built + "/wlim-gateway", "--compositor", "wayland-1", *words)
         until("the gateway", lambda: "ready" in self.read(self.gateway.log))
 
@@ -163,7 +165,7 @@ class Desk(Programs):
     def keep_records(self, name):
         """Copies the sessions and what was taken beside the programs."""
         for file in os.listdir(self.work):
-            if file.startswith(("session.", "taken.")):
+            if file.startswith(("session.", "taken.", "calls.")):
                 shutil.copy(self.path(file), f"{self.built}/{name}.{file}")
 
     def end(self):

@@ -1,23 +1,20 @@
 /*
- * Random messages of clients and of a compositor, good, bent and cut, through the gateway's parts but its sockets:
+ * Random messages of clients and of a compositor, good, bent and cut, through the gateway's core:
  *
- *     gateway_fuzz [ROUNDS [SEED]]
+ *     gateway_fuzz [ROUNDS [SEED [honest]]]
  *
- * Built with the address sanitizer by tests/gateway.sh. Says how many messages were read and how many clients ended.
+ * Each program begins with a window, and the method with a popup that is shown in the last one's. Where the compositor
+ * is honest, what it is asked is held against its rules for new ids. Built with the address sanitizer by
+ * tests/gateway.sh. Says how many messages were read, how many clients ended, and for how many rounds the gateway had
+ * objects in a program.
  */
-#include "gateway_harness.h"
-#include <errno.h>
-#include <fcntl.h>
-#include <stdio.h>
-#include <stdlib.h>
-#include <string.h>
-#include <sys/mman.h>
-#include <sys/socket.h>
-#include <unistd.h>
+#include "gateway_users.h"
 
-enum { CLIENTS = 4, LONGEST = 70000, KEYMAPS = 64 /* as many keep their files */ };
+enum { CLIENTS = 4, LONGEST = 70000 };
 
-static struct place places[CLIENTS];
+static struct user users[CLIENTS];
+static struct compositor compositors[CLIENTS];
+static bool honest; /* the compositor says no more than what follows from what it was asked */
 
 static uint64_t state;
 static unsigned long messages, ended;
@@ -40,6 +37,22 @@ static uint32_t random_id(struct client *client)
 			return id;
 	}
 	return DISPLAY;
+}
+
+/* The compositor's id of what a client's names; else the same. */
+static uint32_t far_id(struct client *client, uint32_t id)
+{
+	uint32_t far = far_of(client, id);
+	return far > 0 ? far : id;
+}
+
+/* An id that the compositor mostly knows, as that of a seat. */
+static uint32_t argument_id(struct client *client)
+{
+	uint32_t id = random_id(client);
+	for (int tries = 0; tries < 20 && far_of(client, id) == 0 && random_below(200); tries++)
+		id = random_id(client);
+	return id;
 }
 
 static uint32_t new_id(struct client *client, bool by_server)
@@ -96,7 +109,7 @@ static uint32_t random_number(void)
 static size_t write_message(struct client *client, uint32_t id, uint16_t opcode, const struct signature *row,
 	bool by_server, uint8_t *bytes, unsigned *files)
 {
-	size_t at = put(bytes, put(bytes, 0, id), opcode);
+	size_t at = put(bytes, put(bytes, 0, by_server ? far_id(client, id) : id), opcode);
 	const char *kind = row->kinds;
 	*files = 0;
 	if (strncmp(kind, "usu", 3) == 0) {
@@ -113,7 +126,8 @@ static size_t write_message(struct client *client, uint32_t id, uint16_t opcode,
 		else if (*kind == 'n')
 			at = put(bytes, at, new_id(client, by_server));
 		else
-			at = put(bytes, at, *kind == 'o' || *kind == 'O' ? random_id(client) : random_number());
+			at = put(bytes, at, *kind != 'o' && *kind != 'O' ? random_number()
+				: by_server ? far_id(client, argument_id(client)) : argument_id(client));
 	}
 	put(bytes, 4, (uint32_t)at << 16 | opcode);
 	if (random_below(200) == 0)
@@ -123,113 +137,131 @@ static size_t write_message(struct client *client, uint32_t id, uint16_t opcode,
 	return at;
 }
 
-static void send_bytes(int socket, const uint8_t *bytes, size_t size, unsigned count)
-{
-	_Alignas(struct cmsghdr) char control[CMSG_SPACE(64 * sizeof(int))] = { 0 };
-	int file = count > 0 ? memfd_create("fuzz", MFD_CLOEXEC) : -1;
-	struct iovec place = { (void *)(uintptr_t)bytes, size };
-	struct msghdr header = { .msg_iov = &place, .msg_iovlen = 1 };
-	if (file >= 0) {
-		if (ftruncate(file, 4) < 0)
-			exit(1);
-		header.msg_control = control;
-		header.msg_controllen = CMSG_SPACE(count * sizeof(int));
-		struct cmsghdr *part = CMSG_FIRSTHDR(&header);
-		*part = (struct cmsghdr){ CMSG_LEN(count * sizeof(int)), SOL_SOCKET, SCM_RIGHTS };
-		for (unsigned at = 0; at < count; at++)
-			memcpy(CMSG_DATA(part) + at * sizeof(int), &file, sizeof file);
-	}
-	if (sendmsg(socket, &header, MSG_NOSIGNAL) < 0 && errno != EAGAIN && errno != EPIPE && errno != EINVAL)
-		perror("sendmsg");
-	if (file >= 0)
-		close(file);
-}
-
-/* Reads away what the gateway sent, with its descriptors. */
-static void read_away(int socket)
-{
-	static uint8_t bytes[65536];
-	_Alignas(struct cmsghdr) char control[CMSG_SPACE(64 * sizeof(int))];
-	for (;;) {
-		struct iovec place = { bytes, sizeof bytes };
-		struct msghdr header = {
-			.msg_iov = &place, .msg_iovlen = 1, .msg_control = control, .msg_controllen = sizeof control,
-		};
-		if (recvmsg(socket, &header, MSG_DONTWAIT | MSG_CMSG_CLOEXEC) <= 0)
-			return;
-		for (struct cmsghdr *part = CMSG_FIRSTHDR(&header); part; part = CMSG_NXTHDR(&header, part))
-			for (size_t at = 0; at < (part->cmsg_len - CMSG_LEN(0)) / sizeof(int); at++) {
-				int file;
-				memcpy(&file, CMSG_DATA(part) + at * sizeof file, sizeof file);
-				close(file);
-			}
-	}
-}
-
 /* One message, from the client or from the compositor. */
 static void play(struct place *place, bool near)
 {
 	static uint8_t bytes[LONGEST];
-	uint32_t id = random_id(place->client);
+	uint32_t id = near ? random_id(place->client) : argument_id(place->client);
 	const struct object *object = object_live(place->client, id);
 	const struct interface *interface = object ? object->interface : &wl_display_table;
+	if (honest && !near)
+		return read_far(place);
 	uint32_t rows = interface->counts[near], opcode = rows ? random_below(rows) : 0;
-	unsigned files;
+	unsigned count;
+	uint32_t tokens[60];
 	if (rows == 0 || (!near && interface == &wl_display_table && opcode == 0 && random_below(20)))
 		return;
 	const struct signature *row = &interface->rows[near][opcode];
-	size_t size = write_message(place->client, id, (uint16_t)opcode, row, !near, bytes, &files);
+	size_t size = write_message(place->client, id, (uint16_t)opcode, row, !near, bytes, &count);
 	if (random_below(300) == 0)
-		files = random_below(60);
-	send_bytes(near ? place->near : place->far, bytes, size, files);
-	client_read(place->client, near);
+		count = random_below(60);
+	for (unsigned at = 0; at < count; at++)
+		tokens[at] = make_file(bytes, random_below(10) ? 4 : 4096);
+	if (near) {
+		send_client(place, bytes, size, tokens, count);
+	} else {
+		write_far(place, bytes, size, tokens, count);
+		read_far(place);
+	}
 	messages++;
+}
+
+/* A program with a window that has the focus and a field; a method with a popup. */
+static void begin(unsigned at)
+{
+	enum { SHELL = KEYBOARD_2 + 1, XDG, TOP, POINTER, MAKER = GRAB + 1, MEMORY, POOL, BUFFER, PIXELS, POPUP, VIEWS, VIEW };
+	static uint32_t serial;
+	static uint8_t bytes[4096];
+	struct user *user = &users[at];
+	compositors[at] = (struct compositor){ 0 };
+	if (at == 0)
+		start_grab(user);
+	else
+		start_program(user, true);
+	if (at % 2 == 0)
+		global(user, 9, "zwlr_screencopy_manager_v1");
+	global(user, 3, "wl_shm");
+	global(user, 4, "xdg_wm_base");
+	global(user, 5, "wl_subcompositor");
+	global(user, 6, "wp_viewporter");
+	if (at == 0) {
+		bind_global(user, 2, "wl_compositor", MAKER);
+		bind_global(user, 3, "wl_shm", MEMORY);
+		const struct message *message = draft(MEMORY, wl_shm_request_create_pool, "uu", POOL, (uint32_t)sizeof bytes);
+		uint32_t token = make_file(bytes, sizeof bytes);
+		send_client(&user->place, message->bytes, message->size, &token, 1);
+		request(user, draft(POOL, wl_shm_pool_request_create_buffer, "uuuuuu", BUFFER, 0, 30, 20, 120, 0));
+		request(user, draft(MAKER, wl_compositor_request_create_surface, "u", PIXELS));
+		request(user, draft(METHOD_1, zwp_input_method_v2_request_get_input_popup_surface, "uu", POPUP, PIXELS));
+		bind_global(user, 6, "wp_viewporter", VIEWS);
+		request(user, draft(VIEWS, wp_viewporter_request_get_viewport, "uu", VIEW, PIXELS));
+		request(user, draft(PIXELS, wl_surface_request_attach, "uuu", BUFFER, 0, 0));
+		request(user, draft(PIXELS, wl_surface_request_commit, ""));
+		return;
+	}
+	request(user, draft(SEAT, wl_seat_request_get_keyboard, "u", KEYBOARD_2));
+	bind_global(user, 4, "xdg_wm_base", SHELL);
+	request(user, draft(SHELL, xdg_wm_base_request_get_xdg_surface, "uu", XDG, SURFACE));
+	request(user, draft(XDG, xdg_surface_request_get_toplevel, "u", TOP));
+	request(user, draft(XDG, xdg_surface_request_set_window_geometry, "uuuu", 0, 0, at == 1 ? 20 : 640, 480));
+	request(user, draft(SEAT, wl_seat_request_get_pointer, "u", POINTER));
+	request(user, draft(SURFACE, wl_surface_request_attach, "uuu", SEAT, 0, 0));
+	request(user, draft(SURFACE, wl_surface_request_commit, ""));
+	enter(user, ++serial);
+	request(user, draft(FIELD, zwp_text_input_v3_request_enable, ""));
+	request(user, draft(FIELD, zwp_text_input_v3_request_commit, ""));
 }
 
 static void finish(struct place *place, unsigned at)
 {
-	struct client *client = place->client;
-	client->ending |= !wire_flush(&client->far) | !wire_flush(&client->near) | client->near.full | client->far.full;
-	read_away(place->near);
-	read_away(place->far);
-	if (!client->ending && random_below(5000))
+	if (honest && place->link > 0)
+		look_far(&compositors[at], place);
+	HOLDS(!compositors[at].has_gap);
+	if (place->link > 0 && !compositors[at].wrong && random_below(5000))
 		return;
 	close_client(place);
 	ended++;
-	open_client(place, at == 0 ? METHOD : PROGRAM);
+	begin(at);
 }
 
-/* How many descriptors are open. */
-static unsigned open_files(void)
+/* Whether the window of a program that stands a popup is shown in; it has the focus again now and then. */
+static void stir(unsigned long round, unsigned long *shown)
 {
-	unsigned number = 0;
-	for (int file = 0; file < 4096; file++)
-		number += fcntl(file, F_GETFD) >= 0;
-	return number;
+	unsigned at = 1 + random_below(CLIENTS - 1);
+	for (unsigned each = 1; each < CLIENTS; each++)
+		*shown += users[each].place.link > 0 && users[each].place.client->owns[OWN_COMPOSITOR].id > 0;
+	if (round % 50 == 0 && users[at].place.link > 0)
+		close_client(&users[at].place);
+	if (round % 1000 == 0)
+		close_client(&users[0].place);
 }
 
 int main(int count, char **words)
 {
-	unsigned long rounds = count > 1 ? strtoul(words[1], NULL, 10) : 200000;
+	unsigned long rounds = count > 1 ? strtoul(words[1], NULL, 10) : 200000, shown = 0;
 	state = count > 2 ? strtoull(words[2], NULL, 10) : 1;
-	if (!broker_open())
+	honest = count > 3;
+	if (!core_open(now, 3000000))
 		return 1;
-	unsigned files = open_files();
 	for (unsigned at = 0; at < CLIENTS; at++)
-		open_client(&places[at], at == 0 ? METHOD : PROGRAM);
-	for (unsigned long round = 0; round < rounds; round++) {
+		begin(at);
+	for (unsigned long round = 0; round < rounds && !failed; round++) {
 		unsigned at = random_below(CLIENTS);
-		play(&places[at], random_below(3) > 0);
+		now += random_below(3000);
+		play(&users[at].place, random_below(3) > 0);
+		stir(round, &shown);
+		finish_round();
 		for (unsigned each = 0; each < CLIENTS; each++)
-			finish(&places[each], each);
+			finish(&users[each].place, each);
 		if (random_below(20000) == 0 || broker_renewal() == 0)
 			renew();
 	}
 	for (unsigned at = 0; at < CLIENTS; at++)
-		close_client(&places[at]);
-	broker_close();
-	printf("%lu messages, %lu clients ended\n", messages, ended + CLIENTS);
-	if (open_files() > files + KEYMAPS)
-		printf("%u descriptors are left open\n", open_files() - files);
-	return open_files() > files + KEYMAPS;
+		close_client(&users[at].place);
+	core_close();
+	do_effects();
+	printf("%lu messages, %lu clients ended; the gateway had objects in a program for %lu rounds\n", messages,
+		ended + CLIENTS, shown);
+	HOLDS(tokens_used() == 0 && shown > 0);
+	return failed;
 }

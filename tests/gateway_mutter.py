@@ -6,6 +6,7 @@
 FOLDER has `wlim-gateway`, `entry` and `keys`, as tests/gateway_mutter.sh builds them.
 """
 import os
+import re
 import subprocess
 import sys
 import tempfile
@@ -13,7 +14,8 @@ import time
 
 from gateway_desk import KEYS, Desk, until
 
-SHIFT = 42
+SHIFT, BUTTON_LEFT = 42, 0x110
+SECOND = (62, 15)  # where the second candidate of one syllable is, on a popup
 
 
 class MutterDesk(Desk):
@@ -35,11 +37,29 @@ class MutterDesk(Desk):
                                "org.freedesktop.DBus.ListNames"], env=self.env, capture_output=True, text=True,
                               check=False).stdout
 
+    def say(self, *words):
+        self.keys.stdin.write(" ".join(map(str, words)) + "\n")
+        self.keys.stdin.flush()
+        self.keys.stdout.readline()
+
     def press(self, key):
         for state in (1, 0):
-            self.keys.stdin.write(f"{key} {state}\n")
-            self.keys.stdin.flush()
-            self.keys.stdout.readline()
+            self.say("key", key, state)
+
+    def click(self, x, y):
+        """From the corner, where the pointer is moved at first."""
+        self.say("move", -5000, -5000)
+        self.say("move", x, y)
+        for state in (1, 0):
+            time.sleep(0.1)
+            self.say("button", BUTTON_LEFT, state)
+
+    def shown(self):
+        """Where a popup is shown, and how: inside a window, or beside it; None: none is."""
+        log = self.read(self.gateway.log)
+        found = re.findall(r"popup is (?:shown|moved) (inside|beside) \((-?\d+), (-?\d+), (\d+), (\d+)\)", log)
+        hidden = log.rfind("popup is hidden") > max(log.rfind("popup is shown"), log.rfind("popup is moved"))
+        return None if hidden or not found else (found[-1][0], *map(int, found[-1][1:]))
 
     def write_words(self, window, keys, wanted):
         for letter in keys:
@@ -47,6 +67,46 @@ class MutterDesk(Desk):
             time.sleep(0.05)
         until(f"{window} has {wanted!r}: {self.got(window)!r}", lambda: self.got(window) == wanted)
         print(f"{window}: {keys!r} gave {wanted!r}", flush=True)
+
+
+def candidates(desk, small):
+    """In a window that fills the screen the second candidate is clicked; a small one's are an xdg_popup."""
+    words = ["foot", "-c", "/dev/null", "-a", "full", *(["-w", "120x40"] if small else ["-F"])]
+    window = desk.start(*words, "sh", "-c", "stty raw -echo; exec cat > full.out", display="wlim-programs")
+    entered = desk.logged(r"<- zwp_text_input_v3@\d+\.enter\(")
+    until("a field", lambda: desk.logged(r"<- zwp_text_input_v3@\d+\.enter\(") > entered)
+    time.sleep(2)
+    for letter in "shi":
+        desk.press(KEYS[letter])
+        time.sleep(0.05)
+    until("candidates", desk.shown)
+    time.sleep(0.5)
+    way, left, top, width, height = desk.shown()
+    if not small:
+        for _ in range(5):  # the first click is lost now and then; why isn't known
+            ends = time.monotonic() + 3
+            desk.click(left + SECOND[0], top + SECOND[1])
+            while time.monotonic() < ends and len(desk.got("full")) != 1:
+                time.sleep(0.05)
+            if desk.got("full"):
+                break
+        until("the second candidate", lambda: len(desk.got("full")) == 1)
+    else:
+        desk.press(KEYS[" "])
+        until("the first candidate", lambda: len(desk.got("full")) == 1)
+    until("it is hidden", lambda: not desk.shown())
+    if way != ("beside" if small else "inside") or window.poll() is not None:
+        raise AssertionError(f"{way}; {window.poll()}")
+    by = "a space" if small else "a click"
+    print(f"foot: candidates {way} at {left}, {top}, {width} by {height}; {desk.got('full')} by {by}", flush=True)
+    for letter in "shi":
+        desk.press(KEYS[letter])
+    until("candidates", desk.shown)
+    entered = desk.logged(r"<- zwp_text_input_v3@\d+\.enter\(")
+    desk.kill(window)
+    until("it is hidden", lambda: not desk.shown())
+    until("another field", lambda: desk.logged(r"<- zwp_text_input_v3@\d+\.enter\(") > entered)
+    time.sleep(1)
 
 
 def run(desk):
@@ -66,6 +126,8 @@ def run(desk):
     until("the first field again", lambda: desk.logged(r"<- zwp_text_input_v3@\d+\.enter\(") > entered)
     time.sleep(1)
     desk.write_words("entry", "nihao ", "你好世界你好")
+    for small in (False, True):
+        candidates(desk, small)
 
 
 def main():

@@ -1,6 +1,7 @@
 /*
- * A keyboard at Mutter, by its interface for remote desktops on the session bus: reads lines `CODE STATE`, a key of
- * evdev's numbers and 0 or 1, and prints `ok` after each. `ready` comes first.
+ * A keyboard and a pointer at Mutter, by its interface for remote desktops on the session bus: reads lines `key CODE
+ * STATE` and `button CODE STATE`, of evdev's numbers and 0 or 1, and `move X Y`, by so many pixels, and prints `ok`
+ * after each. `ready` comes first.
  */
 #include <gio/gio.h>
 #include <stdio.h>
@@ -23,8 +24,8 @@ static GVariant *call(const char *path, const char *interface, const char *metho
 int main(void)
 {
 	const char *session;
-	unsigned key;
-	int state;
+	char what[16];
+	int first, second;
 	bus = g_bus_get_sync(G_BUS_TYPE_SESSION, NULL, NULL);
 	if (!bus)
 		g_error("there is no session bus");
@@ -32,8 +33,13 @@ int main(void)
 	call(session, NAME ".Session", "Start", NULL);
 	puts("ready");
 	fflush(stdout);
-	while (scanf("%u %d", &key, &state) == 2) {
-		call(session, NAME ".Session", "NotifyKeyboardKeycode", g_variant_new("(ub)", key, state != 0));
+	while (scanf("%15s %d %d", what, &first, &second) == 3) {
+		if (what[0] == 'k')
+			call(session, NAME ".Session", "NotifyKeyboardKeycode", g_variant_new("(ub)", (guint)first, second != 0));
+		else if (what[0] == 'b')
+			call(session, NAME ".Session", "NotifyPointerButton", g_variant_new("(ib)", first, second != 0));
+		else
+			call(session, NAME ".Session", "NotifyPointerMotionRelative", g_variant_new("(dd)", (double)first, (double)second));
 		puts("ok");
 		fflush(stdout);
 	}

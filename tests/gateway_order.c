@@ -2,185 +2,7 @@
  * What comes in an order that sockets seldom show: the compositor's events of two programs, a surface's end and its
  * focus, ends of clients with keys down, renewals of the broker. Built by tests/gateway.sh. Prints what doesn't hold.
  */
-#include "gateway_harness.h"
-#include <string.h>
-#include <sys/mman.h>
-
-enum { REGISTRY = 2, SEAT, COMPOSITOR, KEYBOARD, SURFACE, FIELDS, FIELD, KEYBOARD_2 }; /* of a program */
-enum { METHODS = COMPOSITOR, BOARDS, BOARD, METHOD_1, GRAB }; /* of a method */
-enum { A = 30, B = 48, C = 46 }; /* keys */
-
-/* A program or a method. */
-struct user {
-	struct place place;
-	bool entered; /* its field was told so, and no leave since */
-	size_t size; /* of what it was told last */
-	uint8_t told[65536];
-};
-
-static int failed;
-
-#define HOLDS(what) (void)((what) || (failed = 1, printf("%s, line %d: %s\n", __FILE__, __LINE__, #what)))
-
-static void put(int socket, const struct message *message)
-{
-	if (write(socket, message->bytes, message->size) != message->size)
-		exit(1);
-}
-
-/* A request, which is read; an event, which is read later; and reads those. */
-static void request(struct user *user, const struct message *message)
-{
-	put(user->place.near, message);
-	client_read(user->place.client, true);
-}
-
-static void event(struct user *user, uint16_t opcode, uint32_t serial)
-{
-	put(user->place.far, draft(KEYBOARD, opcode, opcode == wl_keyboard_event_enter ? "uuu" : "uu", serial, SURFACE, 0));
-}
-
-static void read_events(struct user *user)
-{
-	client_read(user->place.client, false);
-}
-
-static void enter(struct user *user, uint32_t serial)
-{
-	event(user, wl_keyboard_event_enter, serial);
-	read_events(user);
-}
-
-static void global(struct user *user, uint32_t name, const char *interface)
-{
-	put(user->place.far, draft(REGISTRY, wl_registry_event_global, "usu", name, interface, 1));
-	read_events(user);
-}
-
-static void bind_global(struct user *user, uint32_t name, const char *interface, uint32_t id)
-{
-	request(user, draft(REGISTRY, wl_registry_request_bind, "usuu", name, interface, 1, id));
-}
-
-static void start(struct user *user, enum role role)
-{
-	open_client(&user->place, role);
-	request(user, draft(DISPLAY, wl_display_request_get_registry, "u", REGISTRY));
-	global(user, 1, "wl_seat");
-	global(user, 2, "wl_compositor");
-	bind_global(user, 1, "wl_seat", SEAT);
-}
-
-static void make_field(struct user *user)
-{
-	request(user, draft(FIELDS, zwp_text_input_manager_v3_request_get_text_input, "uu", FIELD, SEAT));
-}
-
-/* A program with a window, and maybe with a field. */
-static void start_program(struct user *user, bool with_field)
-{
-	start(user, PROGRAM);
-	bind_global(user, 2, "wl_compositor", COMPOSITOR);
-	request(user, draft(SEAT, wl_seat_request_get_keyboard, "u", KEYBOARD));
-	request(user, draft(COMPOSITOR, wl_compositor_request_create_surface, "u", SURFACE));
-	bind_global(user, 0xffff0000 + GLOBAL_FIELDS, "zwp_text_input_manager_v3", FIELDS);
-	if (with_field)
-		make_field(user);
-}
-
-/* A keymap with a number, to an object or of one, as the opcode says. */
-static void send_keymap(int socket, uint32_t id, uint16_t opcode, int number)
-{
-	static struct wire wire;
-	char text[40] = { 0 };
-	const struct message *message = draft(id, opcode, "uu", 1, (uint32_t)sizeof text);
-	int file = memfd_create("keymap", MFD_CLOEXEC);
-	snprintf(text, sizeof text, "xkb_keymap {%d}", number);
-	HOLDS(write(file, text, sizeof text) == sizeof text);
-	wire.socket = socket;
-	wire_send(&wire, message->bytes, message->size, &file, 1);
-	HOLDS(wire_flush(&wire));
-}
-
-static void make_method(struct user *user)
-{
-	request(user, draft(METHODS, zwp_input_method_manager_v2_request_get_input_method, "uu", SEAT, METHOD_1));
-}
-
-static void make_board(struct user *user)
-{
-	request(user, draft(BOARDS, zwp_virtual_keyboard_manager_v1_request_create_virtual_keyboard, "uu", SEAT, BOARD));
-	send_keymap(user->place.near, BOARD, zwp_virtual_keyboard_v1_request_keymap, 0);
-	client_read(user->place.client, true);
-}
-
-/* A method, with no object but its managers. */
-static void start_method(struct user *user)
-{
-	start(user, METHOD);
-	bind_global(user, 0xffff0000 + GLOBAL_METHODS, "zwp_input_method_manager_v2", METHODS);
-	bind_global(user, 0xffff0000 + GLOBAL_BOARDS, "zwp_virtual_keyboard_manager_v1", BOARDS);
-}
-
-/* One with a board; and one that serves besides, where none does, and gets all keys. */
-static void start_board(struct user *user)
-{
-	start_method(user);
-	make_board(user);
-}
-
-static void make_grab(struct user *user, uint32_t id)
-{
-	request(user, draft(METHOD_1, zwp_input_method_v2_request_grab_keyboard, "u", id));
-}
-
-static void start_grab(struct user *user)
-{
-	start_board(user);
-	make_method(user);
-	make_grab(user, GRAB);
-}
-
-/* A key of a board; and one of the seat's keyboard. */
-static void press(struct user *user, uint32_t key, uint32_t state)
-{
-	request(user, draft(BOARD, zwp_virtual_keyboard_v1_request_key, "uuu", 1, key, state));
-}
-
-static void type(struct user *user, uint32_t serial, uint32_t time, uint32_t key)
-{
-	put(user->place.far, draft(KEYBOARD, wl_keyboard_event_key, "uuuu", serial, time, key, 1));
-	read_events(user);
-}
-
-/* Takes what a user was told since the last look. It lives. */
-static void look(struct user *user)
-{
-	struct message message;
-	HOLDS(!user->place.client->ending && wire_flush(&user->place.client->near));
-	ssize_t came;
-	user->size = 0;
-	while ((came = recv(user->place.near, user->told + user->size, sizeof user->told - user->size, MSG_DONTWAIT)) > 0)
-		user->size += (size_t)came; /* up to the next descriptor */
-	for (size_t at = 0; message_front(user->told + at, user->size - at, &message) == FRONT_WHOLE; at += message.size)
-		if (message.object == FIELD && message.opcode <= zwp_text_input_v3_event_leave)
-			user->entered = message.opcode == zwp_text_input_v3_event_enter;
-}
-
-/* How many events of an object there were in that, whose last words are these, where any are given. */
-static unsigned heard(struct user *user, uint32_t id, uint16_t opcode, const uint32_t *words, size_t count)
-{
-	struct message message;
-	unsigned found = 0;
-	size_t size = count * sizeof *words;
-	for (size_t at = 0; message_front(user->told + at, user->size - at, &message) == FRONT_WHOLE; at += message.size)
-		found += message.object == id && message.opcode == opcode && message.size >= HEADER_SIZE + size
-			&& memcmp(message.bytes + message.size - size, words, size) == 0;
-	return found;
-}
-
-#define HEARD(user, id, opcode, ...) heard(user, id, opcode, (const uint32_t[]){ __VA_ARGS__ }, \
-	sizeof((uint32_t[]){ __VA_ARGS__ }) / sizeof(uint32_t))
+#include "gateway_users.h"
 
 static void focus(void)
 {
@@ -210,10 +32,10 @@ static void focus(void)
 	client_end(two.place.client, "a test");
 	for (int at = 0; at < 8; at++) {
 		static uint8_t bytes[WIRE_READ];
-		HOLDS(write(two.place.far, bytes, sizeof bytes) == sizeof bytes);
+		write_far(&two.place, bytes, sizeof bytes, NULL, 0);
 		enter(&one, 5);
 	}
-	HOLDS(two.place.client->far.in_to == 0);
+	HOLDS(two.place.coming.size == 8 * WIRE_READ);
 	close_client(&two.place);
 	close_client(&one.place);
 }
@@ -229,7 +51,7 @@ static void destroyed_surface(void)
 	request(&one, draft(SURFACE, wl_surface_request_destroy, ""));
 	enter(&one, 13);
 	event(&one, wl_keyboard_event_leave, 14);
-	put(one.place.far, draft(DISPLAY, wl_display_event_delete_id, "u", SURFACE));
+	put_event(&one, draft(DISPLAY, wl_display_event_delete_id, "u", SURFACE));
 	read_events(&one);
 	look(&one);
 	HOLDS(!one.entered && HEARD(&one, DISPLAY, wl_display_event_delete_id, SURFACE) == 1);
@@ -289,10 +111,10 @@ static void keyboards(void)
 	start_grab(&first);
 	request(&one, draft(SEAT, wl_seat_request_get_keyboard, "u", KEYBOARD_2));
 	for (uint32_t id = KEYBOARD; id <= KEYBOARD_2; id += KEYBOARD_2 - KEYBOARD)
-		put(one.place.far, draft(id, wl_keyboard_event_enter, "uuu", 31, SURFACE, 0));
+		put_event(&one, draft(id, wl_keyboard_event_enter, "uuu", 31, SURFACE, 0));
 	for (int times = 0; times < 2; times++)
 		for (uint32_t id = KEYBOARD; id <= KEYBOARD_2; id += KEYBOARD_2 - KEYBOARD)
-			put(one.place.far, draft(id, wl_keyboard_event_modifiers, "uuuuu", 32 + times, 4 - times, 0, 0, 0));
+			put_event(&one, draft(id, wl_keyboard_event_modifiers, "uuuuu", 32 + times, 4 - times, 0, 0, 0));
 	read_events(&one);
 	look(&one);
 	HOLDS(HEARD(&one, KEYBOARD, wl_keyboard_event_modifiers, 4, 0, 0, 0) == 1);
@@ -302,8 +124,8 @@ static void keyboards(void)
 	/* A third that comes later is told what the others were, by the method too. */
 	request(&first, draft(BOARD, zwp_virtual_keyboard_v1_request_modifiers, "uuuu", 1, 0, 0, 0));
 	request(&one, draft(SEAT, wl_seat_request_get_keyboard, "u", KEYBOARD_2 + 1));
-	put(one.place.far, draft(KEYBOARD_2 + 1, wl_keyboard_event_enter, "uuu", 34, SURFACE, 0));
-	put(one.place.far, draft(KEYBOARD_2 + 1, wl_keyboard_event_modifiers, "uuuuu", 35, 3, 0, 0, 0));
+	put_event(&one, draft(KEYBOARD_2 + 1, wl_keyboard_event_enter, "uuu", 34, SURFACE, 0));
+	put_event(&one, draft(KEYBOARD_2 + 1, wl_keyboard_event_modifiers, "uuuuu", 35, 3, 0, 0, 0));
 	read_events(&one);
 	look(&one);
 	HOLDS(HEARD(&one, KEYBOARD, wl_keyboard_event_modifiers, 1, 0, 0, 0) == 1);
@@ -415,7 +237,7 @@ static void used_again(void)
 	request(&first, draft(COMPOSITOR_1, wl_compositor_request_create_surface, "u", SURFACE_1));
 	request(&first, draft(METHOD_1, zwp_input_method_v2_request_get_input_popup_surface, "uu", POPUP, SURFACE_1));
 	request(&first, draft(SURFACE_1, wl_surface_request_destroy, ""));
-	put(first.place.far, draft(DISPLAY, wl_display_event_delete_id, "u", SURFACE_1));
+	put_event(&first, draft(DISPLAY, wl_display_event_delete_id, "u", SURFACE_1));
 	read_events(&first);
 	request(&first, draft(COMPOSITOR_1, wl_compositor_request_create_surface, "u", SURFACE_1));
 	request(&first, draft(METHOD_1, zwp_input_method_v2_request_get_input_popup_surface, "uu", POPUP_2, SURFACE_1));
@@ -448,7 +270,7 @@ static void typed_before(void)
 	request(&one, draft(SURFACE, wl_surface_request_destroy, ""));
 	enter(&one, 63); /* the compositor doesn't know yet */
 	type(&one, 64, 7001, B);
-	put(one.place.far, draft(DISPLAY, wl_display_event_delete_id, "u", SURFACE));
+	put_event(&one, draft(DISPLAY, wl_display_event_delete_id, "u", SURFACE));
 	read_events(&one);
 	look(&first);
 	HOLDS(HEARD(&first, GRAB, zwp_input_method_keyboard_grab_v2_event_key, 7001, B, 1) == 0);
@@ -470,11 +292,11 @@ static void keyboards_go(void)
 	enter(&one, 71);
 	look(&one);
 	HOLDS(one.entered);
-	put(one.place.far, draft(SEAT, wl_seat_event_capabilities, "u", 1));
+	put_event(&one, draft(SEAT, wl_seat_event_capabilities, "u", 1));
 	read_events(&one);
 	look(&one);
 	HOLDS(!one.entered);
-	put(one.place.far, draft(SEAT, wl_seat_event_capabilities, "u", 3));
+	put_event(&one, draft(SEAT, wl_seat_event_capabilities, "u", 3));
 	enter(&one, 72);
 	request(&one, draft(KEYBOARD, wl_keyboard_request_release, ""));
 	look(&one);
@@ -513,7 +335,9 @@ static void many_keymaps(void)
 	start_board(&first);
 	enter(&one, 131);
 	for (int number = 1; number <= 70; number++) {
-		send_keymap(one.place.far, KEYBOARD, wl_keyboard_event_keymap, number);
+		const struct message *message = draft(far_of(one.place.client, KEYBOARD), wl_keyboard_event_keymap, "uu", 1, 40);
+		uint32_t token = keymap_file(number);
+		write_far(&one.place, message->bytes, message->size, &token, 1);
 		read_events(&one);
 	}
 	look(&one);
@@ -532,7 +356,7 @@ static void many_keymaps(void)
 
 int main(void)
 {
-	if (!broker_open())
+	if (!core_open(now, 3000000))
 		return 1;
 	focus();
 	destroyed_surface();
@@ -546,7 +370,9 @@ int main(void)
 	keyboards_go();
 	grabs();
 	many_keymaps();
-	broker_close();
+	core_close();
+	do_effects();
+	HOLDS(tokens_used() == 0);
 	printf("focus, ends and renewals in any order: %s\n", failed ? "not as they should be" : "ok");
 	return failed;
 }

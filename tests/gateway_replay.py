@@ -1,9 +1,11 @@
 #!/usr/bin/env python3
-"""Replays each session that the gateway recorded, and compares what each peer is told with what clients got.
+"""Replays each session that the gateway recorded, and compares what each peer is told with what clients got; and plays
+again what its core was told, which has to write the same bytes.
 
     tests/gateway_replay.py PROGRAM FOLDER
 
-In FOLDER a file `X.session..` has beside it `X.taken..`.
+In FOLDER a file `X.session..` has beside it `X.taken..`, and `X.calls..` has all that a gateway's core was told. FOLDER
+has `play`.
 """
 import collections
 import glob
@@ -42,7 +44,14 @@ def main():
             peers = [peer for peer in wanted.keys() | got.keys() if wanted[peer] != got[peer]]
             sys.exit(f"{path}: status {status}, {last}; other bytes for the peers {peers}")
         print(f"{path}: {last}, {len(got)} peers got what replay says: {sum(map(len, got.values())) // 2} bytes")
-    if not sessions:
+    calls = sorted(glob.glob(folder + "/*.calls*"))
+    for path in calls:
+        with open(path, encoding="ascii") as file:
+            run = subprocess.run([folder + "/play"], stdin=file, capture_output=True, text=True, check=False)
+        if run.returncode != 0:
+            sys.exit(f"{path}: {run.stdout}{run.stderr[-3000:]}")
+        print(f"{path}: {run.stdout.strip()}, and the same asked for and written")
+    if not sessions or not calls:
         sys.exit("no session was recorded")
 
 

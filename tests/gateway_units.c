@@ -1,16 +1,11 @@
 /*
- * The gateway's parts by themselves: messages, objects by ids, descriptors over a socket, keymaps. Built by
+ * The core's parts by themselves: messages, objects by ids, where a popup is to be, bytes and tokens, keymaps. Built by
  * tests/gateway.sh. Prints what doesn't hold.
  */
 #include "gateway.h"
 #include "tables.h"
-#include <fcntl.h>
 #include <stdio.h>
 #include <string.h>
-#include <sys/mman.h>
-#include <sys/socket.h>
-#include <sys/stat.h>
-#include <unistd.h>
 
 static int failed;
 
@@ -101,9 +96,8 @@ static void ids(void)
 	HOLDS(!object_make(&client, FIRST_SERVER_ID + 1, &wl_seat_table, true));
 	HOLDS(object_make(&client, FIRST_SERVER_ID, &wl_seat_table, true));
 	HOLDS(object_make(&client, FIRST_SERVER_ID, &wl_surface_table, true)->interface == &wl_surface_table);
-	object_at(&client, 2)->holes = 2;
 	object_free(&client, 2);
-	HOLDS(!object_live(&client, 2) && object_make(&client, 2, &wl_surface_table, false)->holes == 2);
+	HOLDS(!object_live(&client, 2) && object_make(&client, 2, &wl_surface_table, false));
 	for (uint32_t id = 3; id < OBJECTS_MAX; id++)
 		if (!object_make(&client, id, &wl_surface_table, false))
 			HOLDS(id == 0);
@@ -111,115 +105,273 @@ static void ids(void)
 	HOLDS(!object_at(&client, OBJECTS_MAX) && !object_at(&client, 0xffffffff));
 }
 
-/* A file whose length is a number. */
-static int numbered_file(int number)
+/* The compositor's ids are used in order, and again when they are free; each names one of the client's, or nothing. */
+static void far_ids(void)
 {
-	int file = memfd_create("number", MFD_CLOEXEC);
-	HOLDS(file >= 0 && ftruncate(file, number) == 0);
-	return file;
+	static struct client client = { .counts = { 1, 0 }, .far_count = 1 };
+	for (uint32_t id = 1; id <= 4; id++)
+		HOLDS(object_make(&client, id, &wl_surface_table, false));
+	HOLDS(near_of(&client, 0) == 0 && near_of(&client, 1) == 0 && far_of(&client, 4) == 0);
+	object_at(&client, 4)->far = far_make(&client, 4);
+	object_at(&client, 2)->far = far_make(&client, 2);
+	HOLDS(far_of(&client, 4) == 1 && far_of(&client, 2) == 2 && far_of(&client, 3) == 0 && far_of(&client, 99) == 0);
+	HOLDS(near_of(&client, 1) == 4 && near_of(&client, 2) == 2 && near_of(&client, 3) == 0);
+	HOLDS(near_of(&client, 3000000) == 0);
+	HOLDS(near_of(&client, FIRST_SERVER_ID + 7) == FIRST_SERVER_ID + 7 && far_of(&client, FIRST_SERVER_ID) == 0);
+	HOLDS(object_make(&client, FIRST_SERVER_ID, &wl_buffer_table, true));
+	HOLDS(far_of(&client, FIRST_SERVER_ID) == FIRST_SERVER_ID);
+	far_end(&client, 1);
+	far_end(&client, 2);
+	HOLDS(near_of(&client, 1) == 0 && near_of(&client, 2) == 0);
+	HOLDS(far_make(&client, 3) == 2 && far_make(&client, 2) == 1 && far_make(&client, 1) == 3);
+	for (uint32_t far = 4; far < OBJECTS_MAX; far++)
+		if (far_make(&client, far) != far)
+			HOLDS(far == 0);
+	HOLDS(far_make(&client, 9) == 0 && near_of(&client, OBJECTS_MAX) == 0);
 }
 
-/* Messages of some descriptors each come whole, with theirs, however many are sent at once. */
-static void descriptors(void)
+/* A message's ids become those of the other side, behind texts too; what names nothing there is refused. */
+static void translated(void)
+{
+	static struct client client = { .counts = { 1, 0 }, .far_count = 1 };
+	struct message message;
+	uint8_t *bind = WORDS(2, HEAD(32, 0), 1, 8, 'w' | 'l' << 8 | '_' << 16 | 's' << 24, 'e' | 'a' << 8 | 't' << 16, 1, 3);
+	for (uint32_t id = 1; id <= 3; id++)
+		HOLDS(object_make(&client, id, &wl_surface_table, false));
+	far_make(&client, DISPLAY);
+	object_at(&client, 2)->far = far_make(&client, 2);
+	far_make(&client, 7);
+	HOLDS(reads(bind, "usun", &message) && ids_to_far(&client, &message));
+	HOLDS(message.numbers[3] == 4 && ((uint32_t *)bind)[7] == 4);
+	HOLDS(object_at(&client, 3)->far == 4 && near_of(&client, 4) == 3);
+	HOLDS(reads(WORDS(2, HEAD(20, 0), 0, 3, 5), "Oou", &message) && ids_to_far(&client, &message));
+	HOLDS(memcmp(message.bytes, WORDS(2, HEAD(20, 0), 0, 4, 5), 20) == 0);
+	HOLDS(reads(WORDS(2, HEAD(12, 0), 9), "o", &message) && !ids_to_far(&client, &message));
+	HOLDS(reads(WORDS(2, HEAD(16, 0), 4, 4), "uO", &message) && ids_to_near(&client, &message) == NAMED_OBJECTS);
+	HOLDS(memcmp(message.bytes, WORDS(2, HEAD(16, 0), 4, 3), 16) == 0);
+	HOLDS(reads(WORDS(2, HEAD(12, 0), 5), "o", &message) && ids_to_near(&client, &message) == NAMED_NOTHING);
+	HOLDS(message_front(WORDS(1, HEAD(24, 0), 5, 0, 1, 0), 24, &message) == FRONT_WHOLE);
+	HOLDS(message_read(&message, &wl_display_events[wl_display_event_error]));
+	HOLDS(ids_to_near(&client, &message) == NAMED_OBJECTS && message.numbers[0] == DISPLAY);
+}
+
+/* Ids of the gateway's own: an event that names one says so, nothing of the client's does; they are used again. */
+static void private_ids(void)
+{
+	static struct client client = { .counts = { 1, 0 }, .far_count = 1 };
+	struct message message;
+	HOLDS(object_make(&client, DISPLAY, &wl_display_table, false) && far_make(&client, DISPLAY) == 1 && ids_left(&client));
+	uint32_t one = private_make(&client, &wl_surface_table, NULL), two = private_make(&client, &wl_callback_table, NULL);
+	HOLDS(one == 2 && two == 3 && near_of(&client, one) == 0 && private_of(&client, one)->interface == &wl_surface_table);
+	HOLDS(!private_of(&client, 1) && !private_of(&client, 4) && !private_of(&client, 0xff000000));
+	HOLDS(reads(WORDS(1, HEAD(16, 0), 2, 1), "oo", &message) && ids_to_near(&client, &message) == NAMED_PRIVATE);
+	HOLDS(message.numbers[0] == 0);
+	HOLDS(message_front(WORDS(1, HEAD(24, 0), 2, 0, 1, 0), 24, &message) == FRONT_WHOLE);
+	HOLDS(message_read(&message, &wl_display_events[wl_display_event_error]));
+	HOLDS(ids_to_near(&client, &message) == NAMED_OBJECTS && message.numbers[0] == DISPLAY);
+	private_forget(&client, one);
+	HOLDS(!private_of(&client, one)->interface && private_of(&client, one)->is_used);
+	far_end(&client, one);
+	HOLDS(!private_of(&client, one) && far_make(&client, 7) == one && near_of(&client, one) == 7);
+	while (ids_left(&client))
+		private_make(&client, &wl_callback_table, NULL);
+	for (int at = 0; at < PRIVATES_KEPT - 1; at++)
+		HOLDS(private_make(&client, &wl_callback_table, NULL) > 0);
+}
+
+/* What a buffer or a pool holds is let go elsewhere. */
+void object_ends(struct client *client, struct object *object)
+{
+	HOLDS(client && object);
+}
+
+/* Where a popup is to be. */
+static void places(void)
+{
+	static const struct place { struct asked asked; struct wanted wanted; const char *what; } table[] = {
+		{ { { 0, 0, 640, 480 }, { 100, 50, 2, 20 }, true, 200, 60, false, false, false }, { INSIDE, { 100, 70, 200, 60 } },
+			"below the cursor" },
+		{ { { 0, 0, 640, 480 }, { 100, 440, 2, 20 }, true, 200, 60, false, false, false }, { INSIDE, { 100, 380, 200, 60 } },
+			"above it, at the bottom" },
+		{ { { 0, 0, 640, 480 }, { 600, 50, 2, 20 }, true, 200, 60, false, false, false }, { INSIDE, { 440, 70, 200, 60 } },
+			"as far right as it fits" },
+		{ { { 20, 30, 640, 480 }, { 0, 0, 2, 20 }, true, 200, 60, false, false, false }, { INSIDE, { 20, 30, 200, 60 } },
+			"in the geometry, not in its shadow" },
+		{ { { 0, 0, 640, 100 }, { 10, 50, 2, 20 }, true, 200, 90, false, false, false }, { INSIDE, { 10, 10, 200, 90 } },
+			"neither below nor above: as far down as it fits" },
+		{ { { 0, 0, 640, 480 }, { 0, 0, 0, 0 }, false, 200, 60, false, false, false }, { INSIDE, { 0, 420, 200, 60 } },
+			"nobody said where: at the bottom, at the left" },
+		{ { { 0, 0, 150, 40 }, { 10, 10, 2, 20 }, true, 200, 60, false, false, false }, { INSIDE, { 0, 0, 200, 60 } },
+			"it doesn't fit: its beginning is seen" },
+		{ { { 0, 0, 150, 40 }, { 10, 10, 2, 20 }, true, 200, 60, false, true, false }, { INSIDE, { 10, 30, 200, 60 } },
+			"what lies outside is shown too" },
+		{ { { 0, 0, 150, 40 }, { -300, 10, 2, 20 }, true, 200, 60, false, true, false }, { INSIDE, { 0, 30, 200, 60 } },
+			"but at the window" },
+		{ { { 0, 0, 0, 0 }, { 100, 5, 2, 20 }, true, 200, 60, true, true, false }, { INSIDE, { 100, -55, 200, 60 } },
+			"at the bottom of the screen: above" },
+		{ { { 0, 0, 150, 40 }, { 10, 10, 2, 20 }, true, 200, 60, false, false, true }, { BESIDE, { 10, 10, 2, 20 } },
+			"an xdg_popup, where it doesn't fit" },
+		{ { { 5, 6, 150, 40 }, { 10, 10, 2, 20 }, true, 200, 60, false, false, true }, { BESIDE, { 5, 4, 2, 20 } },
+			"the anchor is in the geometry's numbers" },
+		{ { { 0, 0, 150, 40 }, { 400, -7, 0, 0 }, true, 200, 60, false, false, true }, { BESIDE, { 149, 0, 1, 1 } },
+			"and lies in it" },
+		{ { { 0, 0, 150, 40 }, { 100, 30, 900, 900 }, true, 200, 60, false, false, true }, { BESIDE, { 100, 30, 50, 10 } },
+			"as a whole" },
+		{ { { 0, 0, 640, 480 }, { 100, 50, 2, 20 }, true, 200, 60, false, false, true }, { INSIDE, { 100, 70, 200, 60 } },
+			"it fits: no xdg_popup" },
+		{ { { 0, 0, 0, 0 }, { 100, 50, 2, 20 }, true, 200, 60, false, false, false }, { INSIDE, { 100, 70, 200, 60 } },
+			"nobody knows the geometry" },
+		{ { { 0, 0, 0, 0 }, { 100, 50, 0, 0 }, true, 200, 60, false, false, true }, { BESIDE, { 100, 50, 1, 1 } },
+			"nor here" },
+		{ { { 0, 0, 640, 480 }, { 100, 50, 2, 20 }, true, 0, 60, false, false, true }, { NOWHERE, { 0, 0, 0, 0 } }, "nothing" },
+		{ { { 0, 0, 640, 480 }, { INT32_MAX, INT32_MIN, INT32_MAX, INT32_MAX }, true, 200, 60, false, false, false },
+			{ INSIDE, { 440, 0, 200, 60 } }, "no sum overflows" },
+		{ { { INT32_MIN, INT32_MAX, INT32_MAX, INT32_MAX }, { 1, 2, INT32_MIN, 4 }, true, 200, 60, false, false, true },
+			{ INSIDE, { -200, 1 << 20, 200, 60 } }, "nor here" },
+	};
+	for (size_t at = 0; at < sizeof table / sizeof *table; at++) {
+		struct wanted found = popup_want(&table[at].asked);
+		if (found.way != table[at].wanted.way || memcmp(&found.box, &table[at].wanted.box, sizeof found.box) != 0) {
+			failed = 1;
+			printf("%s: %d (%d, %d, %d, %d)\n", table[at].what, found.way, found.box.x, found.box.y, found.box.width,
+				found.box.height);
+		}
+	}
+}
+
+/* Messages of some tokens each come whole, with theirs, however much is written at once; a token is used till then. */
+static void wires(void)
 {
 	static struct wire from, to;
-	int sockets[2], sent = 0, came = 0;
 	struct message message;
-	HOLDS(socketpair(AF_UNIX, SOCK_STREAM | SOCK_NONBLOCK | SOCK_CLOEXEC, 0, sockets) == 0);
-	from.socket = sockets[0];
-	to.socket = sockets[1];
+	struct written next;
+	uint32_t sent = 0, came = 0, id = 1;
 	for (uint32_t at = 0; at < 60; at++) {
-		int files[3], count = at % 4 == 3 ? 0 : (int)at % 4 + 1;
-		for (int file = 0; file < count; file++)
-			files[file] = numbered_file(sent++);
+		uint32_t tokens[3], count = at % 4 == 3 ? 0 : at % 4 + 1;
+		for (uint32_t each = 0; each < count; each++) {
+			tokens[each] = token_make();
+			HOLDS(tokens[each] == ++sent);
+		}
 		const struct message *made = draft(at + 1, (uint16_t)count, "u", at);
-		wire_send(&from, made->bytes, made->size, files, (unsigned)count);
+		wire_send(&from, made->bytes, made->size, tokens, count);
 	}
-	uint32_t next = 1;
-	for (int tries = 0; tries < 100 && next <= 60; tries++) {
-		HOLDS(wire_flush(&from) && wire_read(&to) != READ_FLOOD);
+	while (wire_next(&from, &next)) {
+		uint32_t bytes = next.size > 5 ? 5 : (uint32_t)next.size;
+		HOLDS(next.count <= TOKENS_AT_ONCE);
+		for (unsigned each = 0; each < next.count; each++)
+			token_keep(next.tokens[each]);
+		HOLDS(wire_keep(&to, next.bytes, bytes, next.tokens, next.count));
+		wire_wrote(&from, bytes);
 		while (message_front(to.in + to.in_from, to.in_to - to.in_from, &message) == FRONT_WHOLE) {
-			int files[3];
-			struct stat state;
-			HOLDS(message.object == next++ && wire_take_files(&to, message.opcode, files));
-			for (int file = 0; file < message.opcode; file++) {
-				HOLDS(fstat(files[file], &state) == 0 && state.st_size == came++);
-				close(files[file]);
+			uint32_t tokens[3];
+			HOLDS(message.object == id++ && wire_take_tokens(&to, message.opcode, tokens));
+			for (int each = 0; each < message.opcode; each++) {
+				HOLDS(tokens[each] == ++came);
+				token_drop(tokens[each]);
 			}
 			to.in_from += message.size;
 		}
 	}
-	HOLDS(next == 61 && came == sent && wire_waiting(&from) == 0 && from.parcel_count == 0);
+	HOLDS(id == 61 && came == sent && wire_waiting(&from) == 0 && from.parcel_count == 0);
+	while (token_close() > 0)
+		;
+	HOLDS(tokens_used() == 0 && !wire_take_tokens(&to, 1, &id));
 	wire_close(&from);
-	HOLDS(wire_read(&to) == READ_END);
 	wire_close(&to);
 }
 
-/* Who doesn't read has a bounded queue. */
+/* Who doesn't take what it is sent has a bounded queue, of tokens too; and who sends tokens that no message takes. */
 static void bounds(void)
 {
-	static struct wire from;
+	static struct wire from, files, to;
 	static uint8_t bytes[4096];
-	int sockets[2];
-	HOLDS(socketpair(AF_UNIX, SOCK_STREAM | SOCK_NONBLOCK | SOCK_CLOEXEC, 0, sockets) == 0);
-	from.socket = sockets[0];
-	for (int at = 0; at < 1000; at++) {
+	uint32_t token;
+	for (int at = 0; at < 1000; at++)
 		wire_send(&from, bytes, sizeof bytes, NULL, 0);
-		HOLDS(wire_flush(&from));
-	}
 	HOLDS(from.full && wire_waiting(&from) <= WIRE_FULL);
-	close(sockets[1]);
-	HOLDS(!wire_flush(&from));
-	wire_close(&from);
+	for (int at = 0; at <= WIRE_TOKENS_OUT; at++) {
+		token = token_make();
+		HOLDS(!files.full);
+		wire_send(&files, bytes, 4, &token, 1);
+	}
+	HOLDS(files.full);
+	for (int at = 0; at < WIRE_TOKENS_IN; at++) {
+		token = token_make();
+		HOLDS(wire_keep(&to, bytes, 1, &token, 1));
+	}
+	token = token_make();
+	HOLDS(!wire_keep(&to, bytes, 1, &token, 1));
+	wire_close(&files);
+	wire_close(&to);
+	while (token_close() > 0)
+		;
+	HOLDS(tokens_used() == 0);
+	token = 0;
+	HOLDS(!wire_keep(&from, bytes, 1, &token, 1)); /* one that couldn't be kept */
 }
 
-/* Who takes nothing of what is read has a bounded buffer, and reads on where it took some. */
-static void reads_without_taking(void)
+/* Who takes nothing of what comes has a bounded buffer, and room again where it took some; none while it waits. */
+static void comes_without_taking(void)
 {
 	static struct wire to;
 	static uint8_t bytes[WIRE_READ];
-	int sockets[2];
-	HOLDS(socketpair(AF_UNIX, SOCK_STREAM | SOCK_NONBLOCK | SOCK_CLOEXEC, 0, sockets) == 0);
-	to.socket = sockets[0];
 	for (int at = 0; at < 8; at++) {
-		HOLDS(write(sockets[1], bytes, sizeof bytes) == sizeof bytes);
-		enum reading reading = wire_read(&to);
-		HOLDS(to.in_to <= sizeof to.in && reading == (at < 5 ? READ_SOME : READ_NOTHING));
-		if (to.in_to > sizeof to.in)
-			return;
+		size_t room = wire_room(&to);
+		HOLDS(room == (at < 5 ? WIRE_READ : 0) && wire_keep(&to, bytes, room, NULL, 0));
+		HOLDS(to.in_to <= sizeof to.in);
 	}
 	to.in_from = 100;
-	HOLDS(wire_read(&to) == READ_SOME && to.in_to == sizeof to.in);
-	close(sockets[1]);
-	wire_close(&to);
+	HOLDS(!wire_keep(&to, bytes, 101, NULL, 0) && wire_room(&to) == 100);
+	to.stands = WAITS;
+	HOLDS(wire_room(&to) == 0);
+	to.stands = PLAYS;
+	HOLDS(wire_keep(&to, bytes, 100, NULL, 0) && to.in_to == sizeof to.in);
 }
 
-/* What a keymap held when it came is what others get, whatever the sender does to its file; and they can't change it. */
+/* There are so many tokens, and one that is closed is made again. */
+static void all_tokens(void)
+{
+	uint32_t token = 0, count = 0;
+	while ((token = token_make()) > 0)
+		count++;
+	HOLDS(count == TOKENS_MAX - 1 && tokens_used() == count);
+	token_keep(7);
+	token_drop(7);
+	HOLDS(token_close() == 0);
+	token_drop(7);
+	HOLDS(token_make() == 0 && token_close() == 7 && token_close() == 0 && token_make() == 7);
+	for (token = 1; token < TOKENS_MAX; token++)
+		token_drop(token);
+	while (token_close() > 0)
+		;
+	HOLDS(tokens_used() == 0);
+}
+
+static struct effect asked;
+
+void ask_shell(struct effect effect)
+{
+	asked = effect;
+}
+
+/* The same text has the same number; the shell is asked once for a file of it, from bytes that stay. */
 static void keymaps(void)
 {
-	static const char text[] = "xkb_keymap {}", other[] = "xkb_keymap ()";
-	char found[sizeof text];
-	int file = memfd_create("keymap", MFD_CLOEXEC);
-	HOLDS(write(file, text, sizeof text) == sizeof text);
-	HOLDS(keymap_number(1, file, sizeof text + 1) == 0 && keymap_number(1, file, 0) == 0);
-	uint32_t number = keymap_number(1, file, sizeof text);
-	HOLDS(number > 0 && keymap_find(number)->size == sizeof text && strcmp(keymap_find(number)->text, text) == 0);
-	int given = keymap_file(number);
-	HOLDS(pwrite(given, other, sizeof other, 0) < 0 && ftruncate(given, 0) < 0 && ftruncate(given, 4096) < 0);
-	HOLDS(fcntl(given, F_ADD_SEALS, F_SEAL_WRITE) < 0);
-	HOLDS(mmap(NULL, sizeof text, PROT_READ | PROT_WRITE, MAP_SHARED, given, 0) == MAP_FAILED);
-	HOLDS(pwrite(file, other, sizeof other, 0) == sizeof other && ftruncate(file, 1) == 0);
-	HOLDS(read(given, found, sizeof found) == sizeof found && strcmp(found, text) == 0);
-	for (int flags = MAP_SHARED; flags <= MAP_PRIVATE; flags++) {
-		char *mapped = mmap(NULL, sizeof text, PROT_READ, flags, given, 0);
-		HOLDS(mapped != MAP_FAILED && strcmp(mapped, text) == 0);
-		munmap(mapped, sizeof text);
-	}
-	close(given);
-	close(file);
-	file = memfd_create("keymap", MFD_CLOEXEC);
-	HOLDS(write(file, text, sizeof text) == sizeof text && keymap_number(1, file, sizeof text) == number);
-	close(file);
+	static const uint8_t text[] = "xkb_keymap {}", other[] = "xkb_keymap ()";
+	HOLDS(keymap_number(1, NULL, sizeof text) == 0);
+	uint32_t number = keymap_number(1, text, sizeof text), token = asked.token;
+	HOLDS(number > 0 && keymap_find(number)->size == sizeof text);
+	HOLDS(memcmp(keymap_find(number)->text, text, sizeof text) == 0);
+	HOLDS(asked.kind == EFFECT_FILE && token > 0 && asked.size == sizeof text && asked.bytes == keymap_find(number)->text);
+	asked.token = 0;
+	HOLDS(keymap_number(1, text, sizeof text) == number && asked.token == 0 && keymap_token(number) == token);
+	HOLDS(keymap_number(1, other, sizeof other) > number && asked.token > 0 && asked.token != token);
+	HOLDS(keymap_number(2, text, sizeof text) > number && keymap_token(0) == 0 && !keymap_find(0));
+	token_drop(token);
+	keymaps_end();
+	while (token_close() > 0)
+		;
+	HOLDS(tokens_used() == 0);
 }
 
 int main(void)
@@ -229,9 +381,14 @@ int main(void)
 	drafts();
 	tables();
 	ids();
-	descriptors();
+	far_ids();
+	translated();
+	private_ids();
+	places();
+	wires();
 	bounds();
-	reads_without_taking();
+	comes_without_taking();
+	all_tokens();
 	keymaps();
 	printf("the gateway's parts: %s\n", failed ? "not as they should be" : "ok");
 	return failed;

@@ -1,0 +1,220 @@
+/* The machine's calls, by links: each sets the moment, and is written down where somebody listens. */
+#include "gateway.h"
+#include <inttypes.h>
+
+enum {
+	ASKED_MAX = 8192, /* each side of a link waits for one thing at a time, and ends once */
+	CALLS_PIECE = 4096, /* bytes that are spelled at once */
+};
+
+struct gateway gateway;
+
+static struct {
+	struct client *links[LINKS_MAX + 1];
+	bool held[LINKS_MAX + 1]; /* the shell hasn't closed it yet */
+	struct effect asked[ASKED_MAX]; /* a ring */
+	unsigned first, count;
+} core;
+
+/* A line of the calls. */
+#define CALLED(format, ...) (void)(outlets[OUT_CALLS] && (out(OUT_CALLS, format "\n", ##__VA_ARGS__), 1))
+
+static void called_with(const char *call, unsigned link, enum side side, const uint8_t *bytes, size_t size,
+	const uint32_t *tokens, size_t count) {
+	if (!outlets[OUT_CALLS])
+		return;
+	out(OUT_CALLS, "%" PRIu64 " %s %u %d %zu %zu ", gateway.moment, call, link, side, size, count);
+	for (size_t at = 0, part; at < size; at += part) {
+		part = size - at < CALLS_PIECE ? size - at : CALLS_PIECE;
+		out(OUT_CALLS, "%s", spell(bytes + at, part));
+	}
+	for (size_t at = 0; at < count; at++)
+		out(OUT_CALLS, " %u", tokens[at]);
+	out(OUT_CALLS, "\n");
+}
+
+/* The client of a link whose call comes at a moment; NULL: it ended. */
+static struct client *at(uint64_t moment, unsigned link) {
+	gateway.moment = moment > gateway.moment ? moment : gateway.moment;
+	return link <= LINKS_MAX ? core.links[link] : NULL;
+}
+
+void ask_shell(struct effect effect) {
+	if (core.count < ASKED_MAX)
+		core.asked[(core.first + core.count++) % ASKED_MAX] = effect;
+}
+
+bool core_effect(struct effect *effect) {
+	*effect = (struct effect){ .kind = EFFECT_CLOSE, .token = token_close() };
+	if (effect->token == 0 && core.count == 0)
+		return false;
+	if (effect->token == 0) {
+		*effect = core.asked[core.first++ % ASKED_MAX];
+		core.count--;
+		if (effect->kind == EFFECT_END)
+			core.held[effect->link] = false;
+	}
+	CALLED("effect %d %u %u", effect->kind, effect->link, effect->token);
+	return true;
+}
+
+bool core_open(uint64_t moment, unsigned long entries) {
+	gateway.moment = moment;
+	gateway.entries = entries;
+	CALLED("%" PRIu64 " open %lu", moment, entries);
+	return broker_open();
+}
+
+void core_close(void) {
+	CALLED("close");
+	keymaps_end();
+	token_drop(gateway.clear);
+	gateway.clear = 0;
+	broker_close();
+}
+
+unsigned core_join(uint64_t moment, enum role role) {
+	unsigned link = 1;
+	at(moment, 0);
+	while (link <= LINKS_MAX && core.held[link])
+		link++;
+	struct client *client = link <= LINKS_MAX ? client_open(role) : NULL;
+	CALLED("%" PRIu64 " join %d", gateway.moment, role);
+	if (!client)
+		return out(OUT_PROBLEMS, "a client isn't let in: there are too many, or no memory\n"), 0;
+	client->link = link;
+	core.links[link] = client;
+	core.held[link] = true;
+	return link;
+}
+
+size_t core_room(unsigned link, enum side side) {
+	struct client *client = core.links[link];
+	return client && !client->ending ? wire_room(wire_of(client, side)) : 0;
+}
+
+uint32_t core_token(void) {
+	CALLED("token");
+	return token_make();
+}
+
+void core_receive(uint64_t moment, unsigned link, enum side side, const uint8_t *bytes, size_t size,
+		const uint32_t *tokens, size_t count) {
+	struct client *client = at(moment, link);
+	called_with("receive", link, side, bytes, size, tokens, count);
+	if (client && !client->ending) {
+		if (!wire_keep(wire_of(client, side), bytes, size, tokens, count))
+			client_refuse(client, DISPLAY, ERROR_METHOD, "too many descriptors wait for their messages");
+		return client_play(client, side);
+	}
+	for (size_t each = 0; each < count; each++)
+		token_drop(tokens[each]);
+}
+
+void core_hung_up(uint64_t moment, unsigned link, enum side side, const char *why) {
+	struct client *client = at(moment, link);
+	CALLED("%" PRIu64 " hung_up %u %d %s", gateway.moment, link, side, why ? why : "");
+	if (client && (why || side == FAR))
+		client_end(client, why ? why : "the compositor closed its connection");
+	else if (client)
+		client->ending = true;
+}
+
+/* The first message, which waited, is played, and those after it. */
+static void answered(struct client *client, enum side side) {
+	struct wire *wire = client ? wire_of(client, side) : NULL;
+	if (!wire || wire->stands != WAITS)
+		return;
+	wire->stands = ANSWERED;
+	client_play(client, side);
+}
+
+void core_go_on(uint64_t moment, unsigned link, enum side side) {
+	struct client *client = at(moment, link);
+	CALLED("%" PRIu64 " go_on %u %d", gateway.moment, link, side);
+	answered(client, side);
+}
+
+void core_text(uint64_t moment, unsigned link, enum side side, const uint8_t *bytes, size_t size) {
+	struct client *client = at(moment, link);
+	called_with(bytes ? "text" : "no_text", link, side, bytes, bytes ? size : 0, NULL, 0);
+	if (client)
+		client->text = bytes;
+	answered(client, side);
+}
+
+void core_copied(uint64_t moment, uint32_t token, bool is_whole, bool is_short) {
+	at(moment, 0);
+	CALLED("%" PRIu64 " copied %u %d %d", gateway.moment, token, is_whole, is_short);
+	popups_copied(token, is_whole, is_short);
+}
+
+void core_round(uint64_t moment) {
+	at(moment, 0);
+	CALLED("%" PRIu64 " round", gateway.moment);
+	if (broker_renewal() == 0)
+		renew();
+	popups_round();
+}
+
+bool core_sweep(uint64_t moment) {
+	bool ended = false;
+	at(moment, 0);
+	CALLED("%" PRIu64 " sweep", gateway.moment);
+	for (struct client **place = &gateway.clients, *client; (client = *place); ) {
+		if (client->far.full)
+			client_end(client, "the compositor takes no more of it");
+		if (client->near.full)
+			client_end(client, "it doesn't read");
+		if (!client->ending) {
+			place = &client->next;
+			continue;
+		}
+		*place = client->next;
+		core.links[client->link] = NULL;
+		ask_shell((struct effect){ .kind = EFFECT_END, .link = client->link });
+		client_close(client);
+		ended = true;
+	}
+	return ended;
+}
+
+void core_end(void) {
+	CALLED("end");
+	for (struct client *client = gateway.clients; client; client = client->next)
+		client->ending = true;
+}
+
+int core_wait(uint64_t moment) {
+	at(moment, 0);
+	int renewal = broker_renewal(), popups = popups_wait();
+	return renewal < 0 || (popups >= 0 && popups < renewal) ? popups : renewal;
+}
+
+const char *core_failed(void) {
+	return gateway.failed;
+}
+
+bool core_next(unsigned link, enum side side, struct written *next) {
+	struct client *client = core.links[link];
+	return client && wire_next(wire_of(client, side), next);
+}
+
+void core_wrote(unsigned link, enum side side, size_t size) {
+	struct wire *wire = wire_of(core.links[link], side);
+	uint32_t sum = 0;
+	for (size_t byte = 0; outlets[OUT_CALLS] && byte < size; byte++)
+		sum = sum * 16777619 + wire->out[wire->out_from + byte] + 1;
+	CALLED("wrote %u %d %zu %u", link, side, size, sum);
+	wire_wrote(wire, size);
+}
+
+bool core_writes(unsigned link, enum side side) {
+	struct client *client = core.links[link];
+	return client && wire_waiting(wire_of(client, side)) > 0;
+}
+
+bool core_is_slow(unsigned link, enum side side) {
+	struct client *client = core.links[link];
+	return client && wire_waiting(wire_of(client, side)) >= WIRE_SLOW;
+}
