@@ -3,6 +3,7 @@ import os
 import signal
 import socket
 import subprocess
+import time
 
 from pinyin_desk import FCITX5, Programs, keys_of, until
 
@@ -15,7 +16,7 @@ class Desk(Programs):
 
     def __init__(self, built, work, shell="desktop", scale=1, outputs=1, methods="started", method=FCITX5, modules=None):
         super().__init__(work)
-        self.built, self.lines, self.label = built, b"", None
+        self.built, self.lines, self.loaded = built, b"", False
         self.start_bus()
         path = ""
         if method:
@@ -31,13 +32,15 @@ class Desk(Programs):
                         ASAN_OPTIONS="detect_leaks=0:abort_on_error=0", UBSAN_OPTIONS="print_stacktrace=1:halt_on_error=1")
         self.weston = self.start(
             "env", *([f"LD_PRELOAD={os.environ['WESTON_PRELOAD']}"] if os.environ.get("WESTON_PRELOAD") else []),
-            "weston", "--backend=headless-backend.so", "--use-pixman", f"--width={800 * scale}", f"--height={600 * scale}",
+            "weston", "--backend=headless-backend.so", "--use-pixman", "--width=800", "--height=600",
             f"--scale={scale}", f"--shell={shell}-shell.so", f"--modules={modules}", "--socket=screen",
             f"--config={self.path('weston.ini')}")
-        until("Weston", lambda: os.path.exists(self.path("drive")) or self.weston.poll() is not None)
         self.env["WAYLAND_DISPLAY"] = "screen"
+        until("the driver", self.connected)
+
+    def connected(self):
         self.link = socket.socket(socket.AF_UNIX)
-        self.link.connect(self.path("drive"))
+        return self.link.connect_ex(self.path("drive")) == 0
 
     def ask(self, line):
         self.link.sendall(line.encode() + b"\n")
@@ -97,6 +100,7 @@ class Desk(Programs):
         """Waits till the method grabs the keyboard for it, as at each focus: what goes to its last grab is lost."""
         if self.focused == name:
             return
+        self.ask("unfocus")
         had = self.grabs()
         if self.ask(f"focus {name}") != "ok":
             raise AssertionError(f"there is no window {name}: {self.windows()}")
@@ -111,7 +115,7 @@ class Desk(Programs):
     def shot(self, name, output=0):
         """What is shown, as a PPM in the folder of shots, if there is one."""
         to = os.environ.get("WESTON_SHOTS")
-        until("frames", lambda: True)
+        time.sleep(0.2)
         if to:
             self.ask(f"shot {to}/{name}.ppm {output}")
 
@@ -134,9 +138,23 @@ class Desk(Programs):
     def starts(self):
         return self.read("starts").count("start")
 
-    def ready(self):
-        """fcitx5 has loaded pinyin once a field is focused; before, it gives all keys back."""
-        until("pinyin", lambda: "addon pinyin" in self.read("method.log"), 40)
+    def ready(self, name):
+        """fcitx5 loads pinyin once a field is focused; before, it gives all keys back."""
+        def composes():
+            self.type("n")
+            for _ in range(20):
+                if self.popups():
+                    return True
+                time.sleep(0.05)
+            self.focused = None
+            self.focus(name)
+            return False
+        until("fcitx5 starts", lambda: self.read("method.log").count("addon pinyin") >= self.starts() > 0, 40)
+        self.focused = None
+        self.focus(name)
+        until("fcitx5 composes", composes, 40)
+        self.type("\x1b")
+        self.no_popup()
 
     def typed(self, name, keys, wanted, seconds=20):
         """Keys into a window, one after another, and what came."""

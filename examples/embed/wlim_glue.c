@@ -90,8 +90,7 @@ static uint32_t number_of(const struct wlim_glue_keyboard *keyboard)
 
 static bool same_modifiers(const struct wlim_glue_keyboard *a, const struct wlim_glue_keyboard *b)
 {
-	return a->depressed == b->depressed && a->latched == b->latched && a->locked == b->locked &&
-		a->group == b->group;
+	return a->depressed == b->depressed && a->latched == b->latched && a->locked == b->locked && a->group == b->group;
 }
 
 /* The focused clients read keys by this keyboard from now on. */
@@ -109,8 +108,7 @@ static struct object *object_of(struct wlim_glue *glue, int64_t label)
 	return (void *)(uintptr_t)wlim_number(glue->seat, (uint32_t)label);
 }
 
-static void tell_field(struct wlim_glue *glue, struct object *field,
-	const struct wlim_event *event, const char *text)
+static void tell_field(struct wlim_glue *glue, struct object *field, const struct wlim_event *event, const char *text)
 {
 	struct wl_resource *to = field->resource;
 	struct object *surface;
@@ -123,13 +121,9 @@ static void tell_field(struct wlim_glue *glue, struct object *field,
 		if ((surface = object_of(glue, event->first)))
 			zwp_text_input_v3_send_leave(to, surface->resource);
 		break;
-	case WLIM_PREEDIT:
-		zwp_text_input_v3_send_preedit_string(to, text, event->first, event->second);
-		break;
+	case WLIM_PREEDIT: zwp_text_input_v3_send_preedit_string(to, text, event->first, event->second); break;
 	case WLIM_COMMIT_STRING: zwp_text_input_v3_send_commit_string(to, text); break;
-	case WLIM_DELETE:
-		zwp_text_input_v3_send_delete_surrounding_text(to, event->first, event->second);
-		break;
+	case WLIM_DELETE: zwp_text_input_v3_send_delete_surrounding_text(to, event->first, event->second); break;
 	case WLIM_FIELD_DONE: zwp_text_input_v3_send_done(to, field->before + event->first); break;
 	}
 }
@@ -140,15 +134,9 @@ static void tell_method(struct object *method, const struct wlim_event *event, c
 	switch (event->kind) {
 	case WLIM_ACTIVATE: zwp_input_method_v2_send_activate(to); break;
 	case WLIM_DEACTIVATE: zwp_input_method_v2_send_deactivate(to); break;
-	case WLIM_SURROUNDING:
-		zwp_input_method_v2_send_surrounding_text(to, text, event->first, event->second);
-		break;
-	case WLIM_CHANGE_CAUSE:
-		zwp_input_method_v2_send_text_change_cause(to, event->first);
-		break;
-	case WLIM_CONTENT_TYPE:
-		zwp_input_method_v2_send_content_type(to, event->first, event->second);
-		break;
+	case WLIM_SURROUNDING: zwp_input_method_v2_send_surrounding_text(to, text, event->first, event->second); break;
+	case WLIM_CHANGE_CAUSE: zwp_input_method_v2_send_text_change_cause(to, event->first); break;
+	case WLIM_CONTENT_TYPE: zwp_input_method_v2_send_content_type(to, event->first, event->second); break;
 	case WLIM_METHOD_DONE:
 		method->count++;
 		zwp_input_method_v2_send_done(to);
@@ -160,8 +148,7 @@ static void tell_method(struct object *method, const struct wlim_event *event, c
 	}
 }
 
-static void tell_grab(struct wlim_glue *glue, struct wl_resource *to,
-	const struct wlim_event *event)
+static void tell_grab(struct wlim_glue *glue, struct wl_resource *to, const struct wlim_event *event)
 {
 	int file;
 	switch (event->kind) {
@@ -181,9 +168,7 @@ static void tell_grab(struct wlim_glue *glue, struct wl_resource *to,
 		zwp_input_method_keyboard_grab_v2_send_modifiers(to, wl_display_next_serial(glue->display),
 			event->second, event->third, event->fourth, event->group);
 		break;
-	case WLIM_REPEAT:
-		zwp_input_method_keyboard_grab_v2_send_repeat_info(to, event->first, event->second);
-		break;
+	case WLIM_REPEAT: zwp_input_method_keyboard_grab_v2_send_repeat_info(to, event->first, event->second); break;
 	}
 }
 
@@ -211,8 +196,7 @@ static void tell_shell(struct wlim_glue *glue, const struct wlim_event *event)
 		if (!popup || !popup->surface || !glue->hooks->placed)
 			break;
 		popup->is_shown = true;
-		glue->hooks->placed(glue->data, popup->surface, glue->screen[0] + event->second,
-			glue->screen[1] + event->third);
+		glue->hooks->placed(glue->data, popup->surface, glue->screen[0] + event->second, glue->screen[1] + event->third);
 		break;
 #if WLIM_VERSION >= 2
 	case WLIM_HIDDEN:
@@ -373,9 +357,7 @@ static void label(struct object *object, int64_t answer)
 static struct wl_client *serving(struct wlim_glue *glue)
 {
 	struct wlim_shown shown;
-	struct object *method = NULL;
-	if (wlim_look(glue->seat, &shown) && shown.serving)
-		method = object_of(glue, shown.serving);
+	struct object *method = wlim_look(glue->seat, &shown) ? object_of(glue, shown.serving) : NULL;
 	return method ? method->client : NULL;
 }
 
@@ -450,10 +432,8 @@ static bool has_no_place(struct wlim_glue *glue, struct wl_client *client)
 	return all >= most - most / 8 || own >= (most < 16 ? most : most / 4);
 }
 
-/*
- * The label of a client that sent a request, which counts from now on; 0 where it is one too many or
- * there is no memory. Where a surface of it has the focus already, the seat hears so.
- */
+/* The label of a client that sent a request, which counts from now on; 0 where it is one too many or there is no
+ * memory. Where a surface of it has the focus already, the seat hears so. */
 static uint32_t client_label(struct wlim_glue *glue, struct wl_client *client, bool trusted)
 {
 	struct object *object = client_object(client);
@@ -506,8 +486,7 @@ static struct object *surface_object(struct wlim_glue *glue, struct wl_resource 
 static int64_t tell_area(struct wlim *to, const struct object *surface, uint32_t label)
 {
 	const int32_t *is = surface->area, *origin = surface->glue->screen;
-	return surface->has_area ?
-		wlim_area(to, label, is[0] - origin[0], is[1] - origin[1], is[2], is[3]) : 0;
+	return surface->has_area ? wlim_area(to, label, is[0] - origin[0], is[1] - origin[1], is[2], is[3]) : 0;
 }
 
 static bool area_is_told(struct object *surface)
@@ -517,18 +496,17 @@ static bool area_is_told(struct object *surface)
 	return !surface->label || surface->told_area;
 }
 
-/* The seat hears of a surface when it first has to. Its label; 0 where its client doesn't count or
- * it is one too many; WLIM_NO_MEMORY. */
+/* Has the seat hear of a surface: its label, 0 where its client doesn't count or it is one too many, WLIM_NO_MEMORY. */
 static int64_t hear(struct object *surface)
 {
 	struct object *client = client_object(surface->client);
-	int64_t answer = 0;
-	if (!surface->label && client)
+	int64_t answer = surface->label;
+	if (!client)
+		return 0;
+	if (!answer)
 		answer = wlim_surface(surface->glue->seat, client->label, (uintptr_t)surface);
-	if (answer > 0)
-		surface->label = (uint32_t)answer;
-	return answer == WLIM_NO_MEMORY || !area_is_told(surface) ? WLIM_NO_MEMORY :
-		(int64_t)surface->label;
+	surface->label = answer > 0 ? (uint32_t)answer : 0;
+	return area_is_told(surface) && answer != WLIM_NO_MEMORY ? surface->label : (int64_t)WLIM_NO_MEMORY;
 }
 
 static void on_resource_destroy(struct wl_resource *resource)
@@ -575,21 +553,15 @@ static bool is_ours(struct wlim_glue *glue, struct wl_resource *seat)
 
 static void field_enable(struct wl_client *client, struct wl_resource *resource)
 { REQUEST(enable); }
-
 static void field_disable(struct wl_client *client, struct wl_resource *resource)
 { REQUEST(disable); }
-
 static void field_surround(struct wl_client *client, struct wl_resource *resource, const char *text,
 	int32_t cursor, int32_t anchor)
 { REQUEST(surround, text, strlen(text), cursor, anchor); }
-
 static void field_cause(struct wl_client *client, struct wl_resource *resource, uint32_t cause)
 { REQUEST(cause, cause); }
-
-static void field_content(struct wl_client *client, struct wl_resource *resource, uint32_t hint,
-	uint32_t purpose)
+static void field_content(struct wl_client *client, struct wl_resource *resource, uint32_t hint, uint32_t purpose)
 { REQUEST(content, hint, purpose); }
-
 static void field_rect(struct wl_client *client, struct wl_resource *resource, int32_t x, int32_t y,
 	int32_t width, int32_t height)
 { REQUEST(rect, x, y, width, height); }
@@ -612,13 +584,11 @@ static const struct zwp_text_input_v3_interface field_requests = {
 	.commit = field_commit,
 };
 
-static void get_field(struct wl_client *client, struct wl_resource *manager, uint32_t id,
-	struct wl_resource *seat)
+static void get_field(struct wl_client *client, struct wl_resource *manager, uint32_t id, struct wl_resource *seat)
 {
 	struct object *from = wl_resource_get_user_data(manager);
 	struct wlim_glue *glue = from->glue;
-	struct object *field = resource_new(glue, FIELD, client, id, &zwp_text_input_v3_interface,
-		&field_requests);
+	struct object *field = resource_new(glue, FIELD, client, id, &zwp_text_input_v3_interface, &field_requests);
 	if (field && is_ours(glue, seat))
 		label(field, wlim_field(glue->seat, client_label(glue, client, false), (uintptr_t)field));
 }
@@ -627,22 +597,16 @@ static void get_field(struct wl_client *client, struct wl_resource *manager, uin
 
 static void method_string(struct wl_client *client, struct wl_resource *resource, const char *text)
 { REQUEST(mstring, text, strlen(text)); }
-
 static void method_preedit(struct wl_client *client, struct wl_resource *resource, const char *text,
 	int32_t begin, int32_t end)
 { REQUEST(mpreedit, text, strlen(text), begin, end); }
-
-static void method_delete(struct wl_client *client, struct wl_resource *resource, uint32_t before,
-	uint32_t after)
+static void method_delete(struct wl_client *client, struct wl_resource *resource, uint32_t before, uint32_t after)
 { REQUEST(mdelete, before, after); }
-
 static void method_commit(struct wl_client *client, struct wl_resource *resource, uint32_t serial)
 { REQUEST(mcommit, serial - object->before); }
 
 static const struct zwp_input_popup_surface_v2_interface popup_requests = { .destroy = destroy };
-static const struct zwp_input_method_keyboard_grab_v2_interface grab_requests = {
-	.release = destroy,
-};
+static const struct zwp_input_method_keyboard_grab_v2_interface grab_requests = { .release = destroy };
 
 static void on_popup_surface_destroy(struct wl_listener *listener, void *data)
 {
@@ -697,13 +661,11 @@ static const struct zwp_input_method_v2_interface method_requests = {
 	.destroy = destroy,
 };
 
-static void get_method(struct wl_client *client, struct wl_resource *manager,
-	struct wl_resource *seat, uint32_t id)
+static void get_method(struct wl_client *client, struct wl_resource *manager, struct wl_resource *seat, uint32_t id)
 {
 	struct object *from = wl_resource_get_user_data(manager);
 	struct wlim_glue *glue = from->glue;
-	struct object *method = resource_new(glue, METHOD, client, id, &zwp_input_method_v2_interface,
-		&method_requests);
+	struct object *method = resource_new(glue, METHOD, client, id, &zwp_input_method_v2_interface, &method_requests);
 	if (!method)
 		return;
 	uint32_t peer = from->trusted && is_ours(glue, seat) ? client_label(glue, client, true) : 0;
@@ -716,8 +678,7 @@ static void get_method(struct wl_client *client, struct wl_resource *manager,
 /* ---- zwp_virtual_keyboard_v1 ---- */
 
 /* The keymap of a file, one for all that are equal; NULL: it can't be read, or there are too many. */
-static const struct wlim_glue_keymap *keymap_read(struct wlim_glue *glue, uint32_t format, int file,
-	uint32_t size)
+static const struct wlim_glue_keymap *keymap_read(struct wlim_glue *glue, uint32_t format, int file, uint32_t size)
 {
 	struct kept *kept, *same = NULL;
 	struct statfs on;
@@ -729,8 +690,7 @@ static const struct wlim_glue_keymap *keymap_read(struct wlim_glue *glue, uint32
 		if (read && kept->keymap.format == format && kept->keymap.size == size &&
 				memcmp(kept->keymap.text, text, size) == 0)
 			same = kept;
-	if (read && !same && wl_list_length(&glue->keymaps) < KEYMAPS_MOST &&
-			(same = calloc(1, sizeof *same))) {
+	if (read && !same && wl_list_length(&glue->keymaps) < KEYMAPS_MOST && (same = calloc(1, sizeof *same))) {
 		same->keymap = (struct wlim_glue_keymap){ ++glue->last_keymap, format, size, text };
 		wl_list_insert(&glue->keymaps, &same->link);
 		text = NULL;
@@ -746,8 +706,7 @@ static void board_keymap(struct wl_client *client, struct wl_resource *resource,
 {
 	struct object *board = wl_resource_get_user_data(resource);
 	struct wlim_glue *glue = board->glue;
-	const struct wlim_glue_keymap *now =
-		board->label ? keymap_read(glue, format, file, size) : NULL;
+	const struct wlim_glue_keymap *now = board->label ? keymap_read(glue, format, file, size) : NULL;
 	if (now) {
 		keymap_drop(board->keyboard.keymap);
 		board->keyboard.keymap = now;
@@ -761,8 +720,7 @@ static void board_keymap(struct wl_client *client, struct wl_resource *resource,
 static bool board_sends(struct object *board)
 {
 	if (board->label && !board->keyboard.keymap)
-		wl_resource_post_error(board->resource, ZWP_VIRTUAL_KEYBOARD_V1_ERROR_NO_KEYMAP,
-			"no keymap");
+		wl_resource_post_error(board->resource, ZWP_VIRTUAL_KEYBOARD_V1_ERROR_NO_KEYMAP, "no keymap");
 	board->glue->from = &board->keyboard;
 	return board->label && board->keyboard.keymap;
 }
@@ -803,8 +761,7 @@ static void board_releases(struct object *board)
 	struct wlim_glue *glue = board->glue;
 	glue->from = &board->keyboard;
 	while (board->keys.count)
-		ACT(glue, NULL, wlim_vkey(glue->seat, board->label, board->time,
-			board->keys.down[--board->keys.count], 0));
+		ACT(glue, NULL, wlim_vkey(glue->seat, board->label, board->time, board->keys.down[--board->keys.count], 0));
 }
 
 static void board_modifiers(struct wl_client *client, struct wl_resource *resource,
@@ -813,10 +770,8 @@ static void board_modifiers(struct wl_client *client, struct wl_resource *resour
 	struct object *board = wl_resource_get_user_data(resource);
 	if (!board_sends(board))
 		return;
-	board->keyboard = (struct wlim_glue_keyboard){ board->keyboard.keymap, depressed, latched,
-		locked, group };
-	ACT(board->glue, client, wlim_vmods(board->glue->seat, board->label, depressed, latched,
-		locked, group));
+	board->keyboard = (struct wlim_glue_keyboard){ board->keyboard.keymap, depressed, latched, locked, group };
+	ACT(board->glue, client, wlim_vmods(board->glue->seat, board->label, depressed, latched, locked, group));
 }
 
 static void on_board_destroy(struct wl_resource *resource)
@@ -835,18 +790,15 @@ static const struct zwp_virtual_keyboard_v1_interface board_requests = {
 	.destroy = destroy,
 };
 
-static void create_board(struct wl_client *client, struct wl_resource *manager,
-	struct wl_resource *seat, uint32_t id)
+static void create_board(struct wl_client *client, struct wl_resource *manager, struct wl_resource *seat, uint32_t id)
 {
 	struct object *from = wl_resource_get_user_data(manager);
 	struct wlim_glue *glue = from->glue;
 	if (!from->trusted) {
-		wl_resource_post_error(manager, ZWP_VIRTUAL_KEYBOARD_MANAGER_V1_ERROR_UNAUTHORIZED,
-			"it isn't trusted");
+		wl_resource_post_error(manager, ZWP_VIRTUAL_KEYBOARD_MANAGER_V1_ERROR_UNAUTHORIZED, "it isn't trusted");
 		return;
 	}
-	struct object *board = resource_new(glue, BOARD, client, id, &zwp_virtual_keyboard_v1_interface,
-		&board_requests);
+	struct object *board = resource_new(glue, BOARD, client, id, &zwp_virtual_keyboard_v1_interface, &board_requests);
 	if (!board)
 		return;
 	wl_resource_set_destructor(board->resource, on_board_destroy);
@@ -857,12 +809,10 @@ static void create_board(struct wl_client *client, struct wl_resource *manager,
 /* ---- Globals ---- */
 
 static const struct zwp_text_input_manager_v3_interface fields_requests = {
-	.destroy = destroy,
-	.get_text_input = get_field,
+	.destroy = destroy, .get_text_input = get_field,
 };
 static const struct zwp_input_method_manager_v2_interface methods_requests = {
-	.get_input_method = get_method,
-	.destroy = destroy,
+	.get_input_method = get_method, .destroy = destroy,
 };
 static const struct zwp_virtual_keyboard_manager_v1_interface boards_requests = {
 	.create_virtual_keyboard = create_board,
@@ -913,8 +863,7 @@ static int64_t make_again(struct wlim *to, struct object *object, uint32_t stand
 	case FIELD: return wlim_field(to, client, number);
 	case METHOD: return object->unavailable ? 0 : wlim_method(to, client, number);
 	case POPUP:
-		return wlim_popup(to, next_of(glue, object->method), next_of(glue, object->popup_surface),
-			number);
+		return wlim_popup(to, next_of(glue, object->method), next_of(glue, object->popup_surface), number);
 	case GRAB:
 		return object->label == standing ? wlim_grab(to, next_of(glue, object->method), number) : 0;
 	case BOARD: return wlim_vboard(to, client, number);
@@ -1023,8 +972,7 @@ bool wlim_glue_keys(struct wlim_glue *glue, uint32_t time, const uint32_t *keys,
 	return taken;
 }
 
-bool wlim_glue_modifiers(struct wlim_glue *glue, uint32_t depressed, uint32_t latched,
-	uint32_t locked, uint32_t group)
+bool wlim_glue_modifiers(struct wlim_glue *glue, uint32_t depressed, uint32_t latched, uint32_t locked, uint32_t group)
 {
 	const struct wlim_glue_keyboard had = glue->own;
 	const struct wlim_glue_keyboard now = { had.keymap, depressed, latched, locked, group };
@@ -1095,8 +1043,7 @@ bool wlim_glue_area(struct wlim_glue *glue, struct wl_resource *resource, int32_
 	return surface->told_area || ACT(glue, NULL, area_is_told(surface));
 }
 
-bool wlim_glue_popup_size(struct wlim_glue *glue, struct wl_resource *surface, int32_t width,
-	int32_t height)
+bool wlim_glue_popup_size(struct wlim_glue *glue, struct wl_resource *surface, int32_t width, int32_t height)
 {
 	return wlim_glue_area(glue, surface, 0, 0, width, height);
 }
@@ -1128,8 +1075,7 @@ bool wlim_glue_is_for_methods(const struct wlim_glue *glue, const struct wl_glob
 	return global == glue->methods || global == glue->boards_global;
 }
 
-struct wlim_glue *wlim_glue_create(struct wl_display *display, const struct wlim_glue_hooks *hooks,
-	void *data)
+struct wlim_glue *wlim_glue_create(struct wl_display *display, const struct wlim_glue_hooks *hooks, void *data)
 {
 	return wlim_glue_create_with(display, hooks, data, 64, 256);
 }
@@ -1140,23 +1086,15 @@ struct wlim_glue *wlim_glue_create_with(struct wl_display *display,
 	struct wlim_glue *glue = calloc(1, sizeof *glue);
 	if (!glue)
 		return NULL;
-	glue->display = display;
-	glue->hooks = hooks;
-	glue->data = data;
-	glue->clients_most = clients;
-	glue->objects_most = objects;
+	*glue = (struct wlim_glue){ .seat = &glue->seats[0], .display = display, .hooks = hooks, .data = data,
+		.clients_most = clients, .objects_most = objects };
 	wl_list_init(&glue->objects);
-	glue->seat = &glue->seats[0];
 	wl_list_init(&glue->owed);
 	wl_list_init(&glue->keymaps);
-	glue->fields = wl_global_create(display, &zwp_text_input_manager_v3_interface, 1, glue,
-		bind_fields);
-	glue->methods = wl_global_create(display, &zwp_input_method_manager_v2_interface, 1, glue,
-		bind_methods);
-	glue->boards_global = wl_global_create(display, &zwp_virtual_keyboard_manager_v1_interface, 1,
-		glue, bind_boards);
-	if (wlim_open_with(glue->seat, clients, objects) && glue->fields && glue->methods &&
-			glue->boards_global)
+	glue->fields = wl_global_create(display, &zwp_text_input_manager_v3_interface, 1, glue, bind_fields);
+	glue->methods = wl_global_create(display, &zwp_input_method_manager_v2_interface, 1, glue, bind_methods);
+	glue->boards_global = wl_global_create(display, &zwp_virtual_keyboard_manager_v1_interface, 1, glue, bind_boards);
+	if (wlim_open_with(glue->seat, clients, objects) && glue->fields && glue->methods && glue->boards_global)
 		return glue;
 	wlim_glue_destroy(glue);
 	return NULL;

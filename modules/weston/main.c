@@ -67,10 +67,8 @@ static void on_method_ended(struct wl_listener *listener, void *data)
 	(void)listener, (void)data;
 	method.client = NULL;
 	weston_compositor_get_time(&now);
-	if (now.tv_sec - method.since.tv_sec > STARTS_WITHIN) {
-		method.since = now;
+	if (now.tv_sec - method.since.tv_sec > STARTS_WITHIN)
 		method.starts = 0;
-	}
 	if (method.starts < STARTS_MOST)
 		method_start();
 	else
@@ -81,7 +79,8 @@ static void method_start(void)
 {
 	if (!method.path || !*method.path || method.client)
 		return;
-	method.starts++;
+	if (method.starts++ == 0)
+		weston_compositor_get_time(&method.since);
 	method.client = weston_client_start(plugin.compositor, method.path);
 	if (!method.client)
 		return;
