@@ -194,11 +194,15 @@ def candidates_are_clicked(desk):
     time.sleep(0.3)
     x, y, _, height = desk.popup()
     desk.shot("click")
-    desk.ask(f"point {x + 25} {y + height // 2}")
-    time.sleep(0.2)
-    desk.ask("button 1")
-    desk.ask("button 0")
-    until("the candidate is taken", lambda: desk.got("term") == before + "你好")
+
+    def click():
+        desk.ask(f"point {x + 25} {y + height // 2}")
+        time.sleep(0.2)
+        desk.ask("button 1")
+        desk.ask("button 0")
+        time.sleep(1)
+        return desk.got("term") == before + "你好"
+    until("the candidate is taken", click)
     desk.no_popup()
     desk.focused = None
 
@@ -641,7 +645,7 @@ def candidates_on_the_second_output(desk):
     time.sleep(0.3)
     popup = desk.popup()
     desk.shot("second", 1)
-    inside("the candidates", popup, [800, 0, 1024, 768])
+    inside("the candidates", popup, [800, 0, 800, 600])
     at = desk.window("entry")
     same("they stand at the entry", at[0] - 300 <= popup[0] and at[1] < popup[1] + 300, True)
     clear(desk, "entry")
