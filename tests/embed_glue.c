@@ -706,6 +706,18 @@ static void popups_end(void)
 	holds("its surface goes, which the compositor sees", "");
 }
 
+/* A surface has one popup at a time. */
+static void second_popup(void)
+{
+	make_method(M);
+	clients[M].popup = zwp_input_method_v2_get_input_popup_surface(clients[M].method, clients[M].surface);
+	zwp_input_popup_surface_v2_destroy(clients[M].popup);
+	clients[M].popup = zwp_input_method_v2_get_input_popup_surface(clients[M].method, clients[M].surface);
+	holds("one after another", "");
+	keep(&clients[M], zwp_input_method_v2_get_input_popup_surface(clients[M].method, clients[M].surface));
+	holds("a second one", "m is ended\n");
+}
+
 /* The output of the focus has its corner elsewhere: all is in the compositor's coordinates. */
 static void outputs(void)
 {
@@ -871,7 +883,7 @@ int main(void)
 	wl_log_set_handler_client(quiet);
 	wl_log_set_handler_server(quiet);
 	play(2, crowded);
-	void (*scenes[])(void) = { other_seats, strangers, twice, keyboards, keymaps, late, popups_end, outputs, many,
+	void (*scenes[])(void) = { other_seats, strangers, twice, keyboards, keymaps, late, popups_end, second_popup, outputs, many,
 		ends_with_another, destroyed };
 	for (size_t i = 0; i < sizeof scenes / sizeof scenes[0]; i++)
 		play(64, scenes[i]);

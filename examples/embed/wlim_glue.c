@@ -622,7 +622,8 @@ static void method_popup(struct wl_client *client, struct wl_resource *resource,
 {
 	struct object *method = wl_resource_get_user_data(resource);
 	struct wlim_glue *glue = method->glue;
-	if (method->label && glue->hooks->popup && !glue->hooks->popup(glue->data, surface)) {
+	bool has_one = wl_resource_get_destroy_listener(surface, on_popup_surface_destroy);
+	if (method->label && (has_one || (glue->hooks->popup && !glue->hooks->popup(glue->data, surface)))) {
 		wl_resource_post_error(resource, ZWP_INPUT_METHOD_V2_ERROR_ROLE, "it has another role");
 		return;
 	}
