@@ -8,7 +8,7 @@
  *     focus TEXT, unfocus  the window whose label has TEXT; `no` where there is none
  *     move TEXT X Y        that window's place
  *     popups               of each popup of a method that is shown: `x y width height`, with ; between
- *     count MESSAGE        how often `interface.message` passed, in both directions
+ *     count MESSAGE        how often `interface.message` passed, in both directions, since the first such line
  *     keymap LAYOUT        the keyboard's layout
  *     host STATE           the host of a nested Weston takes the keyboard focus (0) and gives it back (1)
  *     seat STATE           the keyboard is released (0) and made (1)
@@ -87,8 +87,11 @@ static void on_message(void *data, enum wl_protocol_logger_type type, const stru
 	}
 }
 
+/* From the first time on that it is asked. */
 static unsigned count_of(const char *name)
 {
+	if (!self.logger)
+		self.logger = wl_display_add_protocol_logger(self.compositor->wl_display, on_message, NULL);
 	for (int at = 0; at < COUNTED_MOST; at++)
 		if (self.counted[at].count && strcmp(self.counted[at].name, name) == 0)
 			return self.counted[at].count;
@@ -284,7 +287,8 @@ static int on_link(int file, uint32_t mask, void *data)
 static void on_destroyed(struct wl_listener *listener, void *data)
 {
 	(void)listener, (void)data;
-	wl_protocol_logger_destroy(self.logger);
+	if (self.logger)
+		wl_protocol_logger_destroy(self.logger);
 	weston_seat_release(&self.seat);
 }
 
@@ -302,7 +306,6 @@ WL_EXPORT int wet_module_init(struct weston_compositor *compositor, int *argc, c
 	if (bind(self.listens, (struct sockaddr *)&at, sizeof at) != 0 || listen(self.listens, 4) != 0)
 		return -1;
 	wl_event_loop_add_fd(loop, self.listens, WL_EVENT_READABLE, on_link, NULL);
-	self.logger = wl_display_add_protocol_logger(compositor->wl_display, on_message, NULL);
 	weston_seat_init(&self.seat, compositor, "trial");
 	weston_seat_init_pointer(&self.seat);
 	weston_seat_init_keyboard(&self.seat, NULL);

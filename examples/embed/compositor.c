@@ -7,6 +7,7 @@
  *     windows           the application ids of all windows, in a line
  *     focus ID, unfocus `ok`, or `no` where there is no such window
  *     key CODE STATE    `ok`; a key of evdev's numbers, 0 released or 1 pressed
+ *     popups            of each popup of a method that is shown: `X Y WIDTH HEIGHT`, with ; between
  *     look              the labels of the field, the method and the grab that have the seat; 0 is none
  *     quit
  */
@@ -47,7 +48,7 @@ static struct {
 	struct wlr_scene *scene;
 	struct wlr_scene_output *scene_output;
 	struct wlr_seat *seat;
-	struct wl_list windows;
+	struct wl_list windows, popups;
 	struct wlim_glue *glue;
 	struct wlr_input_device *own;   /* the keyboard that lines drive */
 	struct wlr_input_device *other; /* has the keymap of a virtual keyboard, where that is another */
@@ -104,6 +105,7 @@ static void send_modifiers(void *data, const struct wlim_glue_keyboard *from)
 struct popup {
 	struct wlr_surface *surface;
 	struct wlr_scene_surface *shown;
+	struct wl_list link;
 	struct wl_listener commit, destroy;
 };
 
@@ -119,6 +121,7 @@ static void on_popup_destroy(struct wl_listener *listener, void *data)
 {
 	struct popup *popup = wl_container_of(listener, popup, destroy);
 	(void)data;
+	wl_list_remove(&popup->link);
 	wl_list_remove(&popup->commit.link);
 	wl_list_remove(&popup->destroy.link);
 	free(popup);
@@ -137,6 +140,7 @@ static bool make_popup(void *data, struct wl_resource *resource)
 		return false;
 	surface->data = popup;
 	popup->surface = surface;
+	wl_list_insert(&self.popups, &popup->link);
 	popup->shown = wlr_scene_surface_create(&self.scene->node, surface);
 	wlr_scene_node_set_enabled(&popup->shown->node, false);
 	popup->commit.notify = on_popup_commit;
@@ -375,6 +379,18 @@ static void look_line(void)
 	printf("%u %u %u\n", shown.holder, shown.serving, shown.standing);
 }
 
+static void popups_line(void)
+{
+	struct popup *popup;
+	wl_list_for_each(popup, &self.popups, link) {
+		const struct wlr_scene_node *node = &popup->shown->node;
+		const struct wlr_surface_state *is = &popup->surface->current;
+		if (node->state.enabled && popup->surface->buffer)
+			printf("%d %d %d %d;", node->state.x, node->state.y, is->width, is->height);
+	}
+	puts("");
+}
+
 static void take_line(const char *line)
 {
 	char id[256];
@@ -389,6 +405,8 @@ static void take_line(const char *line)
 		key_line(code, state);
 	} else if (strcmp(line, "look") == 0) {
 		look_line();
+	} else if (strcmp(line, "popups") == 0) {
+		popups_line();
 	} else if (strcmp(line, "windows") == 0) {
 		wl_list_for_each(window, &self.windows, link)
 			if (window->mapped)
@@ -430,6 +448,7 @@ int main(void)
 	wlr_data_device_manager_create(self.display);
 	self.scene = wlr_scene_create();
 	wl_list_init(&self.windows);
+	wl_list_init(&self.popups);
 	self.seat = wlr_seat_create(self.display, "seat0");
 	self.glue = wlim_glue_create(self.display, &hooks, NULL);
 	if (!self.glue)
