@@ -547,7 +547,7 @@ static void twice(void)
 	wlim_glue_key(glue, 3, 31, 1);
 	wlim_glue_keys(glue, 4, down, 1);
 	wlim_glue_keys(glue, 5, down, 1);
-	holds("a missed release", "m key 30 1\nm key 31 1\nm key 30 0\n");
+	holds("missed releases", "m key 30 1\nm key 30 0\nm key 30 1\nm key 31 1\nm key 30 0\n");
 	wlim_glue_area(glue, clients[A].at, 11, 10, 300, 200);
 	holds("it moves", "placed 12 16\nm rectangle 0 -4 3 4\n");
 }

@@ -287,6 +287,7 @@ static int64_t ends(const struct object *object)
 }
 
 static int64_t hear(struct object *surface);
+static void board_releases(struct object *board);
 
 /* A field is told nothing where its method ends: left and entered, it shows no preedit on. */
 static void pay_focus(struct wlim_glue *glue)
@@ -394,8 +395,6 @@ static void object_end(struct object *object)
 }
 
 /* ---- Clients and surfaces: the seat hears of them when it first has to ---- */
-
-static void board_releases(struct object *board);
 
 static void on_client_destroy(struct wl_listener *listener, void *data)
 {
@@ -844,17 +843,12 @@ static uint32_t next_of(struct wlim_glue *glue, uint32_t label)
 	return object ? object->next : 0;
 }
 
-static uint32_t next_of_client(struct wl_client *client)
-{
-	struct object *object = client_object(client);
-	return object ? object->next : 0;
-}
-
 /* Makes an object in the new seat: of the grabs the one that stands, no unavailable method. */
 static int64_t make_again(struct wlim *to, struct object *object, uint32_t standing)
 {
 	struct wlim_glue *glue = object->glue;
-	uint32_t client = object->kind == CLIENT ? 0 : next_of_client(object->client);
+	struct object *of = object->kind == CLIENT ? NULL : client_object(object->client);
+	uint32_t client = of ? of->next : 0;
 	uint64_t number = (uintptr_t)object;
 	if (!object->label)
 		return 0;
@@ -863,10 +857,8 @@ static int64_t make_again(struct wlim *to, struct object *object, uint32_t stand
 	case SURFACE: return wlim_surface(to, client, number);
 	case FIELD: return wlim_field(to, client, number);
 	case METHOD: return object->unavailable ? 0 : wlim_method(to, client, number);
-	case POPUP:
-		return wlim_popup(to, next_of(glue, object->method), next_of(glue, object->popup_surface), number);
-	case GRAB:
-		return object->label == standing ? wlim_grab(to, next_of(glue, object->method), number) : 0;
+	case POPUP: return wlim_popup(to, next_of(glue, object->method), next_of(glue, object->popup_surface), number);
+	case GRAB: return object->label == standing ? wlim_grab(to, next_of(glue, object->method), number) : 0;
 	case BOARD: return wlim_vboard(to, client, number);
 	case MANAGER: break;
 	}
@@ -955,8 +947,10 @@ bool wlim_glue_focus(struct wlim_glue *glue, struct wl_resource *surface)
 
 bool wlim_glue_key(struct wlim_glue *glue, uint32_t time, uint32_t key, uint32_t state)
 {
-	if (state && place_of(key, glue->keys.down, glue->keys.count) < glue->keys.count)
-		return true;
+	/* Where it is down its release went elsewhere. */
+	bool missed = state && place_of(key, glue->keys.down, glue->keys.count) < glue->keys.count;
+	if (missed && !wlim_glue_key(glue, time, key, 0))
+		return false;
 	glue->from = &glue->own;
 	int64_t answer = ACT(glue, NULL, wlim_key(glue->seat, time, key, state));
 	if (answer > 0)

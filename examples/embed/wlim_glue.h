@@ -80,14 +80,15 @@ bool wlim_glue_renew(struct wlim_glue *glue);
 /* What stands on the seat now. */
 bool wlim_glue_look(struct wlim_glue *glue, struct wlim_shown *shown);
 
-/* Of all below, false: there is no memory, and all is as before. Then call again. What you told already is nothing,
- * so tell it as often as you like. */
+/* Of all below, false: there is no memory, and all is as before. Then call again. What you told of a state, as an area
+ * or modifiers, is nothing where it is told again: tell it as often as you like. */
 
 /* The keyboard focus goes to a wl_surface, or with NULL is taken away. Where it is false it is taken away, as far as
  * there is memory, so that no field keeps the seat. */
 bool wlim_glue_focus(struct wlim_glue *glue, struct wl_resource *surface);
 
-/* Your keyboard: each key and all modifiers, also those that pass; state is 0 or 1. */
+/* Your keyboard: each key and all modifiers, also those that pass; state is 0 or 1. A press of a key that is down comes
+ * after a release of it. */
 bool wlim_glue_key(struct wlim_glue *glue, uint32_t time, uint32_t key, uint32_t state);
 bool wlim_glue_modifiers(struct wlim_glue *glue, uint32_t depressed, uint32_t latched, uint32_t locked, uint32_t group);
 
