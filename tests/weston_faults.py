@@ -18,8 +18,10 @@ PLUGIN, GLUE = "modules/weston", "examples/embed"
 FAULTS = [
     ("modifiers are not followed", f"{PLUGIN}/keyboard.c", "\tfollow_modifiers();\n\tfollow_focus();", "\tfollow_focus();",
      "modifiers_are_given_back"),
-    ("releases are not followed", f"{PLUGIN}/keyboard.c", "\tfollow_keys(in_hand);\n", "",
+    ("releases are not followed", f"{PLUGIN}/keyboard.c", "\tfollow_keys(in_hand, was_down);\n", "",
      "a_key_whose_release_another_grab_had"),
+    ("a release comes twice", f"{PLUGIN}/keyboard.c", "\tif (was_down)\n", "\tif (!in_hand)\n",
+     "keys_of_a_grab_reach_no_window"),
     ("nothing is hidden", f"{PLUGIN}/popups.c", "\tweston_hide(popup->surface);\n", "", "what_is_not_placed_is_not_shown"),
     ("the glue hides nothing", f"{GLUE}/wlim_glue.c", "\t\t\thide(popup);\n", "\t\t\tpopup->is_shown = false;\n",
      "what_is_not_placed_is_not_shown"),

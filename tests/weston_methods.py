@@ -155,6 +155,22 @@ def modifiers_after_a_grab(desk):
 
 
 @trial("user")
+def keys_of_a_grab_reach_no_window(desk):
+    method = own_method(desk, "10", "10", "us")
+    desk.ask("focus entry")
+    time.sleep(0.3)
+    method.ask("grab")
+    had = desk.count("wl_keyboard.key")
+    desk.press(KEYS["m"], KEYS["n"])
+    method.ask("shift 0")
+    same("what the method was told", [line for line in method.heard if line.startswith("key")],
+         [f"key {KEYS[letter]} {state}" for letter, state in (("m", 1), ("n", 1), ("n", 0), ("m", 0))])
+    same("keys that a window was told", desk.count("wl_keyboard.key") - had, 0)
+    method.terminate()
+    method.wait(10)
+
+
+@trial("user")
 def a_key_whose_release_another_grab_had(desk):
     """A key is pressed in the method's grab; its release goes to Weston's switcher. The method is told it."""
     method = own_method(desk, "10", "10", "us")

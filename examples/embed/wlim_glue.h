@@ -92,7 +92,7 @@ bool wlim_glue_focus(struct wlim_glue *glue, struct wl_resource *surface);
 bool wlim_glue_key(struct wlim_glue *glue, uint32_t time, uint32_t key, uint32_t state);
 bool wlim_glue_modifiers(struct wlim_glue *glue, uint32_t depressed, uint32_t latched, uint32_t locked, uint32_t group);
 
-/* No other keys are down now: those whose release you didn't see, or a binding took, are released. */
+/* No other keys are down, before the key in hand: those whose release you didn't see, or a binding took, are released. */
 bool wlim_glue_keys(struct wlim_glue *glue, uint32_t time, const uint32_t *keys, uint32_t count);
 
 /* Its keymap, which is read and copied; the file stays yours. Also false: it can't be read. */

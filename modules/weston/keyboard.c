@@ -10,6 +10,7 @@
 #include <unistd.h>
 
 #define DOWN_MOST 256
+#define NO_KEY UINT32_MAX
 
 static const struct weston_keyboard_grab_interface *weston_keys; /* Weston's own default grab */
 static const struct timespec *now; /* of the seat's key in hand */
@@ -103,14 +104,16 @@ static void follow_keymap(void)
 	free(text);
 }
 
-/* Releases that went elsewhere are found: to another grab, or the host took the focus. But for the key in hand. */
-static void follow_keys(uint32_t in_hand)
+/* Releases that went elsewhere are found: to another grab, or the host took the focus. The key in hand is as before. */
+static void follow_keys(uint32_t in_hand, bool was_down)
 {
-	uint32_t down[DOWN_MOST], count = 0;
+	uint32_t down[DOWN_MOST + 1], count = 0;
 	const uint32_t *key;
 	wl_array_for_each(key, &plugin.keyboard->keys)
 		if (*key != in_hand && count < DOWN_MOST)
 			down[count++] = *key;
+	if (was_down)
+		down[count++] = in_hand;
 	wlim_glue_keys(plugin.glue, time_of_last, down, count);
 }
 
@@ -139,10 +142,10 @@ static void follow_place(void)
 	wlim_glue_area(plugin.glue, focus->resource, at.x, at.y, at.width, at.height);
 }
 
-static void follow(uint32_t in_hand)
+static void follow(uint32_t in_hand, bool was_down)
 {
 	follow_keymap();
-	follow_keys(in_hand);
+	follow_keys(in_hand, was_down);
 	follow_modifiers();
 	follow_focus();
 	follow_place();
@@ -152,7 +155,7 @@ static void grab_key(struct weston_keyboard_grab *grab, const struct timespec *t
 {
 	(void)grab;
 	time_of_last = (uint32_t)(time->tv_sec * 1000 + time->tv_nsec / 1000000);
-	follow(key);
+	follow(key, state == WL_KEYBOARD_KEY_STATE_RELEASED);
 	now = time;
 	wlim_glue_key(plugin.glue, time_of_last, key, state);
 	now = NULL;
@@ -162,13 +165,13 @@ static void grab_modifiers(struct weston_keyboard_grab *grab, uint32_t serial, u
 	uint32_t locked, uint32_t group)
 {
 	(void)grab, (void)serial, (void)depressed, (void)latched, (void)locked, (void)group;
-	follow(UINT32_MAX);
+	follow(NO_KEY, false);
 }
 
 static void grab_cancel(struct weston_keyboard_grab *grab)
 {
 	(void)grab;
-	follow(UINT32_MAX);
+	follow(NO_KEY, false);
 }
 
 static const struct weston_keyboard_grab_interface wlim_keys = { grab_key, grab_modifiers, grab_cancel };
@@ -188,7 +191,7 @@ static void on_focus_changed(struct wl_listener *listener, void *data)
 		weston_keyboard_send_modifiers(keyboard, next_serial(), keyboard->modifiers.mods_depressed,
 			keyboard->modifiers.mods_latched, keyboard->modifiers.mods_locked, keyboard->modifiers.group);
 	}
-	follow(UINT32_MAX);
+	follow(NO_KEY, false);
 }
 
 /*
@@ -219,7 +222,7 @@ void keyboard_take(struct weston_keyboard *keyboard)
 	weston_keys = keyboard->default_grab.interface;
 	keyboard->default_grab.interface = &wlim_keys;
 	listen_to(&keyboard->focus_signal, &focus_changed, on_focus_changed);
-	follow(UINT32_MAX);
+	follow(NO_KEY, false);
 }
 
 void keyboard_give_back(bool dead)
