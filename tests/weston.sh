@@ -1,7 +1,7 @@
 #!/usr/bin/env bash
 # Builds the plug-in for Weston and tries it in a headless Weston, with real programs and fcitx5: tests/weston.sh [TRIAL..]
-# Then again under the address and undefined sanitizers. `make libwlim` comes before. WESTON_SHOTS names a folder for
-# screenshots, as PPM.
+# Then again under the address and undefined sanitizers; without a TRIAL also with faults planted. `make libwlim` comes
+# before. WESTON_SHOTS names a folder for screenshots, as PPM.
 set -e
 cd "$(dirname "$0")/.."
 version=10
@@ -21,7 +21,8 @@ build() {
 }
 
 build "$PWD/out/weston" "-O2 -g"
-timeout -k 10 1200 tests/weston_trials.py out/weston/$version "$@"
+timeout -k 10 900 tests/weston_trials.py out/weston/$version "$@"
 build "$PWD/out/weston-checked" "-O1 -g -fsanitize=address,undefined"
 WESTON_PRELOAD=$(${CC:-cc} -print-file-name=libasan.so) \
-	timeout -k 10 1200 tests/weston_trials.py out/weston-checked/$version "$@"
+	timeout -k 10 900 tests/weston_trials.py out/weston-checked/$version "$@"
+[ $# != 0 ] || timeout -k 10 900 tests/weston_faults.py out/weston/$version
