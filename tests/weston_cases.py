@@ -1,5 +1,4 @@
 """What the trials of the plug-in for Weston share: the list of them, and steps."""
-from pinyin_desk import until
 
 TRIALS = []
 

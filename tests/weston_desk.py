@@ -16,7 +16,7 @@ class Desk(Programs):
 
     def __init__(self, built, work, shell="desktop", scale=1, outputs=1, methods="started", method=FCITX5, modules=None):
         super().__init__(work)
-        self.built, self.lines, self.loaded = built, b"", False
+        self.built, self.lines, self.loaded, self.lost = built, b"", False, 0
         self.start_bus()
         path = ""
         if method:
@@ -100,7 +100,7 @@ class Desk(Programs):
         """Waits till the method grabs the keyboard for it, as at each focus: what goes to its last grab is lost."""
         if self.focused == name:
             return
-        self.ask("unfocus")
+        self.let_go()
         had = self.grabs()
         if self.ask(f"focus {name}") != "ok":
             raise AssertionError(f"there is no window {name}: {self.windows()}")
@@ -108,8 +108,21 @@ class Desk(Programs):
             until(f"the method has the keys of {name}", lambda: all(is_ > was for is_, was in zip(self.grabs(), had)))
         self.focused = name
 
-    def unfocus(self):
+    def standing(self):
+        """How many grabs of the keyboard weren't released; a method that is killed releases none."""
+        return self.count("zwp_input_method_v2.grab_keyboard") - self.count(
+            "zwp_input_method_keyboard_grab_v2.release")
+
+    def let_go(self):
+        """No window has the focus, and the method has released its grab, or is slow."""
         self.ask("unfocus")
+        ends = time.monotonic() + 1
+        while self.standing() > self.lost and time.monotonic() < ends:
+            time.sleep(0.01)
+        self.lost = self.standing()
+
+    def unfocus(self):
+        self.let_go()
         self.focused = None
 
     def shot(self, name, output=0):
@@ -167,7 +180,7 @@ class Desk(Programs):
         ends = time.monotonic() + 3
         while self.got(name) != before + wanted and time.monotonic() < ends:
             time.sleep(0.01)
-        if self.got(name) == before and len(wanted) > 1:
+        if self.got(name) != before + wanted and len(wanted) > 1:
             self.type("n\b")
         until(f"{name} gets {wanted!r}, and has {self.got(name)!r}", lambda: self.got(name) == before + wanted, seconds)
 

@@ -1,8 +1,9 @@
 #!/usr/bin/env bash
 # Measures Weston with the plug-in beside the compositor of examples/embed and sway: weston_speed.sh [BATCHES] [ROUNDS]
 #
-# All three run without a screen, in turn, ROUNDS times each; tests/embed_speed.c is their client. `make libwlim` and
-# tests/weston.sh come before. As root all runs as nobody, since sway refuses root.
+# All three run without a screen, in turn, ROUNDS times each; tests/embed_speed.c is their client. Then by callgrind, which
+# counts the same whatever else the machine does, their instructions for a batch. `make libwlim` and tests/weston.sh come
+# before. As root all runs as nobody, since sway refuses root.
 set -e -o pipefail
 cd "$(dirname "$0")/.."
 batches=${1:-50000}
@@ -35,9 +36,10 @@ build() {
 	chmod -R a+rX "$work"
 }
 
-# What the client prints of a compositor that is started for it: measure COMMAND..
+# What the client prints of a compositor that is started for it: measure BATCHES SINGLES COMMAND..
 measure() {
-	local tries=0 socket
+	local many=$1 singles=$2 tries=0 socket
+	shift 2
 	export XDG_RUNTIME_DIR=$work/run
 	mkdir -m 700 "$XDG_RUNTIME_DIR"
 	[ -z "$user" ] || chown nobody "$XDG_RUNTIME_DIR"
@@ -48,7 +50,7 @@ measure() {
 		sleep 0.1
 	done
 	sleep 1
-	WAYLAND_DISPLAY=$socket $user "$work/embed_speed" "$batches" 5000
+	WAYLAND_DISPLAY=$socket $user "$work/embed_speed" "$many" "$singles"
 	kill "$compositor"
 	wait "$compositor" || true
 	compositor=
@@ -82,18 +84,31 @@ table() {
 		}' "$1"
 }
 
+# Instructions that a compositor takes for a batch, the start and the end taken off: batch_instructions COMMAND..
+batch_instructions() {
+	local many counted
+	for many in 2000 10000; do
+		measure $many 0 valgrind --tool=callgrind --callgrind-out-file="$work/run/callgrind" "$@" > "$work/line"
+		counted="$(sed -n 's/.*Collected : //p' "$work/log") $counted"
+	done
+	echo "$counted" | awk '{ printf "%.0f\n", ($1 - $2) / 8000 }'
+}
+
 build
 mkfifo "$work/nothing"
 exec 3<> "$work/nothing"
 export WLR_BACKENDS=headless WLR_RENDERER=pixman XCURSOR_PATH=$work
 echo "$batches batches and 5000 one at a time, $rounds times each, at a load of $(cut -d ' ' -f 1 /proc/loadavg) on" \
 	"$(nproc) processors; $(weston --version); $(sway --version)"
+export WESTON_DRIVE=$work/run/drive
+weston="weston --backend=headless-backend.so --use-pixman --width=800 --height=600 --shell=kiosk-shell.so"
+weston="$weston --modules=$work/wlim.so,$work/drive.so --config=$work/weston.ini"
 for round in $(seq "$rounds"); do
-	export WESTON_DRIVE=$work/run/drive
-	measure weston --backend=headless-backend.so --use-pixman --width=800 --height=600 --shell=kiosk-shell.so \
-		"--modules=$work/wlim.so,$work/drive.so" "--config=$work/weston.ini" | sed 's/^/weston /' >> "$work/rounds"
-	measure "$work/compositor" | sed 's/^/example /' >> "$work/rounds"
-	measure sway --config "$work/config" | sed 's/^/sway /' >> "$work/rounds"
+	measure "$batches" 5000 $weston | sed 's/^/weston /' >> "$work/rounds"
+	measure "$batches" 5000 "$work/compositor" | sed 's/^/example /' >> "$work/rounds"
+	measure "$batches" 5000 sway --config "$work/config" | sed 's/^/sway /' >> "$work/rounds"
 done
 cat "$work/rounds"
 table "$work/rounds"
+echo "| instructions of one | $(batch_instructions $weston) | $(batch_instructions "$work/compositor")" \
+	"| $(batch_instructions sway --config "$work/config") |"

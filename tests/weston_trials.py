@@ -6,7 +6,6 @@ WESTON_SHOTS names a folder for screenshots; WESTON_PRELOAD what Weston alone pr
 """
 import os
 import signal
-import subprocess
 import sys
 import tempfile
 import time
@@ -56,10 +55,11 @@ def run_kind(built, kind, trials):
             desk = desk or open_desk(built, kind, work.name)
             function(desk)
             if number + 1 == len(trials):
-                ended, desk = desk, None
-                same("how Weston ended", ended.end(), 0)
+                code = desk.end()
+                same("how Weston ended", code, 0)
+                desk = None
             print(f"{kind}: {function.__name__}: {time.monotonic() - began:.1f} s", flush=True)
-        except (TimeoutError, AssertionError, OSError, subprocess.SubprocessError) as error:
+        except Exception as error:  # whatever it is, the desk ends, and the next trial has a new one
             failed += 1
             print(f"{kind}: {function.__name__} FAILED: {error}", flush=True)
             traceback.print_tb(error.__traceback__, -2, sys.stdout)

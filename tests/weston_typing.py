@@ -6,7 +6,7 @@ import subprocess
 import time
 
 from pinyin_desk import until
-from weston_cases import again, both, same, trial, window
+from weston_cases import again, both, inside, same, trial, window
 from weston_desk import CTRL, KEYS, SUPER, TAB
 
 
