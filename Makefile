@@ -17,12 +17,17 @@
 #                  it; after `make libwlim`. Installs what it needs of Debian 12: as root, with a network
 # make embed-speed a batch in that compositor beside sway, what an act takes of the library, and its size; after
 #                  `make libwlim`. Installs as embed-test does; ends within five minutes
+# make weston      the plug-in for Weston, out/weston/10/wlim.so; after `make libwlim`. make, cc, pkg-config,
+#                  libweston-10-dev
+# make weston-test it in a headless Weston, with real programs and fcitx5, then again under sanitizers. Installs as
+#                  embed-test does; some ten minutes
 # make gateway     builds out/gateway/wlim-gateway over the library; cc, pkg-config, python3
 # make gateway-test  tests it beside sway, with programs and fcitx5, and prints its figures; after `make build` and
 #                  `make libwlim`. Installs what it needs of Debian 12: as root, with a network
 # make gateway-mutter-test  after it, types through the gateway beside GNOME's compositor
 PROGRAM = crates/wlim/out/wlim
-.PHONY: demo build examples quick test gate-cost cost memory claims libwlim embed embed-test embed-speed gateway gateway-test gateway-mutter-test
+.PHONY: demo build examples quick test gate-cost cost memory claims libwlim embed embed-test embed-speed
+.PHONY: weston weston-test gateway gateway-test gateway-mutter-test
 demo:
 	cd crates/wlim && rt try -- replay-acts < ../../examples/one_string.acts
 
@@ -62,6 +67,14 @@ embed-test:
 	tests/embed_needs.sh
 	tests/embed_glue.sh
 	tests/embed_programs.sh
+
+weston:
+	$(MAKE) -C modules/weston
+
+weston-test:
+	tests/embed_needs.sh gcc make pkg-config libwayland-dev libwayland-bin wayland-protocols libxkbcommon-dev libgtk-4-dev \
+		weston libweston-10-dev foot fonts-dejavu-core fonts-noto-cjk fcitx5 fcitx5-pinyin dbus firefox-esr procps
+	tests/weston.sh
 
 gateway:
 	gateway/build.sh out/gateway

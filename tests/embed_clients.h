@@ -32,7 +32,7 @@ struct client {
 	struct wl_display *display;
 	struct wl_registry *registry;
 	struct wl_compositor *compositor;
-	struct wl_seat *seat;
+	struct wl_seat *seat, *other_seat;
 	struct zwp_text_input_manager_v3 *fields;
 	struct zwp_input_method_manager_v2 *methods;
 	struct zwp_virtual_keyboard_manager_v1 *boards;
@@ -43,6 +43,8 @@ struct client {
 	struct zwp_input_method_keyboard_grab_v2 *grab;
 	struct zwp_input_popup_surface_v2 *popup;
 	struct zwp_virtual_keyboard_v1 *board;
+	struct wl_proxy *earlier[80]; /* what it has besides of fields, methods and boards */
+	int earlier_count;
 	struct wl_listener gone;
 	bool dead;
 };
@@ -184,7 +186,8 @@ static void global(void *data, struct wl_registry *registry, uint32_t name, cons
 	if (!strcmp(interface, wl_compositor_interface.name))
 		client->compositor = wl_registry_bind(registry, name, &wl_compositor_interface, 1);
 	else if (!strcmp(interface, wl_seat_interface.name))
-		client->seat = wl_registry_bind(registry, name, &wl_seat_interface, 1);
+		*(client->seat ? &client->other_seat : &client->seat) =
+			wl_registry_bind(registry, name, &wl_seat_interface, 1);
 	else if (!strcmp(interface, zwp_text_input_manager_v3_interface.name))
 		client->fields = wl_registry_bind(registry, name, &zwp_text_input_manager_v3_interface, 1);
 	else if (!strcmp(interface, zwp_input_method_manager_v2_interface.name))

@@ -8,7 +8,7 @@ protocols=$made/protocols
 examples/embed/protocols.sh "$protocols"
 flags="-std=c11 -Wall -Wextra -Werror -g -fsanitize=address,undefined"
 flags="$flags -I$protocols -Iexamples/embed -Iout/libwlim/include"
-wraps="-Wl,--wrap=malloc,--wrap=calloc,--wrap=realloc"
+wraps="-Wl,--wrap=malloc,--wrap=calloc,--wrap=realloc,--wrap=fstatfs"
 ${CC:-cc} $flags $wraps -o "$made/glue" tests/embed_glue.c examples/embed/wlim_glue.c "$protocols"/*-protocol.c \
 	out/libwlim/lib/libwlim.a $(pkg-config --cflags --libs wayland-server wayland-client)
 timeout 60 "$made/glue"

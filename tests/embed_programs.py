@@ -3,7 +3,7 @@
 
     tests/embed_programs.py FOLDER [ROUNDS]
 
-FOLDER has `compositor` and `entry`, as tests/embed_programs.sh builds them. Prints what each program got.
+FOLDER has `compositor`, `entry` and `method`, as tests/embed_programs.sh builds them. Prints what each program got.
 """
 import os
 import random
@@ -40,6 +40,15 @@ class Desk(Programs):
     def look(self):
         """The labels of the field, the method and the grab that have the seat."""
         return [int(label) for label in self.ask("look").split()]
+
+    def popups(self):
+        return [[int(value) for value in popup.split()] for popup in self.ask("popups").split(";") if popup]
+
+    def press(self, *codes):
+        """Keys pressed one after another, and released in reverse."""
+        for state, keys in ((1, codes), (0, codes[::-1])):
+            for code in keys:
+                self.ask(f"key {code} {state}")
 
     def focus(self, window):
         """Waits till fcitx5 grabs the keyboard for it, as at each focus: what goes to its last grab is lost."""
@@ -118,6 +127,50 @@ def moved(desk, rounds):
         print(f"{window}: {came.count(word)} of {rounds} words, where the focus moved within 0.3 s, and nothing else")
 
 
+def candidates(desk):
+    """They are shown inside of the screen while there is something to choose, in the window that has the focus."""
+    desk.focus("term")
+    desk.type("ni")
+    until("candidates", desk.popups)
+    x, y, width, height = desk.popups()[0]
+    if x < 0 or y < 0 or x + width > 800 or y + height > 600:
+        raise AssertionError(f"candidates at {desk.popups()}")
+    desk.unfocus()
+    until("no candidates", lambda: not desk.popups())
+    print(f"candidates of {width} times {height} at {x}, {y}, which go with the focus")
+
+
+def copied(desk):
+    """Ctrl+A and Ctrl+C in the entry, Ctrl+Shift+V in the terminal."""
+    before = desk.got("term")
+    desk.focus("entry")
+    desk.press(29, KEYS["a"])
+    desk.press(29, KEYS["c"])
+    desk.press(107)  # End: nothing is selected any more
+    time.sleep(1)  # till the method has given them back
+    desk.focus("term")
+    time.sleep(0.5)
+    desk.press(29, 42, KEYS["v"])
+    until("the terminal gets what was copied", lambda: desk.got("term") == before + desk.got("entry"))
+    print("what was copied in the entry is pasted into the terminal")
+
+
+def sandboxed(desk, built):
+    """A program with mounts of its own is no method, and one without them is."""
+    if subprocess.run(["unshare", "--mount", "true"], capture_output=True, check=False).returncode:
+        print("no sandbox is tried: that needs root")
+        return
+    for words in (["unshare", "--mount"], []):
+        program = desk.start(*words, built + "/method", "10", "10", "us", stdin=subprocess.PIPE, stdout=subprocess.PIPE,
+                             text=True)
+        first = program.stdout.readline().strip()
+        program.kill()
+        program.wait(10)
+        if (first == "unavailable") != bool(words):
+            raise AssertionError(f"a method {' '.join(words)} is told {first!r}")
+    print("a program in a sandbox is no method")
+
+
 def killed(desk, fcitx5):
     """Without fcitx5 keys pass; where it starts again it types again."""
     fcitx5.kill()
@@ -142,10 +195,13 @@ def main():
             desk.start("foot", "-c", "/dev/null", "-a", "term", "sh", "-c", "stty raw -echo; exec cat > term.out")
             desk.start(built + "/entry", "entry.out")
             until("both windows", lambda: set(desk.ask("windows").split()) == set(WINDOWS))
+            sandboxed(desk, built)
             fcitx5 = start_fcitx5(desk)
             typed(desk, "term", "nihao ", "你好")
             typed(desk, "entry", "shijie ", "世界")
             typed(desk, "term", "\n", "\r")
+            candidates(desk)
+            copied(desk)
             moved(desk, rounds)
             killed(desk, fcitx5)
             start_fcitx5(desk)

@@ -16,4 +16,6 @@ ${CC:-cc} $flags -fsanitize=address,undefined -DWLR_USE_UNSTABLE -I"$protocols" 
 	-o "$made/compositor" examples/embed/compositor.c examples/embed/wlim_glue.c "$protocols"/*-unstable-*-protocol.c \
 	out/libwlim/lib/libwlim.a $(pkg-config --cflags --libs $uses)
 ${CC:-cc} $flags -o "$made/entry" tests/embed_entry.c $(pkg-config --cflags --libs gtk4)
+${CC:-cc} $flags -I"$protocols" -o "$made/method" tests/weston_method.c "$protocols"/*-unstable-*-protocol.c \
+	$(pkg-config --cflags --libs wayland-client xkbcommon)
 timeout -k 10 240 tests/embed_programs.py "$made" "$@"

@@ -7,6 +7,7 @@
  *     windows           the application ids of all windows, in a line
  *     focus ID, unfocus `ok`, or `no` where there is no such window
  *     key CODE STATE    `ok`; a key of evdev's numbers, 0 released or 1 pressed
+ *     popups            of each popup of a method that is shown: `X Y WIDTH HEIGHT`, with ; between
  *     look              the labels of the field, the method and the grab that have the seat; 0 is none
  *     quit
  */
@@ -15,6 +16,7 @@
 #include <stdio.h>
 #include <stdlib.h>
 #include <string.h>
+#include <sys/stat.h>
 #include <time.h>
 #include <unistd.h>
 #include <wlr/backend.h>
@@ -46,12 +48,12 @@ static struct {
 	struct wlr_scene *scene;
 	struct wlr_scene_output *scene_output;
 	struct wlr_seat *seat;
-	struct wl_list windows;
+	struct wl_list windows, popups;
 	struct wlim_glue *glue;
 	struct wlr_input_device *own;   /* the keyboard that lines drive */
 	struct wlr_input_device *other; /* has the keymap of a virtual keyboard, where that is another */
 	uint32_t other_keymap;          /* its number */
-	struct wl_listener new_output, frame, new_window, focus, key, modifiers;
+	struct wl_listener new_output, frame, new_window, focus, key, modifiers, selection;
 	char line[4096];
 	size_t length;
 } self;
@@ -83,20 +85,46 @@ static void set_keyboard(const struct wlim_glue_keymap *keymap)
 	wlr_seat_set_keyboard(self.seat, other ? self.other : self.own);
 }
 
-static void send_key(void *data, const struct wlim_glue_keymap *keymap, uint32_t time, uint32_t key, uint32_t state)
+static void send_key(void *data, const struct wlim_glue_keyboard *from, uint32_t time, uint32_t key, uint32_t state)
 {
 	(void)data;
-	set_keyboard(keymap);
+	set_keyboard(from->keymap);
 	wlr_seat_keyboard_notify_key(self.seat, time, key, state);
 }
 
-static void send_modifiers(void *data, const struct wlim_glue_keymap *keymap, uint32_t depressed, uint32_t latched,
-	uint32_t locked, uint32_t group)
+static void send_modifiers(void *data, const struct wlim_glue_keyboard *from)
 {
-	struct wlr_keyboard_modifiers modifiers = { depressed, latched, locked, group };
+	struct wlr_keyboard_modifiers modifiers = { from->depressed, from->latched, from->locked, from->group };
 	(void)data;
-	set_keyboard(keymap);
+	set_keyboard(from->keymap);
 	wlr_seat_keyboard_notify_modifiers(self.seat, &modifiers);
+}
+
+/* ---- Popups: shown only where the glue has them placed ---- */
+
+struct popup {
+	struct wlr_surface *surface;
+	struct wlr_scene_surface *shown;
+	struct wl_list link;
+	struct wl_listener commit, destroy;
+};
+
+static void on_popup_commit(struct wl_listener *listener, void *data)
+{
+	struct popup *popup = wl_container_of(listener, popup, commit);
+	const struct wlr_surface_state *now = &popup->surface->current;
+	(void)data;
+	wlim_glue_popup_size(self.glue, popup->surface->resource, now->width, now->height);
+}
+
+static void on_popup_destroy(struct wl_listener *listener, void *data)
+{
+	struct popup *popup = wl_container_of(listener, popup, destroy);
+	(void)data;
+	wl_list_remove(&popup->link);
+	wl_list_remove(&popup->commit.link);
+	wl_list_remove(&popup->destroy.link);
+	free(popup);
 }
 
 static const struct wlr_surface_role popup_role = { .name = "zwp_input_popup_surface_v2" };
@@ -104,22 +132,65 @@ static const struct wlr_surface_role popup_role = { .name = "zwp_input_popup_sur
 static bool make_popup(void *data, struct wl_resource *resource)
 {
 	struct wlr_surface *surface = wlr_surface_from_resource(resource);
+	struct popup *popup = surface->data;
 	(void)data;
-	if (!wlr_surface_set_role(surface, &popup_role, NULL, NULL, 0))
+	if (surface->role == &popup_role)
+		return popup; /* it was one before */
+	if (!wlr_surface_set_role(surface, &popup_role, NULL, NULL, 0) || !(popup = calloc(1, sizeof *popup)))
 		return false;
-	surface->data = wlr_scene_surface_create(&self.scene->node, surface);
+	surface->data = popup;
+	popup->surface = surface;
+	wl_list_insert(&self.popups, &popup->link);
+	popup->shown = wlr_scene_surface_create(&self.scene->node, surface);
+	wlr_scene_node_set_enabled(&popup->shown->node, false);
+	popup->commit.notify = on_popup_commit;
+	wl_signal_add(&surface->events.commit, &popup->commit);
+	popup->destroy.notify = on_popup_destroy;
+	wl_signal_add(&surface->events.destroy, &popup->destroy);
 	return true;
 }
 
 static void place_popup(void *data, struct wl_resource *resource, int32_t x, int32_t y)
 {
-	struct wlr_scene_surface *shown = wlr_surface_from_resource(resource)->data;
+	struct popup *popup = wlr_surface_from_resource(resource)->data;
 	(void)data;
-	wlr_scene_node_set_position(&shown->node, x, y);
-	wlr_scene_node_raise_to_top(&shown->node);
+	wlr_scene_node_set_position(&popup->shown->node, x, y);
+	wlr_scene_node_raise_to_top(&popup->shown->node);
+	wlr_scene_node_set_enabled(&popup->shown->node, true);
 }
 
-static const struct wlim_glue_hooks hooks = { send_key, send_modifiers, make_popup, place_popup };
+static void hide_popup(void *data, struct wl_resource *resource)
+{
+	struct popup *popup = wlr_surface_from_resource(resource)->data;
+	(void)data;
+	wlr_scene_node_set_enabled(&popup->shown->node, false);
+}
+
+/* ---- Who may be an input method: the user's programs, but none in a sandbox, which has other mounts ---- */
+
+static bool is_trusted(void *data, struct wl_client *client)
+{
+	struct stat own, theirs;
+	char mounts[64];
+	pid_t process;
+	uid_t user;
+	(void)data;
+	wl_client_get_credentials(client, &process, &user, NULL);
+	snprintf(mounts, sizeof mounts, "/proc/%d/ns/mnt", (int)process);
+	return user == getuid() && stat("/proc/self/ns/mnt", &own) == 0 && stat(mounts, &theirs) == 0 &&
+		own.st_dev == theirs.st_dev && own.st_ino == theirs.st_ino;
+}
+
+static bool is_our_seat(void *data, struct wl_resource *resource)
+{
+	struct wlr_seat_client *client = wlr_seat_client_from_resource(resource);
+	(void)data;
+	return client && client->seat == self.seat;
+}
+
+static const struct wlim_glue_hooks hooks = {
+	send_key, send_modifiers, make_popup, place_popup, hide_popup, is_trusted, is_our_seat,
+};
 
 static void on_key(struct wl_listener *listener, void *data)
 {
@@ -141,6 +212,14 @@ static void on_focus(struct wl_listener *listener, void *data)
 	struct wlr_seat_keyboard_focus_change_event *event = data;
 	(void)listener;
 	wlim_glue_focus(self.glue, event->new_surface ? event->new_surface->resource : NULL);
+}
+
+/* Who copies, owns what is pasted. */
+static void on_selection(struct wl_listener *listener, void *data)
+{
+	struct wlr_seat_request_set_selection_event *event = data;
+	(void)listener;
+	wlr_seat_set_selection(self.seat, event->source, event->serial);
 }
 
 static void add_keyboards(struct wlr_backend *backend)
@@ -257,7 +336,7 @@ static void on_new_output(struct wl_listener *listener, void *data)
 	wlr_output_create_global(output);
 	wlr_output_enable(output, true);
 	wlr_output_commit(output);
-	wlim_glue_screen(self.glue, output->width, output->height);
+	wlim_glue_screen(self.glue, 0, 0, output->width, output->height);
 }
 
 /* ---- Lines ---- */
@@ -300,6 +379,18 @@ static void look_line(void)
 	printf("%u %u %u\n", shown.holder, shown.serving, shown.standing);
 }
 
+static void popups_line(void)
+{
+	struct popup *popup;
+	wl_list_for_each(popup, &self.popups, link) {
+		const struct wlr_scene_node *node = &popup->shown->node;
+		const struct wlr_surface_state *is = &popup->surface->current;
+		if (node->state.enabled && popup->surface->buffer)
+			printf("%d %d %d %d;", node->state.x, node->state.y, is->width, is->height);
+	}
+	puts("");
+}
+
 static void take_line(const char *line)
 {
 	char id[256];
@@ -314,6 +405,8 @@ static void take_line(const char *line)
 		key_line(code, state);
 	} else if (strcmp(line, "look") == 0) {
 		look_line();
+	} else if (strcmp(line, "popups") == 0) {
+		popups_line();
 	} else if (strcmp(line, "windows") == 0) {
 		wl_list_for_each(window, &self.windows, link)
 			if (window->mapped)
@@ -355,12 +448,15 @@ int main(void)
 	wlr_data_device_manager_create(self.display);
 	self.scene = wlr_scene_create();
 	wl_list_init(&self.windows);
+	wl_list_init(&self.popups);
 	self.seat = wlr_seat_create(self.display, "seat0");
 	self.glue = wlim_glue_create(self.display, &hooks, NULL);
 	if (!self.glue)
 		return 1;
 	self.focus.notify = on_focus;
 	wl_signal_add(&self.seat->keyboard_state.events.focus_change, &self.focus);
+	self.selection.notify = on_selection;
+	wl_signal_add(&self.seat->events.request_set_selection, &self.selection);
 	self.new_window.notify = on_new_window;
 	wl_signal_add(&wlr_xdg_shell_create(self.display)->events.new_surface, &self.new_window);
 	self.new_output.notify = on_new_output;
