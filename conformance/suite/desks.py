@@ -1,0 +1,286 @@
+"""Desks: a compositor without a screen, with a way to move its focus and to press keys. One class for each kind."""
+import json
+import os
+import re
+import shutil
+import signal
+import socket
+import struct
+import subprocess
+import tempfile
+import time
+
+from .peer import NoAnswer, Peer
+
+HERE = os.path.dirname(os.path.abspath(__file__))
+
+
+def until(what, holds, seconds=15):
+    ends = time.monotonic() + seconds
+    while not (found := holds()):
+        if time.monotonic() > ends:
+            raise NoAnswer(what)
+        time.sleep(0.01)
+    return found
+
+
+class Desk:
+    """What all share. `command` starts the compositor; where it is empty, WAYLAND_DISPLAY names one that runs."""
+
+    name = "compositor"
+    rounds, pause = 1, 0       # how often nobody may hear anything before a step counts as done, and the pauses between
+    keys = "board"             # who presses keys: a virtual keyboard of the desk's, the seat's own, or None
+    can_unfocus = False
+    variables = {}
+    line_of_beginning = "the desk"
+
+    def __init__(self, client, command=()):
+        self.client, self.command, self.started, self.helper, self.offered = client, list(command), [], None, {}
+        self.work = tempfile.mkdtemp(prefix="conformance-")
+        os.chmod(self.work, 0o700)
+        self.compositor = None
+
+    # ---- Its life ----
+
+    def env(self, display=None):
+        env = dict(os.environ, XDG_RUNTIME_DIR=self.work, HOME=self.work, LC_ALL="C.UTF-8", **self.variables)
+        for name in {"DISPLAY", "WAYLAND_DISPLAY"} - set(self.variables):
+            env.pop(name, None)
+        if display:
+            env["WAYLAND_DISPLAY"] = display
+        return env
+
+    def start(self, *command, display=None, **pipes):
+        with open(f"{self.work}/log.{len(self.started)}", "wb") as log:
+            process = subprocess.Popen(command, env=self.env(display), cwd=self.work, start_new_session=True,
+                                       **{"stdin": subprocess.DEVNULL, "stdout": log, "stderr": log} | pipes)
+        process.log = log.name
+        self.started.append(process)
+        return process
+
+    def begin(self):
+        """Starts the compositor, and the desk's own client."""
+        if self.command:
+            self.start_compositor()
+        else:
+            self.display = os.environ["WAYLAND_DISPLAY"]
+            self.work = os.environ["XDG_RUNTIME_DIR"]
+        self.start_helper()
+
+    def sockets(self):
+        return [name for name in sorted(os.listdir(self.work)) if re.fullmatch(r"wayland-\d+", name)]
+
+    def start_compositor(self):
+        self.compositor = self.start(*self.words())
+        self.display = until("the compositor's socket", lambda: self.compositor.poll() is None and self.sockets())[0]
+
+    def words(self):
+        """The command, with what the suite adds to it."""
+        return self.command
+
+    def start_helper(self):
+        self.helper = Peer(self.client, "desk", self.env(self.display))
+        if "zwp_virtual_keyboard_manager_v1" not in self.helper.list_globals():
+            self.keys = None if self.keys == "board" else self.keys
+        if self.keys == "board":
+            self.helper.send("board keys", "vkeymap keys us")
+        self.sync()
+
+    def sync(self):
+        self.helper.ask_sync()
+        self.helper.wait_sync()
+        self.helper.take()
+
+    def why_ended(self):
+        """What is known of a compositor that ended by itself; None: it runs."""
+        if self.compositor is None or self.compositor.poll() is None:
+            return None
+        return f"status {self.compositor.returncode}"
+
+    def after_scenario(self):
+        """All windows are closed; the compositor may need a moment."""
+
+    def end(self):
+        if self.helper:
+            self.helper.end()
+        for process in reversed(self.started):
+            try:
+                os.killpg(process.pid, signal.SIGTERM)
+                process.wait(3)
+            except (ProcessLookupError, PermissionError, subprocess.TimeoutExpired):
+                pass
+            if process.poll() is None:
+                try:
+                    os.killpg(process.pid, signal.SIGKILL)
+                except (ProcessLookupError, PermissionError):
+                    process.kill()
+                process.wait(10)
+        if self.command:
+            shutil.rmtree(self.work, ignore_errors=True)
+
+    # ---- For scenarios ----
+
+    def display_of(self, kind):
+        return self.display
+
+    def environment(self, kind):
+        return self.env(self.display_of(kind))
+
+    def globals(self, kind):
+        display = self.display_of(kind)
+        if display not in self.offered:
+            peer = Peer(self.client, kind, self.env(display))
+            self.offered[display] = peer.list_globals()
+            peer.end()
+        return self.offered[display]
+
+    def focus(self, window):
+        """By a list of toplevels, which a taskbar has."""
+        if "zwlr_foreign_toplevel_manager_v1" not in self.helper.globals:
+            raise NoAnswer("no way to move the focus")
+        self.sync()
+        self.helper.send(f"activate {window}")
+        self.sync()
+
+    def unfocus(self):
+        raise NoAnswer("no way to take the focus away")
+
+    def key(self, moment, key, state):
+        self.helper.send(f"vkey keys {moment} {key} {state}")
+        self.sync()
+
+    def version(self):
+        """The compositor and its version, as the table has it."""
+        words = subprocess.run([self.command[0], "--version"], capture_output=True, text=True, check=False,
+                               env=self.env()).stdout.split("\n") if self.command else [""]
+        return words[0].strip() or self.name
+
+
+class Sway(Desk):
+    """sway by its IPC. As root it is started as nobody, since it refuses to run as root."""
+
+    name = "sway"
+    can_unfocus = True
+    config = "output * resolution 1280x720\ndefault_border none\nfocus_follows_mouse no\n" \
+             "focus_on_window_activation none\nxwayland disable\n"
+
+    def __init__(self, client, command=("sway",)):
+        super().__init__(client, command)
+        self.variables = dict(WLR_BACKENDS="headless", WLR_LIBINPUT_NO_DEVICES="1", WLR_RENDERER="pixman",
+                              SWAYSOCK=self.work + "/sway")
+
+    def words(self):
+        with open(self.work + "/config", "w", encoding="utf-8") as file:
+            file.write(self.config)
+        nobody = ["setpriv", "--reuid=65534", "--regid=65534", "--clear-groups"] if os.getuid() == 0 else []
+        if nobody:
+            os.chown(self.work, 65534, 65534)
+        return [*nobody, *self.command, "-c", self.work + "/config"]
+
+    def start_compositor(self):
+        super().start_compositor()
+        until("sway's socket", lambda: os.path.exists(self.work + "/sway"))
+
+    def ipc(self, line, kind=0):
+        link = socket.socket(socket.AF_UNIX)
+        link.settimeout(5)
+        link.connect(self.work + "/sway")
+        data = line.encode()
+        link.sendall(b"i3-ipc" + struct.pack("<II", len(data), kind) + data)
+        answer = b""
+        while len(answer) < 14 or len(answer) < 14 + struct.unpack_from("<I", answer, 6)[0]:
+            answer += link.recv(65536)
+        link.close()
+        return json.loads(answer[14:])
+
+    def focus(self, window):
+        self.ipc(f'[app_id="^{window}$"] focus')
+
+    def unfocus(self):
+        self.ipc("workspace empty")
+
+    def after_scenario(self):
+        self.ipc("workspace 1")
+
+    def version(self):
+        return self.ipc("", 7)["human_readable"].split(" (")[0].join(["sway ", ""])
+
+
+class Embed(Desk):
+    """The project's example compositor: the focus and the keys by lines."""
+
+    name = "example compositor"
+    keys, can_unfocus = "seat", True
+
+    def start_compositor(self):
+        self.compositor = self.start(*self.command, stdin=subprocess.PIPE, stdout=subprocess.PIPE)
+        line = self.compositor.stdout.readline().decode().split()
+        if line[:1] != ["ready"]:
+            raise NoAnswer("the compositor doesn't start")
+        self.display = line[1]
+
+    def ask(self, line):
+        try:
+            self.compositor.stdin.write(line.encode() + b"\n")
+            self.compositor.stdin.flush()
+        except BrokenPipeError:
+            raise NoAnswer("the compositor ended") from None
+        return self.compositor.stdout.readline().decode().strip()
+
+    def focus(self, window):
+        if self.ask("focus " + window) != "ok":
+            raise NoAnswer(f"no window {window}")
+
+    def unfocus(self):
+        self.ask("unfocus")
+
+    def key(self, moment, key, state):
+        self.ask(f"key {key} {state}")
+
+    def version(self):
+        return "wlim's example compositor"
+
+
+class Mir(Desk):
+    """mir_demo_server without a screen, which does many things a little later."""
+
+    name = "Mir"
+    rounds, pause = 3, 0.004
+
+    def words(self):
+        return [*self.command, "--platform-display-libs", "mir:dummy", "--platform-rendering-libs", "mir:dummy",
+                "--add-wayland-extensions", "all", "--enable-x11", "0"]
+
+
+class Gateway(Sway):
+    """wlim-gateway before sway: programs and methods connect to it, and the desk to sway."""
+
+    name = "wlim-gateway before sway"
+    keys = "seat"
+
+    def __init__(self, client, command):
+        self.gateway_command = list(command)
+        super().__init__(client, ["sway"])
+
+    def start_helper(self):
+        Desk.start_helper(self)
+        if self.helper.globals.get("zwp_virtual_keyboard_manager_v1"):
+            self.helper.send("board keys", "vkeymap keys us")
+            self.sync()
+        gateway = self.start(*self.gateway_command, "--compositor", self.display)
+        until("the gateway", lambda: os.path.exists(self.work + "/wlim-programs") and gateway.poll() is None)
+        time.sleep(0.1)
+
+    def display_of(self, kind):
+        return "wlim-programs" if kind == "program" else "wlim-methods"
+
+    def version(self):
+        return "wlim-gateway before " + super().version()
+
+
+KINDS = {"sway": Sway, "compositor": Embed, "mir_demo_server": Mir, "wlim-gateway": Gateway}
+
+
+def desk_for(client, command):
+    kind = KINDS.get(os.path.basename(command[0]) if command else "", Desk)
+    return kind(client, command)
