@@ -90,6 +90,8 @@ class Desk:
         self.helper.ask_sync()
         self.helper.wait_sync()
         self.helper.take()
+        if self.helper.ended:
+            raise NoAnswer("the compositor ended")
 
     def why_ended(self):
         """What is known of a compositor that ended by itself; None: it runs."""
@@ -98,7 +100,24 @@ class Desk:
         return f"status {self.compositor.returncode}"
 
     def after_scenario(self):
-        """All windows are closed; the compositor may need a moment."""
+        """All clients ended. Answers what is known of a compositor that ended, or None."""
+        try:
+            self.tidy()
+            self.sync()
+        except (NoAnswer, OSError):
+            self.wait_end()
+            return self.why_ended() or "it doesn't answer"
+        return self.why_ended()
+
+    def wait_end(self):
+        if self.compositor:
+            try:
+                self.compositor.wait(1)
+            except subprocess.TimeoutExpired:
+                pass
+
+    def tidy(self):
+        """What a scenario may leave behind at the compositor is put right."""
 
     def end(self):
         if self.helper:
@@ -199,7 +218,7 @@ class Sway(Desk):
     def unfocus(self):
         self.ipc("workspace empty")
 
-    def after_scenario(self):
+    def tidy(self):
         self.ipc("workspace 1")
 
     def version(self):

@@ -97,9 +97,10 @@ class Compared:
             for act in step["acts"]:
                 if act[0] in MAKES:
                     self.kinds[act[-1]] = act[0]
-                    self.owners[act[-1]] = self.owners.get(act[1], act[1])
+                    self.owners[act[-1]] = self.owners.get(act[1], act[1][1:])
                 elif act[0] == "peer":
-                    self.kinds[f"{act[1]}'s keyboard"], self.owners[f"{act[1]}'s keyboard"] = "keyboard", act[1]
+                    keyboard = f"{act[1][1:]}'s keyboard"
+                    self.kinds[keyboard], self.owners[keyboard] = "keyboard", act[1][1:]
         self.ended = {}
         for at, step in enumerate(trace.steps):
             for name, *_ in step["ended"]:
@@ -108,7 +109,30 @@ class Compared:
         for name, kind in self.kinds.items():
             if kind in UNITS or kind == "method":
                 self.compare(name, kind)
+        for peer in sorted(set(self.owners.values())):
+            self.compare_order(peer)
         self.differences.sort(key=lambda difference: difference.at)
+
+    def order(self, told):
+        """Texts and keys of a client in the order in which they came."""
+        found = []
+        for name, event, words in told:
+            if event == "commit_string" and self.kinds.get(name) == "field":
+                found.append("text")
+            elif event in ("key", "pass") and self.kinds.get(name) == "keyboard":
+                found.append(f"key {words[-2]}")
+        return found
+
+    def compare_order(self, peer):
+        """Where each object was told what it was owed, still texts and keys may have changed places."""
+        differing = {difference.at for difference in self.differences}
+        for at, step in enumerate(self.trace.steps):
+            if at in differing or peer in step["paused"] or peer in self.ended:
+                continue
+            owed = self.order(told for told in self.owed.told[at] if self.owners.get(told[0]) == peer)
+            seen = self.order((to, event, words) for _, to, event, words in step["told"] if self.owners.get(to) == peer)
+            if owed != seen and sorted(owed) == sorted(seen):
+                self.differences.append(Difference(at, f"{peer}'s order", "order", owed, seen))
 
     def events(self, name):
         """Of an object, what it was owed and what it was told, by the step at which its client read it."""

@@ -19,7 +19,7 @@ class Peer:
         self.hung = False
         self.lines, self.syncs, self.synced, self.ready = b"", 0, 0, False
         self.process = subprocess.Popen([program], env=environment, stdin=subprocess.PIPE, stdout=subprocess.PIPE,
-                                        start_new_session=True)
+                                        stderr=subprocess.DEVNULL, start_new_session=True)
         os.set_blocking(self.process.stdout.fileno(), False)
         self.until(lambda: self.ready or self.wrong)
         if not self.ready:

@@ -26,6 +26,8 @@ class Trace:
 class Player:
     """One scenario at one desk, whose compositor stands."""
 
+    AT_ONCE = 100  # requests, then the client waits until they are done
+
     def __init__(self, desk, scenario):
         self.desk, self.scenario, self.trace = desk, scenario, Trace(scenario)
         self.peers, self.owner, self.focus, self.dones, self.marks = {}, {}, None, {}, {}
@@ -61,8 +63,7 @@ class Player:
             for name, peer in self.peers.items():
                 self.trace.ends[name] = peer.ended
                 peer.end()
-            self.desk.after_scenario()
-        self.trace.crashed = self.desk.why_ended()
+        self.trace.crashed = self.desk.after_scenario()
         return self.trace
 
     def step(self, line, does):
@@ -81,13 +82,13 @@ class Player:
                     peer.read(0)
                 if peer.ended or peer.hung:
                     step["ended"].append([name, *(peer.ended or ["-", "-", "hung-up"])])
-                    acts.append(("gone", name))
+                    acts.append(("gone", "@" + name))
         self.follow(step)
 
     def begin(self, acts):
         """The desk's own keyboard, where it is a client's."""
         if self.desk.keys == "board":
-            acts += [("peer", "desk"), ("vboard", "desk", "desk's keyboard"),
+            acts += [("peer", "@desk"), ("vboard", "@desk", "desk's keyboard"),
                      ("vkeymap", "desk's keyboard", 1, 0, 1)]
         elif self.desk.keys == "seat":
             acts.append(("keymap", 1, 0, 1))
@@ -96,7 +97,7 @@ class Player:
         if name not in self.peers:
             kind = self.scenario.clients[name]
             self.peers[name] = Peer(self.desk.client, name, self.desk.environment(kind))
-            acts.append(("peer", name))
+            acts.append(("peer", "@" + name))
         return self.peers[name]
 
     def settle(self, step):
@@ -140,7 +141,7 @@ class Player:
     def follow_method(self, step):
         """A compositor may leave a field whose method ends, and enter it again, now or when another method comes."""
         events = [event for _, _, event, _ in step["told"] if event in ("enter", "leave")]
-        ends = any(act[0] == "gone" and act[1] in self.methods.values() or act[0] == "drop" and act[1] in self.methods
+        ends = any(act[0] == "gone" and act[1][1:] in self.methods.values() or act[0] == "drop" and act[1] in self.methods
                    for act in step["acts"])
         if ends and "leave" in events:
             step["acts"].append(("unfocus",))
@@ -156,10 +157,11 @@ class Player:
             getattr(self, "do_" + step.commands[0][0])(acts, *step.commands[0][1:])
             return
         peer = self.peer(step.who, acts)
-        for command in step.commands:
+        for at, command in enumerate(step.commands, 1):
             self.command(peer, acts, list(command))
-        peer.ask_sync()
-        peer.wait_sync()
+            if at % self.AT_ONCE == 0 or at == len(step.commands):
+                peer.ask_sync()
+                peer.wait_sync()
         for window in [command[1] for command in step.commands if command[0] == "window"]:
             peer.until(lambda window=window: peer.ended or ("mapped" in {e for _, to, e, _ in peer.heard if to == window}))
 
@@ -167,13 +169,13 @@ class Player:
         act = tuple(words)
         if words[0] in ("window", "surface"):
             self.owner[words[1]] = peer.name
-            act = ("surface", peer.name, words[1])
+            act = ("surface", "@" + peer.name, words[1])
         elif words[0] in ("field", "method"):
             self.methods.update({words[1]: peer.name} if words[0] == "method" else {})
             self.dones.setdefault(words[1], 0)
-            act = (words[0], peer.name, words[1])
+            act = (words[0], "@" + peer.name, words[1])
         elif words[0] == "board":
-            act = ("vboard", peer.name, words[1])
+            act = ("vboard", "@" + peer.name, words[1])
         elif words[0] == "mcommit":
             words[2] = str(self.serial(words[1], words[2]))
             act = tuple(words)

@@ -13,25 +13,40 @@ class JudgeFault(Exception):
 
 
 class Judge:
-    """`wlim replay-acts`, asked act by act."""
+    """`wlim replay-acts`, asked a few acts at a time."""
+
+    AT_ONCE = 50
 
     def __init__(self, program):
         self.process = subprocess.Popen([program, "replay-acts"], stdin=subprocess.PIPE, stdout=subprocess.PIPE, text=True)
-        self.acts = 0
+        self.acts, self.waiting, self.told = 0, [], []
 
-    def give(self, acts):
-        """Gives acts: what each tells, as (number, label, event, arguments)."""
-        self.process.stdin.write("".join(act + "\n" for act in [*acts, FENCE]))
+    def give(self, act):
+        """Gives an act, whose number is `acts` then."""
+        if len(self.waiting) == self.AT_ONCE:
+            self.ask()
+        self.waiting.append(act)
+        self.acts += 1
+
+    def next(self):
+        """The number of the act that is given next."""
+        return self.acts + 1 + (len(self.waiting) == self.AT_ONCE)
+
+    def ask(self):
+        self.process.stdin.write("".join(act + "\n" for act in [*self.waiting, FENCE]))
         self.process.stdin.flush()
-        self.acts += len(acts) + 1
-        told = []
-        while True:
-            words = self.process.stdout.readline().split()
+        self.acts += 1
+        while (words := self.process.stdout.readline().split())[1:] != FENCED:
             if not words or not words[0].isdigit():
-                raise JudgeFault(f"{' '.join(words)}: {acts}")
-            if words[1:] == FENCED:
-                return told
-            told.append((int(words[0]), int(words[1]), words[2], words[3:]))
+                raise JudgeFault(f"{' '.join(words)}: {self.waiting}")
+            self.told.append((int(words[0]), int(words[1]), words[2], words[3:]))
+        self.waiting = []
+
+    def take(self):
+        """What all acts since the last call told: (number, label, event, arguments)."""
+        self.ask()
+        told, self.told = self.told, []
+        return told
 
     def end(self):
         self.process.stdin.close()
@@ -92,6 +107,14 @@ class Holds:
             self.word.pop(name, None)
 
 
+class Batch:
+    """A method's commit: the field that held the seat when the done was told that it names, if one did; whether that
+    was the last; and its edits."""
+
+    def __init__(self, field, is_last, edits):
+        self.field, self.is_last, self.edits = field, is_last, edits
+
+
 class Owed:
     """
     What each object was owed, step by step, by the rules or by a reading of the protocols that departs from them:
@@ -100,7 +123,7 @@ class Owed:
 
     def __init__(self, program, trace, first_enable=False, last_done=False):
         self.trace, self.last_done = trace, last_done
-        self.labels, self.names, self.told, self.lines, self.meant = {}, {0: None}, [], [], {}
+        self.labels, self.names, self.told, self.lines, self.batches, self.edits = {}, {0: None}, [], [], {}, {}
         self.heard = {}  # of each method, (how many dones it was told, step by step)
         self.owed_dones = {}
         holds = Holds(first_enable)
@@ -118,26 +141,25 @@ class Owed:
     def play(self, judge, ignored):
         holds, number = Holds(), 0
         for at, step in enumerate(self.trace.steps):
-            acts, focus = [], {}
+            focus = {}
             for act in step["acts"]:
                 number += 1
                 if act[0] == "refused":
                     continue
-                line = NOTHING if number in ignored else self.line(judge.acts + len(acts) + 1, act, at)
-                acts.append(line)
+                line = NOTHING if number in ignored else self.line(judge.next(), act, at)
+                judge.give(line)
+                self.lines.append(line)
                 if number not in ignored:
                     holds.take(number, act)
-                focus[judge.acts + len(acts)] = holds.focus and f"{holds.owner[holds.focus]}'s keyboard"
-                if act[0] == "mcommit":
-                    self.meant[at] = self.meant_for(act, at)
-            told = judge.give(acts)
-            self.lines += acts
+                focus[judge.acts] = holds.focus and f"{holds.owner[holds.focus][1:]}'s keyboard"
+                self.batch(act, at)
+            told = judge.take()
             self.told.append([(self.names[label] if label else focus[act], event, self.named(event, words))
                               for act, label, event, words in told if label in self.names])
             step["holder"], step["serving"] = holds.holder, holds.serving
             for name, event, _ in self.told[-1]:
                 if event == "done" and holds.kind.get(name) == "method":
-                    self.owed_dones.setdefault(name, []).append(self.delivered(at, holds.owner.get(name)))
+                    self.owed_dones.setdefault(name, []).append(self.delivered(at, holds.owner.get(name, "@")[1:]))
 
     def named(self, event, words):
         return [self.names.get(int(words[0]), "-")] if event in ("enter", "leave") else words
@@ -189,11 +211,22 @@ class Owed:
         before, same = sum(k < step for k in owed), sum(k == step for k in owed)
         return before + min(same, sum(k == step for k in dones[:serial]))
 
-    def meant_for(self, act, at):
-        """The field that held the seat when the done was told that a batch names, and the step of that."""
-        dones = self.dones(act[1], at)
-        serial = int(act[2])
-        if not 0 < serial <= len(dones):
-            return None
-        step = dones[serial - 1]
-        return self.trace.steps[step].get("holder"), step
+    def batch(self, act, at):
+        """Keeps for whom each batch of a step is meant."""
+        if act[0] not in ("mstring", "mpreedit", "mdelete", "mcommit"):
+            return
+        edits = self.edits.setdefault(act[1], {})
+        if act[0] == "mcommit":
+            dones, serial = self.dones(act[1], at), int(act[2])
+            step = dones[serial - 1] if 0 < serial <= len(dones) else None
+            holder = None if step is None else self.trace.steps[step].get("holder")
+            self.batches.setdefault(at, []).append(Batch(holder, serial == len(dones), self.edits.pop(act[1])))
+        else:
+            edits[act[0]] = act[2]
+
+    def batch_of(self, at, group):
+        """The batch of a step that has the edits of a group that a field was told, else the last one."""
+        found = self.batches.get(at, [])
+        same = [batch for batch in found if group[2] and batch.edits.get("mstring") == group[2] or
+                not group[2] and group[3] and batch.edits.get("mpreedit") == group[3][0]]
+        return (same or found or [Batch(None, False, {})])[-1 if not same else 0]
