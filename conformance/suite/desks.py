@@ -261,14 +261,34 @@ class Embed(Desk):
 
 
 class Mir(Desk):
-    """mir_demo_server without a screen, which does many things a little later."""
+    """mir_demo_server in an X server without a screen. It does many things a little later."""
 
     name = "Mir"
-    rounds, pause = 3, 0.004
+    rounds, pause = 2, 0.004
+
+    def start_compositor(self):
+        screen = self.start("Xvfb", "-displayfd", "1", "-screen", "0", "1280x720x24", "-nolisten", "tcp",
+                            stdout=subprocess.PIPE)
+        number = screen.stdout.readline().decode().strip()
+        self.variables = {"DISPLAY": f":{number}"}
+        super().start_compositor()
+        until("Mir's socket", lambda: self.can_connect())
+
+    def can_connect(self):
+        try:
+            Peer(self.client, "first", self.env(self.display)).end()
+            return True
+        except NoAnswer:
+            return False
 
     def words(self):
-        return [*self.command, "--platform-display-libs", "mir:dummy", "--platform-rendering-libs", "mir:dummy",
-                "--add-wayland-extensions", "all", "--enable-x11", "0"]
+        return [*self.command, "--platform-display-libs", "mir:x11", "--x11-output", "1280x720",
+                "--add-wayland-extensions", "all"]
+
+    def version(self):
+        with open(self.compositor.log, encoding="utf-8", errors="replace") as log:
+            found = re.search(r"Mir version (\S+)", log.read())
+        return "Mir " + (found[1] if found else "")
 
 
 class Gateway(Sway):
