@@ -11,6 +11,7 @@ import tempfile
 import time
 
 from .peer import NoAnswer, Peer
+from .xkeys import XKeys
 
 HERE = os.path.dirname(os.path.abspath(__file__))
 
@@ -264,7 +265,8 @@ class Mir(Desk):
     """mir_demo_server in an X server without a screen. It does many things a little later."""
 
     name = "Mir"
-    rounds, pause = 2, 0.004
+    keys = "seat"
+    rounds, pause = 3, 0.006
 
     def start_compositor(self):
         screen = self.start("Xvfb", "-displayfd", "1", "-screen", "0", "1280x720x24", "-nolisten", "tcp",
@@ -272,7 +274,11 @@ class Mir(Desk):
         number = screen.stdout.readline().decode().strip()
         self.variables = {"DISPLAY": f":{number}"}
         super().start_compositor()
-        until("Mir's socket", lambda: self.can_connect())
+        until("Mir's socket", self.can_connect)
+        try:
+            self.board = XKeys(f":{number}")
+        except OSError:
+            self.keys = "board"
 
     def can_connect(self):
         try:
@@ -280,6 +286,13 @@ class Mir(Desk):
             return True
         except NoAnswer:
             return False
+
+    def key(self, moment, key, state):
+        if self.keys == "board":
+            super().key(moment, key, state)
+        else:
+            self.board.key(key, state)
+            time.sleep(0.03)
 
     def words(self):
         return [*self.command, "--platform-display-libs", "mir:x11", "--x11-output", "1280x720",

@@ -53,7 +53,9 @@ class MethodState:
                     self.active = event == "activate"
             else:
                 units += self.apply()
-        return units
+        # Deactivated and activated at once is activated anew.
+        return [unit for at, unit in enumerate(units) if unit != ("deactivated",) or
+                not units[at + 1:] or units[at + 1][0] != "activated"]
 
     def apply(self):
         pending, self.pending = self.pending, {}
@@ -143,6 +145,11 @@ class Compared:
             seen[at] += [(event, words) for _, to, event, words in self.trace.steps[at]["told"] if to == name]
         return owed, seen
 
+    def without_leaves_of_gone(self, at, name, owed, seen):
+        """Where a surface goes nobody is owed a leave; who is told one all the same takes no harm."""
+        gone = {act[1] for act in self.trace.steps[at]["acts"] if act[0] == "drop"}
+        return seen if not gone else [unit for unit in seen if unit in owed or unit[0] != "leave" or unit[1] not in gone | {"-"}]
+
     def compare(self, name, kind):
         owed, seen = self.events(name)
         states = (MethodState(), MethodState()) if kind == "method" else None
@@ -157,6 +164,8 @@ class Compared:
                 continue
             if ends and others == units[:len(others)]:
                 continue
+            if kind == "field":
+                others = self.without_leaves_of_gone(at, name, units, others)
             if units != others:
                 self.differences.append(Difference(at, name, kind, units, others))
 

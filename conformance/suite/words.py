@@ -150,7 +150,9 @@ class Told:
 
     def of_method(self, difference):
         name, (owed, seen) = difference.name, without_common(difference.owed, difference.seen)
-        found = []
+        found = [self.bad_cursor(name, unit) for unit in seen if self.is_bad(unit)]
+        if found:
+            return found
         for unit in owed:
             match = next((other for other in seen if other[0] == unit[0] and len(unit) > 1), None)
             if match:
@@ -159,6 +161,20 @@ class Told:
             else:
                 found.append(self.owed_notice(name, unit[0]))
         return found + [self.seen_notice(name, unit) for unit in seen]
+
+    @staticmethod
+    def is_bad(unit):
+        """A text whose cursor or anchor isn't in it, or is inside a letter."""
+        if len(unit) < 2 or not unit[1]:
+            return False
+        text = b"" if unit[1][0] == "-" else bytes.fromhex(unit[1][0])
+        return any(not 0 <= int(place) <= len(text) or int(place) < len(text) and text[int(place)] & 0xC0 == 0x80
+                   for place in unit[1][1:])
+
+    def bad_cursor(self, name, unit):
+        return Fault(LIGHT, "A text whose cursor isn't in it is told to nobody.",
+                     f"{name} was told {shown(unit[1][0])} with the cursor {unit[1][1]} and the anchor {unit[1][2]}",
+                     "the method reads past the text, and may end")
 
     def other_state(self, name, owed, seen):
         leak = seen[1] and not owed[1]
