@@ -51,9 +51,9 @@ class Desk:
             env["WAYLAND_DISPLAY"] = display
         return env
 
-    def start(self, *command, display=None, **pipes):
+    def start(self, *command, env=None, **pipes):
         with open(f"{self.work}/log.{len(self.started)}", "wb") as log:
-            process = subprocess.Popen(command, env=self.env(display), cwd=self.work, start_new_session=True,
+            process = subprocess.Popen(command, env=env or self.env(), cwd=self.work, start_new_session=True,
                                        **{"stdin": subprocess.DEVNULL, "stdout": log, "stderr": log} | pipes)
         process.log = log.name
         self.started.append(process)

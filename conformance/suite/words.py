@@ -15,7 +15,7 @@ class Fault:
 
     def as_dict(self, trace):
         return {"grave": self.grave, "rule": self.rule, "did": self.did, "user": self.user, "step": self.at,
-                "line": trace.steps[self.at]["line"], "object": self.name}
+                "line": trace.steps[self.at]["line"] if trace else "", "object": self.name}
 
 
 def shown(text):
