@@ -36,7 +36,8 @@ class Desk:
     line_of_beginning = "the desk"
 
     def __init__(self, client, command=()):
-        self.client, self.command, self.started, self.helper, self.offered = client, list(command), [], None, {}
+        self.client, self.command, self.started = os.path.abspath(client), list(command), []
+        self.helper, self.offered = None, {}
         self.work = tempfile.mkdtemp(prefix="conformance-")
         os.chmod(self.work, 0o700)
         self.compositor = None
@@ -334,5 +335,6 @@ KINDS = {"sway": Sway, "compositor": Embed, "mir_demo_server": Mir, "wlim-gatewa
 
 
 def desk_for(client, command):
+    command = [os.path.abspath(word) if "/" in word and os.path.exists(word) else word for word in command]
     kind = KINDS.get(os.path.basename(command[0]) if command else "", Desk)
     return kind(client, command)
