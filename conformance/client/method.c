@@ -71,8 +71,8 @@ static void keymap(void *data, struct zwp_input_method_keyboard_grab_v2 *of, uin
 static void key(void *data, struct zwp_input_method_keyboard_grab_v2 *of, uint32_t serial, uint32_t time, uint32_t key,
 	uint32_t state)
 {
-	(void)of, (void)serial, (void)time;
-	told(data, "key %u %u", key, state);
+	(void)of, (void)serial;
+	told(data, "key %u %u %u", time, key, state);
 }
 
 static void modifiers(void *data, struct zwp_input_method_keyboard_grab_v2 *of, uint32_t serial, uint32_t depressed,

@@ -32,12 +32,13 @@ class Desk:
     rounds, pause = 1, 0       # how often nobody may hear anything before a step counts as done, and the pauses between
     keys = "board"             # who presses keys: a virtual keyboard of the desk's, the seat's own, or None
     can_unfocus = False
+    cannot = {}                # scenarios that mean nothing here, and why
     variables = {}
     line_of_beginning = "the desk"
 
     def __init__(self, client, command=()):
         self.client, self.command, self.started = os.path.abspath(client), list(command), []
-        self.helper, self.offered = None, {}
+        self.helper, self.offered, self.last_moment = None, {}, 1000
         self.work = tempfile.mkdtemp(prefix="conformance-")
         os.chmod(self.work, 0o700)
         self.compositor = None
@@ -87,6 +88,11 @@ class Desk:
         if self.keys == "board":
             self.helper.send("board keys", "vkeymap keys us")
         self.sync()
+
+    def moment(self):
+        """A time of a key: no two keys have the same."""
+        self.last_moment += 1
+        return self.last_moment
 
     def sync(self):
         self.helper.ask_sync()
@@ -310,6 +316,8 @@ class Gateway(Sway):
 
     name = "wlim-gateway before sway"
     keys = "seat"
+    rounds, pause = 2, 0.003
+    cannot = {"a popup on a window's surface": "it shows no popups, so it gives no surface that role"}
 
     def __init__(self, client, command):
         self.gateway_command = list(command)

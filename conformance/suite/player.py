@@ -32,11 +32,13 @@ class Player:
         self.desk, self.scenario, self.trace = desk, scenario, Trace(scenario)
         self.peers, self.owner, self.focus, self.dones, self.marks = {}, {}, None, {}, {}
         self.methods, self.grabs, self.windows, self.left = {}, {}, set(), False
-        self.time = 1000
+        self.times = {}
 
     # ---- What the compositor can do ----
 
     def look_what_is_missing(self):
+        if why := self.desk.cannot.get(self.scenario.name):
+            raise Skip(why)
         for command in self.scenario.commands():
             if command[0] in ("press", "release") and not self.desk.keys:
                 raise Skip("no way to press keys")
@@ -112,15 +114,17 @@ class Player:
             heard = [(name, *told) for name, peer in self.peers.items() for told in peer.take()]
             heard.sort(key=lambda told: told[1])
             for name, _, to, event, words in heard:
-                self.hear(name, to, event)
+                self.hear(to, event, words)
                 step["told"].append((name, to if to != "keyboard" else f"{name}'s keyboard", event, words))
             quiet = 0 if heard else quiet + 1
             if not heard and quiet < self.desk.rounds and self.desk.pause:
                 time.sleep(self.desk.pause)
 
-    def hear(self, name, to, event):
+    def hear(self, to, event, words):
         if event == "done" and to in self.methods:
             self.dones[to] += 1
+        elif event == "key" and len(words) == 3:
+            self.times[words[1], words[2]] = int(words[0])
 
     def follow(self, step):
         """The focus as the keyboards' enters and leaves say it; and where a method ended, as fields were told."""
@@ -128,7 +132,8 @@ class Player:
         for name, to, event, words in step["told"]:
             if to == f"{name}'s keyboard" and event == "enter":
                 self.focus = words[0]
-            elif to == f"{name}'s keyboard" and event == "leave" and words[0] in (self.focus, "-"):
+            elif to == f"{name}'s keyboard" and event == "leave" and self.owner.get(self.focus) == name and \
+                    words[0] in (self.focus, "-"):
                 self.focus = None
         if self.focus and self.peers[self.owner[self.focus]].ended:
             self.focus = None
@@ -184,14 +189,17 @@ class Player:
         elif words[0] == "vkeymap":
             act = ("vkeymap", words[1], 1, 0, 1)
         elif words[0] == "vkey":
-            self.time += 1
-            words.insert(2, str(self.time))
+            words.insert(2, str(self.time_of(words[2], words[3])))
             act = tuple(words)
         elif words[0] == "close":
             act = ("drop", words[1])
         if words[0] not in ("paint", "raw"):
             acts.append(act)
         peer.send(" ".join(words))
+
+    def time_of(self, key, state):
+        """A method gives a key back with the time that its grab was told of it."""
+        return self.times.get((key, state), self.desk.moment())
 
     def serial(self, method, word):
         """`now` is the number of dones that the method was told, `now-1` one less, a name what was marked."""
@@ -228,10 +236,10 @@ class Player:
             acts.append(("unfocus",))
 
     def do_press(self, acts, key, state=1):
-        self.time += 1
-        self.desk.key(self.time, int(key), state)
-        acts.append(("vkey", "desk's keyboard", self.time, key, state) if self.desk.keys == "board"
-                    else ("key", self.time, key, state))
+        moment = self.desk.moment()
+        self.desk.key(moment, int(key), state)
+        acts.append(("vkey", "desk's keyboard", moment, key, state) if self.desk.keys == "board"
+                    else ("key", moment, key, state))
 
     def do_release(self, acts, key):
         self.do_press(acts, key, 0)

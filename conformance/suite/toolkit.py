@@ -48,7 +48,7 @@ class Table:
         for kind, face in (("program", "zwp_text_input_manager_v3"), ("method", "zwp_input_method_manager_v2")):
             if face not in desk.globals(kind):
                 raise Skip(f"it offers no {face}")
-        self.desk, self.entries, self.programs, self.method, self.dones, self.moment = desk, entries, {}, None, 0, 5000
+        self.desk, self.entries, self.programs, self.method, self.dones = desk, entries, {}, None, 0
 
     def window(self, name):
         env = dict(self.desk.environment("program"), GTK_IM_MODULE="wayland", GSK_RENDERER="cairo",
@@ -98,8 +98,7 @@ class Table:
 
     def press(self, key, pause=0.0):
         for state in (1, 0):
-            self.moment += 1
-            self.desk.key(self.moment, key, state)
+            self.desk.key(self.desk.moment(), key, state)
         time.sleep(pause)
 
     # ---- fcitx5 ----
