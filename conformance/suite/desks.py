@@ -172,6 +172,10 @@ class Desk:
     def unfocus(self):
         raise NoAnswer("no way to take the focus away")
 
+    def start_method(self, command, variables):
+        """A real input method."""
+        self.start(*command, env=dict(self.environment("method"), **variables))
+
     def key(self, moment, key, state):
         self.helper.send(f"vkey keys {moment} {key} {state}")
         self.sync()
@@ -311,6 +315,59 @@ class Mir(Desk):
         return "Mir " + (found[1] if found else "")
 
 
+class Weston(Desk):
+    """Weston with the project's plug-in and the driver of its trials: `make weston` and `make weston-test` come before."""
+
+    name = "Weston"
+    keys, can_unfocus = "seat", True
+
+    def words(self):
+        folder = os.environ.get("WESTON_MODULES", f"{HERE}/../../out/weston/10")
+        with open(self.work + "/weston.ini", "w", encoding="utf-8") as file:
+            file.write("[core]\nidle-time=0\n[shell]\nanimation=none\nstartup-animation=none\nclose-animation=none\n"
+                       f"locking=false\n[input-method]\npath={self.work}/method\n[wlim]\nmethods=user\n")
+        with open(self.work + "/method", "w", encoding="utf-8") as file:
+            file.write("#!/bin/sh\nuntil [ -e go ]; do sleep 0.1; done\n. ./go\n")
+        os.chmod(self.work + "/method", 0o700)
+        self.variables = {"WESTON_DRIVE": self.work + "/drive"}
+        return [*self.command, "--backend=headless-backend.so", "--use-pixman", "--width=1280", "--height=720",
+                "--socket=wayland-1", f"--modules={folder}/wlim.so,{folder}/drive.so", f"--config={self.work}/weston.ini"]
+
+    def start_compositor(self):
+        super().start_compositor()
+        self.link = socket.socket(socket.AF_UNIX)
+        self.link.settimeout(5)
+        until("the driver", lambda: self.link.connect_ex(self.work + "/drive") == 0)
+
+    def ask(self, line):
+        self.link.sendall(line.encode() + b"\n")
+        answer = b""
+        while not answer.endswith(b"\n"):
+            more = self.link.recv(65536)
+            if not more:
+                raise NoAnswer("Weston ended")
+            answer += more
+        return answer.decode(errors="replace").strip()
+
+    def focus(self, window):
+        until(f"no window {window}", lambda: self.ask(f"focus '{window}'") != "no", 2)
+
+    def unfocus(self):
+        self.ask("unfocus")
+
+    def start_method(self, command, variables):
+        """Weston ends a method of input-method-v1 that it didn't start itself, and fcitx5 asks for both."""
+        with open(self.work + "/now", "w", encoding="utf-8") as file:
+            file.write("".join(f"export {name}={value}\n" for name, value in variables.items()) + f"exec {' '.join(command)}\n")
+        os.rename(self.work + "/now", self.work + "/go")
+
+    def key(self, moment, key, state):
+        self.ask(f"key {key} {state}")
+
+    def version(self):
+        return super().version() + " with wlim's plug-in"
+
+
 class Gateway(Sway):
     """wlim-gateway before sway: programs and methods connect to it, and the desk to sway."""
 
@@ -339,7 +396,7 @@ class Gateway(Sway):
         return "wlim-gateway before " + super().version()
 
 
-KINDS = {"sway": Sway, "compositor": Embed, "mir_demo_server": Mir, "wlim-gateway": Gateway}
+KINDS = {"weston": Weston, "sway": Sway, "compositor": Embed, "mir_demo_server": Mir, "wlim-gateway": Gateway}
 
 
 def desk_for(client, command):

@@ -113,8 +113,7 @@ class Table:
         bus = f"unix:path={work}/bus"
         self.desk.start("dbus-daemon", "--session", "--nofork", "--nopidfile", "--address=" + bus)
         until("a bus", lambda: os.path.exists(work + "/bus"))
-        env = dict(self.desk.environment("method"), XDG_CONFIG_HOME=work + "/xdg", DBUS_SESSION_BUS_ADDRESS=bus)
-        self.desk.start(*FCITX5, env=env)
+        self.desk.start_method(FCITX5, {"XDG_CONFIG_HOME": work + "/xdg", "DBUS_SESSION_BUS_ADDRESS": bus})
 
     def type(self, word, pause=0.02):
         for letter in word + " ":
