@@ -7,6 +7,10 @@ set -e
 here="$(cd "$(dirname "$0")" && pwd)"
 built="${CONFORMANCE_BUILT:-$here/../out/conformance}"
 judge="${WLIM:-$here/../crates/wlim/out/wlim}"
+if [ ! -x "$judge" ] && [[ " $* " != *" --help "* ]]; then
+	echo "no $judge: \`make build\` makes it, or WLIM names it" >&2
+	exit 2
+fi
 if [ ! -x "$built/client" ] || [ -n "$(find "$here/client" "$here/protocol" -newer "$built/client" -print -quit)" ]; then
 	"$here/build.sh" "$built"
 fi

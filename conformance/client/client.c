@@ -11,12 +11,12 @@
  *                              vmods NAME DEPRESSED LATCHED LOCKED GROUP
  *     drop NAME                destroys it
  *     raw NAME OPCODE HEX      a message to it as bytes, good or bad
- *     activate APPID, click X Y WIDTH HEIGHT   of a desk, for other clients' windows
+ *     activate APPID           of a desk: the window of another client gets the focus
  *     globals                  `global INTERFACE VERSION` for each
  *     pause, resume            stops reading what the compositor sends, goes on; `hung` where it hung up meanwhile
  *     sync N                   `synced N` once all that was sent is done; where the connection ended, `ended ..` first
  *
- * Requests wait until a sync, or a `flush`. What comes is written as it comes: `told MICROSECONDS OBJECT EVENT ..`,
+ * Requests wait until a sync or a `flush`, which is answered by `flushed`. What comes is written as it comes: `told MICROSECONDS OBJECT EVENT ..`,
  * with texts in hex. `ended CODE INTERFACE ERROR` is written once, at the connection's end.
  */
 #define _GNU_SOURCE
@@ -25,7 +25,6 @@
 #include "text-input-unstable-v3-client-protocol.h"
 #include "virtual-keyboard-unstable-v1-client-protocol.h"
 #include "wlr-foreign-toplevel-management-unstable-v1-client-protocol.h"
-#include "wlr-virtual-pointer-unstable-v1-client-protocol.h"
 #include "xdg-shell-client-protocol.h"
 #include <errno.h>
 #include <poll.h>
@@ -148,7 +147,6 @@ static void global(void *data, struct wl_registry *registry, uint32_t name, cons
 	BIND(methods, zwp_input_method_manager_v2_interface, 1u);
 	BIND(boards, zwp_virtual_keyboard_manager_v1_interface, 1u);
 	BIND(tops, zwlr_foreign_toplevel_manager_v1_interface, 1u);
-	BIND(pointers, zwlr_virtual_pointer_manager_v1_interface, 1u);
 }
 
 static void global_gone(void *data, struct wl_registry *registry, uint32_t name)
@@ -235,8 +233,11 @@ static void raw_line(struct thing *of, char **words)
 
 static void flush_line(struct thing *of, char **words)
 {
+	struct pollfd file = { wl_display_get_fd(self.display), POLLOUT, 0 };
 	(void)of, (void)words;
-	wl_display_flush(self.display);
+	while (wl_display_flush(self.display) < 0 && errno == EAGAIN)
+		poll(&file, 1, 1000);
+	puts("flushed");
 }
 
 static void pause_line(struct thing *of, char **words)

@@ -38,8 +38,6 @@ struct self {
 	struct zwp_input_method_manager_v2 *methods;
 	struct zwp_virtual_keyboard_manager_v1 *boards;
 	struct zwlr_foreign_toplevel_manager_v1 *tops;
-	struct zwlr_virtual_pointer_manager_v1 *pointers;
-	struct zwlr_virtual_pointer_v1 *pointer;
 	struct thing *things;
 	bool paused; /* nothing is read */
 	bool hung;   /* the compositor hung up meanwhile */

@@ -1,8 +1,6 @@
-/* A desk: moves the focus to other clients' windows, by a list of toplevels or by a click. */
+/* A desk: moves the focus to other clients' windows, by a list of toplevels, which a taskbar has. */
 #include "client.h"
 #include "wlr-foreign-toplevel-management-unstable-v1-client-protocol.h"
-#include "wlr-virtual-pointer-unstable-v1-client-protocol.h"
-#include <linux/input-event-codes.h>
 #include <stdio.h>
 #include <stdlib.h>
 #include <string.h>
@@ -94,19 +92,6 @@ static void activate_line(struct thing *of, char **words)
 	complain("no window %s", words[1]);
 }
 
-static void click_line(struct thing *of, char **words)
-{
-	(void)of;
-	if (!self.pointer)
-		self.pointer = zwlr_virtual_pointer_manager_v1_create_virtual_pointer(self.pointers, self.seat);
-	zwlr_virtual_pointer_v1_motion_absolute(self.pointer, 0, NUMBER(1), NUMBER(2), NUMBER(3), NUMBER(4));
-	zwlr_virtual_pointer_v1_frame(self.pointer);
-	for (uint32_t state = 2; state-- > 0;) {
-		zwlr_virtual_pointer_v1_button(self.pointer, 0, BTN_LEFT, state);
-		zwlr_virtual_pointer_v1_frame(self.pointer);
-	}
-}
-
 const struct row desk_rows[] = {
-	{ "activate", 2, NONE, activate_line }, { "click", 5, NONE, click_line }, { 0 },
+	{ "activate", 2, NONE, activate_line }, { 0 },
 };

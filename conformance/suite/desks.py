@@ -399,7 +399,28 @@ class Gateway(Sway):
 KINDS = {"weston": Weston, "sway": Sway, "compositor": Embed, "mir_demo_server": Mir, "wlim-gateway": Gateway}
 
 
-def desk_for(client, command):
+class Told(Desk):
+    """A compositor whose focus a command moves: `{}` in it is the window's app id."""
+
+    def __init__(self, client, command, focus, unfocus):
+        super().__init__(client, command)
+        self.focus_command, self.unfocus_command, self.can_unfocus = focus, unfocus, bool(unfocus)
+
+    def run(self, command):
+        if subprocess.run(command, shell=True, env=self.env(self.display), stdout=subprocess.DEVNULL, timeout=10,
+                          check=False).returncode:
+            raise NoAnswer(f"{command} failed")
+
+    def focus(self, window):
+        self.run(self.focus_command.replace("{}", window))
+
+    def unfocus(self):
+        self.run(self.unfocus_command)
+
+
+def desk_for(client, command, focus="", unfocus=""):
     command = [os.path.abspath(word) if "/" in word and os.path.exists(word) else word for word in command]
+    if focus:
+        return Told(client, command, focus, unfocus)
     kind = KINDS.get(os.path.basename(command[0]) if command else "", Desk)
     return kind(client, command)

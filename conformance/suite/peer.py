@@ -16,7 +16,7 @@ class Peer:
 
     def __init__(self, program, name, environment):
         self.name, self.heard, self.ended, self.paused, self.wrong, self.globals = name, [], None, False, [], {}
-        self.hung = False
+        self.hung = self.flushed = False
         self.lines, self.syncs, self.synced, self.ready = b"", 0, 0, False
         self.process = subprocess.Popen([program], env=environment, stdin=subprocess.PIPE, stdout=subprocess.PIPE,
                                         stderr=subprocess.DEVNULL, start_new_session=True)
@@ -54,6 +54,8 @@ class Peer:
             self.heard.append((int(words[1]), words[2], words[3], words[4:]))
         elif words[0] == "synced":
             self.synced = int(words[1])
+        elif words[0] == "flushed":
+            self.flushed = True
         elif words[0] == "ended":
             self.ended = words[1:]
         elif words[0] == "hung":
@@ -72,6 +74,12 @@ class Peer:
             if left < 0:
                 raise NoAnswer(f"{self.name} got no answer")
             self.read(left)
+
+    def send_all(self):
+        """Sends what waits, without reading."""
+        self.flushed = False
+        self.send("flush")
+        self.until(lambda: self.flushed or self.ended)
 
     def ask_sync(self):
         if self.ended or self.paused:

@@ -149,10 +149,10 @@ class Player:
         ends = any(act[0] == "gone" and act[1][1:] in self.methods.values() or act[0] == "drop" and act[1] in self.methods
                    for act in step["acts"])
         if ends and "leave" in events:
-            step["acts"].append(("unfocus",))
+            step["acts"].append(("unfocus", "of text inputs alone"))
             self.left = True
         if self.left and "enter" in events:
-            step["acts"].append(("focus", self.focus))
+            step["acts"].append(("focus", self.focus, "of text inputs alone"))
             self.left = False
 
     # ---- What a step does ----
@@ -165,10 +165,18 @@ class Player:
         for at, command in enumerate(step.commands, 1):
             self.command(peer, acts, list(command))
             if at % self.AT_ONCE == 0 or at == len(step.commands):
-                peer.ask_sync()
-                peer.wait_sync()
+                self.fence(peer)
         for window in [command[1] for command in step.commands if command[0] == "window"]:
             peer.until(lambda window=window: peer.ended or ("mapped" in {e for _, to, e, _ in peer.heard if to == window}))
+
+    @staticmethod
+    def fence(peer):
+        """What the client sent is done; of one that doesn't read, it is sent."""
+        if peer.paused:
+            peer.send_all()
+        else:
+            peer.ask_sync()
+            peer.wait_sync()
 
     def command(self, peer, acts, words):
         act = tuple(words)

@@ -26,7 +26,7 @@ class Result:
                  "faults": [fault.as_dict(self.trace) for fault in self.faults]}
         if self.trace and self.result == FAILED:
             found["steps"] = [{"line": step["line"], "told": [[to, event, *words] for _, to, event, words in step["told"]],
-                               "owed": [[to, event, *words] for to, event, words in owed],
+                               "owed": [[to or "nobody", event, *words] for to, event, words in owed],
                                "ended": step["ended"]} for step, owed in zip(self.trace.steps, self.owed.told)]
             found["acts"] = self.owed.lines
         return found

@@ -108,11 +108,11 @@ class Holds:
 
 
 class Batch:
-    """A method's commit: the field that held the seat when the done was told that it names, if one did; whether that
-    was the last; and its edits."""
+    """A method's commit: the field that held the seat when the done was told that it names, if one did, and its window;
+    whether that was the last done; whether the method serves; and its edits."""
 
-    def __init__(self, field, is_last, edits):
-        self.field, self.is_last, self.edits = field, is_last, edits
+    def __init__(self, field=None, window=None, is_last=False, serves=True, edits=None):
+        self.field, self.window, self.is_last, self.serves, self.edits = field, window, is_last, serves, edits or {}
 
 
 class Owed:
@@ -125,7 +125,7 @@ class Owed:
         self.trace, self.last_done = trace, last_done
         self.labels, self.names, self.told, self.lines, self.batches, self.edits = {}, {0: None}, [], [], {}, {}
         self.heard = {}  # of each method, (how many dones it was told, step by step)
-        self.owed_dones = {}
+        self.owed_dones, self.holders, self.windows, self.servings = {}, [], [], []
         holds = Holds(first_enable)
         number = 0
         for step in trace.steps:
@@ -139,7 +139,7 @@ class Owed:
             judge.end()
 
     def play(self, judge, ignored):
-        holds, number = Holds(), 0
+        holds, number, keyboard = Holds(), 0, None
         for at, step in enumerate(self.trace.steps):
             focus = {}
             for act in step["acts"]:
@@ -151,12 +151,16 @@ class Owed:
                 self.lines.append(line)
                 if number not in ignored:
                     holds.take(number, act)
-                focus[judge.acts] = holds.focus and f"{holds.owner[holds.focus][1:]}'s keyboard"
-                self.batch(act, at)
+                if act[0] in ("focus", "unfocus") and "of text inputs alone" not in act:
+                    keyboard = act[1] if act[0] == "focus" else None
+                focus[judge.acts] = f"{holds.owner[keyboard][1:]}'s keyboard" if keyboard in holds.owner else None
+                self.batch(act, at, holds.serving)
             told = judge.take()
             self.told.append([(self.names[label] if label else focus[act], event, self.named(event, words))
                               for act, label, event, words in told if label in self.names])
-            step["holder"], step["serving"] = holds.holder, holds.serving
+            self.holders.append(holds.holder)
+            self.windows.append(holds.focus)
+            self.servings.append(holds.serving)
             for name, event, _ in self.told[-1]:
                 if event == "done" and holds.kind.get(name) == "method":
                     self.owed_dones.setdefault(name, []).append(self.delivered(at, holds.owner.get(name, "@")[1:]))
@@ -187,6 +191,8 @@ class Owed:
             words = [str(self.labels.get(words[0], 4000000000)), *words[1:]]
         elif name == "focus":
             words = [str(self.labels[words[0]])]
+        elif name == "unfocus":
+            words = []
         return " ".join(str(word) for word in (name, *words))
 
     def label(self, label, name):
@@ -211,7 +217,7 @@ class Owed:
         before, same = sum(k < step for k in owed), sum(k == step for k in owed)
         return before + min(same, sum(k == step for k in dones[:serial]))
 
-    def batch(self, act, at):
+    def batch(self, act, at, serving):
         """Keeps for whom each batch of a step is meant."""
         if act[0] not in ("mstring", "mpreedit", "mdelete", "mcommit"):
             return
@@ -219,14 +225,15 @@ class Owed:
         if act[0] == "mcommit":
             dones, serial = self.dones(act[1], at), int(act[2])
             step = dones[serial - 1] if 0 < serial <= len(dones) else None
-            holder = None if step is None else self.trace.steps[step].get("holder")
-            self.batches.setdefault(at, []).append(Batch(holder, serial == len(dones), self.edits.pop(act[1])))
+            holder, window = (None, None) if step is None else (self.holders[step], self.windows[step])
+            self.batches.setdefault(at, []).append(
+                Batch(holder, window, serial == len(dones), act[1] == serving, self.edits.pop(act[1])))
         else:
             edits[act[0]] = act[2]
 
     def batch_of(self, at, group):
-        """The batch of a step that has the edits of a group that a field was told, else the last one."""
-        found = self.batches.get(at, [])
+        """The batch of a step, or of one before, that has the edits of a group that a field was told; else the last one."""
+        found = [batch for step in sorted(self.batches, reverse=True) if step <= at for batch in self.batches[step]]
         same = [batch for batch in found if group[2] and batch.edits.get("mstring") == group[2] or
                 not group[2] and group[3] and batch.edits.get("mpreedit") == group[3][0]]
-        return (same or found or [Batch(None, False, {})])[-1 if not same else 0]
+        return (same or found or [Batch()])[0]

@@ -80,31 +80,33 @@ class Told:
         return found or [Fault(SERIOUS, "What is committed for a field comes to it in order.", f"{name} got it in another order",
                                "text stands in another order")]
 
-    def place(self, field):
-        """Where a batch was meant, seen from this field: which window, which entry, which time."""
-        return self.compared.owners.get(field)
-
     def seen_group(self, at, name, unit):
-        batch = self.compared.owed.batch_of(at, unit)
-        text = bool(unit[1] or unit[2])
+        owed = self.compared.owed
+        batch, text = owed.batch_of(at, unit), bool(unit[1] or unit[2])
+        grave, what, did = GRAVE if text else SERIOUS, "text" if text else "a composition", f"{name} was told {parts(unit)}"
+        rule = "A batch reaches the field that its serial names, while that is in use, or nobody."
         if not (text or unit[3]):
             return Fault(LIGHT, "A field is told a done for a batch that is meant for it, and no other.",
                          f"{name} was told an empty done", "the composition that is shown goes away")
-        rule = "A batch reaches the field that its serial names, while that is in use, or nobody."
-        did = f"{name} was told {parts(unit)}"
+        if not batch.serves:
+            return Fault(grave, "Only the method that serves types.", f"{did} by a second method",
+                         "two methods type at once, and what one of them isn't asked for is typed")
         if batch.field is None:
-            return Fault(GRAVE if text else SERIOUS, rule, f"{did} by a batch that is meant for nobody",
-                         "text is typed that nobody is typing" if text else "a preedit is shown that nobody is typing")
+            return Fault(grave, rule, f"{did} by a batch that is meant for nobody", f"{what} comes that nobody is typing")
         if batch.field != name:
-            other = self.place(batch.field) != self.place(name)
-            where = "another program's window" if other else "another entry of the program"
-            return Fault(GRAVE, rule, f"{did}, which was meant for {batch.field}",
-                         f"{'text' if text else 'a composition'} comes into {where}")
+            other = self.compared.owners.get(batch.field) != self.compared.owners.get(name)
+            return Fault(grave, rule, f"{did}, which was meant for {batch.field}",
+                         f"{what} comes into {'another program' + chr(39) + 's window' if other else 'another entry of the program'}")
+        if batch.window != owed.windows[at]:
+            return Fault(grave, rule, f"{did}, which was meant for it in {batch.window}",
+                         f"{what} comes into another window of the program")
+        if owed.holders[at] != name:
+            return Fault(grave, rule, f"{did} while it wasn't in use", f"{what} comes late, where the user has left")
         if batch.is_last:
             return Fault(SERIOUS, rule, f"{did} by a method that wasn't told of this activation",
                          "the method types by what it knew of the entry or window before")
-        return Fault(GRAVE if text else SERIOUS, rule, f"{did}, which was meant for an earlier activation of it",
-                     "what was meant for an entry or a window before comes into this one, a password too")
+        return Fault(grave, rule, f"{did}, which was meant for an earlier activation of it",
+                     "what was meant for the entry before comes into this one, a password too")
 
     seen_half = seen_group
 
@@ -135,7 +137,7 @@ class Told:
                      "the program stops composing in the window that is in use")
 
     def owed_enter(self, name, unit):
-        if self.trace.steps[self.compared_at].get("serving") is None:
+        if self.compared.owed.servings[self.compared_at] is None:
             return Fault(LIGHT, "A field is entered where its window gets the focus.",
                          f"{name} wasn't told the enter of {unit[1]} while there was no method",
                          "a field that asks before the method comes isn't served when it comes")
