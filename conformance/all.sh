@@ -32,7 +32,7 @@ else
 fi
 play sway sway
 play mir mir_demo_server
-files=$(cd "$results" && ls example.json gateway.json weston.json sway.json mir.json 2> /dev/null | sed "s|^|$results/|")
+files=$(for name in example gateway weston sway mir; do ls "$results/$name.json" 2> /dev/null || true; done)
 PYTHONPATH=conformance PYTHONDONTWRITEBYTECODE=1 python3 -m suite.page $files > "$built/page.html"
 if [ "$1" = --table ]; then
 	PYTHONPATH=conformance PYTHONDONTWRITEBYTECODE=1 python3 -m suite.page --table $files > "$built/table.md"

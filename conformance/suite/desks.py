@@ -7,6 +7,7 @@ import signal
 import socket
 import struct
 import subprocess
+import sys
 import tempfile
 import time
 
@@ -41,12 +42,12 @@ class Desk:
         self.helper, self.offered, self.last_moment = None, {}, 1000
         self.work = tempfile.mkdtemp(prefix="conformance-")
         os.chmod(self.work, 0o700)
-        self.compositor = None
+        self.runtime, self.compositor = self.work, None
 
     # ---- Its life ----
 
     def env(self, display=None):
-        env = dict(os.environ, XDG_RUNTIME_DIR=self.work, HOME=self.work, LC_ALL="C.UTF-8", **self.variables)
+        env = dict(os.environ, XDG_RUNTIME_DIR=self.runtime, HOME=self.work, LC_ALL="C.UTF-8", **self.variables)
         for name in {"DISPLAY", "WAYLAND_DISPLAY"} - set(self.variables):
             env.pop(name, None)
         if display:
@@ -66,8 +67,8 @@ class Desk:
         if self.command:
             self.start_compositor()
         else:
-            self.display = os.environ["WAYLAND_DISPLAY"]
-            self.work = os.environ["XDG_RUNTIME_DIR"]
+            self.display = os.environ.get("WAYLAND_DISPLAY") or sys.exit("no COMMAND, and no WAYLAND_DISPLAY")
+            self.runtime = os.environ["XDG_RUNTIME_DIR"]
         self.start_helper()
 
     def sockets(self):
@@ -142,8 +143,7 @@ class Desk:
                 except (ProcessLookupError, PermissionError):
                     process.kill()
                 process.wait(10)
-        if self.command:
-            shutil.rmtree(self.work, ignore_errors=True)
+        shutil.rmtree(self.work, ignore_errors=True)
 
     # ---- For scenarios ----
 

@@ -99,6 +99,8 @@ def table(runs):
     lines = ["| family, scenarios | " + " | ".join(run["compositor"] for run in runs) + " |", "|---" * (len(runs) + 1) + "|"]
     for family, results in families.items():
         lines.append(f"| {family}, {len(results)} | " + " | ".join(counts([row[at] for row in results]) for at in range(len(runs))) + " |")
+    apart = [sum(bool(row["reading"]) for row in run["scenarios"]) for run in runs]
+    lines.append("| of these by a protocol's sentence from which wlim departs | " + " | ".join(map(str, apart)) + " |")
     lines.append(f"| all, {len(rows)} | " + " | ".join(counts([row[3][at] for row in rows]) for at in range(len(runs))) + " |")
     return "\n".join(lines) + "\n"
 

@@ -162,7 +162,7 @@ def from_window_to_window(table):
 def a_word_by_fcitx5(table):
     table.window("A")
     table.start_fcitx5()
-    for _ in range(8):
+    for _ in range(5):
         time.sleep(1)
         table.type("nihao")
         time.sleep(0.5)
