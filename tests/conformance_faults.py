@@ -1,5 +1,6 @@
 #!/usr/bin/env python3
 """Plants faults in a copy of the example compositor, one at a time: a scenario of the fault's family has to find each.
+Then what the protocols say where wlim departs from them: that must be no fault, and be listed apart.
 
     tests/conformance_faults.py [NAME..]
 
@@ -16,6 +17,8 @@ ROOT = os.path.abspath(os.path.join(os.path.dirname(os.path.abspath(__file__)), 
 MADE = ROOT + "/out/conformance/faults"
 GLUE, COMPOSITOR = "wlim_glue.c", "compositor.c"
 COMMIT = "{ REQUEST(mcommit, serial - object->before); }"
+ENABLE = """static void field_enable(struct wl_client *client, struct wl_resource *resource)
+{ REQUEST(enable); }"""
 BOARD_KEY = "wlim_vkey(board->glue->seat, board->label, time, key, state)"
 NO_KEYMAP = "wl_resource_post_error(board->resource, ZWP_VIRTUAL_KEYBOARD_V1_ERROR_NO_KEYMAP,"
 STRING = """static void method_string(struct wl_client *client, struct wl_resource *resource, const char *text)
@@ -43,8 +46,7 @@ FAULTS = {
 			wl_resource_get_client(event->old_surface->resource))
 		return;
 	wlim_glue_focus(self.glue, event->new_surface ? event->new_surface->resource : NULL);""")]),
-    "a new entry by the same text input is not told": ("entries", [(GLUE, """static void field_enable(struct wl_client *client, struct wl_resource *resource)
-{ REQUEST(enable); }""", """static void field_enable(struct wl_client *client, struct wl_resource *resource)
+    "a new entry by the same text input is not told": ("entries", [(GLUE, ENABLE, """static void field_enable(struct wl_client *client, struct wl_resource *resource)
 {
 	struct object *of = wl_resource_get_user_data(resource);
 	struct wlim_shown shown;
@@ -84,6 +86,19 @@ FAULTS = {
     "a virtual keyboard needs no keymap": ("bad", [(GLUE, NO_KEYMAP, "if (0) " + NO_KEYMAP)]),
 }
 
+DEPARTURES = {
+    "a batch has to name the last done": ("serials", [(GLUE, COMMIT,
+        "{ REQUEST(mcommit, serial == object->count ? serial - object->before : 0); }")]),
+    "a second enable is ignored while a field holds the seat": ("entries", [(GLUE, ENABLE, """static void field_enable(struct wl_client *client, struct wl_resource *resource)
+{
+	struct object *of = wl_resource_get_user_data(resource);
+	struct wlim_shown shown;
+	if (wlim_look(of->glue->seat, &shown) && shown.holder && shown.holder != of->label)
+		return;
+	REQUEST(enable);
+}""")]),
+}
+
 
 def planted(changes):
     """A copy of the example with the fault."""
@@ -100,12 +115,16 @@ def planted(changes):
     return folder
 
 
-def failed(family, compositor, found):
-    """The scenarios of a family that fail at a compositor."""
+def results(family, compositor, found):
+    """What came of the scenarios of a family at a compositor."""
     subprocess.run([ROOT + "/conformance/run.sh", "--only", family + ": ", "--json", found, "--", compositor],
                    stdout=subprocess.DEVNULL, stderr=subprocess.DEVNULL, timeout=280, check=False)
     with open(found, encoding="utf-8") as file:
-        return [row for row in json.load(file)["scenarios"] if row["result"] == "failed" and row["failures"] == 2]
+        return json.load(file)["scenarios"]
+
+
+def failed(*words):
+    return [row for row in results(*words) if row["result"] == "failed" and row["failures"] == 2]
 
 
 def build(folder, to):
@@ -127,8 +146,15 @@ def main(names):
         found += bool(rows)
         print(f"{'found' if rows else 'MISSED'} {family}: {name} ({len(rows)} scenarios" +
               (f", as: {rows[0]['name']}: {rows[0]['faults'][0]['did']})" if rows else ")"), flush=True)
-    print(f"{found} found, {len(wanted) - found} missed")
-    return 0 if found == len(wanted) else 1
+    apart = 0
+    for name, (family, changes) in DEPARTURES.items():
+        rows = results(family, build(planted(changes), MADE + "/planted"), MADE + "/planted.json")
+        read = [row["name"] for row in rows if row["reading"]]
+        bad = [row["name"] for row in rows if row["result"] == "failed"]
+        apart += bool(read and not bad)
+        print(f"{'apart' if read and not bad else 'WRONG'} {family}: {name} ({', '.join(read + bad)})", flush=True)
+    print(f"{found} found, {len(wanted) - found} missed; {apart} of {len(DEPARTURES)} apart")
+    return 0 if found == len(wanted) and apart == len(DEPARTURES) else 1
 
 
 if __name__ == "__main__":
