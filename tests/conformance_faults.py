@@ -124,7 +124,7 @@ def results(family, compositor, found):
 
 
 def failed(*words):
-    return [row for row in results(*words) if row["result"] == "failed" and row["failures"] == 2]
+    return [row for row in results(*words) if row["result"] == "failed"]
 
 
 def build(folder, to):

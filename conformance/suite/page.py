@@ -36,17 +36,15 @@ def grave(row):
 # ---- The page ----
 
 def messages(row):
-    """The steps with what each object was told and owed, where that isn't the same."""
-    lines = []
-    for step in row.get("steps", []):
+    """The steps with what each object was told, and owed where that isn't the same."""
+    lines, bad = [], {(fault["step"], fault["object"]) for fault in row["faults"]}
+    for at, step in enumerate(row.get("steps", [])):
         lines.append(f"<b>{html.escape(step['line'])}</b>")
-        owed = [" ".join(told) for told in step["owed"]]
-        for told in (" ".join(told) for told in step["told"]):
-            if told in owed:
-                owed.remove(told)
-            lines.append(f'  <span class="told">{html.escape(told)}</span>')
-        lines += [f'  <span class="owed">owed, and not told by these words: {html.escape(told)}</span>' for told in owed
-                  if "delete_id" not in told]
+        for told in step["told"]:
+            kind = "other" if (at, told[0]) in bad else "told"
+            lines.append(f'  <span class="{kind}">{html.escape(" ".join(told))}</span>')
+        lines += [f'  <span class="owed">owed: {html.escape(" ".join(told))}</span>' for told in step["owed"]
+                  if (at, told[0]) in bad]
         lines += [f'  <span class="other">{html.escape(" ".join(ended))}</span>' for ended in step["ended"]]
     return "<pre>" + "\n".join(lines) + "</pre>" if lines else ""
 
@@ -56,11 +54,11 @@ def cell(row):
     if row is None or row["result"] == "skipped":
         return f'<td class="skipped">{html.escape(row["why"] if row else "not played")}</td>'
     if row["result"] == "passed":
-        return f'<td class="passed">passed{" by " + html.escape(row["reading"]) if row["reading"] else ""}</td>'
+        by = f"by the protocol's reading: {row['reading']}" if row["reading"] else row["why"]
+        return f'<td class="passed">passed<div class="says">{html.escape(by)}</div></td>'
     faults = "".join(f"<p><b>{fault['grave']}</b>, at <i>{html.escape(fault['line'])}</i>: {html.escape(fault['did'])}.<br>The rule: "
                      f"{html.escape(fault['rule'])}<br>A user sees: {html.escape(fault['user'])}.</p>" for fault in row["faults"])
-    once = " (once of two tries)" if row["failures"] == 1 else ""
-    return (f'<td class="{kind}"><details><summary>{kind}: {html.escape(row["faults"][0]["did"])}{once}</summary>{faults}'
+    return (f'<td class="{kind}"><details><summary>{kind}: {html.escape(row["faults"][0]["did"])}</summary>{faults}'
             f"{messages(row)}</details></td>")
 
 

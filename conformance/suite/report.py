@@ -8,21 +8,21 @@ PASSED, FAILED, SKIPPED = "passed", "failed", "skipped"
 class Result:
     """What came of a scenario. `reading` names what it passed by, where that departs from wlim's two rules."""
 
-    def __init__(self, scenario, result, why="", faults=(), reading="", trace=None, owed=None, times=0):
+    def __init__(self, scenario, result, why="", faults=(), reading="", trace=None, owed=None):
         self.scenario, self.result, self.why, self.faults, self.reading = scenario, result, why, list(faults), reading
-        self.trace, self.owed, self.times = trace, owed, times
+        self.trace, self.owed = trace, owed
 
     def line(self):
         text = f"{self.result} {self.scenario.family}: {self.scenario.name}"
         if self.result == FAILED:
-            return f"{text}\n       {self.faults[0].line()}" + (" (once of two tries)" if self.times == 1 else "")
+            return f"{text}\n       {self.faults[0].line()}"
         if self.reading:
             return f"{text} (by the protocol's reading: {self.reading})"
         return f"{text} ({self.why})" if self.why else text
 
     def as_dict(self):
         found = {"family": self.scenario.family, "name": self.scenario.name, "says": self.scenario.says,
-                 "result": self.result, "why": self.why, "reading": self.reading, "failures": self.times,
+                 "result": self.result, "why": self.why, "reading": self.reading,
                  "faults": [fault.as_dict(self.trace) for fault in self.faults]}
         if self.trace and self.result == FAILED:
             found["steps"] = [{"line": step["line"], "told": [[to, event, *words] for _, to, event, words in step["told"]],

@@ -11,6 +11,7 @@ COMMANDS = {
     "mcommit": 3, "grab": 3, "popup": 4, "board": 2, "vkeymap": 3, "vkey": 4, "vmods": 6, "drop": 2, "raw": 4,
 }
 TEXTS = {"surround", "mstring", "mpreedit"}
+FAMILIES = ["focus", "windows", "entries", "serials", "edits", "methods", "ends", "keys", "popups", "slow", "bad"]
 KINDS = {"programs": "program", "methods": "method"}
 ALONE = {"focus": 2, "unfocus": 1, "press": 2, "release": 2, "mark": 3, "pause": 2, "resume": 2, "kill": 2, "quit": 2,
          "refused": 2}
@@ -68,9 +69,13 @@ def read_step(line, where):
     return Step(line, None, [words])
 
 
+def family_of(path):
+    return os.path.basename(path)[:-4]
+
+
 def read_file(path):
     """All scenarios of a file, which is a family."""
-    family, found, beginnings, now = os.path.basename(path)[:-4], [], {}, None
+    family, found, beginnings, now = family_of(path), [], {}, None
     with open(path, encoding="utf-8") as file:
         for number, line in enumerate(file, 1):
             line, where = line.strip(), f"{os.path.basename(path)}:{number}"
@@ -97,7 +102,8 @@ def read_file(path):
 
 
 def read_all(folder):
-    found = [scenario for path in sorted(glob.glob(folder + "/*.txt")) for scenario in read_file(path)]
+    paths = sorted(glob.glob(folder + "/*.txt"), key=lambda path: (FAMILIES.index(family_of(path)), path))
+    found = [scenario for path in paths for scenario in read_file(path)]
     names = [scenario.name for scenario in found]
     if len(names) != len(set(names)):
         raise BadScenario("two scenarios have one name: " + ", ".join({n for n in names if names.count(n) > 1}))

@@ -52,8 +52,9 @@ class Told:
         self.compared, self.trace = compared, compared.trace
         self.compared_at = 0
 
-    def faults(self):
-        found = [fault for difference in self.compared.differences for fault in self.of(difference)]
+    def faults(self, departs=False):
+        """What differs, but where a reading of the protocols explains it, and what ended; the gravest first."""
+        found = [] if departs else [fault for difference in self.compared.differences for fault in self.of(difference)]
         found += self.ends()
         return sorted(found, key=lambda fault: (ORDER.index(fault.grave), fault.at))
 
