@@ -10,8 +10,8 @@ EMBED_FLAGS=$sanitize conformance/embed.sh "$made" > /dev/null
 rm -f "$made"/report.*
 export ASAN_OPTIONS="log_path=$made/report:detect_leaks=0" UBSAN_OPTIONS="log_path=$made/report"
 status=0
-CONFORMANCE_BUILT=$made timeout -k 10 300 conformance/run.sh -- "$made/compositor" | grep -A1 -e ^failed -e ' passed, ' ||
-	status=1
+CONFORMANCE_BUILT=$made timeout -k 10 300 conformance/run.sh -- "$made/compositor" |
+	grep -A1 -e ^failed -e ' passed, ' || status=1
 if compgen -G "$made/report.*" > /dev/null; then
 	cat "$made"/report.*
 	status=1

@@ -3,10 +3,11 @@
  *
  *     window NAME              a toplevel with that app id, which maps itself; close NAME
  *     surface NAME             a surface without a role, for a popup
- *     field NAME               a text input; enable, disable, commit NAME, surround NAME HEX CURSOR ANCHOR, cause NAME N,
- *                              content NAME HINT PURPOSE, rect NAME X Y WIDTH HEIGHT
- *     method NAME              an input method; mstring NAME HEX, mpreedit NAME HEX BEGIN END, mdelete NAME BEFORE AFTER,
- *                              mcommit NAME SERIAL, grab NAME METHOD, popup NAME METHOD SURFACE
+ *     field NAME               a text input; enable, disable, commit NAME, surround NAME HEX CURSOR ANCHOR,
+ *                              cause NAME N, content NAME HINT PURPOSE, rect NAME X Y WIDTH HEIGHT
+ *     method NAME              an input method; mstring NAME HEX, mpreedit NAME HEX BEGIN END,
+ *                              mdelete NAME BEFORE AFTER, mcommit NAME SERIAL, grab NAME METHOD,
+ *                              popup NAME METHOD SURFACE
  *     board NAME               a virtual keyboard; vkeymap NAME LAYOUT, vkey NAME TIME KEY STATE,
  *                              vmods NAME DEPRESSED LATCHED LOCKED GROUP
  *     drop NAME                destroys it
@@ -16,8 +17,9 @@
  *     pause, resume            stops reading what the compositor sends, goes on; `hung` where it hung up meanwhile
  *     sync N                   `synced N` once all that was sent is done; where the connection ended, `ended ..` first
  *
- * Requests wait until a sync or a `flush`, which is answered by `flushed`. What comes is written as it comes: `told MICROSECONDS OBJECT EVENT ..`,
- * with texts in hex. `ended CODE INTERFACE ERROR` is written once, at the connection's end.
+ * Requests wait until a sync or a `flush`, which is answered by `flushed`. What comes is written as it comes:
+ * `told MICROSECONDS OBJECT EVENT ..`, with texts in hex. `ended CODE INTERFACE ERROR` is written once, at the
+ * connection's end.
  */
 #define _GNU_SOURCE
 #include "client.h"

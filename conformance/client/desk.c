@@ -48,7 +48,8 @@ static void closed(void *data, struct zwlr_foreign_toplevel_handle_v1 *of)
 	zwlr_foreign_toplevel_handle_v1_destroy(of);
 }
 
-static void parent(void *data, struct zwlr_foreign_toplevel_handle_v1 *of, struct zwlr_foreign_toplevel_handle_v1 *parent)
+static void parent(void *data, struct zwlr_foreign_toplevel_handle_v1 *of,
+	struct zwlr_foreign_toplevel_handle_v1 *parent)
 {
 	(void)data, (void)of, (void)parent;
 }

@@ -143,9 +143,10 @@ static void grab_line(struct thing *of, char **words)
 	if (!method || !method->proxy)
 		return;
 	struct thing *grab = thing_new(words[1], GRAB);
-	grab->proxy = (struct wl_proxy *)zwp_input_method_v2_grab_keyboard((struct zwp_input_method_v2 *)method->proxy);
-	zwp_input_method_keyboard_grab_v2_add_listener((struct zwp_input_method_keyboard_grab_v2 *)grab->proxy, &grab_events,
-		grab);
+	struct zwp_input_method_keyboard_grab_v2 *made =
+		zwp_input_method_v2_grab_keyboard((struct zwp_input_method_v2 *)method->proxy);
+	grab->proxy = (struct wl_proxy *)made;
+	zwp_input_method_keyboard_grab_v2_add_listener(made, &grab_events, grab);
 }
 
 static void popup_line(struct thing *of, char **words)

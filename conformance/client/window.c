@@ -16,7 +16,8 @@ static void keymap(void *data, struct wl_keyboard *of, uint32_t format, int32_t 
 	told_seat("keymap %u %u", format, size);
 }
 
-static void enter(void *data, struct wl_keyboard *of, uint32_t serial, struct wl_surface *surface, struct wl_array *keys)
+static void enter(void *data, struct wl_keyboard *of, uint32_t serial, struct wl_surface *surface,
+	struct wl_array *keys)
 {
 	(void)data, (void)of, (void)serial, (void)keys;
 	told_seat("enter %s", surface_name(surface));

@@ -30,10 +30,10 @@ class Desk:
     """What all share. `command` starts the compositor; where it is empty, WAYLAND_DISPLAY names one that runs."""
 
     name = "compositor"
-    rounds, pause = 1, 0       # how often nobody may hear anything before a step counts as done, and the pauses between
-    keys = "board"             # who presses keys: a virtual keyboard of the desk's, the seat's own, or None
+    rounds, pause = 1, 0  # how often nobody may hear anything before a step counts as done, and the pauses between
+    keys = "board"  # who presses keys: a virtual keyboard of the desk's, the seat's own, or None
     can_unfocus = False
-    cannot = {}                # scenarios that mean nothing here, and why
+    cannot = {}  # scenarios that mean nothing here, and why
     variables = {}
     line_of_beginning = "the desk"
 
@@ -56,8 +56,13 @@ class Desk:
 
     def start(self, *command, env=None, **pipes):
         with open(f"{self.work}/log.{len(self.started)}", "wb") as log:
-            process = subprocess.Popen(command, env=env or self.env(), cwd=self.work, start_new_session=True,
-                                       **{"stdin": subprocess.DEVNULL, "stdout": log, "stderr": log} | pipes)
+            process = subprocess.Popen(
+                command,
+                env=env or self.env(),
+                cwd=self.work,
+                start_new_session=True,
+                **{"stdin": subprocess.DEVNULL, "stdout": log, "stderr": log} | pipes,
+            )
         process.log = log.name
         self.started.append(process)
         return process
@@ -182,8 +187,13 @@ class Desk:
 
     def version(self):
         """The compositor and its version, as the table has it."""
-        words = subprocess.run([self.command[0], "--version"], capture_output=True, text=True, check=False,
-                               env=self.env()).stdout.split("\n") if self.command else [""]
+        words = (
+            subprocess.run(
+                [self.command[0], "--version"], capture_output=True, text=True, check=False, env=self.env()
+            ).stdout.split("\n")
+            if self.command
+            else [""]
+        )
         return words[0].strip() or self.name
 
 
@@ -192,13 +202,16 @@ class Sway(Desk):
 
     name = "sway"
     can_unfocus = True
-    config = "output * resolution 1280x720\ndefault_border none\nfocus_follows_mouse no\n" \
-             "focus_on_window_activation none\nxwayland disable\n"
+    config = (
+        "output * resolution 1280x720\ndefault_border none\nfocus_follows_mouse no\n"
+        "focus_on_window_activation none\nxwayland disable\n"
+    )
 
     def __init__(self, client, command=("sway",)):
         super().__init__(client, command)
-        self.variables = dict(WLR_BACKENDS="headless", WLR_LIBINPUT_NO_DEVICES="1", WLR_RENDERER="pixman",
-                              SWAYSOCK=self.work + "/sway")
+        self.variables = dict(
+            WLR_BACKENDS="headless", WLR_LIBINPUT_NO_DEVICES="1", WLR_RENDERER="pixman", SWAYSOCK=self.work + "/sway"
+        )
 
     def words(self):
         with open(self.work + "/config", "w", encoding="utf-8") as file:
@@ -280,8 +293,9 @@ class Mir(Desk):
     rounds, pause = 3, 0.006
 
     def start_compositor(self):
-        screen = self.start("Xvfb", "-displayfd", "1", "-screen", "0", "1280x720x24", "-nolisten", "tcp",
-                            stdout=subprocess.PIPE)
+        screen = self.start(
+            "Xvfb", "-displayfd", "1", "-screen", "0", "1280x720x24", "-nolisten", "tcp", stdout=subprocess.PIPE
+        )
         number = screen.stdout.readline().decode().strip()
         self.variables = {"DISPLAY": f":{number}"}
         super().start_compositor()
@@ -306,8 +320,15 @@ class Mir(Desk):
             time.sleep(0.03)
 
     def words(self):
-        return [*self.command, "--platform-display-libs", "mir:x11", "--x11-output", "1280x720",
-                "--add-wayland-extensions", "all"]
+        return [
+            *self.command,
+            "--platform-display-libs",
+            "mir:x11",
+            "--x11-output",
+            "1280x720",
+            "--add-wayland-extensions",
+            "all",
+        ]
 
     def version(self):
         with open(self.compositor.log, encoding="utf-8", errors="replace") as log:
@@ -316,7 +337,7 @@ class Mir(Desk):
 
 
 class Weston(Desk):
-    """Weston with the project's plug-in and the driver of its trials: `make weston` and `make weston-test` come before."""
+    """Weston with the project's plug-in and the driver of its trials, which `make weston` and `make weston-test` build."""
 
     name = "Weston"
     keys, can_unfocus = "seat", True
@@ -324,14 +345,24 @@ class Weston(Desk):
     def words(self):
         folder = os.environ.get("WESTON_MODULES", f"{HERE}/../../out/weston/10")
         with open(self.work + "/weston.ini", "w", encoding="utf-8") as file:
-            file.write("[core]\nidle-time=0\n[shell]\nanimation=none\nstartup-animation=none\nclose-animation=none\n"
-                       f"locking=false\n[input-method]\npath={self.work}/method\n[wlim]\nmethods=user\n")
+            file.write(
+                "[core]\nidle-time=0\n[shell]\nanimation=none\nstartup-animation=none\nclose-animation=none\n"
+                f"locking=false\n[input-method]\npath={self.work}/method\n[wlim]\nmethods=user\n"
+            )
         with open(self.work + "/method", "w", encoding="utf-8") as file:
             file.write("#!/bin/sh\nuntil [ -e go ]; do sleep 0.1; done\n. ./go\n")
         os.chmod(self.work + "/method", 0o700)
         self.variables = {"WESTON_DRIVE": self.work + "/drive"}
-        return [*self.command, "--backend=headless-backend.so", "--use-pixman", "--width=1280", "--height=720",
-                "--socket=wayland-1", f"--modules={folder}/wlim.so,{folder}/drive.so", f"--config={self.work}/weston.ini"]
+        return [
+            *self.command,
+            "--backend=headless-backend.so",
+            "--use-pixman",
+            "--width=1280",
+            "--height=720",
+            "--socket=wayland-1",
+            f"--modules={folder}/wlim.so,{folder}/drive.so",
+            f"--config={self.work}/weston.ini",
+        ]
 
     def start_compositor(self):
         super().start_compositor()
@@ -358,7 +389,9 @@ class Weston(Desk):
     def start_method(self, command, variables):
         """Weston ends a method of input-method-v1 that it didn't start itself, and fcitx5 asks for both."""
         with open(self.work + "/now", "w", encoding="utf-8") as file:
-            file.write("".join(f"export {name}={value}\n" for name, value in variables.items()) + f"exec {' '.join(command)}\n")
+            file.write(
+                "".join(f"export {name}={value}\n" for name, value in variables.items()) + f"exec {' '.join(command)}\n"
+            )
         os.rename(self.work + "/now", self.work + "/go")
 
     def key(self, moment, key, state):
@@ -407,8 +440,9 @@ class Told(Desk):
         self.focus_command, self.unfocus_command, self.can_unfocus = focus, unfocus, bool(unfocus)
 
     def run(self, command):
-        if subprocess.run(command, shell=True, env=self.env(self.display), stdout=subprocess.DEVNULL, timeout=10,
-                          check=False).returncode:
+        if subprocess.run(
+            command, shell=True, env=self.env(self.display), stdout=subprocess.DEVNULL, timeout=10, check=False
+        ).returncode:
             raise NoAnswer(f"{command} failed")
 
     def focus(self, window):

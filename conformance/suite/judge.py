@@ -1,8 +1,12 @@
 """Holds what clients were told against what they were owed, object by object and step by step."""
 from .rules import MAKES, Owed
 
-READINGS = [("", {}), ("last done", {"last_done": True}), ("first enable", {"first_enable": True}),
-            ("last done, first enable", {"last_done": True, "first_enable": True})]
+READINGS = [
+    ("", {}),
+    ("last done", {"last_done": True}),
+    ("first enable", {"first_enable": True}),
+    ("last done, first enable", {"last_done": True, "first_enable": True}),
+]
 
 
 class Difference:
@@ -54,8 +58,11 @@ class MethodState:
             else:
                 units += self.apply()
         # Deactivated and activated at once is activated anew.
-        return [unit for at, unit in enumerate(units) if unit != ("deactivated",) or
-                not units[at + 1:] or units[at + 1][0] != "activated"]
+        return [
+            unit
+            for at, unit in enumerate(units)
+            if unit != ("deactivated",) or not units[at + 1 :] or units[at + 1][0] != "activated"
+        ]
 
     def apply(self):
         pending, self.pending = self.pending, {}
@@ -141,14 +148,20 @@ class Compared:
         peer, count = self.owners[name], len(self.trace.steps)
         owed, seen = [[] for _ in range(count)], [[] for _ in range(count)]
         for at in range(count):
-            owed[self.owed.delivered(at, peer)] += [(event, words) for to, event, words in self.owed.told[at] if to == name]
+            owed[self.owed.delivered(at, peer)] += [
+                (event, words) for to, event, words in self.owed.told[at] if to == name
+            ]
             seen[at] += [(event, words) for _, to, event, words in self.trace.steps[at]["told"] if to == name]
         return owed, seen
 
     def without_leaves_of_gone(self, at, name, owed, seen):
         """Where a surface goes nobody is owed a leave; who is told one all the same takes no harm."""
         gone = {act[1] for act in self.trace.steps[at]["acts"] if act[0] == "drop"}
-        return seen if not gone else [unit for unit in seen if unit in owed or unit[0] != "leave" or unit[1] not in gone | {"-"}]
+        return (
+            seen
+            if not gone
+            else [unit for unit in seen if unit in owed or unit[0] != "leave" or unit[1] not in gone | {"-"}]
+        )
 
     def compare(self, name, kind):
         owed, seen = self.events(name)
@@ -162,7 +175,7 @@ class Compared:
             ends = self.ended.get(self.owners[name], len(owed)) <= at
             if self.owners[name] in self.trace.steps[at]["paused"] or ends and not was_paused:
                 continue
-            if ends and others == units[:len(others)]:
+            if ends and others == units[: len(others)]:
                 continue
             if kind == "field":
                 others = self.without_leaves_of_gone(at, name, units, others)

@@ -18,8 +18,14 @@ class Peer:
         self.name, self.heard, self.ended, self.paused, self.wrong, self.globals = name, [], None, False, [], {}
         self.hung = self.flushed = False
         self.lines, self.syncs, self.synced, self.ready = b"", 0, 0, False
-        self.process = subprocess.Popen([program], env=environment, stdin=subprocess.PIPE, stdout=subprocess.PIPE,
-                                        stderr=subprocess.DEVNULL, start_new_session=True)
+        self.process = subprocess.Popen(
+            [program],
+            env=environment,
+            stdin=subprocess.PIPE,
+            stdout=subprocess.PIPE,
+            stderr=subprocess.DEVNULL,
+            start_new_session=True,
+        )
         os.set_blocking(self.process.stdout.fileno(), False)
         self.until(lambda: self.ready or self.wrong)
         if not self.ready:

@@ -3,8 +3,12 @@ import time
 
 from .peer import NoAnswer, Peer
 
-NEEDS = {"field": "zwp_text_input_manager_v3", "method": "zwp_input_method_manager_v2",
-         "board": "zwp_virtual_keyboard_manager_v1", "window": "xdg_wm_base"}
+NEEDS = {
+    "field": "zwp_text_input_manager_v3",
+    "method": "zwp_input_method_manager_v2",
+    "board": "zwp_virtual_keyboard_manager_v1",
+    "window": "xdg_wm_base",
+}
 
 
 class Skip(Exception):
@@ -19,8 +23,12 @@ class Trace:
 
     def told_to(self, name):
         """Each (step, event, arguments) of an object."""
-        return [(at, event, words) for at, step in enumerate(self.steps)
-                for _, to, event, words in step["told"] if to == name]
+        return [
+            (at, event, words)
+            for at, step in enumerate(self.steps)
+            for _, to, event, words in step["told"]
+            if to == name
+        ]
 
 
 class Player:
@@ -90,8 +98,7 @@ class Player:
     def begin(self, acts):
         """The desk's own keyboard, where it is a client's."""
         if self.desk.keys == "board":
-            acts += [("peer", "@desk"), ("vboard", "@desk", "desk's keyboard"),
-                     ("vkeymap", "desk's keyboard", 1, 0, 1)]
+            acts += [("peer", "@desk"), ("vboard", "@desk", "desk's keyboard"), ("vkeymap", "desk's keyboard", 1, 0, 1)]
         elif self.desk.keys == "seat":
             acts.append(("keymap", 1, 0, 1))
 
@@ -132,8 +139,12 @@ class Player:
         for name, to, event, words in step["told"]:
             if to == f"{name}'s keyboard" and event == "enter":
                 self.focus = words[0]
-            elif to == f"{name}'s keyboard" and event == "leave" and self.owner.get(self.focus) == name and \
-                    words[0] in (self.focus, "-"):
+            elif (
+                to == f"{name}'s keyboard"
+                and event == "leave"
+                and self.owner.get(self.focus) == name
+                and words[0] in (self.focus, "-")
+            ):
                 self.focus = None
         if self.focus and self.peers[self.owner[self.focus]].ended:
             self.focus = None
@@ -146,8 +157,10 @@ class Player:
     def follow_method(self, step):
         """A compositor may leave a field whose method ends, and enter it again, now or when another method comes."""
         events = [event for _, _, event, _ in step["told"] if event in ("enter", "leave")]
-        ends = any(act[0] == "gone" and act[1][1:] in self.methods.values() or act[0] == "drop" and act[1] in self.methods
-                   for act in step["acts"])
+        ends = any(
+            act[0] == "gone" and act[1][1:] in self.methods.values() or act[0] == "drop" and act[1] in self.methods
+            for act in step["acts"]
+        )
         if ends and "leave" in events:
             step["acts"].append(("unfocus", "of text inputs alone"))
             self.left = True
@@ -167,7 +180,9 @@ class Player:
             if at % self.AT_ONCE == 0 or at == len(step.commands):
                 self.fence(peer)
         for window in [command[1] for command in step.commands if command[0] == "window"]:
-            peer.until(lambda window=window: peer.ended or ("mapped" in {e for _, to, e, _ in peer.heard if to == window}))
+            peer.until(
+                lambda window=window: peer.ended or ("mapped" in {e for _, to, e, _ in peer.heard if to == window})
+            )
 
     @staticmethod
     def fence(peer):
@@ -227,8 +242,11 @@ class Player:
             acts.append(("focus", window))
             return
         try:
-            peer.until(lambda: peer.ended or any((to, event, words) == ("keyboard", "enter", [window])
-                                                 for _, to, event, words in peer.heard), 3)
+            peer.until(
+                lambda: peer.ended
+                or any((to, event, words) == ("keyboard", "enter", [window]) for _, to, event, words in peer.heard),
+                3,
+            )
         except NoAnswer:
             raise Skip(f"the focus can't be moved to {window}") from None
 
@@ -238,7 +256,9 @@ class Player:
         peer, window = self.peers[self.owner[self.focus]], self.focus
         self.desk.unfocus()
         if not peer.paused:
-            peer.until(lambda: peer.ended or any((to, event) == ("keyboard", "leave") for _, to, event, _ in peer.heard), 3)
+            peer.until(
+                lambda: peer.ended or any((to, event) == ("keyboard", "leave") for _, to, event, _ in peer.heard), 3
+            )
         elif self.focus == window:
             self.focus = None
             acts.append(("unfocus",))
@@ -246,8 +266,11 @@ class Player:
     def do_press(self, acts, key, state=1):
         moment = self.desk.moment()
         self.desk.key(moment, int(key), state)
-        acts.append(("vkey", "desk's keyboard", moment, key, state) if self.desk.keys == "board"
-                    else ("key", moment, key, state))
+        acts.append(
+            ("vkey", "desk's keyboard", moment, key, state)
+            if self.desk.keys == "board"
+            else ("key", moment, key, state)
+        )
 
     def do_release(self, acts, key):
         self.do_press(acts, key, 0)

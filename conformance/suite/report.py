@@ -21,13 +21,25 @@ class Result:
         return f"{text} ({self.why})" if self.why else text
 
     def as_dict(self):
-        found = {"family": self.scenario.family, "name": self.scenario.name, "says": self.scenario.says,
-                 "result": self.result, "why": self.why, "reading": self.reading,
-                 "faults": [fault.as_dict(self.trace) for fault in self.faults]}
+        found = {
+            "family": self.scenario.family,
+            "name": self.scenario.name,
+            "says": self.scenario.says,
+            "result": self.result,
+            "why": self.why,
+            "reading": self.reading,
+            "faults": [fault.as_dict(self.trace) for fault in self.faults],
+        }
         if self.trace and self.result == FAILED:
-            found["steps"] = [{"line": step["line"], "told": [[to, event, *words] for _, to, event, words in step["told"]],
-                               "owed": [[to or "nobody", event, *words] for to, event, words in owed],
-                               "ended": step["ended"]} for step, owed in zip(self.trace.steps, self.owed.told)]
+            found["steps"] = [
+                {
+                    "line": step["line"],
+                    "told": [[to, event, *words] for _, to, event, words in step["told"]],
+                    "owed": [[to or "nobody", event, *words] for to, event, words in owed],
+                    "ended": step["ended"],
+                }
+                for step, owed in zip(self.trace.steps, self.owed.told)
+            ]
             found["acts"] = self.owed.lines
         return found
 
@@ -43,19 +55,31 @@ def summary(results):
 def write_json(path, compositor, results):
     passed, failed, skipped = counted(results)
     with open(path, "w", encoding="utf-8") as file:
-        json.dump({"compositor": compositor, "passed": passed, "failed": failed, "skipped": skipped,
-                   "scenarios": [result.as_dict() for result in results]}, file, indent=1)
+        json.dump(
+            {
+                "compositor": compositor,
+                "passed": passed,
+                "failed": failed,
+                "skipped": skipped,
+                "scenarios": [result.as_dict() for result in results],
+            },
+            file,
+            indent=1,
+        )
 
 
 def write_junit(path, compositor, results):
     passed, failed, skipped = counted(results)
-    suite = tree.Element("testsuite", name=compositor, tests=str(len(results)), failures=str(failed), skipped=str(skipped))
+    suite = tree.Element(
+        "testsuite", name=compositor, tests=str(len(results)), failures=str(failed), skipped=str(skipped)
+    )
     for result in results:
         case = tree.SubElement(suite, "testcase", classname=result.scenario.family, name=result.scenario.name)
         if result.result == FAILED:
             fault = result.faults[0]
             tree.SubElement(case, "failure", message=fault.line()).text = "\n".join(
-                f"{fault.rule} {fault.line()}" for fault in result.faults)
+                f"{fault.rule} {fault.line()}" for fault in result.faults
+            )
         elif result.result == SKIPPED:
             tree.SubElement(case, "skipped", message=result.why)
     tree.ElementTree(suite).write(path, encoding="utf-8", xml_declaration=True)

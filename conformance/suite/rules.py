@@ -1,8 +1,8 @@
 """What each client was owed: a trace's acts, given to `wlim replay-acts`, which is the judge."""
 import subprocess
 
-NOTHING = "drop 4000000000"         # an act that does nothing, in the place of one that isn't given
-FENCE = "key 0 4000000000 0"        # a release that passes: its answer comes after all that was told before
+NOTHING = "drop 4000000000"  # an act that does nothing, in the place of one that isn't given
+FENCE = "key 0 4000000000 0"  # a release that passes: its answer comes after all that was told before
 FENCED = ["0", "pass", "0", "4000000000", "0"]
 MAKES = {"surface", "field", "method", "popup", "grab", "vboard"}
 DESK = {"focus", "unfocus", "key", "keymap"}
@@ -18,7 +18,9 @@ class Judge:
     AT_ONCE = 50
 
     def __init__(self, program):
-        self.process = subprocess.Popen([program, "replay-acts"], stdin=subprocess.PIPE, stdout=subprocess.PIPE, text=True)
+        self.process = subprocess.Popen(
+            [program, "replay-acts"], stdin=subprocess.PIPE, stdout=subprocess.PIPE, text=True
+        )
         self.acts, self.waiting, self.told = 0, [], []
 
     def give(self, act):
@@ -156,8 +158,13 @@ class Owed:
                 focus[judge.acts] = f"{holds.owner[keyboard][1:]}'s keyboard" if keyboard in holds.owner else None
                 self.batch(act, at, holds.serving)
             told = judge.take()
-            self.told.append([(self.names[label] if label else focus[act], event, self.named(event, words))
-                              for act, label, event, words in told if label in self.names])
+            self.told.append(
+                [
+                    (self.names[label] if label else focus[act], event, self.named(event, words))
+                    for act, label, event, words in told
+                    if label in self.names
+                ]
+            )
             self.holders.append(holds.holder)
             self.windows.append(holds.focus)
             self.servings.append(holds.serving)
@@ -227,13 +234,21 @@ class Owed:
             step = dones[serial - 1] if 0 < serial <= len(dones) else None
             holder, window = (None, None) if step is None else (self.holders[step], self.windows[step])
             self.batches.setdefault(at, []).append(
-                Batch(holder, window, serial == len(dones), act[1] == serving, self.edits.pop(act[1])))
+                Batch(holder, window, serial == len(dones), act[1] == serving, self.edits.pop(act[1]))
+            )
         else:
             edits[act[0]] = act[2]
 
     def batch_of(self, at, group):
-        """The batch of a step, or of one before, that has the edits of a group that a field was told; else the last one."""
+        """The batch of a step, or of one before, that has the edits of a group that was told; else the last one."""
         found = [batch for step in sorted(self.batches, reverse=True) if step <= at for batch in self.batches[step]]
-        same = [batch for batch in found if group[2] and batch.edits.get("mstring") == group[2] or
-                not group[2] and group[3] and batch.edits.get("mpreedit") == group[3][0]]
+        same = [
+            batch
+            for batch in found
+            if group[2]
+            and batch.edits.get("mstring") == group[2]
+            or not group[2]
+            and group[3]
+            and batch.edits.get("mpreedit") == group[3][0]
+        ]
         return (same or found or [Batch()])[0]

@@ -6,15 +6,47 @@ import shlex
 
 # How many words each command has, itself counted, and the names of what it can do only where the compositor offers it.
 COMMANDS = {
-    "window": 2, "close": 2, "surface": 2, "paint": 2, "field": 2, "enable": 2, "disable": 2, "commit": 2,
-    "surround": 5, "cause": 3, "content": 4, "rect": 6, "method": 2, "mstring": 3, "mpreedit": 5, "mdelete": 4,
-    "mcommit": 3, "grab": 3, "popup": 4, "board": 2, "vkeymap": 3, "vkey": 4, "vmods": 6, "drop": 2, "raw": 4,
+    "window": 2,
+    "close": 2,
+    "surface": 2,
+    "paint": 2,
+    "field": 2,
+    "enable": 2,
+    "disable": 2,
+    "commit": 2,
+    "surround": 5,
+    "cause": 3,
+    "content": 4,
+    "rect": 6,
+    "method": 2,
+    "mstring": 3,
+    "mpreedit": 5,
+    "mdelete": 4,
+    "mcommit": 3,
+    "grab": 3,
+    "popup": 4,
+    "board": 2,
+    "vkeymap": 3,
+    "vkey": 4,
+    "vmods": 6,
+    "drop": 2,
+    "raw": 4,
 }
 TEXTS = {"surround", "mstring", "mpreedit"}
 FAMILIES = ["focus", "windows", "entries", "serials", "edits", "methods", "ends", "keys", "popups", "slow", "bad"]
 KINDS = {"programs": "program", "methods": "method"}
-ALONE = {"focus": 2, "unfocus": 1, "press": 2, "release": 2, "mark": 3, "pause": 2, "resume": 2, "kill": 2, "quit": 2,
-         "refused": 2}
+ALONE = {
+    "focus": 2,
+    "unfocus": 1,
+    "press": 2,
+    "release": 2,
+    "mark": 3,
+    "pause": 2,
+    "resume": 2,
+    "kill": 2,
+    "quit": 2,
+    "refused": 2,
+}
 
 
 class BadScenario(Exception):

@@ -9,8 +9,11 @@ from .peer import NoAnswer, Peer
 from .player import Skip
 from .words import GRAVE, SERIOUS, Fault
 
-KEYS = {letter: first + at for first, row in {16: "qwertyuiop", 30: "asdfghjkl", 44: "zxcvbnm", 57: " "}.items()
-        for at, letter in enumerate(row)}
+KEYS = {
+    letter: first + at
+    for first, row in {16: "qwertyuiop", 30: "asdfghjkl", 44: "zxcvbnm", 57: " "}.items()
+    for at, letter in enumerate(row)
+}
 TAB = 15
 PROFILE = """[Groups/0]
 Name=Default
@@ -51,8 +54,13 @@ class Table:
         self.desk, self.entries, self.programs, self.method, self.dones = desk, entries, {}, None, 0
 
     def window(self, name):
-        env = dict(self.desk.environment("program"), GTK_IM_MODULE="wayland", GSK_RENDERER="cairo",
-                   GDK_BACKEND="wayland", GTK_A11Y="none")
+        env = dict(
+            self.desk.environment("program"),
+            GTK_IM_MODULE="wayland",
+            GSK_RENDERER="cairo",
+            GDK_BACKEND="wayland",
+            GTK_A11Y="none",
+        )
         self.programs[name] = self.desk.start(self.entries, name, env=env)
         until(f"{name} can have the focus", lambda: self.try_focus(name))
 
@@ -78,11 +86,13 @@ class Table:
 
     def activated(self, more=1):
         """Waits until the method was activated so often again; answers the serial of its last done."""
+
         def holds():
             self.method.ask_sync()
             self.method.wait_sync()
             events = [event for _, to, event, _ in self.method.heard if to == "m"]
             return events.count("activate") >= more and events[-1] == "done"
+
         try:
             until("the method is activated", holds, 5)
         except NoAnswer:
@@ -136,11 +146,23 @@ def from_entry_to_password(table):
     here = table.text("A", 2)
     faults = []
     if "late" in late or "late" in here:
-        faults.append(Fault(GRAVE, PLACE, "the password entry got the batch that was meant for the entry before it",
-                            f"the password is {here!r}"))
+        faults.append(
+            Fault(
+                GRAVE,
+                PLACE,
+                "the password entry got the batch that was meant for the entry before it",
+                f"the password is {here!r}",
+            )
+        )
     if "here" not in here:
-        faults.append(Fault(SERIOUS, "A batch for the field in use comes to it.", f"the password entry has {here!r}",
-                            "nothing can be composed there"))
+        faults.append(
+            Fault(
+                SERIOUS,
+                "A batch for the field in use comes to it.",
+                f"the password entry has {here!r}",
+                "nothing can be composed there",
+            )
+        )
     return faults
 
 
@@ -155,7 +177,9 @@ def from_window_to_window(table):
     table.activated()
     table.commit("late", old)
     if late := table.text("B", 1):
-        return [Fault(GRAVE, PLACE, f"the other program's entry got {late!r}", "text comes into another program's window")]
+        return [
+            Fault(GRAVE, PLACE, f"the other program's entry got {late!r}", "text comes into another program's window")
+        ]
     return []
 
 
@@ -168,8 +192,14 @@ def a_word_by_fcitx5(table):
         time.sleep(0.5)
         if "你好" in table.text("A", 1):
             return []
-    return [Fault(SERIOUS, "A word that is composed comes to the field in use.", f"the entry has {table.text('A', 1)!r}",
-                  "no word can be composed")]
+    return [
+        Fault(
+            SERIOUS,
+            "A word that is composed comes to the field in use.",
+            f"the entry has {table.text('A', 1)!r}",
+            "no word can be composed",
+        )
+    ]
 
 
 def the_focus_moves_under_fcitx5(table):
@@ -188,17 +218,32 @@ def the_focus_moves_under_fcitx5(table):
     a, b = table.text("A", 1), table.text("B", 1)
     strayed = a.count("我们") + b.count("你好")
     if strayed:
-        return [Fault(GRAVE, PLACE, f"{strayed} of 30 words came into the other program's window",
-                      "text comes into another program's window")]
+        return [
+            Fault(
+                GRAVE,
+                PLACE,
+                f"{strayed} of 30 words came into the other program's window",
+                "text comes into another program's window",
+            )
+        ]
     return []
 
 
 CASES = [
-    Case("GTK: from an entry to a password entry", "The method's batch for the first comes after Tab: the password is not to have it.",
-         from_entry_to_password),
-    Case("GTK: from one program to another", "The method's batch for the first program comes after the focus moved.",
-         from_window_to_window),
+    Case(
+        "GTK: from an entry to a password entry",
+        "The method's batch for the first comes after Tab: the password is not to have it.",
+        from_entry_to_password,
+    ),
+    Case(
+        "GTK: from one program to another",
+        "The method's batch for the first program comes after the focus moved.",
+        from_window_to_window,
+    ),
     Case("fcitx5: a word in GTK", "fcitx5 types a word of pinyin into an entry.", a_word_by_fcitx5),
-    Case("fcitx5: the focus moves", "Words are typed in two programs' windows in turn: each word in its own window or nowhere.",
-         the_focus_moves_under_fcitx5),
+    Case(
+        "fcitx5: the focus moves",
+        "Words are typed in two programs' windows in turn: each word in its own window or nowhere.",
+        the_focus_moves_under_fcitx5,
+    ),
 ]
