@@ -337,7 +337,7 @@ class Mir(Desk):
 
 
 class Weston(Desk):
-    """Weston with the project's plug-in and the driver of its trials, which `make weston` and `make weston-test` build."""
+    """Weston with the plug-in and the driver of its trials, which `make weston` and `make weston-test` build."""
 
     name = "Weston"
     keys, can_unfocus = "seat", True
@@ -432,7 +432,7 @@ class Gateway(Sway):
 KINDS = {"weston": Weston, "sway": Sway, "compositor": Embed, "mir_demo_server": Mir, "wlim-gateway": Gateway}
 
 
-class Told(Desk):
+class Commanded(Desk):
     """A compositor whose focus a command moves: `{}` in it is the window's app id."""
 
     def __init__(self, client, command, focus, unfocus):
@@ -455,6 +455,6 @@ class Told(Desk):
 def desk_for(client, command, focus="", unfocus=""):
     command = [os.path.abspath(word) if "/" in word and os.path.exists(word) else word for word in command]
     if focus:
-        return Told(client, command, focus, unfocus)
+        return Commanded(client, command, focus, unfocus)
     kind = KINDS.get(os.path.basename(command[0]) if command else "", Desk)
     return kind(client, command)

@@ -127,9 +127,9 @@ class Compared:
         found = []
         for name, event, words in told:
             if event == "commit_string" and self.kinds.get(name) == "field":
-                found.append("text")
+                found.append("told a text")
             elif event in ("key", "pass") and self.kinds.get(name) == "keyboard":
-                found.append(f"key {words[-2]}")
+                found.append(f"told the key {words[-2]}")
         return found
 
     def compare_order(self, peer):

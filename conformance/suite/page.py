@@ -94,7 +94,8 @@ def page(runs):
     return (
         f"<!DOCTYPE html><meta charset=utf-8><title>Which text reaches which field</title><style>{STYLE}</style>"
         "<h1>Which text reaches which field</h1><p>Scenarios of text inputs and input methods, played by clients at "
-        "each compositor. What each client was owed is what the proved rules say; a click on a fault shows its messages.</p>"
+        "each compositor. What each client was owed is what the proved rules say; a click on a fault shows its "
+        "messages.</p>"
         f"<table><tr><th>scenario</th>{head}</tr>{''.join(body)}</table>\n"
     )
 
@@ -103,14 +104,10 @@ def page(runs):
 
 
 def counts(rows):
-    """What stands in a table's cell: how many passed, of how many were played, and how many faults are grave."""
-    rows = [row for row in rows if row]
-    played = [row for row in rows if row["result"] != "skipped"]
-    passed = sum(row["result"] == "passed" for row in played)
-    bad = sum(grave(row) == "grave" for row in played)
-    text = f"{passed}" if passed == len(played) else f"{passed} of {len(played)}"
-    skipped = len(rows) - len(played)
-    return text + (f", {bad} grave" if bad else "") + (f", {skipped} skipped" if skipped else "")
+    """What stands in a table's cell: how many passed; of the others how many are grave; how many were skipped."""
+    results = [grave(row) for row in rows]
+    passed, bad, skipped = (results.count(kind) for kind in ("passed", "grave", "skipped"))
+    return f"{passed}" + (f" ({bad})" if bad else "") + (f", -{skipped}" if skipped else "")
 
 
 def table(runs):
