@@ -25,9 +25,12 @@
 # make gateway-test  tests it beside sway, with programs and fcitx5, and prints its figures; after `make build` and
 #                  `make libwlim`. Installs what it needs of Debian 12: as root, with a network
 # make gateway-mutter-test  after it, types through the gateway beside GNOME's compositor
+# make conformance  which text reaches which field at sway, Mir, Weston with the plug-in where it is built, the example
+#                  compositor and the gateway: the table of docs/CONFORMANCE.md and a page; WLCS's tests of text inputs;
+#                  faults that are planted. After `make build` and `make libwlim`. Installs as embed-test does
 PROGRAM = crates/wlim/out/wlim
 .PHONY: demo build examples quick test gate-cost cost memory claims libwlim embed embed-test embed-speed
-.PHONY: weston weston-test gateway gateway-test gateway-mutter-test
+.PHONY: weston weston-test gateway gateway-test gateway-mutter-test conformance
 demo:
 	cd crates/wlim && rt try -- replay-acts < ../../examples/one_string.acts
 
@@ -90,3 +93,10 @@ embed-speed:
 	tests/embed_needs.sh gcc binutils pkg-config libwayland-dev libwayland-bin wayland-protocols libwlroots-dev \
 		libxkbcommon-dev sway valgrind
 	timeout -k 10 300 tests/embed_speed.sh
+
+conformance:
+	tests/conformance_needs.sh
+	conformance/all.sh --table
+	conformance/wlcs/run.sh out/conformance
+	tests/conformance_checked.sh
+	tests/conformance_faults.py
