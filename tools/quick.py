@@ -59,6 +59,8 @@ def program(folder):
     """Whether a program writes what its crate says, with the arguments and the status that it says."""
     given = {name: f"{folder}/{name}" for name in ("args", "stdin", "stdout", "status")}
     words = read(given["args"]).split("\n") if os.path.exists(given["args"]) else []
+    # (the gate runs it where the files of data/ lie)
+    words = [f"data/{it}" if it and os.path.exists(f"{folder}/data/{it}") else it for it in words]
     command = ["rt", "try", *(["--", *[it for it in words if it]] if words else [])]
     status, said, wrong = run(command, folder, given["stdin"] if os.path.exists(given["stdin"]) else None)
     wanted = int(read(given["status"]).strip()) if os.path.exists(given["status"]) else 0
