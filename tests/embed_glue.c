@@ -44,12 +44,6 @@ void *__wrap_malloc(size_t size) { return refuses() ? NULL : __real_malloc(size)
 void *__wrap_calloc(size_t count, size_t size) { return refuses() ? NULL : __real_calloc(count, size); }
 void *__wrap_realloc(void *at, size_t size) { return refuses() ? NULL : __real_realloc(at, size); }
 
-#if WLIM_VERSION >= 2
-#define HIDDEN "hidden\n"
-#else
-#define HIDDEN "" /* the library doesn't say it */
-#endif
-
 static bool on_fuse; /* each file is one of FUSE */
 
 int __real_fstatfs(int file, struct statfs *on);
@@ -402,7 +396,7 @@ static void renewed(void)
 	zwp_input_method_keyboard_grab_v2_add_listener(clients[M].grab, &grab_events, &clients[M]);
 	holds("a grab", "m keymap 1 keymap of the seat\nm repeat 25 600\nm mods 4 0 0 0\n");
 	wlim_glue_renew(glue);
-	holds("a new seat", HIDDEN "b leave\nb enter\nm deactivate\nm done\n"
+	holds("a new seat", "hidden\nb leave\nb enter\nm deactivate\nm done\n"
 		"m keymap 1 keymap of the seat\nm repeat 25 600\nm mods 4 0 0 0\n");
 	commits(M, "too late", 6);
 	enable(B);
@@ -669,7 +663,6 @@ static void popups_end(void)
 	turn();
 	told[0] = 0;
 	a_popup();
-#if WLIM_VERSION >= 2
 	wlim_glue_focus(glue, NULL);
 	holds("the focus goes", "hidden\na leave\nm deactivate\nm done\n");
 	wlim_glue_focus(glue, clients[A].at);
@@ -688,15 +681,12 @@ static void popups_end(void)
 		printf("disabled: told\n%s", told);
 	told[0] = 0;
 	a_popup();
-#endif
 	zwp_input_popup_surface_v2_destroy(clients[M].popup);
 	clients[M].popup = NULL;
 	holds("it ends", "hidden\n");
 	a_popup();
 	kill_client(M);
-#if WLIM_VERSION >= 2
 	holds("its method is killed", "hidden\na leave\na enter\n");
-#endif
 	told[0] = 0;
 	join(M, "m");
 	make_method(M);

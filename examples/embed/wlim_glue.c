@@ -198,12 +198,10 @@ static void tell_shell(struct wlim_glue *glue, const struct wlim_event *event)
 		popup->is_shown = true;
 		glue->hooks->placed(glue->data, popup->surface, glue->screen[0] + event->second, glue->screen[1] + event->third);
 		break;
-#if WLIM_VERSION >= 2
 	case WLIM_HIDDEN:
 		if ((popup = object_of(glue, event->first)))
 			hide(popup);
 		break;
-#endif
 	}
 }
 
