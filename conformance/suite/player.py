@@ -2,6 +2,7 @@
 import time
 
 from .peer import NoAnswer, Peer
+from .scenarios import BadScenario
 
 NEEDS = {
     "field": "zwp_text_input_manager_v3",
@@ -19,7 +20,7 @@ class Trace:
     """What was played. A step has its line, its acts, and what was told: (client, object, event, arguments)."""
 
     def __init__(self, scenario):
-        self.scenario, self.steps, self.ends, self.crashed, self.stuck = scenario, [], {}, None, None
+        self.scenario, self.steps, self.crashed, self.stuck = scenario, [], None, None
 
     def told_to(self, name):
         """Each (step, event, arguments) of an object."""
@@ -70,8 +71,7 @@ class Player:
         except NoAnswer as fault:
             self.trace.stuck = str(fault)
         finally:
-            for name, peer in self.peers.items():
-                self.trace.ends[name] = peer.ended
+            for peer in self.peers.values():
                 peer.end()
         self.trace.crashed = self.desk.after_scenario()
         return self.trace
@@ -123,6 +123,8 @@ class Player:
             for name, _, to, event, words in heard:
                 self.hear(to, event, words)
                 step["told"].append((name, to if to != "keyboard" else f"{name}'s keyboard", event, words))
+            if wrong := [line for peer in peers for line in peer.wrong]:
+                raise BadScenario(f"{self.scenario.name}: {step['line']}: {wrong[0]}")
             quiet = 0 if heard else quiet + 1
             if not heard and quiet < self.desk.rounds and self.desk.pause:
                 time.sleep(self.desk.pause)
