@@ -132,6 +132,14 @@ fn stamp(by: (u64, u64)) -> Stamp {
     Stamp { moment, author }
 }
 
+fn shows_stamps(rt: &impl Abort, stamps: &StampList) {
+    equal(rt, stamps.len(), 4);
+    assert!(rt; stamps.entry(0).is_none() && stamps.entry(5).is_none());
+    for (number, _, want) in STAMPS {
+        equal(rt, stamps.entry(number).copied(), Some(stamp(want)));
+    }
+}
+
 // A moment never falls, and stays where its stamp was let go.
 #[test]
 fn moments_never_fall(rt: HostRuntime) -> Result<(), Fail> {
@@ -142,15 +150,11 @@ fn moments_never_fall(rt: HostRuntime) -> Result<(), Fail> {
         assert!(rt; stamps.len() < u32::MAX);
         stamps.push(next);
     }
-    let copy = stamps.copy(rt.alloc())?;
-    equal(&rt, copy.len(), 4);
-    equal(&rt, (copy.entry(0), copy.entry(5)), (None, None));
-    for (number, _, want) in STAMPS {
-        equal(&rt, copy.entry(number), Some(&stamp(want)));
-    }
+    shows_stamps(&rt, &stamps.copy(rt.alloc())?);
     equal(&rt, stamps.pop_oldest(), Some(stamp((5, 1))));
     stamps.let_go(4);
-    equal(&rt, (stamps.kept_from(), stamps.entry(4)), (4, None));
+    equal(&rt, stamps.kept_from(), 4);
+    assert!(rt; stamps.entry(4).is_none());
     equal(&rt, stamps.next(&entry(1), stamp((5, 1))).moment, 9);
     Ok(())
 }
