@@ -30,7 +30,7 @@ ENSURES = re.compile(r"\bensures\s*\*?\s*(\w+)\s*\{")
 GHOST = re.compile(r"\b(?:ghost|struct|enum|trait)\s+(\w+)\s*[:={<(]")
 DEFINED = re.compile(r"^\s*(?:(?:abbrev|unfoldable|record|data)\s+)*pub\s+(?:record\s+)?(\w+)", re.M)
 WORDS_OF_NO_CLAUSE = {"ensures", "requires", "result"}
-MOST_WORDS = 56_000
+MOST_WORDS = 57_000
 RUN = ["README.md", "docs/TOUR.md", "docs/FORMATS.md", "docs/AUDITING.md"]
 FILE = re.compile(r"[\w./-]+\.(?:rt|antt|py|sh|c|h|md|txt|session|acts|transcript|trial|shown|edit)")
 NAME = re.compile(r"[a-z]\w*_\w+|(?:[A-Z][a-z0-9]+){2,}|\w+(?:::\w+)+")
