@@ -21,8 +21,8 @@ use std::test::Fail;
 use std::thread::{Threads, join, map_vec};
 use wio_core::MemSink;
 
-/// So many links, each of so many frames, where the writes with these numbers fail; which step is held, and until when; and
-/// how the writers end.
+/// So many links, each of so many frames, where the writes with these numbers fail; which step is held, and until when; how
+/// the writers end, how many bytes they took, and what one take more answers.
 struct Row {
     links: u32,
     asks: u32,
@@ -30,7 +30,7 @@ struct Row {
     held: (u32, u64),
     answer: (u32, u64),
     wanted: u64,
-    wrote: WriteEnd,
+    wrote: (WriteEnd, u64, Took),
 }
 
 static ROWS: [Row; 4] = [
@@ -42,7 +42,7 @@ static ROWS: [Row; 4] = [
         held: (1, 2),
         answer: (0, 0),
         wanted: 116,
-        wrote: WriteEnd::Closed,
+        wrote: (WriteEnd::Closed, 112, Took::Closed),
     },
     // The first message's answer meets the write that fails, and the second's wakes the writer, which takes it.
     Row {
@@ -52,7 +52,7 @@ static ROWS: [Row; 4] = [
         held: (1, 2),
         answer: (0, 0),
         wanted: 116,
-        wrote: WriteEnd::WriteFault(TakeEnd::Closed),
+        wrote: (WriteEnd::WriteFault(TakeEnd::Closed), 224, Took::Closed),
     },
     // Two readers run beside each other: peer 1's first step is held until peer 2's was answered.
     Row {
@@ -62,7 +62,7 @@ static ROWS: [Row; 4] = [
         held: (1, 1),
         answer: (2, 1),
         wanted: 1,
-        wrote: WriteEnd::Closed,
+        wrote: (WriteEnd::Closed, 112, Took::Closed),
     },
     // Eight links race.
     Row {
@@ -72,7 +72,7 @@ static ROWS: [Row; 4] = [
         held: (0, 0),
         answer: (0, 0),
         wanted: 0,
-        wrote: WriteEnd::Closed,
+        wrote: (WriteEnd::Closed, 11_200, Took::Closed),
     },
 ];
 
@@ -204,7 +204,7 @@ fn stands<R: Abort>(
         done.read,
         (ReadEnd::Closed, u64::from(row.asks) + 1),
     );
-    equal_at(rt, &done.peer, done.wrote, (row.wrote, told, Took::Closed));
+    equal_at(rt, &done.peer, done.wrote, row.wrote);
     equal_at(rt, &done.peer, in_order(journal, done.peer).0, row.asks);
     let taken = replay(alloc, journal, done.peer)?;
     equal_at(rt, &done.peer, taken.len() as u64, told);

@@ -187,7 +187,7 @@ pub fn read_all<R: Wait, G: Gate>(
 }
 
 /// What is stored for the peer goes into the sink: how that ended, how many bytes were taken, and what one take more
-/// answers.
+/// answers, which waits until something is stored or the peer has ended.
 pub fn write_all<R: Wait, K: Sink>(
     rt: &R,
     writes: Writes<'_>,
@@ -196,6 +196,6 @@ pub fn write_all<R: Wait, K: Sink>(
     let Writes { hub, mut pass } = writes;
     let end = write_peer(rt, hub, &mut pass, sink);
     let taken = pass.bytes();
-    let took = hub.take(rt, &mut pass, &mut [0; 4096], &mut [0; 256]);
+    let took = hub.wait_take(rt, &mut pass, &mut [0; 4096], &mut [0; 256]);
     (end, taken, took)
 }
