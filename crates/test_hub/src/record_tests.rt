@@ -24,7 +24,11 @@ static SYNC: [u8; 12] = [1, 0, 0, 0, 0, 0, 12, 0, 2, 0, 0, 0];
 type Authors = [u64; 6];
 
 /// A peer whose calls are made in one thread.
-type Peer<'a> = (Steps<'a>, Takes<'a>);
+#[derive(Drop)]
+struct Peer<'a> {
+    steps: Steps<'a>,
+    takes: Takes<'a>,
+}
 
 // Takes note of all that is handed out, and of the last number that was one more than the one before.
 fn record_all<R: Wait>(rt: &R, hub: &Hub, mut pass: RecorderPass) -> (Authors, u32)
@@ -58,7 +62,10 @@ fn ask_once<R: Wait>(rt: &R, alloc: Global, steps: &mut Steps<'_>, takes: &mut T
 
 // It asks again and again, and ends.
 fn ask_often<R: Wait>(rt: &R, alloc: Global, peer: Peer<'_>) {
-    let (mut steps, mut takes) = peer;
+    let Peer {
+        mut steps,
+        mut takes,
+    } = peer;
     for _ in 0..TIMES {
         ask_once(rt, alloc, &mut steps, &mut takes);
     }
@@ -105,12 +112,14 @@ fn each_entry_is_handed_out_once(rt: HostRuntime) -> Result<(), Fail> {
         return Err(Fail::new("nobody records"));
     };
     equal(&rt, hub.recorder(&rt, &mut root).is_none(), true);
-    let Some(one) = join_peer(&rt, &hub, &mut root, Role::App) else {
+    let Some((steps, takes)) = join_peer(&rt, &hub, &mut root, Role::App) else {
         return Err(Fail::new("no peer joined"));
     };
-    let Some(other) = join_peer(&rt, &hub, &mut root, Role::App) else {
+    let one = Peer { steps, takes };
+    let Some((steps, takes)) = join_peer(&rt, &hub, &mut root, Role::App) else {
         return Err(Fail::new("no peer joined"));
     };
+    let other = Peer { steps, takes };
     hub.end_record(2);
     let record = record_beside(&rt, alloc, &hub, pass, one, other);
     equal(&rt, record, ([2, 0, 201, 200, 201, 200], 804));

@@ -242,25 +242,22 @@ fn check_session<R: Abort>(
     Ok(())
 }
 
-fn check_row<
-    R: Abort + Threads + Wait + Files<File = File> + Net + Clock + Copy + Send + Sync + 'static,
->(rt: R, alloc: Global, row: &Row, place: usize) -> Result<(), Fail> {
-    let words = words(alloc, row.line)?;
-    let mut net = UnixNet::new(rt, alloc);
-    let mut output = output_of(alloc, Hold::Nobody, &[])?;
-    let board = Arc::try_clone(&output.board)?;
-    let clients = thread::spawn(&rt, move || do_row(&rt, alloc, place))?;
-    let status = serve_unix(rt, alloc, &words, &mut net, row.starts, &board, &mut output);
-    let read = clients.join(&rt).ok_or("a client failed")?;
-    equal_at(&rt, &row.line, status, row.status);
-    check_read(&rt, row, read.as_slice());
-    check_session(&rt, alloc, row, output.sink.held(), read.as_slice())
-}
-
+// The row's clients run in a thread of their own.
 #[test]
 fn links_at_sockets_are_served(rt: HostRuntime) -> Result<(), Fail> {
+    let alloc = rt.alloc();
     for place in 0..ROWS.len() {
-        check_row(rt, rt.alloc(), &ROWS[place], place)?;
+        let row = &ROWS[place];
+        let words = words(alloc, row.line)?;
+        let mut net = UnixNet::new(rt, alloc);
+        let mut output = output_of(alloc, Hold::Nobody, &[])?;
+        let board = Arc::try_clone(&output.board)?;
+        let clients = thread::spawn(&rt, move || do_row(&rt, alloc, place))?;
+        let status = serve_unix(rt, alloc, &words, &mut net, row.starts, &board, &mut output);
+        let read = clients.join(&rt).ok_or("a client failed")?;
+        equal_at(&rt, &row.line, status, row.status);
+        check_read(&rt, row, read.as_slice());
+        check_session(&rt, alloc, row, output.sink.held(), read.as_slice())?;
     }
     Ok(())
 }
