@@ -46,7 +46,7 @@ static void make_at_broker(struct client *client, struct message *message, int m
 	if (interface == &zwp_input_popup_surface_v2_table && !request_mirror(client, message->numbers[1]))
 		return client_refuse(client, message->object, ERROR_OBJECT, "wrong object");
 	if (interface == &zwp_input_method_keyboard_grab_v2_table)
-		object->never_stands = message->object != client->serves || wlim_broker_grab(&broker) > 0;
+		object->never_stands = message->object != client->serves || wlim_broker_grab(broker) > 0;
 	memcpy(message->bytes, &own, sizeof own);
 	if (offer)
 		message_set(message, 1 - (unsigned)made, OWN + GLOBAL_SEAT);
@@ -86,6 +86,12 @@ void request_release(struct client *client, uint32_t board) {
 		client->down[at] = client->down[--client->down_count];
 		broker_receive(client, draft(down.board, zwp_virtual_keyboard_v1_request_key, "uuu", down.time, down.key, 0), 0);
 	}
+}
+
+void request_press(struct client *client) {
+	for (const struct down *down = client->down; down < client->down + client->down_count; down++)
+		if (client->peer > 0 && !client->ending && !keyboard_has(client, down->board, down->key))
+			broker_receive(client, draft(down->board, zwp_virtual_keyboard_v1_request_key, "uuu", down->time, down->key, 1), 0);
 }
 
 static void to_broker(struct client *client, struct message *message, const uint32_t *tokens) {

@@ -104,6 +104,8 @@ static void play(struct line *line)
 		core_go_on(line->moment, words[0], words[1]);
 	else if (strcmp(call, "copied") == 0)
 		core_copied(line->moment, words[0], words[1], words[2]);
+	else if (strcmp(call, "renew") == 0)
+		core_renew(line->moment);
 	else if (strcmp(call, "round") == 0)
 		core_round(line->moment);
 	else if (strcmp(call, "sweep") == 0)
