@@ -16,14 +16,16 @@ struct wlim_broker broker;
 
 static struct {
 	unsigned number; /* of the broker, from 1: each has a record */
-	uint64_t moment; /* of the last step */
+	uint64_t moment; /* of the last step of who types, and for whom */
+	bool is_idle; /* what is done now is another's */
 } self;
 
 /* Writes a call's line, if it was taken. Answers the answer. */
 int64_t broker_record(int64_t answer, const char *format, ...) {
 	static char line[LINE];
 	va_list arguments;
-	self.moment = gateway.moment;
+	if (!self.is_idle)
+		self.moment = gateway.moment;
 	if (answer == WLIM_NO_MEMORY || answer == WLIM_FULL)
 		out(OUT_PROBLEMS, "%s\n", answer == WLIM_FULL ? "the broker is full" : "there is no memory for a step");
 	if (answer < WLIM_GIVEN || !outlets[OUT_RECORD])
@@ -113,6 +115,10 @@ int64_t broker_done(int64_t answer) {
 }
 
 void broker_receive(struct client *client, const struct message *message, uint32_t token) {
+	uint32_t surface;
+	self.is_idle = client->serves == 0 && keyboard_focus(&surface) != client;
+	if (!gateway.renews)
+		budget_spend(client, message->size);
 	int64_t answer = wlim_broker_receive(&broker, gateway.moment, client->peer, message->bytes, message->size, &token,
 		token > 0);
 	if (token > 0)
@@ -123,14 +129,20 @@ void broker_receive(struct client *client, const struct message *message, uint32
 	if (answer < WLIM_GIVEN)
 		client_refuse(client, DISPLAY, ERROR_MEMORY, "the broker can't take its message");
 	broker_done(answer);
+	self.is_idle = false;
 }
 
 bool broker_join(struct client *client) {
 	bool method = client->role == METHOD;
-	int64_t answer = wlim_broker_join(&broker, gateway.moment, method ? WLIM_KEYED : WLIM_APP);
-	broker_record(answer, method ? "join keyed" : "join app");
+	int64_t answer = WLIM_MANY;
+	if (budget_place(client))
+		answer = broker_record(wlim_broker_join(&broker, gateway.moment, method ? WLIM_KEYED : WLIM_APP),
+			method ? "join keyed" : "join app");
 	if (answer < WLIM_GIVEN)
-		return client_refuse(client, DISPLAY, ERROR_MEMORY, "the broker takes no more clients"), false;
+		return out(OUT_PROBLEMS, "client %u (%s) has no place at the broker\n", client->number,
+			process_named(client->process)), false;
+	if (!gateway.renews)
+		budget_spend(client, 0);
 	client->peer = (uint32_t)answer;
 	broker_receive(client, draft(DISPLAY, wl_display_request_get_registry, "u", OWN), 0);
 	for (const struct offer *offer = offers; offer->interface; offer++)

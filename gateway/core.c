@@ -73,15 +73,19 @@ void core_close(void) {
 	broker_close();
 }
 
-unsigned core_join(uint64_t moment, enum role role) {
+unsigned core_join(uint64_t moment, enum role role, unsigned process, const char *command) {
 	unsigned link = 1;
 	at(moment, 0);
 	while (link <= LINKS_MAX && core.held[link])
 		link++;
-	struct client *client = link <= LINKS_MAX ? client_open(role) : NULL;
-	CALLED("%" PRIu64 " join %d", gateway.moment, role);
+	struct process *of = link <= LINKS_MAX ? process_join(process, command) : NULL;
+	struct client *client = of ? client_open(role, of) : NULL;
+	if (of && !client)
+		process_leave(of);
 	if (!client)
-		return out(OUT_PROBLEMS, "a client isn't let in: there are too many, or no memory\n"), 0;
+		return out(OUT_PROBLEMS, "a client of process %u, %s, isn't let in: there %s\n", process, command,
+			of ? "is no memory" : "are too many"), 0;
+	CALLED("%" PRIu64 " join %d %u %s", gateway.moment, role, process, command);
 	client->link = link;
 	core.links[link] = client;
 	core.held[link] = true;
@@ -90,7 +94,14 @@ unsigned core_join(uint64_t moment, enum role role) {
 
 size_t core_room(unsigned link, enum side side) {
 	struct client *client = core.links[link];
-	return client && !client->ending ? wire_room(wire_of(client, side)) : 0;
+	size_t room = client && !client->ending ? wire_room(wire_of(client, side)) : 0;
+	return room > 0 && side == NEAR ? budget_room(client, room) : room;
+}
+
+bool core_short(uint64_t moment) {
+	at(moment, 0);
+	CALLED("%" PRIu64 " short", gateway.moment);
+	return budgets_short();
 }
 
 uint32_t core_token(void) {
@@ -102,9 +113,15 @@ void core_receive(uint64_t moment, unsigned link, enum side side, const uint8_t 
 		const uint32_t *tokens, size_t count) {
 	struct client *client = at(moment, link);
 	called_with("receive", link, side, bytes, size, tokens, count);
+	bool lost = false;
+	for (size_t each = 0; each < count; each++)
+		lost |= tokens[each] == 0;
+	if (lost)
+		budgets_short(); /* before who sent it */
 	if (client && !client->ending) {
 		if (!wire_keep(wire_of(client, side), bytes, size, tokens, count))
-			client_refuse(client, DISPLAY, ERROR_METHOD, "too many descriptors wait for their messages");
+			client_refuse(client, DISPLAY, ERROR_METHOD, lost ? "there is no room for its descriptors"
+				: "too many descriptors wait for their messages");
 		return client_play(client, side);
 	}
 	for (size_t each = 0; each < count; each++)
@@ -187,8 +204,12 @@ void core_end(void) {
 
 int core_wait(uint64_t moment) {
 	at(moment, 0);
-	int renewal = broker_renewal(), popups = popups_wait();
-	return renewal < 0 || (popups >= 0 && popups < renewal) ? popups : renewal;
+	const int waits[] = { broker_renewal(), popups_wait(), budgets_wait() };
+	int least = -1;
+	for (size_t each = 0; each < sizeof waits / sizeof *waits; each++)
+		if (waits[each] >= 0 && (least < 0 || waits[each] < least))
+			least = waits[each];
+	return least;
 }
 
 const char *core_failed(void) {

@@ -66,11 +66,13 @@ struct object {
 };
 
 struct popup;
+struct process;
 
 struct client {
 	struct client *next;
 	unsigned link, number; /* as the shell knows it; from 1, in the order of coming */
 	enum role role;
+	struct process *process; /* whose it is */
 	uint32_t peer; /* its number at the broker; 0: it isn't there */
 	bool ending; /* nothing of it is read any more; it ends when the round does */
 	uint32_t serves; /* the id of its first input method that wasn't told that it is unavailable; 0 none */
@@ -156,7 +158,7 @@ void private_forget(struct client *client, uint32_t far);
 
 /* ---- Clients (client.c; requests.c plays their messages) ---- */
 /* A new client, before the others, or NULL: there is no memory. One that isn't in the list any more is closed. */
-struct client *client_open(enum role role);
+struct client *client_open(enum role role, struct process *process);
 void client_close(struct client *client);
 static inline struct wire *wire_of(struct client *client, enum side side) {
 	return side == NEAR ? &client->near : &client->far;
@@ -175,6 +177,20 @@ void client_told(struct client *client, uint8_t *bytes, size_t size, const uint3
 bool request_mirror(struct client *client, uint32_t surface);
 /* The keys that are down on the board are released at the broker, which tells nobody when a board ends; 0: on each. */
 void request_release(struct client *client, uint32_t board);
+
+/* ---- What a process may have of what all share (budgets.c) ---- */
+/* A client of the process comes, 0: of one that nobody knows, and goes. NULL: it has its share of clients. */
+struct process *process_join(unsigned pid, const char *command);
+void process_leave(struct process *process);
+const char *process_named(const struct process *process); /* until the next */
+/* Whether the client may be a peer. It spends a message of this size at the broker, of 0 a place; which may end it. */
+bool budget_place(const struct client *client);
+void budget_spend(struct client *client, size_t size);
+/* How many of these bytes may be read of it. In how many milliseconds more may be of somebody; -1: nobody waits. */
+size_t budget_room(const struct client *client, size_t room);
+int budgets_wait(void);
+/* Descriptors run short: who holds most ends. False: nobody holds many. */
+bool budgets_short(void);
 
 /* ---- Globals (globals.c) ---- */
 /* The broker's globals by their names there; and the gateway's own objects at each peer, which no client reaches. */
@@ -199,7 +215,7 @@ extern struct wlim_broker broker;
 /* Opens the broker, whose session begins. False: it said why. */
 bool broker_open(void);
 void broker_close(void);
-/* The client is a peer from now on. False: it is refused. */
+/* The client is a peer from now on. False: there is no place for it. */
 bool broker_join(struct client *client);
 /* A whole message of the client; where it has a descriptor, its token. After it what clients are told is sent. */
 void broker_receive(struct client *client, const struct message *message, uint32_t token);

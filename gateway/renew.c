@@ -55,7 +55,7 @@ void renew(void) {
 		for (struct client *client = gateway.clients; client; client = client->next)
 			for (uint32_t id = 1; id < client->counts[0]; id++) {
 				struct object *object = object_live(client, id);
-				if (object && (object->made[0] > 0 || object->is_ours) && round_of(client, id, object) == round
+				if (object && object->made[0] > 0 && round_of(client, id, object) == round
 						&& !client->ending && (client->peer > 0 || broker_join(client)))
 					make(client, id, object);
 			}

@@ -9,9 +9,14 @@ void outlets_open(void);
 bool outlets_all(void); /* whether each that has a name has a file */
 void outlets_close(void);
 
+/* The process at the other end, 0 where nobody knows, and its command. */
+enum { COMMAND = 16 };
+unsigned peer_of(int socket, char command[COMMAND]);
 uint64_t moment(void); /* microseconds, of a clock that never falls */
 /* The sockets of a link are the shell's from now on. */
 void link_open(unsigned link, int near, int far);
+/* So many descriptors may be open. */
+void links_limit(size_t files);
 int link_socket(unsigned link, enum side side); /* -1: there is none */
 /* Reads once what came, and does what the core asks then. */
 void link_read(unsigned link, enum side side);

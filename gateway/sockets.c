@@ -2,6 +2,8 @@
 #include "shell.h"
 #include <errno.h>
 #include <fcntl.h>
+#include <ctype.h>
+#include <stdio.h>
 #include <stdlib.h>
 #include <string.h>
 #include <sys/mman.h>
@@ -11,6 +13,7 @@
 
 enum {
 	FILES_READ = 253, /* as Linux sends at most */
+	KEPT_FREE = FILES_READ + 50, /* descriptors, for those of a read, and the gateway's own */
 	READ = 16384,
 	READ_AWAY = 64, /* times: who ends is read so far */
 	SEALS = F_SEAL_SEAL | F_SEAL_SHRINK | F_SEAL_GROW, /* and where nobody may write: it can still be mapped, shared too */
@@ -18,6 +21,7 @@ enum {
 
 static struct { int sockets[2]; } links[LINKS_MAX + 1];
 static int files[TOKENS_MAX]; /* of tokens; 0 or below: there is none */
+static size_t held, most = SIZE_MAX; /* descriptors of links and tokens; so many may be */
 
 uint64_t moment(void) {
 	struct timespec time;
@@ -25,7 +29,28 @@ uint64_t moment(void) {
 	return (uint64_t)time.tv_sec * 1000000 + (uint64_t)time.tv_nsec / 1000;
 }
 
+unsigned peer_of(int socket, char command[COMMAND]) {
+	struct ucred other = { 0 };
+	socklen_t size = sizeof other;
+	char path[40];
+	getsockopt(socket, SOL_SOCKET, SO_PEERCRED, &other, &size);
+	snprintf(path, sizeof path, "/proc/%d/comm", other.pid);
+	int file = open(path, O_RDONLY | O_CLOEXEC);
+	ssize_t came = file >= 0 ? read(file, command, COMMAND - 1) : 0;
+	if (file >= 0)
+		close(file);
+	command[came > 0 ? came : 0] = 0;
+	for (char *letter = command; *letter; letter++)
+		*letter = isgraph((unsigned char)*letter) ? *letter : letter[1] ? '_' : 0;
+	return other.pid > 0 ? (unsigned)other.pid : 0;
+}
+
+void links_limit(size_t limit) {
+	most = limit;
+}
+
 void link_open(unsigned link, int near, int far) {
+	held += 2;
 	links[link].sockets[NEAR] = near;
 	links[link].sockets[FAR] = far;
 }
@@ -42,8 +67,15 @@ static void link_close(unsigned link) {
 		for (int reads = 0; reads < READ_AWAY && recv(socket, bytes, sizeof bytes, MSG_DONTWAIT) > 0; reads++)
 			;
 		close(socket);
+		held--;
 		links[link].sockets[side] = 0;
 	}
+}
+
+static void file_close(uint32_t token) {
+	if (files[token] > 0 && close(files[token]) == 0)
+		held--;
+	files[token] = 0;
 }
 
 /* Tokens of the descriptors that came. Answers how many. */
@@ -54,10 +86,10 @@ static unsigned take_files(struct msghdr *header, uint32_t *tokens) {
 			int file;
 			memcpy(&file, (char *)part + at, sizeof file);
 			tokens[count] = core_token();
-			if (tokens[count] > 0)
-				files[tokens[count]] = file;
-			else
-				close(file);
+			held++;
+			files[tokens[count]] = file;
+			if (tokens[count] == 0)
+				file_close(0);
 		}
 	}
 	if (header->msg_flags & MSG_CTRUNC)
@@ -71,8 +103,8 @@ static bool read_once(unsigned link, enum side side) {
 	_Alignas(struct cmsghdr) char control[CMSG_SPACE(FILES_READ * sizeof(int))];
 	uint32_t tokens[FILES_READ + 1];
 	size_t room = core_room(link, side);
-	if (room == 0)
-		return false;
+	if (room == 0 || (held + KEPT_FREE > most && core_short(moment())))
+		return false; /* who holds most ends first */
 	struct iovec place = { bytes, room < sizeof bytes ? room : sizeof bytes };
 	struct msghdr header = {
 		.msg_iov = &place, .msg_iovlen = 1, .msg_control = control, .msg_controllen = sizeof control,
@@ -160,13 +192,12 @@ void perform(void) {
 		case EFFECT_COPY:
 			files[effect.token] = sealed_file(effect.bytes, effect.from > 0 ? files[effect.from] : -1, effect.offset,
 				effect.size, &is_short);
+			held += files[effect.token] > 0;
 			if (effect.kind == EFFECT_COPY)
 				core_copied(moment(), effect.token, files[effect.token] > 0 && !is_short, is_short);
 			break;
 		case EFFECT_CLOSE:
-			if (files[effect.token] > 0)
-				close(files[effect.token]);
-			files[effect.token] = 0;
+			file_close(effect.token);
 			break;
 		case EFFECT_END:
 			link_close(effect.link);

@@ -17,7 +17,7 @@ mkdir -p "$checked"
 cp -r "$made/protocols" "$checked"
 gateway/build.sh "$checked" $sanitize
 core=$(ls gateway/*.c | grep -v -e /gateway.c -e /sockets.c -e /outlets.c)
-for name in fuzz order popups pixels version_2 shell play; do
+for name in fuzz order popups pixels version_2 limits shell play; do
 	${CC:-cc} $flags $sanitize -I"$checked" -o "$checked/$name" "tests/gateway_$name.c" $core "$checked/tables.c" \
 		out/libwlim/lib/libwlim.a
 done
@@ -33,6 +33,7 @@ rm -f "$checked"/*.session* "$checked"/*.taken* "$checked"/*.calls*
 "$checked/popups"
 "$checked/pixels"
 "$checked/version_2"
+"$checked/limits"
 for seed in 1 2 3; do
 	timeout 300 "$checked/fuzz" 200000 $seed
 done
