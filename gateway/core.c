@@ -67,7 +67,7 @@ bool core_open(uint64_t moment, unsigned long entries) {
 
 void core_close(void) {
 	CALLED("close");
-	keymaps_end();
+	keymaps_sweep(true);
 	token_drop(gateway.clear);
 	gateway.clear = 0;
 	broker_close();
@@ -178,6 +178,8 @@ bool core_sweep(uint64_t moment) {
 	bool ended = false;
 	at(moment, 0);
 	CALLED("%" PRIu64 " sweep", gateway.moment);
+	if (core.count == 0)
+		keymaps_sweep(false);
 	for (struct client **place = &gateway.clients, *client; (client = *place); ) {
 		if (client->far.full)
 			client_end(client, "the compositor takes no more of it");

@@ -77,7 +77,7 @@ struct client {
 	bool ending; /* nothing of it is read any more; it ends when the round does */
 	uint32_t serves; /* the id of its first input method that wasn't told that it is unavailable; 0 none */
 	unsigned keyboards; /* its wl_keyboards of the seat that it didn't release */
-	uint32_t keymap, modifiers[4]; /* what its wl_keyboards of the seat were told: a keymap's number, 0 none */
+	uint32_t keymap, modifiers[4]; /* what its wl_keyboards of the seat were told: a keymap's number, 0 none we know */
 	struct down { uint32_t board, key, time; } down[DOWN_MAX]; /* keys that its boards hold down, those that fit */
 	unsigned down_count;
 	struct wire near, far; /* to the client, and for it to the compositor */
@@ -286,10 +286,18 @@ bool popups_hide(struct object *object, const struct message *message, bool name
 
 /* ---- Keymaps: the same text has the same number, which is its token at the broker (keymaps.c) ---- */
 enum { KEYMAP_MAX = 1048576 /* bytes */ };
-struct keymap { uint32_t format, size, token; uint8_t *text; }; /* the token is of a copy that nobody can change */
-/* The number of a keymap with the text, from 1. 0: there is none (NULL), it is the 65th, or there is no memory. */
-uint32_t keymap_number(uint32_t format, const uint8_t *text, uint32_t size);
-/* The keymap with the number, and its token to be sent; NULL and 0: there is none. */
+struct keymap {
+	uint32_t format, size, token; /* the token is of a copy that nobody can change */
+	uint8_t *text;
+	uint32_t number, users;
+	const struct process *process; /* whose board brought it first; NULL: the compositor */
+};
+/* The number of a keymap with the text, from 1, which has a user more. 0: there is none (NULL), the process has its share
+ * of them, or there is no memory. And it has a user less. */
+uint32_t keymap_take(const struct process *process, uint32_t format, const uint8_t *text, uint32_t size);
+void keymap_drop(uint32_t number);
+/* The keymap with the number, and its token to be sent; NULL and 0: there is none any more. */
 const struct keymap *keymap_find(uint32_t number);
 uint32_t keymap_token(uint32_t number);
-void keymaps_end(void);
+/* Those without users are let go, or all, once the shell has made their files. */
+void keymaps_sweep(bool all);

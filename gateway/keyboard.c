@@ -216,10 +216,13 @@ bool keyboard_event(struct client *client, const struct message *message) {
 	const uint32_t *words = message->numbers;
 	switch (message->opcode) {
 	case wl_keyboard_event_keymap:
-		client->keymap = keymap_number(words[0], client->text, words[2]);
+		client->keymap = keymap_take(NULL, words[0], client->text, words[2]);
 		if (client->keymap > 0 && client->keymap != seat.keymap)
 			broker_order(keymap, "keymap %u %u %u", words[0], client->keymap, words[2]);
-		seat.keymap = client->keymap > 0 ? client->keymap : seat.keymap;
+		if (client->keymap > 0) {
+			keymap_drop(seat.keymap);
+			seat.keymap = client->keymap;
+		}
 		return true;
 	case wl_keyboard_event_enter:
 		client_send(client, message); /* before its field hears of it */

@@ -62,12 +62,15 @@ static void make_at_broker(struct client *client, struct message *message, int m
 
 /* A board's keymap: the board has its number, which is the broker's token. */
 static void board_keymap(struct client *client, const struct message *message, uint32_t token) {
-	uint32_t number = keymap_number(message->numbers[0], client->text, message->numbers[2]);
-	object_at(client, message->object)->keymap = number;
+	uint32_t number = keymap_take(client->process, message->numbers[0], client->text, message->numbers[2]);
+	struct object *board = object_at(client, message->object);
 	token_drop(token);
 	if (number == 0)
-		return client_refuse(client, message->object, ERROR_OBJECT, "the keymap can't be read");
+		return client_refuse(client, message->object, ERROR_OBJECT, "the keymap can't be read, or is one too many");
 	broker_receive(client, message, number);
+	client->held += board->keymap == 0;
+	keymap_drop(board->keymap);
+	board->keymap = number;
 }
 
 /* A key of a board, which the broker was told. */
