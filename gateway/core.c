@@ -35,6 +35,8 @@ static void called_with(const char *call, unsigned link, enum side side, const u
 
 /* The client of a link whose call comes at a moment; NULL: it ended. */
 static struct client *at(uint64_t moment, unsigned link) {
+	if (core.count == 0) /* the shell has made what it was asked for */
+		keymaps_sweep(false);
 	gateway.moment = moment > gateway.moment ? moment : gateway.moment;
 	return link <= LINKS_MAX ? core.links[link] : NULL;
 }
@@ -178,8 +180,6 @@ bool core_sweep(uint64_t moment) {
 	bool ended = false;
 	at(moment, 0);
 	CALLED("%" PRIu64 " sweep", gateway.moment);
-	if (core.count == 0)
-		keymaps_sweep(false);
 	for (struct client **place = &gateway.clients, *client; (client = *place); ) {
 		if (client->far.full)
 			client_end(client, "the compositor takes no more of it");

@@ -83,6 +83,7 @@ void core_copied(uint64_t moment, uint32_t token, bool is_whole, bool is_short);
 
 enum outlet {
 	OUT_PROBLEMS, OUT_LOG, /* lines for people; messages of text inputs and input methods */
+	OUT_LOG_TEXT, /* whether those have what is typed */
 	OUT_RECORD, OUT_TAKEN, /* the broker's session, and what clients got of it */
 	OUT_CALLS, /* the calls of this header, to play them again */
 	OUTLETS

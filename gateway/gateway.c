@@ -182,7 +182,8 @@ static bool read_words(int count, char **words) {
 		{ "--programs", &self.names[WAIT_PROGRAMS], NULL }, { "--methods", &self.names[WAIT_METHODS], NULL },
 		{ "--compositor", &self.names[WAIT_COMPOSITOR], NULL }, { "--record", &outlet_names[OUT_RECORD], NULL },
 		{ "--taken", &outlet_names[OUT_TAKEN], NULL }, { "--calls", &outlet_names[OUT_CALLS], NULL },
-		{ "--entries", &entries, NULL }, { "--log", &outlet_names[OUT_LOG], "" }, { 0 },
+		{ "--entries", &entries, NULL }, { "--log", &outlet_names[OUT_LOG], "" },
+		{ "--log-text", &outlet_names[OUT_LOG_TEXT], "" }, { 0 },
 	};
 	if (display)
 		self.names[WAIT_COMPOSITOR] = display;

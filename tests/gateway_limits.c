@@ -243,6 +243,54 @@ static void descriptors(void)
 	close_user(&honest);
 }
 
+/* A keymap of the compositor's, of that number. */
+static void told_keymap(struct user *user, int number)
+{
+	const struct message *message = draft(far_of(user->place.client, KEYBOARD), wl_keyboard_event_keymap, "uu", 1, 40);
+	uint32_t token = keymap_file(number);
+	write_far(&user->place, message->bytes, message->size, &token, 1);
+	read_events(user);
+}
+
+static void board_keymap(struct user *user, uint32_t board, int number)
+{
+	const struct message *message = draft(board, zwp_virtual_keyboard_v1_request_keymap, "uu", 1, 40);
+	uint32_t token = keymap_file(number);
+	send_client(&user->place, message->bytes, message->size, &token, 1);
+}
+
+/* A process with many keymaps ends at its share; a grab is told each of the compositor's, and none stays. */
+static void keymaps(void)
+{
+	unsigned before = tokens_used();
+	start_of(41, &honest, with_field);
+	start_of(42, &method, start_grab);
+	start_of(43, &bad, start_board);
+	enters(&honest, NULL);
+	enable(&honest);
+	for (int number = 1; number <= 200; number++) {
+		told_keymap(&honest, number);
+		look(&method);
+		HOLDS(HEARD(&method, GRAB, zwp_input_method_keyboard_grab_v2_event_keymap, 1, 40) == 1);
+		if (number < 100)
+			board_keymap(&bad, BOARD, 1000 + number); /* each in the place of the last */
+		look(&honest);
+	}
+	HOLDS(tokens_used() == before + 3 && bad.place.link > 0);
+	for (uint32_t id = BOARD + 1; id < BOARD + 20 && bad.place.link > 0; id++) {
+		request(&bad, draft(BOARDS, zwp_virtual_keyboard_manager_v1_request_create_virtual_keyboard, "uu", SEAT, id));
+		board_keymap(&bad, id, 2000 + (int)id);
+		finish_round();
+	}
+	finish_round();
+	do_effects();
+	HOLDS(bad.place.link == 0 && tokens_used() == before + 2);
+	batch_comes(&honest, &method);
+	close_user(&bad);
+	close_user(&method);
+	close_user(&honest);
+}
+
 int main(void)
 {
 	if (!core_open(now, 3000000))
@@ -252,6 +300,7 @@ int main(void)
 	floods();
 	pauses();
 	descriptors();
+	keymaps();
 	core_close();
 	do_effects();
 	HOLDS(tokens_used() == 0);

@@ -327,7 +327,7 @@ static void grabs(void)
 	close_client(&one.place);
 }
 
-/* Of a keymap beyond those that are kept nothing older is told before its keys; but a board's is taken back. */
+/* However many keymaps came, nothing older is told before a key; and a board's is taken back. */
 static void many_keymaps(void)
 {
 	static struct user one, first;
