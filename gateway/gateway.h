@@ -245,6 +245,13 @@ void keyboard_client_joined(const struct client *client);
 void keyboard_leave_broker(void);
 void keyboard_join_broker(void);
 
+/* A key or modifiers go to a grab, typed at a surface, by its number; whether they were typed there that are given back: a
+ * key so many milliseconds after its press may be a repeat of it (typed.c). */
+void typed_key(uint64_t surface, uint32_t time, uint32_t key, uint32_t state);
+void typed_modifiers(uint64_t surface, const uint32_t modifiers[4]);
+bool typed_key_here(uint64_t surface, uint32_t time, uint32_t key, uint32_t repeats);
+bool typed_modifiers_here(uint64_t surface, const uint32_t modifiers[4]);
+
 /* Who has the focus, and on which surface; NULL: nobody. */
 struct client *keyboard_focus(uint32_t *surface);
 /* A surface isn't shown any more, which the compositor may not say; it is again, and the compositor never said else. */
