@@ -214,8 +214,21 @@ int core_wait(uint64_t moment) {
 	return least;
 }
 
-const char *core_failed(void) {
-	return gateway.failed;
+void core_renew(uint64_t moment) {
+	at(moment, 0);
+	CALLED("%" PRIu64 " renew", gateway.moment);
+	broker_ask();
+}
+
+const char *core_state(unsigned link) {
+	return core.links[link] ? client_state(core.links[link]) : NULL;
+}
+
+bool core_serves(void) {
+	const struct client *client = gateway.clients;
+	while (client && client->serves == 0)
+		client = client->next;
+	return client;
 }
 
 bool core_next(unsigned link, enum side side, struct written *next) {

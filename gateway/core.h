@@ -38,8 +38,11 @@ bool core_sweep(uint64_t moment);
 void core_end(void);
 /* In how many milliseconds a round is due also where nothing comes; -1: none is. */
 int core_wait(uint64_t moment);
-/* Not NULL: why the gateway can't go on. */
-const char *core_failed(void);
+/* The broker is renewed at the next pause, and a record begins a new file. */
+void core_renew(uint64_t moment);
+/* What stands of a link's client, in words, until the next; NULL: it has none. And whether an input method serves. */
+const char *core_state(unsigned link);
+bool core_serves(void);
 
 /* ---- What is to be written ---- */
 

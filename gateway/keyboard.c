@@ -16,7 +16,7 @@ static struct {
 	bool key_given, fresh; /* the client got that key; it got the focus and no modifiers yet */
 	bool has_modifiers, repeats; /* what follows was told */
 	uint32_t keymap, modifiers[4], rate, delay;
-	bool down[KEYS]; /* keys that the broker was told are down */
+	enum { UP, AT_WINDOW, AT_GRAB } down[KEYS]; /* keys that the broker was told are down, and who has them */
 	struct given { /* by which board it is pressed at the client */
 		unsigned client; /* the number of the board's; 0: by none */
 		uint32_t board;
@@ -62,7 +62,7 @@ static void send_keymap(uint32_t number) {
 static bool order_key(uint32_t key, uint32_t state) {
 	int64_t way = broker_order(key, "key %u %u %u", seat.time, key, state);
 	bool given = seat.given[key % KEYS].client > 0 && state == 0;
-	seat.down[key % KEYS] = state != 0 && way != WLIM_TOO_MANY;
+	seat.down[key % KEYS] = state == 0 || way == WLIM_TOO_MANY ? UP : way == WLIM_TO_GRAB ? AT_GRAB : AT_WINDOW;
 	if (way == WLIM_TO_GRAB)
 		typed_key(seat.number, seat.time, key, state);
 	if (way == WLIM_NOWHERE) /* the grab that had the press is gone: who was given it back gets the release */
@@ -73,7 +73,7 @@ static bool order_key(uint32_t key, uint32_t state) {
 /* Nobody will tell the releases of keys that are down: they come before the focus goes. */
 static void release_all(void) {
 	for (uint32_t key = 0; key < KEYS; key++)
-		if (seat.down[key])
+		if (seat.down[key] != UP)
 			order_key(key, 0);
 }
 
@@ -145,16 +145,23 @@ void keyboard_client_joined(const struct client *client) {
 void keyboard_board_ended(const struct client *client, uint32_t board) {
 	for (uint32_t key = 0; seat.focus && key < KEYS; key++) {
 		struct given given = seat.given[key];
-		bool ends = !client || (given.client == client->number && (board == 0 || given.board == board));
-		if (given.client > 0 && ends)
+		if (given.client == client->number && (board == 0 || given.board == board))
 			send_key((struct given){ 0 }, seat.time, key, 0);
 	}
 }
 
+bool keyboard_has(const struct client *client, uint32_t board, uint32_t key) {
+	return seat.given[key % KEYS].client == client->number && seat.given[key % KEYS].board == board;
+}
+
 void keyboard_leave_broker(void) {
-	release_all();
-	keyboard_board_ended(NULL, 0);
 	broker_order(unfocus, "unfocus");
+}
+
+void keyboard_press(void) {
+	for (uint32_t key = 0; key < KEYS; key++)
+		if (seat.down[key] == AT_GRAB)
+			broker_order(key, "key %u %u %u", seat.time, key, 1);
 }
 
 void keyboard_method_ended(const struct client *client) {
@@ -194,7 +201,7 @@ static bool on_modifiers(struct client *client, uint32_t keyboard, uint32_t seri
 		memcpy(seat.modifiers, m, sizeof seat.modifiers);
 		broker_order(mods, "mods %u %u %u %u", m[0], m[1], m[2], m[3]);
 	}
-	bool grabbed = wlim_broker_grab(&broker) > 0;
+	bool grabbed = wlim_broker_grab(broker) > 0;
 	if (grabbed)
 		typed_modifiers(seat.number, m);
 	if (grabbed && !seat.fresh) {

@@ -1,6 +1,7 @@
 /* Lines of the log: messages of text inputs and input methods by name, and what is shown. */
 #include "gateway.h"
 #include <ctype.h>
+#include <stdio.h>
 #include <string.h>
 
 /* Which argument of a message is a key; -1: none is. */
@@ -30,6 +31,20 @@ void log_message(struct client *client, const char *way, const struct message *m
 		log_argument(message, at);
 	}
 	out(OUT_LOG, ")\n");
+}
+
+const char *client_state(const struct client *client) {
+	static char text[200];
+	uint32_t surface;
+	bool has_focus = keyboard_focus(&surface) == client;
+	const char *what = client->role == PROGRAM ? (has_focus ? ", has the focus" : "")
+		: client->serves == 0 ? ", doesn't serve" : client->is_active ? ", serves a text input" : ", serves";
+	size_t size = (size_t)snprintf(text, sizeof text, "%s %u%s", client->role == METHOD ? "method" : "program",
+		client->number, what);
+	if (client->field > 0)
+		snprintf(text + size, sizeof text - size, ", %s text input %u", has_focus ? "holds the seat with its" : "enabled",
+			client->field);
+	return text;
 }
 
 void log_note(const struct client *client, const char *what, const struct box *box) {

@@ -49,7 +49,7 @@ static void make_at_broker(struct client *client, struct message *message, int m
 	if (interface == &zwp_input_popup_surface_v2_table && !request_mirror(client, message->numbers[1]))
 		return client_refuse(client, message->object, ERROR_OBJECT, "wrong object");
 	if (interface == &zwp_input_method_keyboard_grab_v2_table)
-		object->never_stands = message->object != client->serves || wlim_broker_grab(&broker) > 0;
+		object->never_stands = message->object != client->serves || wlim_broker_grab(broker) > 0;
 	memcpy(message->bytes, &own, sizeof own);
 	if (offer)
 		message_set(message, 1 - (unsigned)made, OWN + GLOBAL_SEAT);
@@ -103,6 +103,12 @@ static void nowhere(struct client *client, const struct message *message, const 
 	popup_destroy(client, message->object);
 	object_free(client, message->object);
 	client_send(client, draft(DISPLAY, wl_display_event_delete_id, "u", message->object));
+}
+
+void request_press(struct client *client) {
+	for (const struct down *down = client->down; down < client->down + client->down_count; down++)
+		if (client->peer > 0 && !client->ending && !keyboard_has(client, down->board, down->key))
+			broker_receive(client, draft(down->board, zwp_virtual_keyboard_v1_request_key, "uuu", down->time, down->key, 1), 0);
 }
 
 static void to_broker(struct client *client, struct message *message, const uint32_t *tokens) {

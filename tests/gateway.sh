@@ -16,10 +16,11 @@ gateway/build.sh "$made"
 mkdir -p "$checked"
 cp -r "$made/protocols" "$checked"
 gateway/build.sh "$checked" $sanitize
-core=$(ls gateway/*.c | grep -v -e /gateway.c -e /sockets.c -e /outlets.c)
-for name in fuzz order popups pixels version_2 limits shell play; do
-	${CC:-cc} $flags $sanitize -I"$checked" -o "$checked/$name" "tests/gateway_$name.c" $core "$checked/tables.c" \
-		out/libwlim/lib/libwlim.a
+core=$(ls gateway/*.c | grep -v -e /gateway.c -e /sockets.c -e /outlets.c -e /listen.c -e /check.c)
+for name in fuzz order renewals popups pixels version_2 limits shell play; do
+	wrapped=$([ $name != renewals ] || echo -Wl,--wrap=wlim_broker_open)
+	${CC:-cc} $flags $sanitize $wrapped -I"$checked" -o "$checked/$name" "tests/gateway_$name.c" $core \
+		"$checked/tables.c" out/libwlim/lib/libwlim.a
 done
 ${CC:-cc} $flags $sanitize -I"$checked" -o "$checked/units" tests/gateway_units.c \
 	gateway/{ids,keymaps,message,objects,popup_want,tokens,wire}.c "$checked/tables.c"
@@ -30,6 +31,7 @@ rm -f "$checked"/*.session* "$checked"/*.taken* "$checked"/*.calls*
 "$checked/units"
 "$checked/shell"
 "$checked/order"
+"$checked/renewals"
 "$checked/popups"
 "$checked/pixels"
 "$checked/version_2"
@@ -39,6 +41,7 @@ for seed in 1 2 3; do
 done
 timeout 300 "$checked/fuzz" 100000 4 honest
 timeout -k 10 100 tests/gateway_start.py "$checked"
+timeout -k 10 200 tests/gateway_session.py "$checked"
 timeout -k 10 300 tests/gateway_peers.py "$checked"
 timeout -k 10 900 tests/gateway_programs.py "$checked" "$rounds"
 timeout -k 10 300 tests/gateway_hostile.py "$checked"

@@ -137,7 +137,7 @@ static void shares(void)
 static uint32_t entries_used(void)
 {
 	struct wlim_used used = { 0 };
-	wlim_broker_used(&broker, &used);
+	wlim_broker_used(broker, &used);
 	return used.entries;
 }
 

@@ -106,6 +106,8 @@ static void play(struct line *line)
 		core_copied(line->moment, words[0], words[1], words[2]);
 	else if (strcmp(call, "short") == 0)
 		core_short(line->moment);
+	else if (strcmp(call, "renew") == 0)
+		core_renew(line->moment);
 	else if (strcmp(call, "round") == 0)
 		core_round(line->moment);
 	else if (strcmp(call, "sweep") == 0)
