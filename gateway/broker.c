@@ -197,6 +197,10 @@ bool broker_join(struct client *client) {
 		return true; /* it joins the next */
 	if (budget_place(client))
 		answer = wlim_broker_join(broker, gateway.moment, method ? WLIM_KEYED : WLIM_APP);
+	if (answer == WLIM_NO_MEMORY || answer == WLIM_FULL) {
+		broker_ask();
+		return client->waits = true;
+	}
 	if (answer < WLIM_GIVEN)
 		return out(OUT_PROBLEMS, "client %u (%s) has no place at the broker\n", client->number,
 			process_named(client->process)), false;

@@ -100,6 +100,12 @@ size_t core_room(unsigned link, enum side side) {
 	return room > 0 && side == NEAR ? budget_room(client, room) : room;
 }
 
+bool core_missing(uint64_t moment, uint32_t token) {
+	at(moment, 0);
+	CALLED("%" PRIu64 " missing %u", gateway.moment, token);
+	return keymap_again(token) || popup_clear_again(token);
+}
+
 bool core_short(uint64_t moment) {
 	at(moment, 0);
 	CALLED("%" PRIu64 " short", gateway.moment);

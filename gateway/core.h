@@ -29,6 +29,8 @@ void core_receive(uint64_t moment, unsigned link, enum side side, const uint8_t 
 	const uint32_t *tokens, size_t count);
 /* That side hung up, or takes no more; why is NULL where it did so by itself. */
 void core_hung_up(uint64_t moment, unsigned link, enum side side, const char *why);
+/* A file that was asked for couldn't be made, and is to be sent: it is asked for again. False: it isn't known any more. */
+bool core_missing(uint64_t moment, uint32_t token);
 /* Descriptors run short: who holds most ends. False: nobody holds many, and nobody does. */
 bool core_short(uint64_t moment);
 /* After what came: what is to be shown is. Then ends what is to end, once the rest was written: whether anybody did. */

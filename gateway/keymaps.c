@@ -1,11 +1,11 @@
 /* Keymaps by their content: the same text has the same number, and is the same token at the broker. */
 #include "gateway.h"
-#include <stdlib.h>
 #include <string.h>
 
 enum { KEPT = 64, KEPT_FOR_SEAT = 8, KEPT_SHARE = 8 /* of the boards of a process */ };
 
 static struct keymap kept[KEPT]; /* one without a text is none */
+static uint8_t texts[KEPT][KEYMAP_MAX]; /* of those: there is always memory for them */
 
 static struct keymap *find(uint32_t number) {
 	for (struct keymap *each = kept; each < kept + KEPT; each++)
@@ -23,6 +23,16 @@ static bool is_left(const struct process *process) {
 	return all < KEPT && (!process || (own < KEPT_SHARE && all < KEPT - KEPT_FOR_SEAT));
 }
 
+bool keymap_again(uint32_t token) {
+	for (struct keymap *each = kept; each < kept + KEPT; each++) {
+		if (!each->text || each->token != token)
+			continue;
+		ask_shell((struct effect){ .kind = EFFECT_FILE, .token = token, .size = each->size, .bytes = each->text });
+		return true;
+	}
+	return false;
+}
+
 uint32_t keymap_take(const struct process *process, uint32_t format, const uint8_t *text, uint32_t size) {
 	static uint32_t last; /* number: none is used again */
 	struct keymap *place = NULL;
@@ -32,14 +42,12 @@ uint32_t keymap_take(const struct process *process, uint32_t format, const uint8
 		else if (each->format == format && each->size == size && memcmp(each->text, text, size) == 0)
 			return each->users++, each->number;
 	}
-	uint8_t *own = place && is_left(process) ? malloc(size) : NULL;
-	uint32_t token = own ? token_make() : 0;
+	uint32_t token = place && is_left(process) ? token_make() : 0;
 	if (token == 0)
-		return free(own), 0;
-	memcpy(own, text, size);
+		return 0;
+	uint8_t *own = memcpy(texts[place - kept], text, size);
 	*place = (struct keymap){ format, size, token, own, ++last, 1, process };
-	ask_shell((struct effect){ .kind = EFFECT_FILE, .token = token, .size = size, .bytes = own });
-	return last;
+	return keymap_again(token), last;
 }
 
 void keymap_drop(uint32_t number) {
@@ -64,7 +72,6 @@ void keymaps_sweep(bool all) {
 		if (!each->text || (each->users > 0 && !all))
 			continue;
 		token_drop(each->token);
-		free(each->text);
 		*each = (struct keymap){ 0 };
 	}
 }

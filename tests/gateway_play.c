@@ -104,6 +104,8 @@ static void play(struct line *line)
 		core_go_on(line->moment, words[0], words[1]);
 	else if (strcmp(call, "copied") == 0)
 		core_copied(line->moment, words[0], words[1], words[2]);
+	else if (strcmp(call, "missing") == 0)
+		core_missing(line->moment, words[0]);
 	else if (strcmp(call, "short") == 0)
 		core_short(line->moment);
 	else if (strcmp(call, "renew") == 0)
