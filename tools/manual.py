@@ -96,7 +96,10 @@ class Manual:
             raise SystemExit(f"{path}: {file} has no section {heading}")
         if file == FORMATS:
             self.told.add(plain(heading))
-        return there[plain(heading)]
+        title, body = there[plain(heading)]
+        # A link of the document, as it is from the folder of the manual.
+        return title, re.sub(r"\]\(([\w./-]+\.\w+)", lambda it: "](" + os.path.relpath(
+            os.path.join(os.path.dirname(file), it[1]), "man"), body)
 
 
 def troff(name, text):

@@ -35,10 +35,13 @@ def indented(paragraphs):
 
 
 def members(declaration):
-    """Each member of a struct or an enum, with what stands behind it."""
-    body = declaration[declaration.index("{") + 1:declaration.rindex("}")]
+    """The members of a struct or an enum, with what stands behind them; one without stands with the one before."""
+    body, found = declaration[declaration.index("{") + 1:declaration.rindex("}")], []
     for member, comment in re.findall(r"^\t(\w[^;,/]*)[;,][ \t]*(/\*.*?\*/)?", body, flags=re.S | re.M):
-        yield f"`{' '.join(member.split())}`\n" + indented([marked(one) for one in words(comment)] or ["\\ "])
+        if comment or not found:
+            found.append(([], words(comment) if comment else []))
+        found[-1][0].append(f"`{' '.join(member.split())}`")
+    return [", ".join(terms) + ("\n" + indented([marked(one) for one in said]) if said else "") for terms, said in found]
 
 
 def prototype(text):
@@ -67,12 +70,10 @@ class Group:
         if token.startswith(("struct", "enum")):
             name = token[:token.index("{")].strip()
             self.parts += [marked(one) for one in said]
-            self.parts.append(f"`{name}`\n" + indented(["\\ "]) if name != "enum" else "")
-            self.parts += list(members(token))
+            self.parts.append(f"`{name}`:" if name != "enum" else "")
+            self.parts += members(token)
         elif said:
             self.parts.append(f"`{' '.join(token.split())}`\n" + indented([marked(one) for one in said]))
-        else:
-            self.parts.append(f"`{token}`\n" + indented(["\\ "]))
 
     def name(self):
         """The page's: that of its first function, which is no reader of the version."""
