@@ -91,7 +91,7 @@ pages_are_found() {
 types() {
 	inside sh -ec 'id tester > /dev/null 2>&1 || useradd -m tester; mkdir -p /run/user/1000
 		chown tester /run/user/1000; chmod 700 /run/user/1000; chmod 1777 /dev/shm
-		setpriv --reuid=tester --regid=tester --init-groups timeout 180 /srv/clean_machine_types.sh'
+		HOME=/home/tester setpriv --reuid=tester --regid=tester --init-groups timeout 180 /srv/clean_machine_types.sh'
 }
 
 nothing_is_left() {

@@ -1,8 +1,8 @@
 #!/bin/sh
 # In the root of tests/clean_machine.sh, as a user: sway without a screen, wlim-gateway, fcitx5 and foot; pinyin is typed
 # until foot has the word, ten times at most.
-cd
-export XDG_RUNTIME_DIR=/run/user/1000 LC_ALL=C.UTF-8 HOME="$PWD"
+cd "$HOME" || exit 1
+export XDG_RUNTIME_DIR=/run/user/1000 LC_ALL=C.UTF-8
 export WLR_BACKENDS=headless WLR_LIBINPUT_NO_DEVICES=1 WLR_RENDERER=pixman
 mkdir -p .config/fcitx5
 cat > .config/fcitx5/profile << 'PROFILE'
