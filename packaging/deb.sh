@@ -8,6 +8,7 @@ done
 version=$(packaging/version.sh)
 tree=$PWD to=out/deb/wlim-$version
 rm -rf out/deb && mkdir -p "$to" && cp -r packaging/debian "$to/"
+[ ! -d gateway/systemd ] || echo usr/lib/systemd/user >> "$to/debian/wlim-gateway.install"
 python3 tools/abi.py --symbols > "$to/debian/libwlim0.symbols"
 
 # Each change by its first words.

@@ -101,7 +101,10 @@ def groups(header):
         said = words(token)
         title = TITLE.match(said[0])
         if title:
-            found.append(Group(title[1].split(", for who")[0], said[1:]))
+            name, rest = re.match(r"(.*?)(?:, for who .*|: each (.*))?$", title[1]).groups()
+            broker = "By bytes" in [group.title[:8] for group in found]
+            name = f"requests of {name}" if name.startswith("zwp_") else f"a broker: {name.lower()}" if broker else name
+            found.append(Group(name, [f"Each answers {rest}."] * bool(rest) + said[1:]))
             said = []
     return words(tokens[0]), found
 
