@@ -5,6 +5,7 @@ cd "$(dirname "$0")/.."
 for built in crates/wlim/out/wlim out/libwlim/lib/libwlim.a out/gateway/wlim-gateway out/man/man1/wlim.1; do
 	[ -f "$built" ] || { echo "$built is missing: make build libwlim gateway man come before"; exit 1; }
 done
+command -v dh > /dev/null || { echo "dh is missing: Debian's debhelper has it"; exit 1; }
 version=$(packaging/version.sh)
 tree=$PWD to=out/deb/wlim-$version
 rm -rf out/deb && mkdir -p "$to" && cp -r packaging/debian "$to/"

@@ -3,8 +3,8 @@
 #
 #     tests/clean_machine.sh [FOLDER OF PACKAGES]
 #
-# It makes the root of Debian's mirror by this machine's apt settings, runs in namespaces of its own, and leaves nothing.
-# A line for each test; the last is `N passed, M failed`.
+# It makes the root of Debian's mirror by this machine's apt settings, in namespaces of its own, and leaves nothing. A
+# line for each test; the last is `N passed, M failed`.
 cd "$(dirname "$0")/.."
 debs=$(realpath "${1:-out/deb}")
 if [ -z "$IN_NAMESPACE" ]; then
@@ -129,8 +129,8 @@ check "apt removes them" apt purge --autoremove $names
 check "nothing is left" nothing_is_left
 
 [ ! -f "$(ls "$debs"/weston-wlim_*.deb 2> /dev/null)" ] || names="$names weston-wlim"
-check "apt installs $names, a compiler, and what types" apt install $(ours $names) gcc libc6-dev pkg-config man-db sway \
-	foot fonts-dejavu-core fcitx5 fcitx5-pinyin dbus wtype wayland-utils
+check "apt installs $names, a compiler, and what types" apt install $(ours $names) gcc libc6-dev pkg-config man-db \
+	sway foot fonts-dejavu-core fcitx5 fcitx5-pinyin dbus wtype wayland-utils
 check "a program compiles by pkg-config, and relays a string" compiles
 check "the manual has its pages" pages_are_found
 [ "$names" = "${names% weston-wlim}" ] || check "Weston offers text input by the plug-in" offers_by_plugin

@@ -1,6 +1,6 @@
 #!/bin/sh
-# In the root of tests/clean_machine.sh, as a user: sway without a screen, wlim-gateway, fcitx5 and foot; pinyin is typed
-# until foot has the word, ten times at most.
+# In the root of tests/clean_machine.sh, as a user: sway without a screen, wlim-gateway, fcitx5 and foot; pinyin is
+# typed until foot has the word, ten times at most.
 cd "$HOME" || exit 1
 export XDG_RUNTIME_DIR=/run/user/1000 LC_ALL=C.UTF-8
 export WLR_BACKENDS=headless WLR_LIBINPUT_NO_DEVICES=1 WLR_RENDERER=pixman
@@ -37,7 +37,8 @@ sway -c sway.conf > sway.log 2>&1 &
 there wayland-1
 wlim-gateway --compositor wayland-1 --log > gateway.log 2>&1 &
 there wlim-methods
-WAYLAND_DISPLAY=wlim-methods fcitx5 --disable=notificationitem,kimpanel,xim,xcb,cloudpinyin,notifications > fcitx5.log 2>&1 &
+WAYLAND_DISPLAY=wlim-methods fcitx5 --disable=notificationitem,kimpanel,xim,xcb,cloudpinyin,notifications \
+	> fcitx5.log 2>&1 &
 WAYLAND_DISPLAY=wlim-programs foot -c /dev/null sh -c 'stty raw -echo; exec cat > got' > foot.log 2>&1 &
 for _ in $(seq 10); do
 	# The keyboard is there as long as wtype runs: the window is entered at its begin.

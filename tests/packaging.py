@@ -98,7 +98,8 @@ def other_library(work):
 
 
 def bash(_):
-    line = 'source packaging/completions/wlim.bash; COMP_WORDS=({}); COMP_CWORD={}; _wlim; printf "%s\\n" "${{COMPREPLY[@]}}"'
+    line = ("source packaging/completions/wlim.bash; COMP_WORDS=({}); COMP_CWORD={}; _wlim; "
+            'printf "%s\\n" "${{COMPREPLY[@]}}"')
 
     def completed(words, at):
         return run("bash", "-c", line.format(words, at)).split()

@@ -1,10 +1,10 @@
 #!/usr/bin/env python3
-"""Holds what libwlim promises a program that is compiled against packaging/libwlim.abi: each function with its types, each
+"""Holds what libwlim promises a compiled program against packaging/libwlim.abi: each function with its types, each
 number and struct of include/wlim.h, with the version of CHANGELOG.md that brought it.
 
     tools/abi.py [--header FILE] [LIBRARY.so]   says what differs, and ends with 1 where anything does
-    tools/abi.py --write [SONAME]               takes the header's in. Where something is new, CHANGELOG.md must begin with a
-                                                new version; where something changed or went, there must be another soname
+    tools/abi.py --write [SONAME]               takes the header's in. What is new needs a new version in CHANGELOG.md,
+                                                what changed or went another soname
     tools/abi.py --soname, --map, --symbols     what the linker and Debian's tools are told
 """
 import os
@@ -95,7 +95,8 @@ def version_script():
     lines, before = [], ""
     for version, names in symbols(kept()[1]).items():
         local = "" if before else "local:\n\t*;\n"
-        lines.append(f"WLIM_{version} {{\nglobal:\n" + "".join(f"\t{name};\n" for name in names) + local + f"}}{before};")
+        listed = "".join(f"\t{name};\n" for name in names)
+        lines.append(f"WLIM_{version} {{\nglobal:\n{listed}{local}}}{before};")
         before = f" WLIM_{version}"
     return "\n".join(lines)
 

@@ -1,4 +1,4 @@
-"""The pages of libwlim(3), made of include/wlim.h: one for each group of its functions, with what the header says of each."""
+"""The pages of libwlim(3), made of include/wlim.h: one for each group of its functions, with what it says of each."""
 import re
 import textwrap
 
@@ -41,7 +41,8 @@ def members(declaration):
         if comment or not found:
             found.append(([], words(comment) if comment else []))
         found[-1][0].append(f"`{' '.join(member.split())}`")
-    return [", ".join(terms) + ("\n" + indented([marked(one) for one in said]) if said else "") for terms, said in found]
+    return [", ".join(terms) + ("\n" + indented([marked(one) for one in said]) if said else "")
+            for terms, said in found]
 
 
 def prototype(text):

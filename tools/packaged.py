@@ -55,16 +55,16 @@ def promises():
 
 def pages(folder):
     """What is wrong with a page of the manual."""
-    said(sys.executable, "tools/manual.py", folder)
+    status, lines = said(sys.executable, "tools/manual.py", folder)
+    if status:
+        return lines or ["the manual isn't made"]
     found = sorted(glob.glob(f"{folder}/man*/*"))
-    if not found:
-        return ["the manual isn't made"]
     whole = [path for path in found if not read(path).startswith(".so ")]
     wrong = said("mandoc", "-Tlint", *whole)[1]
     for path in whole:
         if shutil.which("man"):
-            wrong += subprocess.run(["man", "--warnings", "-l", path], stdout=subprocess.DEVNULL, stderr=subprocess.PIPE,
-                                    text=True, check=False).stderr.splitlines()
+            wrong += subprocess.run(["man", "--warnings", "-l", path], stdout=subprocess.DEVNULL,
+                                    stderr=subprocess.PIPE, text=True, check=False).stderr.splitlines()
     return wrong
 
 

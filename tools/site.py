@@ -106,8 +106,8 @@ def index(manual):
     """The list of the manual's pages."""
     told = [(name, re.search(r"# NAME\n\n.*? - (.*?)\n\n", text, flags=re.S)[1]) for name, text in manual.items()]
     told.sort(key=lambda pair: ("153".index(pair[0][-1]), pair[0][:-2]))
-    rows = "".join(f'<tr><td><a href="{name}.html">{name[:-2]}({name[-1]})</a></td><td>{pandoc(said, READER)[3:-5]}</td></tr>\n'
-                   for name, said in told)
+    rows = "".join(f'<tr><td><a href="{name}.html">{name[:-2]}({name[-1]})</a></td>'
+                   f"<td>{pandoc(said, READER)[3:-5]}</td></tr>\n" for name, said in told)
     return page("man/index", "Manual", f"<h1>Manual</h1>\n<table>\n{rows}</table>\n")
 
 

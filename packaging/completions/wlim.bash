@@ -1,8 +1,9 @@
 # Completes the words of wlim in bash.
 _wlim() {
 	local word=${COMP_WORDS[COMP_CWORD]} before=${COMP_WORDS[COMP_CWORD - 1]}
+	local commands="audit explain gen migrate replay replay-acts replay-seats serve trial trial-threads"
 	if [ "$COMP_CWORD" = 1 ]; then
-		COMPREPLY=($(compgen -W "audit explain gen migrate replay replay-acts replay-seats serve trial trial-threads" -- "$word"))
+		COMPREPLY=($(compgen -W "$commands" -- "$word"))
 		return
 	fi
 	case ${COMP_WORDS[1]} in
