@@ -117,8 +117,10 @@ def troff(name, text):
 
 def names_of(text):
     """All names that a page has: `man` finds it by each."""
-    line = re.search(r"# NAME\n\n(.*?) - ", text, flags=re.S)[1]
-    return [name.strip() for name in line.replace("\n", " ").replace("\\", "").split(",")]
+    line = re.search(r"^# NAME\n\n(.*?) - ", text, flags=re.S | re.M)
+    if not line:
+        raise SystemExit(f"a page has no NAME: {text[:60]!r}")
+    return [name.strip() for name in line[1].replace("\n", " ").replace("\\", "").split(",")]
 
 
 def main():

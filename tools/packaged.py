@@ -18,7 +18,7 @@ import tempfile
 
 from manual import ROOT, read
 
-PROMISES = ["out/libwlim/lib/libwlim.so"]
+LIBRARY = "out/libwlim/lib/libwlim.so"
 
 
 def lacks(*tools):
@@ -48,8 +48,8 @@ def words():
 
 
 def promises():
-    built = [path for path in PROMISES if os.path.exists(f"{ROOT}/{path}")]
-    status, lines = said(sys.executable, "tools/abi.py", *built)
+    built = os.path.exists(f"{ROOT}/{LIBRARY}") and not lacks("nm", "objdump")
+    status, lines = said(sys.executable, "tools/abi.py", *([LIBRARY] if built else []))
     return lines if status else []
 
 
@@ -83,11 +83,13 @@ def main():
     with tempfile.TemporaryDirectory() as folder:
         checks = [
             ("commands", [], words),
-            ("the library's promises", lacks("nm", "objdump"), promises),
+            ("the library's promises", [], promises),
             ("pages of the manual", lacks("pandoc", "mandoc"), lambda: pages(f"{folder}/man")),
             ("links of the site", lacks("pandoc"), lambda: site(f"{folder}/site")),
-            ("packages", lacks("lintian") or ([] if glob.glob(f"{ROOT}/out/deb/*.deb") else ["make deb"]), packages),
+            ("packages", lacks("lintian") + ([] if glob.glob(f"{ROOT}/out/deb/*.deb") else ["make deb"]), packages),
         ]
+        if not os.path.exists(f"{ROOT}/{LIBRARY}") or lacks("nm", "objdump"):
+            checks.append(("the built library's symbols", ["make libwlim, nm, objdump"], None))
         wrong, left = [], []
         for name, without, check in checks:
             if without:

@@ -48,7 +48,8 @@ def collected():
             continue
         documents.append(path)
         for target in links_of(path):
-            (left.append if target.endswith(".md") else files.add)(target)
+            if os.path.isfile(f"{ROOT}/{target}"):
+                (left.append if target.endswith(".md") else files.add)(target)
     return documents, files
 
 
