@@ -2,8 +2,9 @@
 """Makes the manual: manual.py FOLDER
 
 FOLDER/manN/NAME.N, by pandoc, of man/NAME.N.md and, for libwlim(3), of the comments in include/wlim.h. A line of a
-source may be `@include FILE HEADING`, which stands for that section of a document, `@usage FILE`, which stands for the
-options of a program's help, or `@code FILE`. Each section of docs/FORMATS.md has to stand in a page.
+source may stand for more: `@include FILE HEADING` for that section of a document, `@but FILE HEADING; ..` for all its
+sections but those, `@usage FILE` for the options of a program's help, `@code FILE` for a file. Each section of
+docs/FORMATS.md has to stand in a page.
 """
 import glob
 import os
@@ -25,7 +26,10 @@ def read(path):
 
 def released():
     """The version and its date, as the first heading of CHANGELOG.md has them."""
-    return re.search(r"^## (\d+\.\d+\.\d+), (\d{4}-\d{2}-\d{2})", read("CHANGELOG.md"), flags=re.M).groups()
+    found = re.search(r"^## (\d+\.\d+\.\d+), (\d{4}-\d{2}-\d{2})$", read("CHANGELOG.md"), flags=re.M)
+    if not found:
+        raise SystemExit("CHANGELOG.md has no line `## VERSION, DATE`")
+    return found.groups()
 
 
 def plain(heading):
@@ -83,7 +87,14 @@ class Manual:
             return options(file)
         if word == "@code":
             return f"```\n{read(file)}```"
-        title, body = self.section(file, heading[0], path)
+        if word == "@but":
+            left_out = [plain(one) for one in heading[0].split("; ")]
+            return "\n\n".join(self.included(file, one, path, below) for one in sections(file) if one not in left_out)
+        return self.included(file, heading[0], path, below)
+
+    def included(self, file, heading, path, below):
+        """A section of a document, below a heading of its own where the page has others."""
+        title, body = self.section(file, heading, path)
         if below == "EXIT STATUS" or re.fullmatch(r"`[\w-]+`|What `[\w-]+` (?:reads|writes).*", title) and "-" in path:
             head = ""
         else:
