@@ -120,12 +120,26 @@ def fish(_):
     assert {"--app", "--order", "--weight"} <= set(completed("wlim serve --"))
 
 
-def zsh(work):
-    """zsh completes at a terminal alone: its functions are read, and each command stands there with what it is."""
+TERMINAL = r"""
+zmodload zsh/zpty
+zpty z zsh -f -i
+zpty -w z "fpath=($PWD/packaging/completions \$fpath); autoload -U compinit; compinit -u -D; print be''gun"
+zpty -r -m z got '*begun*' || exit 1
+for line wanted in 'wlim ' trial-threads 'wlim serve --' weight 'wlim gen 7 t' text 'wlim explain --b' bad-only; do
+    zpty -w -n z $'\x15'"$line"$'\t'
+    zpty -r -m z got "*$wanted*" || exit 1
+    print -r -- "$got"
+done
+zpty -d z
+"""
+
+
+def zsh(_):
+    """At a terminal, where alone zsh completes."""
     for name in ("_wlim", "_wlim-gateway"):
         run("zsh", "-n", f"packaging/completions/{name}")
-    with open(f"{ROOT}/packaging/completions/_wlim", encoding="utf-8") as file:
-        assert re.findall(r"^\t'([\w-]+):.+'$", file.read(), flags=re.M) == COMMANDS
+    told = run("timeout", "30", "zsh", "-f", "-c", TERMINAL)
+    assert all(re.search(rf"(?<![\w-]){command}\s+-- ", told) for command in COMMANDS), told
 
 
 def manual(work):
