@@ -138,7 +138,7 @@ def zsh(_):
     """At a terminal, where alone zsh completes."""
     for name in ("_wlim", "_wlim-gateway"):
         run("zsh", "-n", f"packaging/completions/{name}")
-    told = run("timeout", "30", "zsh", "-f", "-c", TERMINAL)
+    told = re.sub(r"\x1b\[[0-9;?]*[A-Za-z]", " ", run("timeout", "30", "zsh", "-f", "-c", TERMINAL))
     assert all(re.search(rf"(?<![\w-]){command}\s+-- ", told) for command in COMMANDS), told
 
 
