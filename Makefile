@@ -1,4 +1,4 @@
-# All but examples, claims and embed-test want `rt`, of the kit that README.md names.
+# All but examples, claims, embed-test and what installs want `rt`, of the kit that README.md names.
 #
 # make demo        replays an example, unproved
 # make build       proves and builds the program, and replays an example
@@ -9,8 +9,8 @@
 # make cost        builds the program, and counts the instructions of a step; python3, valgrind
 # make memory      the most memory that replays take, short and long; after `make build`; python3
 # make claims      the documents against the sources, and where the program is built their command blocks; python3
-# make libwlim     proves and makes the library for C, in out/libwlim, and holds its header against it; cc, ld, objcopy,
-#                  ar, nm, python3
+# make libwlim     proves and makes the library for C, in out/libwlim, and holds its header against it; cc, binutils,
+#                  python3
 # make embed       also plays act lists and sessions through it, beside the program, which `make build` makes before;
 #                  pkg-config, valgrind, cc with its sanitizers
 # make embed-test  the glue of examples/embed over libwayland, and fcitx5 into real programs through a compositor with

@@ -34,7 +34,7 @@ program() {
 	completions wlim
 	all 644 share/man/man1 $(ls out/man/man1/*.1 2> /dev/null | grep -v gateway)
 	all 644 share/man/man5 out/man/man5/*.5
-	all 644 share/doc/wlim README.md CHANGELOG.md docs/FORMATS.md docs/AUDITING.md
+	all 644 share/doc/wlim README.md CHANGELOG.md docs/FORMATS.md docs/AUDITING.md LICENSE-MIT LICENSE-APACHE
 	all 644 share/doc/wlim/examples examples/*.*
 }
 
@@ -46,7 +46,7 @@ library() {
 	one 644 out/libwlim/lib/libwlim.a "$lib/libwlim.a"
 	one 644 out/libwlim/include/wlim.h include/wlim.h
 	all 644 share/man/man3 out/man/man3/*.3
-	all 644 share/doc/libwlim-dev docs/EMBEDDING.md
+	all 644 share/doc/libwlim-dev docs/EMBEDDING.md docs/MODEL.md
 	all 644 share/doc/libwlim-dev/examples examples/libwlim/*.c examples/embed/*.[ch]
 	one 755 examples/embed/protocols.sh share/doc/libwlim-dev/examples/protocols.sh
 }
@@ -107,6 +107,7 @@ missing() {
 case $1 in
 install)
 	missing
+	[ -n "$(files)" ] || exit 1
 	files | install_all
 	[ -n "$DESTDIR" ] || [ "$(id -u)" != 0 ] || ldconfig 2> /dev/null || true
 	echo "installed: $(files | wc -l) files below $to"
