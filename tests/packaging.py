@@ -1,7 +1,7 @@
 #!/usr/bin/env python3
 """Tests what installs, without a network: packaging.py. After `make libwlim`; the rest as far as it is built.
 
-A line for each test, the last is `N passed, M failed`. What a shell that isn't there completes is left out, and said.
+A line for each test, the last is `N passed, M failed`. A test whose tools aren't there is left out, and said.
 """
 import os
 import re
@@ -11,6 +11,7 @@ import sys
 import tempfile
 
 ROOT = os.path.abspath(os.path.join(os.path.dirname(os.path.abspath(__file__)), ".."))
+LIBRARY = "out/libwlim/lib/libwlim.a"
 COMMANDS = "audit explain gen migrate replay replay-acts replay-seats serve trial trial-threads".split()
 
 
@@ -157,13 +158,15 @@ def manual(work):
 
 
 def main():
-    tests = [("install and uninstall", installed, []), ("the example compiles", compiled, ["cc", "pkg-config"]),
-             ("a changed header is refused", changed, []), ("another library is refused", other_library, ["cc"]),
+    tests = [("install and uninstall", installed, [LIBRARY]),
+             ("the example compiles", compiled, [LIBRARY, "cc", "pkg-config"]),
+             ("a changed header is refused", changed, []),
+             ("another library is refused", other_library, [LIBRARY, "cc"]),
              ("bash completes", bash, ["bash"]), ("fish completes", fish, ["fish"]), ("zsh completes", zsh, ["zsh"]),
              ("the manual is whole", manual, ["pandoc"])]
     passed = failed = 0
     for name, test, needs in tests:
-        if [tool for tool in needs if not shutil.which(tool)]:
+        if [need for need in needs if not os.path.exists(f"{ROOT}/{need}") and not shutil.which(need)]:
             print(f"left out: {name} (needs {' '.join(needs)})")
             continue
         with tempfile.TemporaryDirectory() as work:
