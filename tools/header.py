@@ -81,7 +81,8 @@ def fields_in_c(header, struct):
 def given_away(library):
     shared = ["-D"] if library.endswith(".so") else []
     lines = subprocess.run(["nm", "-g", "--defined-only", *shared, library], capture_output=True, text=True, check=True).stdout
-    return {line.split()[-1] for line in lines.splitlines() if len(line.split()) == 3}
+    found = [line.split() for line in lines.splitlines()]
+    return {words[-1].split("@")[0] for words in found if len(words) == 3 and words[1] != "A"}
 
 
 def main():
