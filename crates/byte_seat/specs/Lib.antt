@@ -1,4 +1,5 @@
 pub mod Ears
+pub mod Open
 pub mod Steps
 pub mod Seated
 pub mod Promise

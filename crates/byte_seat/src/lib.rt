@@ -4,6 +4,7 @@
 
 mod ears;
 mod laws;
+mod open;
 mod receive;
 mod seat;
 mod steps;

@@ -1,5 +1,6 @@
 //! The seat as a program that has its peers' bytes sees it.
 use crate::ears::{Ears, Heard};
+use crate::open::OpenPeers;
 use broker_core::{JoinRefusal, Kept, Refused, Shared, Standing, Took};
 use relay_core::Route;
 use relay_model::{Label, Role};
@@ -24,14 +25,18 @@ pub struct ByteSeat {
     pub(crate) shared: Shared,
     pub(crate) held: HashMap<u32, Cutter>,
     pub(crate) ears: Ears,
+    pub(crate) open_peers: OpenPeers,
 }
 
 impl Model for ByteSeat {
+    ghost use Rattle.byte_seat.specs.Open.{IsOpen};
     ghost use Rattle.byte_seat.specs.Seated.{Bytewise};
 
     ghost Value = { Bytewise };
 
     ghost view = { λ s. record { broker = s.shared; held = s.held.entries; ears = s.ears } };
+
+    ghost invariant = { λ s. IsOpen s.shared s.open_peers.numbers.items s.open_peers.seen };
 }
 
 impl ByteSeat {
@@ -71,6 +76,7 @@ impl ByteSeat {
             shared: Shared::new(alloc, limits)?,
             held: HashMap::new(alloc),
             ears: Ears::new(alloc)?,
+            open_peers: OpenPeers::new(alloc),
         })
     }
 
@@ -82,6 +88,14 @@ impl ByteSeat {
     {
         let number = self.shared.journal().len();
         self.shared.let_go(number);
+    }
+
+    // A peer came or went, and so many joined so far.
+    fn note(&mut self, count: u32)
+        ensures same { self.new ≡ self.old }
+    {
+        self.open_peers.note(count);
+        self.open_peers.tidy(&self.shared);
     }
 
     /// A peer joins. Answers its number: how many joined so far.
@@ -103,6 +117,7 @@ impl ByteSeat {
         match self.shared.join_watched(role, stamp, &mut self.ears) {
             Ok(number) => {
                 self.let_go();
+                self.note(number);
                 Ok(number)
             }
             Err(why) => Err(why),
@@ -148,6 +163,8 @@ impl ByteSeat {
         match self.end(peer, stamp) {
             Ok(()) => {
                 self.let_go();
+                let count = self.peers();
+                self.note(count);
                 Ok(())
             }
             Err(why) => Err(why),
@@ -267,18 +284,12 @@ impl ByteSeat {
     }
 
     /// The lowest number of a peer above `after` for which bytes are stored; 0 where there is none.
+    ///
+    /// Its cost grows with the peers that live or have bytes stored, not with all that ever joined.
     pub fn ready(&self, after: u32) -> u32
         ensures { IsReady self.now.broker after
             (length (past_of self.now.broker.journal).joined) result }
     {
-        let count = self.peers();
-        let mut number = after;
-        'peers: while number < count {
-            number += 1;
-            if self.stored(number).unwrap_or(0) > 0 {
-                return number;
-            }
-        }
-        0
+        self.open_peers.first(&self.shared, after)
     }
 }

@@ -17,10 +17,10 @@ use Rattle.hub_lock.specs.declared.step.OuterStep.{OuterStep}
 use Rattle.hub_lock.specs.Histories.{History, entries_of, writer_of}
 use Rattle.hub_lock.specs.Lawful.{IsLawful}
 use Rattle.hub_lock.specs.Passes.{PeerPass}
-use Rattle.peer_link.specs.declared.ends.TakeEnd.TheVariants as takes
 use Rattle.peer_link.specs.declared.ends.WriteEnd.{WriteEnd}
+use Rattle.peer_link.specs.declared.ends.WriteEnd.TheVariants as ends
 use Rattle.peer_link.specs.Made.{journal_of}
-use Rattle.peer_link.specs.Gains.{GainsUntilCut}
+use Rattle.peer_link.specs.Gains.{Gains}
 use Rattle.peer_link.specs.WritesPeer.{frames_of, is_cut, EndsAs, WritesPeer}
 use Rattle.peer_link.proofs.OthersTakeNothing.{entries-append, made-back, took-none}
 use Rattle.peer_link.proofs.OutGrows.{begins-long, GoesOn, history-keeps, only-one, history-goes, frames-stay}
@@ -76,11 +76,11 @@ of_both limits pass rest held held_after end lawful free writes w =
           (ap (λ (j : List Entry). peer_at (past_of j) q) both ∙ there);
       front = omega (arith, front, long);
       taken = omega (arith, taken, more);
-      gained = subst (λ (fs : List Frame). GainsUntilCut (is_cut end) held held_after (map spelling fs))
+      gained = subst (λ (fs : List Frame). Gains (is_cut end) held held_after (map spelling fs))
           (ap (λ (o : Outgoing). frames_of o.put w.sizes) (sym p.2)
           ∙ sym (frames-stay a.put b.put 0 w.sizes goes.put (omega (arith, front)))) w.gained;
       all = λ closed.
-          (let e : EndsAs limits pass w.out w.sizes takes.Closed =
+          (let e : EndsAs limits pass w.out w.sizes ends.Closed =
           subst (EndsAs limits pass w.out w.sizes) closed w.ends in
           e.1 ∙ ap (λ (o : Outgoing). length o.put.bytes) (sym p.2)
           ∙ ap (λ (x : Piece). length x.bytes)

@@ -11,11 +11,11 @@ use Rattle.hub_lock.specs.declared.step.OuterStep.{OuterStep}
 use Rattle.hub_lock.specs.Histories.{History, writer_of}
 use Rattle.hub_lock.specs.Lawful.{IsLawful}
 use Rattle.hub_lock.specs.Passes.{PeerPass}
-use Rattle.peer_link.specs.declared.ends.TakeEnd.TheVariants as takes
 use Rattle.peer_link.specs.declared.ends.WriteEnd.{WriteEnd}
+use Rattle.peer_link.specs.declared.ends.WriteEnd.TheVariants as ends
 use Rattle.peer_link.specs.Made.{journal_of}
-use Rattle.peer_link.specs.Gains.{GainsUntilCut}
-use Rattle.peer_link.specs.WritesPeer.{frames_of, is_cut, taking_of, WritesPeer}
+use Rattle.peer_link.specs.Gains.{Gains}
+use Rattle.peer_link.specs.WritesPeer.{frames_of, is_cut, WritesPeer}
 use Rattle.link_nets.specs.NewLinks.{IsNothing}
 use Rattle.link_jobs.specs.Tags.{Report, End}
 use Rattle.link_jobs.specs.Tags.End.{read, wrote, ordered}
@@ -26,8 +26,8 @@ use Rattle.serve_run.specs.ServerLaw.{Sides, ServerLaw}
 
 -- What a writer's link gained, by the one journal. The steps of its pass are takes, of so many bytes
 -- each; together these are the first of what the journal puts out for its peer, and all that was
--- taken of that; the link gained their frames, up to the write that failed, if one did. Where the
--- taking ended as Closed, they are all that the journal puts out.
+-- taken of that; the link gained their frames, the last of them cut where a write failed. Where it
+-- ended as Closed, they are all that the journal puts out.
 pub record IsOfJournal (limits : Limits) (h : History) (pass : PeerPass)
     (held held_after : Option (List ℕ)) (end : WriteEnd) : Type 0 where
   pub sizes : List ℕ
@@ -37,8 +37,8 @@ pub record IsOfJournal (limits : Limits) (h : History) (pass : PeerPass)
   pub queued : out_at limits.store (journal_of limits h) pass.peer ≡ Some out
   pub front : sum sizes ≤ length out.put.bytes
   pub taken : out.taken ≡ sum sizes
-  pub gained : GainsUntilCut (is_cut end) held held_after (map spelling (frames_of out.put sizes))
-  pub all : taking_of end ≡ takes.Closed → sum sizes ≡ length out.put.bytes
+  pub gained : Gains (is_cut end) held held_after (map spelling (frames_of out.put sizes))
+  pub all : end ≡ ends.Closed → sum sizes ≡ length out.put.bytes
 
 -- so it is with each pass that has seen a front of a lawful history, which has no later step of it,
 -- and that writes for its peer

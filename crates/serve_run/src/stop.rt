@@ -10,7 +10,7 @@ use crate::status::ServeStatus;
 use broker_core::JoinRefusal;
 use link_jobs::LinkDone;
 use link_nets::LinkSink;
-use peer_link::{ReadEnd, ShellEnd, TakeEnd, WriteEnd};
+use peer_link::{ReadEnd, ShellEnd, WriteEnd};
 use serve_record::RecordStop;
 use thiserror::Error;
 use wio_core::Source;
@@ -74,11 +74,9 @@ fn write_trouble(end: WriteEnd) -> Trouble
     ensures { result ≡ brought_by (wrote end) }
 {
     match end {
-        WriteEnd::JournalFull(_) | WriteEnd::WriteFault(TakeEnd::JournalFull(_)) => {
-            Trouble::JournalFull
-        }
-        WriteEnd::NoMemory | WriteEnd::WriteFault(TakeEnd::NoMemory) => Trouble::NoMemory,
-        WriteEnd::Closed | WriteEnd::WriteFault(TakeEnd::Closed) => Trouble::None,
+        WriteEnd::JournalFull(_) => Trouble::JournalFull,
+        WriteEnd::NoMemory => Trouble::NoMemory,
+        WriteEnd::Closed | WriteEnd::WriteFault => Trouble::None,
     }
 }
 

@@ -11,7 +11,7 @@ use crate::replay::replay;
 use broker_core::Took;
 use broker_model::{Entry, Journal};
 use hub_lock::{Hub, HubPass};
-use peer_link::{ReadEnd, TakeEnd, WriteEnd};
+use peer_link::{ReadEnd, WriteEnd};
 use relay_model::Role;
 use std::alloc::{AllocError, Global};
 use std::process::Abort;
@@ -44,7 +44,7 @@ static ROWS: [Row; 4] = [
         wanted: 116,
         wrote: (WriteEnd::Closed, 112, Took::Closed),
     },
-    // The first message's answer meets the write that fails, and the second's wakes the writer, which takes it.
+    // The first message's answer meets the write that fails: the writer ends, and the second's answer is there to take.
     Row {
         links: 1,
         asks: 2,
@@ -52,7 +52,7 @@ static ROWS: [Row; 4] = [
         held: (1, 2),
         answer: (0, 0),
         wanted: 116,
-        wrote: (WriteEnd::WriteFault(TakeEnd::Closed), 224, Took::Closed),
+        wrote: (WriteEnd::WriteFault, 112, Took::Bytes(112, 0)),
     },
     // Two readers run beside each other: peer 1's first step is held until peer 2's was answered.
     Row {

@@ -8,7 +8,7 @@ use crate::peer::{ASK, LIMITS, Link, asks, join_link, read_all, write_all};
 use broker_core::Took;
 use broker_model::{Entry, Journal};
 use hub_lock::{Hub, HubPass};
-use peer_link::{ReadEnd, ShellEnd, TakeEnd, WriteEnd, read_shell};
+use peer_link::{ReadEnd, ShellEnd, WriteEnd, read_shell};
 use relay_model::{EndCause, Role};
 use std::alloc::Global;
 use std::process::Abort;
@@ -89,20 +89,22 @@ static ROWS: [Row<'static>; 4] = [
     },
 ];
 
-/// How many bytes went out before each write that fails: of each frame the header, and then the rest.
-const WRITTEN: [usize; 6] = [0, 4, 4100, 4104, 8200, 8204];
-
-/// What was told for 100 frames is taken in three pieces all the same.
-const UNWRITTEN: (WriteEnd, u64, Took) = (
-    WriteEnd::WriteFault(TakeEnd::Closed),
-    11_200,
-    Took::Closed,
-);
-
+/// What was told for 100 frames is taken in three pieces.
 const PIECES: [(u32, Seen); 3] = [
     (103, Seen::Took(4096)),
     (104, Seen::Took(4096)),
     (105, Seen::Took(3008)),
+];
+
+/// Of each write that fails: how many bytes went out before it, of each frame the header and then the rest; how many bytes
+/// the writer took; what one take more answers; and how many entries the journal then has.
+static UNWRITTEN: [(usize, u64, Took, u32); 6] = [
+    (0, 4096, Took::Bytes(4096, 0), 104),
+    (4, 4096, Took::Bytes(4096, 0), 104),
+    (4100, 8192, Took::Bytes(3008, 0), 105),
+    (4104, 8192, Took::Bytes(3008, 0), 105),
+    (8200, 11_200, Took::Closed, 105),
+    (8204, 11_200, Took::Closed, 105),
 ];
 
 fn is_seen(journal: &Journal, number: u32, seen: Seen) -> bool {
@@ -181,19 +183,23 @@ fn a_link_ends_by_what_it_gives(rt: HostRuntime) -> Result<(), Fail> {
 }
 
 #[test]
-fn all_is_taken_after_a_failed_write(rt: HostRuntime) -> Result<(), Fail> {
+fn nothing_is_taken_after_a_failed_write(rt: HostRuntime) -> Result<(), Fail> {
     let alloc = rt.alloc();
     let bytes = asks(alloc, 100)?;
-    for at in 0..WRITTEN.len() {
+    for at in 0..UNWRITTEN.len() {
+        let (out, taken, more, entries) = UNWRITTEN[at];
         let row = Row {
             bytes: bytes.as_slice(),
             reads: &[],
             writes: &[at as u64 + 1],
             read: (ReadEnd::Closed, 101),
-            wrote: UNWRITTEN,
-            out: WRITTEN[at],
-            entries: 105,
-            seen: &PIECES,
+            wrote: (WriteEnd::WriteFault, taken, more),
+            out,
+            entries,
+            seen: match entries {
+                105 => &PIECES,
+                _ => &[PIECES[0], PIECES[1]],
+            },
         };
         check_row(&rt, alloc, &row)?;
     }

@@ -50,14 +50,6 @@ fn record_all<R: Wait>(rt: &R, hub: &Hub, mut pass: RecorderPass) -> (Authors, u
     (authors, last)
 }
 
-fn new_peer<'a, R: Wait>(rt: &R, hub: &'a Hub, root: &mut HubPass) -> Option<Peer<'a>>
-    requires own { IsOf hub.now root.old }
-    ensures own { IsOf hub.now root.new }
-{
-    let (steps, takes) = join_peer(rt, hub, root, Role::App)?;
-    Some(Peer { steps, takes })
-}
-
 // A peer asks, and takes what it is told.
 fn ask_once<R: Wait>(rt: &R, alloc: Global, steps: &mut Steps<'_>, takes: &mut Takes<'_>) {
     if let Some(step) = step_of(alloc, &SYNC) {
@@ -120,12 +112,14 @@ fn each_entry_is_handed_out_once(rt: HostRuntime) -> Result<(), Fail> {
         return Err(Fail::new("nobody records"));
     };
     equal(&rt, hub.recorder(&rt, &mut root).is_none(), true);
-    let Some(one) = new_peer(&rt, &hub, &mut root) else {
+    let Some((steps, takes)) = join_peer(&rt, &hub, &mut root, Role::App) else {
         return Err(Fail::new("no peer joined"));
     };
-    let Some(other) = new_peer(&rt, &hub, &mut root) else {
+    let one = Peer { steps, takes };
+    let Some((steps, takes)) = join_peer(&rt, &hub, &mut root, Role::App) else {
         return Err(Fail::new("no peer joined"));
     };
+    let other = Peer { steps, takes };
     hub.end_record(2);
     let record = record_beside(&rt, alloc, &hub, pass, one, other);
     equal(&rt, record, ([2, 0, 201, 200, 201, 200], 804));

@@ -12,7 +12,7 @@ use std::process::Abort;
 use std::sync::{Arc, Wait};
 use std::test::Fail;
 use std::thread;
-use std::thread::{JoinHandle, Threads};
+use std::thread::Threads;
 use std::time::Clock;
 use unix_links::UnixNet;
 
@@ -242,29 +242,22 @@ fn check_session<R: Abort>(
     Ok(())
 }
 
-// The row is served while its clients do theirs in another thread.
-fn check_row<R: Abort + Threads + Wait + Files<File = File> + Net + Copy + Send + Sync + 'static>(
-    rt: R,
-    alloc: Global,
-    row: &Row,
-    clients: JoinHandle<Option<Vec<Vec<u8>>>>,
-) -> Result<(), Fail> {
-    let words = words(alloc, row.line)?;
-    let mut net = UnixNet::new(rt, alloc);
-    let mut output = output_of(alloc, Hold::Nobody, &[])?;
-    let board = Arc::try_clone(&output.board)?;
-    let status = serve_unix(rt, alloc, &words, &mut net, row.starts, &board, &mut output);
-    let read = clients.join(&rt).ok_or("a client failed")?;
-    equal_at(&rt, &row.line, status, row.status);
-    check_read(&rt, row, read.as_slice());
-    check_session(&rt, alloc, row, output.sink.held(), read.as_slice())
-}
-
+// The row's clients run in a thread of their own.
 #[test]
 fn links_at_sockets_are_served(rt: HostRuntime) -> Result<(), Fail> {
+    let alloc = rt.alloc();
     for place in 0..ROWS.len() {
-        let clients = thread::spawn(&rt, move || do_row(&rt, rt.alloc(), place))?;
-        check_row(rt, rt.alloc(), &ROWS[place], clients)?;
+        let row = &ROWS[place];
+        let words = words(alloc, row.line)?;
+        let mut net = UnixNet::new(rt, alloc);
+        let mut output = output_of(alloc, Hold::Nobody, &[])?;
+        let board = Arc::try_clone(&output.board)?;
+        let clients = thread::spawn(&rt, move || do_row(&rt, alloc, place))?;
+        let status = serve_unix(rt, alloc, &words, &mut net, row.starts, &board, &mut output);
+        let read = clients.join(&rt).ok_or("a client failed")?;
+        equal_at(&rt, &row.line, status, row.status);
+        check_read(&rt, row, read.as_slice());
+        check_session(&rt, alloc, row, output.sink.held(), read.as_slice())?;
     }
     Ok(())
 }

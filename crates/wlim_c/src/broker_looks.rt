@@ -60,7 +60,8 @@ pub extern "C" fn wlim_broker_peers(broker: &mut WlimBroker, alloc: Global) -> i
     answer
 }
 
-/// The lowest number of a peer above `after` for which bytes are stored; 0 where there is none.
+/// The lowest number of a peer above `after` for which bytes are stored; 0 where there is none. Its cost grows with the
+/// peers that live or have bytes stored, not with those that came and went.
 #[unsafe(no_mangle)]
 pub extern "C" fn wlim_broker_ready(broker: &mut WlimBroker, alloc: Global, after: u32) -> i64
     ensures { ReadyCalled after broker.old.held.seat broker.new.held.seat result }

@@ -6,7 +6,7 @@ use Rattle.test_hub.specs.contracts.peer.Reads as Reads
 use Rattle.test_hub.proofs.board.Board.TheSendSync as board
 use Rattle.test_hub.proofs.beside_tests.serve.Goals as goal
 
--- what a peer's reader has may move to another thread
+-- what reads a link may move to another thread
 reads_send : (l : NamedLft) → IsSend (Reads.the_field l).row
 reads_send l = search (sendable, crosses, hub_sync, reader_send) depth 40
 

@@ -4,7 +4,16 @@ use Rattle.broker_model.specs.declared.journal.Entry.TheVariants as entries
 use Rattle.byte_seat.specs.Seated.{Bytewise}
 use Rattle.byte_seat.specs.Steps.{Hearing}
 use Rattle.byte_seat.proofs.WatchedOn.{heard_by}
+use Rattle.byte_seat.proofs.OpenPeers.{open_heard}
 use Rattle.byte_seat.proofs.seat.ByteSeat.end.Goals as goal
+
+pub invariant_of-self : goal.invariant_of-self
+invariant_of-self c =
+    let call = c.apply_watched in
+    open_heard c.self.inside.shared call.new.self c.self.inside.ears call.new.watch
+    c.self.inside.open_peers.numbers.items c.self.inside.open_peers.seen
+    (heard_by call.result (entries.End c.args.peer Gone) c.args.stamp c.self.inside.shared call.new.self c.self.inside.ears call.new.watch
+    call.ensures.ok call.ensures.err call.ensures.watched) c.self.invariant
 
 pub returns-in-Ok-clause-told : goal.returns-in-Ok-clause-told
 returns-in-Ok-clause-told c =

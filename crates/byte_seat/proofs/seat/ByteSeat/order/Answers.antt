@@ -3,7 +3,16 @@ use Rattle.std.proofs.Common.{subst}
 use Rattle.byte_seat.specs.Seated.{Bytewise}
 use Rattle.byte_seat.specs.Steps.{Hearing}
 use Rattle.byte_seat.proofs.WatchedOn.{heard_by, heard_let}
+use Rattle.byte_seat.proofs.OpenPeers.{open_heard}
 use Rattle.byte_seat.proofs.seat.ByteSeat.order.Goals as goal
+
+pub invariant_of-self : goal.invariant_of-self
+invariant_of-self c =
+    let call = c.apply_watched in
+    open_heard c.self.inside.shared call.new.self c.self.inside.ears call.new.watch
+    c.self.inside.open_peers.numbers.items c.self.inside.open_peers.seen
+    (heard_by call.result (entries.Shell c.args.step) c.args.stamp c.self.inside.shared call.new.self c.self.inside.ears call.new.watch
+    call.ensures.ok call.ensures.err call.ensures.watched) c.self.invariant
 
 pub returns-in-Ok-clause-told : goal.returns-in-Ok-clause-told
 returns-in-Ok-clause-told c =

@@ -4,7 +4,13 @@ use Rattle.byte_seat.specs.Seated.{Bytewise, begun_in, waiting}
 use Rattle.byte_seat.specs.Steps.{Hearing}
 use Rattle.byte_seat.proofs.WatchedOn.{heard_none}
 use Rattle.byte_seat.proofs.HeldBytes.{keeps_unless}
+use Rattle.byte_seat.proofs.OpenPeers.{open_heard}
 use Rattle.byte_seat.proofs.seat.ByteSeat.receive_bytes.Goals as goal
+
+pub invariant_of-self-2 : goal.invariant_of-self-2
+invariant_of-self-2 c =
+    open_heard c.self.inside.shared c.bytes-answer.new.shared c.self.inside.ears c.bytes-answer.new.ears
+    c.self.inside.open_peers.numbers.items c.self.inside.open_peers.seen c.bytes-answer.ensures.hears c.self.invariant
 
 pub returns-in_default-clause-hears : goal.returns-in_default-clause-hears
 returns-in_default-clause-hears c =

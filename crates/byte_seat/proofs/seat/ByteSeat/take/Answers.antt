@@ -5,7 +5,16 @@ use Rattle.broker_model.specs.declared.journal.Entry.TheVariants as entries
 use Rattle.broker_core.specs.Broker.{IfBytes, with_step}
 use Rattle.byte_seat.specs.Seated.{all_gone}
 use Rattle.byte_seat.proofs.WatchedOn.{heard_took, heard_let, took_gone}
+use Rattle.byte_seat.proofs.OpenPeers.{open_heard}
 use Rattle.byte_seat.proofs.seat.ByteSeat.take.Goals as goal
+
+pub invariant_of-self : goal.invariant_of-self
+invariant_of-self c =
+    let call = c.take_watched-took in
+    open_heard c.self.inside.shared call.new.self c.self.inside.ears call.new.watch
+    c.self.inside.open_peers.numbers.items c.self.inside.open_peers.seen
+    (heard_took call.result c.args.peer c.args.stamp c.self.inside.shared call.new.self c.self.inside.ears
+    call.new.watch call.ensures.settled call.ensures.same call.ensures.watched) c.self.invariant
 
 pub returns-in-Bytes-clause-settled : goal.returns-in-Bytes-clause-settled
 returns-in-Bytes-clause-settled c =
