@@ -225,9 +225,9 @@ def counts(documents):
     exports = sum(read(path).count("#[unsafe(no_mangle)]") for path in sources("crates/*/src/*.rt"))
     told = re.search(r"its (\d+) exports", read(f"{ROOT}/docs/AUDIT.md"))
     yield None if told and int(told[1]) == exports else f"docs/AUDIT.md: {exports} exports are there"
-    proved = len(stood_on("wlim_c"))
+    proved = len(stood_on("c_library"))
     told = re.search(r"make libwlim +# proves (\d+) crates", read(f"{ROOT}/docs/EMBEDDING.md"))
-    yield None if told and int(told[1]) == proved else f"docs/EMBEDDING.md: wlim_c is proved with {proved} crates"
+    yield None if told and int(told[1]) == proved else f"docs/EMBEDDING.md: c_library is proved with {proved} crates"
     guides = {f"{ROOT}/README.md", f"{ROOT}/CONTRIBUTING.md", *sources("docs/*.md")}
     words = {path: len(re.findall(r"\S*\w\S*", read(path))) for path in documents}
     total, guiding = sum(words.values()), sum(words[path] for path in guides)

@@ -1,11 +1,11 @@
 //! Writers that sleep until a step tells their peers something.
-ghost use Rattle.seat_steps.specs.Ranges.{IsPeerStep};
+ghost use Rattle.broker_steps.specs.Ranges.{IsPeerStep};
 
 use crate::clock::since;
 use crate::peers::{LIMITS, Reader, Writer, join_all, step_of};
+use broker_steps::PeerStep;
 use hub_lock::Hub;
 use peer_link::write_peer;
-use seat_steps::PeerStep;
 use std::alloc::{AllocError, Global};
 use std::sync::Wait;
 use std::sync::atomic::{AtomicU64, Ordering};

@@ -2,10 +2,10 @@
 use Rattle.std.proofs.Common.{◌≡◌, ℕ, ◌+◌, ◌≤◌, Bool, true, false, List, [], ◌∷◌, ◌++◌, Option, Some, None, refl, sym, ap, subst, inl, inr, arith}
 use Rattle.std.specs.Prelude.{◌&&◌, ◌||◌, not, nat_le, nat_lt, if◌then◌else◌}
 use Rattle.std.proofs.lemmas.Bool.{leb-true, ltb-true}
-use Rattle.seat_steps.specs.declared.limits.Limits.{Limits}
-use Rattle.seat_steps.specs.declared.step.PeerStep.{PeerStep}
-use Rattle.seat_steps.specs.declared.step.PeerStep.TheVariants as peers
-use Rattle.seat_steps.specs.Ranges.{IsPeerStep}
+use Rattle.broker_steps.specs.declared.limits.Limits.{Limits}
+use Rattle.broker_steps.specs.declared.step.PeerStep.{PeerStep}
+use Rattle.broker_steps.specs.declared.step.PeerStep.TheVariants as peers
+use Rattle.broker_steps.specs.Ranges.{IsPeerStep}
 use Rattle.broker_model.specs.declared.journal.Entry.{Entry}
 use Rattle.broker_model.specs.declared.journal.Entry.TheVariants as entries
 use Rattle.broker_model.specs.declared.journal.Kept.{Kept}

@@ -2,8 +2,8 @@
 use Rattle.std.specs.Prelude.{◌≡◌, ℕ, ◌+◌, ◌≤◌, List, [], ◌∷◌, length, map, filter, take, drop, sum, Bool, true, false, ◌&&◌, nat_le, nat_lt, Option, Some}
 use Rattle.std.specs.List.{AllByRecursion}
 use Rattle.relay_model.specs.declared.act.EndCause.{EndCause}
-use Rattle.seat_steps.specs.declared.limits.Limits.{Limits}
-use Rattle.seat_steps.specs.Ranges.{IsWithin}
+use Rattle.broker_steps.specs.declared.limits.Limits.{Limits}
+use Rattle.broker_steps.specs.Ranges.{IsWithin}
 use Rattle.broker_model.specs.declared.journal.Entry.TheVariants as entries
 use Rattle.broker_model.specs.Groups.{Piece}
 use Rattle.broker_model.specs.Out.{Outgoing}

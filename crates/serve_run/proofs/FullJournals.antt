@@ -5,7 +5,7 @@ use Rattle.std.proofs.lemmas.Bool.{le-leb, leb-true, lt-ltb, ltb-true}
 use mathlib.Core.Logic.{∥∥₁_elim}
 use mathlib.Core.Bool.{Bool-set}
 use Rattle.relay_model.specs.declared.role.Role.{Role}
-use Rattle.seat_steps.specs.declared.limits.Limits.{Limits}
+use Rattle.broker_steps.specs.declared.limits.Limits.{Limits}
 use Rattle.broker_model.specs.declared.journal.Entry.{Entry}
 use Rattle.broker_model.specs.declared.journal.Entry.TheVariants as entries
 use Rattle.broker_model.specs.declared.journal.Kept.{Kept}
@@ -22,8 +22,8 @@ use Rattle.peer_link.specs.declared.ends.WriteEnd.TheVariants as write_ends
 use Rattle.peer_link.specs.declared.ends.ShellEnd.TheVariants as shell_ends
 use Rattle.peer_link.specs.Made.{journal_of, IsAtLimit}
 use Rattle.peer_link.proofs.AtLimits.{at-limit, at-limit-later, reader-at-limit, writer-at-limit, shell-at-limit}
-use Rattle.link_jobs.specs.Tags.{Report, End}
-use Rattle.link_jobs.specs.Tags.End.{read, wrote, ordered}
+use Rattle.serve_jobs.specs.Tags.{Report, End}
+use Rattle.serve_jobs.specs.Tags.End.{read, wrote, ordered}
 use Rattle.serve_run.specs.declared.status.ServeStatus.TheVariants as statuses
 use Rattle.serve_run.specs.declared.stop.Stop.{Stop}
 use Rattle.serve_run.specs.declared.stop.Stop.TheVariants as stops

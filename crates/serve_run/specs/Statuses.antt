@@ -11,8 +11,8 @@ use Rattle.serve_run.specs.declared.stop.Trouble.TheVariants as troubles
 use Rattle.peer_link.specs.declared.ends.ReadEnd.TheVariants as read_ends
 use Rattle.peer_link.specs.declared.ends.WriteEnd.TheVariants as write_ends
 use Rattle.peer_link.specs.declared.ends.ShellEnd.TheVariants as shell_ends
-use Rattle.link_jobs.specs.Tags.{End, Report}
-use Rattle.link_jobs.specs.Tags.End.{read, wrote, ordered}
+use Rattle.serve_jobs.specs.Tags.{End, Report}
+use Rattle.serve_jobs.specs.Tags.End.{read, wrote, ordered}
 
 abbrev pub number_of : ServeStatus → ℕ
 number_of statuses.Ok = 0

@@ -1,14 +1,14 @@
 //! Peers of a hub, as jobs for threads: passes, each with its hub, and what a link in memory gives and takes.
 ghost use Rattle.std.specs.Prelude.{◌≡◌, IfSome};
-ghost use Rattle.seat_steps.specs.Ranges.{IsPeerStep};
+ghost use Rattle.broker_steps.specs.Ranges.{IsPeerStep};
 ghost use Rattle.turn_lock.specs.Pairs.{NoneOf};
 ghost use Rattle.hub_lock.specs.Passes.{IsOf};
 
 use broker_core::Took;
+use broker_steps::{FORM_1_WEIGHT, Limits, PeerStep};
 use hub_lock::{Gate, Hub, HubPass, ReaderPass, ShellPass, WriterPass};
 use peer_link::{ReadEnd, WriteEnd, read_peer, write_peer};
 use relay_model::Role;
-use seat_steps::{FORM_1_WEIGHT, Limits, PeerStep};
 use std::alloc::{AllocError, Global};
 use std::sync::Wait;
 use wio_core::{MemSource, Sink};

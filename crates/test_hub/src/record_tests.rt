@@ -5,9 +5,9 @@ ghost use Rattle.hub_lock.specs.Passes.{IsOf};
 
 use crate::equal::equal;
 use crate::peer::{LIMITS, Steps, Takes, join_peer, step_of};
+use broker_steps::PeerStep;
 use hub_lock::{Hub, HubPass, NoSession, RecorderPass};
 use relay_model::Role;
-use seat_steps::PeerStep;
 use std::alloc::Global;
 use std::process::Abort;
 use std::sync::Wait;

@@ -4,7 +4,7 @@ ghost use Rattle.std.specs.Prelude.{◌≡◌, ◌≤◌};
 use crate::peer::LIMITS;
 use broker_core::{Shared, Took};
 use broker_model::{Entry, Journal};
-use seat_steps::{PeerStep, Stamp, Step};
+use broker_steps::{PeerStep, Stamp, Step};
 use std::alloc::Global;
 use std::test::Fail;
 use wl_wire::{Bytes, HEADER_SIZE, MESSAGE_LIMIT};

@@ -1,6 +1,6 @@
 //! Acts from text, and a relay that takes them.
 ghost use Rattle.std.specs.Prelude.{◌≡◌, true};
-ghost use Rattle.seat_objects.specs.Fits.{FitsMessage};
+ghost use Rattle.relay_objects.specs.Fits.{FitsMessage};
 
 use relay_core::{Post, Relay};
 use relay_model::{Act, Told};

@@ -1,11 +1,11 @@
 //! What no clause tells: that memory is found, and that the shared state answers as its callers use it.
-ghost use Rattle.seat_steps.specs.Ranges.{IsLimits};
+ghost use Rattle.broker_steps.specs.Ranges.{IsLimits};
 
 use crate::equal::equal;
 use broker_core::{Applied, JoinRefusal, Kept, Refused, Shared, Took};
+use broker_steps::{FORM_1_WEIGHT, Limits, PeerStep, ShellStep, Stamp, Step, TokenList};
 use relay_core::Route;
 use relay_model::{EndCause, Role};
-use seat_steps::{FORM_1_WEIGHT, Limits, PeerStep, ShellStep, Stamp, Step, TokenList};
 use std::alloc::Global;
 use std::process::Abort;
 use std::test::Fail;

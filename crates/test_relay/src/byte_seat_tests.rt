@@ -1,8 +1,8 @@
 //! What no clause tells: that memory is found. Bytes come a byte at a time, and what is taken was worked out by hand.
 use crate::equal::equal;
-use byte_seat::{ByteSeat, Heard, Refused, Route, Sender, ShellEvent, Standing, Took};
+use broker_steps::{Limits, ShellStep, Stamp};
+use c_broker::{ByteSeat, Heard, Refused, Route, Sender, ShellEvent, Standing, Took};
 use relay_model::{EndCause, Role};
-use seat_steps::{Limits, ShellStep, Stamp};
 use std::test::Fail;
 
 const GIVEN: Stamp = Stamp {

@@ -1,6 +1,6 @@
 //! Streams that are like what is told, and streams that aren't.
 use crate::equal::equal;
-use field_streams::{Comparison, HearEnd};
+use audit_fields::{Comparison, HearEnd};
 use std::alloc::Global;
 
 // The worked group: a string "a" and a done 1 of the text input 7.

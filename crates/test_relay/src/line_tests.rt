@@ -1,16 +1,16 @@
 //! Lines that are read, and what each says; and lines that are printed. Lines that are refused are cases of `test_lines`,
 //! but for those of the shell alone.
 use crate::equal::{equal, equal_at};
+use broker_steps::{PeerStep, Stamp, Step, TokenList};
+use lines_transcript::{
+    print_ended, print_out, print_pass, print_placed, print_stamped, print_step, print_told,
+    print_took, print_vmods,
+};
 use relay_model::{EndCause, Mods, Said, Told};
-use seat_steps::{PeerStep, Stamp, Step, TokenList};
 use session_text::Form::{self, Acts, Session, Session2, Shell};
 use session_text::{BadLine, Line, read_line};
 use std::process::Abort;
 use std::test::Fail;
-use transcript_text::{
-    print_ended, print_out, print_pass, print_placed, print_stamped, print_step, print_told,
-    print_took, print_vmods,
-};
 use wl_wire::{Bytes, Text};
 
 // Each kind of line, and what it says. The numbers are those of worked sessions, and the ends of their ranges.

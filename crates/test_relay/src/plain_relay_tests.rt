@@ -3,10 +3,10 @@
 use crate::acts::{OPENING, Tape, acts_of, take, write};
 use crate::acts_by_number::random_acts;
 use crate::equal::equal_at;
-use batch_reasons::{BatchFate, Reason, Seat, batch_fate, seat_now};
-use plain_relay::plain_told;
 use relay_core::Relay;
 use relay_model::Act;
+use relay_plain::plain_told;
+use relay_reasons::{BatchFate, Reason, Seat, batch_fate, seat_now};
 use std::alloc::AllocGlobal;
 use std::process::Abort;
 use std::test::Fail;

@@ -1,11 +1,10 @@
 //! What no clause tells: that memory is found, and that players and what reads their lines answer as their callers use
 //! them.
 use crate::equal::equal;
-use plain_run::{Status, run_plain};
+use broker_steps::{FORM_1_WEIGHT, Limits, Stamp, TokenList};
+use program_run::{Status, run_plain};
 use relay_model::Role;
-use seat_set::{SeatLine, SeatSet};
-use seat_steps::{FORM_1_WEIGHT, Limits, Stamp, TokenList};
-use session_play::{PlayEnd, Player};
+use seat_set::{PlayEnd, Player, SeatLine, SeatSet};
 use session_text::SessionLine;
 use std::test::Fail;
 use wio_core::{MemSink, MemSource, Source};

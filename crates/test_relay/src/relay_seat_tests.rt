@@ -1,8 +1,8 @@
 //! What no clause tells: that memory is found. The events are those that were worked out by hand.
 use crate::acts::{OPENING, acts_of};
 use crate::equal::equal;
+use c_relay::{RelaySeat, kind};
 use relay_model::{Act, Text};
-use relay_seat::{RelaySeat, kind};
 use std::test::Fail;
 
 // The kind of each event, whom it is told to, its first argument and the first byte of its text.

@@ -1,7 +1,7 @@
 //! What no clause tells: that memory is found, and that a group is gathered as its callers gather it.
 use crate::equal::equal;
+use broker_audience::{Gathering, Live};
 use relay_model::Role;
-use seat_audience::{Gathering, Live};
 use std::process::Abort;
 use std::test::Fail;
 use wl_proto::Event;

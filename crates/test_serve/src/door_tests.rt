@@ -1,6 +1,7 @@
 //! Doors: each is one server's at a time, for its owner alone, and what else is at its path stays.
 use crate::equal::equal;
-use link_nets::{Door, Net as LinkNet};
+use serve_net::{Door, Net as LinkNet};
+use serve_unix::UnixNet;
 use std::alloc::Global;
 use std::fs;
 use std::fs::{File, Files};
@@ -8,7 +9,6 @@ use std::net::Net;
 use std::os::unix::fs::{PermissionsExt, symlink};
 use std::os::unix::net::{UnixListener, UnixStream};
 use std::test::Fail;
-use unix_links::UnixNet;
 
 // Whether a net of its own can open the door at the path; it is closed again.
 fn opens<R: Files<File = File> + Net + Copy>(rt: R, alloc: Global, path: &str) -> bool {

@@ -2,7 +2,7 @@
 use crate::board::Hold;
 use crate::equal::{equal, equal_at};
 use crate::server::{output_of, serve_mem, words};
-use link_nets::{Door, MemLink, MemNet};
+use serve_net::{Door, MemLink, MemNet};
 use serve_run::ServeStatus;
 use std::alloc::Global;
 use std::process::Abort;

@@ -5,6 +5,7 @@ use crate::client::{Act, do_all};
 use crate::equal::equal_at;
 use crate::server::{output_of, replay, serve_unix, words};
 use serve_run::ServeStatus;
+use serve_unix::UnixNet;
 use std::alloc::Global;
 use std::fs::{File, Files};
 use std::net::{Net, Shutdown};
@@ -14,7 +15,6 @@ use std::test::Fail;
 use std::thread;
 use std::thread::Threads;
 use std::time::Clock;
-use unix_links::UnixNet;
 
 /// What is read: so many bytes, or bytes that end so.
 #[derive(Clone, Copy, Debug)]
