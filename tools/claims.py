@@ -11,7 +11,9 @@
 3. docs/AUDIT.md tells how many must-fail edits there are, and how many exports; docs/EMBEDDING.md how many crates the
    library is of. All documents together, and those of docs/ with README.md and CONTRIBUTING.md, have
    at most so many words; none has a mark of an unfinished merge.
-4. With a program: each line `$ COMMAND` in a block of README.md, docs/TOUR.md, docs/FORMATS.md and docs/AUDITING.md
+4. Each crate of crates.txt stands in the row of its layer of docs/ARCHITECTURE.md, in this order, and on none that
+   comes later.
+5. With a program: each line `$ COMMAND` in a block of README.md, docs/TOUR.md, docs/FORMATS.md and docs/AUDITING.md
    ends well, and writes what stands below it, if anything does. Without one it says how many were not run.
 
 Prints what fails, and how many were looked at; ends with 1 if any failed.
@@ -238,11 +240,38 @@ def counts(documents):
         yield f"{path}: a merge isn't finished" if marked else None
 
 
+def layers():
+    """A problem, or none, for each crate of crates.txt: its layer's row of docs/ARCHITECTURE.md has it, in this order, and it stands on none below it."""
+    layer, listed, seen = None, {}, set()
+    for line in read(f"{ROOT}/crates.txt").splitlines():
+        if re.match("# [a-z ]+:", line):
+            layer = line[2:].split(":")[0]
+        elif ":" in line and not line.startswith("#"):
+            left, _, right = line.partition(":")
+            listed.setdefault(layer, []).append(left.split()[0])
+            seen.add(left.split()[0])
+    told = {}
+    for line in read(f"{ROOT}/docs/ARCHITECTURE.md").splitlines():
+        cells = [cell.strip() for cell in line.strip("|").split("|")]
+        if line.startswith("|") and len(cells) == 3:
+            told[cells[0]] = re.findall(r"`(\w+)`", cells[1])
+    for layer, crates in listed.items():
+        yield None if told.get(layer) == crates else f"docs/ARCHITECTURE.md: of the layer {layer} are {' '.join(crates)}"
+    before = set()
+    for line in read(f"{ROOT}/crates.txt").splitlines():
+        if ":" in line and not line.startswith("#"):
+            left, _, right = line.partition(":")
+            for other in right.split():
+                yield f"crates.txt: {left.split()[0]} stands on {other}, which comes later" \
+                    if other in seen and other not in before else None
+            before.add(left.split()[0])
+
+
 def main():
     folders = ["*.md", "docs/*.md", "crates/*/README.md", "examples/**/*.md", "gateway/*.md", "modules/**/*.md",
                "conformance/*.md"]
     documents = sorted(path for pattern in folders for path in sources(pattern))
-    found = list(claims(documents)) + list(names(documents)) + list(counts(documents))
+    found = list(claims(documents)) + list(names(documents)) + list(counts(documents)) + list(layers())
     if sys.argv[1:2] == ["--program"]:
         found += list(runs(sys.argv[2]))
     else:
