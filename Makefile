@@ -70,7 +70,7 @@ claims:
 	python3 tools/packaged.py
 
 libwlim:
-	cd crates/wlim_c && rt lib
+	cd crates/c_library && rt lib
 	tools/libwlim.sh
 
 embed: libwlim

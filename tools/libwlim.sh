@@ -1,10 +1,10 @@
 #!/usr/bin/env bash
-# Makes out/libwlim/ of what `rt lib` made of wlim_c: lib/libwlim.a, lib/libwlim.so, lib/pkgconfig/wlim.pc and
+# Makes out/libwlim/ of what `rt lib` made of c_library: lib/libwlim.a, lib/libwlim.so, lib/pkgconfig/wlim.pc and
 # include/wlim.h. The folder can be copied to any prefix. Holds the header against both, and the library against
 # packaging/libwlim.abi, which has its soname and the version of each symbol.
 set -e
 cd "$(dirname "$0")/.."
-made=crates/wlim_c/out/libwlim_c.a
+made=crates/c_library/out/libwlim_c.a
 heap="$(dirname "$(rt doc)")/c/liblibc_c.a"
 to=out/libwlim
 rm -rf "$to" && mkdir -p "$to/lib/pkgconfig" "$to/include" "$to/parts"
