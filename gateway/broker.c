@@ -20,17 +20,20 @@ struct wlim_broker *broker = brokers;
 
 static struct {
 	unsigned number; /* of the broker, from 1: each has a record */
-	uint64_t moment, again; /* of the last step; no renewal comes before */
-	bool asked; /* for a renewal */
+	uint64_t moment, again; /* of the last step of who types, and for whom; no renewal comes before */
+	bool is_idle; /* what is done now is another's */
+	bool asked, lost; /* for a renewal; it missed an order, and is renewed at once */
 } self;
 
 /* Writes a call's line, if it was taken. Answers the answer. */
 int64_t broker_record(int64_t answer, const char *format, ...) {
 	static char line[LINE];
 	va_list arguments;
-	self.moment = gateway.moment;
-	if (answer == WLIM_NO_MEMORY || answer == WLIM_FULL)
-		out(OUT_PROBLEMS, "%s\n", answer == WLIM_FULL ? "the broker is full" : "there is no memory for a step");
+	if (!self.is_idle)
+		self.moment = gateway.moment;
+	self.lost |= answer == WLIM_NO_MEMORY || answer == WLIM_FULL;
+	if (self.lost)
+		out(OUT_PROBLEMS, "there is no memory for a step\n");
 	if (answer < WLIM_GIVEN || !outlets[OUT_RECORD])
 		return answer;
 	va_start(arguments, format);
@@ -58,7 +61,7 @@ static bool open_at(struct wlim_broker *place) {
 bool broker_open(void) {
 	if (!open_at(broker))
 		return false;
-	self.asked = false;
+	self.asked = self.lost = false;
 	out_begin(++self.number);
 	if (outlets[OUT_RECORD])
 		out(OUT_RECORD, "session 2 %d %d %d\n", ENTRIES, STORE, WEIGHT);
@@ -94,9 +97,9 @@ void broker_ask(void) {
 
 int broker_renewal(void) {
 	struct wlim_used used = broker_used();
-	if (!self.asked && used.entries <= gateway.entries && used.weight <= WEIGHT_OLD)
+	if (!self.asked && !self.lost && used.entries <= gateway.entries && used.weight <= WEIGHT_OLD)
 		return -1;
-	uint64_t quiet = is_used(FULL) ? 0 : self.moment + QUIET, due = quiet > self.again ? quiet : self.again;
+	uint64_t quiet = self.lost || is_used(FULL) ? 0 : self.moment + QUIET, due = quiet > self.again ? quiet : self.again;
 	bool is_due = gateway.moment >= due || (broker->live && is_used(SPENT));
 	return is_due ? 0 : (int)((due - gateway.moment) / 1000) + 1;
 }
@@ -108,6 +111,16 @@ static struct client *client_of(uint32_t peer) {
 	return client;
 }
 
+/* There was no memory for what it sent or is told: it joins the next broker, at a pause. */
+static void miss(struct client *client) {
+	broker_record(WLIM_GIVEN, "gone %u", client->peer);
+	wlim_broker_gone(broker, gateway.moment, client->peer);
+	out(OUT_PROBLEMS, "client %u (%s) waits for another broker\n", client->number, process_named(client->process));
+	client->peer = 0;
+	client->waits = true;
+	broker_ask();
+}
+
 /* Takes all that is stored for a peer: whole messages. */
 static void take(uint32_t peer) {
 	static uint8_t bytes[STORE + PIECE];
@@ -115,7 +128,8 @@ static void take(uint32_t peer) {
 	struct wlim_taken taken;
 	struct client *client = client_of(peer);
 	size_t size = 0, count = 0;
-	while (wlim_broker_take(broker, gateway.moment, peer, bytes + size, PIECE, tokens + count, 256, &taken)
+	int64_t answer;
+	while ((answer = wlim_broker_take(broker, gateway.moment, peer, bytes + size, PIECE, tokens + count, 256, &taken))
 			== WLIM_GIVEN) {
 		broker_record(WLIM_GIVEN, "take %u %zu", peer, taken.bytes);
 		size += taken.bytes;
@@ -125,7 +139,9 @@ static void take(uint32_t peer) {
 		out(OUT_TAKEN, "%u %s\n", peer, spell(bytes, size));
 	if (client)
 		client_told(client, bytes, size, tokens);
-	if (client && wlim_broker_standing(broker, peer) != WLIM_ALIVE)
+	if (client && (answer == WLIM_NO_MEMORY || answer == WLIM_FULL))
+		miss(client);
+	else if (client && wlim_broker_standing(broker, peer) != WLIM_ALIVE)
 		client_refuse(client, DISPLAY, ERROR_MEMORY, "what it was to be told didn't fit its store");
 }
 
@@ -146,7 +162,7 @@ int64_t broker_done(int64_t answer) {
 	return answer;
 }
 
-/* There is no broker: the message is lost, but where it ends an object that is told. */
+/* The client isn't at the broker: the message is lost, but where it ends an object that is told. */
 static void lose(struct client *client, const struct message *message) {
 	const struct object *object = object_live(client, message->object);
 	const char *name = message->signature ? message->signature->name : "";
@@ -157,28 +173,44 @@ static void lose(struct client *client, const struct message *message) {
 }
 
 void broker_receive(struct client *client, const struct message *message, uint32_t token) {
-	if (!broker->live)
+	uint32_t surface;
+	if (!gateway.renews)
+		budget_spend(client, message->size);
+	if (!broker->live || client->peer == 0)
 		return lose(client, message);
+	self.is_idle = client->serves == 0 && keyboard_focus(&surface) != client;
 	int64_t answer = wlim_broker_receive(broker, gateway.moment, client->peer, message->bytes, message->size, &token,
 		token > 0);
-	if (token > 0)
+	if (token > 0 && answer >= WLIM_GIVEN)
 		broker_record(answer, "tokens %u %u", client->peer, token);
-	for (size_t at = 0; outlets[OUT_RECORD] && at < message->size; at += PIECE)
+	for (size_t at = 0; outlets[OUT_RECORD] && answer >= WLIM_GIVEN && at < message->size; at += PIECE)
 		broker_record(answer, "bytes %u %s", client->peer,
 			spell(message->bytes + at, message->size - at < PIECE ? message->size - at : PIECE));
-	if (answer < WLIM_GIVEN)
+	if (answer == WLIM_NO_MEMORY || answer == WLIM_FULL)
+		miss(client), lose(client, message);
+	else if (answer < WLIM_GIVEN)
 		client_refuse(client, DISPLAY, ERROR_MEMORY, "the broker can't take its message");
 	broker_done(answer);
+	self.is_idle = false;
 }
 
 bool broker_join(struct client *client) {
 	bool method = client->role == METHOD;
-	if (!broker->live)
+	int64_t answer = WLIM_MANY;
+	if (!broker->live || client->waits)
 		return true; /* it joins the next */
-	int64_t answer = wlim_broker_join(broker, gateway.moment, method ? WLIM_KEYED : WLIM_APP);
-	broker_record(answer, method ? "join keyed" : "join app");
+	if (budget_place(client))
+		answer = wlim_broker_join(broker, gateway.moment, method ? WLIM_KEYED : WLIM_APP);
+	if (answer == WLIM_NO_MEMORY || answer == WLIM_FULL) {
+		broker_ask();
+		return client->waits = true;
+	}
 	if (answer < WLIM_GIVEN)
-		return client_refuse(client, DISPLAY, ERROR_MEMORY, "the broker takes no more clients"), false;
+		return out(OUT_PROBLEMS, "client %u (%s) has no place at the broker\n", client->number,
+			process_named(client->process)), false;
+	broker_record(answer, method ? "join keyed" : "join app");
+	if (!gateway.renews)
+		budget_spend(client, 0);
 	client->peer = (uint32_t)answer;
 	broker_receive(client, draft(DISPLAY, wl_display_request_get_registry, "u", OWN), 0);
 	for (const struct offer *offer = offers; offer->interface; offer++)

@@ -46,6 +46,7 @@ static void let_in(enum wait which) {
 	int near = accept4(self.waits[which].fd, NULL, NULL, SOCK_CLOEXEC | SOCK_NONBLOCK);
 	if (near < 0 && errno != EAGAIN && errno != EINTR && errno != ECONNABORTED) {
 		say("a client isn't let in: %m");
+		core_short(moment());
 		self.rests_until = moment() + RESTS * 1000;
 		if (self.spare >= 0)
 			close(self.spare); /* one who waits is closed with its place */
@@ -58,9 +59,13 @@ static void let_in(enum wait which) {
 		return;
 	}
 	int far = near >= 0 ? connect_to(self.compositor) : -1;
-	if (near >= 0 && far < 0)
+	if (near >= 0 && far < 0) {
 		say("a client isn't let in: %m");
-	unsigned link = far >= 0 ? core_join(moment(), which == WAIT_PROGRAMS ? PROGRAM : METHOD) : 0;
+		core_short(moment());
+	}
+	char command[COMMAND];
+	unsigned process = near >= 0 ? peer_of(near, command) : 0;
+	unsigned link = far >= 0 ? core_join(moment(), which == WAIT_PROGRAMS ? PROGRAM : METHOD, process, command) : 0;
 	if (link > 0) {
 		self.highest = link > self.highest ? link : self.highest;
 		return link_open(link, near, far);
@@ -96,7 +101,7 @@ static void wait_for_all(int milliseconds) {
 			continue;
 		self.waiting[self.waiting_count++] = link;
 		for (enum side side = NEAR; side <= FAR; side++) {
-			short reads = side == FAR || !core_is_slow(link, FAR) ? POLLIN : 0;
+			short reads = side == FAR || (!core_is_slow(link, FAR) && core_room(link, NEAR) > 0) ? POLLIN : 0;
 			*wait++ = (struct pollfd){ link_socket(link, side), reads | (core_writes(link, side) ? POLLOUT : 0), 0 };
 		}
 	}
@@ -109,7 +114,9 @@ static void play_all(void) {
 	const struct pollfd *wait = self.waits + WAITS;
 	for (unsigned at = 0; at < self.waiting_count; at++)
 		for (enum side side = NEAR; side <= FAR; side++, wait++)
-			if (wait->revents & ~POLLOUT)
+			if (wait->revents & POLLHUP && !(wait->events & POLLIN)) /* what it wrote isn't waited for */
+				core_hung_up(moment(), self.waiting[at], side, NULL);
+			else if (wait->revents & ~POLLOUT)
 				link_read(self.waiting[at], side);
 	for (enum wait which = WAIT_PROGRAMS; which <= WAIT_CHECKS; which++)
 		if (self.waits[which].revents)
@@ -149,7 +156,8 @@ static bool read_words(int count, char **words) {
 		{ "--programs", &self.doors[WAIT_PROGRAMS].name, NULL }, { "--methods", &self.doors[WAIT_METHODS].name, NULL },
 		{ "--compositor", &self.compositor, NULL }, { "--record", &outlet_names[OUT_RECORD], NULL },
 		{ "--taken", &outlet_names[OUT_TAKEN], NULL }, { "--calls", &outlet_names[OUT_CALLS], NULL },
-		{ "--entries", &entries, NULL }, { "--log", &outlet_names[OUT_LOG], "" }, { "--check", &self.checks, "" }, { 0 },
+		{ "--entries", &entries, NULL }, { "--log", &outlet_names[OUT_LOG], "" },
+		{ "--log-text", &outlet_names[OUT_LOG_TEXT], "" }, { "--check", &self.checks, "" }, { 0 },
 	};
 	if (display)
 		self.compositor = display;
@@ -191,6 +199,7 @@ static bool open_all(void) {
 	getrlimit(RLIMIT_NOFILE, &files);
 	files.rlim_cur = files.rlim_max;
 	setrlimit(RLIMIT_NOFILE, &files);
+	links_limit(files.rlim_cur);
 	self.spare = open("/dev/null", O_RDONLY | O_CLOEXEC);
 	return open_waits() && core_open(moment(), self.entries) && outlets_all();
 }

@@ -66,16 +66,19 @@ struct object {
 };
 
 struct popup;
+struct process;
 
 struct client {
 	struct client *next;
 	unsigned link, number; /* as the shell knows it; from 1, in the order of coming */
 	enum role role;
+	struct process *process; /* whose it is */
 	uint32_t peer; /* its number at the broker; 0: it isn't there */
+	bool waits; /* it was there, and joins the next */
 	bool ending; /* nothing of it is read any more; it ends when the round does */
 	uint32_t serves; /* the id of its first input method that wasn't told that it is unavailable; 0 none */
 	unsigned keyboards; /* its wl_keyboards of the seat that it didn't release */
-	uint32_t keymap, modifiers[4]; /* what its wl_keyboards of the seat were told: a keymap's number, 0 none */
+	uint32_t keymap, modifiers[4]; /* what its wl_keyboards of the seat were told: a keymap's number, 0 none we know */
 	struct down { uint32_t board, key, time; } down[DOWN_MAX]; /* keys that its boards hold down, those that fit */
 	unsigned down_count;
 	struct wire near, far; /* to the client, and for it to the compositor */
@@ -157,7 +160,7 @@ void private_forget(struct client *client, uint32_t far);
 
 /* ---- Clients (client.c; requests.c plays their messages) ---- */
 /* A new client, before the others, or NULL: there is no memory. One that isn't in the list any more is closed. */
-struct client *client_open(enum role role);
+struct client *client_open(enum role role, struct process *process);
 void client_close(struct client *client);
 static inline struct wire *wire_of(struct client *client, enum side side) {
 	return side == NEAR ? &client->near : &client->far;
@@ -178,6 +181,20 @@ bool request_mirror(struct client *client, uint32_t surface);
  * those of all its boards that no window has are pressed at a new one. */
 void request_release(struct client *client, uint32_t board);
 void request_press(struct client *client);
+
+/* ---- What a process may have of what all share (budgets.c) ---- */
+/* A client of the process comes, 0: of one that nobody knows, and goes. NULL: it has its share of clients. */
+struct process *process_join(unsigned pid, const char *command);
+void process_leave(struct process *process);
+const char *process_named(const struct process *process); /* until the next */
+/* Whether the client may be a peer. It spends a message of this size at the broker, of 0 a place; which may end it. */
+bool budget_place(const struct client *client);
+void budget_spend(struct client *client, size_t size);
+/* How many of these bytes may be read of it. In how many milliseconds more may be of somebody; -1: nobody waits. */
+size_t budget_room(const struct client *client, size_t room);
+int budgets_wait(void);
+/* Descriptors run short: who holds most ends. False: nobody holds many. */
+bool budgets_short(void);
 
 /* ---- Globals (globals.c) ---- */
 /* The broker's globals by their names there; and the gateway's own objects at each peer, which no client reaches. */
@@ -206,7 +223,7 @@ bool broker_open(void);
 /* Closes it; the next is in its place. Before that: makes room for the next. False: there is none, and this one lasts. */
 void broker_close(void);
 bool broker_prepare(void);
-/* The client is a peer from now on. False: it is refused. */
+/* The client is a peer from now on. False: there is no place for it. */
 bool broker_join(struct client *client);
 /* A whole message of the client; where it has a descriptor, its token. After it what clients are told is sent. */
 void broker_receive(struct client *client, const struct message *message, uint32_t token);
@@ -220,33 +237,6 @@ int64_t broker_done(int64_t answer);
 int broker_renewal(void);
 void broker_ask(void);
 void renew(void);
-
-/* ---- The keyboard of the seat (keyboard.c) ---- */
-/* An event of a wl_keyboard of the seat: whether the client gets it. The focus leaves its surface; 0: any of its. */
-bool keyboard_event(struct client *client, const struct message *message);
-/* Of an enter: the client that had the focus, for which what the compositor told is to be read before; or NULL. */
-struct client *keyboard_reads_first(const struct client *client, const struct message *message);
-void keyboard_leave(const struct client *client, uint32_t surface);
-/* A key or modifiers that a client's board sent and no grab has: for who has the focus, with the board's keymap. */
-void keyboard_give(const struct client *from, uint32_t keymap, const struct wlim_told *told);
-/* A board of the client ends, of 0 all of them: the keys that it pressed are released. The serving method does, which is
- * the client's: the field is left and entered besides, and keeps no preedit. */
-void keyboard_board_ended(const struct client *client, uint32_t board);
-void keyboard_method_ended(const struct client *client);
-/* Whether the key went to the focused window when the board pressed it. */
-bool keyboard_has(const struct client *client, uint32_t board, uint32_t key);
-/* The client is a peer from now on. The focus leaves the broker that goes; a new one is told the keys that a grab has, and
- * at last what else stands. */
-void keyboard_client_joined(const struct client *client);
-void keyboard_leave_broker(void);
-void keyboard_press(void);
-void keyboard_join_broker(void);
-
-/* Who has the focus, and on which surface; NULL: nobody. */
-struct client *keyboard_focus(uint32_t *surface);
-/* A surface isn't shown any more, which the compositor may not say; it is again, and the compositor never said else. */
-void keyboard_unmapped(const struct client *client, uint32_t surface);
-void keyboard_mapped(struct client *client, uint32_t surface);
 
 /* ---- What programs' surfaces are (surfaces.c) ---- */
 /* A program's request, before the compositor hears of it. And an event of one of its xdg_popups. */
@@ -267,6 +257,8 @@ void older_event(struct client *client, const struct message *message);
 void popups_round(void);
 int popups_wait(void); /* milliseconds; -1: nothing is due */
 void popups_copied(uint32_t token, bool is_whole, bool is_short);
+/* Asks the shell for the zeros that popups go by. False: the token isn't theirs. */
+bool popup_clear_again(uint32_t token);
 /* A method's popup is made on its surface; it ends. A request of a method's: whether the compositor hears of it. */
 void popup_make(struct client *client, uint32_t id, uint32_t surface);
 void popup_destroy(struct client *client, uint32_t id);
@@ -281,12 +273,4 @@ void popups_global_gone(struct client *client, uint32_t name);
 void private_event(struct client *program, uint32_t far, struct private *private, struct message *message);
 bool popups_hide(struct object *object, const struct message *message, bool names_private);
 
-/* ---- Keymaps: the same text has the same number, which is its token at the broker (keymaps.c) ---- */
-enum { KEYMAP_MAX = 1048576 /* bytes */ };
-struct keymap { uint32_t format, size, token; uint8_t *text; }; /* the token is of a copy that nobody can change */
-/* The number of a keymap with the text, from 1. 0: there is none (NULL), it is the 65th, or there is no memory. */
-uint32_t keymap_number(uint32_t format, const uint8_t *text, uint32_t size);
-/* The keymap with the number, and its token to be sent; NULL and 0: there is none. */
-const struct keymap *keymap_find(uint32_t number);
-uint32_t keymap_token(uint32_t number);
-void keymaps_end(void);
+#include "seat.h"

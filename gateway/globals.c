@@ -69,7 +69,7 @@ bool globals_bind(struct client *client, const struct message *message) {
 		return true;
 	if (name != OFFERED + offer->global || offer->role != client->role || message->numbers[2] != 1)
 		client_refuse(client, message->object, ERROR_OBJECT, "no such global");
-	else if (client->peer || broker_join(client))
-		object->is_ours = true;
+	else
+		object->is_ours = true; /* it lives nowhere; what it makes lives at the broker */
 	return false;
 }

@@ -4,17 +4,31 @@
 #include <stdio.h>
 #include <string.h>
 
+/* Which argument of a message is a key; -1: none is. */
+static int key_of(const struct message *message) {
+	bool is_grab = IS(message, zwp_input_method_keyboard_grab_v2, event, key);
+	return is_grab ? 2 : IS(message, zwp_virtual_keyboard_v1, request, key) ? 1 : -1;
+}
+
+/* What is typed is hidden but for how long it is, where it isn't asked for. */
+static void log_argument(const struct message *message, unsigned at) {
+	bool text = strchr("sS", message->signature->kinds[at]) != NULL, hides = !outlets[OUT_LOG_TEXT];
+	if (hides && ((int)at == key_of(message) || (text && message->numbers[at] > 0)))
+		return out(OUT_LOG, text ? "<%u bytes>" : "<key>", message->numbers[at]);
+	out(OUT_LOG, text ? "\"" : "%d", (int)message->numbers[at]);
+	for (uint32_t from = 0; text && from < message->numbers[at]; from++)
+		out(OUT_LOG, "%c", iscntrl((unsigned char)message->texts[at][from]) ? '?' : message->texts[at][from]);
+	out(OUT_LOG, "%s", text ? "\"" : "");
+}
+
 void log_message(struct client *client, const char *way, const struct message *message) {
 	if (!outlets[OUT_LOG])
 		return;
 	out(OUT_LOG, "%.6f %u %s %s@%u.%s(", (double)gateway.moment / 1e6, client->number, way,
 		object_at(client, message->object)->interface->name, message->object, message->signature->name);
 	for (unsigned at = 0; at < message->count; at++) {
-		bool text = strchr("sS", message->signature->kinds[at]) != NULL;
-		out(OUT_LOG, text ? "%s\"" : "%s%d", at > 0 ? ", " : "", (int)message->numbers[at]);
-		for (uint32_t from = 0; text && from < message->numbers[at]; from++)
-			out(OUT_LOG, "%c", iscntrl((unsigned char)message->texts[at][from]) ? '?' : message->texts[at][from]);
-		out(OUT_LOG, "%s", text ? "\"" : "");
+		out(OUT_LOG, at > 0 ? ", " : "");
+		log_argument(message, at);
 	}
 	out(OUT_LOG, ")\n");
 }

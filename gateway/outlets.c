@@ -54,6 +54,7 @@ void outlets_open(void) {
 	files[OUT_PROBLEMS] = stderr;
 	files[OUT_LOG] = outlet_names[OUT_LOG] ? stdout : NULL;
 	outlets[OUT_LOG] = files[OUT_LOG];
+	outlets[OUT_LOG_TEXT] = outlet_names[OUT_LOG_TEXT];
 	open_file(OUT_CALLS, 1);
 }
 

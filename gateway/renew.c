@@ -45,7 +45,7 @@ static void make_all(void) {
 		for (struct client *client = gateway.clients; client; client = client->next)
 			for (uint32_t id = 1; id < client->counts[0]; id++) {
 				struct object *object = object_live(client, id);
-				if (object && (object->made[0] > 0 || object->is_ours) && round_of(client, id, object) == round
+				if (object && object->made[0] > 0 && round_of(client, id, object) == round
 						&& !client->ending && (client->peer > 0 || broker_join(client)))
 					make(client, id, object);
 			}
@@ -60,7 +60,7 @@ void renew(void) {
 	keyboard_leave_broker();
 	broker_close();
 	for (struct client *client = gateway.clients; client; client = client->next)
-		client->peer = 0;
+		client->peer = 0, client->waits = false;
 	if (!broker_open())
 		return;
 	gateway.renews = true;

@@ -17,8 +17,12 @@ mkdir -p "$checked"
 cp -r "$made/protocols" "$checked"
 gateway/build.sh "$checked" $sanitize
 core=$(ls gateway/*.c | grep -v -e /gateway.c -e /sockets.c -e /outlets.c -e /listen.c -e /check.c)
-for name in fuzz order renewals popups pixels version_2 shell play; do
-	wrapped=$([ $name != renewals ] || echo -Wl,--wrap=wlim_broker_open)
+for name in fuzz order renewals popups pixels version_2 limits faults shell play; do
+	case $name in
+	renewals) wrapped=-Wl,--wrap=wlim_broker_open ;;
+	faults) wrapped=$(printf -- '-Wl,--wrap=%s ' malloc calloc realloc sendmsg recvmsg memfd_create mmap clock_gettime) ;;
+	*) wrapped= ;;
+	esac
 	${CC:-cc} $flags $sanitize $wrapped -I"$checked" -o "$checked/$name" "tests/gateway_$name.c" $core \
 		"$checked/tables.c" out/libwlim/lib/libwlim.a
 done
@@ -35,6 +39,8 @@ rm -f "$checked"/*.session* "$checked"/*.taken* "$checked"/*.calls*
 "$checked/popups"
 "$checked/pixels"
 "$checked/version_2"
+"$checked/limits"
+"$checked/faults"
 for seed in 1 2 3; do
 	timeout 300 "$checked/fuzz" 200000 $seed
 done
@@ -42,6 +48,7 @@ timeout 300 "$checked/fuzz" 100000 4 honest
 timeout -k 10 100 tests/gateway_start.py "$checked"
 timeout -k 10 200 tests/gateway_session.py "$checked"
 timeout -k 10 300 tests/gateway_peers.py "$checked"
+timeout -k 10 300 tests/gateway_limits.py "$checked"
 timeout -k 10 900 tests/gateway_programs.py "$checked" "$rounds"
 timeout -k 10 300 tests/gateway_hostile.py "$checked"
 timeout -k 10 900 tests/gateway_candidates.py "$checked"
