@@ -97,10 +97,9 @@ void broker_ask(void) {
 
 int broker_renewal(void) {
 	struct wlim_used used = broker_used();
-	bool lost = self.lost || !broker->live;
-	if (!self.asked && !lost && used.entries <= gateway.entries && used.weight <= WEIGHT_OLD)
+	if (!self.asked && !self.lost && used.entries <= gateway.entries && used.weight <= WEIGHT_OLD)
 		return -1;
-	uint64_t quiet = lost || is_used(FULL) ? 0 : self.moment + QUIET, due = quiet > self.again ? quiet : self.again;
+	uint64_t quiet = self.lost || is_used(FULL) ? 0 : self.moment + QUIET, due = quiet > self.again ? quiet : self.again;
 	bool is_due = gateway.moment >= due || (broker->live && is_used(SPENT));
 	return is_due ? 0 : (int)((due - gateway.moment) / 1000) + 1;
 }
