@@ -3,7 +3,6 @@
 #include "usage.h" /* the text of usage.txt, as `usage` */
 #include <errno.h>
 #include <fcntl.h>
-#include <poll.h>
 #include <signal.h>
 #include <stdio.h>
 #include <stdlib.h>
@@ -105,7 +104,7 @@ static void wait_for_all(int milliseconds) {
 			*wait++ = (struct pollfd){ link_socket(link, side), reads | (core_writes(link, side) ? POLLOUT : 0), 0 };
 		}
 	}
-	if (poll(self.waits, (nfds_t)(wait - self.waits), rests ? RESTS : milliseconds) < 0 && errno != EINTR)
+	if (wait_for(self.waits, (unsigned)(wait - self.waits), rests ? RESTS : milliseconds) < 0 && errno != EINTR)
 		say("nothing is waited for: %m");
 }
 

@@ -1,6 +1,7 @@
 /* The shell: sockets and files, by which the core is told and does what it asks for; and where its lines go. */
 #pragma once
 #include "core.h"
+#include <poll.h>
 #include <sys/un.h>
 
 #define say(format, ...) out(OUT_PROBLEMS, format "\n", ##__VA_ARGS__)
@@ -26,7 +27,10 @@ int connect_to(const char *name); /* -1: nobody listens there */
 void check_answer(int file, unsigned highest, const char *compositor);
 bool check(const char *socket, const char *compositor);
 
-uint64_t moment(void); /* microseconds, of a clock that never falls */
+/* As poll does, for what mostly stays. What was waited for isn't any more, before it is closed (waits.c). */
+int wait_for(struct pollfd *waits, unsigned count, int milliseconds);
+void wait_ends(int descriptor);
+uint64_t moment(void); /* microseconds, of a clock that never falls and goes on while the shell waits */
 /* The sockets of a link are the shell's from now on. */
 void link_open(unsigned link, int near, int far);
 /* So many descriptors may be open. */

@@ -10,7 +10,6 @@
 #include <sys/mman.h>
 #include <sys/socket.h>
 #include <sys/vfs.h>
-#include <time.h>
 #include <unistd.h>
 
 enum {
@@ -25,12 +24,6 @@ enum {
 static struct { int sockets[2]; } links[LINKS_MAX + 1];
 static int files[TOKENS_MAX]; /* of tokens; 0 or below: there is none */
 static size_t held, most = SIZE_MAX; /* descriptors of links and tokens; so many may be */
-
-uint64_t moment(void) {
-	struct timespec time;
-	clock_gettime(CLOCK_MONOTONIC, &time);
-	return (uint64_t)time.tv_sec * 1000000 + (uint64_t)time.tv_nsec / 1000;
-}
 
 unsigned peer_of(int socket, char command[COMMAND]) {
 	struct ucred other = { 0 };
@@ -69,6 +62,7 @@ static void link_close(unsigned link) {
 		int socket = links[link].sockets[side];
 		for (int reads = 0; reads < READ_AWAY && recv(socket, bytes, sizeof bytes, MSG_DONTWAIT) > 0; reads++)
 			;
+		wait_ends(socket);
 		close(socket);
 		held--;
 		links[link].sockets[side] = 0;
@@ -150,7 +144,8 @@ void link_flush(unsigned link, enum side side) {
 		}
 		*part = (struct cmsghdr){ CMSG_LEN(next.count * sizeof(int)), SOL_SOCKET, SCM_RIGHTS };
 		header.msg_controllen = next.count > 0 ? CMSG_SPACE(next.count * sizeof(int)) : 0;
-		ssize_t went = sendmsg(links[link].sockets[side], &header, MSG_DONTWAIT | MSG_NOSIGNAL);
+		ssize_t went = next.count > 0 ? sendmsg(links[link].sockets[side], &header, MSG_DONTWAIT | MSG_NOSIGNAL)
+			: send(links[link].sockets[side], next.bytes, next.size, MSG_DONTWAIT | MSG_NOSIGNAL);
 		if (went < 0 && is_later())
 			return;
 		for (int reads = 0; went < 0 && side == FAR && reads < READ_AWAY && read_once(link, FAR); reads++)

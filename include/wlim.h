@@ -362,7 +362,8 @@ int64_t wlim_broker_standing(struct wlim_broker *broker, uint32_t peer);
 /* How many bytes are stored for the peer, alive or ended; WLIM_NOBODY. */
 int64_t wlim_broker_stored(struct wlim_broker *broker, uint32_t peer);
 
-/* The lowest number of a peer above `after` for which bytes are stored; 0 where there is none. */
+/* The lowest number of a peer above `after` for which bytes are stored; 0 where there is none. What it costs grows with the
+ * peers that live or have bytes stored, not with those that came and went. */
 int64_t wlim_broker_ready(struct wlim_broker *broker, uint32_t after);
 
 /* How many peers joined, alive or not. */

@@ -1,7 +1,8 @@
 #!/usr/bin/env bash
 # Builds the players in C over out/libwlim, of acts and of sessions by bytes, and holds what they print against the
 # program, over the worked rows, the examples, and lists and sessions made from numbers; again with the address sanitizer
-# and under valgrind. Then what C and a client can do wrong (tests/embed_bad.c). `make build` and `make libwlim` come before.
+# and under valgrind. Then what C and a client can do wrong (tests/embed_bad.c), and who has output among peers that come
+# and go (tests/embed_ready.c). `make build` and `make libwlim` come before.
 #
 #   tests/embed.sh PROGRAM [LISTS]
 set -e
@@ -33,3 +34,5 @@ ${CC:-cc} $flags -fsanitize=address,undefined -o "$made/bad_checked" $bad "$libr
 "$made/bad"
 "$made/bad_checked"
 valgrind -q --leak-check=full --error-exitcode=9 "$made/bad"
+${CC:-cc} $flags -fsanitize=address,undefined -o "$made/ready" tests/embed_ready.c "$library"
+"$made/ready" 5000

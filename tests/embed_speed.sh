@@ -33,6 +33,7 @@ build() {
 		"$shell/xdg-shell-protocol.c" $(pkg-config --cflags --libs wayland-client) -lpthread
 	${CC:-cc} $flags -D_POSIX_C_SOURCE=200809L -o "$work/play_acts" examples/embed/play_acts.c "$library/libwlim.a"
 	${CC:-cc} $flags -D_POSIX_C_SOURCE=200809L -o "$work/embed_act" tests/embed_act.c "$library/libwlim.a"
+	${CC:-cc} $flags -o "$work/embed_ready" tests/embed_ready.c "$library/libwlim.a"
 }
 
 # What the client prints of a compositor that is started for it: measure BATCHES SINGLES COMMAND..
@@ -119,6 +120,13 @@ act_instructions() {
 	echo "$counted" | awk '{ printf "%.0f\n", ($1 - $2) / 8000 }'
 }
 
+# Instructions of a call that asks who has output, after so many peers came and went: ready_instructions PEERS
+ready_instructions() {
+	valgrind --tool=callgrind --callgrind-out-file="$work/callgrind" --toggle-collect=wlim_broker_ready \
+		"$work/embed_ready" "$1" 1000 > "$work/told" 2> "$work/log"
+	sed -n 's/.*Collected : //p' "$work/log" | awk '{ printf "%.0f\n", $1 / 1000 }'
+}
+
 build
 mkfifo "$work/nothing"
 exec 3<> "$work/nothing"
@@ -142,6 +150,9 @@ awk '{ of[NR] = $1 } END { printf "| instructions of one | %d | %d | %.2f |\n", 
 	"$work/ours" "$work/theirs"
 echo "an act of a keystroke, its events pulled: $(act_instructions) instructions of the library"
 echo "a string and its commit: $("$work/embed_act")"
+for peers in 10 20000; do
+	echo "who has output, after $peers peers came and went: $(ready_instructions $peers) instructions"
+done
 for file in libwlim.a libwlim.so; do
 	strip --strip-unneeded -o "$work/$file" "$library/$file"
 	echo "$file, stripped: $(stat -c %s "$work/$file") bytes"

@@ -1,7 +1,7 @@
 #!/usr/bin/env python3
 """Measures the gateway beside the compositor alone, in one run: tests/gateway_figures.py FOLDER [TURNS]
 
-FOLDER has `wlim-gateway`, `speed` and `protocols`.
+FOLDER has `wlim-gateway`, `speed` and `protocols`. All runs on one processor: over several, where each is put decides.
 """
 import os
 import subprocess
@@ -13,6 +13,7 @@ from gateway_desk import Desk
 
 
 def main():
+    os.sched_setaffinity(0, {max(os.sched_getaffinity(0))})
     built, turns = os.path.abspath(sys.argv[1]), sys.argv[2] if len(sys.argv) > 2 else "20"
     with tempfile.TemporaryDirectory() as work:
         desk = Desk(built, work)

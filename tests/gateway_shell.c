@@ -181,6 +181,72 @@ static void who_does_not_read(void)
 	close_ends(ends);
 }
 
+enum { PAIRS = 100 };
+
+/* Waits until each that is ready was told. Answers how many are, and that what they are is this. */
+static int told(struct pollfd *waits, short events)
+{
+	static short all[PAIRS];
+	int count = 0;
+	memset(all, 0, sizeof all);
+	for (int times = 0; times < 3; times++) {
+		HOLDS(wait_for(waits, PAIRS, 0) >= 0);
+		for (int at = 0; at < PAIRS; at++)
+			all[at] |= waits[at].revents;
+	}
+	for (int at = 0; at < PAIRS; at++) {
+		HOLDS(all[at] == 0 || all[at] == events);
+		count += all[at] != 0;
+	}
+	return count;
+}
+
+/* What came is told of whom it came to, whatever changed since the last time. */
+static void waits(void)
+{
+	static struct pollfd waits[PAIRS];
+	int ends[PAIRS][2];
+	for (int at = 0; at < PAIRS; at++) {
+		HOLDS(socketpair(AF_UNIX, SOCK_STREAM | SOCK_CLOEXEC, 0, ends[at]) == 0);
+		waits[at] = (struct pollfd){ ends[at][0], POLLIN, 0 };
+	}
+	HOLDS(told(waits, POLLIN) == 0);
+	for (int at = 0; at < PAIRS; at += 3)
+		HOLDS(write(ends[at][1], "a", 1) == 1);
+	HOLDS(told(waits, POLLIN) == 34 && waits[99].revents == POLLIN && waits[98].revents == 0);
+	waits[3].events = waits[6].events = 0;
+	HOLDS(told(waits, POLLIN) == 32);
+	for (int at = 0; at < PAIRS; at++)
+		waits[at] = (struct pollfd){ ends[PAIRS - 1 - at][0], at % 4 == 0 ? 0 : POLLOUT, 0 };
+	HOLDS(told(waits, POLLOUT) == 75);
+	for (int at = 0; at < PAIRS; at++) /* the numbers of what is closed are used again */
+		for (int end = 0; end < 2; end++) {
+			wait_ends(ends[at][end]);
+			close(ends[at][end]);
+		}
+	for (int at = 0; at < PAIRS; at++) {
+		HOLDS(socketpair(AF_UNIX, SOCK_STREAM | SOCK_CLOEXEC, 0, ends[at]) == 0);
+		waits[at] = (struct pollfd){ ends[at][0], 0, 0 };
+	}
+	HOLDS(told(waits, 0) == 0 && close(ends[7][1]) == 0 && told(waits, POLLHUP) == 1 && waits[7].revents == POLLHUP);
+	int file = numbered_file(1), closed = ends[7][0]; /* a file can't be waited for but by poll */
+	waits[7] = (struct pollfd){ file, POLLIN, 0 };
+	HOLDS(told(waits, POLLIN) == 1 && waits[7].revents == POLLIN);
+	waits[7] = waits[8];
+	waits[8] = (struct pollfd){ closed, POLLIN, 0 };
+	HOLDS(told(waits, POLLIN | POLLHUP) == 1 && waits[8].revents == (POLLIN | POLLHUP));
+	uint64_t before = moment();
+	usleep(1000);
+	HOLDS(moment() == before && wait_for(waits, 8, 1) == 1 && wait_for(waits, 7, 1) == 0 && moment() >= before + 1000);
+	close(file);
+	for (int at = 0; at < PAIRS; at++) {
+		wait_ends(ends[at][0]);
+		close(ends[at][0]);
+		if (at != 7)
+			close(ends[at][1]);
+	}
+}
+
 int main(void)
 {
 	if (!core_open(moment(), 3000000))
@@ -189,6 +255,7 @@ int main(void)
 	too_many();
 	sealed();
 	who_does_not_read();
+	waits();
 	core_close();
 	perform();
 	printf("the gateway's shell: %s\n", failed ? "not as it should be" : "ok");

@@ -1,7 +1,0 @@
-use Rattle.byte_seat.proofs.WatchedOn.{heard_let}
-use Rattle.byte_seat.proofs.seat.ByteSeat.gone.Goals as goal
-
-pub returns-in-Ok-clause-told : goal.returns-in-Ok-clause-told
-returns-in-Ok-clause-told c =
-    heard_let c.args.self.now.broker c.end.new.self.broker c.let_go.new.self.broker c.args.self.now.ears
-    c.end.new.self.ears c.let_go.new.self.ears c.let_go.ensures.gone c.let_go.ensures.ears c.end.ensures.told

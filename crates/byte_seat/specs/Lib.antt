@@ -1,5 +1,0 @@
-pub mod Ears
-pub mod Steps
-pub mod Seated
-pub mod Promise
-pub mod Called

@@ -1,0 +1,9 @@
+pub mod StepsLead
+pub mod WatchedOn
+pub mod OpenPeers
+pub mod OpenNumbers
+pub mod OpenReady
+pub mod BytesOnWay
+pub mod HeldBytes
+pub mod StoppedPeers
+pub mod LedByCalls
