@@ -264,7 +264,6 @@ static bool trial(enum fault fault, unsigned long number)
 	left = 0;
 	for (int rounds = 0; rounds < 3; rounds++) { /* what was lost is made again at a pause */
 		skew += 20000000;
-		wait_for(NULL, 0, 0); /* the time stands still till then */
 		finish_round();
 	}
 	bool live = lives(&program) && lives(&method), goes_on = live && type(&program, &method, keymaps[1 - number % 2].text) == 1;
