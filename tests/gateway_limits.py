@@ -17,7 +17,7 @@ from gateway_client import Client, Ended, Method, Window, memory_file, message, 
 from gateway_desk import Desk, until
 
 PROGRAMS, MORE, PLACES = 64, 40, 56
-A = 30  # a key
+CHILDREN = []  # that are to end with the test
 
 
 def holds(what, found, wanted):
@@ -38,6 +38,7 @@ class Program:
         self.link, other = socket.socketpair()
         self.child = os.fork()
         if self.child:
+            CHILDREN.append(self.child)
             other.close()
             return
         try:
@@ -153,6 +154,7 @@ class Pair:
 def forked(run, *arguments):
     child = os.fork()
     if child:
+        CHILDREN.append(child)
         return child
     signal.signal(signal.SIGTERM, signal.SIG_DFL)
     try:
@@ -278,6 +280,11 @@ def main():
             run(desk, connections)
             code = 0
         finally:
+            for child in CHILDREN if code else []:
+                try:
+                    os.kill(child, signal.SIGKILL)
+                except ProcessLookupError:
+                    pass
             if code:
                 print(desk.read(desk.gateway.log)[-3000:])
             desk.end()
