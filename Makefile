@@ -1,4 +1,4 @@
-# All but examples, claims and embed-test want `rt`, of the kit that README.md names.
+# All but examples, claims, embed-test and what installs want `rt`, of the kit that README.md names.
 #
 # make demo        replays an example, unproved
 # make build       proves and builds the program, and replays an example
@@ -9,8 +9,8 @@
 # make cost        builds the program, and counts the instructions of a step; python3, valgrind
 # make memory      the most memory that replays take, short and long; after `make build`; python3
 # make claims      the documents against the sources, and where the program is built their command blocks; python3
-# make libwlim     proves and makes the library for C, in out/libwlim, and holds its header against it; cc, ld, objcopy,
-#                  ar, nm, python3
+# make libwlim     proves and makes the library for C, in out/libwlim, and holds its header against it; cc, binutils,
+#                  python3
 # make embed       also plays act lists and sessions through it, beside the program, which `make build` makes before;
 #                  pkg-config, valgrind, cc with its sanitizers
 # make embed-test  the glue of examples/embed over libwayland, and fcitx5 into real programs through a compositor with
@@ -28,9 +28,18 @@
 # make conformance  which text reaches which field at sway, Mir, Weston with the plug-in where it is built, the example
 #                  compositor and the gateway: the table of docs/CONFORMANCE.md and a page; WLCS's tests of text inputs;
 #                  faults that are planted. After `make build` and `make libwlim`. Installs as embed-test does
+# make install     what is built, with its manual, completions and examples: PREFIX (/usr/local), DESTDIR, LIBDIR (lib).
+#                  make uninstall takes it away. For the manual pandoc
+# make man, docs   the manual, out/man, and documents and manual as pages, out/site; pandoc, python3
+# make deb         what is built as packages of Debian, in out/deb; debhelper, pandoc
+# make packaging-test  installs, takes away, completes, and what a changed header is told; after `make libwlim`
+# make clean-machine-test  the packages in a fresh Debian 12, with sway, fcitx5 and foot; after `make deb`; mmdebstrap, as
+#                  root, with a network
 PROGRAM = crates/wlim/out/wlim
 .PHONY: demo build examples quick test gate-cost cost memory claims libwlim embed embed-test embed-speed
 .PHONY: weston weston-test gateway gateway-test gateway-mutter-test conformance
+.PHONY: install uninstall man docs deb packaging-test clean-machine-test
+export PREFIX DESTDIR LIBDIR
 demo:
 	cd crates/wlim && rt try -- replay-acts < ../../examples/one_string.acts
 
@@ -58,9 +67,10 @@ memory:
 
 claims:
 	python3 tools/claims.py $(if $(wildcard $(PROGRAM)),--program $(PROGRAM))
+	python3 tools/packaged.py
 
 libwlim:
-	cd crates/wlim_c && rt lib
+	cd crates/c_library && rt lib
 	tools/libwlim.sh
 
 embed: libwlim
@@ -100,3 +110,26 @@ conformance:
 	conformance/wlcs/run.sh out/conformance
 	tests/conformance_checked.sh
 	tests/conformance_faults.py
+
+man:
+	rm -rf out/man
+	python3 tools/manual.py out/man
+
+docs:
+	python3 tools/site.py out/site
+
+install:
+	@if command -v pandoc > /dev/null; then $(MAKE) --no-print-directory man; fi
+	packaging/install.sh install
+
+uninstall:
+	packaging/install.sh uninstall
+
+deb: man
+	packaging/deb.sh
+
+packaging-test:
+	tests/packaging.py
+
+clean-machine-test:
+	tests/clean_machine.sh

@@ -3,29 +3,36 @@
 #include <inttypes.h>
 #include <stdarg.h>
 #include <stdio.h>
+#include <string.h>
 
 enum {
 	STORE = 65536, ENTRIES = 4000000, WEIGHT = 536870912, /* what a broker holds at most, as wlim.h says */
 	WEIGHT_OLD = 400000000, /* so heavy it is renewed */
-	QUIET = 500, /* milliseconds without a step, after which a renewal cuts nothing in two */
+	QUIET = 500000, /* microseconds without a step, after which a renewal cuts nothing in two */
+	AGAIN = 10000000, /* microseconds after which a renewal is tried again that couldn't be made */
 	PIECE = 4096, /* bytes of a line of the session, and of one taking */
 	LINE = 2 * PIECE + 100, /* characters of a line of the session */
 };
 
-struct wlim_broker broker;
+static struct wlim_broker brokers[2]; /* the next one opens before the last one closes */
+struct wlim_broker *broker = brokers;
 
 static struct {
 	unsigned number; /* of the broker, from 1: each has a record */
-	uint64_t moment; /* of the last step */
+	uint64_t moment, again; /* of the last step of who types, and for whom; no renewal comes before */
+	bool is_idle; /* what is done now is another's */
+	bool asked, lost; /* for a renewal; it missed an order, and is renewed at once */
 } self;
 
 /* Writes a call's line, if it was taken. Answers the answer. */
 int64_t broker_record(int64_t answer, const char *format, ...) {
 	static char line[LINE];
 	va_list arguments;
-	self.moment = gateway.moment;
-	if (answer == WLIM_NO_MEMORY || answer == WLIM_FULL)
-		out(OUT_PROBLEMS, "%s\n", answer == WLIM_FULL ? "the broker is full" : "there is no memory for a step");
+	if (!self.is_idle)
+		self.moment = gateway.moment;
+	self.lost |= answer == WLIM_NO_MEMORY || answer == WLIM_FULL;
+	if (self.lost)
+		out(OUT_PROBLEMS, "there is no memory for a step\n");
 	if (answer < WLIM_GIVEN || !outlets[OUT_RECORD])
 		return answer;
 	va_start(arguments, format);
@@ -43,28 +50,54 @@ const char *spell(const uint8_t *bytes, size_t size) {
 	return text;
 }
 
+static bool open_at(struct wlim_broker *place) {
+	if (place->live || wlim_broker_open(place, STORE, ENTRIES, WEIGHT) == WLIM_GIVEN)
+		return true;
+	self.again = gateway.moment + AGAIN;
+	return out(OUT_PROBLEMS, "there is no memory for a broker: in %d s it is tried again\n", AGAIN / 1000000), false;
+}
+
 bool broker_open(void) {
+	if (!open_at(broker))
+		return false;
+	self.asked = self.lost = false;
 	out_begin(++self.number);
 	if (outlets[OUT_RECORD])
 		out(OUT_RECORD, "session 2 %d %d %d\n", ENTRIES, STORE, WEIGHT);
-	bool opened = wlim_broker_open(&broker, STORE, ENTRIES, WEIGHT) == WLIM_GIVEN;
-	return opened || (out(OUT_PROBLEMS, "there is no memory for a broker\n"), false);
+	return true;
 }
 
 void broker_close(void) {
-	if (outlets[OUT_RECORD])
+	if (outlets[OUT_RECORD] && broker->live)
 		out(OUT_RECORD, "end\n");
-	wlim_broker_close(&broker);
+	wlim_broker_close(broker);
+	broker = brokers + (broker == brokers);
+}
+
+static struct wlim_used broker_used(void) {
+	struct wlim_used used = { .entries = ENTRIES }; /* where none is open */
+	wlim_broker_used(broker, &used);
+	return used;
+}
+
+bool broker_prepare(void) {
+	struct wlim_used used = broker_used();
+	bool is_spent = used.entries > ENTRIES - ENTRIES / 32 || used.weight > WEIGHT - WEIGHT / 32;
+	return open_at(brokers + (broker == brokers)) || is_spent;
+}
+
+void broker_ask(void) {
+	self.asked = true;
 }
 
 int broker_renewal(void) {
-	struct wlim_used used;
-	wlim_broker_used(&broker, &used);
-	if (used.entries <= gateway.entries && used.weight <= WEIGHT_OLD)
+	struct wlim_used used = broker_used();
+	bool full = used.entries > gateway.entries + ENTRIES / 8 || used.weight > WEIGHT_OLD + WEIGHT / 8 || !broker->live
+		|| self.lost;
+	if (!self.asked && !full && used.entries <= gateway.entries && used.weight <= WEIGHT_OLD)
 		return -1;
-	uint64_t passed = (gateway.moment - self.moment) / 1000;
-	bool full = used.entries > gateway.entries + ENTRIES / 8 || used.weight > WEIGHT_OLD + WEIGHT / 8;
-	return full || passed >= QUIET ? 0 : QUIET;
+	uint64_t due = full || self.moment + QUIET < self.again ? self.again : self.moment + QUIET;
+	return gateway.moment >= due ? 0 : (int)((due - gateway.moment) / 1000) + 1;
 }
 
 static struct client *client_of(uint32_t peer) {
@@ -74,6 +107,16 @@ static struct client *client_of(uint32_t peer) {
 	return client;
 }
 
+/* There was no memory for what it sent or is told: it joins the next broker, at a pause. */
+static void miss(struct client *client) {
+	broker_record(WLIM_GIVEN, "gone %u", client->peer);
+	wlim_broker_gone(broker, gateway.moment, client->peer);
+	out(OUT_PROBLEMS, "client %u (%s) waits for another broker\n", client->number, process_named(client->process));
+	client->peer = 0;
+	client->waits = true;
+	broker_ask();
+}
+
 /* Takes all that is stored for a peer: whole messages. */
 static void take(uint32_t peer) {
 	static uint8_t bytes[STORE + PIECE];
@@ -81,7 +124,8 @@ static void take(uint32_t peer) {
 	struct wlim_taken taken;
 	struct client *client = client_of(peer);
 	size_t size = 0, count = 0;
-	while (wlim_broker_take(&broker, gateway.moment, peer, bytes + size, PIECE, tokens + count, 256, &taken)
+	int64_t answer;
+	while ((answer = wlim_broker_take(broker, gateway.moment, peer, bytes + size, PIECE, tokens + count, 256, &taken))
 			== WLIM_GIVEN) {
 		broker_record(WLIM_GIVEN, "take %u %zu", peer, taken.bytes);
 		size += taken.bytes;
@@ -91,7 +135,9 @@ static void take(uint32_t peer) {
 		out(OUT_TAKEN, "%u %s\n", peer, spell(bytes, size));
 	if (client)
 		client_told(client, bytes, size, tokens);
-	if (client && wlim_broker_standing(&broker, peer) != WLIM_ALIVE)
+	if (client && (answer == WLIM_NO_MEMORY || answer == WLIM_FULL))
+		miss(client);
+	else if (client && wlim_broker_standing(broker, peer) != WLIM_ALIVE)
 		client_refuse(client, DISPLAY, ERROR_MEMORY, "what it was to be told didn't fit its store");
 }
 
@@ -99,12 +145,12 @@ static void take(uint32_t peer) {
 int64_t broker_done(int64_t answer) {
 	struct wlim_told told;
 	int64_t next;
-	for (int64_t peer = 0; (peer = wlim_broker_ready(&broker, (uint32_t)peer)) > 0; )
+	for (int64_t peer = 0; (peer = wlim_broker_ready(broker, (uint32_t)peer)) > 0; )
 		take((uint32_t)peer);
-	while ((next = wlim_broker_next(&broker, &told)) == WLIM_GIVEN) {
+	while ((next = wlim_broker_next(broker, &told)) == WLIM_GIVEN) {
 		struct client *client = client_of(told.peer);
 		const struct object *board = client ? object_live(client, told.id) : NULL;
-		if (board && told.kind != WLIM_PLACED)
+		if (board && told.kind != WLIM_PLACED && !gateway.renews)
 			keyboard_give(client, board->keymap, &told);
 	}
 	if (next == WLIM_MISSED)
@@ -112,25 +158,55 @@ int64_t broker_done(int64_t answer) {
 	return answer;
 }
 
+/* The client isn't at the broker: the message is lost, but where it ends an object that is told. */
+static void lose(struct client *client, const struct message *message) {
+	const struct object *object = object_live(client, message->object);
+	const char *name = message->signature ? message->signature->name : "";
+	if (!object || !object->is_ours || (strcmp(name, "destroy") != 0 && strcmp(name, "release") != 0))
+		return;
+	object_free(client, message->object);
+	client_send(client, draft(DISPLAY, wl_display_event_delete_id, "u", message->object));
+}
+
 void broker_receive(struct client *client, const struct message *message, uint32_t token) {
-	int64_t answer = wlim_broker_receive(&broker, gateway.moment, client->peer, message->bytes, message->size, &token,
+	uint32_t surface;
+	if (!gateway.renews)
+		budget_spend(client, message->size);
+	if (!broker->live || client->peer == 0)
+		return lose(client, message);
+	self.is_idle = client->serves == 0 && keyboard_focus(&surface) != client;
+	int64_t answer = wlim_broker_receive(broker, gateway.moment, client->peer, message->bytes, message->size, &token,
 		token > 0);
-	if (token > 0)
+	if (token > 0 && answer >= WLIM_GIVEN)
 		broker_record(answer, "tokens %u %u", client->peer, token);
-	for (size_t at = 0; outlets[OUT_RECORD] && at < message->size; at += PIECE)
+	for (size_t at = 0; outlets[OUT_RECORD] && answer >= WLIM_GIVEN && at < message->size; at += PIECE)
 		broker_record(answer, "bytes %u %s", client->peer,
 			spell(message->bytes + at, message->size - at < PIECE ? message->size - at : PIECE));
-	if (answer < WLIM_GIVEN)
+	if (answer == WLIM_NO_MEMORY || answer == WLIM_FULL)
+		miss(client), lose(client, message);
+	else if (answer < WLIM_GIVEN)
 		client_refuse(client, DISPLAY, ERROR_MEMORY, "the broker can't take its message");
 	broker_done(answer);
+	self.is_idle = false;
 }
 
 bool broker_join(struct client *client) {
 	bool method = client->role == METHOD;
-	int64_t answer = wlim_broker_join(&broker, gateway.moment, method ? WLIM_KEYED : WLIM_APP);
-	broker_record(answer, method ? "join keyed" : "join app");
+	int64_t answer = WLIM_MANY;
+	if (!broker->live || client->waits)
+		return true; /* it joins the next */
+	if (budget_place(client))
+		answer = wlim_broker_join(broker, gateway.moment, method ? WLIM_KEYED : WLIM_APP);
+	if (answer == WLIM_NO_MEMORY || answer == WLIM_FULL) {
+		broker_ask();
+		return client->waits = true;
+	}
 	if (answer < WLIM_GIVEN)
-		return client_refuse(client, DISPLAY, ERROR_MEMORY, "the broker takes no more clients"), false;
+		return out(OUT_PROBLEMS, "client %u (%s) has no place at the broker\n", client->number,
+			process_named(client->process)), false;
+	broker_record(answer, method ? "join keyed" : "join app");
+	if (!gateway.renews)
+		budget_spend(client, 0);
 	client->peer = (uint32_t)answer;
 	broker_receive(client, draft(DISPLAY, wl_display_request_get_registry, "u", OWN), 0);
 	for (const struct offer *offer = offers; offer->interface; offer++)

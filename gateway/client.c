@@ -4,7 +4,7 @@
 
 enum { CAPABILITY_KEYBOARD = 2 /* of wl_seat.capabilities */ };
 
-struct client *client_open(enum role role) {
+struct client *client_open(enum role role, struct process *process) {
 	static unsigned last_number;
 	struct client *client = calloc(1, sizeof *client);
 	if (!client)
@@ -13,6 +13,7 @@ struct client *client_open(enum role role) {
 	gateway.clients = client;
 	client->number = ++last_number;
 	client->role = role;
+	client->process = process;
 	client->counts[0] = client->far_count = 1; /* no object has the id 0 */
 	object_make(client, DISPLAY, &wl_display_table, false)->far = far_make(client, DISPLAY);
 	return client;
@@ -32,12 +33,13 @@ void client_close(struct client *client) {
 	wire_close(&client->far);
 	for (uint32_t id = 1; client->held > 0 && id < client->counts[0]; id++)
 		object_free(client, id);
+	process_leave(client->process);
 	free(client);
 }
 
 void client_end(struct client *client, const char *why) {
 	if (!client->ending)
-		out(OUT_PROBLEMS, "client %u ends: %s\n", client->number, why);
+		out(OUT_PROBLEMS, "client %u (%s) ends: %s\n", client->number, process_named(client->process), why);
 	client->ending = true;
 }
 

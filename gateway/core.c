@@ -35,6 +35,8 @@ static void called_with(const char *call, unsigned link, enum side side, const u
 
 /* The client of a link whose call comes at a moment; NULL: it ended. */
 static struct client *at(uint64_t moment, unsigned link) {
+	if (core.count == 0) /* the shell has made what it was asked for */
+		keymaps_sweep(false);
 	gateway.moment = moment > gateway.moment ? moment : gateway.moment;
 	return link <= LINKS_MAX ? core.links[link] : NULL;
 }
@@ -67,21 +69,25 @@ bool core_open(uint64_t moment, unsigned long entries) {
 
 void core_close(void) {
 	CALLED("close");
-	keymaps_end();
+	keymaps_sweep(true);
 	token_drop(gateway.clear);
 	gateway.clear = 0;
 	broker_close();
 }
 
-unsigned core_join(uint64_t moment, enum role role) {
+unsigned core_join(uint64_t moment, enum role role, unsigned process, const char *command) {
 	unsigned link = 1;
 	at(moment, 0);
 	while (link <= LINKS_MAX && core.held[link])
 		link++;
-	struct client *client = link <= LINKS_MAX ? client_open(role) : NULL;
-	CALLED("%" PRIu64 " join %d", gateway.moment, role);
+	struct process *of = link <= LINKS_MAX ? process_join(process, command) : NULL;
+	struct client *client = of ? client_open(role, of) : NULL;
+	if (of && !client)
+		process_leave(of);
 	if (!client)
-		return out(OUT_PROBLEMS, "a client isn't let in: there are too many, or no memory\n"), 0;
+		return out(OUT_PROBLEMS, "a client of process %u, %s, isn't let in: there %s\n", process, command,
+			of ? "is no memory" : "are too many"), 0;
+	CALLED("%" PRIu64 " join %d %u %s", gateway.moment, role, process, command);
 	client->link = link;
 	core.links[link] = client;
 	core.held[link] = true;
@@ -90,7 +96,20 @@ unsigned core_join(uint64_t moment, enum role role) {
 
 size_t core_room(unsigned link, enum side side) {
 	struct client *client = core.links[link];
-	return client && !client->ending ? wire_room(wire_of(client, side)) : 0;
+	size_t room = client && !client->ending ? wire_room(wire_of(client, side)) : 0;
+	return room > 0 && side == NEAR ? budget_room(client, room) : room;
+}
+
+bool core_missing(uint64_t moment, uint32_t token) {
+	at(moment, 0);
+	CALLED("%" PRIu64 " missing %u", gateway.moment, token);
+	return keymap_again(token) || popup_clear_again(token);
+}
+
+bool core_short(uint64_t moment) {
+	at(moment, 0);
+	CALLED("%" PRIu64 " short", gateway.moment);
+	return budgets_short();
 }
 
 uint32_t core_token(void) {
@@ -102,9 +121,15 @@ void core_receive(uint64_t moment, unsigned link, enum side side, const uint8_t 
 		const uint32_t *tokens, size_t count) {
 	struct client *client = at(moment, link);
 	called_with("receive", link, side, bytes, size, tokens, count);
+	bool lost = false;
+	for (size_t each = 0; each < count; each++)
+		lost |= tokens[each] == 0;
+	if (lost)
+		budgets_short(); /* before who sent it */
 	if (client && !client->ending) {
 		if (!wire_keep(wire_of(client, side), bytes, size, tokens, count))
-			client_refuse(client, DISPLAY, ERROR_METHOD, "too many descriptors wait for their messages");
+			client_refuse(client, DISPLAY, ERROR_METHOD, lost ? "there is no room for its descriptors"
+				: "too many descriptors wait for their messages");
 		return client_play(client, side);
 	}
 	for (size_t each = 0; each < count; each++)
@@ -187,12 +212,29 @@ void core_end(void) {
 
 int core_wait(uint64_t moment) {
 	at(moment, 0);
-	int renewal = broker_renewal(), popups = popups_wait();
-	return renewal < 0 || (popups >= 0 && popups < renewal) ? popups : renewal;
+	const int waits[] = { broker_renewal(), popups_wait(), budgets_wait() };
+	int least = -1;
+	for (size_t each = 0; each < sizeof waits / sizeof *waits; each++)
+		if (waits[each] >= 0 && (least < 0 || waits[each] < least))
+			least = waits[each];
+	return least;
 }
 
-const char *core_failed(void) {
-	return gateway.failed;
+void core_renew(uint64_t moment) {
+	at(moment, 0);
+	CALLED("%" PRIu64 " renew", gateway.moment);
+	broker_ask();
+}
+
+const char *core_state(unsigned link) {
+	return core.links[link] ? client_state(core.links[link]) : NULL;
+}
+
+bool core_serves(void) {
+	const struct client *client = gateway.clients;
+	while (client && client->serves == 0)
+		client = client->next;
+	return client;
 }
 
 bool core_next(unsigned link, enum side side, struct written *next) {

@@ -18,8 +18,9 @@ enum role { ALL, PROGRAM, METHOD }; /* by which socket a client came; never ALL 
 /* Opens the machine: after so many entries the broker is renewed. False: there is no memory. */
 bool core_open(uint64_t moment, unsigned long entries);
 void core_close(void);
-/* A client came: its link, from 1, which isn't another's until EFFECT_END names it. 0: it isn't let in. */
-unsigned core_join(uint64_t moment, enum role role);
+/* A client came, of a process and its command, 0 where nobody knows which: its link, from 1, which isn't another's until
+ * EFFECT_END names it. 0: it isn't let in. */
+unsigned core_join(uint64_t moment, enum role role, unsigned process, const char *command);
 /* How many bytes may come at once; 0: what came before waits. And a token for a descriptor; 0: there is none. */
 size_t core_room(unsigned link, enum side side);
 uint32_t core_token(void);
@@ -28,6 +29,10 @@ void core_receive(uint64_t moment, unsigned link, enum side side, const uint8_t 
 	const uint32_t *tokens, size_t count);
 /* That side hung up, or takes no more; why is NULL where it did so by itself. */
 void core_hung_up(uint64_t moment, unsigned link, enum side side, const char *why);
+/* A file that was asked for couldn't be made, and is to be sent: it is asked for again. False: it isn't known any more. */
+bool core_missing(uint64_t moment, uint32_t token);
+/* Descriptors run short: who holds most ends. False: nobody holds many, and nobody does. */
+bool core_short(uint64_t moment);
 /* After what came: what is to be shown is. Then ends what is to end, once the rest was written: whether anybody did. */
 void core_round(uint64_t moment);
 bool core_sweep(uint64_t moment);
@@ -35,8 +40,11 @@ bool core_sweep(uint64_t moment);
 void core_end(void);
 /* In how many milliseconds a round is due also where nothing comes; -1: none is. */
 int core_wait(uint64_t moment);
-/* Not NULL: why the gateway can't go on. */
-const char *core_failed(void);
+/* The broker is renewed at the next pause, and a record begins a new file. */
+void core_renew(uint64_t moment);
+/* What stands of a link's client, in words, until the next; NULL: it has none. And whether an input method serves. */
+const char *core_state(unsigned link);
+bool core_serves(void);
 
 /* ---- What is to be written ---- */
 
@@ -80,6 +88,7 @@ void core_copied(uint64_t moment, uint32_t token, bool is_whole, bool is_short);
 
 enum outlet {
 	OUT_PROBLEMS, OUT_LOG, /* lines for people; messages of text inputs and input methods */
+	OUT_LOG_TEXT, /* whether those have what is typed */
 	OUT_RECORD, OUT_TAKEN, /* the broker's session, and what clients got of it */
 	OUT_CALLS, /* the calls of this header, to play them again */
 	OUTLETS

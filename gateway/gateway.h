@@ -66,16 +66,19 @@ struct object {
 };
 
 struct popup;
+struct process;
 
 struct client {
 	struct client *next;
 	unsigned link, number; /* as the shell knows it; from 1, in the order of coming */
 	enum role role;
+	struct process *process; /* whose it is */
 	uint32_t peer; /* its number at the broker; 0: it isn't there */
+	bool waits; /* it was there, and joins the next */
 	bool ending; /* nothing of it is read any more; it ends when the round does */
 	uint32_t serves; /* the id of its first input method that wasn't told that it is unavailable; 0 none */
 	unsigned keyboards; /* its wl_keyboards of the seat that it didn't release */
-	uint32_t keymap, modifiers[4]; /* what its wl_keyboards of the seat were told: a keymap's number, 0 none */
+	uint32_t keymap, modifiers[4]; /* what its wl_keyboards of the seat were told: a keymap's number, 0 none we know */
 	struct down { uint32_t board, key, time; } down[DOWN_MAX]; /* keys that its boards hold down, those that fit */
 	unsigned down_count;
 	struct wire near, far; /* to the client, and for it to the compositor */
@@ -108,7 +111,6 @@ extern struct gateway {
 	uint64_t moment; /* of the last call */
 	unsigned long entries; /* after so many of them the broker is renewed */
 	bool renews; /* what is told now was told before */
-	const char *failed; /* not NULL: why it can't go on */
 	uint32_t clear; /* the token of zeros, for popups that go; 0: there is none yet */
 	struct client *clients;
 	uint32_t seat; /* the name of the wl_seat global whose keyboard is the broker's; 0 none yet */
@@ -117,6 +119,8 @@ extern struct gateway {
 /* A line of the log: who told what to whom; one that says what is shown (log.c). */
 void log_message(struct client *client, const char *way, const struct message *message);
 void log_note(const struct client *client, const char *what, const struct box *box);
+/* Who a client is and what it has, until the next (log.c). */
+const char *client_state(const struct client *client);
 /* Bytes as hexadecimal numbers, as many as a store has at most; until the next (broker.c). */
 const char *spell(const uint8_t *bytes, size_t size);
 /* The shell is asked (core.c). */
@@ -156,7 +160,7 @@ void private_forget(struct client *client, uint32_t far);
 
 /* ---- Clients (client.c; requests.c plays their messages) ---- */
 /* A new client, before the others, or NULL: there is no memory. One that isn't in the list any more is closed. */
-struct client *client_open(enum role role);
+struct client *client_open(enum role role, struct process *process);
 void client_close(struct client *client);
 static inline struct wire *wire_of(struct client *client, enum side side) {
 	return side == NEAR ? &client->near : &client->far;
@@ -173,8 +177,24 @@ void client_send(struct client *client, const struct message *message);
 void client_told(struct client *client, uint8_t *bytes, size_t size, const uint32_t *numbers);
 /* The surface is known to the broker too, from now on. False: it is none of the client's, or destroyed. */
 bool request_mirror(struct client *client, uint32_t surface);
-/* The keys that are down on the board are released at the broker, which tells nobody when a board ends; 0: on each. */
+/* The keys that are down on the board are released at the broker, which tells nobody when a board ends; 0: on each. And
+ * those of all its boards that no window has are pressed at a new one. */
 void request_release(struct client *client, uint32_t board);
+void request_press(struct client *client);
+
+/* ---- What a process may have of what all share (budgets.c) ---- */
+/* A client of the process comes, 0: of one that nobody knows, and goes. NULL: it has its share of clients. */
+struct process *process_join(unsigned pid, const char *command);
+void process_leave(struct process *process);
+const char *process_named(const struct process *process); /* until the next */
+/* Whether the client may be a peer. It spends a message of this size at the broker, of 0 a place; which may end it. */
+bool budget_place(const struct client *client);
+void budget_spend(struct client *client, size_t size);
+/* How many of these bytes may be read of it. In how many milliseconds more may be of somebody; -1: nobody waits. */
+size_t budget_room(const struct client *client, size_t room);
+int budgets_wait(void);
+/* Descriptors run short: who holds most ends. False: nobody holds many. */
+bool budgets_short(void);
 
 /* ---- Globals (globals.c) ---- */
 /* The broker's globals by their names there; and the gateway's own objects at each peer, which no client reaches. */
@@ -188,6 +208,8 @@ extern const struct offer {
 } offers[];
 /* The offer of a manager, or NULL. */
 const struct offer *offer_of(const struct interface *manager);
+/* The version in which the compositor's global is offered to a role; 0: it is hidden. */
+uint32_t globals_version(enum role role, const struct interface *interface, uint32_t version);
 /* A registry is told what is offered. The compositor tells a global, a client binds one: whether that goes on. */
 void globals_offer(struct client *client, uint32_t registry);
 bool globals_add(struct client *client, struct message *message);
@@ -195,45 +217,26 @@ void globals_remove(struct client *client, uint32_t name);
 bool globals_bind(struct client *client, const struct message *message);
 
 /* ---- The broker: libwlim's family of bytes, and the session's record (broker.c, renew.c) ---- */
-extern struct wlim_broker broker;
-/* Opens the broker, whose session begins. False: it said why. */
+extern struct wlim_broker *broker; /* while there is no memory for any it isn't open, and messages to it are lost */
+/* Opens the broker, whose session begins. False: it said why, and it is tried again. */
 bool broker_open(void);
+/* Closes it; the next is in its place. Before that: makes room for the next. False: there is none, and this one lasts. */
 void broker_close(void);
-/* The client is a peer from now on. False: it is refused. */
+bool broker_prepare(void);
+/* The client is a peer from now on. False: there is no place for it. */
 bool broker_join(struct client *client);
 /* A whole message of the client; where it has a descriptor, its token. After it what clients are told is sent. */
 void broker_receive(struct client *client, const struct message *message, uint32_t token);
 /* An order of the gateway's, as that: what to call, and its line in a session, both with the arguments. Its answer. */
 #define broker_order(call, format, ...) \
-	broker_done(broker_record(wlim_broker_##call(&broker, gateway.moment, ##__VA_ARGS__), format, ##__VA_ARGS__))
+	broker_done(broker_record(wlim_broker_##call(broker, gateway.moment, ##__VA_ARGS__), format, ##__VA_ARGS__))
 int64_t broker_record(int64_t answer, const char *format, ...) __attribute__((format(printf, 2, 3)));
 int64_t broker_done(int64_t answer);
-/* In how many milliseconds it is to be renewed: 0 now, -1 not yet; and moves all peers to a new one, between rounds. */
+/* In how many milliseconds it is to be renewed: 0 now, -1 not yet; it is at the next pause; and moves all peers to a new
+ * one, between rounds. */
 int broker_renewal(void);
+void broker_ask(void);
 void renew(void);
-
-/* ---- The keyboard of the seat (keyboard.c) ---- */
-/* An event of a wl_keyboard of the seat: whether the client gets it. The focus leaves its surface; 0: any of its. */
-bool keyboard_event(struct client *client, const struct message *message);
-/* Of an enter: the client that had the focus, for which what the compositor told is to be read before; or NULL. */
-struct client *keyboard_reads_first(const struct client *client, const struct message *message);
-void keyboard_leave(const struct client *client, uint32_t surface);
-/* A key or modifiers that a client's board sent and no grab has: for who has the focus, with the board's keymap. */
-void keyboard_give(const struct client *from, uint32_t keymap, const struct wlim_told *told);
-/* A board of the client ends, of 0 all of them, of NULL all boards: the keys that it pressed are released. The serving
- * method does, which is the client's: the field is left and entered besides, and keeps no preedit. */
-void keyboard_board_ended(const struct client *client, uint32_t board);
-void keyboard_method_ended(const struct client *client);
-/* The client is a peer from now on. The broker goes, with the keys that are down; a new one is told what stands. */
-void keyboard_client_joined(const struct client *client);
-void keyboard_leave_broker(void);
-void keyboard_join_broker(void);
-
-/* Who has the focus, and on which surface; NULL: nobody. */
-struct client *keyboard_focus(uint32_t *surface);
-/* A surface isn't shown any more, which the compositor may not say; it is again, and the compositor never said else. */
-void keyboard_unmapped(const struct client *client, uint32_t surface);
-void keyboard_mapped(struct client *client, uint32_t surface);
 
 /* ---- What programs' surfaces are (surfaces.c) ---- */
 /* A program's request, before the compositor hears of it. And an event of one of its xdg_popups. */
@@ -254,6 +257,8 @@ void older_event(struct client *client, const struct message *message);
 void popups_round(void);
 int popups_wait(void); /* milliseconds; -1: nothing is due */
 void popups_copied(uint32_t token, bool is_whole, bool is_short);
+/* Asks the shell for the zeros that popups go by. False: the token isn't theirs. */
+bool popup_clear_again(uint32_t token);
 /* A method's popup is made on its surface; it ends. A request of a method's: whether the compositor hears of it. */
 void popup_make(struct client *client, uint32_t id, uint32_t surface);
 void popup_destroy(struct client *client, uint32_t id);
@@ -268,12 +273,4 @@ void popups_global_gone(struct client *client, uint32_t name);
 void private_event(struct client *program, uint32_t far, struct private *private, struct message *message);
 bool popups_hide(struct object *object, const struct message *message, bool names_private);
 
-/* ---- Keymaps: the same text has the same number, which is its token at the broker (keymaps.c) ---- */
-enum { KEYMAP_MAX = 1048576 /* bytes */ };
-struct keymap { uint32_t format, size, token; uint8_t *text; }; /* the token is of a copy that nobody can change */
-/* The number of a keymap with the text, from 1. 0: there is none (NULL), it is the 65th, or there is no memory. */
-uint32_t keymap_number(uint32_t format, const uint8_t *text, uint32_t size);
-/* The keymap with the number, and its token to be sent; NULL and 0: there is none. */
-const struct keymap *keymap_find(uint32_t number);
-uint32_t keymap_token(uint32_t number);
-void keymaps_end(void);
+#include "seat.h"

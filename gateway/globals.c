@@ -23,10 +23,18 @@ const struct offer *offer_of(const struct interface *manager) {
 	return offer->interface ? offer : NULL;
 }
 
-/* Whether the compositor's own is hidden from the client. Programs may have virtual keyboards at the compositor. */
-static bool is_hidden(const struct client *client, const struct interface *interface) {
+/* Whether the compositor's own is hidden from the role. Programs may have virtual keyboards at the compositor. */
+static bool is_hidden(enum role role, const struct interface *interface) {
 	const struct offer *offer = offer_of(interface);
-	return offer && (offer->global != GLOBAL_BOARDS || client->role == METHOD);
+	return offer && (offer->global != GLOBAL_BOARDS || role == METHOD);
+}
+
+uint32_t globals_version(enum role role, const struct interface *interface, uint32_t version) {
+	uint32_t most = interface == &wl_seat_table ? SEAT_MAX : version;
+	if (!interface || is_hidden(role, interface))
+		return 0;
+	most = interface->version < most ? interface->version : most;
+	return version < most ? version : most;
 }
 
 void globals_offer(struct client *client, uint32_t registry) {
@@ -42,12 +50,9 @@ bool globals_add(struct client *client, struct message *message) {
 	popups_global(client, name, message->texts[1], message->numbers[2]);
 	if (interface == &wl_seat_table && (gateway.seat == 0 || name < gateway.seat))
 		gateway.seat = name;
-	uint32_t most = interface ? interface->version : 0;
-	if (interface == &wl_seat_table && most > SEAT_MAX)
-		most = SEAT_MAX;
-	if (interface && message->numbers[2] > most)
-		memcpy(message->bytes + message->size - 4, &most, 4);
-	return interface && !is_hidden(client, interface);
+	uint32_t version = globals_version(client->role, interface, message->numbers[2]);
+	memcpy(message->bytes + message->size - 4, &version, 4);
+	return version > 0;
 }
 
 void globals_remove(struct client *client, uint32_t name) {
@@ -60,11 +65,11 @@ bool globals_bind(struct client *client, const struct message *message) {
 	struct object *object = object_at(client, id);
 	const struct offer *offer = offer_of(object->interface);
 	object->of_seat = object->interface == &wl_seat_table && name == gateway.seat;
-	if (!is_hidden(client, object->interface))
+	if (!is_hidden(client->role, object->interface))
 		return true;
 	if (name != OFFERED + offer->global || offer->role != client->role || message->numbers[2] != 1)
 		client_refuse(client, message->object, ERROR_OBJECT, "no such global");
-	else if (client->peer || broker_join(client))
-		object->is_ours = true;
+	else
+		object->is_ours = true; /* it lives nowhere; what it makes lives at the broker */
 	return false;
 }

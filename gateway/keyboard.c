@@ -4,8 +4,6 @@
 
 enum {
 	KEYS = 1024, /* evdev's numbers of keys are lower; larger ones are taken for those */
-	TYPED_MAX = 256,
-	TYPED_LATELY = 5000000, /* microseconds; so long a key that went up can come back with another time */
 };
 
 static struct {
@@ -18,16 +16,11 @@ static struct {
 	bool key_given, fresh; /* the client got that key; it got the focus and no modifiers yet */
 	bool has_modifiers, repeats; /* what follows was told */
 	uint32_t keymap, modifiers[4], rate, delay;
-	bool down[KEYS]; /* keys that the broker was told are down */
+	enum { UP, AT_WINDOW, AT_GRAB } down[KEYS]; /* keys that the broker was told are down, and who has them */
 	struct given { /* by which board it is pressed at the client */
 		unsigned client; /* the number of the board's; 0: by none */
 		uint32_t board;
 	} given[KEYS];
-	struct typed { /* a key that went to a grab: given back, it goes to where it was typed */
-		uint32_t time, key;
-		uint64_t surface, moment; /* the surface's number; 0: none */
-	} typed[TYPED_MAX]; /* a ring */
-	unsigned typed_next;
 } seat;
 
 /* Sends an event of each of its wl_keyboards of the seat, where a keymap's number is given with its descriptor. */
@@ -69,9 +62,9 @@ static void send_keymap(uint32_t number) {
 static bool order_key(uint32_t key, uint32_t state) {
 	int64_t way = broker_order(key, "key %u %u %u", seat.time, key, state);
 	bool given = seat.given[key % KEYS].client > 0 && state == 0;
-	seat.down[key % KEYS] = state != 0 && way != WLIM_TOO_MANY;
+	seat.down[key % KEYS] = state == 0 || way == WLIM_TOO_MANY ? UP : way == WLIM_TO_GRAB ? AT_GRAB : AT_WINDOW;
 	if (way == WLIM_TO_GRAB)
-		seat.typed[seat.typed_next++ % TYPED_MAX] = (struct typed){ seat.time, key, seat.number, gateway.moment };
+		typed_key(seat.number, seat.time, key, state);
 	if (way == WLIM_NOWHERE) /* the grab that had the press is gone: who was given it back gets the release */
 		seat.given[key % KEYS].client = 0;
 	return way == WLIM_NOWHERE ? given : way != WLIM_TO_GRAB;
@@ -80,7 +73,7 @@ static bool order_key(uint32_t key, uint32_t state) {
 /* Nobody will tell the releases of keys that are down: they come before the focus goes. */
 static void release_all(void) {
 	for (uint32_t key = 0; key < KEYS; key++)
-		if (seat.down[key])
+		if (seat.down[key] != UP)
 			order_key(key, 0);
 }
 
@@ -152,16 +145,23 @@ void keyboard_client_joined(const struct client *client) {
 void keyboard_board_ended(const struct client *client, uint32_t board) {
 	for (uint32_t key = 0; seat.focus && key < KEYS; key++) {
 		struct given given = seat.given[key];
-		bool ends = !client || (given.client == client->number && (board == 0 || given.board == board));
-		if (given.client > 0 && ends)
+		if (given.client == client->number && (board == 0 || given.board == board))
 			send_key((struct given){ 0 }, seat.time, key, 0);
 	}
 }
 
+bool keyboard_has(const struct client *client, uint32_t board, uint32_t key) {
+	return seat.given[key % KEYS].client == client->number && seat.given[key % KEYS].board == board;
+}
+
 void keyboard_leave_broker(void) {
-	release_all();
-	keyboard_board_ended(NULL, 0);
 	broker_order(unfocus, "unfocus");
+}
+
+void keyboard_press(void) {
+	for (uint32_t key = 0; key < KEYS; key++)
+		if (seat.down[key] == AT_GRAB)
+			broker_order(key, "key %u %u %u", seat.time, key, 1);
 }
 
 void keyboard_method_ended(const struct client *client) {
@@ -201,7 +201,10 @@ static bool on_modifiers(struct client *client, uint32_t keyboard, uint32_t seri
 		memcpy(seat.modifiers, m, sizeof seat.modifiers);
 		broker_order(mods, "mods %u %u %u %u", m[0], m[1], m[2], m[3]);
 	}
-	if (wlim_broker_grab(&broker) > 0 && !seat.fresh) {
+	bool grabbed = wlim_broker_grab(broker) > 0;
+	if (grabbed)
+		typed_modifiers(seat.number, m);
+	if (grabbed && !seat.fresh) {
 		if (fresh)
 			client_send(client, draft(keyboard, wl_keyboard_event_modifiers, "uuuuu", serial, last[0], last[1], last[2],
 				last[3]));
@@ -216,10 +219,13 @@ bool keyboard_event(struct client *client, const struct message *message) {
 	const uint32_t *words = message->numbers;
 	switch (message->opcode) {
 	case wl_keyboard_event_keymap:
-		client->keymap = keymap_number(words[0], client->text, words[2]);
+		client->keymap = keymap_take(NULL, words[0], client->text, words[2]);
 		if (client->keymap > 0 && client->keymap != seat.keymap)
 			broker_order(keymap, "keymap %u %u %u", words[0], client->keymap, words[2]);
-		seat.keymap = client->keymap > 0 ? client->keymap : seat.keymap;
+		if (client->keymap > 0) {
+			keymap_drop(seat.keymap);
+			seat.keymap = client->keymap;
+		}
 		return true;
 	case wl_keyboard_event_enter:
 		client_send(client, message); /* before its field hears of it */
@@ -242,31 +248,17 @@ bool keyboard_event(struct client *client, const struct message *message) {
 	return true;
 }
 
-/*
- * Whether a key that is given back was typed at the focused window, or nowhere. A method repeats the key's time. Where
- * it has another, each such key of the last seconds has to have been typed there: better lost than in another window.
- */
-static bool is_typed_here(uint32_t time, uint32_t key) {
-	bool lately_here = true;
-	for (const struct typed *typed = seat.typed; typed < seat.typed + TYPED_MAX; typed++) {
-		bool here = typed->surface == seat.number;
-		if (typed->surface == 0 || typed->key != key)
-			continue;
-		if (typed->time == time)
-			return here;
-		lately_here &= here || gateway.moment - typed->moment > TYPED_LATELY;
-	}
-	return lately_here;
-}
-
 void keyboard_give(const struct client *from, uint32_t keymap, const struct wlim_told *told) {
-	if (!seat.focus || (told->kind == WLIM_PASS && !is_typed_here(told->first, told->second)))
+	const uint32_t words[] = { told->first, told->second, (uint32_t)told->third, (uint32_t)told->fourth };
+	uint32_t repeats = told->kind == WLIM_PASS && seat.repeats && seat.down[words[1] % KEYS] ? seat.delay / 2 : UINT32_MAX;
+	if (!seat.focus || !(told->kind == WLIM_PASS ? typed_key_here(seat.number, words[0], words[1], repeats)
+			: typed_modifiers_here(seat.number, words)))
 		return;
 	send_keymap(keymap);
 	if (told->kind == WLIM_PASS)
-		send_key((struct given){ from->number, told->id }, told->first, told->second, (uint32_t)told->third);
+		send_key((struct given){ from->number, told->id }, words[0], words[1], words[2]);
 	else
-		send_modifiers((const uint32_t[]){ told->first, told->second, (uint32_t)told->third, (uint32_t)told->fourth });
+		send_modifiers(words);
 }
 
 void keyboard_join_broker(void) {

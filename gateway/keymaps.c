@@ -1,44 +1,77 @@
 /* Keymaps by their content: the same text has the same number, and is the same token at the broker. */
 #include "gateway.h"
-#include <stdlib.h>
 #include <string.h>
 
-enum { KEPT = 64 };
+enum { KEPT = 64, KEPT_FOR_SEAT = 8, KEPT_SHARE = 8 /* of the boards of a process */ };
 
-static struct keymap kept[KEPT];
-static uint32_t count;
+static struct keymap kept[KEPT]; /* one without a text is none */
+static uint8_t texts[KEPT][KEYMAP_MAX]; /* of those: there is always memory for them */
 
-uint32_t keymap_number(uint32_t format, const uint8_t *text, uint32_t size) {
-	uint32_t at = 0;
-	while (text && at < count
-			&& (kept[at].format != format || kept[at].size != size || memcmp(kept[at].text, text, size) != 0))
-		at++;
-	if (!text || at < count || at == KEPT)
-		return text && at < count ? at + 1 : 0;
-	uint8_t *own = malloc(size);
-	uint32_t token = own ? token_make() : 0;
+static struct keymap *find(uint32_t number) {
+	for (struct keymap *each = kept; each < kept + KEPT; each++)
+		if (each->text && each->number == number)
+			return each;
+	return NULL;
+}
+
+static bool is_left(const struct process *process) {
+	unsigned all = 0, own = 0;
+	for (struct keymap *each = kept; each < kept + KEPT; each++) {
+		all += each->text != NULL;
+		own += each->text && each->process == process;
+	}
+	return all < KEPT && (!process || (own < KEPT_SHARE && all < KEPT - KEPT_FOR_SEAT));
+}
+
+bool keymap_again(uint32_t token) {
+	for (struct keymap *each = kept; each < kept + KEPT; each++) {
+		if (!each->text || each->token != token)
+			continue;
+		ask_shell((struct effect){ .kind = EFFECT_FILE, .token = token, .size = each->size, .bytes = each->text });
+		return true;
+	}
+	return false;
+}
+
+uint32_t keymap_take(const struct process *process, uint32_t format, const uint8_t *text, uint32_t size) {
+	static uint32_t last; /* number: none is used again */
+	struct keymap *place = NULL;
+	for (struct keymap *each = kept; text && each < kept + KEPT; each++) {
+		if (!each->text)
+			place = each;
+		else if (each->format == format && each->size == size && memcmp(each->text, text, size) == 0)
+			return each->users++, each->number;
+	}
+	uint32_t token = place && is_left(process) ? token_make() : 0;
 	if (token == 0)
-		return free(own), 0;
-	memcpy(own, text, size);
-	kept[count++] = (struct keymap){ format, size, token, own };
-	ask_shell((struct effect){ .kind = EFFECT_FILE, .token = token, .size = size, .bytes = own });
-	return count;
+		return 0;
+	uint8_t *own = memcpy(texts[place - kept], text, size);
+	*place = (struct keymap){ format, size, token, own, ++last, 1, process };
+	return keymap_again(token), last;
+}
+
+void keymap_drop(uint32_t number) {
+	struct keymap *keymap = find(number);
+	if (keymap)
+		keymap->users--;
 }
 
 const struct keymap *keymap_find(uint32_t number) {
-	return number > 0 ? &kept[number - 1] : NULL;
+	return find(number);
 }
 
 uint32_t keymap_token(uint32_t number) {
-	if (number == 0)
-		return 0;
-	token_keep(kept[number - 1].token);
-	return kept[number - 1].token;
+	const struct keymap *keymap = find(number);
+	if (keymap)
+		token_keep(keymap->token);
+	return keymap ? keymap->token : 0;
 }
 
-void keymaps_end(void) {
-	while (count > 0) {
-		token_drop(kept[--count].token);
-		free(kept[count].text);
+void keymaps_sweep(bool all) {
+	for (struct keymap *each = kept; each < kept + KEPT; each++) {
+		if (!each->text || (each->users > 0 && !all))
+			continue;
+		token_drop(each->token);
+		*each = (struct keymap){ 0 };
 	}
 }

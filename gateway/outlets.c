@@ -21,9 +21,13 @@ void out(enum outlet outlet, const char *format, ...) {
 }
 
 static void close_file(enum outlet outlet) {
-	if (files[outlet] && fclose(files[outlet]) != 0)
-		say("%s isn't whole: %m", outlet_names[outlet]);
+	bool fails = files[outlet] && (fflush(files[outlet]) != 0 || ferror(files[outlet]));
+	if (fails)
+		say("%s isn't whole, and goes on in another file at the next renewal: %m", outlet_names[outlet]);
+	if (files[outlet])
+		fclose(files[outlet]);
 	files[outlet] = NULL;
+	outlets[outlet] = false;
 }
 
 /* A new file, the user's alone; where that can't be, lines go nowhere, which is said. */
@@ -50,6 +54,7 @@ void outlets_open(void) {
 	files[OUT_PROBLEMS] = stderr;
 	files[OUT_LOG] = outlet_names[OUT_LOG] ? stdout : NULL;
 	outlets[OUT_LOG] = files[OUT_LOG];
+	outlets[OUT_LOG_TEXT] = outlet_names[OUT_LOG_TEXT];
 	open_file(OUT_CALLS, 1);
 }
 
@@ -58,6 +63,12 @@ bool outlets_all(void) {
 	for (enum outlet outlet = OUT_RECORD; outlet < OUTLETS; outlet++)
 		all &= !outlet_names[outlet] || files[outlet];
 	return all;
+}
+
+void outlets_flush(void) {
+	for (enum outlet outlet = OUT_RECORD; outlet < OUTLETS; outlet++)
+		if (files[outlet] && (fflush(files[outlet]) != 0 || ferror(files[outlet])))
+			close_file(outlet);
 }
 
 void outlets_close(void) {

@@ -5,7 +5,7 @@
 enum { CAPABILITY_POINTER = 1, CAPABILITY_TOUCH = 4 };
 
 /* Where the pointer is, and the points of touch that began on a popup. */
-static struct { struct popup *popup; uint32_t surface; } pointed;
+static struct { struct popup *popup; uint32_t surface, serial, x, y; } pointed;
 static struct { struct popup *popup; uint32_t points; } touched;
 
 /* An event, to each of the method's objects of that kind and version. */
@@ -37,6 +37,15 @@ static void touch_ends(void) {
 	touched.points = 0;
 }
 
+void pointed_joins(struct client *method, uint32_t id) {
+	struct listed made = { .ids = { id }, .count = 1 };
+	struct popup *popup = pointed.popup;
+	if (!popup || popup->method != method)
+		return;
+	tell(popup, &made, 1, draft(0, wl_pointer_event_enter, "uuuu", pointed.serial, popup->surface, pointed.x, pointed.y));
+	tell(popup, &made, SINCE_FRAMES, draft(0, wl_pointer_event_frame, ""));
+}
+
 struct popup *pointed_at(void) {
 	return pointed.popup;
 }
@@ -65,6 +74,9 @@ static void pointer_event(struct client *program, const struct message *message)
 		pointer_leaves();
 		pointed.popup = popup_with(program, w[1]);
 		pointed.surface = w[1];
+		pointed.serial = w[0];
+		pointed.x = w[2];
+		pointed.y = w[3];
 		if (pointed.popup)
 			tell(pointed.popup, &pointed.popup->method->pointers, 1, draft(0, wl_pointer_event_enter, "uuuu", w[0],
 				pointed.popup->surface, w[2], w[3]));
@@ -72,6 +84,9 @@ static void pointer_event(struct client *program, const struct message *message)
 		if (is_here(pointed.popup, program) && pointed.surface == w[1])
 			pointer_leaves();
 	} else if (is_here(pointed.popup, program)) {
+		bool moves = message->opcode == wl_pointer_event_motion;
+		pointed.x = moves ? w[1] : pointed.x;
+		pointed.y = moves ? w[2] : pointed.y;
 		tell(pointed.popup, &pointed.popup->method->pointers, message->opcode >= wl_pointer_event_frame ? SINCE_FRAMES : 1,
 			message);
 	}

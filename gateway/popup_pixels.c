@@ -108,11 +108,17 @@ void mirror_present(struct popup *popup, struct mirror *mirror) {
 	ASK(program, mirror->surface, wl_surface_request_commit, "");
 }
 
+bool popup_clear_again(uint32_t token) {
+	if (token > 0 && token == gateway.clear)
+		ask_shell((struct effect){ .kind = EFFECT_FILE, .token = token, .size = PIXELS_MAX });
+	return token > 0 && token == gateway.clear;
+}
+
 /* Also where its parent isn't committed: sway 1.7 paints only what it is told of. */
 void mirror_clear(struct popup *popup, struct mirror *mirror) {
 	struct pixels p = { .width = mirror->width, .height = mirror->height, .stride = 4 * mirror->width };
 	if (gateway.clear == 0 && (gateway.clear = token_make()) > 0)
-		ask_shell((struct effect){ .kind = EFFECT_FILE, .token = gateway.clear, .size = PIXELS_MAX });
+		popup_clear_again(gateway.clear);
 	uint32_t buffer = gateway.clear > 0 ? buffer_make(popup, mirror->program, gateway.clear, &p) : 0;
 	if (mirror->view > 0)
 		ASK(mirror->program, mirror->view, wp_viewport_request_destroy, "");

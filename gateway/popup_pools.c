@@ -3,6 +3,10 @@
 #include <stdlib.h>
 
 void object_ends(struct client *client, struct object *object) {
+	if (object->keymap > 0) {
+		keymap_drop(object->keymap);
+		client->held--;
+	}
 	bool is_file = object->interface == &wl_shm_pool_table || object->interface == &wl_buffer_table;
 	if (is_file && object->known.pixels.token > 0) {
 		token_drop(object->known.pixels.token);
@@ -14,7 +18,7 @@ void object_ends(struct client *client, struct object *object) {
 }
 
 static void keep_file(struct client *client, struct object *object, struct pixels pixels) {
-	if (pixels.token == 0 || client->held == HELD_MAX)
+	if (pixels.token == 0 || client->held >= HELD_MAX)
 		return;
 	token_keep(pixels.token);
 	client->held++;

@@ -274,6 +274,7 @@ bool popup_request(struct client *client, struct object *object, const struct me
 		view_asks(popup, message);
 	} else if (IS(message, wl_seat, request, get_pointer)) {
 		list(&client->pointers, w[0]);
+		pointed_joins(client, w[0]);
 	} else if (IS(message, wl_seat, request, get_touch)) {
 		list(&client->touches, w[0]);
 	} else if (IS(message, wl_pointer, request, release)) {

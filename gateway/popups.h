@@ -92,8 +92,9 @@ void surface_make(struct popup *popup, struct mirror *mirror);
 void cursor_set(struct client *method, const struct message *message);
 void cursor_update(struct popup *popup);
 void cursor_end(const struct popup *popup);
-/* Nothing of it is pointed at any more (popup_input.c). The popup that the pointer is in; NULL: none. Events of the
- * gateway's own seat, pointer and touch. */
+/* Nothing of it is pointed at any more (popup_input.c). A method makes a wl_pointer, as it may once there is one, which is
+ * on its popup. The popup that the pointer is in; NULL: none. Events of the gateway's own seat, pointer and touch. */
 void pointed_leave(const struct popup *popup);
+void pointed_joins(struct client *method, uint32_t id);
 struct popup *pointed_at(void);
 void input_event(struct client *program, uint32_t far, const struct interface *interface, struct message *message);

@@ -27,7 +27,7 @@ static bool is_made_again(struct client *client, uint32_t id, const struct objec
 /* Makes an object again, by the message that made it, or it lives nowhere from now on. */
 static void make(struct client *client, uint32_t id, struct object *object) {
 	const struct keymap *keymap = keymap_find(object->keymap);
-	struct message message;
+	struct message message = { 0 };
 	message_front((uint8_t *)object->made, sizeof object->made, &message);
 	object->base = object->count;
 	if (!is_made_again(client, id, object))
@@ -39,26 +39,32 @@ static void make(struct client *client, uint32_t id, struct object *object) {
 			object->keymap);
 }
 
-void renew(void) {
-	for (struct client *client = gateway.clients; client; client = client->next)
-		request_release(client, 0);
-	keyboard_leave_broker();
-	broker_close();
-	if (!broker_open()) {
-		gateway.failed = "there is no memory for a broker";
-		return;
-	}
-	gateway.renews = true;
-	for (struct client *client = gateway.clients; client; client = client->next)
-		client->peer = 0;
+/* Makes all again, and presses the keys that a grab has; a release of one that isn't down goes to the window. */
+static void make_all(void) {
 	for (int round = 0; round < 3; round++)
 		for (struct client *client = gateway.clients; client; client = client->next)
 			for (uint32_t id = 1; id < client->counts[0]; id++) {
 				struct object *object = object_live(client, id);
-				if (object && (object->made[0] > 0 || object->is_ours) && round_of(client, id, object) == round
+				if (object && object->made[0] > 0 && round_of(client, id, object) == round
 						&& !client->ending && (client->peer > 0 || broker_join(client)))
 					make(client, id, object);
 			}
+	keyboard_press();
+	for (struct client *client = gateway.clients; client; client = client->next)
+		request_press(client);
+}
+
+void renew(void) {
+	if (!broker_prepare())
+		return;
+	keyboard_leave_broker();
+	broker_close();
+	for (struct client *client = gateway.clients; client; client = client->next)
+		client->peer = 0, client->waits = false;
+	if (!broker_open())
+		return;
+	gateway.renews = true;
+	make_all();
 	gateway.renews = false;
 	keyboard_join_broker();
 }

@@ -39,19 +39,22 @@ static void make_at_broker(struct client *client, struct message *message, int m
 	uint32_t id = message->numbers[made], own = offer ? OWN + offer->broker : message->object;
 	struct object *object = object_at(client, id);
 	object->is_ours = true;
-	if (!offer && maker->made[0] == 0)
-		return; /* of a method that lives nowhere, and so does it */
+	if (offer ? client->peer == 0 && !broker_join(client) : maker->made[0] == 0) { /* it lives nowhere */
+		if (interface == &zwp_input_method_v2_table)
+			client_send(client, draft(id, zwp_input_method_v2_event_unavailable, ""));
+		return;
+	}
 	if (interface == &zwp_input_method_v2_table && client->serves == 0)
 		client->serves = id, client->is_active = client->activating = false;
 	if (interface == &zwp_input_popup_surface_v2_table && !request_mirror(client, message->numbers[1]))
 		return client_refuse(client, message->object, ERROR_OBJECT, "wrong object");
 	if (interface == &zwp_input_method_keyboard_grab_v2_table)
-		object->never_stands = message->object != client->serves || wlim_broker_grab(&broker) > 0;
+		object->never_stands = message->object != client->serves || wlim_broker_grab(broker) > 0;
 	memcpy(message->bytes, &own, sizeof own);
 	if (offer)
 		message_set(message, 1 - (unsigned)made, OWN + GLOBAL_SEAT);
 	if (interface == &zwp_text_input_v2_table && !older_make(client, object))
-		return client_refuse(client, message->object, ERROR_MEMORY, "there is no memory");
+		return; /* there is no memory, and it lives nowhere */
 	make_there(client, object, message);
 	if (interface == &zwp_input_popup_surface_v2_table)
 		popup_make(client, id, message->numbers[1]);
@@ -59,12 +62,15 @@ static void make_at_broker(struct client *client, struct message *message, int m
 
 /* A board's keymap: the board has its number, which is the broker's token. */
 static void board_keymap(struct client *client, const struct message *message, uint32_t token) {
-	uint32_t number = keymap_number(message->numbers[0], client->text, message->numbers[2]);
-	object_at(client, message->object)->keymap = number;
+	uint32_t number = keymap_take(client->process, message->numbers[0], client->text, message->numbers[2]);
+	struct object *board = object_at(client, message->object);
 	token_drop(token);
 	if (number == 0)
-		return client_refuse(client, message->object, ERROR_OBJECT, "the keymap can't be read");
+		return client_refuse(client, message->object, ERROR_OBJECT, "the keymap can't be read, or is one too many");
 	broker_receive(client, message, number);
+	client->held += board->keymap == 0;
+	keymap_drop(board->keymap);
+	board->keymap = number;
 }
 
 /* A key of a board, which the broker was told. */
@@ -88,11 +94,30 @@ void request_release(struct client *client, uint32_t board) {
 	}
 }
 
+/* Of what lives nowhere no request is heard but the one that ends it. */
+static void nowhere(struct client *client, const struct message *message, const uint32_t *tokens) {
+	const char *name = message->signature->name;
+	drop(message, tokens);
+	if (strcmp(name, "destroy") != 0 && strcmp(name, "release") != 0)
+		return;
+	popup_destroy(client, message->object);
+	object_free(client, message->object);
+	client_send(client, draft(DISPLAY, wl_display_event_delete_id, "u", message->object));
+}
+
+void request_press(struct client *client) {
+	for (const struct down *down = client->down; down < client->down + client->down_count; down++)
+		if (client->peer > 0 && !client->ending && !keyboard_has(client, down->board, down->key))
+			broker_receive(client, draft(down->board, zwp_virtual_keyboard_v1_request_key, "uuu", down->time, down->key, 1), 0);
+}
+
 static void to_broker(struct client *client, struct message *message, const uint32_t *tokens) {
 	struct object *object = object_at(client, message->object);
 	int made = message->signature->new_id;
 	log_message(client, "->", message);
-	if (object->interface == &zwp_text_input_v2_table && object->made[0] > 0)
+	if (made < 0 && object->made[0] == 0) /* it or what made it lives nowhere, or it is a manager */
+		return nowhere(client, message, tokens);
+	if (object->interface == &zwp_text_input_v2_table)
 		return older_request(client, message);
 	if (object->interface == &zwp_text_input_v3_table)
 		field_request(client, &object->known.field, message);
@@ -102,12 +127,6 @@ static void to_broker(struct client *client, struct message *message, const uint
 		return make_at_broker(client, message, made);
 	if (message->descriptors > 0)
 		return board_keymap(client, message, tokens[0]);
-	if (object->made[0] == 0) { /* it lives nowhere, and no request is heard but the one that ends it */
-		if (object->interface == &zwp_input_method_v2_table && !IS(message, zwp_input_method_v2, request, destroy))
-			return;
-		object_free(client, message->object);
-		return client_send(client, draft(DISPLAY, wl_display_event_delete_id, "u", message->object));
-	}
 	object->count += IS(message, zwp_text_input_v3, request, commit);
 	if (IS(message, zwp_input_method_v2, request, commit))
 		message_set(message, 0, message->numbers[0] - object->base);

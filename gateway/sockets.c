@@ -2,23 +2,51 @@
 #include "shell.h"
 #include <errno.h>
 #include <fcntl.h>
-#include <stdlib.h>
+#include <linux/magic.h>
+#include <poll.h>
+#include <ctype.h>
+#include <stdio.h>
 #include <string.h>
 #include <sys/mman.h>
 #include <sys/socket.h>
+#include <sys/vfs.h>
 #include <unistd.h>
 
 enum {
 	FILES_READ = 253, /* as Linux sends at most */
+	KEPT_FREE = FILES_READ + 50, /* descriptors, for those of a read, and the gateway's own */
 	READ = 16384,
+	TEXT_MAX = 1048576, /* bytes of a keymap */
 	READ_AWAY = 64, /* times: who ends is read so far */
 	SEALS = F_SEAL_SEAL | F_SEAL_SHRINK | F_SEAL_GROW, /* and where nobody may write: it can still be mapped, shared too */
 };
 
 static struct { int sockets[2]; } links[LINKS_MAX + 1];
 static int files[TOKENS_MAX]; /* of tokens; 0 or below: there is none */
+static size_t held, most = SIZE_MAX; /* descriptors of links and tokens; so many may be */
+
+unsigned peer_of(int socket, char command[COMMAND]) {
+	struct ucred other = { 0 };
+	socklen_t size = sizeof other;
+	char path[40];
+	getsockopt(socket, SOL_SOCKET, SO_PEERCRED, &other, &size);
+	snprintf(path, sizeof path, "/proc/%d/comm", other.pid);
+	int file = open(path, O_RDONLY | O_CLOEXEC);
+	ssize_t came = file >= 0 ? read(file, command, COMMAND - 1) : 0;
+	if (file >= 0)
+		close(file);
+	command[came > 0 ? came : 0] = 0;
+	for (char *letter = command; *letter; letter++)
+		*letter = isgraph((unsigned char)*letter) ? *letter : letter[1] ? '_' : 0;
+	return other.pid > 0 ? (unsigned)other.pid : 0;
+}
+
+void links_limit(size_t limit) {
+	most = limit;
+}
 
 void link_open(unsigned link, int near, int far) {
+	held += 2;
 	links[link].sockets[NEAR] = near;
 	links[link].sockets[FAR] = far;
 }
@@ -36,8 +64,15 @@ static void link_close(unsigned link) {
 			;
 		wait_ends(socket);
 		close(socket);
+		held--;
 		links[link].sockets[side] = 0;
 	}
+}
+
+static void file_close(uint32_t token) {
+	if (files[token] > 0 && close(files[token]) == 0)
+		held--;
+	files[token] = 0;
 }
 
 /* Tokens of the descriptors that came. Answers how many. */
@@ -48,15 +83,20 @@ static unsigned take_files(struct msghdr *header, uint32_t *tokens) {
 			int file;
 			memcpy(&file, (char *)part + at, sizeof file);
 			tokens[count] = core_token();
-			if (tokens[count] > 0)
-				files[tokens[count]] = file;
-			else
-				close(file);
+			held++;
+			files[tokens[count]] = file;
+			if (tokens[count] == 0)
+				file_close(0);
 		}
 	}
 	if (header->msg_flags & MSG_CTRUNC)
 		tokens[count++] = 0;
 	return count;
+}
+
+/* What failed may go another time. */
+static bool is_later(void) {
+	return errno == EAGAIN || errno == EINTR || errno == ENOBUFS || errno == ENOMEM || errno == ETOOMANYREFS;
 }
 
 /* Whether the side is there and something came, which the core is told. */
@@ -65,14 +105,14 @@ static bool read_once(unsigned link, enum side side) {
 	_Alignas(struct cmsghdr) char control[CMSG_SPACE(FILES_READ * sizeof(int))];
 	uint32_t tokens[FILES_READ + 1];
 	size_t room = core_room(link, side);
-	if (room == 0)
-		return false;
+	if (room == 0 || (held + KEPT_FREE > most && core_short(moment())))
+		return false; /* who holds most ends first */
 	struct iovec place = { bytes, room < sizeof bytes ? room : sizeof bytes };
 	struct msghdr header = {
 		.msg_iov = &place, .msg_iovlen = 1, .msg_control = control, .msg_controllen = sizeof control,
 	};
 	ssize_t came = recvmsg(links[link].sockets[side], &header, MSG_DONTWAIT | MSG_CMSG_CLOEXEC);
-	if (came < 0 && (errno == EAGAIN || errno == EINTR))
+	if (came < 0 && is_later())
 		return false;
 	unsigned count = came >= 0 ? take_files(&header, tokens) : 0;
 	if (came > 0 || count > 0)
@@ -95,14 +135,18 @@ void link_flush(unsigned link, enum side side) {
 		struct iovec place = { (void *)(uintptr_t)next.bytes, next.size };
 		struct msghdr header = { .msg_iov = &place, .msg_iovlen = 1, .msg_control = control };
 		for (unsigned at = 0; at < next.count; at++) {
-			if (files[next.tokens[at]] <= 0)
+			if (files[next.tokens[at]] <= 0 && !core_missing(moment(), next.tokens[at]))
 				return core_hung_up(moment(), link, side, "there is no descriptor for what it is sent");
+			perform();
+			if (files[next.tokens[at]] <= 0)
+				return (void)poll(NULL, 0, 1); /* it waits till one can be made */
 			memcpy(CMSG_DATA(part) + at * sizeof(int), &files[next.tokens[at]], sizeof(int));
 		}
 		*part = (struct cmsghdr){ CMSG_LEN(next.count * sizeof(int)), SOL_SOCKET, SCM_RIGHTS };
 		header.msg_controllen = next.count > 0 ? CMSG_SPACE(next.count * sizeof(int)) : 0;
-		ssize_t went = sendmsg(links[link].sockets[side], &header, MSG_DONTWAIT | MSG_NOSIGNAL);
-		if (went < 0 && (errno == EAGAIN || errno == EINTR || errno == ENOBUFS || errno == ENOMEM || errno == ETOOMANYREFS))
+		ssize_t went = next.count > 0 ? sendmsg(links[link].sockets[side], &header, MSG_DONTWAIT | MSG_NOSIGNAL)
+			: send(links[link].sockets[side], next.bytes, next.size, MSG_DONTWAIT | MSG_NOSIGNAL);
+		if (went < 0 && is_later())
 			return;
 		for (int reads = 0; went < 0 && side == FAR && reads < READ_AWAY && read_once(link, FAR); reads++)
 			perform(); /* what the compositor said before it hung up, as why */
@@ -113,6 +157,12 @@ void link_flush(unsigned link, enum side side) {
 	}
 }
 
+/* A client's file of FUSE could keep all waiting: it isn't read. */
+static bool read_file(int file, uint8_t *to, uint32_t size, uint32_t offset) {
+	struct statfs on;
+	return fstatfs(file, &on) == 0 && on.f_type != FUSE_SUPER_MAGIC && pread(file, to, size, offset) == (ssize_t)size;
+}
+
 /* A file of the bytes, which nobody can change; or of what a file has from there on, which nobody can cut off. */
 static int sealed_file(const uint8_t *bytes, int from, uint32_t offset, uint32_t size, bool *is_short) {
 	int file = memfd_create("wlim-gateway", MFD_CLOEXEC | MFD_ALLOW_SEALING);
@@ -121,7 +171,7 @@ static int sealed_file(const uint8_t *bytes, int from, uint32_t offset, uint32_t
 	if (place != MAP_FAILED && bytes)
 		memcpy(place, bytes, size);
 	else if (place != MAP_FAILED && from > 0)
-		*is_short = pread(from, place, size, offset) != (ssize_t)size;
+		*is_short = !read_file(from, place, size, offset);
 	int seals = SEALS | (bytes ? F_SEAL_FUTURE_WRITE : 0);
 	if (place != MAP_FAILED && munmap(place, size) == 0 && fcntl(file, F_ADD_SEALS, seals) == 0)
 		return file;
@@ -131,10 +181,9 @@ static int sealed_file(const uint8_t *bytes, int from, uint32_t offset, uint32_t
 }
 
 static void read_text(const struct effect *effect) {
-	uint8_t *text = malloc(effect->size);
-	bool whole = text && pread(files[effect->from], text, effect->size, 0) == (ssize_t)effect->size;
+	static uint8_t text[TEXT_MAX];
+	bool whole = effect->size <= TEXT_MAX && read_file(files[effect->from], text, effect->size, 0);
 	core_text(moment(), effect->link, effect->side, whole ? text : NULL, effect->size);
-	free(text);
 }
 
 void perform(void) {
@@ -154,13 +203,12 @@ void perform(void) {
 		case EFFECT_COPY:
 			files[effect.token] = sealed_file(effect.bytes, effect.from > 0 ? files[effect.from] : -1, effect.offset,
 				effect.size, &is_short);
+			held += files[effect.token] > 0;
 			if (effect.kind == EFFECT_COPY)
 				core_copied(moment(), effect.token, files[effect.token] > 0 && !is_short, is_short);
 			break;
 		case EFFECT_CLOSE:
-			if (files[effect.token] > 0)
-				close(files[effect.token]);
-			files[effect.token] = 0;
+			file_close(effect.token);
 			break;
 		case EFFECT_END:
 			link_close(effect.link);

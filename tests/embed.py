@@ -20,7 +20,7 @@ TEXTS = ["-", "61", "c3a9", "e38182", "6869", "f09f9880", "41" * 100, "62" * 407
 
 def rows():
     """The worked rows of the test that holds the relay against its slow twin, each with an `end`."""
-    with open(os.path.join(TOP, "crates/seat_tests/src/plain_relay_tests.rt"), encoding="utf-8") as file:
+    with open(os.path.join(TOP, "crates/test_relay/src/plain_relay_tests.rt"), encoding="utf-8") as file:
         block = re.search(r"static ROWS[^=]*= \[(.*?)\n\];", file.read(), flags=re.S).group(1)
     texts = re.findall(r'"([^"]*)"', re.sub(r"\\\n *", "", block))
     return [text.replace("\\n", "\n") + "\nend\n" for text in texts]

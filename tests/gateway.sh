@@ -16,10 +16,15 @@ gateway/build.sh "$made"
 mkdir -p "$checked"
 cp -r "$made/protocols" "$checked"
 gateway/build.sh "$checked" $sanitize
-core=$(ls gateway/*.c | grep -v -e /gateway.c -e /sockets.c -e /outlets.c)
-for name in fuzz order popups pixels version_2 shell play; do
-	${CC:-cc} $flags $sanitize -I"$checked" -o "$checked/$name" "tests/gateway_$name.c" $core "$checked/tables.c" \
-		out/libwlim/lib/libwlim.a
+core=$(ls gateway/*.c | grep -v -e /gateway.c -e /sockets.c -e /outlets.c -e /listen.c -e /check.c)
+for name in fuzz order renewals popups pixels version_2 limits faults shell play; do
+	case $name in
+	renewals) wrapped=-Wl,--wrap=wlim_broker_open ;;
+	faults) wrapped=$(printf -- '-Wl,--wrap=%s ' malloc calloc realloc sendmsg recvmsg memfd_create mmap clock_gettime) ;;
+	*) wrapped= ;;
+	esac
+	${CC:-cc} $flags $sanitize $wrapped -I"$checked" -o "$checked/$name" "tests/gateway_$name.c" $core \
+		"$checked/tables.c" out/libwlim/lib/libwlim.a
 done
 ${CC:-cc} $flags $sanitize -I"$checked" -o "$checked/units" tests/gateway_units.c \
 	gateway/{ids,keymaps,message,objects,popup_want,tokens,wire}.c "$checked/tables.c"
@@ -30,15 +35,20 @@ rm -f "$checked"/*.session* "$checked"/*.taken* "$checked"/*.calls*
 "$checked/units"
 "$checked/shell"
 "$checked/order"
+"$checked/renewals"
 "$checked/popups"
 "$checked/pixels"
 "$checked/version_2"
+"$checked/limits"
+"$checked/faults"
 for seed in 1 2 3; do
 	timeout 300 "$checked/fuzz" 200000 $seed
 done
 timeout 300 "$checked/fuzz" 100000 4 honest
 timeout -k 10 100 tests/gateway_start.py "$checked"
+timeout -k 10 200 tests/gateway_session.py "$checked"
 timeout -k 10 300 tests/gateway_peers.py "$checked"
+timeout -k 10 300 tests/gateway_limits.py "$checked"
 timeout -k 10 900 tests/gateway_programs.py "$checked" "$rounds"
 timeout -k 10 300 tests/gateway_hostile.py "$checked"
 timeout -k 10 900 tests/gateway_candidates.py "$checked"

@@ -24,7 +24,9 @@ struct place {
 };
 
 static uint64_t now = 1000000;
-static struct place *open_places[16];
+enum { OPEN_MAX = 128 };
+static struct place *open_places[OPEN_MAX];
+static unsigned process; /* of whom comes next; 0: one that nobody knows */
 static struct { uint8_t *bytes; size_t size; } files[TOKENS_MAX];
 
 void out(enum outlet outlet, const char *format, ...)
@@ -51,7 +53,7 @@ static inline uint32_t make_file(const void *bytes, size_t size)
 
 static inline struct place *place_of(unsigned link)
 {
-	for (unsigned at = 0; at < 16; at++)
+	for (unsigned at = 0; at < OPEN_MAX; at++)
 		if (open_places[at] && open_places[at]->link == link)
 			return open_places[at];
 	abort();
@@ -115,7 +117,7 @@ static inline void open_client(struct place *place, enum role role)
 	while (open_places[at] && open_places[at] != place)
 		at++;
 	open_places[at] = place;
-	*place = (struct place){ .link = core_join(++now, role) };
+	*place = (struct place){ .link = core_join(++now, role, process, "test") };
 	place->client = gateway.clients;
 	if (place->link == 0)
 		exit(1);
@@ -170,7 +172,7 @@ static inline void finish_round(void)
 	core_round(++now);
 	do {
 		do_effects();
-		for (unsigned at = 0; at < 16; at++)
+		for (unsigned at = 0; at < OPEN_MAX; at++)
 			if (open_places[at] && open_places[at]->link > 0) {
 				collect_side(open_places[at], FAR);
 				collect_side(open_places[at], NEAR);
@@ -183,7 +185,7 @@ static inline void close_client(struct place *place)
 	if (place->link > 0)
 		core_hung_up(++now, place->link, NEAR, NULL);
 	finish_round();
-	for (unsigned at = 0; at < 16; at++)
+	for (unsigned at = 0; at < OPEN_MAX; at++)
 		if (open_places[at] == place)
 			open_places[at] = NULL;
 	for (unsigned at = 0; at < place->coming.files; at++)

@@ -83,13 +83,7 @@ def candidates(desk, small):
     time.sleep(0.5)
     way, left, top, width, height = desk.shown()
     if not small:
-        for _ in range(5):  # the first click is lost now and then; why isn't known
-            ends = time.monotonic() + 3
-            desk.click(left + SECOND[0], top + SECOND[1])
-            while time.monotonic() < ends and len(desk.got("full")) != 1:
-                time.sleep(0.05)
-            if desk.got("full"):
-                break
+        desk.click(left + SECOND[0], top + SECOND[1])
         until("the second candidate", lambda: len(desk.got("full")) == 1)
     else:
         desk.press(KEYS[" "])

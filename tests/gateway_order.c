@@ -283,6 +283,51 @@ static void typed_before(void)
 	close_client(&one.place);
 }
 
+static void press_at(struct user *user, uint32_t time, uint32_t key, uint32_t state)
+{
+	request(user, draft(BOARD, zwp_virtual_keyboard_v1_request_key, "uuu", time, key, state));
+}
+
+/* A held key repeats after a change of windows, where the same was typed before in the other; late ones come nowhere. */
+static void repeats(void)
+{
+	static struct user one, two, first;
+	start_program(&one, true);
+	start_program(&two, true);
+	start_grab(&first);
+	enter(&one, 401);
+	put_event(&one, draft(KEYBOARD, wl_keyboard_event_repeat_info, "uu", 25, 600));
+	put_event(&one, draft(KEYBOARD, wl_keyboard_event_modifiers, "uuuuu", 402, 0, 0, 0, 0));
+	type(&one, 403, 9000, A);
+	put_event(&one, draft(KEYBOARD, wl_keyboard_event_modifiers, "uuuuu", 404, 4, 0, 0, 0));
+	read_events(&one);
+	enter(&two, 405);
+	put_event(&two, draft(KEYBOARD, wl_keyboard_event_modifiers, "uuuuu", 406, 0, 0, 0, 0));
+	type(&two, 407, 9100, A);
+	look(&two);
+	request(&first, draft(BOARD, zwp_virtual_keyboard_v1_request_modifiers, "uuuu", 4, 0, 0, 0));
+	press_at(&first, 9000, A, 1);
+	press_at(&first, 9150, A, 1);
+	look(&two);
+	HOLDS(HEARD(&two, KEYBOARD, wl_keyboard_event_key) == 0 && HEARD(&two, KEYBOARD, wl_keyboard_event_modifiers) == 0);
+	press_at(&first, 9100, A, 1);
+	press_at(&first, 9700, A, 1);
+	look(&two);
+	HOLDS(HEARD(&two, KEYBOARD, wl_keyboard_event_key, 9100, A, 1) == 1);
+	HOLDS(HEARD(&two, KEYBOARD, wl_keyboard_event_key, 9700, A, 1) == 1);
+	put_event(&two, draft(KEYBOARD, wl_keyboard_event_modifiers, "uuuuu", 408, 8, 0, 0, 0));
+	read_events(&two);
+	look(&two);
+	request(&first, draft(BOARD, zwp_virtual_keyboard_v1_request_modifiers, "uuuu", 8, 0, 0, 0));
+	request(&first, draft(BOARD, zwp_virtual_keyboard_v1_request_modifiers, "uuuu", 1, 0, 0, 0)); /* the method's own */
+	look(&two);
+	HOLDS(HEARD(&two, KEYBOARD, wl_keyboard_event_modifiers, 8, 0, 0, 0) == 1);
+	HOLDS(HEARD(&two, KEYBOARD, wl_keyboard_event_modifiers, 1, 0, 0, 0) == 1);
+	close_client(&first.place);
+	close_client(&two.place);
+	close_client(&one.place);
+}
+
 /* A program whose keyboards are told nothing more has no focus: the seat has none any more, or it released its last. */
 static void keyboards_go(void)
 {
@@ -327,7 +372,7 @@ static void grabs(void)
 	close_client(&one.place);
 }
 
-/* Of a keymap beyond those that are kept nothing older is told before its keys; but a board's is taken back. */
+/* However many keymaps came, nothing older is told before a key; and a board's is taken back. */
 static void many_keymaps(void)
 {
 	static struct user one, first;
@@ -370,6 +415,7 @@ int main(void)
 	keyboards_go();
 	grabs();
 	many_keymaps();
+	repeats();
 	core_close();
 	do_effects();
 	HOLDS(tokens_used() == 0);

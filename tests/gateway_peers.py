@@ -329,7 +329,7 @@ def bad_descriptors(desk):
 
 
 def too_many(desk):
-    """Objects and clients beyond the broker's limits."""
+    """Who has too many objects is ended; programs for which there is no place run on, and have one when others went."""
     greedy = desk.window("greedy")
     manager = greedy.bind("zwp_text_input_manager_v3")
     try:
@@ -338,15 +338,12 @@ def too_many(desk):
         refused(greedy, 3)
     except Ended:
         greedy.close()
+    before = desk.logged("has no place")
     crowd = [Client(desk.path("wlim-programs"), desk.interfaces) for _ in range(64)]
-    last = None
     for client in crowd:
-        client.bind("zwp_text_input_manager_v3")
-        try:
-            client.roundtrip()
-        except Ended as end:
-            last = end.args[0]
-    holds("the last client's error", last and last[1], 2)
+        client.send(client.bind("zwp_text_input_manager_v3"), "get_text_input", client.bind("wl_seat"))
+        client.roundtrip()
+    holds("without a place", desk.logged("has no place") - before, 64 - 13)  # a process has 16, and three are in use
     for client in crowd:
         client.close()
 

@@ -89,7 +89,7 @@ static void play(struct line *line)
 	if (strcmp(call, "open") == 0)
 		check(core_open(line->moment, words[0]), "it isn't opened");
 	else if (strcmp(call, "join") == 0)
-		check(core_join(line->moment, words[0]) > 0, "nobody is let in");
+		check(core_join(line->moment, words[0], words[1], "") > 0, "nobody is let in");
 	else if (strcmp(call, "token") == 0)
 		check(core_token() > 0, "there is no token");
 	else if (strcmp(call, "receive") == 0)
@@ -104,6 +104,12 @@ static void play(struct line *line)
 		core_go_on(line->moment, words[0], words[1]);
 	else if (strcmp(call, "copied") == 0)
 		core_copied(line->moment, words[0], words[1], words[2]);
+	else if (strcmp(call, "missing") == 0)
+		core_missing(line->moment, words[0]);
+	else if (strcmp(call, "short") == 0)
+		core_short(line->moment);
+	else if (strcmp(call, "renew") == 0)
+		core_renew(line->moment);
 	else if (strcmp(call, "round") == 0)
 		core_round(line->moment);
 	else if (strcmp(call, "sweep") == 0)

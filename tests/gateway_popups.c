@@ -271,9 +271,19 @@ static void pointer_on_it(void)
 	HOLDS(HEARD(&one, TOUCH, wl_touch_event_up) == 0 && HEARD(&one, TOUCH, wl_touch_event_frame) == 1);
 	HOLDS(HEARD(&first, FINGER, wl_touch_event_down, 161, 1, PIXELS, 1, 512, 512) == 1);
 	HOLDS(HEARD(&first, FINGER, wl_touch_event_motion) == 1 && HEARD(&first, FINGER, wl_touch_event_up) == 1);
-	/* It goes with the pointer in it: the method hears of a leave. */
+	/* Where the method's own comes after the pointer is on it, as the compositor's first does, it hears where that is. */
 	say_far(draft(pointer, wl_pointer_event_enter, "uuuu", 170, surface, 512, 768));
+	say_far(draft(pointer, wl_pointer_event_motion, "uuu", 4, 600, 700));
 	read_events(&one);
+	uint32_t late = first.place.client->counts[0];
+	request(&first, draft(SEAT, wl_seat_request_get_pointer, "u", late));
+	say_far(draft(pointer, wl_pointer_event_button, "uuuu", 171, 5, 0x110, 1));
+	read_events(&one);
+	look(&first);
+	HOLDS(HEARD(&first, late, wl_pointer_event_enter, 170, PIXELS, 600, 700) == 1);
+	HOLDS(HEARD(&first, late, wl_pointer_event_button, 171, 5, 0x110, 1) == 1);
+	request(&first, draft(late, wl_pointer_request_release, ""));
+	/* It goes with the pointer in it: the method hears of a leave. */
 	request(&one, draft(FIELD, zwp_text_input_v3_request_disable, ""));
 	request(&one, draft(FIELD, zwp_text_input_v3_request_commit, ""));
 	round_ends();

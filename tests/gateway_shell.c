@@ -30,7 +30,7 @@ static struct ends open_ends(void)
 	int near[2], far[2];
 	HOLDS(socketpair(AF_UNIX, SOCK_STREAM | SOCK_CLOEXEC | SOCK_NONBLOCK, 0, near) == 0);
 	HOLDS(socketpair(AF_UNIX, SOCK_STREAM | SOCK_CLOEXEC | SOCK_NONBLOCK, 0, far) == 0);
-	struct ends ends = { core_join(moment(), PROGRAM), near[1], far[1] };
+	struct ends ends = { core_join(moment(), PROGRAM, 0, "test"), near[1], far[1] };
 	link_open(ends.link, near[0], far[0]);
 	return ends;
 }

@@ -7,9 +7,11 @@ FOLDER has `wlim-gateway`. The compositor is a socket that nobody serves.
 """
 import os
 import resource
+import shutil
 import signal
 import socket
 import stat
+import struct
 import subprocess
 import sys
 import tempfile
@@ -152,8 +154,85 @@ def crowded(start):
     print(f"descriptors run out: {spent:.2f} s of a second, and later ones are let in")
 
 
+class Program:
+    """A program with a text input: what the broker is told of it counts, and what it tells comes without a compositor."""
+
+    MANAGER = 0xffff0003  # the name of the gateway's own zwp_text_input_manager_v3
+
+    def __init__(self, start):
+        self.link = socket.socket(socket.AF_UNIX)
+        self.link.settimeout(10)
+        self.link.connect(start.work + "/wlim-programs")
+        name = b"zwp_text_input_manager_v3\0"
+        bound = struct.pack("<II", self.MANAGER, len(name)) + name.ljust(28, b"\0") + struct.pack("<II", 1, 3)
+        self.send((1, 1, struct.pack("<I", 2)), (2, 0, bound), (3, 1, struct.pack("<II", 4, 4)))
+        self.heard = b""
+
+    def send(self, *messages):
+        self.link.sendall(b"".join(struct.pack("<IHH", number, opcode, 8 + len(body)) + body
+                                   for number, opcode, body in messages))
+
+    def commits(self, count):
+        self.send(*[(4, 7, b"")] * count)
+
+    def is_served(self):
+        """The broker makes and ends a text input: it says that the number is free."""
+        self.send((3, 1, struct.pack("<II", 5, 4)), (5, 0, b""))
+        while struct.pack("<III", 1, 12 << 16 | 1, 5) not in self.heard:
+            came = self.link.recv(65536)
+            if not came:
+                raise AssertionError("the program was ended")
+            self.heard += came
+        self.heard = b""
+
+
+def said(process, what):
+    """Waits till it says that."""
+    for line in process.stderr:
+        if what in line:
+            return
+    raise AssertionError(f"it didn't say {what!r}")
+
+
+def begins(path):
+    """Waits till the file has something."""
+    for _ in range(100):
+        if os.path.exists(path) and os.path.getsize(path) > 0:
+            return
+        time.sleep(0.1)
+    raise AssertionError(f"{path} doesn't begin")
+
+
+def disk_full(start):
+    """A record that can't be written on, or begun, is cut off, which is said; programs live, and a later one is whole."""
+    folder = start.work + "/records"
+    path = folder + "/record"
+    os.mkdir(folder)
+    limits = {"preexec_fn": lambda: resource.setrlimit(resource.RLIMIT_FSIZE, (20000, 20000))}
+    process = start.ready("--record", path, "--entries", "1000", **limits)
+    program = Program(start)
+    program.commits(2000)
+    said(process, "record isn't whole, and goes on in another file at the next renewal: File too large")
+    holds("the record's size", os.path.getsize(path), 20000)
+    begins(path + ".2")
+    program.is_served()
+    shutil.rmtree(folder)
+    process.send_signal(signal.SIGHUP)
+    said(process, "record.3: No such file or directory")
+    program.is_served()
+    os.mkdir(folder)
+    process.send_signal(signal.SIGHUP)
+    begins(path + ".4")
+    program.is_served()
+    start.ends(process)
+    with open(path + ".4", encoding="ascii") as file:
+        text = file.read().split()
+    holds("the last record", (text[0], text[-1]), ("session", "end"))
+    print("a full disk, or a folder that goes: the record is cut off, programs are served, and SIGHUP begins another")
+
+
 def main():
-    for trial in (words, files, records, pipe_goes, crowded):
+    for trial in (words, files, records, pipe_goes, crowded, disk_full):
         with tempfile.TemporaryDirectory() as work:
             trial(Start(os.path.abspath(sys.argv[1]) + "/wlim-gateway", work))
 

@@ -354,21 +354,54 @@ void ask_shell(struct effect effect)
 	asked = effect;
 }
 
-/* The same text has the same number; the shell is asked once for a file of it, from bytes that stay. */
+/* The same text has the same number; the shell is asked once for a file of it, from bytes that stay till it is made. */
 static void keymaps(void)
 {
 	static const uint8_t text[] = "xkb_keymap {}", other[] = "xkb_keymap ()";
-	HOLDS(keymap_number(1, NULL, sizeof text) == 0);
-	uint32_t number = keymap_number(1, text, sizeof text), token = asked.token;
+	HOLDS(keymap_take(NULL, 1, NULL, sizeof text) == 0);
+	uint32_t number = keymap_take(NULL, 1, text, sizeof text), token = asked.token;
 	HOLDS(number > 0 && keymap_find(number)->size == sizeof text);
 	HOLDS(memcmp(keymap_find(number)->text, text, sizeof text) == 0);
 	HOLDS(asked.kind == EFFECT_FILE && token > 0 && asked.size == sizeof text && asked.bytes == keymap_find(number)->text);
 	asked.token = 0;
-	HOLDS(keymap_number(1, text, sizeof text) == number && asked.token == 0 && keymap_token(number) == token);
-	HOLDS(keymap_number(1, other, sizeof other) > number && asked.token > 0 && asked.token != token);
-	HOLDS(keymap_number(2, text, sizeof text) > number && keymap_token(0) == 0 && !keymap_find(0));
+	HOLDS(keymap_take(NULL, 1, text, sizeof text) == number && asked.token == 0 && keymap_token(number) == token);
+	HOLDS(keymap_take(NULL, 1, other, sizeof other) > number && asked.token > 0 && asked.token != token);
+	HOLDS(keymap_take(NULL, 2, text, sizeof text) > number && keymap_token(0) == 0 && !keymap_find(0));
+	keymap_drop(number);
+	keymaps_sweep(false);
+	HOLDS(keymap_find(number));
+	keymap_drop(number);
+	HOLDS(keymap_find(number) && keymap_take(NULL, 1, text, sizeof text) == number);
+	keymap_drop(number);
+	keymaps_sweep(false);
+	HOLDS(!keymap_find(number) && keymap_token(number) == 0 && keymap_take(NULL, 1, text, sizeof text) > number);
 	token_drop(token);
-	keymaps_end();
+	keymaps_sweep(true);
+	while (token_close() > 0)
+		;
+	HOLDS(tokens_used() == 0);
+}
+
+/* A process has its share, others theirs, and the compositor always one; what is let go makes room. */
+static void shares_of_keymaps(void)
+{
+	const struct process *const processes[] = { (void *)&asked, (void *)&failed };
+	static char many[200];
+	uint32_t first = 0;
+	for (uint8_t at = 0; at < 200; at++) {
+		uint32_t number = keymap_take(processes[0], 1, &at, 1);
+		HOLDS((number > 0) == (at < 8));
+		first = at == 0 ? number : first;
+	}
+	HOLDS(keymap_take(processes[1], 2, (const uint8_t *)"a", 1) > 0 && keymap_take(NULL, 2, (const uint8_t *)"b", 1) > 0);
+	keymap_drop(first);
+	keymaps_sweep(false);
+	HOLDS(keymap_take(processes[0], 2, (const uint8_t *)"c", 1) > 0 && keymap_take(processes[0], 2, (const uint8_t *)"d", 1) == 0);
+	for (uint8_t at = 0; at < 200; at++)
+		if (keymap_take((const struct process *)&many[at], 3, &at, 1) == 0)
+			HOLDS(at >= 46);
+	HOLDS(keymap_take(NULL, 4, (const uint8_t *)"e", 1) > 0);
+	keymaps_sweep(true);
 	while (token_close() > 0)
 		;
 	HOLDS(tokens_used() == 0);
@@ -390,6 +423,7 @@ int main(void)
 	comes_without_taking();
 	all_tokens();
 	keymaps();
+	shares_of_keymaps();
 	printf("the gateway's parts: %s\n", failed ? "not as they should be" : "ok");
 	return failed;
 }

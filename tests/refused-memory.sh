@@ -108,19 +108,19 @@ printf '%s\n' "trial 1" "single 40 27" "single 18 65" "compose c3a9 40 18" "fiel
 try "a composed letter" "$work/compose" trial
 
 # A call of the hub that memory was refused to is made again, with the answer of a hub that never lacked any. The test
-# that does so is in the program that `rt test` in crates/hub_tests builds.
-hub=${HUB_TESTS:-crates/hub_tests/out/hub_tests_tests}
+# that does so is in the program that `rt test` in crates/test_hub builds.
+hub=${HUB_TESTS:-crates/test_hub/out/test_hub_tests}
 if [ -x "$hub" ]; then
     number=0
     while :; do
         number=$((number + 1))
         rm -f "$work/came"
-        said=$(REFUSED=$number REFUSED_FILE="$work/came" LD_PRELOAD="$work/refuse.so" "$hub" memory_tests::a_refused_call_is_made_again)
+        said=$(REFUSED=$number REFUSED_FILE="$work/came" LD_PRELOAD="$work/refuse.so" "$hub" call_tests::each_call_answers)
         case $said in *"test result: ok"*) ;; *) echo "WRONG hub: request $number refused"; failed=1 ;; esac
         [ -e "$work/came" ] || break
     done
     echo "a hub's calls, made again: $((number - 1)) requests refused in turn"
 else
-    echo "a hub's calls, made again: not built, run 'rt test' in crates/hub_tests"
+    echo "a hub's calls, made again: not built, run 'rt test' in crates/test_hub"
 fi
 exit $failed

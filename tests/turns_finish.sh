@@ -5,11 +5,11 @@
 #   tests/turns_finish.sh [ROUNDS]
 #
 # ROUNDS is 100 where it isn't given; each round has five runs. It needs the program built: run `rt run` in
-# crates/turn_bench first. A run that hangs is ended after 60 seconds.
+# crates/benches first. A run that hangs is ended after 60 seconds.
 rounds=${1:-100}
 top=$(cd "$(dirname "$0")/.." && pwd)
-bench=${TURN_BENCH:-$(find "$top/crates/turn_bench/out" -type f -perm -u+x -name turn_bench | head -n 1)}
-[ -x "$bench" ] || { echo "turn_bench isn't built: run 'rt run' in crates/turn_bench"; exit 2; }
+bench=${BENCHES:-$(find "$top/crates/benches/out" -type f -perm -u+x -name benches | head -n 1)}
+[ -x "$bench" ] || { echo "benches isn't built: run 'rt run' in crates/benches"; exit 2; }
 
 runs=0
 round=0

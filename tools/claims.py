@@ -9,8 +9,11 @@
 2. Links resolve. Words in back quotes that are a path or a file's name are there; those that are a name with `_`, a
    path with `::` or a word `InThisForm` stand somewhere in the sources.
 3. docs/AUDIT.md tells how many must-fail edits there are, and how many exports; docs/EMBEDDING.md how many crates the
-   library is of. All documents together have at most so many words, and none has a mark of an unfinished merge.
-4. With a program: each line `$ COMMAND` in a block of README.md, docs/TOUR.md, docs/FORMATS.md and docs/AUDITING.md
+   library is of. All documents together, and those of docs/ with README.md and CONTRIBUTING.md, have
+   at most so many words; none has a mark of an unfinished merge.
+4. Each crate of crates.txt stands in the row of its layer of docs/ARCHITECTURE.md, in this order, and on none that
+   comes later.
+5. With a program: each line `$ COMMAND` in a block of README.md, docs/TOUR.md, docs/FORMATS.md and docs/AUDITING.md
    ends well, and writes what stands below it, if anything does. Without one it says how many were not run.
 
 Prints what fails, and how many were looked at; ends with 1 if any failed.
@@ -30,7 +33,8 @@ ENSURES = re.compile(r"\bensures\s*\*?\s*(\w+)\s*\{")
 GHOST = re.compile(r"\b(?:ghost|struct|enum|trait)\s+(\w+)\s*[:={<(]")
 DEFINED = re.compile(r"^\s*(?:(?:abbrev|unfoldable|record|data)\s+)*pub\s+(?:record\s+)?(\w+)", re.M)
 WORDS_OF_NO_CLAUSE = {"ensures", "requires", "result"}
-MOST_WORDS = 57_000
+MOST_WORDS = 55_700
+MOST_WORDS_OF_GUIDES = 26_000  # of docs/, README.md and CONTRIBUTING.md
 RUN = ["README.md", "docs/TOUR.md", "docs/FORMATS.md", "docs/AUDITING.md"]
 FILE = re.compile(r"[\w./-]+\.(?:rt|antt|py|sh|c|h|md|txt|session|acts|transcript|trial|shown|edit)")
 NAME = re.compile(r"[a-z]\w*_\w+|(?:[A-Z][a-z0-9]+){2,}|\w+(?:::\w+)+")
@@ -73,7 +77,7 @@ def words_of(folder):
 
 
 def code_words(cell):
-    """What stands in back quotes in a cell, without the words in brackets behind it."""
+    """What stands in back quotes in a cell, without the words in brackets after it."""
     return re.findall(r"`([^`]+)`", re.sub(r"\([^()]*\)", "", cell))
 
 
@@ -223,21 +227,51 @@ def counts(documents):
     exports = sum(read(path).count("#[unsafe(no_mangle)]") for path in sources("crates/*/src/*.rt"))
     told = re.search(r"its (\d+) exports", read(f"{ROOT}/docs/AUDIT.md"))
     yield None if told and int(told[1]) == exports else f"docs/AUDIT.md: {exports} exports are there"
-    proved = len(stood_on("wlim_c"))
+    proved = len(stood_on("c_library"))
     told = re.search(r"make libwlim +# proves (\d+) crates", read(f"{ROOT}/docs/EMBEDDING.md"))
-    yield None if told and int(told[1]) == proved else f"docs/EMBEDDING.md: wlim_c is proved with {proved} crates"
-    words = sum(len(re.findall(r"\S*\w\S*", read(path))) for path in documents)
-    yield None if words <= MOST_WORDS else f"{words} words in all documents"
+    yield None if told and int(told[1]) == proved else f"docs/EMBEDDING.md: c_library is proved with {proved} crates"
+    guides = {f"{ROOT}/README.md", f"{ROOT}/CONTRIBUTING.md", *sources("docs/*.md")}
+    words = {path: len(re.findall(r"\S*\w\S*", read(path))) for path in documents}
+    total, guiding = sum(words.values()), sum(words[path] for path in guides)
+    yield None if total <= MOST_WORDS else f"{total} words in all documents"
+    yield None if guiding <= MOST_WORDS_OF_GUIDES else f"{guiding} words in docs/, README.md and CONTRIBUTING.md"
     for path in documents:
         marked = re.search(r"<<<<<<< |>>>>>>> ", read(path))
         yield f"{path}: a merge isn't finished" if marked else None
+
+
+def layers():
+    """A problem, or none, for each crate of crates.txt: its layer's row of docs/ARCHITECTURE.md has it, in this order, and it stands on none below it."""
+    layer, listed, seen = None, {}, set()
+    for line in read(f"{ROOT}/crates.txt").splitlines():
+        if re.match("# [a-z ]+:", line):
+            layer = line[2:].split(":")[0]
+        elif ":" in line and not line.startswith("#"):
+            left, _, right = line.partition(":")
+            listed.setdefault(layer, []).append(left.split()[0])
+            seen.add(left.split()[0])
+    told = {}
+    for line in read(f"{ROOT}/docs/ARCHITECTURE.md").splitlines():
+        cells = [cell.strip() for cell in line.strip("|").split("|")]
+        if line.startswith("|") and len(cells) == 3:
+            told[cells[0]] = re.findall(r"`(\w+)`", cells[1])
+    for layer, crates in listed.items():
+        yield None if told.get(layer) == crates else f"docs/ARCHITECTURE.md: of the layer {layer} are {' '.join(crates)}"
+    before = set()
+    for line in read(f"{ROOT}/crates.txt").splitlines():
+        if ":" in line and not line.startswith("#"):
+            left, _, right = line.partition(":")
+            for other in right.split():
+                yield f"crates.txt: {left.split()[0]} stands on {other}, which comes later" \
+                    if other in seen and other not in before else None
+            before.add(left.split()[0])
 
 
 def main():
     folders = ["*.md", "docs/*.md", "crates/*/README.md", "examples/**/*.md", "gateway/*.md", "modules/**/*.md",
                "conformance/*.md"]
     documents = sorted(path for pattern in folders for path in sources(pattern))
-    found = list(claims(documents)) + list(names(documents)) + list(counts(documents))
+    found = list(claims(documents)) + list(names(documents)) + list(counts(documents)) + list(layers())
     if sys.argv[1:2] == ["--program"]:
         found += list(runs(sys.argv[2]))
     else:

@@ -158,7 +158,7 @@ def counts():
 
 
 def is_of_tests(crate):
-    return crate.startswith("test_") or crate.endswith(("_tests", "_bench"))
+    return crate.startswith("test_") or crate == "benches"
 
 
 def summary(seen):

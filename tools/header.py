@@ -1,5 +1,5 @@
 #!/usr/bin/env python3
-"""Holds include/wlim.h against the crates that it is of: each export of wlim_c with the same parameters, by name and type,
+"""Holds include/wlim.h against the crates that it is of: each export of c_library with the same parameters, by name and type,
 and no other; the answers, the kinds of events, the fields of the structs, the version. With a library, also against the
 names that it gives away.
 
@@ -44,7 +44,7 @@ def parameters_in_c(name, kind):
 def exports():
     """Each export: its result and its parameters, as C has them."""
     found = {}
-    for path in sorted(glob.glob(os.path.join(TOP, "crates/wlim_c/src/*.rt"))):
+    for path in sorted(glob.glob(os.path.join(TOP, "crates/c_library/src/*.rt"))):
         for name, parameters, result in re.findall(r'pub extern "C" fn (\w+)\(([^)]*)\)(?: -> (\w+))?', read(path)):
             pairs = [pair.split(":") for pair in parameters.split(",") if pair.strip()]
             in_c = [one for name_, kind in pairs for one in parameters_in_c(name_.strip(), kind.strip())]
@@ -81,24 +81,25 @@ def fields_in_c(header, struct):
 def given_away(library):
     shared = ["-D"] if library.endswith(".so") else []
     lines = subprocess.run(["nm", "-g", "--defined-only", *shared, library], capture_output=True, text=True, check=True).stdout
-    return {line.split()[-1] for line in lines.splitlines() if len(line.split()) == 3}
+    found = [line.split() for line in lines.splitlines()]
+    return {words[-1].split("@")[0] for words in found if len(words) == 3 and words[1] != "A"}
 
 
 def main():
     header = re.sub(r"/\*.*?\*/", "", read("include/wlim.h"), flags=re.S)
     ours, theirs = exports(), prototypes(header)
-    values = constants("crates/wlim_c/src/answer.rt", "i64") | constants("crates/relay_seat/src/event.rt", "u32")
-    values |= constants("crates/wlim_c/src/codes.rt", "u32")
-    version = int(re.search(r"fn wlim_version\(\) -> u32\s+ensures { result ≡ (\d+) }", read("crates/wlim_c/src/readers.rt")).group(1))
+    values = constants("crates/c_library/src/answer.rt", "i64") | constants("crates/c_relay/src/event.rt", "u32")
+    values |= constants("crates/c_library/src/codes.rt", "u32")
+    version = int(re.search(r"fn wlim_version\(\) -> u32\s+ensures { result ≡ (\d+) }", read("crates/c_library/src/readers.rt")).group(1))
     sides = [
         ("functions", ours, theirs),
         ("constants", values, enumerators(header)),
         # A struct in a struct lies as its fields do, since none of these is narrower than those behind it.
-        ("struct wlim_event", fields("crates/relay_seat/src/event.rt", "Event") + fields("crates/wlim_c/src/events.rt", "Given"),
+        ("struct wlim_event", fields("crates/c_relay/src/event.rt", "Event") + fields("crates/c_library/src/events.rt", "Given"),
          fields_in_c(header, "wlim_event")),
-        ("struct wlim_shown", fields("crates/wlim_c/src/readers.rt", "Shown"), fields_in_c(header, "wlim_shown")),
-        ("struct wlim_batch", fields("crates/wlim_c/src/batches.rt", "Batch"), fields_in_c(header, "wlim_batch")),
-        *[(f"struct {STRUCTS[name]}", fields(f"crates/wlim_c/src/{file}.rt", name), fields_in_c(header, STRUCTS[name]))
+        ("struct wlim_shown", fields("crates/c_library/src/readers.rt", "Shown"), fields_in_c(header, "wlim_shown")),
+        ("struct wlim_batch", fields("crates/c_library/src/batches.rt", "Batch"), fields_in_c(header, "wlim_batch")),
+        *[(f"struct {STRUCTS[name]}", fields(f"crates/c_library/src/{file}.rt", name), fields_in_c(header, STRUCTS[name]))
           for file, name in [("broker_peers", "Taken"), ("broker_told", "Told"), ("broker_looks", "Used")]],
         ("version", version, int(re.search(r"#define WLIM_VERSION (\d+)", header).group(1))),
     ]

@@ -17,8 +17,8 @@ use Rattle.wl_proto.specs.Rows.{Message, message, event_kinds}
 use Rattle.wl_proto.specs.Reading.{by_row, all_read, event_reading, values_at}
 use Rattle.broker_model.specs.declared.journal.Entry.{Entry}
 use Rattle.broker_model.specs.Ids.{Joined}
-use Rattle.field_streams.specs.Heard.{Heard, heard, heard_in, is_field_opcode, IsWell, IsLike}
-use Rattle.field_gather.specs.Gathering.{is_app}
+use Rattle.audit_fields.specs.Heard.{Heard, heard, heard_in, is_field_opcode, IsWell, IsLike}
+use Rattle.audit_fields.specs.Gathering.{is_app}
 use Rattle.audit_run.specs.Judged.{IsGoodFor, journal_of, owed, peer_of, sent}
 use Rattle.audit_run.specs.Verdict.{same_value, same_values, is_text_input, same_message, same_reading, is_front, is_like, is_good_for, GoodIsComputed}
 

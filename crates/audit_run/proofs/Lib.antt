@@ -4,3 +4,5 @@ pub mod LinesOnWay
 pub mod TakesDry
 pub mod LinesJudged
 pub mod TakesOnWay
+pub mod LinesAsked
+pub mod SpellingsReadBack

@@ -1,26 +1,26 @@
 -- An audit stands for one line more, or that line ends it.
 use Rattle.std.proofs.Common.{◌≡◌, ℕ, ◌+◌, ◌-◌, Bool, true, false, List, [], ◌∷◌, ◌++◌, Option, Some, None, Result, Ok, Err, refl, sym, ap, ap₂, subst, ◌∙◌, arith}
 use Rattle.std.specs.Prelude.{◌==◌, if◌then◌else◌, min, OnOk, IfErr}
-use Rattle.seat_steps.specs.declared.stamp.Stamp.{Stamp}
-use Rattle.seat_steps.specs.Ranges.{store_limit}
+use Rattle.broker_steps.specs.declared.stamp.Stamp.{Stamp}
+use Rattle.broker_steps.specs.Ranges.{store_limit}
 use Rattle.session_text.specs.declared.line.SessionLine.{SessionLine}
 use Rattle.broker_model.specs.declared.journal.Entry.{Entry}
 use Rattle.broker_model.specs.declared.journal.Kept.{Kept}
 use Rattle.broker_model.specs.Ids.{Joined, peer_at}
 use Rattle.broker_model.specs.Resolve.{past_of}
 use Rattle.broker_core.specs.Broker.{kept_in}
-use Rattle.session_play.specs.declared.session.Stop.{Stop}
-use Rattle.session_play.specs.declared.session.Stop.TheVariants as stops
-use Rattle.session_play.specs.Played.{Play, Played, went}
-use Rattle.session_play.specs.Playing.{Playing}
-use Rattle.session_play.specs.Laws.{unplayed}
-use Rattle.field_streams.specs.Heard.{dones, IsLike}
-use Rattle.field_streams.specs.declared.comparison.HearEnd.TheVariants as hears
-use Rattle.field_gather.specs.Gathering.{Gathering, is_app}
-use Rattle.field_gather.specs.Going.{IsGathered}
-use Rattle.field_gather.specs.Hearing.{IsSent, IsHeardBy, IsHeardFor, IsHeardOf, IsUnlike}
-use Rattle.audit_text.specs.declared.audit_line.AuditLine.{AuditLine}
-use Rattle.audit_text.specs.declared.audit_line.AuditLine.TheVariants.{Step, Out}
+use Rattle.seat_set.specs.declared.session.Stop.{Stop}
+use Rattle.seat_set.specs.declared.session.Stop.TheVariants as stops
+use Rattle.seat_set.specs.Played.{Play, Played, went}
+use Rattle.seat_set.specs.Playing.{Playing}
+use Rattle.seat_set.specs.Laws.{unplayed}
+use Rattle.audit_fields.specs.Heard.{dones, IsLike}
+use Rattle.audit_fields.specs.declared.comparison.HearEnd.TheVariants as hears
+use Rattle.audit_fields.specs.Gathering.{Gathering, is_app}
+use Rattle.audit_fields.specs.Going.{IsGathered}
+use Rattle.audit_fields.specs.Hearing.{IsSent, IsHeardBy, IsHeardFor, IsHeardOf, IsUnlike}
+use Rattle.audit_run.specs.declared.audit_line.AuditLine.{AuditLine}
+use Rattle.audit_run.specs.declared.audit_line.AuditLine.TheVariants.{Step, Out}
 use Rattle.audit_run.specs.declared.audit.AuditEnd.{AuditEnd}
 use Rattle.audit_run.specs.declared.audit.AuditEnd.TheVariants as ends
 use Rattle.audit_run.specs.Taking.{audit_limits, step_judged}

@@ -2,12 +2,12 @@
 use Rattle.std.proofs.Common.{◌≡◌, ℕ, Bool, true, false, List, [], ◌∷◌, ◌++◌, Ok, Err, refl, sym, ap, subst, ◌∙◌}
 use Rattle.std.specs.Prelude.{if◌then◌else◌}
 use Rattle.session_text.specs.declared.line.SessionLine.{SessionLine}
-use Rattle.session_play.specs.declared.session.Stop.{Stop}
-use Rattle.session_play.specs.declared.session.Stop.TheVariants as stops
-use Rattle.session_play.specs.Played.{Play, Played, line_played}
-use Rattle.session_play.specs.Playing.{Playing}
-use Rattle.session_play.specs.Laws.{lines_played}
-use Rattle.field_gather.specs.Gathering.{Gathering}
+use Rattle.seat_set.specs.declared.session.Stop.{Stop}
+use Rattle.seat_set.specs.declared.session.Stop.TheVariants as stops
+use Rattle.seat_set.specs.Played.{Play, Played, line_played}
+use Rattle.seat_set.specs.Playing.{Playing}
+use Rattle.seat_set.specs.Laws.{lines_played}
+use Rattle.audit_fields.specs.Gathering.{Gathering}
 use Rattle.audit_run.specs.Taking.{audit_limits}
 use Rattle.audit_run.specs.Standing.{Leads, IsOnWay}
 

@@ -1,16 +1,16 @@
 -- A line that was played was gathered, or it was stopped.
 use Rattle.std.proofs.Common.{◌≡◌, ℕ, false, List, length, Ok, Err, ap, subst, ◌∙◌}
-use Rattle.seat_steps.specs.declared.limits.Limits.{Limits}
-use Rattle.seat_steps.specs.Ranges.{store_limit}
+use Rattle.broker_steps.specs.declared.limits.Limits.{Limits}
+use Rattle.broker_steps.specs.Ranges.{store_limit}
 use Rattle.session_text.specs.declared.line.SessionLine.{SessionLine}
-use Rattle.seat_objects.specs.Reached.{Reached}
+use Rattle.relay_objects.specs.Reached.{Reached}
 use Rattle.broker_core.specs.Watched.{watched_since}
-use Rattle.session_play.specs.declared.session.Stop.{Stop}
-use Rattle.session_play.specs.declared.session.Stop.TheVariants as stops
-use Rattle.session_play.specs.Played.{line_played}
-use Rattle.session_play.specs.Playing.{Playing, IsPlayed, IsWatched}
-use Rattle.field_gather.specs.Gathering.{Gathering, MayGather}
-use Rattle.field_gather.proofs.GatheredBeside.{stays_beside}
+use Rattle.seat_set.specs.declared.session.Stop.{Stop}
+use Rattle.seat_set.specs.declared.session.Stop.TheVariants as stops
+use Rattle.seat_set.specs.Played.{line_played}
+use Rattle.seat_set.specs.Playing.{Playing, IsPlayed, IsWatched}
+use Rattle.audit_fields.specs.Gathering.{Gathering, MayGather}
+use Rattle.audit_fields.proofs.GatheredBeside.{stays_beside}
 use Rattle.audit_run.specs.Taking.{audit_limits}
 use Rattle.audit_run.specs.Standing.{GoesOn, Leads}
 

@@ -3,7 +3,7 @@ use Rattle.std.proofs.Common.{◌≡◌, ◌≢◌, ℕ, zero, suc, ◌+◌, ◌
 use Rattle.std.specs.Prelude.{◌==◌, if◌then◌else◌, min, replicate}
 use Rattle.std.specs.List.{slice_get}
 use Rattle.std.proofs.lemmas.Bool.{eqb-true, eq-eqb}
-use Rattle.seat_steps.specs.Ranges.{store_limit}
+use Rattle.broker_steps.specs.Ranges.{store_limit}
 use Rattle.session_text.specs.declared.line.SessionLine.{SessionLine}
 use Rattle.session_text.specs.declared.line.SessionLine.TheVariants.{Take}
 use Rattle.broker_model.specs.declared.journal.Entry.{Entry}
@@ -14,10 +14,10 @@ use Rattle.broker_model.specs.Out.{stored, out_for}
 use Rattle.broker_model.specs.Resolve.{past_of}
 use Rattle.broker_model.specs.Settle.{number_alive}
 use Rattle.broker_core.proofs.WatchedSince.{settled_more}
-use Rattle.session_play.specs.Played.{Play, Played, went, with_step, step_played, take_played, line_played}
-use Rattle.session_play.specs.Playing.{Playing}
-use Rattle.session_play.specs.Laws.{lines_played}
-use Rattle.field_gather.specs.Gathering.{Gathering, is_gained}
+use Rattle.seat_set.specs.Played.{Play, Played, went, with_step, step_played, take_played, line_played}
+use Rattle.seat_set.specs.Playing.{Playing}
+use Rattle.seat_set.specs.Laws.{lines_played}
+use Rattle.audit_fields.specs.Gathering.{Gathering, is_gained}
 use Rattle.audit_run.specs.Taking.{audit_limits, takes_of, takes_from}
 use Rattle.audit_run.specs.Standing.{GoesOn, Leads, IsDry}
 

@@ -3,12 +3,12 @@ use Rattle.std.proofs.Common.{◌≡◌, ℕ, suc, ◌+◌, ◌-◌, ◌<◌, �
 use Rattle.std.specs.Prelude.{replicate, if◌then◌else◌}
 use Rattle.session_text.specs.declared.line.SessionLine.{SessionLine}
 use Rattle.session_text.specs.declared.line.SessionLine.TheVariants.{Take}
-use Rattle.session_play.specs.declared.session.Stop.{Stop}
+use Rattle.seat_set.specs.declared.session.Stop.{Stop}
 use Rattle.broker_model.specs.Resolve.{past_of}
-use Rattle.session_play.specs.Played.{Play, Played, line_played}
-use Rattle.session_play.specs.Playing.{Playing}
-use Rattle.session_play.specs.Laws.{lines_played}
-use Rattle.field_gather.specs.Gathering.{Gathering, NoneBetween}
+use Rattle.seat_set.specs.Played.{Play, Played, line_played}
+use Rattle.seat_set.specs.Playing.{Playing}
+use Rattle.seat_set.specs.Laws.{lines_played}
+use Rattle.audit_fields.specs.Gathering.{Gathering, NoneBetween}
 use Rattle.audit_run.specs.Taking.{audit_limits, takes_of, takes_from, emptied}
 use Rattle.audit_run.specs.Standing.{GoesOn, Leads, IsOnWay, IsDry}
 use Rattle.audit_run.proofs.LinesOnWay.{onward, lines_append, part_played, part_stopped, all_played}

@@ -1,20 +1,20 @@
 -- Which lines of an audit are as they should be.
 use Rattle.std.specs.Prelude.{◌≡◌, ℕ, ◌+◌, ◌-◌, ◌==◌, true, false, if◌then◌else◌, List, [], ◌∷◌, ◌++◌, Option, Some, None, Result, Ok, Err}
-use Rattle.seat_steps.specs.Ranges.{store_limit}
+use Rattle.broker_steps.specs.Ranges.{store_limit}
 use Rattle.session_text.specs.Steps.{IsSessionLine}
 use Rattle.broker_model.specs.declared.journal.Entry.{Entry}
 use Rattle.broker_model.specs.Ids.{Joined, peer_at}
 use Rattle.broker_model.specs.Out.{out_for}
 use Rattle.broker_model.specs.Resolve.{past_of}
 use Rattle.broker_core.specs.Broker.{kept_in}
-use Rattle.session_play.specs.Played.{Played, went}
-use Rattle.session_play.specs.Laws.{unplayed}
-use Rattle.session_play.specs.declared.session.Stop.{Stop}
-use Rattle.session_play.specs.declared.session.Stop.TheVariants as stops
-use Rattle.field_streams.specs.Heard.{dones, IsLike}
-use Rattle.field_gather.specs.Gathering.{is_app}
-use Rattle.audit_text.specs.declared.audit_line.AuditLine.{AuditLine}
-use Rattle.audit_text.specs.declared.audit_line.AuditLine.TheVariants.{Step, Out}
+use Rattle.seat_set.specs.Played.{Played, went}
+use Rattle.seat_set.specs.Laws.{unplayed}
+use Rattle.seat_set.specs.declared.session.Stop.{Stop}
+use Rattle.seat_set.specs.declared.session.Stop.TheVariants as stops
+use Rattle.audit_fields.specs.Heard.{dones, IsLike}
+use Rattle.audit_fields.specs.Gathering.{is_app}
+use Rattle.audit_run.specs.declared.audit_line.AuditLine.{AuditLine}
+use Rattle.audit_run.specs.declared.audit_line.AuditLine.TheVariants.{Step, Out}
 use Rattle.audit_run.specs.declared.audit.AuditEnd.{AuditEnd}
 use Rattle.audit_run.specs.declared.audit.AuditEnd.TheVariants as ends
 use Rattle.audit_run.specs.Taking.{step_judged}

@@ -1,20 +1,20 @@
 -- An audit as far as its lines came.
 use Rattle.std.specs.Prelude.{◌≡◌, ℕ, Bool, true, false, List, ◌∷◌, [], min, Option, Some, None, Result, Ok, Err}
-use Rattle.seat_steps.specs.Ranges.{store_limit}
+use Rattle.broker_steps.specs.Ranges.{store_limit}
 use Rattle.session_text.specs.declared.line.SessionLine.{SessionLine}
 use Rattle.broker_model.specs.declared.journal.Entry.{Entry}
 use Rattle.broker_model.specs.Ids.{Joined, peer_at}
 use Rattle.broker_model.specs.Out.{stored, out_for}
 use Rattle.broker_model.specs.Resolve.{past_of}
 use Rattle.broker_core.specs.Broker.{kept_in}
-use Rattle.session_play.specs.declared.session.Stop.{Stop}
-use Rattle.session_play.specs.declared.session.Stop.TheVariants as stops
-use Rattle.session_play.specs.Played.{Played, went}
-use Rattle.session_play.specs.Playing.{Playing}
-use Rattle.session_play.specs.Laws.{lines_played}
-use Rattle.field_gather.specs.Gathering.{Gathering}
-use Rattle.field_gather.specs.Going.{IsGathered}
-use Rattle.audit_text.specs.declared.audit_line.AuditLine.{AuditLine}
+use Rattle.seat_set.specs.declared.session.Stop.{Stop}
+use Rattle.seat_set.specs.declared.session.Stop.TheVariants as stops
+use Rattle.seat_set.specs.Played.{Played, went}
+use Rattle.seat_set.specs.Playing.{Playing}
+use Rattle.seat_set.specs.Laws.{lines_played}
+use Rattle.audit_fields.specs.Gathering.{Gathering}
+use Rattle.audit_fields.specs.Going.{IsGathered}
+use Rattle.audit_run.specs.declared.audit_line.AuditLine.{AuditLine}
 use Rattle.audit_run.specs.declared.audit.AuditEnd.{AuditEnd}
 use Rattle.audit_run.specs.Taking.{audit_limits}
 use Rattle.audit_run.specs.Judged.{judged, sent, dones_of, most_dones, IsFair}

@@ -1,12 +1,12 @@
 -- What the lines of an audit play: each step, and after it takes of all that is stored.
 use Rattle.std.specs.Prelude.{ℕ, zero, suc, ◌+◌, List, [], ◌++◌, length, replicate, if◌then◌else◌}
-use Rattle.seat_steps.specs.declared.limits.Limits.{Limits}
-use Rattle.seat_steps.specs.Ranges.{entry_limit, store_limit, weight_limit}
+use Rattle.broker_steps.specs.declared.limits.Limits.{Limits}
+use Rattle.broker_steps.specs.Ranges.{entry_limit, store_limit, weight_limit}
 use Rattle.session_text.specs.declared.line.SessionLine.{SessionLine}
 use Rattle.session_text.specs.declared.line.SessionLine.TheVariants.{Take}
 use Rattle.broker_model.specs.Resolve.{past_of}
-use Rattle.session_play.specs.Played.{Play, Played, line_played}
-use Rattle.session_play.specs.Laws.{lines_played}
+use Rattle.seat_set.specs.Played.{Play, Played, line_played}
+use Rattle.seat_set.specs.Laws.{lines_played}
 
 -- the greatest limits that a session may set
 abbrev pub audit_limits : Limits

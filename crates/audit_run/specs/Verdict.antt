@@ -10,9 +10,9 @@ use Rattle.wl_proto.specs.Grammar.{Value, word, signed, text, null, token}
 use Rattle.wl_proto.specs.Rows.{Message}
 use Rattle.broker_model.specs.declared.journal.Entry.{Entry}
 use Rattle.broker_model.specs.Ids.{Joined}
-use Rattle.field_streams.specs.Heard.{Heard, heard}
-use Rattle.field_gather.specs.Gathering.{is_app}
-use Rattle.audit_text.specs.declared.audit_line.AuditLine.{AuditLine}
+use Rattle.audit_fields.specs.Heard.{Heard, heard}
+use Rattle.audit_fields.specs.Gathering.{is_app}
+use Rattle.audit_run.specs.declared.audit_line.AuditLine.{AuditLine}
 use Rattle.audit_run.specs.Judged.{IsGood, journal_of, owed, peer_of, sent}
 
 -- both are the same argument

@@ -2,12 +2,12 @@
 ghost use Rattle.std.specs.Prelude.{◌≡◌};
 ghost use Rattle.audit_run.specs.Judged.{answer_of, of_stop};
 
+use crate::AuditLine;
 use crate::taking::play_step;
-use audit_text::AuditLine;
+use audit_fields::{Gatherer, HearEnd};
 use broker_core::Journal;
-use field_gather::{Gatherer, HearEnd};
-use seat_steps::{ENTRY_LIMIT, Limits, STORE_LIMIT, WEIGHT_LIMIT};
-use session_play::{Kept, Player, Stop};
+use broker_steps::{ENTRY_LIMIT, Limits, STORE_LIMIT, WEIGHT_LIMIT};
+use seat_set::{Kept, Player, Stop};
 use std::alloc::Global;
 use std::marker::Model;
 use thiserror::Error;
@@ -75,11 +75,11 @@ impl Model for Audit {
 impl Audit {
     ghost use Rattle.std.specs.Prelude.{◌≡◌, ℕ, List, [], ◌∷◌, min, IfOk, IfErr, IfSome, Some};
     ghost use Rattle.std.specs.Prelude.{None, Err, OnOk, OnErr, is_some, true};
-    ghost use Rattle.audit_text.specs.declared.audit_line.AuditLine.{AuditLine as Line};
+    ghost use Rattle.audit_run.specs.declared.audit_line.AuditLine.{AuditLine as Line};
     ghost use Rattle.audit_run.specs.Judged.{dones_of, journal_of, most_dones, IsAuditLine, IsFair};
     ghost use Rattle.audit_run.specs.Judged.{IsEnd};
     ghost use Rattle.audit_run.specs.Standing.{Stands};
-    ghost use Rattle.session_play.specs.Playing.{IsShort};
+    ghost use Rattle.seat_set.specs.Playing.{IsShort};
 
     /// No line came yet. `NoMemory` is its one error.
     pub fn new(alloc: Global) -> Result<Audit, NoMemory>

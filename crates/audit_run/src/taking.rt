@@ -2,14 +2,14 @@
 ghost use Rattle.std.specs.Prelude.{◌≡◌, ◌≤◌, ℕ, List, true, IfOk};
 ghost use Rattle.session_text.specs.Steps.{IsSessionLine};
 ghost use Rattle.session_text.specs.declared.line.SessionLine.TheVariants as lines;
-ghost use Rattle.session_play.specs.Played.{line_played};
-ghost use Rattle.session_play.specs.Laws.{lines_played};
+ghost use Rattle.seat_set.specs.Played.{line_played};
+ghost use Rattle.seat_set.specs.Laws.{lines_played};
 ghost use Rattle.audit_run.specs.Taking.{audit_limits, step_judged, takes_from, takes_of};
 ghost use Rattle.audit_run.specs.Standing.{GoesOn, IsDry, Leads, LeadsOnce};
 
-use field_gather::Gatherer;
-use seat_steps::Stamp;
-use session_play::{Player, Stop};
+use audit_fields::Gatherer;
+use broker_steps::Stamp;
+use seat_set::{Player, Stop};
 use session_text::SessionLine;
 
 /// So many bytes are taken at once.

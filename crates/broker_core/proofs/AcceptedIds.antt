@@ -16,10 +16,10 @@ use Rattle.broker_model.specs.Ids.{Made, Joined, Past, object_at, number_live}
 use Rattle.broker_model.specs.Refusals.{is_bad_id, fault_if, argument_fault, new_fault, request_fault}
 use Rattle.broker_model.specs.Requests.{Argument, arguments_of, new_of}
 use Rattle.broker_model.specs.Resolve.{Meaning, made_new, label_at, of_request, of_reading, of_message}
-use Rattle.seat_wire.specs.declared.meaning.Meaning as declared
-use Rattle.seat_wire.specs.declared.requests.Argument as requests
-use Rattle.seat_wire.specs.Asked.{asked}
-use Rattle.seat_wire.specs.Meant.{IsTableOf, meant}
+use Rattle.broker_wire.specs.declared.meaning.Meaning as declared
+use Rattle.broker_wire.specs.declared.requests.Argument as requests
+use Rattle.broker_wire.specs.Asked.{asked}
+use Rattle.broker_wire.specs.Meant.{IsTableOf, meant}
 
 no_first : (a b : Option Fault) → option_or a b ≡ None → (a ≡ None) × (b ≡ None)
 no_first None b h = (refl, h)

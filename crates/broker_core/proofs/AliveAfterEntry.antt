@@ -12,7 +12,7 @@ use Rattle.broker_model.specs.Resolve.{past_of}
 use Rattle.broker_model.specs.Limits.{is_counted, number_counted, weight_of, weight}
 use Rattle.broker_model.specs.Settle.{due, cause_of, with_end, settled, number_alive, settle}
 use Rattle.broker_model.proofs.SettlingEnds.{ends_fewer}
-use Rattle.seat_audience.specs.Lives.{Numbered}
+use Rattle.broker_audience.specs.Lives.{Numbered}
 use Rattle.broker_core.specs.Stands.{roster}
 use Rattle.broker_core.proofs.RosterAfterEntry.{IsPlain, roster_plain, roster_join, roster_end, roster_count}
 

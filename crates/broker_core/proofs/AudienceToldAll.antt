@@ -2,13 +2,13 @@
 use Rattle.std.proofs.Common.{◌≡◌, List, [], ◌∷◌, map, refl, ap, ◌∙◌}
 use Rattle.std.specs.List.{AllByRecursion}
 use Rattle.relay_model.specs.declared.said.Told.{Told}
-use Rattle.seat_objects.specs.Reached.{Reached}
+use Rattle.relay_objects.specs.Reached.{Reached}
 use Rattle.broker_model.specs.Ids.{Made}
-use Rattle.seat_audience.specs.declared.audience.Audience.{Audience}
-use Rattle.seat_audience.specs.declared.live.Live.{Live}
-use Rattle.seat_audience.specs.Directed.{Directed}
-use Rattle.seat_audience.specs.Lives.{cleared, delivered, listens, has_heard, told_all}
-use Rattle.seat_audience.specs.Tells.{IsShort, Tells}
+use Rattle.broker_audience.specs.declared.audience.Audience.{Audience}
+use Rattle.broker_audience.specs.declared.live.Live.{Live}
+use Rattle.broker_audience.specs.Directed.{Directed}
+use Rattle.broker_audience.specs.Lives.{cleared, delivered, listens, has_heard, told_all}
+use Rattle.broker_audience.specs.Tells.{IsShort, Tells}
 
 -- each live peer heard all that is its own
 pub record AllTold (before : Audience) (told : List Told) (after : Audience) : Type 0 where

@@ -1,8 +1,8 @@
 -- Who watches a call is told of the entries that the journal has since: of the step's, and of the ends that follow from
 -- it.
 use Rattle.std.proofs.Common.{◌≡◌, ℕ, ◌≤◌, List, ◌∷◌, length, ap, refl, sym, subst, arith}
-use Rattle.seat_steps.specs.declared.limits.Limits.{Limits}
-use Rattle.seat_objects.specs.Reached.{Reached}
+use Rattle.broker_steps.specs.declared.limits.Limits.{Limits}
+use Rattle.relay_objects.specs.Reached.{Reached}
 use Rattle.broker_model.specs.declared.journal.Entry.{Entry}
 use Rattle.broker_core.specs.declared.state.State.{State}
 use Rattle.broker_core.specs.Broker.{Broker, IsBroker, IsWatched, gone}

@@ -17,7 +17,7 @@ use Rattle.broker_model.specs.Out.{Outgoing, group_at, is_label, took_at, out_fo
 use Rattle.broker_model.specs.Limits.{is_end}
 use Rattle.broker_model.proofs.LabelsRiseByNumber.{label_within, one_number}
 use Rattle.broker_model.proofs.QuietStoresStay.{quiet_out}
-use Rattle.ended_peers.specs.Ends.{Ended}
+use Rattle.broker_model.specs.Ends.{Ended}
 use Rattle.broker_core.specs.Stands.{end_of, IsKept, IsLeft, AreLeft}
 use Rattle.broker_core.proofs.OnlyEndsTakePeers.{peer_kept, peer_new, peer_ended, gone_now}
 

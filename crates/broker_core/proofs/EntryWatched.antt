@@ -6,19 +6,19 @@ use Rattle.relay_model.specs.declared.said.Told.{Told}
 use Rattle.relay_model.specs.Told.{told}
 use Rattle.broker_model.specs.declared.journal.Entry.{Entry}
 use Rattle.broker_model.specs.Ids.{Made, log_of}
-use Rattle.living_labels.specs.Enough.{made_at}
-use Rattle.living_labels.specs.Kept.{kept_of}
-use Rattle.living_labels.proofs.EnoughIsTold.{enough_told}
-use Rattle.living_labels.proofs.KeptIsEnough.{kept_enough}
+use Rattle.broker_model.specs.Enough.{made_at}
+use Rattle.broker_model.specs.Kept.{kept_of}
+use Rattle.broker_model.proofs.EnoughIsTold.{enough_told}
+use Rattle.broker_model.proofs.KeptIsEnough.{kept_enough}
 use Rattle.broker_core.proofs.KeptTellsAll.{told_live_alike}
 use Rattle.broker_model.specs.Resolve.{past_of, resolve}
 use Rattle.broker_model.specs.Groups.{Piece, nothing, group_for}
 use Rattle.broker_model.specs.Out.{Outgoing, fits, act_at, group_at, before_group, out_for}
 use Rattle.broker_model.proofs.StoresAreOut.{spaced_out}
-use Rattle.seat_audience.specs.declared.live.Live.{Live}
-use Rattle.seat_audience.specs.Gathered.{empty}
-use Rattle.seat_audience.specs.Heard.{heard}
-use Rattle.seat_audience.specs.Lives.{Numbered, who, cleared, has_heard, has_room}
+use Rattle.broker_audience.specs.declared.live.Live.{Live}
+use Rattle.broker_audience.specs.Gathered.{empty}
+use Rattle.broker_audience.specs.Heard.{heard}
+use Rattle.broker_audience.specs.Lives.{Numbered, who, cleared, has_heard, has_room}
 use Rattle.broker_core.specs.declared.state.State.{State}
 use Rattle.broker_core.specs.Stands.{IsReady, IsReadyFor, numbered, is_alive, roster}
 use Rattle.broker_core.specs.Watched.{Watched, shown_by, group_put, gathered_put, told_live, out_put, told_of}

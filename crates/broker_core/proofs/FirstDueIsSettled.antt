@@ -8,16 +8,16 @@ use Rattle.std.proofs.lemmas.Option.{some_pair_parts}
 use Rattle.relay_model.specs.declared.act.EndCause.{EndCause}
 use Rattle.relay_model.specs.declared.act.EndCause.TheVariants.{Bad, Full}
 use Rattle.relay_model.specs.Objects.{is_peer}
-use Rattle.seat_steps.specs.declared.stamp.Stamp.{Stamp}
+use Rattle.broker_steps.specs.declared.stamp.Stamp.{Stamp}
 use Rattle.broker_model.specs.declared.journal.Entry.{Entry}
 use Rattle.broker_model.specs.Ids.{Joined, log_of}
 use Rattle.broker_model.specs.Resolve.{past_of}
 use Rattle.broker_model.specs.Out.{out_for}
 use Rattle.broker_model.specs.Settle.{refused, due_from, due, cause_of, number_alive, settle}
-use Rattle.seat_audience.specs.declared.live.Live.{Live}
-use Rattle.seat_audience.specs.Lives.{Numbered, who, is_number, number_of}
+use Rattle.broker_audience.specs.declared.live.Live.{Live}
+use Rattle.broker_audience.specs.Lives.{Numbered, who, is_number, number_of}
 use Rattle.broker_core.specs.Stands.{numbered, is_alive, roster, IsLive, Stands}
-use Rattle.seat_audience.specs.Changes.{first_due}
+use Rattle.broker_audience.specs.Changes.{first_due}
 use Rattle.std.proofs.lemmas.List.{length-map}
 use Rattle.broker_model.specs.declared.journal.Entry.TheVariants as entries
 use Rattle.broker_model.specs.Stamps.{follows, stamp_of, stamps}

@@ -7,8 +7,8 @@ use Rattle.relay_model.specs.declared.said.Told.{Told}
 use Rattle.relay_model.specs.declared.said.Said.{Said}
 use Rattle.broker_model.specs.Ids.{Made, made_as}
 use Rattle.broker_model.specs.Groups.{Piece, nothing, followed_by, message_of, message_piece, event_piece, group_for}
-use Rattle.seat_audience.specs.Gathered.{Gathered, empty, with_message}
-use Rattle.seat_audience.specs.Heard.{with_event, hears_at, hears, heard}
+use Rattle.broker_audience.specs.Gathered.{Gathered, empty, with_message}
+use Rattle.broker_audience.specs.Heard.{with_event, hears_at, hears, heard}
 use Rattle.broker_core.proofs.BodyLengths.{message_length, behind_nothing, before_nothing, followed_twice}
 
 -- what is gathered where all of this was told: all of it, or it is known that it passes the capacity

@@ -7,8 +7,8 @@ use Rattle.broker_model.specs.Ids.{Made}
 use Rattle.broker_model.specs.Groups.{Piece, group_for}
 use Rattle.broker_model.specs.Out.{Outgoing, fits, with_group}
 use Rattle.broker_model.specs.Stored.{AreSpaced}
-use Rattle.seat_audience.specs.declared.live.Live.{Live}
-use Rattle.seat_audience.specs.Lives.{cleared, has_heard, has_room, told_all}
+use Rattle.broker_audience.specs.declared.live.Live.{Live}
+use Rattle.broker_audience.specs.Lives.{cleared, has_heard, has_room, told_all}
 use Rattle.broker_core.specs.Stands.{Holds}
 use Rattle.broker_core.proofs.GatheredGroup.{IsGathered}
 use Rattle.broker_core.proofs.PutGroups.{IsPut, put_all}

@@ -8,12 +8,12 @@ use Rattle.relay_model.specs.declared.said.Said.{Said}
 use Rattle.relay_model.specs.declared.said.Said.TheVariants as said
 use Rattle.broker_model.specs.Ids.{Made, made_as}
 use Rattle.broker_model.specs.Groups.{id_of, message_of}
-use Rattle.living_labels.specs.Living.{named}
-use Rattle.living_labels.specs.Enough.{IsAlike}
-use Rattle.seat_audience.specs.declared.live.Live.{Live}
-use Rattle.seat_audience.specs.Gathered.{Gathered}
-use Rattle.seat_audience.specs.Heard.{with_event, hears_at, hears, heard}
-use Rattle.seat_audience.specs.Lives.{Numbered, who, cleared, has_heard, delivered, told_all}
+use Rattle.broker_model.specs.Living.{named}
+use Rattle.broker_model.specs.Enough.{IsAlike}
+use Rattle.broker_audience.specs.declared.live.Live.{Live}
+use Rattle.broker_audience.specs.Gathered.{Gathered}
+use Rattle.broker_audience.specs.Heard.{with_event, hears_at, hears, heard}
+use Rattle.broker_audience.specs.Lives.{Numbered, who, cleared, has_heard, delivered, told_all}
 use Rattle.broker_core.specs.Watched.{Watched, number_at, maker, shown, shown_by, gathered_put, told_live}
 use Rattle.broker_core.specs.Watched.Watched.{Placed}
 

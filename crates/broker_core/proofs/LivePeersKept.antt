@@ -12,8 +12,8 @@ use Rattle.broker_model.specs.Resolve.{past_of}
 use Rattle.broker_model.specs.Out.{Outgoing, took_at, before_group, out_for}
 use Rattle.broker_model.specs.Settle.{refused}
 use Rattle.broker_model.specs.Tables.{calls_for}
-use Rattle.seat_audience.specs.declared.live.Live.{Live}
-use Rattle.seat_audience.specs.Lives.{who}
+use Rattle.broker_audience.specs.declared.live.Live.{Live}
+use Rattle.broker_audience.specs.Lives.{who}
 use Rattle.broker_core.specs.Stands.{Holds, IsLive, IsReady, roster}
 use Rattle.broker_core.proofs.RosterAfterEntry.{each_alive}
 

@@ -3,11 +3,11 @@ use Rattle.std.proofs.Common.{◌≡◌, ℕ, zero, suc, ◌+◌, ◌<◌, ◌�
 use Rattle.std.specs.List.{flat_map}
 use Rattle.std.proofs.lemmas.Bool.{cases_eq, eq-eqb, ne_eqb}
 use Rattle.std.proofs.lemmas.List.{take_more, append_assoc}
-use Rattle.seat_audience.specs.declared.live.Live.{Live}
-use Rattle.seat_audience.specs.Lives.{has_room}
-use Rattle.seat_audience.specs.Marks.{is_marked, AreWithin}
-use Rattle.seat_audience.specs.Visits.{IsQuiet}
-use Rattle.seat_audience.proofs.MarkedPlaces.{marked_more, not_before, at_least}
+use Rattle.broker_audience.specs.declared.live.Live.{Live}
+use Rattle.broker_audience.specs.Lives.{has_room}
+use Rattle.broker_audience.specs.Marks.{is_marked, AreWithin}
+use Rattle.broker_audience.specs.Visits.{IsQuiet}
+use Rattle.broker_audience.proofs.MarkedPlaces.{marked_more, not_before, at_least}
 use Rattle.broker_core.specs.Watched.{Watched, gathered_put, group_put}
 
 -- of each by its place, of which the first is k

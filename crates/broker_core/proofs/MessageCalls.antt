@@ -30,10 +30,10 @@ use Rattle.broker_model.specs.Tables.{make_calls, drop_calls, calls_for}
 use Rattle.broker_model.proofs.LivePeersJoined.{length_log}
 use Rattle.broker_model.proofs.IdsAreNames.{IsFound, found}
 use Rattle.broker_model.proofs.MadeObjectsStand.{display_of, sound, displayed}
-use Rattle.seat_wire.specs.declared.meaning.Meaning as declared
-use Rattle.seat_wire.specs.Asked.{asked}
-use Rattle.seat_wire.specs.Meant.{meant}
-use Rattle.seat_audience.specs.Changes.{own_calls}
+use Rattle.broker_wire.specs.declared.meaning.Meaning as declared
+use Rattle.broker_wire.specs.Asked.{asked}
+use Rattle.broker_wire.specs.Meant.{meant}
+use Rattle.broker_audience.specs.Changes.{own_calls}
 use Rattle.broker_core.proofs.OwnObjectDropped.{drops_only}
 use Rattle.broker_core.proofs.TableAfterAct.{drops_cleaned, IsAddressed, Comes, comes_created, comes_sync, comes_drop, comes_none}
 use Rattle.broker_core.proofs.LiveObjectKinds.{fits, AreFit, fit}

@@ -18,9 +18,9 @@ use Rattle.broker_model.specs.Tables.{calls_for, live_id}
 use Rattle.broker_model.proofs.IdsAreNames.{IsIn}
 use Rattle.broker_model.proofs.MadeObjectsStand.{sound}
 use Rattle.broker_model.proofs.LabelsAreIds.{unmade, found_by_label}
-use Rattle.living_labels.specs.Kept.{kept_of}
-use Rattle.living_labels.proofs.KeptIsEnough.{kept_in}
-use Rattle.seat_audience.specs.Directed.{IsNewest}
+use Rattle.broker_model.specs.Kept.{kept_of}
+use Rattle.broker_model.proofs.KeptIsEnough.{kept_in}
+use Rattle.broker_audience.specs.Directed.{IsNewest}
 
 -- an entry tells nothing to who was no peer before it and does not join by it
 abbrev pub TellsPeersAlone : Type 0

@@ -4,12 +4,12 @@ use Rattle.relay_model.specs.declared.role.Role.{Role}
 use Rattle.broker_model.specs.declared.journal.Entry.{Entry}
 use Rattle.broker_model.specs.Resolve.{past_of}
 use Rattle.broker_model.proofs.LabelsRiseByNumber.{label_within}
-use Rattle.seat_audience.specs.declared.live.Live.{Live}
-use Rattle.seat_audience.specs.Changes.{IsNewcomer}
-use Rattle.seat_audience.specs.Lives.{Numbered, who, AreOver}
-use Rattle.seat_audience.specs.Visits.{IsAboveAll, IsNew, IsAt, HasNone}
+use Rattle.broker_audience.specs.declared.live.Live.{Live}
+use Rattle.broker_audience.specs.Changes.{IsNewcomer}
+use Rattle.broker_audience.specs.Lives.{Numbered, who, AreOver}
+use Rattle.broker_audience.specs.Visits.{IsAboveAll, IsNew, IsAt, HasNone}
 use Rattle.std.proofs.lemmas.Bool.{eq-eqb, ne_eqb}
-use Rattle.seat_audience.proofs.PeersInOrder.{key_over}
+use Rattle.broker_audience.proofs.PeersInOrder.{key_over}
 use Rattle.broker_core.specs.Stands.{roster}
 use Rattle.broker_core.specs.Watched.{number_at}
 use Rattle.broker_model.proofs.EachElement.{each_weaker}

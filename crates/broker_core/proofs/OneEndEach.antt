@@ -1,6 +1,6 @@
 -- There are no more ends than peers that joined and aren't alive.
 use Rattle.std.proofs.Common.{◌≡◌, ◌+◌, ◌≤◌, length, subst, arith, ℕ, zero, suc, ◌<◌, List, [], ◌∷◌, Bool, true, false, Some, None, ap, refl, sym, ◌∙◌, inl, inr}
-use Rattle.seat_steps.specs.declared.limits.Limits.{Limits}
+use Rattle.broker_steps.specs.declared.limits.Limits.{Limits}
 use Rattle.broker_model.specs.Resolve.{past_of}
 use Rattle.broker_model.specs.Limits.{number_counted, is_end, is_counted}
 use Rattle.broker_model.specs.Settle.{number_alive}

@@ -11,7 +11,7 @@ use Rattle.broker_model.specs.Ids.{Made, Joined, log_of, made_as}
 use Rattle.broker_model.specs.Resolve.{past_of, resolve}
 use Rattle.broker_model.proofs.IdsAreNames.{IsWith, made_with}
 use Rattle.broker_model.proofs.MadeObjectsStand.{sound}
-use Rattle.seat_audience.specs.Lives.{Numbered}
+use Rattle.broker_audience.specs.Lives.{Numbered}
 use Rattle.broker_core.specs.Stands.{numbered, is_alive, roster}
 use Rattle.broker_core.specs.Watched.{number_at, maker}
 use Rattle.broker_model.proofs.EachElement.{each_of}

@@ -15,10 +15,10 @@ use Rattle.broker_model.specs.Settle.{refused}
 use Rattle.broker_model.specs.Tables.{calls_for}
 use Rattle.broker_model.proofs.StoresAreOut.{fits_stored, put_cells, spaced_out}
 use Rattle.im_objects.specs.Objects as table
-use Rattle.seat_audience.specs.declared.live.Live.{Live}
-use Rattle.seat_audience.specs.Gathered.{empty}
-use Rattle.seat_audience.specs.Heard.{heard}
-use Rattle.seat_audience.specs.Lives.{Numbered, who, cleared, has_heard, has_room, delivered, told_all}
+use Rattle.broker_audience.specs.declared.live.Live.{Live}
+use Rattle.broker_audience.specs.Gathered.{empty}
+use Rattle.broker_audience.specs.Heard.{heard}
+use Rattle.broker_audience.specs.Lives.{Numbered, who, cleared, has_heard, has_room, delivered, told_all}
 use Rattle.broker_core.specs.Stands.{Holds, IsLive, IsReady}
 use Rattle.broker_core.proofs.GatheredGroup.{IsGathered, gathered_all}
 

@@ -9,18 +9,18 @@ use Rattle.relay_model.proofs.ActsOrIdle.{length_history}
 use Rattle.relay_core.specs.Stands as relay
 use Rattle.broker_model.specs.declared.journal.Entry.{Entry}
 use Rattle.broker_model.specs.Ids.{Made}
-use Rattle.living_labels.specs.Enough.{made_at}
-use Rattle.living_labels.specs.Kept.{kept_by, kept_of}
-use Rattle.living_labels.proofs.EnoughIsTold.{enough_told}
-use Rattle.living_labels.proofs.KeptIsEnough.{kept_enough}
+use Rattle.broker_model.specs.Enough.{made_at}
+use Rattle.broker_model.specs.Kept.{kept_by, kept_of}
+use Rattle.broker_model.proofs.EnoughIsTold.{enough_told}
+use Rattle.broker_model.proofs.KeptIsEnough.{kept_enough}
 use Rattle.broker_core.proofs.KeptTellsAll.{all_told_alike}
 use Rattle.broker_model.specs.Resolve.{past_of, resolve}
 use Rattle.broker_model.specs.Out.{act_at}
 use Rattle.broker_model.proofs.LivePeersJoined.{length_resolve}
-use Rattle.seat_audience.specs.declared.live.Live.{Live}
+use Rattle.broker_audience.specs.declared.live.Live.{Live}
 use Rattle.broker_core.specs.declared.state.State.{State}
-use Rattle.seat_audience.specs.Lives.{told_all, who}
-use Rattle.seat_audience.specs.Tells.{IsShort}
+use Rattle.broker_audience.specs.Lives.{told_all, who}
+use Rattle.broker_audience.specs.Tells.{IsShort}
 use Rattle.broker_core.specs.Stands.{StandsFor, Stands, AreLeft, IsLive, IsReadyFor}
 use Rattle.broker_core.proofs.PutGroups.{all_played, same_who}
 use Rattle.broker_core.proofs.ToldMessagesFit.{all_short}

@@ -23,11 +23,11 @@ use Rattle.broker_model.specs.Settle.{is_bad, refused}
 use Rattle.broker_model.specs.Tables.{calls_for}
 use Rattle.broker_model.specs.Limits.{is_counted, number_counted}
 use Rattle.broker_model.proofs.LabelsRiseByNumber.{label_within}
-use Rattle.seat_audience.specs.declared.live.Live.{Live}
+use Rattle.broker_audience.specs.declared.live.Live.{Live}
 use Rattle.broker_core.specs.declared.state.State.{State}
-use Rattle.ended_peers.specs.Ends.{Ended}
-use Rattle.seat_audience.specs.Changes.{IsNewcomer}
-use Rattle.seat_audience.specs.Lives.{Numbered, who}
+use Rattle.broker_model.specs.Ends.{Ended}
+use Rattle.broker_audience.specs.Changes.{IsNewcomer}
+use Rattle.broker_audience.specs.Lives.{Numbered, who}
 use Rattle.broker_core.specs.Stands.{Holds, Stands, StandsFor, AreLeft, IsLive, IsReady, CanTake, Ready, IsReadyFor, roster}
 use Rattle.broker_core.proofs.TableAfterAct.{calls_joined, calls_other}
 use Rattle.broker_core.proofs.DeadPeersToldNothing.{quiet}

@@ -4,20 +4,20 @@ use Rattle.std.specs.List.{AllByRecursion, slice_get}
 use Rattle.std.proofs.lemmas.List.{length-map}
 use Rattle.std.proofs.lemmas.List.Sums.{sum_by-cons}
 use Rattle.relay_model.specs.declared.act.Act.{Act}
-use Rattle.seat_objects.specs.Fits.{FitsMessage}
+use Rattle.relay_objects.specs.Fits.{FitsMessage}
 use Rattle.relay_core.specs.Kept.{IsReserved}
 use Rattle.relay_core.specs.Stands as relay
 use Rattle.broker_model.specs.declared.journal.Entry.{Entry}
 use Rattle.broker_model.specs.declared.journal.Entry.TheVariants as entries
 use Rattle.broker_model.specs.Ids.{object_at, Joined, Made, peer_at}
-use Rattle.living_labels.specs.Enough.{made_at}
-use Rattle.living_labels.specs.Kept.{kept_of}
+use Rattle.broker_model.specs.Enough.{made_at}
+use Rattle.broker_model.specs.Kept.{kept_of}
 use Rattle.broker_model.specs.Resolve.{past_of, resolve, Meaning, of_peer, refused_for, means, made_new}
 use Rattle.broker_model.specs.Out.{act_at, is_label}
 use Rattle.broker_model.specs.Limits.{is_counted, number_counted}
-use Rattle.ended_peers.specs.Ends.{Ended}
+use Rattle.broker_model.specs.Ends.{Ended}
 use Rattle.broker_core.specs.declared.state.State.{State}
-use Rattle.seat_audience.specs.Lives.{who, number_of, AreAbove}
+use Rattle.broker_audience.specs.Lives.{who, number_of, AreAbove}
 use Rattle.broker_core.specs.Stands.{CanTake, Stands, AreLeft, IsReady, Ready, IsReadyFor, IsLive}
 use Rattle.broker_core.proofs.DeadPeersToldNothing.{quiet}
 use Rattle.broker_core.proofs.EndedPeersKept.{IsSpoken, left_plain}
@@ -29,16 +29,16 @@ use Rattle.im_objects.specs.Calls.{Call}
 use Rattle.im_objects.specs.Objects as table
 use Rattle.relay_model.specs.declared.act.Act.TheVariants as acts
 use Rattle.relay_model.specs.declared.fault.Fault.TheVariants as faults
-use Rattle.seat_steps.specs.declared.step.ShellStep.{ShellStep}
-use Rattle.seat_wire.specs.declared.meaning.Meaning as declared
-use Rattle.seat_wire.specs.Asked.{asked}
-use Rattle.seat_wire.specs.Meant.{meant}
+use Rattle.broker_steps.specs.declared.step.ShellStep.{ShellStep}
+use Rattle.broker_wire.specs.declared.meaning.Meaning as declared
+use Rattle.broker_wire.specs.Asked.{asked}
+use Rattle.broker_wire.specs.Meant.{meant}
 use Rattle.broker_model.specs.Settle.{is_bad, refused}
 use Rattle.broker_model.specs.Tables.{calls_for}
 use Rattle.broker_model.specs.Waiting.{with_tokens, without_taken, takes_token}
 use Rattle.broker_model.proofs.LabelsRiseByNumber.{label_within}
-use Rattle.seat_audience.specs.declared.live.Live.{Live}
-use Rattle.seat_audience.specs.Changes.{own_calls, IsChanged}
+use Rattle.broker_audience.specs.declared.live.Live.{Live}
+use Rattle.broker_audience.specs.Changes.{own_calls, IsChanged}
 use Rattle.broker_core.proofs.MessageCalls.{calls_own}
 use Rattle.broker_core.proofs.TableAfterAct.{IsNotFrom, calls_other}
 use Rattle.broker_core.proofs.ActTextsFit.{act_fits}

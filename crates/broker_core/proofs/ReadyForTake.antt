@@ -11,14 +11,14 @@ use Rattle.out_store.specs.Queue.{Cell, Queue, queue, bytes_of}
 use Rattle.relay_model.specs.declared.act.Act.{Act}
 use Rattle.relay_model.specs.declared.act.Act.TheVariants as acts
 use Rattle.relay_model.specs.Objects.{is_peer}
-use Rattle.seat_objects.specs.Fits.{FitsMessage}
+use Rattle.relay_objects.specs.Fits.{FitsMessage}
 use Rattle.relay_core.specs.Kept.{IsReserved}
 use Rattle.relay_core.specs.Stands as relay
 use Rattle.broker_model.specs.declared.journal.Entry.{Entry}
 use Rattle.broker_model.specs.declared.journal.Entry.TheVariants as entries
 use Rattle.broker_model.specs.Ids.{Joined, log_of, peer_at}
-use Rattle.living_labels.specs.Enough.{made_at}
-use Rattle.living_labels.specs.Kept.{kept_of}
+use Rattle.broker_model.specs.Enough.{made_at}
+use Rattle.broker_model.specs.Kept.{kept_of}
 use Rattle.broker_model.specs.Resolve.{of_peer, only, past_of, resolve}
 use Rattle.broker_model.specs.Out.{Outgoing, act_at, stored, is_label, took_at, out_for}
 use Rattle.broker_model.specs.Stored.{cells_out}
@@ -26,10 +26,10 @@ use Rattle.broker_model.specs.Limits.{number_counted}
 use Rattle.broker_model.proofs.LabelsRiseByNumber.{label_within}
 use Rattle.broker_model.proofs.StoresAreOut.{length_out, take_cells}
 use Rattle.broker_model.proofs.TakenCells.{bytes_out}
-use Rattle.seat_audience.specs.declared.live.Live.{Live}
+use Rattle.broker_audience.specs.declared.live.Live.{Live}
 use Rattle.broker_core.specs.declared.state.State.{State}
-use Rattle.ended_peers.specs.Ends.{Ended}
-use Rattle.seat_audience.specs.Lives.{number_of, who, AreAbove}
+use Rattle.broker_model.specs.Ends.{Ended}
+use Rattle.broker_audience.specs.Lives.{number_of, who, AreAbove}
 use Rattle.broker_core.specs.Stands.{Holds, IsKept, Stands, AreLeft, IsLive, IsReady, IsLeft, CanTake, Ready, IsReadyFor, store_of}
 use Rattle.broker_core.proofs.TableAfterAct.{calls_other}
 use Rattle.broker_core.proofs.DeadPeersToldNothing.{quiet}

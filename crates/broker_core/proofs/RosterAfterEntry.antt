@@ -17,8 +17,8 @@ use Rattle.broker_model.specs.Resolve.{past_of}
 use Rattle.broker_model.specs.Limits.{is_end}
 use Rattle.broker_model.specs.Settle.{number_alive}
 use Rattle.broker_model.proofs.LabelsRiseByNumber.{label_within, one_number}
-use Rattle.seat_audience.specs.declared.live.Live.{Live}
-use Rattle.seat_audience.specs.Lives.{Numbered, who, is_number, number_of, AreAbove, AreRising}
+use Rattle.broker_audience.specs.declared.live.Live.{Live}
+use Rattle.broker_audience.specs.Lives.{Numbered, who, is_number, number_of, AreAbove, AreRising}
 use Rattle.broker_core.specs.Stands.{numbered, is_alive, roster}
 use Rattle.broker_model.proofs.EachElement.{all_then, all_of_map, all_filtered, filter_same, filter_twice, map_filter}
 use Rattle.broker_core.proofs.OnlyEndsTakePeers.{peer_kept, peer_new, peer_ended}

@@ -15,22 +15,22 @@ use Rattle.broker_model.specs.Waiting.{takes_token}
 use Rattle.broker_model.proofs.IdsAreNames.{IsFound, found}
 use Rattle.broker_model.proofs.MadeObjectsStand.{sound}
 use Rattle.broker_model.proofs.FewTokensWait.{few_wait}
-use Rattle.seat_wire.specs.Meant.{IsTableOf, meant}
-use Rattle.seat_wire.proofs.TableIsJournals.{table_of}
-use Rattle.seat_audience.specs.declared.live.Live.{Live}
+use Rattle.broker_wire.specs.Meant.{IsTableOf, meant}
+use Rattle.broker_wire.proofs.TableIsJournals.{table_of}
+use Rattle.broker_audience.specs.declared.live.Live.{Live}
 use Rattle.broker_core.specs.declared.state.State.{State}
-use Rattle.seat_audience.specs.Lives.{number_of, is_number}
+use Rattle.broker_audience.specs.Lives.{number_of, is_number}
 use Rattle.broker_core.specs.Stands.{Stands, IsLive}
 use Rattle.broker_model.proofs.OwnersLive.{owner_lives}
 use Rattle.broker_core.proofs.ReadyForEnd.{of_number}
 use Rattle.broker_core.proofs.RosterAfterEntry.{at_number, is_there, each_alive}
 use Rattle.std.specs.List.{slice_get, AllByRecursion}
 use Rattle.std.proofs.lemmas.Option.{same_Some, slice_get_read}
-use Rattle.seat_audience.proofs.PlaceByNumber.{nobody_found}
+use Rattle.broker_audience.proofs.PlaceByNumber.{nobody_found}
 use Rattle.std.proofs.lemmas.Result.{IfOk-weaker}
 use Rattle.wio_core.specs.declared.NoMemory.{NoMemory}
 use Rattle.relay_core.specs.Stands as relay
-use Rattle.seat_wire.specs.declared.meaning.Meaning as declared
+use Rattle.broker_wire.specs.declared.meaning.Meaning as declared
 use Rattle.broker_model.specs.declared.journal.Entry.TheVariants as entries
 
 -- an id of who is no live peer names nothing

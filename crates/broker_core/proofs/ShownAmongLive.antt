@@ -23,7 +23,7 @@ use Rattle.broker_model.proofs.EachElement.{either_way, each_of, each_append, ea
 use Rattle.relay_model.specs.Idle.{is_live, cleaned, history}
 use Rattle.broker_model.specs.Ids.{Made, made_as}
 use Rattle.broker_model.specs.Groups.{id_of}
-use Rattle.seat_audience.specs.Lives.{Numbered}
+use Rattle.broker_audience.specs.Lives.{Numbered}
 use Rattle.broker_core.specs.Watched.{Watched, shown, shown_by}
 use Rattle.broker_core.specs.Watched.Watched.{Placed}
 use Rattle.broker_core.proofs.PopupNumbers.{IsNumberKept}

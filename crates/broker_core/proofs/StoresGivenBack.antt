@@ -2,7 +2,7 @@
 use Rattle.std.proofs.Common.{◌≡◌, ℕ, List, [], ◌∷◌, drop, Option, Some, None, IfSome, ap, refl, sym, subst, ◌∙◌}
 use Rattle.std.proofs.Math.Seq.{drop-nil}
 use Rattle.out_store.specs.Queue.{Cell, Queue, queue}
-use Rattle.ended_peers.specs.Ends.{cells_in, unless_empty, kept, rest_of}
+use Rattle.broker_model.specs.Ends.{cells_in, unless_empty, kept, rest_of}
 use Rattle.broker_core.specs.Stands.{store_of}
 
 -- an empty one in its place has the same cells

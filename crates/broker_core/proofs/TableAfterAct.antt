@@ -16,8 +16,8 @@ use Rattle.relay_model.specs.declared.role.Role.{Role}
 use Rattle.relay_model.specs.Objects.{alive, owner, made, maker, object, is_peer}
 use Rattle.relay_model.specs.Idle.{is_live, cleaned}
 use Rattle.relay_model.proofs.ObjectLaws.{object_new}
-use Rattle.seat_steps.specs.declared.step.ShellStep.{ShellStep}
-use Rattle.seat_steps.specs.declared.step.ShellStep.TheVariants as shell
+use Rattle.broker_steps.specs.declared.step.ShellStep.{ShellStep}
+use Rattle.broker_steps.specs.declared.step.ShellStep.TheVariants as shell
 use Rattle.broker_model.specs.declared.journal.Entry.{Entry}
 use Rattle.broker_model.specs.declared.journal.Entry.TheVariants as entries
 use Rattle.broker_model.specs.Ids.{Made, Joined, Past, log_of, peer_at, object_at, made_as}
@@ -33,7 +33,7 @@ use Rattle.broker_model.proofs.MadeObjectsStand.{sound}
 use Rattle.broker_model.proofs.TablesNameObjects.{none_called}
 use Rattle.broker_core.proofs.OwnObjectDropped.{DropsOnly, drops_only}
 use Rattle.wl_proto.specs.declared.interface.Interface.{Interface}
-use Rattle.seat_audience.specs.Changes.{own_calls}
+use Rattle.broker_audience.specs.Changes.{own_calls}
 use Rattle.broker_core.proofs.LiveObjectKinds.{AreFit}
 
 -- a peer that joins

@@ -29,8 +29,8 @@ use Rattle.relay_model.specs.Popups.{cursor, ready_surface, told_where, popup_to
 use Rattle.relay_model.specs.Globals.{offered, global_told}
 use Rattle.relay_model.specs.Idle.{is_live, cleaned, history}
 use Rattle.relay_model.specs.Told.{to, leave, enter, each_entered, leaves, around_said, state_said, holders_state, notice_said, to_method, enters_new, enters, to_holder, deleted, key_told, keymap_said, repeat_said, mods_said, keyboard_said, to_grab, own, told_by, told, board_mods_told}
-use Rattle.seat_objects.specs.Fits.{FitsMessage}
-use Rattle.seat_audience.specs.Tells.{IsShort}
+use Rattle.relay_objects.specs.Fits.{FitsMessage}
+use Rattle.broker_audience.specs.Tells.{IsShort}
 use Rattle.broker_model.proofs.EachElement.{either_way, each_of, each_weaker, each_append, each_map, each_flat}
 
 -- a text of an event has at most 4,083 bytes, or 4,075 beside two numbers

@@ -10,12 +10,12 @@ use Rattle.broker_model.specs.Ids.{Joined, log_of, peer_at}
 use Rattle.broker_model.specs.Resolve.{past_of, of_peer, only}
 use Rattle.broker_model.specs.Out.{Outgoing, out_for, act_at, stored, tokens_taken}
 use Rattle.broker_model.specs.Stored.{cells_out}
-use Rattle.seat_audience.specs.declared.live.Live.{Live}
+use Rattle.broker_audience.specs.declared.live.Live.{Live}
 use Rattle.relay_model.specs.declared.act.EndCause.{EndCause}
 use Rattle.relay_model.specs.Objects.{is_peer}
-use Rattle.ended_peers.specs.Ends.{Ended, ended_in, ended_with, cells_left, after_take, rest_of}
+use Rattle.broker_model.specs.Ends.{Ended, ended_in, ended_with, cells_left, after_take, rest_of}
 use Rattle.broker_core.specs.declared.state.State.{State}
-use Rattle.seat_audience.specs.Lives.{number_of, who}
+use Rattle.broker_audience.specs.Lives.{number_of, who}
 use Rattle.broker_core.specs.Stands.{Stands, IsLeft, store_of, CanTake, IsReadyFor}
 use Rattle.broker_core.specs.Taking.{out_at, IsTaken}
 use Rattle.broker_core.proofs.StoresGivenBack.{cells_of_store, rest_holds, rest_filled}

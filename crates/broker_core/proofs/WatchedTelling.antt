@@ -3,14 +3,14 @@
 use Rattle.std.proofs.Common.{◌≡◌, ℕ, List, [], ◌∷◌, map, refl, ap, subst, ◌∙◌}
 use Rattle.std.specs.List.{AllByRecursion}
 use Rattle.relay_model.specs.declared.said.Told.{Told}
-use Rattle.seat_objects.specs.Reached.{Reached}
-use Rattle.seat_objects.proofs.TellsAppend.{reached_append}
+use Rattle.relay_objects.specs.Reached.{Reached}
+use Rattle.relay_objects.proofs.TellsAppend.{reached_append}
 use Rattle.broker_model.specs.Ids.{Made}
-use Rattle.seat_audience.specs.declared.audience.Audience.{Audience}
-use Rattle.seat_audience.specs.declared.live.Live.{Live}
-use Rattle.seat_audience.specs.Directed.{Directed}
-use Rattle.seat_audience.specs.Lives.{Numbered, who, listens}
-use Rattle.seat_audience.specs.Tells.{IsShort, Tells}
+use Rattle.broker_audience.specs.declared.audience.Audience.{Audience}
+use Rattle.broker_audience.specs.declared.live.Live.{Live}
+use Rattle.broker_audience.specs.Directed.{Directed}
+use Rattle.broker_audience.specs.Lives.{Numbered, who, listens}
+use Rattle.broker_audience.specs.Tells.{IsShort, Tells}
 use Rattle.broker_core.specs.declared.watch.Telling.{Telling}
 use Rattle.broker_core.specs.Watched.{Watched, shown, shown_by}
 use Rattle.broker_core.specs.Telling.{IsTelling}

@@ -7,11 +7,11 @@ use Rattle.relay_model.specs.Objects.{is_peer}
 use Rattle.broker_model.specs.declared.journal.Entry.{Entry}
 use Rattle.broker_model.specs.Ids.{Joined, log_of, peer_at}
 use Rattle.broker_model.specs.Resolve.{past_of}
-use Rattle.seat_audience.specs.declared.live.Live.{Live}
-use Rattle.ended_peers.specs.Ends.{Ended}
+use Rattle.broker_audience.specs.declared.live.Live.{Live}
+use Rattle.broker_model.specs.Ends.{Ended}
 use Rattle.broker_core.specs.declared.state.State.{State}
 use Rattle.broker_core.specs.declared.taking.Standing.TheVariants.{Alive}
-use Rattle.seat_audience.specs.Lives.{number_of}
+use Rattle.broker_audience.specs.Lives.{number_of}
 use Rattle.broker_core.specs.Stands.{Stands, IsLeft, end_of}
 use Rattle.broker_core.specs.Taking.{by_end, standing_in, standing_of, lives_in, lives}
 use Rattle.broker_core.proofs.RosterAfterEntry.{is_there}

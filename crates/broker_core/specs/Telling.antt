@@ -1,9 +1,9 @@
 -- What one thing told makes of an audience and of who watches beside it.
 use Rattle.std.specs.Prelude.{◌≡◌, map}
 use Rattle.relay_model.specs.declared.said.Told.{Told}
-use Rattle.seat_objects.specs.Reached.{Reached}
-use Rattle.seat_audience.specs.Lives.{who}
-use Rattle.seat_audience.specs.Tells.{IsShort, Tells}
+use Rattle.relay_objects.specs.Reached.{Reached}
+use Rattle.broker_audience.specs.Lives.{who}
+use Rattle.broker_audience.specs.Tells.{IsShort, Tells}
 use Rattle.broker_core.specs.declared.watch.Telling.{Telling}
 use Rattle.broker_core.specs.Watched.{Watched, shown}
 

@@ -13,8 +13,8 @@ use Rattle.broker_model.specs.Ids.{Made, made_as}
 use Rattle.broker_model.specs.Resolve.{past_of, resolve}
 use Rattle.broker_model.specs.Groups.{Piece, pair_of, id_of}
 use Rattle.broker_model.specs.Out.{act_at, group_at, fits, before_group, out_for}
-use Rattle.seat_audience.specs.declared.live.Live.{Live}
-use Rattle.seat_audience.specs.Lives.{Numbered, who, cleared, has_heard, has_room}
+use Rattle.broker_audience.specs.declared.live.Live.{Live}
+use Rattle.broker_audience.specs.Lives.{Numbered, who, cleared, has_heard, has_room}
 use Rattle.broker_core.specs.Stands.{numbered}
 
 -- one thing that is watched, with the number of its entry

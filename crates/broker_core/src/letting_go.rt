@@ -1,7 +1,7 @@
 //! The oldest entries of the journal are let go, with their stamps.
 use crate::shared::Shared;
 use broker_model::Entry;
-use seat_steps::Stamp;
+use broker_steps::Stamp;
 
 /// An entry that was let go, as it was handed out.
 #[derive(Drop)]

@@ -11,24 +11,23 @@ ghost use Rattle.broker_model.specs.declared.journal.Entry.TheVariants as entrie
 ghost use Rattle.broker_model.specs.Recorded.{entry_at};
 ghost use Rattle.broker_model.specs.Settle.{settle};
 ghost use Rattle.broker_model.specs.Stamps.{stamp_of, stamps};
-ghost use Rattle.seat_steps.specs.declared.stamp.Stamp.{Stamp};
+ghost use Rattle.broker_steps.specs.declared.stamp.Stamp.{Stamp};
 ghost use Rattle.broker_model.specs.Resolve.{past_of, resolve};
 ghost use Rattle.broker_model.specs.Out.{act_at};
-ghost use Rattle.seat_audience.specs.Lives.{told_all, number_of};
+ghost use Rattle.broker_audience.specs.Lives.{told_all, number_of};
 ghost use Rattle.broker_core.specs.Stands.{Stands, IsReadyFor};
 ghost use Rattle.broker_core.specs.Broker.{gone};
-ghost use Rattle.seat_objects.specs.Reached.{Reached};
-ghost use Rattle.seat_audience.specs.Tells.{IsShort};
+ghost use Rattle.relay_objects.specs.Reached.{Reached};
+ghost use Rattle.broker_audience.specs.Tells.{IsShort};
 ghost use Rattle.broker_core.specs.Watched.{told_live, watched, watched_since};
 
 use crate::letting_go::LetGo;
 use crate::watch::{Watch, show_groups, speak};
-use broker_model::{Entry, Journal, StampList};
-use ended_peers::EndedPeers;
+use broker_audience::{Audience, Directory, Listeners};
+use broker_model::{EndedPeers, Entry, Journal, StampList};
+use broker_steps::Stamp;
 use relay_core::{Relay, Route};
 use relay_model::{Act, EndCause, Label};
-use seat_audience::{Audience, Directory, Listeners};
-use seat_steps::Stamp;
 use std::alloc::Global;
 use wio_core::NoMemory;
 

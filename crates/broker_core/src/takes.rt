@@ -4,7 +4,7 @@ use crate::limits::ENTRY_WEIGHT;
 use crate::shared::Shared;
 use crate::taking::Standing;
 use crate::watch::Watch;
-use seat_steps::Stamp;
+use broker_steps::Stamp;
 
 impl Shared {
     ghost use Rattle.std.specs.Prelude.{◌≡◌, ◌≤◌, ◌∷◌, length, IfSome, IfNone};

@@ -8,18 +8,18 @@ ghost use Rattle.broker_model.specs.declared.journal.Entry.TheVariants as entrie
 ghost use Rattle.broker_model.specs.Out.{stored};
 ghost use Rattle.broker_model.specs.Stamps.{stamp_of};
 ghost use Rattle.broker_core.specs.declared.taking.Standing.TheVariants.{Alive};
-ghost use Rattle.seat_audience.specs.Lives.{number_of};
+ghost use Rattle.broker_audience.specs.Lives.{number_of};
 ghost use Rattle.broker_core.specs.Stands.{Stands, CanTake, store_of};
 ghost use Rattle.broker_core.specs.Broker.{gone};
-ghost use Rattle.seat_objects.specs.Reached.{Reached};
+ghost use Rattle.relay_objects.specs.Reached.{Reached};
 ghost use Rattle.broker_core.specs.Watched.{watched};
 ghost use Rattle.broker_core.specs.Taking.{out_at, IsTaken, standing_of};
 
 use crate::state::State;
 use crate::watch::Watch;
 use broker_model::Entry;
+use broker_steps::Stamp;
 use relay_model::{Act, EndCause};
-use seat_steps::Stamp;
 use wio_core::NoMemory;
 
 /// Whether a peer is there.

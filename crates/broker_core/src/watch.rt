@@ -3,18 +3,18 @@ ghost use Rattle.std.specs.Prelude.{◌≡◌, ◌<◌, ◌∷◌, List, map};
 ghost use Rattle.std.specs.List.{AllByRecursion, flat_map};
 ghost use Rattle.relay_model.specs.declared.act.Act.{Act};
 ghost use Rattle.relay_model.specs.Told.{told};
-ghost use Rattle.seat_objects.specs.Reached.{Reached};
+ghost use Rattle.relay_objects.specs.Reached.{Reached};
 ghost use Rattle.relay_core.specs.Kept.{IsReserved};
 ghost use Rattle.relay_core.specs.Stands.{StandsFor, route_told};
-ghost use Rattle.seat_audience.specs.Tells.{IsShort, Tells};
-ghost use Rattle.seat_audience.specs.Lives.{who, has_room};
+ghost use Rattle.broker_audience.specs.Tells.{IsShort, Tells};
+ghost use Rattle.broker_audience.specs.Lives.{who, has_room};
 ghost use Rattle.broker_core.specs.Watched.{Watched, number_at, shown, shown_by, gathered_put};
 ghost use Rattle.broker_core.specs.Watched.Watched.{Entered, Placed, Passed, Modified, Put};
 
+use broker_audience::{Audience, Listeners, Live};
 use broker_model::Entry;
 use relay_core::{Post, Relay, Route};
 use relay_model::{Act, Label, Mods, Said, Told};
-use seat_audience::{Audience, Listeners, Live};
 
 /// Watches a journal: is told of each entry, by its number from 1, what it makes.
 ///

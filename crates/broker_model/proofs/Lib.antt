@@ -20,3 +20,11 @@ pub mod TakenCells
 pub mod StampsAgain
 pub mod FewTokensWait
 pub mod BoardsMaySay
+pub mod PlainEvents
+pub mod ToldAreLiving
+pub mod EntriesTold
+pub mod EnoughIsTold
+pub mod LivingAreEnough
+pub mod KeptIsEnough
+pub mod StoresLeft
+pub mod PeersLeft

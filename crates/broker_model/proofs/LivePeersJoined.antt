@@ -16,8 +16,8 @@ use Rattle.relay_model.specs.declared.role.Role.{Role}
 use Rattle.relay_model.specs.Objects.{Object, is_peer_kind, is_kind, owner, made_for, PopupKind, GrabKind, Kind, made, maker, remains, object, is_peer}
 use Rattle.relay_model.specs.Idle.{is_live, cleaned}
 use Rattle.relay_model.proofs.ActsOrIdle.{length_history}
-use Rattle.seat_steps.specs.declared.step.ShellStep.{ShellStep}
-use Rattle.seat_steps.specs.declared.step.ShellStep.TheVariants as shell
+use Rattle.broker_steps.specs.declared.step.ShellStep.{ShellStep}
+use Rattle.broker_steps.specs.declared.step.ShellStep.TheVariants as shell
 use Rattle.broker_model.specs.declared.journal.Entry.{Entry}
 use Rattle.broker_model.specs.declared.journal.Entry.TheVariants as entries
 use Rattle.broker_model.specs.Ids.{Made, Joined, Past, log_of, peer_in, peer_at, object_at}

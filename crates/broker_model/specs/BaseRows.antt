@@ -8,7 +8,7 @@ use Rattle.relay_model.specs.declared.role.Role.TheVariants as roles
 use Rattle.relay_model.specs.declared.said.Said.TheVariants as said
 use Rattle.relay_model.specs.Batch.{relayed}
 use Rattle.relay_model.specs.Told.{told}
-use Rattle.seat_steps.specs.declared.step.ShellStep.TheVariants as shell
+use Rattle.broker_steps.specs.declared.step.ShellStep.TheVariants as shell
 use Rattle.broker_model.specs.declared.journal.Entry.{Entry}
 use Rattle.broker_model.specs.declared.journal.Entry.TheVariants.{Join, End, Shell, Took}
 use Rattle.broker_model.specs.Ids.{log_of}

@@ -11,7 +11,7 @@ use Rattle.relay_model.specs.Boards.{sends}
 use Rattle.relay_model.specs.Batch.{group_of, relayed}
 use Rattle.relay_model.specs.Idle as idle
 use Rattle.relay_model.specs.Told.{told}
-use Rattle.seat_steps.specs.declared.stamp.Stamp.{Stamp}
+use Rattle.broker_steps.specs.declared.stamp.Stamp.{Stamp}
 use Rattle.broker_model.specs.declared.journal.Entry.{Entry}
 use Rattle.broker_model.specs.declared.journal.Entry.TheVariants.{End}
 use Rattle.broker_model.specs.Ids.{Made, Joined, log_of, peer_at, made_as}

@@ -17,3 +17,7 @@ pub mod BaseRows
 pub mod TokenRows
 pub mod BoardRows
 pub mod Stored
+pub mod Living
+pub mod Enough
+pub mod Kept
+pub mod Ends

@@ -1,6 +1,6 @@
 -- A journal as contracts see it.
 use Rattle.std.specs.Prelude.{ℕ, List, Option}
-use Rattle.long_list.specs.Long.{item_at}
+use Rattle.out_store.specs.Long.{item_at}
 use Rattle.broker_model.specs.declared.journal.Entry.{Entry}
 
 -- all entries, the newest first; how many of the oldest were let go; and how many more may be put

@@ -6,7 +6,7 @@ use Rattle.relay_model.specs.declared.act.Act.TheVariants as acts
 use Rattle.relay_model.specs.declared.act.EndCause.TheVariants as causes
 use Rattle.relay_model.specs.declared.fault.Fault.TheVariants as faults
 use Rattle.relay_model.specs.declared.role.Role.TheVariants as roles
-use Rattle.seat_steps.specs.declared.step.ShellStep.TheVariants as shell
+use Rattle.broker_steps.specs.declared.step.ShellStep.TheVariants as shell
 use Rattle.broker_model.specs.declared.journal.Entry.{Entry}
 use Rattle.broker_model.specs.declared.journal.Entry.TheVariants.{Join, Message, BadSize, End, Shell}
 use Rattle.broker_model.specs.Resolve.{resolve}

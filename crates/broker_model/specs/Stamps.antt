@@ -2,8 +2,8 @@
 -- reads a stamp.
 use Rattle.std.specs.Prelude.{ℕ, List, [], ◌∷◌, drop, max, Bool, true, false, if◌then◌else◌}
 use Rattle.relay_model.specs.declared.act.EndCause.TheVariants.{Bad, Full}
-use Rattle.seat_steps.specs.declared.stamp.Stamp.{Stamp}
-use Rattle.seat_steps.specs.declared.step.ShellStep.TheVariants as shell
+use Rattle.broker_steps.specs.declared.stamp.Stamp.{Stamp}
+use Rattle.broker_steps.specs.declared.step.ShellStep.TheVariants as shell
 use Rattle.broker_model.specs.declared.journal.Entry.{Entry}
 use Rattle.broker_model.specs.declared.journal.Entry.TheVariants as entries
 

@@ -5,9 +5,9 @@ use Rattle.wl_proto.specs.Grammar.{token}
 use Rattle.wl_proto.specs.Reading.{values_at}
 use Rattle.relay_model.specs.declared.act.Act.TheVariants as acts
 use Rattle.relay_model.specs.declared.role.Role.TheVariants as roles
-use Rattle.seat_steps.specs.declared.limits.Limits.{Limits}
-use Rattle.seat_steps.specs.declared.stamp.Stamp.{Stamp}
-use Rattle.seat_steps.specs.declared.step.ShellStep.TheVariants as shell
+use Rattle.broker_steps.specs.declared.limits.Limits.{Limits}
+use Rattle.broker_steps.specs.declared.stamp.Stamp.{Stamp}
+use Rattle.broker_steps.specs.declared.step.ShellStep.TheVariants as shell
 use Rattle.broker_model.specs.declared.journal.Entry.{Entry}
 use Rattle.broker_model.specs.declared.journal.Entry.TheVariants.{Join, Tokens, Shell}
 use Rattle.broker_model.specs.Resolve.{past_of, resolve}

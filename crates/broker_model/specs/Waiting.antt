@@ -6,7 +6,7 @@ use Rattle.wl_proto.specs.declared.interface.Interface.TheVariants as interface
 use Rattle.wl_proto.specs.declared.table.Kind.{Kind}
 use Rattle.wl_proto.specs.declared.table.Kind.TheVariants.{Descriptor}
 use Rattle.wl_proto.specs.Rows.{request_kinds}
-use Rattle.seat_steps.specs.Ranges.{token_limit}
+use Rattle.broker_steps.specs.Ranges.{token_limit}
 use Rattle.broker_model.specs.declared.journal.Entry.{Entry}
 use Rattle.broker_model.specs.declared.journal.Entry.TheVariants as entries
 use Rattle.broker_model.specs.Ids.{Made, Joined, Past, peer_at, object_at}

@@ -1,7 +1,7 @@
 //! What happened, step by step.
-use long_list::{LongList, OwnCopy};
+use broker_steps::{Limits, ShellStep, TokenList};
+use out_store::{LongList, OwnCopy};
 use relay_model::{EndCause, Role};
-use seat_steps::{Limits, ShellStep, TokenList};
 use std::alloc::Global;
 use std::marker::Model;
 use wio_core::NoMemory;
@@ -155,7 +155,7 @@ impl Journal {
     ghost use Rattle.std.specs.Prelude.{◌≡◌, ◌+◌, ◌<◌, ◌≤◌, ◌↔◌, [], ◌∷◌, length, min, max, false};
     ghost use Rattle.std.specs.Prelude.{IfOk, OnOk, IsSome};
     ghost use Rattle.std.specs.Option.{option_copied};
-    ghost use Rattle.long_list.specs.Long.{kept_at};
+    ghost use Rattle.out_store.specs.Long.{kept_at};
     ghost use Rattle.broker_model.specs.Recorded.{entry_at};
     ghost use Rattle.broker_model.specs.Limits.{is_end, number_counted, weight_of, weight, is_full};
     ghost use Rattle.broker_model.specs.Limits.{ends_in_end};

@@ -1,8 +1,8 @@
 //! When each entry of a journal came, and through which link.
 use crate::journal::Entry;
-use long_list::LongList;
+use broker_steps::{ShellStep, Stamp};
+use out_store::LongList;
 use relay_model::EndCause;
-use seat_steps::{ShellStep, Stamp};
 use std::alloc::Global;
 use std::marker::Model;
 use wio_core::NoMemory;
@@ -70,7 +70,7 @@ impl StampList {
     ghost use Rattle.std.specs.Prelude.{◌≡◌, ◌+◌, ◌<◌, ◌≤◌, ◌↔◌, [], ◌∷◌, length, min, max};
     ghost use Rattle.std.specs.Prelude.{IfOk, OnOk, IsSome};
     ghost use Rattle.std.specs.Option.{option_copied};
-    ghost use Rattle.long_list.specs.Long.{kept_at};
+    ghost use Rattle.out_store.specs.Long.{kept_at};
     ghost use Rattle.broker_model.specs.Recorded.{entry_at};
     ghost use Rattle.broker_model.specs.Stamps.{latest, stamp_of};
 

@@ -1,6 +1,6 @@
 -- What the calls of who records tell of its pass
 use Rattle.std.proofs.Common.{◌≡◌, List, ◌∷◌, ◌++◌, length, Option, Some, None, refl, sym, subst, arith}
-use Rattle.seat_steps.specs.declared.limits.Limits.{Limits}
+use Rattle.broker_steps.specs.declared.limits.Limits.{Limits}
 use Rattle.broker_core.specs.declared.letting_go.LetGo.{LetGo}
 use Rattle.turn_lock.specs.Pairs.{NoneOf}
 use Rattle.hub_lock.specs.Histories.{History, broker_of}

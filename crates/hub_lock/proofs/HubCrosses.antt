@@ -4,7 +4,7 @@ use Rattle.std.proofs.Crossing.{crosses}
 use Rattle.turn_lock.proofs.turn.Turn.TheSendSync as turn
 use Rattle.turn_lock.proofs.seat.Seat.TheSendSync as seat
 use Rattle.broker_model.proofs.journal.Entry.TheSendSync as entry
-use Rattle.seat_steps.proofs.stamp.Stamp.TheSendSync as stamp
+use Rattle.broker_steps.proofs.stamp.Stamp.TheSendSync as stamp
 use Rattle.hub_lock.specs.contracts.hub.Hub as Hub
 use Rattle.hub_lock.specs.contracts.pass.HubPass as HubPass
 use Rattle.hub_lock.specs.contracts.pass.Member as Member

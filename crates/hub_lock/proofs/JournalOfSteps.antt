@@ -4,7 +4,7 @@ use Rattle.std.specs.List.{sum_by}
 use Rattle.std.proofs.lemmas.List.{map-append, reverse-append}
 use Rattle.std.proofs.lemmas.List.Sums.{sum_by-cons, sum_by-append}
 use Rattle.relay_model.specs.declared.act.EndCause.TheVariants.{Gone, Bad, Full}
-use Rattle.seat_steps.specs.declared.limits.Limits.{Limits}
+use Rattle.broker_steps.specs.declared.limits.Limits.{Limits}
 use Rattle.broker_model.specs.declared.journal.Entry.{Entry}
 use Rattle.broker_model.specs.declared.journal.Entry.TheVariants as entries
 use Rattle.broker_model.specs.Limits.{is_counted, number_counted}

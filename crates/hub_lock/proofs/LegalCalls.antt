@@ -2,10 +2,10 @@
 use Rattle.std.proofs.Common.{◌≡◌, ◌≢◌, ℕ, ◌+◌, List, [], ◌∷◌, ◌++◌, length, Option, Some, None, Result, Ok, Err, IfSome, IfNone, refl, ap, sym, subst, ◌∙◌, ⊎_elim, arith, append_assoc}
 use Rattle.std.specs.Prelude.{zero, suc, Bool, true, false, ◌==◌, option_map, if◌then◌else◌, IsOkUnless}
 use Rattle.relay_model.specs.declared.act.EndCause.{EndCause}
-use Rattle.seat_steps.specs.declared.limits.Limits.{Limits}
-use Rattle.seat_steps.specs.declared.step.Step.TheVariants as steps
-use Rattle.seat_steps.specs.declared.step.PeerStep.{PeerStep}
-use Rattle.seat_steps.specs.declared.step.PeerStep.TheVariants as peers
+use Rattle.broker_steps.specs.declared.limits.Limits.{Limits}
+use Rattle.broker_steps.specs.declared.step.Step.TheVariants as steps
+use Rattle.broker_steps.specs.declared.step.PeerStep.{PeerStep}
+use Rattle.broker_steps.specs.declared.step.PeerStep.TheVariants as peers
 use Rattle.broker_model.specs.declared.journal.Entry.TheVariants as entries
 use Rattle.broker_model.specs.declared.journal.Kept.{Kept}
 use Rattle.broker_model.specs.Ids.{Joined, peer_in, peer_at}

@@ -27,3 +27,4 @@ pub mod EntriesHandedOut
 pub mod TakersRung
 pub mod SharedCrosses
 pub mod HubCrosses
+pub mod BellsRung

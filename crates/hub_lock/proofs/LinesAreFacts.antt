@@ -1,8 +1,8 @@
 -- That an entry has what its line needs is a fact: it has one proof at most
 use Rattle.std.proofs.Props.{props}
-use Rattle.seat_steps.specs.declared.step.ShellStep.{ShellStep}
-use Rattle.seat_steps.specs.declared.step.ShellStep.TheVariants as shells
-use Rattle.seat_steps.specs.Ranges.{IsShellStep}
+use Rattle.broker_steps.specs.declared.step.ShellStep.{ShellStep}
+use Rattle.broker_steps.specs.declared.step.ShellStep.TheVariants as shells
+use Rattle.broker_steps.specs.Ranges.{IsShellStep}
 use Rattle.broker_model.specs.declared.journal.Entry.{Entry}
 use Rattle.broker_model.specs.declared.journal.Entry.TheVariants as entries
 use Rattle.hub_lock.specs.Steps.{FitsLine}

@@ -1,7 +1,7 @@
 -- What the root counts once it took a pass back
 use Rattle.std.proofs.Common.{◌≡◌, ℕ, ◌+◌, ◌≤◌, ◌∷◌, length, Bool, true, false, max, Some, refl, ap, sym, subst, ◌∙◌, ◌⊎◌, inl, inr, ⊎_elim, arith}
 use Rattle.std.specs.Prelude.{nat_lt, if◌then◌else◌}
-use Rattle.seat_steps.specs.declared.limits.Limits.{Limits}
+use Rattle.broker_steps.specs.declared.limits.Limits.{Limits}
 use Rattle.turn_lock.specs.Pairs.{own, HasSeen, longer, total}
 use Rattle.turn_lock.proofs.PairsOfNumbers.{own-seen}
 use Rattle.turn_lock.proofs.OwnPairsAfterCalls.{total-meeting}

@@ -1,7 +1,7 @@
 -- Who records is a pass that was made from the root, so as long as none was made, nobody does
 use Rattle.std.proofs.Common.{◌≡◌, ℕ, ◌≤◌, ◌++◌, Option, Some, None, refl, ap, sym, subst, ◌∙◌, arith}
 use Rattle.std.specs.Prelude.{option_map}
-use Rattle.seat_steps.specs.declared.limits.Limits.{Limits}
+use Rattle.broker_steps.specs.declared.limits.Limits.{Limits}
 use Rattle.turn_lock.specs.Pairs.{NoneOf, HasSeen}
 use Rattle.turn_lock.specs.Sights.{IsLegal, after_split, having_seen}
 use Rattle.broker_core.specs.Broker.{Broker}

@@ -1,16 +1,16 @@
 -- A play of a call keeps to the rule
 use Rattle.std.proofs.Common.{◌≡◌, ℕ, length, ap, sym, subst, ◌∙◌}
-use Rattle.seat_steps.specs.declared.limits.Limits.{Limits}
+use Rattle.broker_steps.specs.declared.limits.Limits.{Limits}
 use Rattle.broker_core.specs.Broker.{Broker, IsWatched}
 use Rattle.broker_core.specs.Watched.{watched_since}
 use Rattle.hub_lock.specs.declared.call.Answer.{Answer}
 use Rattle.hub_lock.specs.declared.call.Call.{Call}
-use Rattle.peer_bells.specs.declared.rings.Rings.{Rings}
+use Rattle.hub_lock.specs.declared.rings.Rings.{Rings}
 use Rattle.hub_lock.specs.Histories.{broker_of}
 use Rattle.hub_lock.specs.Lawful.{Held, IsShared, IsLawful, IsKept, history_of, with_all}
-use Rattle.peer_bells.specs.Bells.{AreRung, IsRungBy}
+use Rattle.hub_lock.specs.Bells.{AreRung, IsRungBy}
 use Rattle.hub_lock.specs.Plays.{MayAsk, Answers, Plays}
-use Rattle.peer_bells.proofs.BellsRung.{all-rung}
+use Rattle.hub_lock.proofs.BellsRung.{all-rung}
 use Rattle.hub_lock.proofs.KeptAfterStep.{lawful}
 
 -- what is behind the lock is a shared state that keeps what it keeps

@@ -3,7 +3,7 @@ use Rattle.std.proofs.Common.{◌≡◌, ℕ, zero, suc, ◌+◌, ◌<◌, ◌�
 use Rattle.std.specs.Prelude.{if◌then◌else◌, option_map}
 use Rattle.std.specs.List.{slice_get}
 use Rattle.relay_model.specs.declared.act.EndCause.TheVariants.{Gone, Bad, Full}
-use Rattle.seat_steps.specs.declared.stamp.Stamp.{Stamp}
+use Rattle.broker_steps.specs.declared.stamp.Stamp.{Stamp}
 use Rattle.broker_model.specs.declared.journal.Entry.{Entry}
 use Rattle.broker_model.specs.declared.journal.Entry.TheVariants as entries
 use Rattle.broker_model.specs.Resolve.{past_of}

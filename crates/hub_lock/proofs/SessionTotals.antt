@@ -1,6 +1,6 @@
 -- A session's steps and bytes are the root's, where no pass is out
 use Rattle.std.proofs.Common.{◌≡◌, List, ◌∷◌, length, Result, Ok, Err, IfOk, ap, sym, ◌∙◌}
-use Rattle.seat_steps.specs.declared.limits.Limits.{Limits}
+use Rattle.broker_steps.specs.declared.limits.Limits.{Limits}
 use Rattle.broker_model.specs.declared.journal.Entry.{Entry}
 use Rattle.broker_model.specs.Settle.{outer}
 use Rattle.hub_lock.specs.declared.session.Session.{Session}

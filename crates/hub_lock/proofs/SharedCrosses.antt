@@ -2,15 +2,15 @@
 -- parts, since a search through all of them would stop at its limits.
 use denote.Param.Send.{IsSend, sendable}
 use Rattle.std.proofs.Crossing.{crosses}
-use Rattle.seat_steps.proofs.stamp.Stamp.TheSendSync as stamp
+use Rattle.broker_steps.proofs.stamp.Stamp.TheSendSync as stamp
 use Rattle.relay_core.proofs.relay.Relay.TheSendSync as relay
-use Rattle.seat_audience.proofs.directory.Directory.TheSendSync as directory
-use Rattle.seat_audience.proofs.listeners.Listeners.TheSendSync as listeners
-use Rattle.seat_audience.specs.contracts.audience.Audience as Audience
+use Rattle.broker_audience.proofs.directory.Directory.TheSendSync as directory
+use Rattle.broker_audience.proofs.listeners.Listeners.TheSendSync as listeners
+use Rattle.broker_audience.specs.contracts.audience.Audience as Audience
 use Rattle.broker_model.proofs.journal.Entry.TheSendSync as entry
 use Rattle.broker_model.specs.contracts.journal.Journal as Journal
 use Rattle.broker_model.specs.contracts.stamps.StampList as StampList
-use Rattle.ended_peers.proofs.ended_peers.EndedPeers.TheSendSync as ended
+use Rattle.broker_model.proofs.ended_peers.EndedPeers.TheSendSync as ended
 use Rattle.broker_core.specs.contracts.state.State as State
 use Rattle.broker_core.specs.contracts.shared.Shared as Shared
 

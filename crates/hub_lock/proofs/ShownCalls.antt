@@ -1,7 +1,7 @@
 -- What a call at the lock's history tells, as passes show it
 use Rattle.std.proofs.Common.{◌≡◌, ℕ, ◌+◌, List, ◌∷◌, ◌++◌, length, Option, Some, None, refl, ap, sym, subst, ◌∙◌, arith}
 use Rattle.std.specs.Prelude.{IsSome}
-use Rattle.seat_steps.specs.declared.limits.Limits.{Limits}
+use Rattle.broker_steps.specs.declared.limits.Limits.{Limits}
 use Rattle.broker_core.specs.declared.letting_go.LetGo.{LetGo}
 use Rattle.turn_lock.specs.Pairs.{NoneOf, IsGrown}
 use Rattle.turn_lock.specs.Sights.{IsLegal, having_seen}

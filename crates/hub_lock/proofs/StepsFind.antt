@@ -4,10 +4,10 @@ use Rattle.std.specs.Prelude.{nat_le, ◌==◌, option_map, if◌then◌else◌}
 use Rattle.std.proofs.lemmas.Bool.{leb-false, eqb-false}
 use Rattle.relay_model.specs.declared.act.EndCause.{EndCause}
 use Rattle.relay_model.specs.declared.role.Role.{Role}
-use Rattle.seat_steps.specs.declared.limits.Limits.{Limits}
-use Rattle.seat_steps.specs.declared.step.PeerStep.{PeerStep}
-use Rattle.seat_steps.specs.declared.step.PeerStep.TheVariants as peers
-use Rattle.seat_steps.specs.Ranges.{piece_limit, IsWithin}
+use Rattle.broker_steps.specs.declared.limits.Limits.{Limits}
+use Rattle.broker_steps.specs.declared.step.PeerStep.{PeerStep}
+use Rattle.broker_steps.specs.declared.step.PeerStep.TheVariants as peers
+use Rattle.broker_steps.specs.Ranges.{piece_limit, IsWithin}
 use Rattle.broker_model.specs.declared.journal.Entry.{Entry}
 use Rattle.broker_model.specs.declared.journal.Entry.TheVariants as entries
 use Rattle.broker_model.specs.declared.journal.Kept.{Kept}

@@ -7,7 +7,7 @@ use Rattle.std.proofs.lemmas.Bool.{le-leb, eqb-true, ne_eqb}
 use Rattle.std.proofs.lemmas.Option.{same_Some}
 use Rattle.relay_model.specs.declared.act.EndCause.{EndCause}
 use Rattle.relay_model.specs.Told.{told}
-use Rattle.seat_steps.specs.declared.limits.Limits.{Limits}
+use Rattle.broker_steps.specs.declared.limits.Limits.{Limits}
 use Rattle.broker_model.specs.declared.journal.Entry.{Entry}
 use Rattle.broker_model.specs.declared.journal.Entry.TheVariants as entries
 use Rattle.broker_model.specs.declared.journal.Kept.{Kept}
@@ -24,7 +24,7 @@ use Rattle.broker_core.specs.Watched.Watched.{Put}
 use Rattle.hub_lock.specs.declared.step.OuterStep.{OuterStep}
 use Rattle.hub_lock.specs.Histories.{History, broker_of}
 use Rattle.hub_lock.specs.Lawful.{IsLawful}
-use Rattle.peer_bells.specs.Bells.{bell, IsFor, AreRung}
+use Rattle.hub_lock.specs.Bells.{bell, IsFor, AreRung}
 use Rattle.hub_lock.specs.BellLaw.{TakersAreRung}
 use Rattle.hub_lock.proofs.OldestStay.{before-lawful}
 

@@ -1,8 +1,8 @@
 -- What a turn tells of a pass: that its call is legal, and what it counts then
 use Rattle.std.proofs.Common.{◌≡◌, ℕ, ◌+◌, ◌++◌, length, Option, Some, ap, sym, subst, ◌∙◌, arith}
-use Rattle.seat_steps.specs.declared.limits.Limits.{Limits}
-use Rattle.seat_steps.specs.declared.step.Step.{Step}
-use Rattle.seat_steps.specs.declared.step.Step.TheVariants as steps
+use Rattle.broker_steps.specs.declared.limits.Limits.{Limits}
+use Rattle.broker_steps.specs.declared.step.Step.{Step}
+use Rattle.broker_steps.specs.declared.step.Step.TheVariants as steps
 use Rattle.turn_lock.specs.Pairs.{own, IsIn}
 use Rattle.turn_lock.specs.Sights.{IsLegal}
 use Rattle.turn_lock.specs.Rule.{bit}

@@ -1,14 +1,14 @@
 -- The law of the bells: who waits to take is rung for as soon as a take finds something
 use Rattle.std.specs.Prelude.{◌≡◌, ℕ, Some}
 use Rattle.std.specs.Int.{bit_at}
-use Rattle.seat_steps.specs.declared.limits.Limits.{Limits}
+use Rattle.broker_steps.specs.declared.limits.Limits.{Limits}
 use Rattle.broker_core.specs.declared.answers.Took.TheVariants as took
 use Rattle.broker_core.specs.Broker.{take_refusal}
 use Rattle.turn_lock.specs.Pairs.{IsGrown}
 use Rattle.hub_lock.specs.declared.call.Call.{Call}
 use Rattle.hub_lock.specs.declared.call.Reply.{Reply}
 use Rattle.hub_lock.specs.Histories.{History, broker_of}
-use Rattle.peer_bells.specs.Bells.{bell}
+use Rattle.hub_lock.specs.Bells.{bell}
 use Rattle.hub_lock.specs.Plays.{Plays}
 
 -- where the answer to a take for the peer q turns from `Empty` into another, the call by which it

@@ -1,6 +1,6 @@
 -- The lock's history: the outer steps, which passes show, and notes of who records
 use Rattle.std.specs.Prelude.{◌≡◌, ◌==◌, ◌+◌, ◌<◌, ◌≤◌, ℕ, Bool, true, false, List, [], ◌∷◌, map, reverse, if◌then◌else◌, Option, Some, None, option_map}
-use Rattle.seat_steps.specs.declared.limits.Limits.{Limits}
+use Rattle.broker_steps.specs.declared.limits.Limits.{Limits}
 use Rattle.turn_lock.specs.Sights.{Sight}
 use Rattle.hub_lock.specs.declared.step.OuterStep.{OuterStep}
 use Rattle.hub_lock.specs.declared.event.Event.{Event}

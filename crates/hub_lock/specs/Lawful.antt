@@ -4,8 +4,8 @@ use Rattle.std.specs.List.{count_by}
 use Rattle.relay_model.specs.declared.act.EndCause.TheVariants.{Gone}
 use Rattle.relay_model.specs.Objects.{is_peer}
 use Rattle.relay_model.specs.Keys.{number_down}
-use Rattle.seat_steps.specs.declared.limits.Limits.{Limits}
-use Rattle.seat_steps.specs.Ranges.{IsLimits}
+use Rattle.broker_steps.specs.declared.limits.Limits.{Limits}
+use Rattle.broker_steps.specs.Ranges.{IsLimits}
 use Rattle.broker_model.specs.declared.journal.Entry.{Entry}
 use Rattle.broker_model.specs.declared.journal.Entry.TheVariants as entries
 use Rattle.broker_model.specs.Ids.{Joined, log_of, peer_at, number_live}

@@ -13,3 +13,4 @@ pub mod Noted
 pub mod Calls
 pub mod Finished
 pub mod Recording
+pub mod Bells

@@ -1,6 +1,6 @@
 -- What a play notes of who records
 use Rattle.std.specs.Prelude.{◌≡◌, ◌↔◌, ◌+◌, ◌≤◌, ℕ, Option, Some, None, option_map, Err, IfSome, IsSome}
-use Rattle.seat_steps.specs.declared.limits.Limits.{Limits}
+use Rattle.broker_steps.specs.declared.limits.Limits.{Limits}
 use Rattle.broker_core.specs.Broker.{Broker}
 use Rattle.hub_lock.specs.declared.session.NoSession.TheVariants as sessions
 use Rattle.hub_lock.specs.declared.call.Ask.{Ask}

@@ -3,9 +3,9 @@ use Rattle.std.specs.Prelude.{◌≡◌, ℕ, ◌+◌, ◌≤◌, List, [], ◌�
 use Rattle.std.specs.Result.{is_ok}
 use Rattle.relay_core.specs.Stands.{route_told}
 use Rattle.relay_model.specs.declared.role.Role.{Role}
-use Rattle.seat_steps.specs.declared.limits.Limits.{Limits}
-use Rattle.seat_steps.specs.declared.step.Step.{Step}
-use Rattle.seat_steps.specs.declared.step.Step.TheVariants as steps
+use Rattle.broker_steps.specs.declared.limits.Limits.{Limits}
+use Rattle.broker_steps.specs.declared.step.Step.{Step}
+use Rattle.broker_steps.specs.declared.step.Step.TheVariants as steps
 use Rattle.broker_model.specs.declared.journal.Entry.TheVariants as entries
 use Rattle.broker_model.specs.Out.{Outgoing, act_at, stored, tokens_taken}
 use Rattle.broker_model.specs.Recorded.{entry_at}
@@ -32,7 +32,7 @@ use Rattle.hub_lock.specs.declared.call.Call.{Call}
 use Rattle.hub_lock.specs.declared.call.Reply.{Reply}
 use Rattle.hub_lock.specs.Histories.{History, broker_of, reader_of, writer_of, only, joining}
 use Rattle.hub_lock.specs.Lawful.{IsLawful}
-use Rattle.peer_bells.specs.Bells.{AreRung}
+use Rattle.hub_lock.specs.Bells.{AreRung}
 
 -- the history is longer by this step of the pass with the number n
 abbrev pub IsLonger : ℕ → OuterStep → History → History → Type 0

@@ -1,7 +1,7 @@
 -- What the calls of a hub make of the seats of its passes
 use Rattle.std.specs.Prelude.{ℕ, ◌+◌, ◌-◌, List, [], ◌∷◌, Option, Some, None}
 use Rattle.atomic_table.specs.Seated.{TableId}
-use Rattle.seat_steps.specs.declared.limits.Limits.{Limits}
+use Rattle.broker_steps.specs.declared.limits.Limits.{Limits}
 use Rattle.turn_lock.specs.Pairs.{longer}
 use Rattle.turn_lock.specs.Sights.{Sight}
 use Rattle.turn_lock.specs.Sights as sights

@@ -5,10 +5,10 @@ use Rattle.std.specs.Int.{w32}
 use Rattle.std.specs.List.{AllByRecursion}
 use Rattle.wl_wire.specs.Messages.{IsBad}
 use Rattle.wl_wire.specs.Texts.{IsBytes}
-use Rattle.seat_steps.specs.declared.limits.Limits.{Limits}
-use Rattle.seat_steps.specs.declared.step.ShellStep.{ShellStep}
-use Rattle.seat_steps.specs.declared.step.ShellStep.TheVariants as shells
-use Rattle.seat_steps.specs.Ranges.{piece_limit, token_limit, IsWithin, IsBody, IsShellStep}
+use Rattle.broker_steps.specs.declared.limits.Limits.{Limits}
+use Rattle.broker_steps.specs.declared.step.ShellStep.{ShellStep}
+use Rattle.broker_steps.specs.declared.step.ShellStep.TheVariants as shells
+use Rattle.broker_steps.specs.Ranges.{piece_limit, token_limit, IsWithin, IsBody, IsShellStep}
 use Rattle.broker_model.specs.declared.journal.Entry.{Entry}
 use Rattle.broker_model.specs.declared.journal.Entry.TheVariants as entries
 use Rattle.broker_model.specs.Out.{Outgoing, stored}

@@ -7,8 +7,8 @@ use crate::given::is_given;
 use crate::room::Places;
 use crate::session::{NoSession, Session};
 use broker_core::{Applied, JoinRefusal, LetGo, Refused, Took};
+use broker_steps::Step;
 use relay_model::Role;
-use seat_steps::Step;
 use std::alloc::Global;
 use std::marker::Model;
 
@@ -19,8 +19,8 @@ pub struct Applying {
 }
 
 impl Model for Applying {
-    ghost use Rattle.seat_steps.specs.declared.step.Step.{Step};
-    ghost use Rattle.seat_steps.specs.Ranges.{IsStep};
+    ghost use Rattle.broker_steps.specs.declared.step.Step.{Step};
+    ghost use Rattle.broker_steps.specs.Ranges.{IsStep};
     ghost use Rattle.broker_core.specs.Broker.{IsSaid, entry_of};
     ghost use Rattle.hub_lock.specs.Steps.{IsGiven};
 
@@ -33,7 +33,7 @@ impl Model for Applying {
 
 impl Applying {
     ghost use Rattle.std.specs.Prelude.{◌≡◌};
-    ghost use Rattle.seat_steps.specs.Ranges.{IsStep};
+    ghost use Rattle.broker_steps.specs.Ranges.{IsStep};
     ghost use Rattle.broker_core.specs.Broker.{IsSaid, entry_of};
     ghost use Rattle.hub_lock.specs.Steps.{IsGiven};
 

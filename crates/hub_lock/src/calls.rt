@@ -1,8 +1,8 @@
 //! The calls of readers, writers and the shell.
 ghost use Rattle.std.specs.Prelude.{◌≡◌, ◌≤◌, length, Err};
 ghost use Rattle.relay_model.specs.declared.act.EndCause.{EndCause};
-ghost use Rattle.seat_steps.specs.declared.step.Step.TheVariants as steps;
-ghost use Rattle.seat_steps.specs.Ranges.{IsPeerStep, IsShellStep};
+ghost use Rattle.broker_steps.specs.declared.step.Step.TheVariants as steps;
+ghost use Rattle.broker_steps.specs.Ranges.{IsPeerStep, IsShellStep};
 ghost use Rattle.broker_core.specs.Broker.{IfBytes, IfNoBytes};
 ghost use Rattle.broker_core.specs.Taking.{out_at};
 ghost use Rattle.hub_lock.specs.Seats.{having_seen};
@@ -17,7 +17,7 @@ use crate::hub::Hub;
 use crate::pass::{ReaderPass, ShellPass, WriterPass};
 use crate::room::{MOST_BYTES, Room};
 use broker_core::{Applied, Refused, Took};
-use seat_steps::{PeerStep, ShellStep, Step};
+use broker_steps::{PeerStep, ShellStep, Step};
 use std::mem::replace;
 use std::sync::Wait;
 

@@ -1,13 +1,13 @@
 //! A step is one that a line can give: its numbers are those of their types. The bodies only read.
 ghost use Rattle.std.specs.Prelude.{◌<◌, ◌^◌, All};
 ghost use Rattle.wl_wire.specs.Texts.{IsBytes};
-ghost use Rattle.seat_steps.specs.Ranges.{IsStep, IsPeerStep, IsShellStep};
-ghost use Rattle.seat_steps.specs.declared.step.Step.TheVariants as steps;
+ghost use Rattle.broker_steps.specs.Ranges.{IsStep, IsPeerStep, IsShellStep};
+ghost use Rattle.broker_steps.specs.declared.step.Step.TheVariants as steps;
 ghost use Rattle.broker_core.specs.Broker.{IsSaid, entry_of};
 ghost use Rattle.hub_lock.specs.Steps.{IsGiven};
 
+use broker_steps::{PeerStep, ShellStep, Step};
 use relay_model::Rect;
-use seat_steps::{PeerStep, ShellStep, Step};
 
 fn are_bytes(_bytes: &[u8])
     ensures { IsBytes _bytes.now }

@@ -1,7 +1,7 @@
 //! The hub, and a turn at its lock.
 ghost use Rattle.std.specs.Prelude.{◌≡◌, ◌+◌, ◌<◌, ◌≤◌, ◌^◌, ℕ, [], Some, None, IfOk, length, true};
 ghost use Rattle.broker_core.specs.Broker.{Broker};
-ghost use Rattle.seat_steps.specs.Ranges.{IsLimits};
+ghost use Rattle.broker_steps.specs.Ranges.{IsLimits};
 ghost use Rattle.turn_lock.specs.Pairs.{IsIn, HasSeen};
 ghost use Rattle.turn_lock.specs.Sights as sights;
 ghost use Rattle.turn_lock.specs.Sights.{IsLegal};
@@ -15,8 +15,8 @@ ghost use Rattle.hub_lock.specs.Calls.{LegalAsk};
 use crate::call::{Answer, Call, Reply};
 use crate::noted_state::NotedState;
 use crate::pass::{HubPass, Member};
-use peer_bells::{Bells, RecordBell};
-use seat_steps::Limits;
+use crate::{Bells, RecordBell};
+use broker_steps::Limits;
 use std::alloc::Global;
 use std::marker::Model;
 use std::sync::Wait;

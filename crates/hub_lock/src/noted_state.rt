@@ -1,14 +1,14 @@
 //! The value behind the lock, with a history of its steps and of what was noted of who records.
 ghost use Rattle.std.specs.Prelude.{◌≡◌, [], IfOk};
-ghost use Rattle.seat_steps.specs.Ranges.{IsLimits};
+ghost use Rattle.broker_steps.specs.Ranges.{IsLimits};
 ghost use Rattle.hub_lock.specs.Lawful.{IsLawful};
 ghost use Rattle.hub_lock.specs.Events.{with_mark};
 
 use crate::call::{Call, Reply};
 use crate::event::{Event, Mark};
 use crate::state::HubState;
-use long_list::Past;
-use seat_steps::Limits;
+use broker_steps::Limits;
+use out_store::Past;
 use std::alloc::Global;
 use std::marker::Model;
 use turn_lock::Story;
@@ -68,7 +68,7 @@ fn with_mark(marks: Past<Mark>, mark: Option<Mark>) -> Past<Mark>
 }
 
 impl Story for NotedState {
-    ghost use Rattle.seat_steps.specs.declared.limits.Limits.{Limits};
+    ghost use Rattle.broker_steps.specs.declared.limits.Limits.{Limits};
     ghost use Rattle.hub_lock.specs.declared.event.Event.{Event};
     ghost use Rattle.hub_lock.specs.Noted.{PlaysEvents};
 

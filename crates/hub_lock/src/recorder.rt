@@ -10,7 +10,7 @@ use crate::call::{Answer, Ask, Call, Reply};
 use crate::hub::Hub;
 use crate::pass::{HubPass, RecorderPass};
 use broker_core::LetGo;
-use long_list::Past;
+use out_store::Past;
 use std::sync::Wait;
 
 impl Hub {

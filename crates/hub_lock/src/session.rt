@@ -3,7 +3,7 @@ ghost use Rattle.std.specs.Prelude.{◌≡◌, length};
 ghost use Rattle.hub_lock.specs.Steps.{HaveLines};
 
 use broker_model::{Journal, StampList};
-use seat_steps::Limits;
+use broker_steps::Limits;
 use thiserror::Error;
 
 /// Why there is no session.

@@ -1,15 +1,15 @@
 //! The value behind the lock: the shared state of all peers, and who their readers are.
 ghost use Rattle.std.specs.Prelude.{◌≡◌, ◌+◌, ◌≤◌, [], length, Some, None, Err, IfOk, IsTrue, IsSome, ◌↔◌, true};
 ghost use Rattle.turn_lock.specs.Pairs.{IsGrown};
-ghost use Rattle.seat_steps.specs.declared.step.Step.{Step};
-ghost use Rattle.seat_steps.specs.Ranges.{IsLimits, IsStep};
+ghost use Rattle.broker_steps.specs.declared.step.Step.{Step};
+ghost use Rattle.broker_steps.specs.Ranges.{IsLimits, IsStep};
 ghost use Rattle.broker_core.specs.Broker.{IsSaid, IsWatched, entry_of, refusal};
 ghost use Rattle.hub_lock.specs.declared.step.OuterStep.{OuterStep};
 ghost use Rattle.hub_lock.specs.Histories.{stamp_by, broker_of, reader_of, writer_of};
 ghost use Rattle.hub_lock.specs.Asked.{joins_as_root};
 ghost use Rattle.hub_lock.specs.Steps.{IsGiven, Finds};
 ghost use Rattle.hub_lock.specs.Lawful.{IsShared, IsLawful, history_of};
-ghost use Rattle.peer_bells.specs.Bells.{IsRungBy};
+ghost use Rattle.hub_lock.specs.Bells.{IsRungBy};
 ghost use Rattle.hub_lock.specs.Plays.{IsOwn, MayAsk, Joins, Applies, Takes, Answers, Plays};
 ghost use Rattle.hub_lock.specs.Plays.{IsSessionOf, took_without_memory};
 ghost use Rattle.hub_lock.specs.Events.{notes_in};
@@ -17,14 +17,14 @@ ghost use Rattle.hub_lock.specs.Noted.{tally_in, note_of, IsNoted, Hands, HasHan
 ghost use Rattle.hub_lock.specs.declared.call.Ask.TheVariants as asks;
 ghost use Rattle.hub_lock.specs.declared.call.Answer.TheVariants as answers;
 
+use crate::Rings;
 use crate::call::{Answer, Ask, Call, Reply, Taking};
 use crate::room::Places;
 use crate::session::{NoSession, Session};
 use broker_core::{Applied, JoinRefusal, LetGo, Refused, Shared, Standing, Took};
 use broker_model::Entry;
-use peer_bells::Rings;
+use broker_steps::{Limits, Stamp, Step};
 use relay_model::Role;
-use seat_steps::{Limits, Stamp, Step};
 use std::alloc::Global;
 use std::marker::Model;
 use wio_core::NoMemory;

@@ -1,5 +1,11 @@
 //! A bounded store of the bytes that wait for a peer, with the tokens that travel with them.
+//!
+//! A list whose oldest items can be let go: they leave memory, and contracts go on seeing all.
 #![tactic(auto)]
+
+mod begins;
+mod long_list;
+mod past;
 
 ghost use Rattle.std.specs.Prelude.{◌≡◌, ◌+◌, ◌++◌, ◌≤◌, ◌↔◌, [], length, min, take, drop, IsTrue};
 ghost use Rattle.std.specs.Prelude.{IfOk, if◌then◌else◌};
@@ -7,14 +13,13 @@ ghost use Rattle.out_store.specs.Queue.{queue, cells_of, bytes_of, tokens_of};
 ghost use Rattle.out_store.specs.Spacing.{IsSpaced};
 ghost use Rattle.out_store.specs.Runs.{NothingIsLost};
 
+use begins::{Begin, add_begins, take_begun};
 use circular_buffer::HeapCircularBuffer;
+pub use long_list::{LongList, OwnCopy};
+pub use past::Past;
 use std::alloc::Global;
 use std::marker::Model;
 use wio_core::NoMemory;
-
-mod begins;
-
-use begins::{Begin, add_begins, take_begun};
 
 /// The fewest bytes from the beginning of a message with a token to the next such message, or to the end of its group.
 const SPACING: usize = 16;

@@ -2,10 +2,10 @@
 use Rattle.std.proofs.Common.{◌≡◌, ℕ, ◌+◌, ◌≤◌, Bool, true, false, List, [], ◌∷◌, ◌++◌, Option, Some, None, refl, sym, ap, subst, inl, inr, arith}
 use Rattle.std.specs.Prelude.{◌&&◌, ◌||◌, not, nat_le, nat_lt, if◌then◌else◌}
 use Rattle.std.proofs.lemmas.Bool.{leb-true, ltb-true}
-use Rattle.seat_steps.specs.declared.limits.Limits.{Limits}
-use Rattle.seat_steps.specs.declared.step.PeerStep.{PeerStep}
-use Rattle.seat_steps.specs.declared.step.PeerStep.TheVariants as peers
-use Rattle.seat_steps.specs.Ranges.{IsPeerStep}
+use Rattle.broker_steps.specs.declared.limits.Limits.{Limits}
+use Rattle.broker_steps.specs.declared.step.PeerStep.{PeerStep}
+use Rattle.broker_steps.specs.declared.step.PeerStep.TheVariants as peers
+use Rattle.broker_steps.specs.Ranges.{IsPeerStep}
 use Rattle.broker_model.specs.declared.journal.Entry.{Entry}
 use Rattle.broker_model.specs.declared.journal.Entry.TheVariants as entries
 use Rattle.broker_model.specs.declared.journal.Kept.{Kept}
@@ -16,14 +16,11 @@ use Rattle.broker_core.proofs.AliveAfterEntry.{counted_cons, weight_cons, same_s
 use Rattle.hub_lock.specs.Histories.{History, entries_of}
 use Rattle.hub_lock.specs.Passes.{PassSeat, PeerPass}
 use Rattle.peer_link.specs.declared.ends.ReadEnd.TheVariants as read_ends
-use Rattle.peer_link.specs.declared.ends.TakeEnd.{TakeEnd}
-use Rattle.peer_link.specs.declared.ends.TakeEnd.TheVariants as takes
-use Rattle.peer_link.specs.declared.ends.WriteEnd.{WriteEnd}
+use Rattle.peer_link.specs.declared.ends.WriteEnd.TheVariants as write_ends
 use Rattle.peer_link.specs.declared.ends.ShellEnd.TheVariants as shell_ends
 use Rattle.peer_link.specs.Made.{journal_of, IsAtLimit}
 use Rattle.peer_link.specs.ReadsPeer.{ReadsPeer}
-use Rattle.peer_link.specs.WritesPeer as writer
-use Rattle.peer_link.specs.WritesPeer.{taking_of, WritesPeer}
+use Rattle.peer_link.specs.WritesPeer.{WritesPeer}
 use Rattle.peer_link.specs.ReadsShell.{ReadsShell}
 use Rattle.peer_link.proofs.OthersTakeNothing.{entries-append}
 
@@ -92,11 +89,9 @@ pub reader-at-limit : (limits : Limits) (p : PeerPass) (read : List ℕ) (left :
     IsAtLimit limits (journal_of limits p.seat.seen)
 reader-at-limit limits p read left faults kept law = law.ends.2.at_limit
 
-pub writer-at-limit : (limits : Limits) (p : PeerPass) (held held' : Option (List ℕ)) (end : WriteEnd) (kept : Kept)
-    → taking_of end ≡ takes.JournalFull kept → WritesPeer limits p held held' end →
-    IsAtLimit limits (journal_of limits p.seat.seen)
-writer-at-limit limits p held held' end kept is law =
-    (subst (λ (t : TakeEnd). writer.EndsAs limits p law.out law.sizes t) is law.ends).1
+pub writer-at-limit : (limits : Limits) (p : PeerPass) (held held' : Option (List ℕ)) (kept : Kept)
+    → WritesPeer limits p held held' (write_ends.JournalFull kept) → IsAtLimit limits (journal_of limits p.seat.seen)
+writer-at-limit limits p held held' kept law = law.ends.1
 
 pub shell-at-limit : (limits : Limits) (s : PassSeat) (read : List ℕ) (left held held' : Option (List ℕ)) (kept : Kept)
     → ReadsShell limits s read left held held' (shell_ends.JournalFull kept) →

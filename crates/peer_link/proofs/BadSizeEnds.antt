@@ -12,10 +12,10 @@ use Rattle.relay_model.specs.declared.role.Role.{Role}
 use Rattle.relay_model.specs.Objects.{is_peer_kind, is_kind, remains, object, is_peer}
 use Rattle.relay_model.specs.Idle.{is_live, cleaned}
 use Rattle.relay_model.proofs.ObjectLaws.{object_step}
-use Rattle.seat_steps.specs.declared.limits.Limits.{Limits}
-use Rattle.seat_steps.specs.declared.step.Step.TheVariants as steps
-use Rattle.seat_steps.specs.declared.step.PeerStep.{PeerStep}
-use Rattle.seat_steps.specs.declared.step.PeerStep.TheVariants as peers
+use Rattle.broker_steps.specs.declared.limits.Limits.{Limits}
+use Rattle.broker_steps.specs.declared.step.Step.TheVariants as steps
+use Rattle.broker_steps.specs.declared.step.PeerStep.{PeerStep}
+use Rattle.broker_steps.specs.declared.step.PeerStep.TheVariants as peers
 use Rattle.broker_model.specs.declared.journal.Entry.{Entry}
 use Rattle.broker_model.specs.declared.journal.Entry.TheVariants as entries
 use Rattle.broker_model.specs.Ids.{Joined, log_of, peer_in, peer_at}

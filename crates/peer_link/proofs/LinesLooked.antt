@@ -9,7 +9,7 @@ use Rattle.wio_core.specs.declared.line_reader.LineStop.{LineStop}
 use Rattle.wio_core.specs.declared.line_reader.LineStop.TheVariants as stop
 use Rattle.wio_core.specs.declared.line_reader.NextLine.{NextLine}
 use Rattle.wio_core.specs.declared.line_reader.NextLine.TheVariants as came
-use Rattle.seat_steps.specs.declared.step.ShellStep.{ShellStep}
+use Rattle.broker_steps.specs.declared.step.ShellStep.{ShellStep}
 use Rattle.peer_link.specs.declared.ends.ShellEnd.{ShellEnd}
 use Rattle.peer_link.specs.declared.ends.ShellEnd.TheVariants as ends
 use Rattle.peer_link.specs.ShellLines.{IsOrder}

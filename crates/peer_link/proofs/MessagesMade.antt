@@ -2,13 +2,13 @@
 use Rattle.std.proofs.Common.{◌≡◌, ℕ, true, false, List, [], ◌∷◌, ◌++◌, length, drop, None, refl, sym, ap, ◌∙◌, subst, arith, append_assoc, append-nil}
 use Rattle.std.specs.Prelude.{◌==◌, Result, Ok, Err}
 use Rattle.std.proofs.lemmas.Bool.{eqb-true}
-use Rattle.seat_steps.specs.declared.limits.Limits.{Limits}
+use Rattle.broker_steps.specs.declared.limits.Limits.{Limits}
 use Rattle.wl_wire.specs.Messages.{id_of, opcode_of, body_of, bad_size_at, behind}
 use Rattle.wl_wire.specs.Streams.{Assembly, begun, bytes_of}
 use Rattle.broker_model.specs.declared.journal.Entry.{Entry}
 use Rattle.broker_model.specs.declared.journal.Entry.TheVariants as entries
-use Rattle.step_cutter.specs.Steps.{steps_in}
-use Rattle.step_cutter.specs.Cuts.{IsFirst, IsUnfinished, IsLast}
+use Rattle.broker_cutter.specs.Steps.{steps_in}
+use Rattle.broker_cutter.specs.Cuts.{IsFirst, IsUnfinished, IsLast}
 use Rattle.desc_frame.specs.Frames.{frame}
 use Rattle.hub_lock.specs.Passes.{PeerPass}
 use Rattle.hub_lock.specs.Calls.{pass_having_seen}

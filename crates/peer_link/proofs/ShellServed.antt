@@ -9,8 +9,8 @@ use Rattle.wio_core.specs.LineAnswers.{LinesAhead}
 use Rattle.wio_core.specs.declared.line_reader.LineStop.{LineStop}
 use Rattle.wio_core.specs.declared.line_reader.LineStop.TheVariants as stop
 use Rattle.wio_core.proofs.ReadsTogether.{TookFrom-both}
-use Rattle.seat_steps.specs.declared.limits.Limits.{Limits}
-use Rattle.seat_steps.specs.declared.step.ShellStep.{ShellStep}
+use Rattle.broker_steps.specs.declared.limits.Limits.{Limits}
+use Rattle.broker_steps.specs.declared.step.ShellStep.{ShellStep}
 use Rattle.session_text.specs.declared.line.Form.TheVariants.{Shell}
 use Rattle.session_text.specs.Reading.{line_of}
 use Rattle.wl_wire.specs.Messages.{joined}

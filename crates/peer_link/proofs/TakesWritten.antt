@@ -1,5 +1,5 @@
 -- What a take of a peer's writer comes to
-use Rattle.std.proofs.Common.{◌≡◌, ℕ, zero, suc, ◌+◌, ◌<◌, ◌≤◌, Bool, true, false, List, [], ◌∷◌, ◌++◌, length, map, take, min, Option, Some, None, refl, sym, ap, ap₂, ◌∙◌, subst, inl, inr, arith, append_assoc, length-drop}
+use Rattle.std.proofs.Common.{◌≡◌, ℕ, zero, suc, ◌+◌, ◌<◌, ◌≤◌, Bool, true, false, List, [], ◌∷◌, ◌++◌, length, map, take, min, Option, Some, None, refl, sym, ap, ap₂, ◌∙◌, subst, inl, inr, arith, length-drop}
 use Rattle.std.specs.Prelude.{if◌then◌else◌, ◌==◌, sum, option_map, IfSome, IfNone}
 use Rattle.std.specs.List.{AllByRecursion}
 use Rattle.std.specs.Io.KnownBytes.{Appends}
@@ -8,8 +8,8 @@ use Rattle.std.proofs.lemmas.Bool.{eqb-true}
 use Rattle.std.proofs.lemmas.List.{map-append}
 use Rattle.std.proofs.lemmas.List.Sums.{sum_by-cons, sum_by-append}
 use Rattle.relay_model.specs.declared.act.EndCause.{EndCause}
-use Rattle.seat_steps.specs.declared.limits.Limits.{Limits}
-use Rattle.seat_steps.specs.Ranges.{IsWithin}
+use Rattle.broker_steps.specs.declared.limits.Limits.{Limits}
+use Rattle.broker_steps.specs.Ranges.{IsWithin}
 use Rattle.wl_wire.specs.Messages.{joined}
 use Rattle.broker_model.specs.declared.journal.Entry.{Entry}
 use Rattle.broker_model.specs.declared.journal.Entry.TheVariants as entries
@@ -32,14 +32,12 @@ use Rattle.hub_lock.specs.Calls.{AreFirstOut, IsTakeOut, pass_having_seen}
 use Rattle.hub_lock.proofs.HistoriesGrow.{entries-more}
 use Rattle.hub_lock.proofs.ReadersStay.{writer-stays}
 use Rattle.desc_frame.specs.Frames.{Frame, frame, spelling}
-use Rattle.peer_link.specs.declared.ends.TakeEnd.{TakeEnd}
-use Rattle.peer_link.specs.declared.ends.TakeEnd.TheVariants as takes
 use Rattle.peer_link.specs.declared.ends.WriteEnd.{WriteEnd}
 use Rattle.peer_link.specs.declared.ends.WriteEnd.TheVariants as ends
 use Rattle.peer_link.specs.Made.{entries_by, journal_of, SawMore}
-use Rattle.peer_link.specs.Gains.{GainsUpToCut, GainsUntilCut}
-use Rattle.peer_link.specs.WritesPeer.{frame_at, frames_of, is_cut, taking_of, EndsAs, WritesPeer}
-use Rattle.peer_link.specs.Written.{HasTaken, Writing, Draining}
+use Rattle.peer_link.specs.Gains.{Gains, GainsCut}
+use Rattle.peer_link.specs.WritesPeer.{frame_at, frames_of, is_cut, EndsAs, WritesPeer}
+use Rattle.peer_link.specs.Written.{HasTaken, Writing}
 use Rattle.peer_link.proofs.AtLimits.{at-limit}
 use Rattle.peer_link.proofs.StepsMade.{entries-same, entries-one}
 use Rattle.peer_link.proofs.ShellServed.{joined-more}
@@ -150,10 +148,6 @@ module _ (limits : Limits) (pass pass' : PeerPass) (lent : Taken) (r : Took)
       Before limits pass turn (AllGained held now)
   writing held now s = before-call limits pass k.rest held now w k.apart k.lawful s
 
-  draining : (held now : Option (List ℕ)) → Draining limits pass held now →
-      Before limits pass turn (GainsUpToCut held now)
-  draining held now s = before-more limits pass k.rest (GainsUpToCut held now) w k.apart k.lawful s
-
   same-peer : pass'.peer ≡ pass.peer
   same-peer = ap (λ (p : PeerPass). p.peer) is
 
@@ -178,20 +172,23 @@ module _ (limits : Limits) (pass pass' : PeerPass) (lent : Taken) (r : Took)
   same-seen : (x : Took) → r ≡ x → IfNoBytes x (pass'.seat.seen ≡ turn)
   same-seen x e = subst (λ (y : Took). IfNoBytes y (pass'.seat.seen ≡ turn)) e k.answer.same
 
-  -- how the taking ended where no bytes came
-  abbrev no_bytes : TakeEnd → Took
-  no_bytes takes.Closed = took.Closed
-  no_bytes (takes.JournalFull kept) = took.JournalFull kept
-  no_bytes takes.NoMemory = took.NoMemory
+  -- what the last take answered where no bytes came; no such take ends it at a failed write
+  abbrev no_bytes : WriteEnd → Took
+  no_bytes ends.Closed = took.Closed
+  no_bytes ends.WriteFault = took.Empty
+  no_bytes (ends.JournalFull kept) = took.JournalFull kept
+  no_bytes ends.NoMemory = took.NoMemory
 
-  same-then : (t : TakeEnd) → r ≡ no_bytes t → pass'.seat.seen ≡ turn
-  same-then takes.Closed e = same-seen took.Closed e
-  same-then (takes.JournalFull kept) e = same-seen (took.JournalFull kept) e
-  same-then takes.NoMemory e = same-seen took.NoMemory e
+  same-then : (t : WriteEnd) → r ≡ no_bytes t → pass'.seat.seen ≡ turn
+  same-then ends.Closed e = same-seen took.Closed e
+  same-then ends.WriteFault e = same-seen took.Empty e
+  same-then (ends.JournalFull kept) e = same-seen (took.JournalFull kept) e
+  same-then ends.NoMemory e = same-seen took.NoMemory e
 
-  ended-so : (Gained : List (List ℕ) → Type 0) (t : TakeEnd) → r ≡ no_bytes t → (b : Before limits pass turn Gained) →
+  ended-so : (Gained : List (List ℕ) → Type 0) (t : WriteEnd) → r ≡ no_bytes t → (b : Before limits pass turn Gained) →
       EndsAs limits pass' (out_by b.stands.peer) b.sizes t
-  ended-so Gained takes.Closed e b =
+  ended-so Gained ends.WriteFault e b = tt
+  ended-so Gained ends.Closed e b =
       let same : pass'.seat.seen ≡ turn = same-seen took.Closed e in
       let o : Outgoing = out_by b.stands.peer in
       let c = closed-is (broker_of limits turn) pass.peer o
@@ -204,7 +201,7 @@ module _ (limits : Limits) (pass pass' : PeerPass) (lent : Taken) (r : Took)
         (c.cause, ap₂ (λ (h : History) q. end_of (journal_of limits h) q) same same-peer ∙ c.ended),
         omega (arith, left, none, taken, front),
       )
-  ended-so Gained (takes.JournalFull kept) e b =
+  ended-so Gained (ends.JournalFull kept) e b =
       let same : pass'.seat.seen ≡ turn = same-seen (took.JournalFull kept) e in
       let o : Outgoing = out_by b.stands.peer in
       let full : full_in limits (journal_of limits pass'.seat.seen) (entries.Took pass'.peer 0) ≡ Some kept =
@@ -215,14 +212,14 @@ module _ (limits : Limits) (pass pass' : PeerPass) (lent : Taken) (r : Took)
         full,
         at-limit limits (journal_of limits pass'.seat.seen) (entries.Took pass'.peer 0) kept full (omega arith),
       )
-  ended-so Gained takes.NoMemory e b = tt
+  ended-so Gained ends.NoMemory e b = tt
 
   ends-so : (Gained : List (List ℕ) → Type 0) (held now : Option (List ℕ)) (end : WriteEnd) →
-      r ≡ no_bytes (taking_of end) → (b : Before limits pass turn Gained)
-      → GainsUntilCut (is_cut end) held now (map spelling (frames_of (out_by b.stands.peer).put b.sizes)) →
+      r ≡ no_bytes end → (b : Before limits pass turn Gained)
+      → Gains (is_cut end) held now (map spelling (frames_of (out_by b.stands.peer).put b.sizes)) →
       WritesPeer limits pass' held now end
   ends-so Gained held now end e b gained =
-      let same : pass'.seat.seen ≡ turn = same-then (taking_of end) e in record {
+      let same : pass'.seat.seen ≡ turn = same-then end e in record {
         sizes = b.sizes;
         each = b.each;
         takes = ap (λ (p : PeerPass). entries_by p.seat) is
@@ -235,7 +232,7 @@ module _ (limits : Limits) (pass pass' : PeerPass) (lent : Taken) (r : Took)
         front = b.stands.front;
         taken = b.stands.taken;
         gained = gained;
-        ends = ended-so Gained (taking_of end) e b;
+        ends = ended-so Gained end e b;
       }
 
   pub closes : (held now : Option (List ℕ)) → r ≡ took.Closed → Writing limits pass held now →
@@ -252,11 +249,6 @@ module _ (limits : Limits) (pass pass' : PeerPass) (lent : Taken) (r : Took)
       WritesPeer limits pass' held now ends.NoMemory
   lacks held now e s =
       let b = writing held now s in ends-so (AllGained held now) held now ends.NoMemory e b b.stands.gained
-
-  pub drained : (held now : Option (List ℕ)) (t : TakeEnd) → r ≡ no_bytes t → Draining limits pass held now →
-      WritesPeer limits pass' held now (ends.WriteFault t)
-  drained held now t e s =
-      let b = draining held now s in ends-so (GainsUpToCut held now) held now (ends.WriteFault t) e b b.stands.gained
 
   -- so many bytes were taken, which are still to be written
 
@@ -388,36 +380,28 @@ module _ (limits : Limits) (pass pass' : PeerPass) (lent : Taken) (r : Took)
 
   pub wrote-part : (held now now' : Option (List ℕ)) (n t part : ℕ) → r ≡ took.Bytes n t →
       Writing limits pass held now → part < length piece → Appends now now' (take part piece)
-      → Draining limits pass' held now'
+      → WritesPeer limits pass' held now' ends.WriteFault
   wrote-part held now now' n t part e s short a =
       let m = one-more (AllGained held now) n t e (writing held now s) in
       let before : List (List ℕ) = map spelling (frames_of m.out.put m.sizes) in
-      taken-so (AllGained held now) (GainsUpToCut held now') n t m (record {
+      let k = taken-so (AllGained held now) (GainsCut held now') n t m (record {
         before = before;
-        cut = piece;
-        later = [];
+        last = piece;
         pieces_are = refl;
         count = part;
         short = short;
         gained = Appends-trans held now now' (joined before) (take part piece) m.gained a;
-      })
-
-  -- it was taken, and not written
-  pub left-out : (held now : Option (List ℕ)) (n t : ℕ) → r ≡ took.Bytes n t →
-      Draining limits pass held now → Draining limits pass' held now
-  left-out held now n t e s =
-      let m = one-more (GainsUpToCut held now) n t e (draining held now s) in
-      let g = m.gained in
-      taken-so (GainsUpToCut held now) (GainsUpToCut held now) n t m (record {
-        before = g.before;
-        cut = g.cut;
-        later = g.later ++ piece ∷ [];
-        pieces_are = ap (λ (ps : List (List ℕ)). ps ++ piece ∷ []) g.pieces_are
-            ∙ append_assoc g.before (g.cut ∷ g.later) (piece ∷ []);
-        count = g.count;
-        short = g.short;
-        gained = g.gained;
-      })
+      }) in record {
+        sizes = k.sizes;
+        each = k.each;
+        takes = k.takes;
+        out = k.out;
+        queued = k.queued;
+        front = k.front;
+        taken = k.taken;
+        gained = k.gained;
+        ends = tt;
+      }
 
 -- the pass stays its peer's writer
 pub writes-on : (limits : Limits) (a b : PeerPass) → b ≡ pass_having_seen a b.seat.seen →

@@ -16,20 +16,3 @@ pub record GainsCut (held held_after : Option (List ℕ)) (pieces : List (List �
 abbrev pub Gains : (is_cut : Bool) → (held held_after : Option (List ℕ)) → List (List ℕ) → Type 0
 Gains true held held_after pieces = GainsCut held held_after pieces
 Gains false held held_after pieces = Appends held held_after (joined pieces)
-
--- one of the pieces was cut: a proper prefix of it was gained, and nothing of the later ones
-pub record GainsUpToCut (held held_after : Option (List ℕ))
-    (pieces : List (List ℕ)) : Type 0 where
-  pub before : List (List ℕ)
-  pub cut : List ℕ
-  pub later : List (List ℕ)
-  pub pieces_are : pieces ≡ before ++ cut ∷ later
-  pub count : ℕ
-  pub short : count < length cut
-  pub gained : Appends held held_after (joined before ++ take count cut)
-
--- all pieces were gained, or those before the one that a fault cut
-abbrev pub GainsUntilCut : (is_cut : Bool) → (held held_after : Option (List ℕ)) →
-    List (List ℕ) → Type 0
-GainsUntilCut true held held_after pieces = GainsUpToCut held held_after pieces
-GainsUntilCut false held held_after pieces = Appends held held_after (joined pieces)

@@ -4,7 +4,7 @@ use Rattle.desc_frame.specs.Frames.{Frame, IsFrame, spelling}
 use Rattle.wl_wire.specs.Messages.{joined, bad_size_at, behind}
 use Rattle.broker_model.specs.declared.journal.Entry.{Entry}
 use Rattle.broker_model.specs.declared.journal.Entry.TheVariants as entries
-use Rattle.step_cutter.specs.Steps.{steps_in}
+use Rattle.broker_cutter.specs.Steps.{steps_in}
 
 -- the tokens of a frame, where it has any
 abbrev pub token_steps : ℕ → List ℕ → List Entry

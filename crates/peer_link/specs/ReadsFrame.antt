@@ -1,7 +1,7 @@
 -- What one frame made of a peer's link, and the reading of it before its end is said
 use Rattle.std.specs.Prelude.{◌≡◌, ◌≢◌, ◌⊎◌, ◌≤◌, ℕ, List, ◌++◌, Option, Some, None, Result, Ok, Err}
 use Rattle.relay_model.specs.declared.act.EndCause.{EndCause}
-use Rattle.seat_steps.specs.declared.limits.Limits.{Limits}
+use Rattle.broker_steps.specs.declared.limits.Limits.{Limits}
 use Rattle.wl_wire.specs.Messages.{bad_size_at, behind}
 use Rattle.broker_model.specs.declared.journal.Entry.{Entry}
 use Rattle.broker_core.specs.Stands.{end_of}

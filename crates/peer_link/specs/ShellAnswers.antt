@@ -3,7 +3,7 @@ use Rattle.std.specs.Prelude.{ℕ, ◌+◌, ◌==◌, if◌then◌else◌, List,
 use Rattle.std.specs.Fmt.{decimal}
 use Rattle.kbd_grab.specs.declared.keyboard.Route.{Route}
 use Rattle.kbd_grab.specs.declared.keyboard.Route.TheVariants as routes
-use Rattle.seat_steps.specs.declared.limits.Limits.{Limits}
+use Rattle.broker_steps.specs.declared.limits.Limits.{Limits}
 use Rattle.relay_core.specs.Stands.{route_told}
 use Rattle.broker_model.specs.declared.journal.Entry.{Entry}
 use Rattle.broker_model.specs.Out.{act_at}

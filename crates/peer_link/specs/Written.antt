@@ -2,19 +2,16 @@
 use Rattle.std.specs.Prelude.{◌≡◌, ◌⊎◌, ℕ, ◌≤◌, List, [], length, map, sum, Bool, false, Option, Some, Result, Ok, Err}
 use Rattle.std.specs.List.{AllByRecursion}
 use Rattle.std.specs.Io.KnownBytes.{Appends}
-use Rattle.seat_steps.specs.declared.limits.Limits.{Limits}
-use Rattle.seat_steps.specs.Ranges.{IsWithin}
+use Rattle.broker_steps.specs.declared.limits.Limits.{Limits}
+use Rattle.broker_steps.specs.Ranges.{IsWithin}
 use Rattle.wl_wire.specs.Messages.{joined}
 use Rattle.broker_model.specs.declared.journal.Entry.TheVariants as entries
 use Rattle.broker_model.specs.Out.{Outgoing}
 use Rattle.broker_core.specs.Taking.{out_at}
 use Rattle.desc_frame.specs.Frames.{spelling}
 use Rattle.hub_lock.specs.Passes.{PeerPass}
-use Rattle.peer_link.specs.declared.ends.TakeEnd.{TakeEnd}
 use Rattle.peer_link.specs.declared.ends.WriteEnd.{WriteEnd}
-use Rattle.peer_link.specs.declared.ends.WriteEnd.TheVariants as ends
 use Rattle.peer_link.specs.Made.{entries_by, journal_of}
-use Rattle.peer_link.specs.Gains.{GainsUpToCut}
 use Rattle.peer_link.specs.WritesPeer.{frames_of, is_cut, WritesPeer}
 
 -- the takes so far: what they took is all that was taken of what is out for the peer, and this was
@@ -36,21 +33,11 @@ Writing limits pass held now =
     ((entries_by pass.seat ≡ []) × Appends held now [])
     ⊎ HasTaken limits pass (λ pieces. Appends held now (joined pieces))
 
--- a write failed, and since then nothing was written
-abbrev pub Draining : Limits → PeerPass → (held now : Option (List ℕ)) → Type 0
-Draining limits pass held now = HasTaken limits pass (GainsUpToCut held now)
-
 -- it goes on, or has ended
 abbrev pub WritesOn : Limits → PeerPass → (held now : Option (List ℕ)) →
     Result (Unit {0}) WriteEnd → Type 0
 WritesOn limits pass held now (Ok done) = Writing limits pass held now
 WritesOn limits pass held now (Err end) = WritesPeer limits pass held now end
-
--- the same after a failed write
-abbrev pub DrainsOn : Limits → PeerPass → (held now : Option (List ℕ)) →
-    Result (Unit {0}) TakeEnd → Type 0
-DrainsOn limits pass held now (Ok done) = Draining limits pass held now
-DrainsOn limits pass held now (Err end) = WritesPeer limits pass held now (ends.WriteFault end)
 
 -- a write failed
 abbrev pub has_failed : Result (Unit {0}) WriteEnd → Bool

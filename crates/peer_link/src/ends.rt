@@ -29,30 +29,15 @@ pub enum ReadEnd {
     NoMemory,
 }
 
-/// How the taking of what is stored for a peer ended.
-#[derive(Clone, Copy, Debug, PartialEq, Eq, Error)]
-pub enum TakeEnd {
-    /// The peer has ended, and all that was stored for it was taken.
-    #[error("all that was stored is taken")]
-    Closed,
-    /// The journal was full for a take. So much it held.
-    #[error("the journal is full with {} entries", .0.entries)]
-    JournalFull(Kept),
-    /// There was no memory.
-    #[error("there was no memory")]
-    NoMemory,
-}
-
 /// How the writing to a peer's link ended.
 #[derive(Clone, Copy, Debug, PartialEq, Eq, Error)]
 pub enum WriteEnd {
     /// The peer has ended, and all that was stored for it was taken and written.
     #[error("all that was stored is written")]
     Closed,
-    /// A write failed, and the sink's count of faults rose. What came after it was taken and not
-    /// written, and the taking ended so.
-    #[error("a write failed, and then: {0}")]
-    WriteFault(TakeEnd),
+    /// A write failed, and the sink's count of faults rose. Nothing was taken after it.
+    #[error("a write failed")]
+    WriteFault,
     /// The journal was full for a take. So much it held.
     #[error("the journal is full with {} entries", .0.entries)]
     JournalFull(Kept),

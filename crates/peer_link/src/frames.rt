@@ -13,12 +13,12 @@ ghost use Rattle.peer_link.specs.ReadsFrame.{MakesFrame};
 use crate::ends::ReadEnd;
 use crate::messages::{Ahead, submit_messages};
 use crate::step::submit_step;
+use broker_cutter::Cutter;
+use broker_steps::{PeerStep, TokenList};
 use hub_lock::{Gate, Hub, ReaderPass};
 use relay_model::EndCause;
-use seat_steps::{PeerStep, TokenList};
 use std::alloc::Global;
 use std::sync::Wait;
-use step_cutter::Cutter;
 
 // The tokens of a frame, where it has any.
 fn submit_tokens<R: Wait, G: Gate>(

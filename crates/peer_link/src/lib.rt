@@ -11,10 +11,9 @@ mod order;
 mod reader;
 mod shell;
 mod step;
-mod taking;
 mod writer;
 
-pub use ends::{ReadEnd, ShellEnd, TakeEnd, WriteEnd};
+pub use ends::{ReadEnd, ShellEnd, WriteEnd};
 pub use reader::read_peer;
 pub use shell::read_shell;
 pub use writer::write_peer;

@@ -2,9 +2,9 @@
 ghost use Rattle.std.specs.Prelude.{◌≡◌, ◌++◌, ◌∷◌, [], None, IfOk, OnOk};
 ghost use Rattle.wl_wire.specs.Messages.{bad_size_at, IsBad};
 ghost use Rattle.wl_wire.specs.Streams.{begun};
-ghost use Rattle.seat_steps.specs.Ranges.{IsBody};
+ghost use Rattle.broker_steps.specs.Ranges.{IsBody};
 ghost use Rattle.broker_model.specs.declared.journal.Entry.TheVariants as entries;
-ghost use Rattle.step_cutter.specs.Steps.{steps_in};
+ghost use Rattle.broker_cutter.specs.Steps.{steps_in};
 ghost use Rattle.hub_lock.specs.Passes.{IsOf};
 ghost use Rattle.hub_lock.specs.Calls.{pass_having_seen};
 ghost use Rattle.peer_link.specs.Made.{SawMore};
@@ -12,11 +12,11 @@ ghost use Rattle.peer_link.specs.Submits.{Submits, LeavesOff, HasEndedBad};
 
 use crate::ends::ReadEnd;
 use crate::step::submit_step;
+use broker_cutter::{Cut, Cutter};
+use broker_steps::PeerStep;
 use hub_lock::{Gate, Hub, ReaderPass};
-use seat_steps::PeerStep;
 use std::alloc::Global;
 use std::sync::Wait;
-use step_cutter::{Cut, Cutter};
 use wl_wire::{Bytes, Raw};
 
 /// Whether a peer's next bytes may give steps.

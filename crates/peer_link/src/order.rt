@@ -2,7 +2,7 @@
 ghost use Rattle.std.specs.Prelude.{◌≡◌, ◌≢◌, ◌≤◌, ◌++◌, ℕ, List, IfOk, IfErr, OnSome, Err};
 ghost use Rattle.wio_core.specs.Io.{Rose, StaysQuiet};
 ghost use Rattle.wio_core.specs.Lines.{TookFrom};
-ghost use Rattle.seat_steps.specs.Ranges.{IsShellStep};
+ghost use Rattle.broker_steps.specs.Ranges.{IsShellStep};
 ghost use Rattle.hub_lock.specs.Seats.{having_seen};
 ghost use Rattle.hub_lock.specs.Passes.{IsOf};
 ghost use Rattle.peer_link.specs.Made.{SawMore};
@@ -11,8 +11,8 @@ ghost use Rattle.peer_link.specs.Ordering.{CanGoOn, NoOrder, ReadsOrder, IsOrder
 
 use crate::ends::ShellEnd;
 use broker_core::{Applied, Refused};
+use broker_steps::ShellStep;
 use hub_lock::{Hub, ShellPass};
-use seat_steps::ShellStep;
 use session_text::{BadLine, Form, Line, read_line};
 use std::alloc::Global;
 use std::sync::Wait;

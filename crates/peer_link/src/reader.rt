@@ -14,12 +14,12 @@ ghost use Rattle.peer_link.specs.ReadsFrame.{ReadsFrame, ReadsLink};
 use crate::ends::ReadEnd;
 use crate::frames::play_frame;
 use crate::step::submit_step;
+use broker_cutter::Cutter;
+use broker_steps::PeerStep;
 use desc_frame::{FrameReader, Got};
 use hub_lock::{Gate, Hub, ReaderPass};
-use seat_steps::PeerStep;
 use std::alloc::Global;
 use std::sync::Wait;
-use step_cutter::Cutter;
 use wio_core::{NoMemory, Source};
 
 // Reads the next frame, and submits its steps.

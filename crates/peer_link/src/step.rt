@@ -1,8 +1,8 @@
 //! One step of a peer's link.
 ghost use Rattle.std.specs.Prelude.{◌≡◌, ◌∷◌, [], Err, OnOk, IfErr};
-ghost use Rattle.seat_steps.specs.declared.step.Step.TheVariants as steps;
+ghost use Rattle.broker_steps.specs.declared.step.Step.TheVariants as steps;
 ghost use Rattle.broker_core.specs.Broker.{peer_entry};
-ghost use Rattle.seat_steps.specs.Ranges.{IsPeerStep};
+ghost use Rattle.broker_steps.specs.Ranges.{IsPeerStep};
 ghost use Rattle.hub_lock.specs.Passes.{IsOf};
 ghost use Rattle.hub_lock.specs.Calls.{LegalStep, pass_having_seen};
 ghost use Rattle.peer_link.specs.Made.{SawMore};
@@ -10,8 +10,8 @@ ghost use Rattle.peer_link.specs.Submits.{Submits, EndedIfBad, IsRefusal};
 
 use crate::ends::ReadEnd;
 use broker_core::{Applied, Refused};
+use broker_steps::PeerStep;
 use hub_lock::{Gate, Hub, ReaderPass};
-use seat_steps::PeerStep;
 use std::sync::Wait;
 
 // Submits a step, and tells the gate before and after.

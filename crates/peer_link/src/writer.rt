@@ -10,14 +10,13 @@ ghost use Rattle.peer_link.specs.WritesPeer.{is_cut, WritesPeer};
 ghost use Rattle.peer_link.specs.Written.{Writing, WritesOn, has_failed};
 
 use crate::ends::WriteEnd;
-use crate::taking::take_rest;
 use broker_core::Took;
 use desc_frame::FrameWriter;
 use hub_lock::{Hub, Room, WriterPass};
 use std::sync::Wait;
 use wio_core::{Failed, Sink};
 
-// Takes once, and writes it as a frame. Where the write fails, it takes all that is still to come.
+// Takes once, and writes it as a frame.
 fn write_next<R: Wait, K: Sink>(
     rt: &R,
     hub: &Hub,
@@ -42,7 +41,7 @@ fn write_next<R: Wait, K: Sink>(
     match hub.wait_take_into(rt, pass, room) {
         Took::Bytes(_, _) => match FrameWriter::put(sink, room.bytes(), room.tokens()) {
             Ok(()) => Ok(()),
-            Err(Failed) => Err(WriteEnd::WriteFault(take_rest(rt, hub, pass, room))),
+            Err(Failed) => Err(WriteEnd::WriteFault),
         },
         Took::Closed => Err(WriteEnd::Closed),
         Took::JournalFull(kept) => Err(WriteEnd::JournalFull(kept)),
@@ -52,16 +51,15 @@ fn write_next<R: Wait, K: Sink>(
 }
 
 /// Takes what is stored for the pass's peer, as it comes, and writes what each take gave as one
-/// frame. Once a write failed it goes on taking, so that nothing stays stored for a peer that
-/// nobody hears, and writes nothing more.
+/// frame, up to the first write that fails: after that it takes nothing.
 ///
-/// `Closed` comes where the peer has ended and all was taken, `JournalFull` where the journal was
-/// full for a take; `NoMemory` may come at any take. Where a write failed, `WriteFault` says which
-/// of these the taking came to.
+/// `Closed` comes where the peer has ended and all was taken, `WriteFault` where a write failed,
+/// `JournalFull` where the journal was full for a take; `NoMemory` may come at any take.
 ///
-/// It returns no earlier than that, also after a failed write: whoever can't write to a link any
-/// more has to see to it that the peer ends, as by a sink that hangs up where a write fails, so
-/// that the link's reader comes to its end. (Wait: it promises what it does if it returns.)
+/// After another end than `Closed` nobody takes what is stored for the peer any more: whoever can't
+/// write to a link has to see to it that the peer ends, as by a sink that hangs up where a write
+/// fails, so that the link's reader comes to its end and says that the link is gone.
+/// (Wait: it promises what it does if it returns.)
 pub fn write_peer<R: Wait, K: Sink>(
     rt: &R,
     hub: &Hub,

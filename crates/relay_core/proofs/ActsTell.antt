@@ -27,7 +27,7 @@ use Rattle.field_state.specs.Stands.{Kept as KeptField}
 use Rattle.field_state.specs.Changes as change
 use Rattle.field_state.specs.declared.commit.Taken.{Taken}
 use Rattle.field_state.specs.declared.commit.Taken.TheVariants.{Begun, Updated, Ended, Nothing}
-use Rattle.seat_objects.specs.Objects.{find, owner_in, field_in, committed}
+use Rattle.relay_objects.specs.Objects.{find, owner_in, field_in, committed}
 use Rattle.relay_core.specs.Machine.{State, counted, committing, taken_by, displaced_by, owner_at, focused_in, enter_told, method_told, current_of, state_of, holder_state, state_told, activate_told, update_told, deactivate_told, release_told, part_told, serving_unless, drop_told, gone_told, commit_told}
 use Rattle.relay_core.specs.Stands.{Stands, state_kept, current_where}
 use Rattle.relay_core.proofs.LookUpsFind.{finds_owner, finds_kept, owner_at_is, focused_is, holder_state_is}

@@ -21,7 +21,7 @@ use Rattle.virt_keys.specs.Routes.{of_another, standing_call}
 use Rattle.virt_keys.specs.Boards.{Board, new_board, turned, AreDown}
 use Rattle.virt_keys.specs.PeerBoards.{unless_of}
 use Rattle.virt_keys.proofs.TurnedKeys.{turned_down}
-use Rattle.seat_objects.specs.Objects.{find, is_peer_in}
+use Rattle.relay_objects.specs.Objects.{find, is_peer_in}
 use Rattle.relay_core.specs.State.{State, owner_at}
 use Rattle.relay_core.specs.BoardKeys.{Boards, live_board, with_keymap, key_turned, grab_with, grab_in, board_after}
 use Rattle.relay_core.specs.BoardsStand.{calls_on, IsKept, KeptAt, BoardsStand}

@@ -15,7 +15,7 @@ use Rattle.kbd_grab.specs.declared.keyboard.Route.{Route}
 use Rattle.kbd_grab.specs.Keys as board
 use Rattle.kbd_grab.specs.Keyboard.{routed_at}
 use Rattle.virt_keys.specs.Boards.{Board, routed, mods_routed}
-use Rattle.seat_objects.specs.Keyboard.{key_told, board_mods_told}
+use Rattle.relay_objects.specs.Keyboard.{key_told, board_mods_told}
 use Rattle.relay_core.specs.KeyCalls.{route_of}
 use Rattle.relay_core.specs.Machine.{State, tells}
 use Rattle.relay_core.specs.BoardKeys.{Boards, live_board, may_send, key_sent, mods_sent, grab_in, sent_by, sent_told}

@@ -25,7 +25,7 @@ use Rattle.field_state.specs.declared.commit.Taken.{Taken}
 use Rattle.field_state.specs.declared.commit.Taken.TheVariants.{Begun, Updated, Ended, Nothing}
 use Rattle.kbd_grab.specs.Keyboard as keyboard
 use Rattle.relay_core.specs.KeyCalls.{key_calls}
-use Rattle.seat_objects.specs.Objects.{committed}
+use Rattle.relay_objects.specs.Objects.{committed}
 use Rattle.relay_core.specs.Machine.{State, counted, taken_in, taken_by, displaced_by, held, field_committed}
 use Rattle.relay_core.specs.Stands.{Stands, word_kept as kept_word, state_kept, current_where, field_kept}
 use Rattle.relay_core.proofs.ActsLeaveScreen.{keys_same, commit_calm}

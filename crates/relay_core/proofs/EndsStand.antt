@@ -15,8 +15,8 @@ use Rattle.relay_model.proofs.HoldLaws.{holder_entered, kept_unfocused}
 use Rattle.relay_model.proofs.ActivationLaws.{serving_step}
 use Rattle.kbd_grab.specs.Keyboard.{Keyboard, StandsFor}
 use Rattle.relay_core.specs.KeyCalls.{key_calls}
-use Rattle.seat_objects.specs.declared.object.Object.{Object as Kept}
-use Rattle.seat_objects.specs.Objects.{not_label, not_peer, refocused}
+use Rattle.relay_objects.specs.declared.object.Object.{Object as Kept}
+use Rattle.relay_objects.specs.Objects.{not_label, not_peer, refocused}
 use Rattle.relay_core.specs.Machine.{State, counted, fallen_keys, parted, served_unless, unserved, dropped, gone, owner_at, focused_in}
 use Rattle.relay_core.specs.Stands.{Stands, entries}
 use Rattle.relay_core.proofs.KeyboardAfterActs.{keys_dropped, keys_gone}

@@ -10,9 +10,9 @@ use Rattle.relay_model.specs.Popups.{area}
 use Rattle.relay_model.proofs.ObjectLaws.{object_step, object_new}
 use Rattle.field_state.specs.Stands.{Kept as KeptField}
 use Rattle.field_state.specs.Changes as change
-use Rattle.seat_objects.specs.declared.object.Object.{Object as Kept}
-use Rattle.seat_objects.specs.declared.object.Kind.TheVariants.{Surface, Field}
-use Rattle.seat_objects.specs.Objects.{not_label, not_peer, changed, refocused, kind_placed, placed_at}
+use Rattle.relay_objects.specs.declared.object.Object.{Object as Kept}
+use Rattle.relay_objects.specs.declared.object.Kind.TheVariants.{Surface, Field}
+use Rattle.relay_objects.specs.Objects.{not_label, not_peer, changed, refocused, kind_placed, placed_at}
 use Rattle.relay_core.specs.Stands.{field_kept, kind_of, entry_of, entry, entries}
 use Rattle.relay_core.proofs.HistoryEntries.{Moves, AllMove, entry_new, entries_step, eqb_sym, filter_all, map_id}
 

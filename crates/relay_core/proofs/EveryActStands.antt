@@ -14,7 +14,7 @@ use Rattle.relay_model.specs.Told.{to_method, told_by}
 use Rattle.relay_model.proofs.ActsOrIdle.{IsHistory}
 use Rattle.relay_model.proofs.FocusLaws.{and_left}
 use Rattle.relay_core.specs.Machine.{State, counted, field_committed, keyed, route_in, moved, says, after, tells}
-use Rattle.seat_objects.specs.Keyboard.{key_told}
+use Rattle.relay_objects.specs.Keyboard.{key_told}
 use Rattle.relay_core.specs.Popups.{popups_where_holds}
 use Rattle.relay_core.specs.Stands.{Stands}
 use Rattle.relay_core.proofs.LookUpsFind.{is_key, live_is}

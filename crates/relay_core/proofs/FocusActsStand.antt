@@ -16,7 +16,7 @@ use Rattle.relay_model.proofs.ActivationLaws.{serving_step, serving_alive}
 use Rattle.relay_model.proofs.PendingLaws.{pending_out, pending_refocused}
 use Rattle.kbd_grab.specs.Keyboard as keyboard
 use Rattle.relay_core.specs.KeyCalls.{key_calls}
-use Rattle.seat_objects.specs.Objects.{find, owner_in, not_label, refocused}
+use Rattle.relay_objects.specs.Objects.{find, owner_in, not_label, refocused}
 use Rattle.relay_core.specs.Machine.{State, counted, released, refocused_to, unfocused}
 use Rattle.relay_core.specs.Stands.{Stands}
 use Rattle.relay_core.proofs.ActsLeaveScreen.{IsCalm, keys_same, focus_calm, unfocus_calm, drop_calm}

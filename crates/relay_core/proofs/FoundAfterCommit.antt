@@ -7,10 +7,10 @@ use Rattle.field_state.specs.Changes as change
 use Rattle.field_state.specs.Calls as field
 use Rattle.field_state.specs.Hold.{holds_after}
 use Rattle.field_state.specs.declared.commit.Taken.{Taken}
-use Rattle.seat_objects.specs.declared.object.Object.{Object}
-use Rattle.seat_objects.specs.declared.object.Kind.{Kind}
-use Rattle.seat_objects.specs.declared.object.Kind.TheVariants.{Peer, Surface, Field, Method, Popup, Grab, Thing, Board}
-use Rattle.seat_objects.specs.Objects.{find, changed, committed, field_of_kind, field_in}
+use Rattle.relay_objects.specs.declared.object.Object.{Object}
+use Rattle.relay_objects.specs.declared.object.Kind.{Kind}
+use Rattle.relay_objects.specs.declared.object.Kind.TheVariants.{Peer, Surface, Field, Method, Popup, Grab, Thing, Board}
+use Rattle.relay_objects.specs.Objects.{find, changed, committed, field_of_kind, field_in}
 use Rattle.relay_core.specs.Machine.{current_of, taken_in, text_around}
 use Rattle.relay_core.specs.Kept.{text_pending}
 

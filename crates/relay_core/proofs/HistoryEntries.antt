@@ -8,8 +8,8 @@ use Rattle.relay_model.specs.declared.act.Act.{Act}
 use Rattle.relay_model.specs.Objects.{Object, owner, object, alive, labels, remains, made, maker}
 use Rattle.relay_model.proofs.ObjectLaws.{remains_none}
 use Rattle.relay_model.proofs.ActivationLaws.{Each, each_append, each_map}
-use Rattle.seat_objects.specs.declared.object.Object.{Object as Kept}
-use Rattle.seat_objects.specs.Objects.{find}
+use Rattle.relay_objects.specs.declared.object.Object.{Object as Kept}
+use Rattle.relay_objects.specs.Objects.{find}
 use Rattle.relay_core.specs.Stands.{entry_of, entry, entries}
 
 pub eqb_sym : (x y : ℕ) → (x == y) ≡ (y == x)

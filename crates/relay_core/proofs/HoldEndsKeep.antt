@@ -6,7 +6,7 @@ use Rattle.relay_model.specs.declared.act.Act.{Act}
 use Rattle.relay_model.specs.Hold.{holder}
 use Rattle.relay_model.specs.Activation.{Deactivates, serving, notice}
 use Rattle.kbd_grab.specs.Keyboard.{Keyboard}
-use Rattle.seat_objects.specs.declared.object.Object.{Object as Kept}
+use Rattle.relay_objects.specs.declared.object.Object.{Object as Kept}
 use Rattle.relay_core.specs.Machine.{State, no_edits, deactivated, released, parted}
 use Rattle.relay_core.proofs.ServiceIsKept.{ServedIn, LeavesEdits, served_notified, served_none}
 use Rattle.relay_core.proofs.SteadyActs.{ended}

@@ -17,7 +17,7 @@ use Rattle.field_state.specs.Calls as field
 use Rattle.field_state.specs.Stands.{Kept as KeptField}
 use Rattle.field_state.specs.Changes as change
 use Rattle.field_state.specs.declared.commit.Word.{Word as KeptWord}
-use Rattle.seat_objects.specs.Objects.{asked}
+use Rattle.relay_objects.specs.Objects.{asked}
 use Rattle.relay_core.specs.Stands.{word_kept as kept_word, state_kept, current_where, field_kept}
 
 -- a field of these parts

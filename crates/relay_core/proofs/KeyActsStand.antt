@@ -22,11 +22,11 @@ use Rattle.relay_model.proofs.FocusLaws.{IsSteady, focus_same, object_same, ente
 use Rattle.relay_model.proofs.HoldLaws.{kept_same}
 use Rattle.relay_model.proofs.ActivationLaws.{serving_same}
 use Rattle.kbd_grab.specs.Keyboard.{Keyboard, StandsFor, turned}
-use Rattle.seat_objects.specs.declared.object.Kind.{Kind as KeptKind}
-use Rattle.seat_objects.specs.declared.object.Kind.TheVariants.{Popup, Grab}
+use Rattle.relay_objects.specs.declared.object.Kind.{Kind as KeptKind}
+use Rattle.relay_objects.specs.declared.object.Kind.TheVariants.{Popup, Grab}
 use Rattle.relay_core.specs.KeyCalls.{key_calls, route_of}
-use Rattle.seat_objects.specs.Objects.{find, owner_in, placed_at}
-use Rattle.seat_objects.specs.Keyboard.{keymap_told, repeat_told, mods_told, keyboard_told, key_told}
+use Rattle.relay_objects.specs.Objects.{find, owner_in, placed_at}
+use Rattle.relay_objects.specs.Keyboard.{keymap_told, repeat_told, mods_told, keyboard_told, key_told}
 use Rattle.relay_core.specs.Machine.{State, counted, made_for, made_by, stands_now, grabbed, keyed, route_in, moved}
 use Rattle.relay_core.specs.Stands.{Stands, entries, kind_of}
 use Rattle.relay_core.proofs.KeyboardAfterActs.{standing_is, keys_grabbed, keys_turned, keymap_stands, repeat_stands, mods_stands, route_is, refused_goes, refused_turns}

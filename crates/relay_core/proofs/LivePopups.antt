@@ -2,11 +2,11 @@
 use Rattle.std.proofs.Common.{◌≡◌, ℕ, List, [], ◌∷◌, ◌++◌, refl, ap, ◌∙◌}
 use Rattle.std.specs.List.{flat_map}
 use Rattle.popup_place.specs.declared.geometry.Rect.{Rect}
-use Rattle.seat_objects.specs.declared.object.Object.{Object}
-use Rattle.seat_objects.specs.declared.object.Kind.{Kind}
-use Rattle.seat_objects.specs.declared.object.Kind.TheVariants.{Peer, Surface, Field, Method, Popup, Grab, Thing, Board}
-use Rattle.seat_objects.specs.declared.listed.LivePopup.{LivePopup}
-use Rattle.seat_objects.specs.Listed.{popup_of_kind, popups_of}
+use Rattle.relay_objects.specs.declared.object.Object.{Object}
+use Rattle.relay_objects.specs.declared.object.Kind.{Kind}
+use Rattle.relay_objects.specs.declared.object.Kind.TheVariants.{Peer, Surface, Field, Method, Popup, Grab, Thing, Board}
+use Rattle.relay_objects.specs.declared.listed.LivePopup.{LivePopup}
+use Rattle.relay_objects.specs.Listed.{popup_of_kind, popups_of}
 use Rattle.relay_core.specs.State.{State}
 use Rattle.relay_core.specs.Popups.{live_told, kind_told, popup_told}
 

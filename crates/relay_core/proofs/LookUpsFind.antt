@@ -15,9 +15,9 @@ use Rattle.relay_model.specs.Idle.{is_live, is_place, is_sized}
 use Rattle.relay_model.proofs.ActsOrIdle.{IsHistory}
 use Rattle.relay_model.proofs.FocusLaws.{entered_field}
 use Rattle.relay_model.proofs.HoldLaws.{holder_entered}
-use Rattle.seat_objects.specs.Objects.{find, is_peer_in, is_surface_in, is_field_in, is_method_in, is_peer_kind, is_surface_kind, is_field_kind, is_method_kind, owner_in, field_of_kind, field_in, field_at, count_of_field, count_in, surface_of_kind, has_popup_in}
+use Rattle.relay_objects.specs.Objects.{find, is_peer_in, is_surface_in, is_field_in, is_method_in, is_peer_kind, is_surface_kind, is_field_kind, is_method_kind, owner_in, field_of_kind, field_in, field_at, count_of_field, count_in, surface_of_kind, has_popup_in}
 use Rattle.relay_core.specs.Machine.{State, owner_at, focused_in, entered_in, is_thing_in, is_live_in, current_of, holder_state}
-use Rattle.seat_objects.specs.declared.object.Object.{Object as Kept}
+use Rattle.relay_objects.specs.declared.object.Object.{Object as Kept}
 use Rattle.relay_core.specs.Stands.{Stands, state_kept, current_where, field_kept, kind_of, entry_of, entry}
 use Rattle.relay_core.proofs.HistoryEntries.{map_if, found, found_of}
 

@@ -21,8 +21,8 @@ use Rattle.relay_model.proofs.FocusLaws.{entered_field}
 use Rattle.relay_model.proofs.HoldLaws.{holder_entered, holder_refocused, kept_unfocused, kept_same}
 use Rattle.relay_model.proofs.ActivationLaws.{Each, each_map, serving_step, serving_alive}
 use Rattle.relay_model.proofs.FocusLaws.{focus_left}
-use Rattle.seat_objects.specs.declared.object.Object.{Object as Kept}
-use Rattle.seat_objects.specs.Objects.{find, owner_in, is_field_kind as is_field_kept}
+use Rattle.relay_objects.specs.declared.object.Object.{Object as Kept}
+use Rattle.relay_objects.specs.Objects.{find, owner_in, is_field_kind as is_field_kept}
 use Rattle.relay_core.specs.Machine.{State, counted, focused_in, said_to, leaves_of, release_told, is_fresh, batch_of, group_told, group_of_holder, batch_told}
 use Rattle.relay_core.specs.Stands.{Stands, edits_of, entry, entry_of, entries, kind_of, count_from}
 use Rattle.relay_core.proofs.HistoryEntries.{labels_within, entry_label}

@@ -21,9 +21,9 @@ use Rattle.relay_model.proofs.ActsOrIdle.{IsHistory}
 use Rattle.relay_model.proofs.HoldLaws.{kept_same}
 use Rattle.relay_model.proofs.FocusLaws.{focus_alive}
 use Rattle.field_state.specs.Calls as field
-use Rattle.seat_objects.specs.declared.object.Object.{Object as Kept}
-use Rattle.seat_objects.specs.declared.object.Kind.TheVariants.{Popup}
-use Rattle.seat_objects.specs.Objects.{find, area_in, area_of_kind, placed_at}
+use Rattle.relay_objects.specs.declared.object.Object.{Object as Kept}
+use Rattle.relay_objects.specs.declared.object.Kind.TheVariants.{Popup}
+use Rattle.relay_objects.specs.Objects.{find, area_in, area_of_kind, placed_at}
 use Rattle.relay_core.specs.Machine.{State, counted, made_by}
 use Rattle.relay_core.specs.Popups.{cursor_in, corner_at, origin_in, shown_told, kind_told, popup_told, popups_beside, popups_told, popups_where_holds, popup_beside, new_popup_told}
 use Rattle.relay_core.specs.Stands.{Stands, kind_of, entry_of, entry}

@@ -17,7 +17,7 @@ use Rattle.relay_model.proofs.ActsOrIdle.{IsHistory}
 use Rattle.relay_model.proofs.FocusLaws.{IsSteady, focus_same}
 use Rattle.relay_model.proofs.HoldLaws.{kept_same}
 use Rattle.relay_model.proofs.ActivationLaws.{serving_same}
-use Rattle.seat_objects.specs.declared.object.Kind.TheVariants.{Thing, Board}
+use Rattle.relay_objects.specs.declared.object.Kind.TheVariants.{Thing, Board}
 use Rattle.relay_core.specs.Machine.{State, counted, made}
 use Rattle.relay_core.specs.Stands.{Stands, entries}
 use Rattle.relay_core.proofs.ActsLeaveScreen.{IsCalm, keys_same, registry_calm, sync_calm, seat_calm, thing_calm, bad_calm, vboard_calm, vkeymap_calm, vkey_calm, vmods_calm}

@@ -18,8 +18,8 @@ use Rattle.relay_model.proofs.BatchLaws.{count_new}
 use Rattle.relay_model.proofs.PendingLaws.{out_beyond, pending_new}
 use Rattle.field_state.specs.Calls as field
 use Rattle.field_state.specs.Changes.{fresh, focused}
-use Rattle.seat_objects.specs.declared.object.Kind.TheVariants.{Peer, Surface, Field, Method}
-use Rattle.seat_objects.specs.Objects.{no_area, asked, requested}
+use Rattle.relay_objects.specs.declared.object.Kind.TheVariants.{Peer, Surface, Field, Method}
+use Rattle.relay_objects.specs.Objects.{no_area, asked, requested}
 use Rattle.relay_core.specs.Machine.{State, counted, made, new_field, activated, asking, method_made, serves}
 use Rattle.relay_core.specs.Stands.{Stands, word_kept, state_kept, current_where, field_kept, entries, entry_of}
 use Rattle.relay_core.proofs.SurfaceAreas.{area_beyond}

@@ -8,7 +8,7 @@ use Rattle.relay_model.specs.Objects.{Object, is_at, is_kind, is_surface_kind, i
 use Rattle.relay_model.specs.Popups.{area}
 use Rattle.relay_model.proofs.ActsOrIdle.{IsHistory, live}
 use Rattle.relay_model.proofs.ObjectLaws.{object_step, kind_within}
-use Rattle.seat_objects.specs.Objects.{no_area}
+use Rattle.relay_objects.specs.Objects.{no_area}
 
 -- a label that isn't made yet has no area
 pub area_beyond : (log : List Act) (x : ℕ) → IsHistory log → length log < x → area log x ≡ no_area

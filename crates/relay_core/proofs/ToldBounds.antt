@@ -26,14 +26,14 @@ use Rattle.kbd_grab.specs.declared.keyboard.Mods.{Mods}
 use Rattle.kbd_grab.specs.declared.keyboard.Repeat.{Repeat}
 use Rattle.kbd_grab.specs.declared.keyboard.Route.{Route}
 use Rattle.kbd_grab.specs.declared.keyboard.Route.TheVariants.{ToGrab, Pass, Nowhere, TooMany}
-use Rattle.seat_objects.specs.declared.object.Object.{Object}
-use Rattle.seat_objects.specs.declared.object.Kind.{Kind}
-use Rattle.seat_objects.specs.declared.object.Kind.TheVariants.{Peer, Surface, Field, Method, Popup, Grab, Thing, Board}
-use Rattle.seat_objects.specs.declared.spare.Spare.{Spare}
-use Rattle.seat_objects.specs.Objects.{find, is_field_kind, changed, committed, kind_placed, placed_at, field_in, count_in, owner_in}
-use Rattle.seat_objects.specs.Listed.{fields_of, popup_of_kind, popup_of, popups_of}
-use Rattle.seat_objects.specs.Keyboard.{keymap_told, repeat_told, mods_told, keyboard_told, key_told}
-use Rattle.seat_objects.proofs.ToldFields.{told_are, none_told}
+use Rattle.relay_objects.specs.declared.object.Object.{Object}
+use Rattle.relay_objects.specs.declared.object.Kind.{Kind}
+use Rattle.relay_objects.specs.declared.object.Kind.TheVariants.{Peer, Surface, Field, Method, Popup, Grab, Thing, Board}
+use Rattle.relay_objects.specs.declared.spare.Spare.{Spare}
+use Rattle.relay_objects.specs.Objects.{find, is_field_kind, changed, committed, kind_placed, placed_at, field_in, count_in, owner_in}
+use Rattle.relay_objects.specs.Listed.{fields_of, popup_of_kind, popup_of, popups_of}
+use Rattle.relay_objects.specs.Keyboard.{keymap_told, repeat_told, mods_told, keyboard_told, key_told}
+use Rattle.relay_objects.proofs.ToldFields.{told_are, none_told}
 use Rattle.relay_core.specs.Machine.{State, counted, is_live_in, said_to, text_around, around_told, state_told, activate_told, update_told, deactivate_told, group_told, leaves_of, release_told, enter_told, method_told, part_told, serving_unless, drop_told, gone_told, commit_told, group_of_holder, batch_of, says, tells, deactivated, held, committing, taken_by, displaced_by, field_committed, made_by, focused_in, owner_at, state_of, holder_state, stands_now, is_fresh}
 use Rattle.relay_core.specs.Popups.{shown_told, kind_told, popup_told, popups_beside, popups_told, popups_where_holds, popup_beside, cursor_in}
 use Rattle.relay_core.specs.Kept.{HasSpare, text_pending}

@@ -10,7 +10,7 @@ use Rattle.relay_model.specs.Told.{told}
 use Rattle.relay_model.proofs.ActsOrIdle.{history_is}
 use Rattle.kbd_grab.specs.declared.keyboard.Route.{Route}
 use Rattle.kbd_grab.specs.declared.keyboard.Route.TheVariants.{ToGrab, Pass, Nowhere, TooMany}
-use Rattle.seat_objects.specs.declared.spare.Spare.{Spare}
+use Rattle.relay_objects.specs.declared.spare.Spare.{Spare}
 use Rattle.relay_core.specs.Machine.{State, tells}
 use Rattle.relay_core.specs.BoardKeys.{Boards, sent_by, sent_told}
 use Rattle.relay_core.specs.Bounds.{text_bytes, most_told}

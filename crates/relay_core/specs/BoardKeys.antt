@@ -10,8 +10,8 @@ use Rattle.relay_model.specs.Keys.{is_press}
 use Rattle.kbd_grab.specs.declared.keyboard.Route.{Route}
 use Rattle.virt_keys.specs.Boards.{Board, new_board, routed, turned, mods_routed}
 pub use Rattle.virt_keys.specs.PeerBoards.{unless_of}
-use Rattle.seat_objects.specs.Objects.{find, is_peer_in}
-use Rattle.seat_objects.specs.Keyboard.{key_told, board_mods_told}
+use Rattle.relay_objects.specs.Objects.{find, is_peer_in}
+use Rattle.relay_objects.specs.Keyboard.{key_told, board_mods_told}
 use Rattle.virt_keys.specs.Boards as virt
 use Rattle.relay_core.specs.State.{State, owner_at}
 

@@ -5,8 +5,8 @@ use Rattle.relay_model.specs.declared.act.Act.TheVariants as acts
 use Rattle.relay_model.specs.declared.said.Told.{Told}
 use Rattle.relay_model.specs.declared.said.Said.{Said}
 use Rattle.relay_model.specs.declared.said.Said.TheVariants as said
-use Rattle.seat_objects.specs.declared.object.Object.{Object}
-use Rattle.seat_objects.specs.Listed.{fields_of, popups_of}
+use Rattle.relay_objects.specs.declared.object.Object.{Object}
+use Rattle.relay_objects.specs.Listed.{fields_of, popups_of}
 use Rattle.relay_core.specs.State.{State, owner_at}
 
 -- the text of an event, empty where it has none

@@ -5,11 +5,11 @@ use Rattle.relay_model.specs.declared.act.Act.TheVariants as acts
 use Rattle.field_state.specs.Stands.{Kept}
 use Rattle.relay_core.specs.declared.boards.Boards as declared
 use Rattle.relay_core.specs.declared.machine.Machine.{Machine}
-use Rattle.seat_objects.specs.declared.spare.Spare.{Spare}
-use Rattle.seat_objects.specs.Objects.{find, field_in}
+use Rattle.relay_objects.specs.declared.spare.Spare.{Spare}
+use Rattle.relay_objects.specs.Objects.{find, field_in}
 use Rattle.relay_core.specs.BoardKeys.{Boards, HasBoard}
 use Rattle.relay_core.specs.Machine.{State, holder_state, text_around}
-use Rattle.seat_objects.specs.Fits.{FitsMessage, FindsRoom}
+use Rattle.relay_objects.specs.Fits.{FitsMessage, FindsRoom}
 
 -- what the machine keeps, without what is reserved
 abbrev pub state : Machine → State

@@ -20,13 +20,13 @@ use Rattle.field_state.specs.declared.commit.Taken.{Taken}
 use Rattle.field_state.specs.declared.commit.Taken.TheVariants.{Begun, Updated, Ended, Nothing}
 use Rattle.kbd_grab.specs.Keyboard.{Keyboard, turned, answer_at}
 use Rattle.kbd_grab.specs.declared.keyboard.Route.{Route}
-use Rattle.seat_objects.specs.declared.object.Kind.{Kind}
-use Rattle.seat_objects.specs.declared.object.Kind.TheVariants.{Peer, Surface, Field, Method, Popup, Grab, Thing, Board}
-use Rattle.seat_objects.specs.Objects.{find, is_peer_in, is_surface_in, is_field_in, is_method_in, owner_in, field_in, count_in, no_area, has_popup_in, not_label, not_peer, requested, refocused, committed, placed_at}
-use Rattle.seat_objects.specs.Keyboard.{keyboard_told, key_told}
+use Rattle.relay_objects.specs.declared.object.Kind.{Kind}
+use Rattle.relay_objects.specs.declared.object.Kind.TheVariants.{Peer, Surface, Field, Method, Popup, Grab, Thing, Board}
+use Rattle.relay_objects.specs.Objects.{find, is_peer_in, is_surface_in, is_field_in, is_method_in, owner_in, field_in, count_in, no_area, has_popup_in, not_label, not_peer, requested, refocused, committed, placed_at}
+use Rattle.relay_objects.specs.Keyboard.{keyboard_told, key_told}
 use Rattle.relay_core.specs.Popups.{popups_told, popups_where_holds, new_popup_told}
 pub use Rattle.relay_core.specs.State.{State, owner_at, focused_in, entered_in, is_thing_in, current_of, state_of, holder_state}
-pub use Rattle.seat_objects.specs.Saying.{said_to, text_around, around_told, state_told, activate_told, update_told, deactivate_told, group_told}
+pub use Rattle.relay_objects.specs.Saying.{said_to, text_around, around_told, state_told, activate_told, update_told, deactivate_told, group_told}
 
 -- the act may do something here; a press of a key that is refused does nothing besides, and what
 -- boards send does nothing here

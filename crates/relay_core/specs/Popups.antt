@@ -6,11 +6,11 @@ use Rattle.popup_place.specs.Popup.{place_of}
 use Rattle.relay_model.specs.declared.said.Told.{Told}
 use Rattle.relay_model.specs.Objects.{is_at}
 use Rattle.relay_model.specs.Popups.{corner, size_of, place_told}
-use Rattle.seat_objects.specs.declared.object.Object.{Object}
-use Rattle.seat_objects.specs.declared.object.Kind.{Kind}
-use Rattle.seat_objects.specs.declared.object.Kind.TheVariants.{Popup}
-use Rattle.seat_objects.specs.declared.listed.LivePopup.{LivePopup}
-use Rattle.seat_objects.specs.Objects.{find, area_in}
+use Rattle.relay_objects.specs.declared.object.Object.{Object}
+use Rattle.relay_objects.specs.declared.object.Kind.{Kind}
+use Rattle.relay_objects.specs.declared.object.Kind.TheVariants.{Popup}
+use Rattle.relay_objects.specs.declared.listed.LivePopup.{LivePopup}
+use Rattle.relay_objects.specs.Objects.{find, area_in}
 use Rattle.relay_core.specs.State.{State, holder_state}
 
 -- the cursor rectangle of the holder, where it is set

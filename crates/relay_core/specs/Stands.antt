@@ -22,9 +22,9 @@ use Rattle.field_state.specs.Calls as field
 use Rattle.field_state.specs.Stands.{Kept as KeptField}
 use Rattle.field_state.specs.declared.commit.Word.{Word as KeptWord}
 use Rattle.field_state.specs.declared.commit.Word.TheVariants as kept
-use Rattle.seat_objects.specs.declared.object.Object.{Object as Kept}
-use Rattle.seat_objects.specs.declared.object.Kind.{Kind}
-use Rattle.seat_objects.specs.declared.object.Kind.TheVariants.{Peer, Surface, Field, Method, Popup, Grab, Thing, Board}
+use Rattle.relay_objects.specs.declared.object.Object.{Object as Kept}
+use Rattle.relay_objects.specs.declared.object.Kind.{Kind}
+use Rattle.relay_objects.specs.declared.object.Kind.TheVariants.{Peer, Surface, Field, Method, Popup, Grab, Thing, Board}
 use Rattle.relay_core.specs.Machine.{State, no_edits}
 use Rattle.relay_core.specs.Kept.{Shown}
 use Rattle.relay_core.specs.KeyCalls.{key_calls, route_of}

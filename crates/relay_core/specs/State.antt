@@ -5,9 +5,9 @@ use Rattle.relay_model.specs.Objects.{is_same}
 use Rattle.edit_batch.specs.Calls.{LastEdits}
 use Rattle.field_state.specs.Calls as field
 use Rattle.kbd_grab.specs.Keyboard.{Keyboard}
-use Rattle.seat_objects.specs.declared.object.Object.{Object}
-use Rattle.seat_objects.specs.Objects.{find, is_peer_in, is_field_in, owner_in, field_in, field_at}
-pub use Rattle.seat_objects.specs.Saying.{current_of}
+use Rattle.relay_objects.specs.declared.object.Object.{Object}
+use Rattle.relay_objects.specs.Objects.{find, is_peer_in, is_field_in, owner_in, field_in, field_at}
+pub use Rattle.relay_objects.specs.Saying.{current_of}
 
 -- what the relay keeps
 pub record State : Type 0 where

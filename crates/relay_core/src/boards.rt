@@ -6,12 +6,12 @@ ghost use Rattle.relay_core.specs.Kept.{state, kept};
 ghost use Rattle.relay_core.specs.BoardKeys.{live_board, may_send, with_keymap, key_turned};
 ghost use Rattle.relay_core.specs.BoardKeys.{key_sent, mods_sent, unless_of, board_after, sent_by};
 ghost use Rattle.relay_core.specs.BoardKeys.{sent_told, is_for_boards, HasBoard};
-ghost use Rattle.seat_objects.specs.Reached.{Reached};
+ghost use Rattle.relay_objects.specs.Reached.{Reached};
 
 use crate::machine::Machine;
 use kbd_grab::Route;
 use relay_model::{Act, Label};
-use seat_objects::{Post, is_number, tell_board_mods, tell_key};
+use relay_objects::{Post, is_number, tell_board_mods, tell_key};
 use std::alloc::Global;
 use virt_keys::VKeys;
 use wio_core::NoMemory;

@@ -2,8 +2,8 @@
 ghost use Rattle.std.specs.Prelude.{◌≡◌, ◌-◌, ◌<◌, true, option_map, Option, Some, None};
 ghost use Rattle.relay_model.specs.declared.act.Act.TheVariants as acts;
 ghost use Rattle.field_state.specs.Hold.{holds_after};
-ghost use Rattle.seat_objects.specs.Objects.{find, field_in, count_in};
-ghost use Rattle.seat_objects.specs.Reached.{Reached};
+ghost use Rattle.relay_objects.specs.Objects.{find, field_in, count_in};
+ghost use Rattle.relay_objects.specs.Reached.{Reached};
 ghost use Rattle.relay_core.specs.Kept.{state, text_pending};
 ghost use Rattle.relay_core.specs.Machine.{owner_at, activated, updated, deactivated, released};
 ghost use Rattle.relay_core.specs.Machine.{refocused_to, unfocused, parted, gone, taken_in};
@@ -16,7 +16,7 @@ use crate::machine::Machine;
 use crate::turning::owner_at;
 use field_state::Taken;
 use relay_model::Label;
-use seat_objects::{
+use relay_objects::{
     Objects, Post, tell_activate, tell_deactivate, tell_enters, tell_leaves, tell_update,
 };
 use serial_count::Since;
@@ -167,7 +167,7 @@ impl Machine {
         }
     }
 
-    #[tactic(auto, using(seat_objects::proofs::TellsAppend::reached_append))]
+    #[tactic(auto, using(relay_objects::proofs::TellsAppend::reached_append))]
     pub fn focus<P: Post>(&mut self, surface: Label, post: &mut P)
         ensures state { state self.new ≡ refocused_to (Some surface) (released (state self.old)) }
         ensures told { Reached P.may_follow post.old (says (acts.Focus surface) (state self.old))
@@ -180,7 +180,7 @@ impl Machine {
         self.refocus(Some(surface));
     }
 
-    #[tactic(auto, using(seat_objects::proofs::TellsAppend::reached_append))]
+    #[tactic(auto, using(relay_objects::proofs::TellsAppend::reached_append))]
     pub fn unfocus<P: Post>(&mut self, post: &mut P)
         ensures state { state self.new ≡ unfocused (state self.old) }
         ensures told { Reached P.may_follow post.old (says acts.Unfocus (state self.old)) post.new }

@@ -1,7 +1,7 @@
 //! The relay's part on keys: grabs, and what the shell says of the keyboard.
 ghost use Rattle.std.specs.Prelude.{◌≡◌, ◌<◌, ◌≤◌};
 ghost use Rattle.relay_model.specs.declared.act.Act.TheVariants as acts;
-ghost use Rattle.seat_objects.specs.Reached.{Reached};
+ghost use Rattle.relay_objects.specs.Reached.{Reached};
 ghost use Rattle.relay_core.specs.Kept.{state};
 ghost use Rattle.relay_core.specs.BoardKeys.{grab_in};
 ghost use Rattle.relay_core.specs.Machine.{made_by, fallen, grabbed, keyed, route_in, moved, says};
@@ -9,7 +9,7 @@ ghost use Rattle.relay_core.specs.Machine.{made_by, fallen, grabbed, keyed, rout
 use crate::machine::Machine;
 use kbd_grab::{Keymap, Mods, Repeat, Route};
 use relay_model::{Label, Said};
-use seat_objects::{Kind, Post, is_number, tell_grab, tell_key, tell_keyboard};
+use relay_objects::{Kind, Post, is_number, tell_grab, tell_key, tell_keyboard};
 
 impl Machine {
     /// The method made an object.

@@ -18,4 +18,4 @@ mod turning;
 pub use kbd_grab::Route;
 pub use laws::{board_law, keyboard_law};
 pub use relay::Relay;
-pub use seat_objects::Post;
+pub use relay_objects::Post;

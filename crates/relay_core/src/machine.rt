@@ -4,7 +4,7 @@ ghost use Rattle.std.specs.Prelude.{◌+◌, ◌≤◌};
 use edit_batch::Pending;
 use kbd_grab::Grab;
 use relay_model::{Label, Size};
-use seat_objects::{Objects, Spare};
+use relay_objects::{Objects, Spare};
 use serial_count::{Count32, Since};
 use std::alloc::Global;
 

@@ -2,9 +2,9 @@
 ghost use Rattle.std.specs.Prelude.{◌≡◌, ◌&&◌, ◌-◌, ◌<◌, ◌≤◌, Some, None, length};
 ghost use Rattle.relay_model.specs.declared.act.Act.TheVariants as acts;
 ghost use Rattle.relay_model.specs.Objects.{is_at};
-ghost use Rattle.seat_objects.specs.Reached.{Reached};
+ghost use Rattle.relay_objects.specs.Reached.{Reached};
 ghost use Rattle.relay_core.specs.Kept.{state};
-ghost use Rattle.seat_objects.specs.Groups.{batch_in};
+ghost use Rattle.relay_objects.specs.Groups.{batch_in};
 ghost use Rattle.relay_core.specs.Machine.{served_unless, serving_unless, serves, method_made};
 ghost use Rattle.relay_core.specs.Machine.{gone, moved, after, text_around, holder_state};
 ghost use Rattle.relay_core.specs.Machine.{method_told, batch_of, is_fresh, group_of_holder};
@@ -12,7 +12,7 @@ ghost use Rattle.relay_core.specs.Machine.{batch_told};
 
 use crate::machine::Machine;
 use relay_model::{Label, Text};
-use seat_objects::{Group, Kind, Post, Preedit, is_number, tell_group, tell_unavailable};
+use relay_objects::{Group, Kind, Post, Preedit, is_number, tell_group, tell_unavailable};
 use serial_count::{Count32, Since, fresh};
 
 // The serial names a done of the present activation.

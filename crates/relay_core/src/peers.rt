@@ -3,13 +3,13 @@
 ghost use Rattle.std.specs.Prelude.{◌≡◌, ◌<◌, ◌≤◌, [], ◌∷◌, map};
 ghost use Rattle.relay_model.specs.Globals.{global_told, globals_told};
 ghost use Rattle.relay_model.specs.Told.{to, synced};
-ghost use Rattle.seat_objects.specs.Reached.{Reached};
+ghost use Rattle.relay_objects.specs.Reached.{Reached};
 ghost use Rattle.relay_core.specs.Kept.{state};
 ghost use Rattle.relay_core.specs.Machine.{made};
 
 use crate::machine::Machine;
 use relay_model::{Fault, Interface, Label, Role, Said, Told};
-use seat_objects::{Kind, Post, tell_deleted};
+use relay_objects::{Kind, Post, tell_deleted};
 
 // Tells the object an event.
 #[inline(always)]
@@ -36,7 +36,7 @@ fn tell_global<P: Post>(registry: Label, name: u32, interface: Interface, post: 
 }
 
 // Tells a registry each of these globals.
-#[tactic(auto, using(seat_objects::proofs::TellsAppend::reached_append))]
+#[tactic(auto, using(relay_objects::proofs::TellsAppend::reached_append))]
 fn tell_offers<P: Post>(registry: Label, offers: &[(u32, Interface)], post: &mut P)
     ensures { Reached P.may_follow post.old (map (global_told registry) offers.now) post.new }
 {

@@ -2,8 +2,8 @@
 ghost use Rattle.std.specs.Prelude.{◌≡◌, ◌<◌, ◌≤◌, Option};
 ghost use Rattle.std.specs.List.{flat_map};
 ghost use Rattle.relay_model.specs.declared.act.Act.TheVariants as acts;
-ghost use Rattle.seat_objects.specs.declared.object.Kind.TheVariants.{Popup};
-ghost use Rattle.seat_objects.specs.Reached.{Reached};
+ghost use Rattle.relay_objects.specs.declared.object.Kind.TheVariants.{Popup};
+ghost use Rattle.relay_objects.specs.Reached.{Reached};
 ghost use Rattle.relay_core.specs.Kept.{state};
 ghost use Rattle.relay_core.specs.Popups.{cursor_in, origin_in, shown_told, live_told, popup_told};
 ghost use Rattle.relay_core.specs.Popups.{popups_told, popups_where_holds, new_popup_told};
@@ -12,7 +12,7 @@ ghost use Rattle.relay_core.specs.Machine.{made_by, moved, says};
 use crate::machine::Machine;
 use popup_place::place;
 use relay_model::{Label, Rect, Size};
-use seat_objects::{Kind, LivePopup, Object, Post, is_number, tell_place};
+use relay_objects::{Kind, LivePopup, Object, Post, is_number, tell_place};
 
 impl Machine {
     // The cursor rectangle of the holder, where it is set.
@@ -91,7 +91,7 @@ impl Machine {
         }
     }
 
-    #[tactic(auto, using(seat_objects::proofs::TellsAppend::reached_append))]
+    #[tactic(auto, using(relay_objects::proofs::TellsAppend::reached_append))]
     fn tell_each<P: Post>(&self, rect: Rect, popups: &[LivePopup], post: &mut P)
         ensures { Reached P.may_follow post.old (flat_map (live_told (state self.now) rect)
             popups.now) post.new }

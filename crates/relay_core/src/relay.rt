@@ -4,7 +4,7 @@ use crate::machine::Machine;
 use edit_batch::Pending;
 use kbd_grab::{Grab, Route};
 use relay_model::{Act, Label, Size};
-use seat_objects::{Objects, Post, Spare};
+use relay_objects::{Objects, Post, Spare};
 use serial_count::{Count32, Since};
 use std::alloc::Global;
 use std::marker::Model;
@@ -41,8 +41,8 @@ impl Relay {
     ghost use Rattle.relay_model.specs.Boards.{sends};
     ghost use Rattle.relay_model.specs.Idle.{history};
     ghost use Rattle.relay_model.specs.Told.{told};
-    ghost use Rattle.seat_objects.specs.Reached.{Reached};
-    ghost use Rattle.seat_objects.specs.Fits.{FitsMessage};
+    ghost use Rattle.relay_objects.specs.Reached.{Reached};
+    ghost use Rattle.relay_objects.specs.Fits.{FitsMessage};
     ghost use Rattle.relay_core.specs.Kept.{IsReserved};
     ghost use Rattle.relay_core.specs.Stands.{StandsFor, route_told};
 

@@ -2,7 +2,7 @@
 ghost use Rattle.std.specs.Prelude.{◌≡◌, ◌-◌, ◌<◌, ◌≤◌, Some, None, OnOk, OnErr, IsTrue};
 ghost use Rattle.wl_wire.specs.Texts.{has_no_zero};
 ghost use Rattle.relay_model.specs.declared.act.Act.{Act};
-ghost use Rattle.seat_objects.specs.Objects.{find, field_in};
+ghost use Rattle.relay_objects.specs.Objects.{find, field_in};
 ghost use Rattle.relay_core.specs.Kept.{state, HasSpare, text_pending};
 ghost use Rattle.relay_core.specs.Machine.{made, text_around, holder_state};
 

@@ -2,10 +2,10 @@
 ghost use Rattle.std.specs.Prelude.{◌≡◌, ◌&&◌, ◌+◌, ◌<◌, ◌≤◌, true, Option, Some, None};
 ghost use Rattle.relay_model.specs.declared.act.Act.{Act};
 ghost use Rattle.relay_model.specs.Idle.{is_place, is_sized};
-ghost use Rattle.seat_objects.specs.Fits.{FitsMessage};
-ghost use Rattle.seat_objects.specs.declared.object.Kind.TheVariants as kinds;
-ghost use Rattle.seat_objects.specs.Objects.{find, no_area};
-ghost use Rattle.seat_objects.specs.Reached.{Reached};
+ghost use Rattle.relay_objects.specs.Fits.{FitsMessage};
+ghost use Rattle.relay_objects.specs.declared.object.Kind.TheVariants as kinds;
+ghost use Rattle.relay_objects.specs.Objects.{find, no_area};
+ghost use Rattle.relay_objects.specs.Reached.{Reached};
 ghost use Rattle.relay_core.specs.Kept.{state, HasRoom, HasSpare};
 ghost use Rattle.relay_core.specs.Machine.{owner_at, entered_in, is_live_in, is_thing_in, made};
 ghost use Rattle.relay_core.specs.Machine.{new_field, serves, dropped, gone, moved, after};
@@ -16,7 +16,7 @@ use crate::peers::{tell_error, tell_synced};
 use field_state::Field;
 use kbd_grab::Route;
 use relay_model::{Act, Label, Rect};
-use seat_objects::{Kind, NO_AREA, Object, Objects, Post, is_number, tell_deleted, tell_enter};
+use relay_objects::{Kind, NO_AREA, Object, Objects, Post, is_number, tell_deleted, tell_enter};
 
 /// The peer of an object that may be there.
 pub fn owner_at(objects: &Objects, label: Option<Label>) -> Option<Label>
@@ -197,7 +197,7 @@ impl Machine {
         self.make(peer, Kind::Field(field));
     }
 
-    #[tactic(auto, using(seat_objects::proofs::TellsAppend::reached_append))]
+    #[tactic(auto, using(relay_objects::proofs::TellsAppend::reached_append))]
     fn drop_object<P: Post>(&mut self, label: Label, post: &mut P)
         ensures state { state self.new ≡ dropped label (state self.old) }
         ensures told { Reached P.may_follow post.old (drop_told label (state self.old)) post.new }

@@ -3,10 +3,10 @@ use Rattle.std.proofs.Common.{◌≡◌, ℕ, suc, Bool, true, List, [], ◌∷�
 use Rattle.std.specs.Prelude.{if◌then◌else◌, is_some}
 use Rattle.std.proofs.lemmas.Bool.{lt-leb}
 use Rattle.session_text.specs.declared.line.SessionLine.{SessionLine}
-use Rattle.transcript_text.specs.Seats.{seat_lines}
+use Rattle.lines_transcript.specs.Seats.{seat_lines}
 use Rattle.broker_model.specs.declared.journal.Entry.{Entry}
-use Rattle.seat_printer.specs.Transcribed.{entry_text, text_since}
-use Rattle.session_play.specs.Played.{line_played}
+use Rattle.lines_transcript.specs.Transcribed.{entry_text, text_since}
+use Rattle.seat_set.specs.Played.{line_played}
 use Rattle.seat_set.specs.Seats.{Seat, seat_by, seat_after, seat_said}
 
 -- a seat that is full stays, and its transcript has nothing more

@@ -4,7 +4,7 @@ use Rattle.std.specs.Prelude.{if◌then◌else◌, is_some, Result, OnErr}
 use Rattle.std.specs.List.{slice_get}
 use Rattle.std.proofs.lemmas.List.{drop-drop, drop-set-lt}
 use Rattle.std.proofs.lemmas.Option.{same_Some, slice_get-get_or}
-use Rattle.seat_steps.specs.declared.limits.Limits.{Limits}
+use Rattle.broker_steps.specs.declared.limits.Limits.{Limits}
 use Rattle.session_text.specs.declared.line.SessionLine.{SessionLine}
 use Rattle.session_text.specs.declared.line.SessionLine.TheVariants as lines
 use Rattle.session_text.specs.declared.seat_line.SeatLine.{SeatLine}
@@ -13,10 +13,10 @@ use Rattle.relay_model.specs.declared.act.EndCause.TheVariants.{Gone}
 use Rattle.broker_model.specs.declared.journal.Entry.TheVariants as entries
 use Rattle.broker_model.specs.Ids.{peer_at}
 use Rattle.broker_model.specs.Resolve.{past_of}
-use Rattle.seat_printer.specs.Printed.{IsFront}
-use Rattle.session_play.specs.Played.{Play, Played, went, step_played, line_played}
-use Rattle.session_play.specs.Playing.{IsMore}
-use Rattle.session_play.proofs.JournalGrows.{no_more, step_grows, bytes_grow, join_grows, take_grows, tokens_grow}
+use Rattle.lines_transcript.specs.Printed.{IsFront}
+use Rattle.seat_set.specs.Played.{Play, Played, went, step_played, line_played}
+use Rattle.seat_set.specs.Playing.{IsMore}
+use Rattle.seat_set.proofs.JournalGrows.{no_more, step_grows, bytes_grow, join_grows, take_grows, tokens_grow}
 use Rattle.seat_set.specs.Seats.{Seat, seat_by, seat_after, is_for, line_in}
 use Rattle.seat_set.specs.Begun.{IsBegun, IsBegunIf, AreBegun}
 use Rattle.seat_set.proofs.SeatPlayed.{stays_full}

@@ -8,7 +8,7 @@ use Rattle.std.proofs.lemmas.List.{take_more_set, drop-set-lt, take_all, drop_al
 use Rattle.session_text.specs.declared.line.SessionLine.{SessionLine}
 use Rattle.session_text.specs.declared.seat_line.SeatLine.{SeatLine}
 use Rattle.session_text.specs.declared.seat_line.SeatLine.TheVariants.{One, All}
-use Rattle.transcript_text.specs.Seats.{seat_lines}
+use Rattle.lines_transcript.specs.Seats.{seat_lines}
 use Rattle.seat_set.specs.Seats.{Seat, seat_after, seat_said, seats_after, seats_said}
 
 -- ---- all seats

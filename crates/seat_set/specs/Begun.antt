@@ -3,7 +3,7 @@ use Rattle.std.specs.Prelude.{◌≡◌, ℕ, ◌+◌, List, Bool, true, false, 
 use Rattle.std.specs.List.{slice_get}
 use Rattle.session_text.specs.declared.line.SessionLine.{SessionLine}
 use Rattle.session_text.specs.declared.seat_line.SeatLine.{SeatLine}
-use Rattle.session_play.specs.Playing.{IsMore}
+use Rattle.seat_set.specs.Playing.{IsMore}
 use Rattle.seat_set.specs.Seats.{Seat, seat_after, is_for, line_in}
 
 -- of a line that found no memory: a front of what it plays was played. The seat is full only if it

@@ -1,18 +1,18 @@
 -- Several seats side by side: what a line does to each, and what the transcript has more of it.
 use Rattle.std.specs.Prelude.{ℕ, ◌+◌, ◌==◌, List, [], ◌∷◌, ◌++◌, length, Bool, true, if◌then◌else◌, Option, Some, None, is_some}
-use Rattle.seat_steps.specs.declared.limits.Limits.{Limits}
+use Rattle.broker_steps.specs.declared.limits.Limits.{Limits}
 use Rattle.session_text.specs.declared.line.SessionLine.{SessionLine}
 use Rattle.session_text.specs.declared.seat_line.SeatLine.{SeatLine}
 use Rattle.session_text.specs.declared.seat_line.SeatLine.TheVariants.{One, All}
-use Rattle.transcript_text.specs.Seats.{seat_lines}
+use Rattle.lines_transcript.specs.Seats.{seat_lines}
 use Rattle.broker_model.specs.declared.journal.Kept.{Kept}
 use Rattle.broker_core.specs.Broker.{kept_in}
-use Rattle.seat_printer.specs.Transcribed.{text_since}
-use Rattle.session_play.specs.declared.session.Stop.{Stop}
-use Rattle.session_play.specs.declared.session.Stop.TheVariants as stops
-use Rattle.session_play.specs.Laws.{unplayed}
-use Rattle.session_play.specs.Played.{Play, Played, line_played}
-use Rattle.session_play.specs.Playing.{Playing}
+use Rattle.lines_transcript.specs.Transcribed.{text_since}
+use Rattle.seat_set.specs.declared.session.Stop.{Stop}
+use Rattle.seat_set.specs.declared.session.Stop.TheVariants as stops
+use Rattle.seat_set.specs.Laws.{unplayed}
+use Rattle.seat_set.specs.Played.{Play, Played, line_played}
+use Rattle.seat_set.specs.Playing.{Playing}
 
 -- a seat: what is allowed on it, what was played, and how much its journal held where a step met it
 -- full. Of a seat that is full no unread bytes are kept

@@ -1,14 +1,14 @@
 //! One of several seats.
 ghost use Rattle.std.specs.Prelude.{◌≡◌, length, IfOk, OnOk, OnErr, None};
-ghost use Rattle.seat_steps.specs.Ranges.{IsLimits};
+ghost use Rattle.broker_steps.specs.Ranges.{IsLimits};
 ghost use Rattle.session_text.specs.Steps.{IsSessionLine};
 ghost use Rattle.session_text.specs.declared.line.SessionLine.TheVariants as lines;
-ghost use Rattle.session_play.specs.Playing.{IsWatched};
+ghost use Rattle.seat_set.specs.Playing.{IsWatched};
 ghost use Rattle.seat_set.specs.Seats.{fresh, seat_after};
 ghost use Rattle.seat_set.specs.Begun.{IsBegun};
 
-use seat_steps::{Limits, Stamp};
-use session_play::{Kept, Player, Stop, Watch};
+use crate::{Kept, Player, Stop, Watch};
+use broker_steps::{Limits, Stamp};
 use session_text::SessionLine;
 use std::alloc::Global;
 use std::marker::Model;

@@ -2,28 +2,27 @@
 ghost use Rattle.std.specs.Prelude.{◌≡◌, ◌≤◌, ◌<◌, ◌-◌, ◌++◌, true, false, IfOk, IfSome, OnOk, OnErr};
 ghost use Rattle.std.specs.Prelude.{ℕ, List, length, replicate, string_bytes};
 ghost use Rattle.std.specs.List.{slice_get};
-ghost use Rattle.seat_steps.specs.Ranges.{IsLimits};
+ghost use Rattle.broker_steps.specs.Ranges.{IsLimits};
 ghost use Rattle.session_text.specs.Steps.{IsSessionLine};
 ghost use Rattle.session_text.specs.SeatLines.{IsSeatLine};
 ghost use Rattle.session_text.specs.declared.line.SessionLine.TheVariants as sessions;
 ghost use Rattle.session_text.specs.declared.seat_line.SeatLine.TheVariants as lines;
-ghost use Rattle.transcript_text.specs.Seats.{seat_lines};
+ghost use Rattle.lines_transcript.specs.Seats.{seat_lines};
 ghost use Rattle.broker_model.specs.declared.journal.Entry.{Entry};
-ghost use Rattle.seat_objects.specs.Reached.{Reached};
+ghost use Rattle.relay_objects.specs.Reached.{Reached};
 ghost use Rattle.broker_core.specs.Watched.{watched_since};
-ghost use Rattle.seat_printer.specs.Printed.{IsFront, MayPrint, blank};
-ghost use Rattle.seat_printer.specs.Transcribed.{text_since};
+ghost use Rattle.lines_transcript.specs.Printed.{IsFront, MayPrint, blank};
+ghost use Rattle.lines_transcript.specs.Transcribed.{text_since};
 ghost use Rattle.seat_set.specs.Seats.{fresh, seat_after, seat_said, seats_after, seats_said};
 ghost use Rattle.seat_set.specs.Begun.{IsBegun, AreBegun};
 
+use crate::Kept;
 use crate::seat_player::SeatPlayer;
-use seat_printer::Printer;
-use seat_steps::Limits;
-use session_play::Kept;
+use broker_steps::Limits;
+use lines_transcript::{Printer, add_seat_lines};
 use session_text::{SeatLine, SessionLine};
 use std::alloc::Global;
 use std::marker::Model;
-use transcript_text::add_seat_lines;
 use wio_core::NoMemory;
 
 // What a seat printed goes behind the text with the seat's number before each line. Most lines of an

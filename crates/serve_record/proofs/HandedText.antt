@@ -1,7 +1,7 @@
 -- The text of the oldest entries of a journal begins its recorded session
 use Rattle.std.proofs.Common.{◌≡◌, ◌+◌, ◌-◌, ◌<◌, ◌≤◌, ◌++◌, ◌∷◌, [], ℕ, List, length, Some, sym, ap, ◌∙◌, arith, append-nil}
 use Rattle.std.proofs.lemmas.List.{append_assoc}
-use Rattle.seat_steps.specs.declared.limits.Limits.{Limits}
+use Rattle.broker_steps.specs.declared.limits.Limits.{Limits}
 use Rattle.session_text.specs.declared.line.Line.TheVariants.{Header, End}
 use Rattle.broker_model.specs.Recorded.{entry_at}
 use Rattle.broker_core.specs.Broker.{Broker}

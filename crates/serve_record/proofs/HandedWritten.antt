@@ -1,7 +1,7 @@
 -- What one more hand-out makes of the pass, and of the output
 use Rattle.std.proofs.Common.{◌≡◌, ◌≤◌, ◌++◌, ◌∷◌, [], ℕ, List, length, Option, Some, None, Result, Ok, Err, OnOk, OnErr, ap, sym, subst, ◌∙◌, append-nil, refl, arith}
 use Rattle.std.proofs.lemmas.List.{append_assoc}
-use Rattle.seat_steps.specs.declared.limits.Limits.{Limits}
+use Rattle.broker_steps.specs.declared.limits.Limits.{Limits}
 use Rattle.session_text.specs.declared.line.Line.TheVariants.{Header}
 use Rattle.broker_core.specs.declared.letting_go.LetGo.{LetGo}
 use Rattle.turn_lock.specs.Pairs.{HasSeen, NoneOf}

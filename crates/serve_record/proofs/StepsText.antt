@@ -4,11 +4,11 @@ use Rattle.std.specs.Prelude.{nat_le}
 use Rattle.std.proofs.lemmas.Bool.{eq-eqb, ne_eqb, eqb-false}
 use Rattle.std.proofs.lemmas.List.{append_assoc}
 use Rattle.std.specs.List.{flat_map}
-use Rattle.seat_steps.specs.declared.limits.Limits.{Limits}
-use Rattle.seat_steps.specs.declared.stamp.Stamp.{Stamp}
+use Rattle.broker_steps.specs.declared.limits.Limits.{Limits}
+use Rattle.broker_steps.specs.declared.stamp.Stamp.{Stamp}
 use Rattle.session_text.specs.declared.line.Line.TheVariants.{Header, End}
 use Rattle.broker_model.specs.declared.journal.Entry.{Entry}
-use Rattle.long_list.specs.Long.{kept_at}
+use Rattle.out_store.specs.Long.{kept_at}
 use Rattle.broker_model.specs.Recorded.{entry_at}
 use Rattle.serve_record.specs.Recorded.{steps_text, text_line, recorded, entry_lines}
 use Rattle.serve_record.specs.Lines.{lines_text, text_at, text_without, stamped_text}

@@ -1,5 +1,5 @@
 //! A hub's session as text: its recorded session. That it replays to the same journal is proved in
-//! `record_law`.
+//! `law_record`.
 #![tactic(auto)]
 
 mod entry_lines;

@@ -9,8 +9,8 @@ ghost use Rattle.serve_record.specs.Lines.{text_at, GainsFront, Gains};
 
 use crate::record_text::RecordText;
 use broker_model::{Journal, StampList};
+use broker_steps::Limits;
 use hub_lock::Session;
-use seat_steps::Limits;
 use std::alloc::Global;
 use thiserror::Error;
 use wio_core::{Failed, NoMemory, Sink};

@@ -10,7 +10,7 @@ ghost use Rattle.serve_record.specs.Lines.{lines_text, GainsFront, Gains};
 use crate::entry_lines::add_entry;
 use crate::record::{RecordStop, header};
 use broker_model::Entry;
-use seat_steps::{Limits, Stamp};
+use broker_steps::{Limits, Stamp};
 use std::alloc::Global;
 use std::marker::Model;
 use wio_core::{NoMemory, Sink, write_all};

@@ -5,7 +5,7 @@ use Rattle.std.proofs.lemmas.Bool.{le-leb, leb-true, lt-ltb, ltb-true}
 use mathlib.Core.Logic.{∥∥₁_elim}
 use mathlib.Core.Bool.{Bool-set}
 use Rattle.relay_model.specs.declared.role.Role.{Role}
-use Rattle.seat_steps.specs.declared.limits.Limits.{Limits}
+use Rattle.broker_steps.specs.declared.limits.Limits.{Limits}
 use Rattle.broker_model.specs.declared.journal.Entry.{Entry}
 use Rattle.broker_model.specs.declared.journal.Entry.TheVariants as entries
 use Rattle.broker_model.specs.declared.journal.Kept.{Kept}
@@ -18,13 +18,12 @@ use Rattle.turn_lock.specs.Pairs.{HasSeen}
 use Rattle.hub_lock.specs.Histories.{History}
 use Rattle.hub_lock.specs.Passes.{PassSeat}
 use Rattle.peer_link.specs.declared.ends.ReadEnd.TheVariants as read_ends
-use Rattle.peer_link.specs.declared.ends.TakeEnd.TheVariants as takes
 use Rattle.peer_link.specs.declared.ends.WriteEnd.TheVariants as write_ends
 use Rattle.peer_link.specs.declared.ends.ShellEnd.TheVariants as shell_ends
 use Rattle.peer_link.specs.Made.{journal_of, IsAtLimit}
 use Rattle.peer_link.proofs.AtLimits.{at-limit, at-limit-later, reader-at-limit, writer-at-limit, shell-at-limit}
-use Rattle.link_jobs.specs.Tags.{Report, End}
-use Rattle.link_jobs.specs.Tags.End.{read, wrote, ordered}
+use Rattle.serve_jobs.specs.Tags.{Report, End}
+use Rattle.serve_jobs.specs.Tags.End.{read, wrote, ordered}
 use Rattle.serve_run.specs.declared.status.ServeStatus.TheVariants as statuses
 use Rattle.serve_run.specs.declared.stop.Stop.{Stop}
 use Rattle.serve_run.specs.declared.stop.Stop.TheVariants as stops
@@ -99,13 +98,8 @@ end_full limits h r (read (read_ends.Ended cause)) law is = absurd (cc)
 end_full limits h r (read read_ends.NoMemory) law is = absurd (cc)
 end_full limits h r (wrote (write_ends.JournalFull kept)) law is =
     pass_at_limit limits law.law.limits h r law.pass.seat law.law.constant law.seat
-    (writer-at-limit law.law.limits law.pass law.law.before r.held (write_ends.JournalFull kept) kept refl law.law.law)
-end_full limits h r (wrote (write_ends.WriteFault (takes.JournalFull kept))) law is =
-    pass_at_limit limits law.law.limits h r law.pass.seat law.law.constant law.seat
-    (writer-at-limit law.law.limits law.pass law.law.before r.held (write_ends.WriteFault (takes.JournalFull kept)) kept
-    refl law.law.law)
-end_full limits h r (wrote (write_ends.WriteFault takes.Closed)) law is = absurd (cc)
-end_full limits h r (wrote (write_ends.WriteFault takes.NoMemory)) law is = absurd (cc)
+    (writer-at-limit law.law.limits law.pass law.law.before r.held kept law.law.law)
+end_full limits h r (wrote write_ends.WriteFault) law is = absurd (cc)
 end_full limits h r (wrote write_ends.Closed) law is = absurd (cc)
 end_full limits h r (wrote write_ends.NoMemory) law is = absurd (cc)
 end_full limits h r (ordered (shell_ends.JournalFull kept)) law is =

@@ -1,7 +1,7 @@
 -- What a record holds at its beginning, while it is written, and at its end
 use Rattle.std.proofs.Common.{◌≡◌, inr, ◌≤◌, ◌++◌, [], ℕ, List, length, Option, Result, Ok, Err, OnOk, OnErr, IfOk, refl, sym, ap, ◌∙◌, subst, append-nil}
 use Rattle.std.specs.Io.KnownBytes.{Appends}
-use Rattle.seat_steps.specs.declared.limits.Limits.{Limits}
+use Rattle.broker_steps.specs.declared.limits.Limits.{Limits}
 use Rattle.broker_core.specs.declared.letting_go.LetGo.{LetGo}
 use Rattle.session_text.specs.declared.line.Line.TheVariants.{Header, End}
 use Rattle.hub_lock.specs.Histories.{History, broker_of}

@@ -1,7 +1,7 @@
 -- What was handed out and written is the recorded session of the history, or a front of it
 use Rattle.std.proofs.Common.{◌≡◌, ◌⊎◌, ⊎_elim, ◌≤◌, ◌++◌, ℕ, List, length, Option, Result, Ok, Err, sym, subst}
 use Rattle.std.specs.Io.KnownBytes.{Appends}
-use Rattle.seat_steps.specs.declared.limits.Limits.{Limits}
+use Rattle.broker_steps.specs.declared.limits.Limits.{Limits}
 use Rattle.broker_core.specs.Broker.{Broker}
 use Rattle.broker_core.specs.declared.letting_go.LetGo.{LetGo}
 use Rattle.session_text.specs.declared.line.Line.TheVariants.{End}

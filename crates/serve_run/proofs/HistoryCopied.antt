@@ -3,7 +3,7 @@ use Rattle.std.proofs.Common.{◌≡◌, ◌-◌, ◌<◌, ◌≤◌, ◌++◌, 
 use Rattle.std.specs.List.{slice_get}
 use Rattle.hub_lock.specs.Seats.{fresh_seat}
 use Rattle.hub_lock.specs.Passes.{HubId, PassSeat}
-use Rattle.link_jobs.specs.Tags.{Tag}
+use Rattle.serve_jobs.specs.Tags.{Tag}
 use Rattle.serve_run.specs.LinkJobs.{LinkedJob, IsOnHub, AreOnHub}
 use Rattle.serve_run.specs.Started.{IsRootOf, AreStarted}
 

@@ -4,7 +4,7 @@ use Rattle.std.proofs.lemmas.List.{append_assoc, map-append}
 use Rattle.std.proofs.lemmas.List.Elements.{All-append}
 use Rattle.relay_model.specs.declared.role.Role.{Role}
 use Rattle.hub_lock.specs.Passes.{HubId}
-use Rattle.link_jobs.specs.Tags.{Tag}
+use Rattle.serve_jobs.specs.Tags.{Tag}
 use Rattle.serve_run.specs.LinkJobs.{LinkedJob, IsOnHub, job_tagged, role_at, jobs_by, joins_by, passes_by, jobs_of, joins_of, passes_of}
 use Rattle.serve_run.specs.Started.{AreStarted}
 

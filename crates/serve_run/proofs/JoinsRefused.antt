@@ -1,7 +1,7 @@
 -- Why a join was refused
 use Rattle.std.proofs.Common.{◌≡◌, ◌++◌, [], ℕ, Option, Some, None, Result, Err, IfSome, sym, ◌∙◌, append-nil}
 use Rattle.relay_model.specs.declared.role.Role.{Role}
-use Rattle.seat_steps.specs.declared.limits.Limits.{Limits}
+use Rattle.broker_steps.specs.declared.limits.Limits.{Limits}
 use Rattle.broker_core.specs.declared.answers.JoinRefusal.{JoinRefusal}
 use Rattle.broker_core.specs.Broker.{join_refusal}
 use Rattle.hub_lock.specs.Histories.{History, broker_of}

@@ -2,7 +2,7 @@
 use Rattle.std.proofs.Common.{◌≡◌, ◌≢◌, ◌⊎◌, inl, inr, ⊎_elim, ◌+◌, ◌≤◌, ◌++◌, ◌∷◌, [], ℕ, zero, suc, true, List, length, map, take, drop, Option, Some, None, Result, Ok, Err, OnOk, refl, sym, ap, ◌∙◌, subst, arith, length-append}
 use Rattle.std.proofs.lemmas.List.{append_assoc, take_all}
 use Rattle.relay_model.specs.declared.role.Role.{Role}
-use Rattle.seat_steps.specs.declared.limits.Limits.{Limits}
+use Rattle.broker_steps.specs.declared.limits.Limits.{Limits}
 use Rattle.turn_lock.specs.Pairs.{own, HasSeen, IsIn, IsDistinct, total}
 use Rattle.hub_lock.specs.Seats.{fresh_seat}
 use Rattle.turn_lock.proofs.PairsOfNumbers.{own-seen}
@@ -10,8 +10,8 @@ use Rattle.hub_lock.specs.Histories.{History, broker_of}
 use Rattle.hub_lock.specs.Lawful.{IsLawful}
 use Rattle.hub_lock.specs.Passes.{HubId, PassSeat}
 use Rattle.wio_core.specs.Io.{Rose}
-use Rattle.link_nets.specs.declared.door.Door.{Door}
-use Rattle.link_jobs.specs.Tags.{Tag, Report}
+use Rattle.serve_net.specs.declared.door.Door.{Door}
+use Rattle.serve_jobs.specs.Tags.{Tag, Report}
 use Rattle.serve_words.specs.Words.{Serving, doors_of}
 use Rattle.serve_record.specs.declared.record.RecordStop.{RecordStop}
 use Rattle.serve_record.specs.declared.record.RecordStop.TheVariants as record_stops

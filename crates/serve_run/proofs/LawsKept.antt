@@ -2,14 +2,14 @@
 use Rattle.std.proofs.Common.{◌≡◌, ◌++◌, ◌∷◌, [], inl, inr, ℕ, List, Some, refl, sym, ap, ◌∙◌, subst, append-nil}
 use Rattle.std.proofs.Math.Logic.{∥∥₁_map}
 use Rattle.std.proofs.lemmas.List.{append_assoc}
-use Rattle.seat_steps.specs.declared.limits.Limits.{Limits}
+use Rattle.broker_steps.specs.declared.limits.Limits.{Limits}
 use Rattle.turn_lock.specs.Pairs.{own, HasSeen, IsIn}
 use Rattle.turn_lock.proofs.PairsOfNumbers.{own-append}
 use Rattle.hub_lock.specs.Histories.{History, reader_of, writer_of}
 use Rattle.hub_lock.specs.Passes.{PassSeat}
 use Rattle.hub_lock.proofs.ReadersStay.{reader-stays, writer-stays}
-use Rattle.link_jobs.specs.Tags.{Report, End}
-use Rattle.link_jobs.specs.Tags.End.{read, wrote, ordered}
+use Rattle.serve_jobs.specs.Tags.{Report, End}
+use Rattle.serve_jobs.specs.Tags.End.{read, wrote, ordered}
 use Rattle.serve_run.specs.declared.stop.Trouble.{Trouble}
 use Rattle.serve_run.specs.Statuses.{worse, worst_from, brought_by}
 use Rattle.serve_run.specs.Reported.{IsSeatOf, LawOf, HasLaw, HaveLaws, AreTaken}

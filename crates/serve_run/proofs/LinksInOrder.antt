@@ -5,10 +5,10 @@ use Rattle.std.proofs.Math.Seq.{take-suc}
 use Rattle.relay_model.specs.declared.role.Role.{Role}
 use Rattle.turn_lock.specs.Pairs.{own}
 use Rattle.hub_lock.specs.Passes.{HubId, PassSeat}
-use Rattle.link_nets.specs.declared.door.Door.{Door}
-use Rattle.link_nets.specs.declared.door.Door.TheVariants.{App}
+use Rattle.serve_net.specs.declared.door.Door.{Door}
+use Rattle.serve_net.specs.declared.door.Door.TheVariants.{App}
 use Rattle.serve_words.specs.Words.{door_of, doors_of}
-use Rattle.link_jobs.specs.Tags.{Tag}
+use Rattle.serve_jobs.specs.Tags.{Tag}
 use Rattle.std.specs.List.{slice_get}
 use Rattle.serve_run.specs.declared.stop.Stop.{Stop}
 use Rattle.serve_run.specs.declared.stop.Stop.TheVariants as stops

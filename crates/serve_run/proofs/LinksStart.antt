@@ -5,8 +5,8 @@ use Rattle.turn_lock.specs.Pairs.{own, NoneOf}
 use Rattle.turn_lock.proofs.PairsOfNumbers.{own-seen}
 use Rattle.hub_lock.specs.Seats.{after_split}
 use Rattle.hub_lock.specs.Passes.{HubId, PassSeat, PeerPass}
-use Rattle.link_jobs.specs.Tags.{Tag}
-use Rattle.link_jobs.specs.Tags.Part.{reader, writer, shell}
+use Rattle.serve_jobs.specs.Tags.{Tag}
+use Rattle.serve_jobs.specs.Tags.Part.{reader, writer, shell}
 use Rattle.serve_run.specs.declared.stop.Stop.{Stop}
 use Rattle.serve_run.specs.Refused.{stopped, WasRefused}
 use Rattle.serve_run.specs.Unserved.{IsGoneAlone}

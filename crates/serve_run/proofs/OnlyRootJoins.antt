@@ -5,13 +5,13 @@ use mathlib.Core.Logic.{dite, ∥∥₁_elim}
 use mathlib.Core.Bool.{Bool-set}
 use native.Mathlib.Decide.{ℕ_discrete}
 use Rattle.relay_model.specs.declared.act.EndCause.TheVariants.{Gone}
-use Rattle.seat_steps.specs.declared.limits.Limits.{Limits}
+use Rattle.broker_steps.specs.declared.limits.Limits.{Limits}
 use Rattle.wl_wire.specs.Messages.{messages, bad_size, bad_size_at, behind}
 use Rattle.broker_model.specs.declared.journal.Entry.{Entry}
 use Rattle.broker_model.specs.declared.journal.Entry.TheVariants as entries
 use Rattle.desc_frame.specs.declared.Got.{Got}
 use Rattle.desc_frame.specs.Frames.{Frame}
-use Rattle.step_cutter.specs.Steps.{message_entry, bad_entries, steps_in}
+use Rattle.broker_cutter.specs.Steps.{message_entry, bad_entries, steps_in}
 use Rattle.turn_lock.specs.Pairs.{own, HasSeen, IsIn}
 use Rattle.turn_lock.proofs.PairsOfNumbers.{own-here, own-else, own-seen}
 use Rattle.hub_lock.specs.declared.step.OuterStep.{OuterStep}
@@ -22,9 +22,9 @@ use Rattle.peer_link.specs.declared.ends.ReadEnd.TheVariants as ends
 use Rattle.peer_link.specs.Made.{entries_by}
 use Rattle.peer_link.specs.LinkSteps.{token_steps, steps_unless_bad, byte_steps, steps_behind, link_steps}
 use Rattle.peer_link.specs.ReadsPeer.{ReadsPeer, StopsAt, StopsBy, MadeAll, MadeBefore, EndsAs, gone_after}
-use Rattle.link_jobs.specs.Tags.{Report, End, Part}
-use Rattle.link_jobs.specs.Tags.End.{read, wrote, ordered}
-use Rattle.link_jobs.specs.Tags.Part.{reader, writer, shell}
+use Rattle.serve_jobs.specs.Tags.{Report, End, Part}
+use Rattle.serve_jobs.specs.Tags.End.{read, wrote, ordered}
+use Rattle.serve_jobs.specs.Tags.Part.{reader, writer, shell}
 use Rattle.serve_run.specs.LinkJobs.{LinkedJob, job_reported}
 use Rattle.serve_run.specs.Reported.{LawOf, HaveLaws}
 use Rattle.serve_run.specs.ServerLaw.{IsRootIfJoin, OnlyRootJoins}

@@ -1,12 +1,12 @@
 -- Passes whose jobs weren't started come back, and make nothing more
 use Rattle.std.proofs.Common.{◌≡◌, inl, ◌+◌, ◌≤◌, ◌++◌, ◌∷◌, [], ℕ, zero, suc, List, length, drop, refl, sym, ap, ◌∙◌, subst, arith}
-use Rattle.seat_steps.specs.declared.limits.Limits.{Limits}
+use Rattle.broker_steps.specs.declared.limits.Limits.{Limits}
 use Rattle.turn_lock.specs.Pairs.{own, NoneOf, HasSeen, IsIn}
 use Rattle.turn_lock.proofs.PairsOfNumbers.{own-seen}
 use Rattle.hub_lock.specs.Histories.{History}
 use Rattle.hub_lock.specs.Passes.{HubId, PassSeat, steps_of}
-use Rattle.link_jobs.specs.Tags.{Part}
-use Rattle.link_jobs.specs.Tags.Part.{reader, writer, shell}
+use Rattle.serve_jobs.specs.Tags.{Part}
+use Rattle.serve_jobs.specs.Tags.Part.{reader, writer, shell}
 use Rattle.serve_run.specs.LinkJobs.{LinkedJob}
 use Rattle.serve_run.specs.Unserved.{MadeBy, AreUnserved, pushed}
 use Rattle.serve_run.specs.Started.{IsGivenBack, AreGivenBack}

@@ -1,7 +1,7 @@
 -- The root while the pass of who records is out, and once it is back
 use Rattle.std.proofs.Common.{◌≡◌, ◌⊎◌, inl, inr, ◌∷◌, [], ℕ, Bool, true, false, length, refl, ap, sym, subst, ◌∙◌, arith}
 use Rattle.std.specs.Prelude.{nat_lt, if◌then◌else◌}
-use Rattle.seat_steps.specs.declared.limits.Limits.{Limits}
+use Rattle.broker_steps.specs.declared.limits.Limits.{Limits}
 use Rattle.turn_lock.specs.Pairs.{NoneOf, HasSeen, IsIn, longer, total}
 use Rattle.hub_lock.specs.Seats.{IsTallied, IsMeeting, after_split, split_off, having_seen, naming, met_with}
 use Rattle.turn_lock.proofs.PairsOfNumbers.{own-seen}

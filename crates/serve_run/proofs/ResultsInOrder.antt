@@ -2,7 +2,7 @@
 use Rattle.std.proofs.Common.{◌≡◌, ◌+◌, ◌<◌, ◌++◌, ◌∷◌, [], ℕ, zero, suc, List, length, map, take, drop, Some, sym, ap, ◌∙◌, subst, arith, length-append}
 use Rattle.std.proofs.lemmas.List.{map-append}
 use Rattle.std.specs.List.{slice_get}
-use Rattle.link_jobs.specs.Tags.{Tag, Report, IsReportOf}
+use Rattle.serve_jobs.specs.Tags.{Tag, Report, IsReportOf}
 use Rattle.serve_run.specs.LinkJobs.{job, job_tagged, job_reported}
 
 none_there : {A : Type 0} (i : ℕ) (x : A) → slice_get [] i ≡ Some x → ⊥

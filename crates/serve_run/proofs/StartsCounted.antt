@@ -5,8 +5,8 @@ use Rattle.broker_core.specs.declared.answers.JoinRefusal.{JoinRefusal}
 use Rattle.broker_core.specs.declared.answers.JoinRefusal.TheVariants as refusals
 use Rattle.hub_lock.specs.Histories.{History}
 use Rattle.hub_lock.specs.Passes.{HubId, PassSeat}
-use Rattle.seat_steps.specs.declared.limits.Limits.{Limits}
-use Rattle.link_jobs.specs.Tags.{Tag, Report}
+use Rattle.broker_steps.specs.declared.limits.Limits.{Limits}
+use Rattle.serve_jobs.specs.Tags.{Tag, Report}
 use Rattle.wio_core.specs.Io.{Rose}
 use Rattle.serve_run.specs.declared.stop.Stop.{Stop}
 use Rattle.serve_run.specs.declared.stop.Stop.TheVariants as stops

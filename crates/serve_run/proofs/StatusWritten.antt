@@ -1,7 +1,7 @@
 -- The status of a run, by how its record ended
 use Rattle.std.proofs.Common.{◌≡◌, ◌⊎◌, inl, inr, [], ℕ, List, Option, Result, Ok, Err, refl, sym, subst, append-nil}
 use Rattle.std.specs.Io.KnownBytes.{Appends}
-use Rattle.seat_steps.specs.declared.limits.Limits.{Limits}
+use Rattle.broker_steps.specs.declared.limits.Limits.{Limits}
 use Rattle.hub_lock.specs.Histories.{History, broker_of}
 use Rattle.serve_record.specs.declared.record.RecordStop.{RecordStop}
 use Rattle.serve_record.specs.declared.record.RecordStop.TheVariants as record_stops

@@ -5,7 +5,7 @@ use Rattle.wio_core.specs.Io.{Rose}
 use Rattle.hub_lock.specs.Histories.{History}
 use Rattle.hub_lock.specs.Lawful.{IsLawful}
 use Rattle.hub_lock.specs.Passes.{HubId, PassSeat}
-use Rattle.link_jobs.specs.Tags.{Tag, Report}
+use Rattle.serve_jobs.specs.Tags.{Tag, Report}
 use Rattle.serve_record.specs.declared.record.RecordStop.{RecordStop}
 use Rattle.serve_record.specs.declared.record.RecordStop.TheVariants as record_stops
 use Rattle.serve_run.specs.declared.status.ServeStatus.{ServeStatus}

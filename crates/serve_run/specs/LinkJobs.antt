@@ -9,8 +9,8 @@ use Rattle.broker_model.specs.declared.journal.Entry.TheVariants as entries
 use Rattle.hub_lock.specs.declared.step.OuterStep.{OuterStep}
 use Rattle.hub_lock.specs.Histories.{History, joining}
 use Rattle.hub_lock.specs.Passes.{HubId}
-use Rattle.link_jobs.specs.Tags.{Part, Tag, Report}
-use Rattle.link_jobs.specs.Tags.Part.{reader, writer, shell}
+use Rattle.serve_jobs.specs.Tags.{Part, Tag, Report}
+use Rattle.serve_jobs.specs.Tags.Part.{reader, writer, shell}
 
 -- a job of a link: the number of its pass, that of its link, and its part
 pub record LinkedJob : Type 0 where

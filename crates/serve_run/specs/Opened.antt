@@ -1,7 +1,7 @@
 -- The doors that a server opens, and when
 use Rattle.std.specs.Prelude.{◌≡◌, ◌⊎◌, ℕ, List, [], ◌∷◌, ◌++◌, length, map, reverse, take, Result, Err}
-use Rattle.link_nets.specs.declared.door.Door.{Door}
-use Rattle.link_nets.specs.declared.door.Door.TheVariants.{App, Method, Shell}
+use Rattle.serve_net.specs.declared.door.Door.{Door}
+use Rattle.serve_net.specs.declared.door.Door.TheVariants.{App, Method, Shell}
 use Rattle.serve_run.specs.declared.stop.Stop.{Stop}
 use Rattle.serve_run.specs.declared.stop.Stop.TheVariants as stops
 

@@ -2,7 +2,7 @@
 use Rattle.std.specs.Prelude.{◌≡◌, ◌⊎◌, ℕ, ◌+◌, List, ◌++◌, Option, Some, None, Result, Err, IfSome, IfNone}
 use Rattle.std.specs.List.{slice_get}
 use Rattle.relay_model.specs.declared.role.Role.{Role}
-use Rattle.seat_steps.specs.declared.limits.Limits.{Limits}
+use Rattle.broker_steps.specs.declared.limits.Limits.{Limits}
 use Rattle.broker_core.specs.declared.answers.JoinRefusal.{JoinRefusal}
 use Rattle.broker_core.specs.declared.answers.JoinRefusal.TheVariants as refusals
 use Rattle.broker_core.specs.Broker.{join_refusal}

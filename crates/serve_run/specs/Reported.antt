@@ -1,6 +1,6 @@
 -- The loop laws of the reports, for the one history of the hub
 use Rattle.std.specs.Prelude.{◌≡◌, ◌≢◌, ℕ, List, [], ◌∷◌, true, false, Some}
-use Rattle.seat_steps.specs.declared.limits.Limits.{Limits}
+use Rattle.broker_steps.specs.declared.limits.Limits.{Limits}
 use Rattle.turn_lock.specs.Pairs.{HasSeen, IsIn}
 use Rattle.hub_lock.specs.Histories.{History, reader_of, writer_of}
 use Rattle.hub_lock.specs.Passes.{PassSeat, PeerPass}
@@ -11,9 +11,9 @@ use Rattle.peer_link.specs.declared.ends.ShellEnd.{ShellEnd}
 use Rattle.peer_link.specs.declared.ends.ShellEnd.TheVariants as shell_ends
 use Rattle.peer_link.specs.ReadsPeer.{TellsNoFault}
 use Rattle.peer_link.specs.WritesPeer.{is_cut}
-use Rattle.link_jobs.specs.Tags.{Report, End}
-use Rattle.link_jobs.specs.Tags.End.{read, wrote, ordered}
-use Rattle.link_jobs.specs.LoopLaws.{HasRead, HasWritten, HasOrdered}
+use Rattle.serve_jobs.specs.Tags.{Report, End}
+use Rattle.serve_jobs.specs.Tags.End.{read, wrote, ordered}
+use Rattle.serve_jobs.specs.LoopLaws.{HasRead, HasWritten, HasOrdered}
 
 -- the history begins with what the pass has seen, and has no later step of the pass
 pub record IsSeatOf (limits : Limits) (h : History) (r : Report) (seat : PassSeat) : Type 0 where

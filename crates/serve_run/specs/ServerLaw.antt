@@ -9,8 +9,8 @@ use Rattle.hub_lock.specs.Histories.{History, broker_of}
 use Rattle.hub_lock.specs.Lawful.{IsLawful}
 use Rattle.peer_link.specs.Made.{journal_of, IsAtLimit}
 use Rattle.serve_record.specs.Recorded.{recorded}
-use Rattle.link_nets.specs.declared.door.Door.{Door}
-use Rattle.link_jobs.specs.Tags.{Tag, Report}
+use Rattle.serve_net.specs.declared.door.Door.{Door}
+use Rattle.serve_jobs.specs.Tags.{Tag, Report}
 use Rattle.serve_words.specs.Words.{Serving, doors_of}
 use Rattle.serve_record.specs.Lines.{GainsFront}
 use Rattle.serve_run.specs.declared.status.ServeStatus.{ServeStatus}

@@ -1,15 +1,15 @@
 -- What the joining and starting of links makes of the root and of the spawner
 use Rattle.std.specs.Prelude.{◌≡◌, ◌≢◌, ◌⊎◌, ℕ, ◌+◌, ◌-◌, ◌≤◌, Bool, true, false, if◌then◌else◌, ◌<◌, ◌^◌, List, [], ◌∷◌, ◌++◌, length, map, take, drop, Result, Err, OnOk, IfErr, All}
-use Rattle.seat_steps.specs.declared.limits.Limits.{Limits}
+use Rattle.broker_steps.specs.declared.limits.Limits.{Limits}
 use Rattle.relay_model.specs.declared.role.Role.{Role}
 use Rattle.std.specs.Prelude.{Option, Some}
 use Rattle.turn_lock.specs.Pairs.{own, HasSeen, IsIn}
 use Rattle.hub_lock.specs.Passes.{HubId, PassSeat, PeerPass, IsOf}
 use Rattle.wio_core.specs.Io.{Rose}
-use Rattle.link_nets.specs.declared.door.Door.{Door}
+use Rattle.serve_net.specs.declared.door.Door.{Door}
 use Rattle.serve_words.specs.Words.{doors_of}
-use Rattle.link_jobs.specs.Tags.{Tag, Report}
-use Rattle.link_jobs.specs.Tags.Part.{reader, writer}
+use Rattle.serve_jobs.specs.Tags.{Tag, Report}
+use Rattle.serve_jobs.specs.Tags.Part.{reader, writer}
 use Rattle.serve_run.specs.declared.stop.Stop.{Stop}
 use Rattle.serve_run.specs.declared.stop.Stop.TheVariants as stops
 use Rattle.serve_run.specs.Unserved.{AreUnserved, pushed}

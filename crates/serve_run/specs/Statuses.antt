@@ -9,11 +9,10 @@ use Rattle.serve_run.specs.declared.stop.Stop.TheVariants as stops
 use Rattle.serve_run.specs.declared.stop.Trouble.{Trouble}
 use Rattle.serve_run.specs.declared.stop.Trouble.TheVariants as troubles
 use Rattle.peer_link.specs.declared.ends.ReadEnd.TheVariants as read_ends
-use Rattle.peer_link.specs.declared.ends.TakeEnd.TheVariants as takes
 use Rattle.peer_link.specs.declared.ends.WriteEnd.TheVariants as write_ends
 use Rattle.peer_link.specs.declared.ends.ShellEnd.TheVariants as shell_ends
-use Rattle.link_jobs.specs.Tags.{End, Report}
-use Rattle.link_jobs.specs.Tags.End.{read, wrote, ordered}
+use Rattle.serve_jobs.specs.Tags.{End, Report}
+use Rattle.serve_jobs.specs.Tags.End.{read, wrote, ordered}
 
 abbrev pub number_of : ServeStatus → ℕ
 number_of statuses.Ok = 0
@@ -32,8 +31,6 @@ brought_by (read read_ends.NoMemory) = troubles.NoMemory
 brought_by (read _) = troubles.None
 brought_by (wrote (write_ends.JournalFull kept)) = troubles.JournalFull
 brought_by (wrote write_ends.NoMemory) = troubles.NoMemory
-brought_by (wrote (write_ends.WriteFault (takes.JournalFull kept))) = troubles.JournalFull
-brought_by (wrote (write_ends.WriteFault takes.NoMemory)) = troubles.NoMemory
 brought_by (wrote _) = troubles.None
 brought_by (ordered (shell_ends.JournalFull kept)) = troubles.JournalFull
 brought_by (ordered shell_ends.NoMemory) = troubles.NoMemory

@@ -2,7 +2,7 @@
 use Rattle.std.specs.Prelude.{◌≡◌, ◌⊎◌, ℕ, List, [], ◌∷◌, Some}
 use Rattle.relay_model.specs.declared.act.EndCause.{EndCause}
 use Rattle.relay_model.specs.declared.act.EndCause.TheVariants.{Gone}
-use Rattle.seat_steps.specs.declared.limits.Limits.{Limits}
+use Rattle.broker_steps.specs.declared.limits.Limits.{Limits}
 use Rattle.broker_model.specs.declared.journal.Entry.{Entry}
 use Rattle.broker_model.specs.declared.journal.Entry.TheVariants as entries
 use Rattle.broker_core.specs.Stands.{end_of}
@@ -10,8 +10,8 @@ use Rattle.turn_lock.specs.Pairs.{NoneOf, HasSeen}
 use Rattle.hub_lock.specs.Histories.{History, reader_of}
 use Rattle.hub_lock.specs.Passes.{PeerPass}
 use Rattle.peer_link.specs.Made.{entries_by, journal_of}
-use Rattle.link_jobs.specs.Tags.{Part}
-use Rattle.link_jobs.specs.Tags.Part.{reader, writer, shell}
+use Rattle.serve_jobs.specs.Tags.{Part}
+use Rattle.serve_jobs.specs.Tags.Part.{reader, writer, shell}
 use Rattle.serve_run.specs.LinkJobs.{LinkedJob}
 
 -- all that the pass said is that its peer's link is gone; nothing, where the peer had ended

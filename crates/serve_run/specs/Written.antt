@@ -2,7 +2,7 @@
 use Rattle.std.specs.Prelude.{◌≡◌, ◌≢◌, ◌⊎◌, ◌≤◌, ◌++◌, ℕ, List, length, Option, Result, Err, IfOk, OnOk, OnErr}
 use Rattle.std.specs.Io.KnownBytes.{Appends}
 use Rattle.wio_core.specs.Io.{Rose}
-use Rattle.seat_steps.specs.declared.limits.Limits.{Limits}
+use Rattle.broker_steps.specs.declared.limits.Limits.{Limits}
 use Rattle.broker_core.specs.declared.letting_go.LetGo.{LetGo}
 use Rattle.session_text.specs.declared.line.Line.TheVariants.{End}
 use Rattle.hub_lock.specs.Histories.{History, broker_of}

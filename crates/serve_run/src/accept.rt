@@ -3,7 +3,7 @@ ghost use Rattle.std.specs.Prelude.{◌≡◌, ◌≢◌, ◌≤◌, ◌+◌, �
 ghost use Rattle.std.specs.Arc.{arc_value};
 ghost use Rattle.turn_lock.specs.Pairs.{own};
 ghost use Rattle.wio_core.specs.Io.{Rose};
-ghost use Rattle.link_nets.specs.declared.door.Door.{Door};
+ghost use Rattle.serve_net.specs.declared.door.Door.{Door};
 ghost use Rattle.serve_run.specs.LinkJobs.{role_at};
 ghost use Rattle.serve_run.specs.Started.{IsRootOf, CanJoin, LinkStarted, AreAccepted, Starts};
 
@@ -11,9 +11,9 @@ use crate::new_link::NewLink;
 use crate::start::{start_peer, start_shell};
 use crate::stop::Stop;
 use hub_lock::{Gate, Hub, HubPass};
-use link_jobs::{LinkJob, Spawner};
-use link_nets::{LinkSink, LinkSource, Net};
 use relay_model::Role;
+use serve_jobs::{LinkJob, Spawner};
+use serve_net::{LinkSink, LinkSource, Net};
 use serve_words::door_of;
 use std::alloc::Global;
 use std::sync::{Arc, Wait};

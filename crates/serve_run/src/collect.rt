@@ -2,10 +2,10 @@
 ghost use Rattle.std.specs.Prelude.{◌≡◌, ◌≤◌, ◌+◌, ◌++◌, ℕ, List};
 ghost use Rattle.std.specs.Prelude.{length, map, take, drop};
 ghost use Rattle.turn_lock.specs.Pairs.{HasSeen, IsIn};
-ghost use Rattle.link_jobs.specs.LinkTags.{done_tag, done_report};
-ghost use Rattle.link_jobs.specs.LinkTags.{reader_report, writer_report, shell_report};
+ghost use Rattle.serve_jobs.specs.LinkTags.{done_tag, done_report};
+ghost use Rattle.serve_jobs.specs.LinkTags.{reader_report, writer_report, shell_report};
 ghost use Rattle.hub_lock.specs.Passes.{IsOf};
-ghost use Rattle.link_jobs.specs.Tags.{Report};
+ghost use Rattle.serve_jobs.specs.Tags.{Report};
 ghost use Rattle.serve_run.specs.LinkJobs.{IsOnHub, AreOnHub, job_reported, job_tagged};
 ghost use Rattle.serve_run.specs.Reported.{HasLaw, HaveLaws, AreTaken};
 ghost use Rattle.serve_run.specs.Started.{IsRootOf, IsGivenBack};
@@ -14,8 +14,8 @@ ghost use Rattle.serve_run.specs.Unserved.{pushed};
 
 use crate::stop::{Trouble, trouble_of};
 use hub_lock::{Gate, Hub, HubPass, Pass};
-use link_jobs::{LinkDone, LinkJob, ReaderDone, ShellDone, Spawner, WriterDone};
-use link_nets::{LinkSink, LinkSource};
+use serve_jobs::{LinkDone, LinkJob, ReaderDone, ShellDone, Spawner, WriterDone};
+use serve_net::{LinkSink, LinkSource};
 use wio_core::Source;
 
 // Takes the pass of a reader back: its report has its law for all that the root has then seen.

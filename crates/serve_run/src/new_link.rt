@@ -1,9 +1,9 @@
 //! A link that came in.
 ghost use Rattle.std.specs.Prelude.{◌≡◌, false};
 ghost use Rattle.std.proofs.Props.{props};
-ghost use Rattle.link_nets.specs.NewLinks.{IsNewSource, IsNewSink};
+ghost use Rattle.serve_net.specs.NewLinks.{IsNewSource, IsNewSink};
 
-use link_nets::{LinkSink, LinkSource};
+use serve_net::{LinkSink, LinkSource};
 
 /// The two ways of a link: both are new, and have its number, and nobody hung up.
 #[derive(Drop)]

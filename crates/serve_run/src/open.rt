@@ -1,10 +1,10 @@
 //! The doors open.
 ghost use Rattle.std.specs.Prelude.{◌≡◌, ◌≤◌, ℕ, length, true, OnOk, OnErr};
 ghost use Rattle.wio_core.specs.Io.{Rose};
-ghost use Rattle.link_nets.specs.declared.door.Door.{Door};
+ghost use Rattle.serve_net.specs.declared.door.Door.{Door};
 ghost use Rattle.serve_run.specs.Opened.{opened_first};
 
-use link_nets::{Door, Net};
+use serve_net::{Door, Net};
 use serve_words::Serving;
 use wio_core::Failed;
 

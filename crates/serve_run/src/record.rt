@@ -8,8 +8,8 @@ ghost use Rattle.serve_record.specs.Handed.{WritesHanded, MadeNoStep};
 ghost use Rattle.serve_run.specs.Started.{IsRootOf};
 ghost use Rattle.serve_run.specs.Written.{HoldsHanded, EndsHanded, IsRecorded, AreAllHanded, FailsOnce};
 
+use broker_steps::Limits;
 use hub_lock::{Hub, HubPass, Pass, RecorderPass};
-use seat_steps::Limits;
 use serve_record::{RecordStop, RecordText, record_handed};
 use std::alloc::Global;
 use std::sync::Wait;

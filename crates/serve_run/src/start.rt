@@ -10,8 +10,8 @@ ghost use Rattle.hub_lock.specs.Finished.{seat_of};
 ghost use Rattle.hub_lock.specs.Histories.{reader_of};
 ghost use Rattle.hub_lock.specs.Calls.{pass_having_seen};
 ghost use Rattle.peer_link.specs.Made.{journal_of};
-ghost use Rattle.link_jobs.specs.Tags.Part.{writer};
-ghost use Rattle.link_jobs.specs.LinkTags.{job_tag};
+ghost use Rattle.serve_jobs.specs.Tags.Part.{writer};
+ghost use Rattle.serve_jobs.specs.LinkTags.{job_tag};
 ghost use Rattle.serve_run.specs.LinkJobs.{IsOnHub};
 ghost use Rattle.serve_run.specs.Started.{IsRootOf, IsGivenBack, IsJoinedBy, IsNotJoined};
 ghost use Rattle.serve_run.specs.Started.{BothStarted, LinkStarted, IsRefusal, CanJoin, Starts};
@@ -20,11 +20,11 @@ ghost use Rattle.serve_run.specs.Unserved.{HasEnd, SaysGone, IsGoneAlone, MadeBy
 
 use crate::new_link::NewLink;
 use crate::stop::{Stop, refused};
+use broker_steps::PeerStep;
 use hub_lock::{Gate, Hub, HubPass, Pass, ReaderPass, ShellPass, WriterPass};
-use link_jobs::{LinkJob, ReaderJob, ShellJob, Spawner, WriterJob};
-use link_nets::{LinkSink, LinkSource};
 use relay_model::Role;
-use seat_steps::PeerStep;
+use serve_jobs::{LinkJob, ReaderJob, ShellJob, Spawner, WriterJob};
+use serve_net::{LinkSink, LinkSource};
 use std::alloc::Global;
 use std::sync::{Arc, Wait};
 

@@ -1,16 +1,16 @@
 //! Why a run isn't as it should be.
 ghost use Rattle.std.specs.Prelude.{◌≡◌, ℕ};
-ghost use Rattle.link_jobs.specs.Tags.End.{read, wrote, ordered};
-ghost use Rattle.link_jobs.specs.LinkTags.{done_report};
+ghost use Rattle.serve_jobs.specs.Tags.End.{read, wrote, ordered};
+ghost use Rattle.serve_jobs.specs.LinkTags.{done_report};
 ghost use Rattle.serve_run.specs.Refused.{IsStoppedBy, stopped};
 ghost use Rattle.serve_run.specs.Started.{IsRefusal};
 ghost use Rattle.serve_run.specs.Statuses.{brought_by, worse, status_by, status_with};
 
 use crate::status::ServeStatus;
 use broker_core::JoinRefusal;
-use link_jobs::LinkDone;
-use link_nets::LinkSink;
-use peer_link::{ReadEnd, ShellEnd, TakeEnd, WriteEnd};
+use peer_link::{ReadEnd, ShellEnd, WriteEnd};
+use serve_jobs::LinkDone;
+use serve_net::LinkSink;
 use serve_record::RecordStop;
 use thiserror::Error;
 use wio_core::Source;
@@ -74,11 +74,9 @@ fn write_trouble(end: WriteEnd) -> Trouble
     ensures { result ≡ brought_by (wrote end) }
 {
     match end {
-        WriteEnd::JournalFull(_) | WriteEnd::WriteFault(TakeEnd::JournalFull(_)) => {
-            Trouble::JournalFull
-        }
-        WriteEnd::NoMemory | WriteEnd::WriteFault(TakeEnd::NoMemory) => Trouble::NoMemory,
-        WriteEnd::Closed | WriteEnd::WriteFault(TakeEnd::Closed) => Trouble::None,
+        WriteEnd::JournalFull(_) => Trouble::JournalFull,
+        WriteEnd::NoMemory => Trouble::NoMemory,
+        WriteEnd::Closed | WriteEnd::WriteFault => Trouble::None,
     }
 }
 

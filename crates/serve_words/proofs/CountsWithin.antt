@@ -1,7 +1,7 @@
 -- A number that was read is from 1 to the greatest
 use Rattle.std.proofs.Common.{◌≡◌, ◌&&◌, ℕ, Bool, true, false, if◌then◌else◌, nat_le, List, Option, Some, None, refl, arith}
 use Rattle.std.proofs.lemmas.Grind.{common_steps}
-use Rattle.seat_steps.specs.Ranges.{IsWithin}
+use Rattle.broker_steps.specs.Ranges.{IsWithin}
 use Rattle.session_text.specs.Words.{kept, count_of, number_of}
 
 kept_passes : (test : ℕ → Bool) (o : Option ℕ) (n : ℕ) → kept test o ≡ Some n → test n ≡ true

@@ -1,8 +1,8 @@
 -- Words without the shape ask for nothing
 use Rattle.std.proofs.Common.{◌≡◌, ◌≤◌, ◌&&◌, ◌∷◌, [], ℕ, true, false, nat_le, Bool, if◌then◌else◌, List, length, map, drop, get_or, Option, Some, None, refl, sym, ap, codes, ◌∙◌, arith}
 use Rattle.std.specs.Str.{bytes_eq}
-use Rattle.seat_steps.specs.declared.limits.Limits.{Limits}
-use Rattle.seat_steps.specs.Ranges.{entry_limit, store_limit, weight_limit}
+use Rattle.broker_steps.specs.declared.limits.Limits.{Limits}
+use Rattle.broker_steps.specs.Ranges.{entry_limit, store_limit, weight_limit}
 use Rattle.session_text.specs.Words.{◌>>=◌, kept}
 use Rattle.serve_words.specs.Shape.{has_shape, stand_once_at_most, stands_once_at_most}
 use Rattle.serve_words.specs.Words.{Needed, Serving, are_pairs, asked_by, is_order, limits_of, needed_by, number_or, once, order_of, serve_of, serving, values_of}

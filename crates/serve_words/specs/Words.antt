@@ -2,11 +2,11 @@
 -- most once
 use Rattle.std.specs.Prelude.{ℕ, ◌==◌, ◌||◌, ◌&&◌, not, nat_le, Bool, true, false, if◌then◌else◌, List, [], ◌∷◌, length, map, codes, Option, Some, None}
 use Rattle.std.specs.Str.{bytes_eq}
-use Rattle.seat_steps.specs.declared.limits.Limits.{Limits}
-use Rattle.seat_steps.specs.Ranges.{entry_limit, store_limit, weight_limit}
+use Rattle.broker_steps.specs.declared.limits.Limits.{Limits}
+use Rattle.broker_steps.specs.Ranges.{entry_limit, store_limit, weight_limit}
 use Rattle.session_text.specs.Words.{count_of, ◌>>=◌, kept}
-use Rattle.link_nets.specs.declared.door.Door.{Door}
-use Rattle.link_nets.specs.declared.door.Door.TheVariants.{App, Method, Shell}
+use Rattle.serve_net.specs.declared.door.Door.{Door}
+use Rattle.serve_net.specs.declared.door.Door.TheVariants.{App, Method, Shell}
 
 -- what the words ask for: the doors' paths, the letters of the links to accept, in order, and the
 -- hub's limits

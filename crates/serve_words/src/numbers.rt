@@ -3,7 +3,7 @@ ghost use Rattle.std.specs.Prelude.{◌≡◌, ℕ, List, true, IfOk};
 ghost use Rattle.serve_words.specs.Words as grammar;
 ghost use Rattle.serve_words.specs.Options.{HoldsValues, dashed};
 ghost use Rattle.serve_words.specs.Refusals.{Tells};
-ghost use Rattle.seat_steps.specs.Ranges.{IsWithin};
+ghost use Rattle.broker_steps.specs.Ranges.{IsWithin};
 ghost use Rattle.session_text.specs.Words.{count_of};
 
 use crate::refusal::WordsRefusal;

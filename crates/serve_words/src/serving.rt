@@ -7,17 +7,17 @@ ghost use Rattle.serve_words.specs.Asked.{asked, needed};
 ghost use Rattle.serve_words.specs.Options.{HoldsValues};
 ghost use Rattle.serve_words.specs.Refusals.{Tells};
 ghost use Rattle.serve_words.specs.Shape.{is_serve};
-ghost use Rattle.seat_steps.specs.Ranges.{IsLimits, IsWithin};
+ghost use Rattle.broker_steps.specs.Ranges.{IsLimits, IsWithin};
 
 use crate::numbers::number_or;
 use crate::options::{matches_of, value_of};
 use crate::pairs::has_shape;
 use crate::refusal::WordsRefusal;
-use clap::ArgMatches;
-use link_nets::Door;
-use seat_steps::{
+use broker_steps::{
     ENTRY_LIMIT, FORM_1_ENTRY_LIMIT, FORM_1_WEIGHT, Limits, STORE_LIMIT, WEIGHT_LIMIT,
 };
+use clap::ArgMatches;
+use serve_net::Door;
 
 // What a store holds where the words don't say it, in bytes.
 const STORE: u32 = 65_536;

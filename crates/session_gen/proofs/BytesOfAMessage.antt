@@ -5,8 +5,8 @@ use Rattle.std.proofs.Math.Seq.{take-length}
 use Rattle.wl_proto.specs.Rows.{Message}
 use Rattle.wl_proto.specs.Spelling.{row_bytes, message_bytes, message_len, spelling}
 use Rattle.wl_proto.proofs.WrittenIsWhole.{written_whole}
-use Rattle.seat_steps.specs.declared.step.Step.TheVariants as steps
-use Rattle.seat_steps.specs.declared.step.PeerStep.TheVariants as peers
+use Rattle.broker_steps.specs.declared.step.Step.TheVariants as steps
+use Rattle.broker_steps.specs.declared.step.PeerStep.TheVariants as peers
 use Rattle.session_gen.specs.Sending.{sends}
 
 -- the header's opcode, whatever stands behind the message

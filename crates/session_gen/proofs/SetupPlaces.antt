@@ -3,7 +3,7 @@ use Rattle.std.proofs.Common.{◌≡◌, ℕ, zero, suc, ◌+◌, ◌-◌, ◌*�
 use Rattle.std.specs.List.{slice_get}
 use Rattle.std.specs.Option.{option_map}
 use Rattle.std.proofs.lemmas.Option.{slice_get-map, slice_get_past}
-use Rattle.seat_steps.specs.declared.step.Step.{Step}
+use Rattle.broker_steps.specs.declared.step.Step.{Step}
 use Rattle.session_gen.specs.Setup.{Sent, sent_by, app_steps, method_steps, setup}
 use Rattle.session_gen.specs.Generated.{step_of, word_after}
 use Rattle.session_gen.specs.Rows.{drawn}

@@ -5,7 +5,7 @@ use Rattle.std.specs.List.{slice_get}
 use Rattle.rand_core.specs.Pcg32Seed.{pcg32_seed}
 use Rattle.rand_pcg.specs.Lcg.{Lcg}
 use Rattle.rand_pcg.specs.Pcg.{pcg32, pcg32_of_seed}
-use Rattle.seat_steps.specs.declared.step.Step.{Step}
+use Rattle.broker_steps.specs.declared.step.Step.{Step}
 use Rattle.session_gen.specs.Setup.{setup}
 use Rattle.session_gen.specs.Rows.{drawn}
 

@@ -2,9 +2,9 @@
 use Rattle.std.specs.Prelude.{ℕ, pos, ◌+◌, ◌-◌, ◌/◌, ◌%◌, List, [], ◌∷◌, codes, slice_index_or}
 use Rattle.wl_proto.specs.declared.request.Request.TheVariants as requests
 use Rattle.wl_proto.specs.Rows.{request_message}
-use Rattle.seat_steps.specs.declared.step.Step.{Step}
-use Rattle.seat_steps.specs.declared.step.Step.TheVariants as steps
-use Rattle.seat_steps.specs.declared.step.ShellStep.TheVariants as shells
+use Rattle.broker_steps.specs.declared.step.Step.{Step}
+use Rattle.broker_steps.specs.declared.step.Step.TheVariants as steps
+use Rattle.broker_steps.specs.declared.step.ShellStep.TheVariants as shells
 use Rattle.session_gen.specs.declared.rows.Row.{Row}
 use Rattle.session_gen.specs.declared.rows.Row.TheVariants.{Focus, Unfocus, Enable, Commit, SurroundingText, ChangeCause, CommitString, Preedit, Deletion, MethodCommit, Take}
 use Rattle.session_gen.specs.Sending.{field_sends, method_sends, set_surrounding_text, commit_string, set_preedit_string}

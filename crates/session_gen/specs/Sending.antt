@@ -6,9 +6,9 @@ use Rattle.wl_proto.specs.Grammar.{word, signed, text}
 use Rattle.wl_proto.specs.Names.{name_of}
 use Rattle.wl_proto.specs.Rows.{Message, message}
 use Rattle.wl_proto.specs.Spelling.{message_len, spelling}
-use Rattle.seat_steps.specs.declared.step.Step.{Step}
-use Rattle.seat_steps.specs.declared.step.Step.TheVariants as steps
-use Rattle.seat_steps.specs.declared.step.PeerStep.TheVariants as peers
+use Rattle.broker_steps.specs.declared.step.Step.{Step}
+use Rattle.broker_steps.specs.declared.step.Step.TheVariants as steps
+use Rattle.broker_steps.specs.declared.step.PeerStep.TheVariants as peers
 
 -- the message has at most 64 bytes, and its opcode 16 bits
 abbrev pub IsShort : Message → Type 0

@@ -4,8 +4,8 @@ use Rattle.wl_proto.specs.declared.interface.Interface.TheVariants.{Compositor, 
 use Rattle.wl_proto.specs.declared.request.Request.TheVariants.{GetRegistry, CreateSurface, GetTextInput, GetInputMethod}
 use Rattle.wl_proto.specs.Rows.{Message, request_message}
 use Rattle.relay_model.specs.declared.role.Role.TheVariants.{App, Method}
-use Rattle.seat_steps.specs.declared.step.Step.{Step}
-use Rattle.seat_steps.specs.declared.step.Step.TheVariants as steps
+use Rattle.broker_steps.specs.declared.step.Step.{Step}
+use Rattle.broker_steps.specs.declared.step.Step.TheVariants as steps
 use Rattle.session_gen.specs.Sending.{sends, bind}
 
 -- a message, and the id of the object that it is sent to

@@ -1,14 +1,14 @@
 //! The generator of a session.
 ghost use Rattle.std.specs.Prelude.{◌≡◌, ◌+◌, ◌-◌, ◌<◌, ◌≤◌, IfOk, OnOk, OnErr};
-ghost use Rattle.seat_steps.specs.Ranges.{IsStep};
+ghost use Rattle.broker_steps.specs.Ranges.{IsStep};
 ghost use Rattle.session_gen.specs.Generated.{step_of, step_count};
 
 use crate::rows::drawn_step;
 use crate::setup::{SETUP_STEPS, setup_step};
+use broker_steps::Step;
 use rand_core::SeedableRng;
 use rand_core::utils::NextWord;
 use rand_pcg::Lcg64Xsh32;
-use seat_steps::Step;
 use std::alloc::Global;
 use std::marker::Model;
 use wio_core::NoMemory;

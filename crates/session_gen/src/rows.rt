@@ -1,7 +1,7 @@
 //! The steps that the generator's words draw.
 ghost use Rattle.std.specs.Prelude.{◌≡◌, IfOk, pos, codes};
 ghost use Rattle.wl_proto.specs.Rows.{request_message};
-ghost use Rattle.seat_steps.specs.Ranges.{IsStep};
+ghost use Rattle.broker_steps.specs.Ranges.{IsStep};
 ghost use Rattle.session_gen.specs.Sending.{IsShort, field_sends, method_sends};
 ghost use Rattle.session_gen.specs.Sending.{set_surrounding_text, commit_string};
 ghost use Rattle.session_gen.specs.Sending.{set_preedit_string};
@@ -11,7 +11,7 @@ ghost use Rattle.wl_proto.specs.declared.request.Request.TheVariants.{InputMetho
 
 use crate::letters::letter_of;
 use crate::sending::request_step;
-use seat_steps::{ShellStep, Step};
+use broker_steps::{ShellStep, Step};
 use std::alloc::Global;
 use wio_core::NoMemory;
 use wl_proto::Request;

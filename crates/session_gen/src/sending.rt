@@ -2,10 +2,10 @@
 ghost use Rattle.std.specs.Prelude.{◌≡◌, ◌<◌, ◌≤◌, ◌^◌, IfOk};
 ghost use Rattle.wl_proto.specs.Rows.{request_message};
 ghost use Rattle.wl_proto.specs.Spelling.{message_len};
-ghost use Rattle.seat_steps.specs.Ranges.{IsStep};
+ghost use Rattle.broker_steps.specs.Ranges.{IsStep};
 ghost use Rattle.session_gen.specs.Sending.{IsShort, sends};
 
-use seat_steps::{PeerStep, Step};
+use broker_steps::{PeerStep, Step};
 use std::alloc::Global;
 use wio_core::NoMemory;
 use wl_proto::{Request, write_request};

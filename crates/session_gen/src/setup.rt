@@ -3,15 +3,15 @@
 ghost use Rattle.std.specs.Prelude.{◌≡◌, ◌<◌, Some, IfOk};
 ghost use Rattle.std.specs.List.{slice_get};
 ghost use Rattle.wl_proto.specs.Rows.{request_message};
-ghost use Rattle.seat_steps.specs.Ranges.{IsStep};
+ghost use Rattle.broker_steps.specs.Ranges.{IsStep};
 ghost use Rattle.session_gen.specs.Sending.{IsShort};
 ghost use Rattle.session_gen.specs.Sending.{bind as bind_message};
 ghost use Rattle.session_gen.specs.Setup.{to, app_messages, method_messages, app_steps};
 ghost use Rattle.session_gen.specs.Setup.{method_steps, setup};
 
 use crate::sending::request_step;
+use broker_steps::Step;
 use relay_model::Role;
-use seat_steps::Step;
 use std::alloc::Global;
 use wio_core::NoMemory;
 use wl_proto::{Interface, Request};

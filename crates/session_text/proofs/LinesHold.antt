@@ -1,9 +1,9 @@
 -- What a line gives holds what calls ask of it.
-use Rattle.seat_steps.specs.declared.step.ShellStep.{ShellStep}
-use Rattle.seat_steps.specs.declared.step.ShellStep.TheVariants as shells
+use Rattle.broker_steps.specs.declared.step.ShellStep.{ShellStep}
+use Rattle.broker_steps.specs.declared.step.ShellStep.TheVariants as shells
 use Rattle.session_text.specs.declared.line.SessionLine.{SessionLine}
 use Rattle.session_text.specs.declared.line.SessionLine.TheVariants as sessions
-use Rattle.seat_steps.specs.Ranges.{IsShellStep}
+use Rattle.broker_steps.specs.Ranges.{IsShellStep}
 use Rattle.session_text.specs.Steps.{IsSessionLine}
 use Rattle.session_text.specs.SessionGrammar.{HasLinkLine, HasSessionLine, HasStampedLine}
 use Rattle.session_text.proofs.SpelledSteps.{old_line}

@@ -6,7 +6,7 @@ use Rattle.std.proofs.lemmas.Bool.{le-leb}
 use Rattle.std.proofs.lemmas.List.Splits.{join_with_byte-slice_split}
 use Rattle.std.proofs.lemmas.Slice.Eq.{bytes_eq-Decides}
 use Rattle.relay_model.specs.declared.act.Act.{Act}
-use Rattle.seat_steps.specs.declared.step.ShellStep.{ShellStep}
+use Rattle.broker_steps.specs.declared.step.ShellStep.{ShellStep}
 use Rattle.session_text.specs.declared.line.Form.{Form}
 use Rattle.session_text.specs.declared.line.Form.TheVariants.{Acts, Session, Session2, Shell}
 use Rattle.session_text.specs.declared.line.Line.{Line}

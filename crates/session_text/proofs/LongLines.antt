@@ -5,7 +5,7 @@ use Rattle.session_text.specs.declared.line.Form.TheVariants.{Acts, Session, Ses
 use Rattle.std.specs.Str.{bytes_eq}
 use Rattle.session_text.specs.declared.line.Line.{Line}
 use Rattle.session_text.specs.declared.line.Line.TheVariants as lines
-use Rattle.seat_steps.specs.declared.step.ShellStep.{ShellStep}
+use Rattle.broker_steps.specs.declared.step.ShellStep.{ShellStep}
 use Rattle.session_text.specs.Words.{◌>>=◌}
 use Rattle.session_text.specs.StampedReading.{link_of}
 use Rattle.session_text.specs.Reading.{line_of_words}

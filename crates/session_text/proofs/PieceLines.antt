@@ -4,7 +4,7 @@ use Rattle.std.specs.Prelude.{codes}
 use Rattle.std.specs.List.{slice_split}
 use Rattle.std.proofs.lemmas.Bool.{le-leb}
 use Rattle.std.proofs.lemmas.List.Splits.{slice_split_at}
-use Rattle.seat_steps.specs.Ranges.{piece_limit}
+use Rattle.broker_steps.specs.Ranges.{piece_limit}
 use Rattle.session_text.specs.declared.line.Form.TheVariants.{Session}
 use Rattle.session_text.specs.declared.line.Line.TheVariants as lines
 use Rattle.session_text.specs.declared.line.SessionLine.TheVariants as sessions

@@ -4,9 +4,9 @@ use Rattle.std.specs.Prelude.{codes, map, All}
 use Rattle.std.specs.Fmt.{decimal}
 use Rattle.std.proofs.lemmas.Bool.{and_parts, leb-true}
 use Rattle.std.proofs.lemmas.List.Elements.{All-nil, All-cons}
-use Rattle.seat_steps.specs.declared.step.ShellStep.{ShellStep}
-use Rattle.seat_steps.specs.declared.step.ShellStep.TheVariants as shells
-use Rattle.seat_steps.specs.Ranges.{token_limit}
+use Rattle.broker_steps.specs.declared.step.ShellStep.{ShellStep}
+use Rattle.broker_steps.specs.declared.step.ShellStep.TheVariants as shells
+use Rattle.broker_steps.specs.Ranges.{token_limit}
 use Rattle.session_text.specs.declared.line.Form.TheVariants.{Session2}
 use Rattle.session_text.specs.declared.line.Line.{Line}
 use Rattle.session_text.specs.declared.line.Line.TheVariants as lines

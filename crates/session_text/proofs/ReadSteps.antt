@@ -1,13 +1,13 @@
 -- Words that are read as a line of a session of form 1 are that line's.
 use Rattle.std.proofs.Common.{◌≡◌, ℕ, List, [], ◌∷◌, Option, Some, None, refl}
 use Rattle.std.specs.Prelude.{codes}
-use Rattle.seat_steps.specs.declared.step.ShellStep.{ShellStep}
-use Rattle.seat_steps.specs.declared.step.ShellStep.TheVariants as shells
+use Rattle.broker_steps.specs.declared.step.ShellStep.{ShellStep}
+use Rattle.broker_steps.specs.declared.step.ShellStep.TheVariants as shells
 use Rattle.session_text.specs.declared.line.Form.TheVariants.{Session}
 use Rattle.session_text.specs.declared.line.Line.{Line}
 use Rattle.session_text.specs.declared.line.Line.TheVariants as lines
 use Rattle.session_text.specs.declared.line.SessionLine.TheVariants as sessions
-use Rattle.seat_steps.specs.Ranges.{piece_limit, form_1_weight}
+use Rattle.broker_steps.specs.Ranges.{piece_limit, form_1_weight}
 use Rattle.session_text.specs.Words.{rect, size}
 use Rattle.session_text.specs.SessionGrammar.{shell_words, HasShellLine}
 use Rattle.session_text.specs.SessionReading.{one_shell_word, three_shell_words, four_shell_words, five_shell_words, seven_shell_words, shell_of, in_session, one_session_word, two_session_words, three_session_words, four_session_words, header_of, session_of}

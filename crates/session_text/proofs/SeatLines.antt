@@ -2,7 +2,7 @@
 use Rattle.std.proofs.Common.{◌≡◌, ℕ, ◌+◌, ◌-◌, ◌<◌, ◌≤◌, Bool, true, false, eqb, leb, List, [], ◌∷◌, length, Option, Some, None, Result, Ok, Err, refl, sym, ap, subst, ◌∙◌, lit<, arith, IfOk}
 use Rattle.std.specs.Prelude.{◌&&◌, if◌then◌else◌}
 use Rattle.std.specs.List.{slice_split}
-use Rattle.seat_steps.specs.Ranges.{form_1_entry_limit, form_1_weight, store_limit}
+use Rattle.broker_steps.specs.Ranges.{form_1_entry_limit, form_1_weight, store_limit}
 use Rattle.std.proofs.lemmas.Bool.{and_parts, leb-true}
 use Rattle.session_text.specs.declared.line.Form.TheVariants.{Session}
 use Rattle.session_text.specs.declared.line.Line.{Line}

@@ -6,11 +6,11 @@ use Rattle.std.specs.Str.{bytes_eq}
 use Rattle.std.proofs.lemmas.Bool.{le-leb}
 use Rattle.std.proofs.lemmas.List.Elements.{All-head, All-tail}
 use Rattle.std.proofs.lemmas.Slice.Eq.{bytes_eq-Decides}
-use Rattle.seat_steps.specs.declared.limits.Limits.{Limits}
-use Rattle.seat_steps.specs.declared.stamp.Stamp.{Stamp}
-use Rattle.seat_steps.specs.declared.step.ShellStep.{ShellStep}
-use Rattle.seat_steps.specs.declared.step.ShellStep.TheVariants as shells
-use Rattle.seat_steps.specs.Ranges.{entry_limit, weight_limit, token_limit, IsWithin, IsLimits}
+use Rattle.broker_steps.specs.declared.limits.Limits.{Limits}
+use Rattle.broker_steps.specs.declared.stamp.Stamp.{Stamp}
+use Rattle.broker_steps.specs.declared.step.ShellStep.{ShellStep}
+use Rattle.broker_steps.specs.declared.step.ShellStep.TheVariants as shells
+use Rattle.broker_steps.specs.Ranges.{entry_limit, weight_limit, token_limit, IsWithin, IsLimits}
 use Rattle.session_text.specs.declared.line.Line.TheVariants as lines
 use Rattle.session_text.specs.declared.line.SessionLine.{SessionLine}
 use Rattle.session_text.specs.declared.line.SessionLine.TheVariants as sessions

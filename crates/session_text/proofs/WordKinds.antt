@@ -7,9 +7,9 @@ use Rattle.std.proofs.lemmas.Fmt.{length-decimal-le, length_signed_le}
 use lib.IntN.{ℤ, pos, negsuc}
 use Rattle.relay_model.specs.declared.role.Role.{Role}
 use Rattle.relay_model.specs.declared.role.Role.TheVariants.{App, Method, Keyed}
-use Rattle.seat_steps.specs.Ranges.{is_size}
+use Rattle.broker_steps.specs.Ranges.{is_size}
 use Rattle.session_text.specs.Words.{IsTextWithin, IsBytesWithin, fits_i32, hex_word, role_word, number_of, long_number_of, signed_of, size_of, state_of, text_of, bytes_of, count_of, role_of}
-use Rattle.seat_steps.specs.Ranges.{IsWithin}
+use Rattle.broker_steps.specs.Ranges.{IsWithin}
 use Rattle.session_text.proofs.TestsLetThrough.{arm, kept_some}
 use Rattle.session_text.proofs.WrittenNumbers.{number_sound, number_complete, signed_sound, signed_complete, mag_i32}
 use Rattle.session_text.proofs.LongNumbers.{long_sound, long_complete}

@@ -10,10 +10,10 @@ use Rattle.session_text.specs.declared.line.Form.{Form}
 use Rattle.session_text.specs.declared.line.Form.TheVariants.{Acts, Session, Session2, Shell}
 use Rattle.session_text.specs.declared.line.Line.{Line}
 use Rattle.session_text.specs.declared.line.Line.TheVariants as lines
-use Rattle.seat_steps.specs.Ranges.{is_size}
+use Rattle.broker_steps.specs.Ranges.{is_size}
 use Rattle.session_text.specs.Words.{text_limit, cursor_text_limit, IsTextWithin, IsRect, IsArea, fits_i32, rect_words, hex_word}
-use Rattle.seat_steps.specs.Ranges.{IsLimits}
-use Rattle.seat_steps.specs.declared.limits.Limits.{Limits}
+use Rattle.broker_steps.specs.Ranges.{IsLimits}
+use Rattle.broker_steps.specs.declared.limits.Limits.{Limits}
 use Rattle.session_text.specs.SessionGrammar.{shell_words, session_words, header_words, long_header_words, stamped_words, AreOldLimits, HasLinkLine, HasSessionLine, HasStampedLine, IsStamp}
 
 -- the words of an act's line; an act that no line gives has none

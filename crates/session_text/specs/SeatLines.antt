@@ -2,7 +2,7 @@
 use Rattle.std.specs.Prelude.{◌≡◌, ℕ, ◌+◌, ◌-◌, ◌==◌, ◌≤◌, ◌&&◌, nat_le, if◌then◌else◌, List, [], ◌∷◌, length, codes, Option, Some, None}
 use Rattle.std.specs.List.{slice_split}
 use Rattle.std.specs.Str.{bytes_eq}
-use Rattle.seat_steps.specs.Ranges.{form_1_entry_limit, form_1_weight, store_limit, IsLimits, IsWithin}
+use Rattle.broker_steps.specs.Ranges.{form_1_entry_limit, form_1_weight, store_limit, IsLimits, IsWithin}
 use Rattle.session_text.specs.declared.line.Form.TheVariants.{Session}
 use Rattle.session_text.specs.declared.line.Line.{Line}
 use Rattle.session_text.specs.declared.line.Line.TheVariants as lines

@@ -2,15 +2,15 @@
 -- are.
 use Rattle.std.specs.Prelude.{ℕ, ◌≡◌, ◌^◌, ◌<◌, ◌≤◌, List, [], ◌∷◌, length, map, All, codes, IsTrue}
 use Rattle.std.specs.Fmt.{decimal, signed_decimal}
-use Rattle.seat_steps.specs.declared.limits.Limits.{Limits}
-use Rattle.seat_steps.specs.declared.stamp.Stamp.{Stamp}
-use Rattle.seat_steps.specs.declared.step.ShellStep.{ShellStep}
-use Rattle.seat_steps.specs.declared.step.ShellStep.TheVariants as shells
+use Rattle.broker_steps.specs.declared.limits.Limits.{Limits}
+use Rattle.broker_steps.specs.declared.stamp.Stamp.{Stamp}
+use Rattle.broker_steps.specs.declared.step.ShellStep.{ShellStep}
+use Rattle.broker_steps.specs.declared.step.ShellStep.TheVariants as shells
 use Rattle.session_text.specs.declared.line.SessionLine.{SessionLine}
 use Rattle.session_text.specs.declared.line.SessionLine.TheVariants as sessions
-use Rattle.seat_steps.specs.Ranges.{piece_limit, token_limit, store_limit, form_1_entry_limit, form_1_weight, is_size}
+use Rattle.broker_steps.specs.Ranges.{piece_limit, token_limit, store_limit, form_1_entry_limit, form_1_weight, is_size}
 use Rattle.session_text.specs.Words.{rect_words, hex_word, role_word, fits_i32, IsArea, IsBytesWithin}
-use Rattle.seat_steps.specs.Ranges.{IsWithin}
+use Rattle.broker_steps.specs.Ranges.{IsWithin}
 
 abbrev pub shell_words : ShellStep → List (List ℕ)
 shell_words (shells.Focus p i) = codes "focus" ∷ decimal p ∷ decimal i ∷ []

@@ -1,12 +1,12 @@
 -- What the words of a line read as in a session of form 1.
 use Rattle.std.specs.Prelude.{ℕ, if◌then◌else◌, List, [], ◌∷◌, codes, Option, Some, None}
 use Rattle.std.specs.Str.{bytes_eq}
-use Rattle.seat_steps.specs.declared.step.ShellStep.{ShellStep}
-use Rattle.seat_steps.specs.declared.step.ShellStep.TheVariants as shells
+use Rattle.broker_steps.specs.declared.step.ShellStep.{ShellStep}
+use Rattle.broker_steps.specs.declared.step.ShellStep.TheVariants as shells
 use Rattle.session_text.specs.declared.line.Line.{Line}
 use Rattle.session_text.specs.declared.line.Line.TheVariants as lines
 use Rattle.session_text.specs.declared.line.SessionLine.TheVariants as sessions
-use Rattle.seat_steps.specs.Ranges.{piece_limit, form_1_entry_limit, store_limit, form_1_weight}
+use Rattle.broker_steps.specs.Ranges.{piece_limit, form_1_entry_limit, store_limit, form_1_weight}
 use Rattle.session_text.specs.Words.{◌>>=◌, rect, size, number_of, signed_of, size_of, state_of, count_of, role_of, bytes_of}
 
 unfoldable pub one_shell_word : List ℕ → Option ShellStep

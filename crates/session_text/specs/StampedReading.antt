@@ -1,13 +1,13 @@
 -- What the words of a line read as in a session of form 2, and on a shell link.
 use Rattle.std.specs.Prelude.{ℕ, ◌&&◌, nat_le, if◌then◌else◌, List, [], ◌∷◌, length, codes, Option, Some, None}
 use Rattle.std.specs.Str.{bytes_eq}
-use Rattle.seat_steps.specs.declared.step.ShellStep.{ShellStep}
-use Rattle.seat_steps.specs.declared.step.ShellStep.TheVariants as shells
+use Rattle.broker_steps.specs.declared.step.ShellStep.{ShellStep}
+use Rattle.broker_steps.specs.declared.step.ShellStep.TheVariants as shells
 use Rattle.session_text.specs.declared.line.Line.{Line}
 use Rattle.session_text.specs.declared.line.Line.TheVariants as lines
 use Rattle.session_text.specs.declared.line.SessionLine.{SessionLine}
 use Rattle.session_text.specs.declared.line.SessionLine.TheVariants as sessions
-use Rattle.seat_steps.specs.Ranges.{token_limit, entry_limit, store_limit, weight_limit}
+use Rattle.broker_steps.specs.Ranges.{token_limit, entry_limit, store_limit, weight_limit}
 use Rattle.session_text.specs.Words.{◌>>=◌, kept, number_of, numbers_of, long_number_of, count_of}
 use Rattle.session_text.specs.SessionReading.{shell_of, session_of}
 

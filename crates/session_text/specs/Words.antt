@@ -8,7 +8,7 @@ use Rattle.hex.specs.declared.error.FromHexError.{FromHexError}
 use Rattle.popup_place.specs.declared.geometry.Rect.{Rect}
 use Rattle.popup_place.specs.declared.geometry.Size.{Size}
 use Rattle.wl_wire.specs.Texts.{IsBytes, IsText, is_text}
-use Rattle.seat_steps.specs.Ranges.{is_size}
+use Rattle.broker_steps.specs.Ranges.{is_size}
 use Rattle.relay_model.specs.declared.role.Role.{Role}
 use Rattle.relay_model.specs.declared.role.Role.TheVariants.{App, Method, Keyed}
 

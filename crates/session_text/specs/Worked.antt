@@ -6,8 +6,8 @@ use Rattle.session_text.specs.declared.line.Line.{Line}
 use Rattle.session_text.specs.declared.line.Line.TheVariants as lines
 use Rattle.session_text.specs.declared.line.SessionLine.TheVariants as sessions
 use Rattle.relay_model.specs.declared.role.Role.TheVariants.{App, Method, Keyed}
-use Rattle.seat_steps.specs.declared.stamp.Stamp.{Stamp}
-use Rattle.seat_steps.specs.declared.step.ShellStep.TheVariants as shells
+use Rattle.broker_steps.specs.declared.stamp.Stamp.{Stamp}
+use Rattle.broker_steps.specs.declared.step.ShellStep.TheVariants as shells
 use Rattle.session_text.specs.Words.{rect}
 use Rattle.session_text.specs.Reading.{line_of}
 

@@ -2,7 +2,7 @@
 //! others: in form 1, and behind a stamp.
 ghost use Rattle.std.specs.Prelude.{◌≡◌, ◌≤◌, ◌==◌, ◌∷◌, ◌++◌, length, take, codes, Some, IfSome};
 ghost use Rattle.std.specs.List.{slice_split};
-ghost use Rattle.seat_steps.specs.Ranges.{piece_limit};
+ghost use Rattle.broker_steps.specs.Ranges.{piece_limit};
 ghost use Rattle.session_text.specs.declared.line.Form.TheVariants.{Session, Session2};
 ghost use Rattle.session_text.specs.declared.line.Line.TheVariants as lines;
 ghost use Rattle.session_text.specs.declared.line.SessionLine.TheVariants as sessions;
@@ -13,7 +13,7 @@ use crate::cutting::first_word;
 use crate::hex_digits::decode_lower;
 use crate::line::LINE_LIMIT;
 use crate::numerals::{parsed_long_number, parsed_number};
-use seat_steps::Stamp;
+use broker_steps::Stamp;
 
 // What stands behind the name of such a line.
 #[inline(always)]

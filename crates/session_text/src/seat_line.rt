@@ -10,7 +10,7 @@ ghost use Rattle.session_text.specs.SeatLines.{line_for, seats_header_of, seats_
 use crate::cutting::{MOST_WORDS, cut_words};
 use crate::line::{BadLine, Form, LINE_LIMIT, Line, SessionLine, read_line};
 use crate::words::{count, is};
-use seat_steps::{FORM_1_ENTRY_LIMIT, FORM_1_WEIGHT, Limits, STORE_LIMIT};
+use broker_steps::{FORM_1_ENTRY_LIMIT, FORM_1_WEIGHT, Limits, STORE_LIMIT};
 use std::alloc::Global;
 
 /// The most seats of an input. Each number of a seat is one digit, from 1.

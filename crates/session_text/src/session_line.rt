@@ -9,7 +9,7 @@ use crate::hex_words::bytes_within;
 use crate::line::{BadLine, Line, SessionLine};
 use crate::shell_line;
 use crate::words::{count, is, number, role};
-use seat_steps::{FORM_1_ENTRY_LIMIT, FORM_1_WEIGHT, Limits, STORE_LIMIT};
+use broker_steps::{FORM_1_ENTRY_LIMIT, FORM_1_WEIGHT, Limits, STORE_LIMIT};
 use std::alloc::Global;
 use wl_wire::MESSAGE_LIMIT;
 

@@ -7,8 +7,8 @@ ghost use Rattle.session_text.specs.SessionReading.{seven_shell_words, shell_of}
 
 use crate::line::BadLine;
 use crate::words::{is, number, signed, size, state};
+use broker_steps::ShellStep;
 use relay_model::{Keymap, Mods, Rect, Repeat, Size};
-use seat_steps::ShellStep;
 
 #[tactic(auto, unfolding(crate::specs::SessionReading::one_shell_word))]
 pub fn read_one(key: &[u8]) -> Result<ShellStep, BadLine>

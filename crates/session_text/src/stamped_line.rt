@@ -12,7 +12,7 @@ use crate::line::{BadLine, Line, SessionLine};
 use crate::session_line::read_session;
 use crate::shell_line::read_shell;
 use crate::words::{count, long_number, number};
-use seat_steps::{
+use broker_steps::{
     ENTRY_LIMIT, Limits, STORE_LIMIT, ShellStep, Stamp, TOKEN_LIMIT, TokenList, WEIGHT_LIMIT,
 };
 use std::alloc::Global;

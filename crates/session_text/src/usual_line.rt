@@ -9,8 +9,8 @@ use crate::cutting::first_word;
 use crate::line::SessionLine;
 use crate::numerals::{parsed_number, parsed_signed};
 use crate::words::{count, cursor_text, state, text};
+use broker_steps::ShellStep;
 use relay_model::Act;
-use seat_steps::ShellStep;
 use std::alloc::Global;
 use wl_wire::MESSAGE_LIMIT;
 

@@ -1,5 +1,5 @@
 //! A case, and how it is played.
-use plain_run::run_plain;
+use program_run::run_plain;
 use std::alloc::{AllocError, Global};
 use wio_core::{MemSink, MemSource, NoMemory};
 

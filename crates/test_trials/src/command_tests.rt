@@ -1,13 +1,13 @@
 //! The words `trial-threads N`, over a sink.
 use crate::equal::{equal, equal_at};
 use crate::gate::Meets;
-use plain_run::Status;
+use program_run::Status;
+use program_threads::run_threads;
 use std::alloc::Global;
 use std::process::Abort;
 use std::sync::Wait;
 use std::test::Fail;
 use std::thread::Threads;
-use threads_run::run_threads;
 use wio_core::MemSink;
 
 // Runs the line's words over a sink where the writes with these numbers fail.

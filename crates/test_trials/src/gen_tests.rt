@@ -1,7 +1,7 @@
 //! Generated sessions and drawn scripts, against what a program worked out which shares nothing with this one; and where
 //! scripts end.
 use crate::equal::{equal, equal_at};
-use gen_run::{WriteEnd, count, write_session};
+use program_gen::{WriteEnd, count, write_session};
 use session_gen::{Gen, STEPS};
 use std::alloc::Global;
 use std::process::Abort;

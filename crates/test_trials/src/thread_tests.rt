@@ -5,12 +5,12 @@ use crate::equal::{equal, equal_at};
 use crate::gate::Meets;
 use crate::scripts::{lines, script_of};
 use crate::told::{heard_in, replayed, told_in};
-use client_logs::field_of;
 use std::alloc::Global;
 use std::process::Abort;
 use std::sync::Wait;
 use std::test::Fail;
 use std::thread::Threads;
+use trial_client_logs::field_of;
 use trial_run::run_trial;
 use trial_threads::{ThreadTrial, ThreadTrialEnd, run_trial_threads};
 

@@ -1,11 +1,11 @@
 //! What a field is told: by a log, and by a replay of the session that the log's trial made.
-use client_logs::{FieldEntry, FieldLog, hear_field};
 use client_side::FieldClient;
 use hub_lock::Session;
-use plain_run::run_plain;
+use program_run::run_plain;
 use serve_record::write_record;
 use std::alloc::Global;
 use std::test::Fail;
+use trial_client_logs::{FieldEntry, FieldLog, hear_field};
 use wio_core::{MemSink, MemSource};
 
 /// The most bytes of a session and of its transcript.

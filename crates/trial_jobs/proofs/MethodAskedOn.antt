@@ -7,8 +7,8 @@ use Rattle.client_side.specs.Messages.{Sent, spelled, method_setup}
 use Rattle.client_side.specs.MethodLog.{Happening, came, Typist, typist_after, sent_for, typist_of, sends_of}
 use Rattle.client_side.specs.MethodState.{State, happens, after_event, log_after}
 use Rattle.client_side.proofs.SpelledInTurn.{spelled-append}
-use Rattle.client_logs.specs.MethodLogs.{settled}
-use Rattle.client_logs.specs.MethodLogs as logs
+use Rattle.trial_client_logs.specs.MethodLogs.{settled}
+use Rattle.trial_client_logs.specs.MethodLogs as logs
 use Rattle.trial_run.specs.Typists.{meanings_of}
 use Rattle.trial_run.specs.declared.typist.TrialTypist.{TrialTypist}
 use Rattle.trial_jobs.specs.MethodAsked.{IsAsked}

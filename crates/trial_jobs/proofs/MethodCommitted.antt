@@ -4,22 +4,22 @@ use Rattle.std.specs.Prelude.{slice_index_or, All}
 use Rattle.std.proofs.lemmas.List.{take_more, take_all, map-append}
 use Rattle.std.proofs.lemmas.List.Elements.{All-get_or}
 use Rattle.trial_script.specs.Grammar.{AreEdits}
-use Rattle.seat_steps.specs.declared.limits.Limits.{Limits}
+use Rattle.broker_steps.specs.declared.limits.Limits.{Limits}
 use Rattle.trial_field.specs.Log.{Batch}
 use Rattle.trial_script.specs.declared.action.Edits.{Edits}
 use Rattle.client_side.specs.Client.{Client}
 use Rattle.client_side.specs.MethodLog.{Happening, committed, sent_for}
 use Rattle.client_side.specs.MethodState.{State, happens}
 use Rattle.client_side.specs.Messages.{Sent}
-use Rattle.client_logs.specs.declared.method_log.MethodEntry.{MethodEntry}
-use Rattle.client_logs.specs.declared.method_log.MethodEntry.TheVariants as entries
-use Rattle.client_logs.specs.Logs.{batch_of, FitsMessages}
-use Rattle.client_logs.specs.MethodLogs.{method_log}
-use Rattle.pass_calls.specs.Taken.{HasTaken}
+use Rattle.trial_client_logs.specs.declared.method_log.MethodEntry.{MethodEntry}
+use Rattle.trial_client_logs.specs.declared.method_log.MethodEntry.TheVariants as entries
+use Rattle.trial_client_logs.specs.Logs.{batch_of, FitsMessages}
+use Rattle.trial_client_logs.specs.MethodLogs.{method_log}
+use Rattle.hub_calls.specs.Taken.{HasTaken}
 use Rattle.trial_run.specs.Typists.{meanings_of}
 use Rattle.trial_run.specs.declared.typist.TrialTypist.{TrialTypist}
 use Rattle.trial_jobs.specs.declared.method_job.MethodJob.{MethodJob}
-use Rattle.method_law.specs.TypedLogs.{events_of, batches_of}
+use Rattle.trial_laws.specs.TypedLogs.{events_of, batches_of}
 use Rattle.trial_jobs.specs.MethodAsked.{IsAsked}
 use Rattle.trial_jobs.specs.MethodHearing.{HasShort}
 use Rattle.trial_jobs.specs.MethodLaw.{first_batches, IsMethodCut}

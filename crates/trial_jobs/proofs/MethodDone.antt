@@ -1,24 +1,24 @@
 -- The method's job from its begin to its end
 use Rattle.std.proofs.Common.{◌≡◌, ℕ, zero, suc, ◌+◌, ◌≤◌, Bool, true, false, List, [], ◌∷◌, ◌++◌, map, take, drop, Err, refl, sym, ap, subst, ◌∙◌, inl, inr, arith, append-nil, append_assoc}
 use Rattle.std.proofs.lemmas.List.{take-append-drop, map-append}
-use Rattle.seat_steps.specs.declared.limits.Limits.{Limits}
+use Rattle.broker_steps.specs.declared.limits.Limits.{Limits}
 use Rattle.trial_field.specs.Log.{Batch}
 use Rattle.trial_script.specs.declared.action.Edits.{Edits}
 use Rattle.client_side.specs.Messages.{Sent, spelled, method_setup}
-use Rattle.client_logs.specs.Logs.{batch_of}
-use Rattle.client_logs.specs.MethodLogs.{method_log}
+use Rattle.trial_client_logs.specs.Logs.{batch_of}
+use Rattle.trial_client_logs.specs.MethodLogs.{method_log}
 use Rattle.broker_model.specs.declared.journal.Entry.{Entry as JournalEntry}
 use Rattle.hub_lock.specs.declared.step.OuterStep.{OuterStep}
 use Rattle.hub_lock.specs.Passes.{HubId}
-use Rattle.pass_calls.specs.Made.{entries_by}
-use Rattle.pass_calls.specs.Submitted.{entries_in}
-use Rattle.pass_calls.specs.Taken.{HasTaken, HasAll}
+use Rattle.hub_calls.specs.Made.{entries_by}
+use Rattle.hub_calls.specs.Submitted.{entries_in}
+use Rattle.hub_calls.specs.Taken.{HasTaken, HasAll}
 use Rattle.trial_run.specs.declared.typist.TrialTypist.{TrialTypist}
-use Rattle.method_law.specs.TypedLogs.{requests_of}
-use Rattle.typing_jobs.specs.Fronts.{IsFrontOf}
-use Rattle.typing_jobs.specs.Sending.{HasSent, HasMade, HasSentFront, HasHeardAll}
-use Rattle.typing_jobs.specs.declared.job_end.JobEnd.{JobEnd}
-use Rattle.typing_jobs.specs.declared.job_end.JobEnd.TheVariants as ends
+use Rattle.trial_laws.specs.TypedLogs.{requests_of}
+use Rattle.trial_typing.specs.Fronts.{IsFrontOf}
+use Rattle.trial_typing.specs.Sending.{HasSent, HasMade, HasSentFront, HasHeardAll}
+use Rattle.trial_typing.specs.declared.job_end.JobEnd.{JobEnd}
+use Rattle.trial_typing.specs.declared.job_end.JobEnd.TheVariants as ends
 use Rattle.trial_jobs.specs.declared.method_job.MethodJob.{MethodJob}
 use Rattle.trial_jobs.specs.MethodLaw.{rounds, IsFresh, typist_in, begun_client, first_batches, IsMethodReady, HasCommitted, IsMethodDone, IsMethodCut, MethodStops}
 use Rattle.trial_jobs.specs.MethodGoing.{IsMethodOf, IsMethodGoing, IsMethodOver, IsMethodAt, IsMethodPlayed, MethodGoes}

@@ -1,7 +1,7 @@
 -- What the method's job leaves after each of its parts
 use Rattle.std.proofs.Common.{◌≡◌, ℕ, Bool, true, false, List, [], ◌++◌, map, Ok, Err, sym, ap, subst, inl, inr, append-nil, take}
 use Rattle.relay_model.specs.declared.act.EndCause.{EndCause}
-use Rattle.seat_steps.specs.declared.limits.Limits.{Limits}
+use Rattle.broker_steps.specs.declared.limits.Limits.{Limits}
 use Rattle.broker_model.specs.declared.journal.Entry.{Entry as JournalEntry}
 use Rattle.trial_field.specs.Log.{Batch}
 use Rattle.client_side.specs.Client.{Client, IsWrong}
@@ -9,26 +9,26 @@ use Rattle.client_side.specs.Events.{method_objects}
 use Rattle.client_side.specs.MethodLog.{Happening}
 use Rattle.client_side.specs.MethodState.{State}
 use Rattle.client_side.specs.Messages.{Sent}
-use Rattle.client_logs.specs.declared.method_log.MethodEntry.{MethodEntry}
-use Rattle.client_logs.specs.MethodLogs.{method_log, settled}
+use Rattle.trial_client_logs.specs.declared.method_log.MethodEntry.{MethodEntry}
+use Rattle.trial_client_logs.specs.MethodLogs.{method_log, settled}
 use Rattle.hub_lock.specs.Passes.{PeerPass}
-use Rattle.pass_calls.specs.declared.stop.PassStop.{PassStop}
-use Rattle.pass_calls.specs.declared.stop.PassStop.TheVariants as stops
-use Rattle.pass_calls.specs.declared.submit.Sent as calls
-use Rattle.pass_calls.specs.declared.submit.Sent.TheVariants as sent
-use Rattle.pass_calls.specs.declared.take.Piece.TheVariants as pieces
-use Rattle.pass_calls.specs.Made.{entries_by, SawMore, HasEnded, IsFullFor}
-use Rattle.pass_calls.specs.Submitted.{entries_in, MadeFirst, Submits}
-use Rattle.pass_calls.specs.Taken.{HasTaken, TakesMore, TakesPiece}
+use Rattle.hub_calls.specs.declared.stop.PassStop.{PassStop}
+use Rattle.hub_calls.specs.declared.stop.PassStop.TheVariants as stops
+use Rattle.hub_calls.specs.declared.submit.Sent as calls
+use Rattle.hub_calls.specs.declared.submit.Sent.TheVariants as sent
+use Rattle.hub_calls.specs.declared.take.Piece.TheVariants as pieces
+use Rattle.hub_calls.specs.Made.{entries_by, SawMore, HasEnded, IsFullFor}
+use Rattle.hub_calls.specs.Submitted.{entries_in, MadeFirst, Submits}
+use Rattle.hub_calls.specs.Taken.{HasTaken, TakesMore, TakesPiece}
 use Rattle.trial_run.specs.declared.typist.TrialTypist.{TrialTypist}
-use Rattle.method_law.specs.TypedLogs.{requests_of}
-use Rattle.typing_jobs.specs.Ends.{end_by}
-use Rattle.typing_jobs.specs.Fronts.{IsFrontOf}
-use Rattle.typing_jobs.specs.Sending.{HasSentFront, HasMade, IsCaughtUp, IsFullForMessage}
-use Rattle.typing_jobs.specs.declared.job_end.JobEnd.{JobEnd}
-use Rattle.typing_jobs.specs.declared.job_end.JobEnd.TheVariants as ends
-use Rattle.typing_jobs.proofs.RequestsWhole.{AreShort}
-use Rattle.typing_jobs.proofs.FieldSubmits.{front_sents, made_front, all_made, full_for_next, first_made}
+use Rattle.trial_laws.specs.TypedLogs.{requests_of}
+use Rattle.trial_typing.specs.Ends.{end_by}
+use Rattle.trial_typing.specs.Fronts.{IsFrontOf}
+use Rattle.trial_typing.specs.Sending.{HasSentFront, HasMade, IsCaughtUp, IsFullForMessage}
+use Rattle.trial_typing.specs.declared.job_end.JobEnd.{JobEnd}
+use Rattle.trial_typing.specs.declared.job_end.JobEnd.TheVariants as ends
+use Rattle.trial_typing.proofs.RequestsWhole.{AreShort}
+use Rattle.trial_typing.proofs.FieldSubmits.{front_sents, made_front, all_made, full_for_next, first_made}
 use Rattle.trial_jobs.specs.declared.method_job.MethodJob.{MethodJob}
 use Rattle.trial_jobs.specs.MethodHearing.{HearsPiece, Heard, HeardFirst, HasShort}
 use Rattle.trial_jobs.specs.MethodLaw.{IsMethodCut, MethodStops}

@@ -7,13 +7,13 @@ use Rattle.client_side.specs.Client.{Client}
 use Rattle.client_side.specs.Events.{method_objects}
 use Rattle.client_side.specs.MethodLog.{Happening}
 use Rattle.client_side.specs.MethodState.{State, after_event}
-use Rattle.client_logs.specs.Hearing.{Hears, Accepts}
-use Rattle.client_logs.specs.MethodLogs.{settled, log_after}
+use Rattle.trial_client_logs.specs.Hearing.{Hears, Accepts}
+use Rattle.trial_client_logs.specs.MethodLogs.{settled, log_after}
 use Rattle.trial_run.specs.Typists.{meanings_of}
 use Rattle.trial_run.specs.declared.typist.TrialTypist.{TrialTypist}
-use Rattle.method_law.specs.TypedLogs.{events_of, batches_of}
-use Rattle.typing_jobs.specs.Fronts.{AreEventsIn}
-use Rattle.typing_jobs.proofs.FieldHeard.{are-both, front_on}
+use Rattle.trial_laws.specs.TypedLogs.{events_of, batches_of}
+use Rattle.trial_typing.specs.Fronts.{AreEventsIn}
+use Rattle.trial_typing.proofs.FieldHeard.{are-both, front_on}
 use Rattle.trial_jobs.specs.MethodHearing.{Heard, HeardFirst}
 use Rattle.trial_jobs.proofs.MethodLogs.{events_after, batches_after, events-append, batches-append}
 

@@ -1,16 +1,16 @@
 -- What the method's job keeps from part to part
 use Rattle.std.proofs.Common.{◌≡◌, List, refl, sym, subst, ◌∙◌}
-use Rattle.seat_steps.specs.declared.limits.Limits.{Limits}
+use Rattle.broker_steps.specs.declared.limits.Limits.{Limits}
 use Rattle.client_side.specs.Client.{Client}
 use Rattle.client_side.specs.MethodState.{State}
-use Rattle.client_logs.specs.declared.method_log.MethodEntry.{MethodEntry}
+use Rattle.trial_client_logs.specs.declared.method_log.MethodEntry.{MethodEntry}
 use Rattle.hub_lock.specs.Passes.{HubId, PeerPass, IsOf}
 use Rattle.hub_lock.specs.Calls.{pass_having_seen}
-use Rattle.pass_calls.specs.Made.{SawMore}
-use Rattle.pass_calls.proofs.PassesGrow.{same_peer}
+use Rattle.hub_calls.specs.Made.{SawMore}
+use Rattle.hub_calls.proofs.PassesGrow.{same_peer}
 use Rattle.trial_run.specs.declared.typist.TrialTypist.{TrialTypist}
-use Rattle.typing_jobs.specs.Sending.{MadeTakes}
-use Rattle.typing_jobs.proofs.FieldKept.{saw_nothing, saw_all, saw_writer}
+use Rattle.trial_typing.specs.Sending.{MadeTakes}
+use Rattle.trial_typing.proofs.FieldKept.{saw_nothing, saw_all, saw_writer}
 use Rattle.trial_jobs.specs.declared.method_job.MethodJob.{MethodJob}
 use Rattle.trial_jobs.specs.MethodGoing.{IsMethodOf, MethodKeeps}
 

@@ -4,9 +4,9 @@ use Rattle.wl_proto.specs.declared.event.Event.{Event}
 use Rattle.trial_field.specs.Log.{Batch}
 use Rattle.client_side.specs.MethodLog.{Happening, came, committed}
 use Rattle.client_side.specs.MethodState.{log_after}
-use Rattle.client_logs.specs.declared.method_log.MethodEntry.{MethodEntry}
-use Rattle.client_logs.specs.MethodLogs.{happening_of, method_log}
-use Rattle.method_law.specs.TypedLogs.{events_of, batches_of}
+use Rattle.trial_client_logs.specs.declared.method_log.MethodEntry.{MethodEntry}
+use Rattle.trial_client_logs.specs.MethodLogs.{happening_of, method_log}
+use Rattle.trial_laws.specs.TypedLogs.{events_of, batches_of}
 use Rattle.trial_jobs.specs.MethodHearing.{HasShort}
 
 pub events_after : (all : List Event) (log : List Happening) → events_of (log_after all log) ≡ events_of log ++ all

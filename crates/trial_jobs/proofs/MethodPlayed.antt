@@ -1,11 +1,11 @@
 -- A method's job that was played, and goes on to its last Empty
 use Rattle.std.proofs.Common.{◌≡◌, Bool, true, false, List, refl, sym, subst, arith}
-use Rattle.seat_steps.specs.declared.limits.Limits.{Limits}
+use Rattle.broker_steps.specs.declared.limits.Limits.{Limits}
 use Rattle.trial_field.specs.Log.{Batch}
-use Rattle.pass_calls.specs.Taken.{HasAll}
+use Rattle.hub_calls.specs.Taken.{HasAll}
 use Rattle.trial_run.specs.declared.typist.TrialTypist.{TrialTypist}
-use Rattle.typing_jobs.specs.Sending.{IsOver}
-use Rattle.typing_jobs.specs.declared.job_end.JobEnd.{JobEnd}
+use Rattle.trial_typing.specs.Sending.{IsOver}
+use Rattle.trial_typing.specs.declared.job_end.JobEnd.{JobEnd}
 use Rattle.trial_jobs.specs.declared.method_job.MethodJob.{MethodJob}
 use Rattle.trial_jobs.specs.MethodLaw.{rounds, first_batches, IsMethodDone, MethodStops}
 use Rattle.trial_jobs.specs.MethodGoing.{IsMethodAt, IsMethodPlayed}

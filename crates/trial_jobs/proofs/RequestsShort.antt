@@ -5,11 +5,11 @@ use Rattle.client_side.specs.MethodLog.{Happening, came, committed, sent_for, ty
 use Rattle.trial_run.specs.Typists.{meanings_of}
 use Rattle.trial_run.specs.declared.typist.TrialTypist.{TrialTypist}
 use Rattle.trial_run.specs.declared.typist.TrialTypist.TheVariants as typists
-use Rattle.trial_law.proofs.RequestsWait.{AreShortSent}
-use Rattle.method_law.specs.TypedLogs.{requests_of}
-use Rattle.method_law.proofs.KeysShort.{KeysWait}
-use Rattle.method_law.proofs.RequestsShort.{both_short, for_short, typist_waits, setup_short}
-use Rattle.typing_jobs.proofs.RequestsWhole.{AreShort}
+use Rattle.trial_laws.proofs.RequestsWait.{AreShortSent}
+use Rattle.trial_laws.specs.TypedLogs.{requests_of}
+use Rattle.trial_laws.proofs.KeysShort.{KeysWait}
+use Rattle.trial_laws.proofs.RequestsShort.{both_short, for_short, typist_waits, setup_short}
+use Rattle.trial_typing.proofs.RequestsWhole.{AreShort}
 use Rattle.trial_jobs.specs.MethodHearing.{HasShort}
 use Rattle.trial_jobs.specs.MethodLaw.{IsFresh}
 

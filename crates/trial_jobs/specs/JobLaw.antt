@@ -1,11 +1,11 @@
 -- The law of a job
 use Rattle.std.specs.Prelude.{◌≡◌, Bool, true, Result}
-use Rattle.seat_steps.specs.declared.limits.Limits.{Limits}
+use Rattle.broker_steps.specs.declared.limits.Limits.{Limits}
 use Rattle.hub_lock.specs.Passes.{HubId}
-use Rattle.typing_jobs.specs.declared.job_end.JobEnd.{JobEnd}
-use Rattle.typing_jobs.specs.FieldLaw.{IsFieldReady, FieldRuns}
-use Rattle.typing_jobs.specs.FieldGoing.{IsFieldPlayed}
-use Rattle.typing_jobs.specs.ShellLaw.{IsShellReady, ShellRuns}
+use Rattle.trial_typing.specs.declared.job_end.JobEnd.{JobEnd}
+use Rattle.trial_typing.specs.FieldLaw.{IsFieldReady, FieldRuns}
+use Rattle.trial_typing.specs.FieldGoing.{IsFieldPlayed}
+use Rattle.trial_typing.specs.ShellLaw.{IsShellReady, ShellRuns}
 use Rattle.trial_jobs.specs.declared.job.TrialJob.{TrialJob}
 use Rattle.trial_jobs.specs.declared.job.TrialJob.TheVariants as jobs
 use Rattle.trial_jobs.specs.MethodLaw.{IsMethodReady, MethodRuns, typist_in}

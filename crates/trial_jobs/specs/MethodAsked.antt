@@ -5,7 +5,7 @@ use Rattle.client_side.specs.MethodLog.{Happening, typist_of}
 use Rattle.client_side.specs.MethodState.{State}
 use Rattle.trial_run.specs.Typists.{meanings_of}
 use Rattle.trial_run.specs.declared.typist.TrialTypist.{TrialTypist}
-use Rattle.method_law.specs.TypedLogs.{requests_of}
+use Rattle.trial_laws.specs.TypedLogs.{requests_of}
 
 -- the client typed by its log, these requests were sent, and those wait
 pub record IsAsked (typist : TrialTypist) (s : State TrialTypist) (log : List Happening)

@@ -1,19 +1,19 @@
 -- The method's job on its way
 use Rattle.std.specs.Prelude.{◌≡◌, ℕ, Bool, true, false, List, [], ◌++◌, Result, Ok, Err}
-use Rattle.seat_steps.specs.declared.limits.Limits.{Limits}
+use Rattle.broker_steps.specs.declared.limits.Limits.{Limits}
 use Rattle.trial_field.specs.Log.{Batch}
 use Rattle.client_side.specs.Messages.{Sent}
-use Rattle.client_logs.specs.MethodLogs.{method_log}
+use Rattle.trial_client_logs.specs.MethodLogs.{method_log}
 use Rattle.hub_lock.specs.Passes.{HubId, IsOf}
-use Rattle.pass_calls.specs.declared.submit.Sent.TheVariants as sent
-use Rattle.pass_calls.specs.declared.submit.Sent as calls
-use Rattle.pass_calls.specs.Taken.{HasTaken}
+use Rattle.hub_calls.specs.declared.submit.Sent.TheVariants as sent
+use Rattle.hub_calls.specs.declared.submit.Sent as calls
+use Rattle.hub_calls.specs.Taken.{HasTaken}
 use Rattle.trial_run.specs.declared.typist.TrialTypist.{TrialTypist}
-use Rattle.typing_jobs.specs.declared.job_end.JobEnd.{JobEnd}
-use Rattle.typing_jobs.specs.declared.turn.Turn.{Turn}
-use Rattle.typing_jobs.specs.declared.turn.Turn.TheVariants as turns
-use Rattle.typing_jobs.specs.Fronts.{IsFrontOf}
-use Rattle.typing_jobs.specs.Sending.{HasMade, IsCaughtUp, IsOver, HaveSeenMore}
+use Rattle.trial_typing.specs.declared.job_end.JobEnd.{JobEnd}
+use Rattle.trial_typing.specs.declared.turn.Turn.{Turn}
+use Rattle.trial_typing.specs.declared.turn.Turn.TheVariants as turns
+use Rattle.trial_typing.specs.Fronts.{IsFrontOf}
+use Rattle.trial_typing.specs.Sending.{HasMade, IsCaughtUp, IsOver, HaveSeenMore}
 use Rattle.trial_jobs.specs.declared.method_job.MethodJob.{MethodJob}
 use Rattle.trial_jobs.specs.MethodAsked.{IsAsked}
 use Rattle.trial_jobs.specs.MethodHearing.{Heard, HasShort}

@@ -8,14 +8,14 @@ use Rattle.client_side.specs.Client.{Client}
 use Rattle.client_side.specs.Events.{method_objects, AreEvents}
 use Rattle.client_side.specs.MethodLog.{Happening, came, committed}
 use Rattle.client_side.specs.MethodState.{State, after_event}
-use Rattle.client_logs.specs.Hearing.{Accepts, Refuses, HearsSome}
-use Rattle.client_logs.specs.MethodLogs.{settled, log_after}
+use Rattle.trial_client_logs.specs.Hearing.{Accepts, Refuses, HearsSome}
+use Rattle.trial_client_logs.specs.MethodLogs.{settled, log_after}
 use Rattle.trial_run.specs.Typists.{meanings_of}
 use Rattle.trial_run.specs.declared.typist.TrialTypist.{TrialTypist}
-use Rattle.method_law.specs.TypedLogs.{events_of, batches_of}
-use Rattle.typing_jobs.specs.Fronts.{IsFrontOf, BeginsWith}
-use Rattle.typing_jobs.specs.declared.job_end.JobEnd.{JobEnd}
-use Rattle.typing_jobs.specs.declared.job_end.JobEnd.TheVariants as ends
+use Rattle.trial_laws.specs.TypedLogs.{events_of, batches_of}
+use Rattle.trial_typing.specs.Fronts.{IsFrontOf, BeginsWith}
+use Rattle.trial_typing.specs.declared.job_end.JobEnd.{JobEnd}
+use Rattle.trial_typing.specs.declared.job_end.JobEnd.TheVariants as ends
 
 -- A piece was heard and written down. BadEvent: its events went wrong, unless they did before.
 -- NoMemory: the log has the first of them.

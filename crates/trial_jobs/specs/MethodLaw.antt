@@ -2,7 +2,7 @@
 use Rattle.std.specs.Prelude.{◌≡◌, ◌⊎◌, ℕ, List, [], map, take, false, Result, Ok, Err}
 use Rattle.wl_proto.specs.declared.event.Event.{Event}
 use Rattle.relay_model.specs.declared.role.Role.TheVariants.{Method}
-use Rattle.seat_steps.specs.declared.limits.Limits.{Limits}
+use Rattle.broker_steps.specs.declared.limits.Limits.{Limits}
 use Rattle.compose_method.specs.Table.{IsTable}
 use Rattle.dict_method.specs.Dictionary.{IsDictionary}
 use Rattle.trial_field.specs.Log.{Batch}
@@ -11,18 +11,18 @@ use Rattle.client_side.specs.Events.{method_objects}
 use Rattle.client_side.specs.Messages.{method_setup}
 use Rattle.client_side.specs.MethodLog.{typist_of}
 use Rattle.client_side.specs.MethodState.{State, new_state}
-use Rattle.client_logs.specs.Logs.{batch_of}
-use Rattle.client_logs.specs.MethodLogs.{settled, method_log}
+use Rattle.trial_client_logs.specs.Logs.{batch_of}
+use Rattle.trial_client_logs.specs.MethodLogs.{settled, method_log}
 use Rattle.hub_lock.specs.Passes.{HubId}
-use Rattle.pass_calls.specs.Taken.{HasTaken}
+use Rattle.hub_calls.specs.Taken.{HasTaken}
 use Rattle.trial_run.specs.Typists.{meanings_of}
 use Rattle.trial_run.specs.declared.typist.TrialTypist.{TrialTypist}
 use Rattle.trial_run.specs.declared.typist.TrialTypist.TheVariants as typists
-use Rattle.method_law.specs.TypedLogs.{events_of, batches_of, requests_of}
-use Rattle.typing_jobs.specs.Fronts.{IsFrontOf, BeginsWith, AreEventsIn}
-use Rattle.typing_jobs.specs.Sending.{HasSent, HasSentFront, HasHeardAll, IsOver, IsBegun, HaveSeenMore, IsFullForMessage, IsFullForTake}
-use Rattle.typing_jobs.specs.declared.job_end.JobEnd.{JobEnd}
-use Rattle.typing_jobs.specs.declared.job_end.JobEnd.TheVariants as ends
+use Rattle.trial_laws.specs.TypedLogs.{events_of, batches_of, requests_of}
+use Rattle.trial_typing.specs.Fronts.{IsFrontOf, BeginsWith, AreEventsIn}
+use Rattle.trial_typing.specs.Sending.{HasSent, HasSentFront, HasHeardAll, IsOver, IsBegun, HaveSeenMore, IsFullForMessage, IsFullForTake}
+use Rattle.trial_typing.specs.declared.job_end.JobEnd.{JobEnd}
+use Rattle.trial_typing.specs.declared.job_end.JobEnd.TheVariants as ends
 use Rattle.trial_jobs.specs.declared.method_job.MethodJob.{MethodJob}
 
 -- how many rounds the method makes

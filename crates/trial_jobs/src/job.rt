@@ -1,6 +1,6 @@
 //! The jobs of a trial.
 use crate::method_job::MethodJob;
-use typing_jobs::{FieldJob, ShellJob};
+use trial_typing::{FieldJob, ShellJob};
 
 /// What one thread of a trial does: the part of one user of the hub, over that user's passes.
 #[derive(Drop)]

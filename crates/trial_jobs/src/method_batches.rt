@@ -1,6 +1,6 @@
 //! The batches of the method's own user.
 ghost use Rattle.std.specs.Prelude.{◌≡◌, ◌+◌, ◌<◌, Bool, true, List, length};
-ghost use Rattle.seat_steps.specs.declared.limits.Limits.{Limits};
+ghost use Rattle.broker_steps.specs.declared.limits.Limits.{Limits};
 ghost use Rattle.client_side.specs.Messages as messages;
 ghost use Rattle.trial_run.specs.declared.typist.TrialTypist.{TrialTypist};
 ghost use Rattle.trial_jobs.specs.MethodLaw.{first_batches};
@@ -9,12 +9,12 @@ ghost use Rattle.trial_jobs.specs.MethodGoing.{MethodCommits, MethodGoes};
 
 use crate::method_job::MethodJob;
 use crate::method_turns::send;
-use client_logs::{MethodEntry, batch_copy, batch_view};
+use hub_calls::Sent;
 use hub_lock::Hub;
-use pass_calls::Sent;
 use std::alloc::Global;
 use std::sync::Wait;
-use typing_jobs::JobEnd;
+use trial_client_logs::{MethodEntry, batch_copy, batch_view};
+use trial_typing::JobEnd;
 
 // The batch with the index: the client commits it, and the log has it.
 fn commit_own(alloc: Global, job: &mut MethodJob, index: usize) -> Result<(), JobEnd>

@@ -1,19 +1,19 @@
 //! The method's job.
 ghost use Rattle.std.specs.Prelude.{IfOk};
-ghost use Rattle.typing_jobs.specs.Ends.{done_of};
+ghost use Rattle.trial_typing.specs.Ends.{done_of};
 ghost use Rattle.trial_jobs.specs.MethodLaw.{IsMethodReady, MethodRuns, typist_in};
 ghost use Rattle.trial_jobs.specs.MethodGoing.{IsMethodPlayed};
 
 use crate::batch_list::BatchList;
 use crate::method_batches::make_batch;
 use crate::method_turns::answer_all;
-use client_logs::MethodLog;
 use client_side::MethodClient;
 use hub_lock::{Hub, ReaderPass, WriterPass};
 use std::alloc::Global;
 use std::sync::Wait;
+use trial_client_logs::MethodLog;
 use trial_run::TrialTypist;
-use typing_jobs::JobEnd;
+use trial_typing::JobEnd;
 
 /// How many rounds the method's job makes: in each it takes and answers until nothing is stored, and
 /// commits one batch of its script.

@@ -2,7 +2,7 @@
 ghost use Rattle.std.specs.Prelude.{◌≡◌, ◌≤◌, Bool, true, false, List, length, Ok};
 ghost use Rattle.trial_field.specs.Log.{Batch};
 ghost use Rattle.client_side.specs.Messages as messages;
-ghost use Rattle.client_logs.specs.MethodLogs.{method_log};
+ghost use Rattle.trial_client_logs.specs.MethodLogs.{method_log};
 ghost use Rattle.hub_lock.specs.Passes.{journal_seen};
 ghost use Rattle.trial_run.specs.declared.typist.TrialTypist.{TrialTypist};
 ghost use Rattle.trial_jobs.specs.MethodHearing.{HearsPiece};
@@ -10,14 +10,14 @@ ghost use Rattle.trial_jobs.specs.MethodGoing.{IsMethodOf, MethodKeeps, IsMethod
 ghost use Rattle.trial_jobs.specs.MethodGoing.{IsMethodAt, MethodSends, MethodTurns, MethodGoes};
 
 use crate::method_job::MethodJob;
-use client_logs::{MethodLog, hear_method};
 use client_side::{ClientFault, MethodClient};
+use hub_calls::{Piece, Sent, submit_messages, take_piece};
 use hub_lock::Hub;
-use pass_calls::{Piece, Sent, submit_messages, take_piece};
 use std::alloc::Global;
 use std::sync::Wait;
+use trial_client_logs::{MethodLog, hear_method};
 use trial_run::TrialTypist;
-use typing_jobs::{JobEnd, Turn};
+use trial_typing::{JobEnd, Turn};
 
 /// What waits is submitted.
 pub(crate) fn send<R: Wait>(

@@ -1,6 +1,6 @@
 //! A job is run.
 ghost use Rattle.std.specs.Prelude.{IfOk};
-ghost use Rattle.typing_jobs.specs.Ends.{done_of};
+ghost use Rattle.trial_typing.specs.Ends.{done_of};
 ghost use Rattle.trial_jobs.specs.JobLaw.{IsReady, Runs, HasPlayed};
 
 use crate::job::TrialJob;
@@ -8,7 +8,7 @@ use crate::method_job::play_method;
 use hub_lock::{Gate, Hub};
 use std::alloc::Global;
 use std::sync::Wait;
-use typing_jobs::{JobEnd, play_field, run_shell};
+use trial_typing::{JobEnd, play_field, run_shell};
 
 /// Plays the part of one field, of the method, or of the shell. Says whether its peer goes on; the
 /// shell, which has none, does.

@@ -2,7 +2,7 @@
 use Rattle.std.proofs.Common.{◌≡◌, ℕ, List, [], ◌∷◌, ◌++◌, length, Result, sym, ap, subst, ◌∙◌}
 use Rattle.std.specs.Prelude.{String}
 use Rattle.std.specs.Global.{Global}
-use Rattle.seat_steps.specs.declared.limits.Limits.{Limits}
+use Rattle.broker_steps.specs.declared.limits.Limits.{Limits}
 use Rattle.trial_script.specs.declared.script.Script.{Script}
 use Rattle.trial_script.specs.Scripts.{script_of}
 use Rattle.trial_run.specs.declared.run.TrialEnd.{TrialEnd}

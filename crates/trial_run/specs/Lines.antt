@@ -3,8 +3,8 @@ use Rattle.std.specs.Prelude.{ℕ, ◌+◌, ◌-◌, ◌%◌, ◌^◌, List, [],
 use Rattle.std.specs.List.{join_with_byte}
 use Rattle.std.specs.Fmt.{decimal}
 use Rattle.session_text.specs.Words.{hex_word}
-use Rattle.seat_steps.specs.declared.step.ShellStep.{ShellStep}
-use Rattle.seat_steps.specs.declared.step.ShellStep.TheVariants as shell
+use Rattle.broker_steps.specs.declared.step.ShellStep.{ShellStep}
+use Rattle.broker_steps.specs.declared.step.ShellStep.TheVariants as shell
 use Rattle.trial_field.specs.Log.{Batch}
 use Rattle.trial_field.specs.Log as field
 use Rattle.trial_field.specs.FieldText.{FieldText, whole}

@@ -2,8 +2,8 @@
 use Rattle.std.specs.Prelude.{◌≡◌, ℕ, zero, suc, ◌+◌, ◌%◌, ◌^◌, ◌==◌, List, [], ◌∷◌, ◌++◌, length, if◌then◌else◌, string_bytes, Result, Ok, Err, String}
 use Rattle.std.specs.Global.{Global}
 use Rattle.relay_model.specs.declared.role.Role.TheVariants.{App, Method}
-use Rattle.seat_steps.specs.declared.limits.Limits.{Limits}
-use Rattle.seat_steps.specs.Ranges.{form_1_weight}
+use Rattle.broker_steps.specs.declared.limits.Limits.{Limits}
+use Rattle.broker_steps.specs.Ranges.{form_1_weight}
 use Rattle.compose_method.specs.Typing as typing
 use Rattle.dict_method.specs.Spelling as spelling
 use Rattle.trial_script.specs.declared.action.Action.{Action}

@@ -1,7 +1,7 @@
 -- A trial at work: what the clauses of its phases say.
 use Rattle.std.specs.Prelude.{◌≡◌, ◌<◌, ◌≤◌, List, length, true, Result, Ok, Err}
-use Rattle.seat_steps.specs.declared.step.Step.{Step}
-use Rattle.seat_steps.specs.declared.step.Step.TheVariants as steps
+use Rattle.broker_steps.specs.declared.step.Step.{Step}
+use Rattle.broker_steps.specs.declared.step.Step.TheVariants as steps
 use Rattle.broker_model.specs.declared.journal.Entry.{Entry}
 use Rattle.broker_core.specs.Broker.{Broker, kept_in}
 use Rattle.broker_core.specs.Taking.{standing_of}

@@ -1,7 +1,7 @@
 //! The lines of a script, played one after the other.
 ghost use Rattle.std.specs.Prelude.{◌≡◌, ◌+◌, ◌≤◌, ◌<◌, ◌-◌, ◌++◌, length, All, OnOk};
 ghost use Rattle.trial_field.specs.Log as logs;
-ghost use Rattle.seat_steps.specs.Ranges.{IsShellStep};
+ghost use Rattle.broker_steps.specs.Ranges.{IsShellStep};
 ghost use Rattle.trial_script.specs.Grammar.{IsAction, IsFieldEdit, AreEdits};
 ghost use Rattle.trial_script.specs.Scripts.{field_named};
 ghost use Rattle.trial_run.specs.Lines.{edit_of, batch_of, shell_says, pressed, show_line};
@@ -14,7 +14,7 @@ use crate::steps::step;
 use crate::stop::Stop;
 use crate::trial::Trial;
 use crate::whose::Whose;
-use seat_steps::{ShellStep, Step};
+use broker_steps::{ShellStep, Step};
 use trial_field::{BatchView, Edit};
 use trial_script::{Action, Edits, FieldEdit};
 use wio_core::NoMemory;

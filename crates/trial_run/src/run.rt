@@ -1,6 +1,6 @@
 //! A whole script.
 ghost use Rattle.std.specs.Prelude.{◌≡◌, ◌≤◌, [], All, IfOk, string_bytes};
-ghost use Rattle.seat_steps.specs.Ranges.{IsLimits};
+ghost use Rattle.broker_steps.specs.Ranges.{IsLimits};
 ghost use Rattle.trial_script.specs.Grammar.{IsAction};
 ghost use Rattle.trial_script.specs.Scripts.{field_named};
 ghost use Rattle.trial_run.specs.Ran.{Ran};
@@ -13,9 +13,9 @@ use crate::stop::Stop;
 use crate::trial::Trial;
 use crate::typist::TrialTypist;
 use broker_core::Kept;
+use broker_steps::{FORM_1_WEIGHT, Limits};
 use compose_method::Method;
 use dict_method::DictMethod;
-use seat_steps::{FORM_1_WEIGHT, Limits};
 use std::alloc::Global;
 use thiserror::Error;
 use trial_script::{Actions, Ending, KeyRules, Script, read_script};

@@ -1,7 +1,7 @@
 //! The steps of a trial, each through the shared state.
 ghost use Rattle.std.specs.Prelude.{◌≡◌, ℕ, ◌≤◌, true, length, take, IfOk, IfErr, OnOk};
 ghost use Rattle.wl_wire.specs.Messages.{messages};
-ghost use Rattle.seat_steps.specs.Ranges.{IsStep, IsPeerStep, IsBody};
+ghost use Rattle.broker_steps.specs.Ranges.{IsStep, IsPeerStep, IsBody};
 ghost use Rattle.broker_model.specs.declared.journal.Entry.TheVariants as entries;
 ghost use Rattle.broker_core.specs.Broker.{entry_of, peer_entry, IsSaid};
 ghost use Rattle.broker_core.specs.Taking.{lives, standing_of};
@@ -13,8 +13,8 @@ ghost use Rattle.trial_run.specs.Working.{IsThere, IsStop, IsStepped};
 
 use crate::stop::Stop;
 use broker_core::{JoinRefusal, Refused, Shared, Standing, Took};
+use broker_steps::{PeerStep, Stamp, Step};
 use relay_model::Role;
-use seat_steps::{PeerStep, Stamp, Step};
 use std::alloc::Global;
 use wio_core::NoMemory;
 use wl_wire::{Bytes, Front, Raw, front_of};

@@ -1,13 +1,13 @@
 //! A trial as far as it is played.
 ghost use Rattle.std.specs.Prelude.{◌≡◌, IfOk, string_bytes};
-ghost use Rattle.seat_steps.specs.Ranges.{IsLimits};
+ghost use Rattle.broker_steps.specs.Ranges.{IsLimits};
 ghost use Rattle.trial_run.specs.Play.{new_field};
 ghost use Rattle.trial_run.specs.Trial.{unplayed};
 
 use crate::typist::TrialTypist;
 use broker_core::Shared;
+use broker_steps::Limits;
 use client_side::{FieldClient, MethodClient};
-use seat_steps::Limits;
 use std::alloc::Global;
 use std::marker::Model;
 use wio_core::NoMemory;

@@ -2,7 +2,7 @@
 use Rattle.std.proofs.Common.{◌≡◌, ◌≤◌, ◌<◌, ℕ, ◌+◌, ◌*◌, Bool, true, false, cond, List, [], ◌∷◌, ◌++◌, length, Option, Some, None, refl, sym, ap, subst, ◌∙◌, arith, length-append}
 use Rattle.std.specs.Prelude.{◌&&◌, ◌||◌, not, nat_le, nat_lt, if◌then◌else◌}
 use Rattle.std.proofs.lemmas.Bool.{le-ltb, lt-leb}
-use Rattle.seat_steps.specs.declared.limits.Limits.{Limits}
+use Rattle.broker_steps.specs.declared.limits.Limits.{Limits}
 use Rattle.broker_model.specs.declared.journal.Entry.{Entry}
 use Rattle.broker_model.specs.declared.journal.Entry.TheVariants as entries
 use Rattle.broker_model.specs.declared.journal.Kept.{Kept}
@@ -14,9 +14,9 @@ use Rattle.hub_lock.specs.Histories.{History, entries_of}
 use Rattle.hub_lock.specs.Lawful.{IsLawful}
 use Rattle.hub_lock.specs.Steps.{IsGiven, AreLegalEntries}
 use Rattle.hub_lock.proofs.JournalOfSteps.{length-entries}
-use Rattle.pass_calls.specs.Made.{journal_of}
-use Rattle.pass_calls.proofs.OthersTakeNothing.{entries-append}
-use Rattle.ready_jobs.specs.NoJobs.{WasFull}
+use Rattle.hub_calls.specs.Made.{journal_of}
+use Rattle.hub_calls.proofs.OthersTakeNothing.{entries-append}
+use Rattle.trial_threads.specs.NoJobs.{WasFull}
 
 -- each entry counts as one at most, and is no heavier than a message may be
 

@@ -7,12 +7,12 @@ use Rattle.compose_method.specs.declared.typist.Typist.{Ghosts}
 use Rattle.compose_method.specs.contracts.method.Method as Method
 use Rattle.dict_method.specs.contracts.method.DictMethod as DictMethod
 use Rattle.client_side.specs.contracts.method_client.MethodClient as MethodClient
-use Rattle.client_logs.specs.contracts.method_log.MethodLog as MethodLog
+use Rattle.trial_client_logs.specs.contracts.method_log.MethodLog as MethodLog
 use Rattle.trial_run.specs.contracts.typist.TrialTypist as TrialTypist
 use Rattle.trial_jobs.specs.contracts.batch_list.BatchList as BatchList
 use Rattle.hub_lock.proofs.HubCrosses.{reader_send, writer_send, shell_send}
-use Rattle.typing_jobs.specs.contracts.field_job.FieldJob as FieldJob
-use Rattle.typing_jobs.specs.contracts.shell_job.ShellJob as ShellJob
+use Rattle.trial_typing.specs.contracts.field_job.FieldJob as FieldJob
+use Rattle.trial_typing.specs.contracts.shell_job.ShellJob as ShellJob
 use Rattle.trial_jobs.specs.contracts.method_job.MethodJob as MethodJob
 use Rattle.trial_jobs.specs.contracts.job.TrialJob as TrialJob
 use Rattle.trial_threads.specs.contracts.running.Running as Running

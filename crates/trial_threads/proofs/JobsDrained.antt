@@ -3,25 +3,25 @@ use Rattle.std.proofs.Common.{◌≡◌, ◌≤◌, ◌++◌, [], ◌∷◌, ℕ
 use Rattle.std.specs.Prelude.{IfOk, max}
 use Rattle.std.specs.List.{AllByRecursion}
 use Rattle.std.proofs.lemmas.List.{take_all}
-use Rattle.seat_steps.specs.declared.limits.Limits.{Limits}
+use Rattle.broker_steps.specs.declared.limits.Limits.{Limits}
 use Rattle.trial_field.specs.Log.{Entry, Batch}
 use Rattle.trial_script.specs.declared.action.FieldEdit.{FieldEdit}
 use Rattle.client_side.specs.FieldLog.{sends_of}
 use Rattle.client_side.specs.Messages.{Sent, spelled, field_setup}
-use Rattle.client_logs.specs.Logs.{edit_of, field_log}
+use Rattle.trial_client_logs.specs.Logs.{edit_of, field_log}
 use Rattle.hub_lock.specs.Passes.{HubId, journal_seen}
 use Rattle.trial_run.specs.declared.typist.TrialTypist.{TrialTypist}
-use Rattle.typing_jobs.specs.declared.field_job.FieldJob.{FieldJob}
-use Rattle.typing_jobs.specs.declared.job_end.JobEnd.{JobEnd}
-use Rattle.typing_jobs.specs.Ends.{done_of}
-use Rattle.pass_calls.specs.Submitted.{entries_in}
-use Rattle.pass_calls.specs.Taken.{HasAll}
-use Rattle.typing_jobs.specs.FieldGoing.{FieldKeeps, IsFieldGoing, IsFieldAt, IsFieldPlayed, HasFieldRest, FieldRests}
-use Rattle.typing_jobs.specs.FieldLaw.{first_edits, IsFieldDone, FieldEnds}
-use Rattle.typing_jobs.specs.Sending.{HasMade, HasSent, HasSentFront, IsPast}
-use Rattle.typing_jobs.proofs.FieldDone as fields
-use Rattle.typing_jobs.proofs.FieldHeard.{are_all}
-use Rattle.typing_jobs.proofs.FieldKept.{keeps_none, saw_nothing}
+use Rattle.trial_typing.specs.declared.field_job.FieldJob.{FieldJob}
+use Rattle.trial_typing.specs.declared.job_end.JobEnd.{JobEnd}
+use Rattle.trial_typing.specs.Ends.{done_of}
+use Rattle.hub_calls.specs.Submitted.{entries_in}
+use Rattle.hub_calls.specs.Taken.{HasAll}
+use Rattle.trial_typing.specs.FieldGoing.{FieldKeeps, IsFieldGoing, IsFieldAt, IsFieldPlayed, HasFieldRest, FieldRests}
+use Rattle.trial_typing.specs.FieldLaw.{first_edits, IsFieldDone, FieldEnds}
+use Rattle.trial_typing.specs.Sending.{HasMade, HasSent, HasSentFront, IsPast}
+use Rattle.trial_typing.proofs.FieldDone as fields
+use Rattle.trial_typing.proofs.FieldHeard.{are_all}
+use Rattle.trial_typing.proofs.FieldKept.{keeps_none, saw_nothing}
 use Rattle.trial_jobs.specs.declared.method_job.MethodJob.{MethodJob}
 use Rattle.trial_jobs.specs.declared.job.TrialJob.{TrialJob}
 use Rattle.trial_jobs.specs.declared.job.TrialJob.TheVariants as jobs
@@ -29,7 +29,7 @@ use Rattle.trial_jobs.specs.MethodGoing.{MethodKeeps, IsMethodAt, IsMethodPlayed
 use Rattle.trial_jobs.specs.MethodLaw.{rounds, first_batches, MethodEnds}
 use Rattle.trial_jobs.proofs.MethodDone.{same_first}
 use Rattle.trial_jobs.proofs.MethodPlayed.{busy_at, played_rest, played_over, played_done}
-use Rattle.pass_calls.proofs.PassesGrow.{saw_none}
+use Rattle.hub_calls.proofs.PassesGrow.{saw_none}
 use Rattle.trial_threads.specs.declared.running.Running.{Running}
 use Rattle.trial_threads.specs.Users.{of_field, of_method}
 use Rattle.trial_threads.specs.Jobs.{HasRun, KeepsPasses, IsJobOf, AreJobsOf, Pairwise}

@@ -5,9 +5,9 @@ use Rattle.std.specs.List.{AllByRecursion}
 use Rattle.broker_model.specs.declared.journal.Kept.{Kept}
 use Rattle.hub_lock.specs.Passes.{HubId, PassSeat}
 use Rattle.trial_run.specs.declared.typist.TrialTypist.{TrialTypist}
-use Rattle.typing_jobs.specs.declared.job_end.JobEnd.{JobEnd}
-use Rattle.typing_jobs.specs.declared.job_end.JobEnd.TheVariants as ends
-use Rattle.ready_jobs.specs.declared.no_job.NoJob.{NoJob}
+use Rattle.trial_typing.specs.declared.job_end.JobEnd.{JobEnd}
+use Rattle.trial_typing.specs.declared.job_end.JobEnd.TheVariants as ends
+use Rattle.trial_threads.specs.declared.no_job.NoJob.{NoJob}
 use Rattle.trial_threads.specs.declared.running.Running.{Running}
 use Rattle.trial_threads.specs.declared.stop.Stop.{Stop}
 use Rattle.trial_threads.specs.declared.stop.Stop.TheVariants as stops

@@ -1,21 +1,21 @@
 -- A job that was ready and was run has its law
 use Rattle.std.proofs.Common.{◌≡◌, Bool, Result, Ok, Err, refl, sym, ap, subst, ◌∙◌}
 use Rattle.std.specs.Prelude.{IfOk}
-use Rattle.seat_steps.specs.declared.limits.Limits.{Limits}
+use Rattle.broker_steps.specs.declared.limits.Limits.{Limits}
 use Rattle.hub_lock.specs.Passes.{HubId, PassSeat, PeerPass, IsOf}
 use Rattle.trial_script.specs.declared.action.Edits.{Edits}
 use Rattle.trial_script.specs.declared.action.FieldEdit.{FieldEdit}
-use Rattle.seat_steps.specs.declared.step.ShellStep.{ShellStep}
-use Rattle.pass_calls.proofs.PassesGrow.{same_peer, saw_both}
-use Rattle.typing_jobs.proofs.FieldKept.{saw_all}
-use Rattle.typing_jobs.proofs.OrdersGiven.{seat_both}
+use Rattle.broker_steps.specs.declared.step.ShellStep.{ShellStep}
+use Rattle.hub_calls.proofs.PassesGrow.{same_peer, saw_both}
+use Rattle.trial_typing.proofs.FieldKept.{saw_all}
+use Rattle.trial_typing.proofs.OrdersGiven.{seat_both}
 use Rattle.trial_run.specs.declared.typist.TrialTypist.{TrialTypist}
-use Rattle.typing_jobs.specs.declared.field_job.FieldJob.{FieldJob}
-use Rattle.typing_jobs.specs.declared.shell_job.ShellJob.{ShellJob}
-use Rattle.typing_jobs.specs.declared.job_end.JobEnd.{JobEnd}
-use Rattle.typing_jobs.specs.Ends.{done_of}
-use Rattle.typing_jobs.specs.FieldGoing.{IsFieldOf}
-use Rattle.typing_jobs.specs.Sending.{HaveSeenMore}
+use Rattle.trial_typing.specs.declared.field_job.FieldJob.{FieldJob}
+use Rattle.trial_typing.specs.declared.shell_job.ShellJob.{ShellJob}
+use Rattle.trial_typing.specs.declared.job_end.JobEnd.{JobEnd}
+use Rattle.trial_typing.specs.Ends.{done_of}
+use Rattle.trial_typing.specs.FieldGoing.{IsFieldOf}
+use Rattle.trial_typing.specs.Sending.{HaveSeenMore}
 use Rattle.trial_jobs.specs.declared.method_job.MethodJob.{MethodJob}
 use Rattle.trial_jobs.specs.declared.job.TrialJob.{TrialJob}
 use Rattle.trial_jobs.specs.declared.job.TrialJob.TheVariants as jobs

@@ -4,9 +4,9 @@ use Rattle.client_side.specs.Messages.{field_setup, method_setup}
 use Rattle.turn_lock.specs.Pairs.{own, total}
 use Rattle.hub_lock.specs.Histories.{History}
 use Rattle.hub_lock.specs.Passes.{HubId, PassSeat, steps_of}
-use Rattle.ready_jobs.specs.declared.no_job.NoJob.{NoJob}
-use Rattle.ready_jobs.specs.declared.no_job.NoJob.TheVariants as none
-use Rattle.ready_jobs.specs.NoJobs.{IsWithout, count_of}
+use Rattle.trial_threads.specs.declared.no_job.NoJob.{NoJob}
+use Rattle.trial_threads.specs.declared.no_job.NoJob.TheVariants as none
+use Rattle.trial_threads.specs.NoJobs.{IsWithout, count_of}
 use Rattle.trial_threads.specs.declared.running.Running.{Running}
 use Rattle.trial_threads.specs.BegunJobs.{WasFullEarly, IsUnbegun}
 use Rattle.trial_threads.specs.Peers.{HaveJoined}

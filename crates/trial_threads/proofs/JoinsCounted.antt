@@ -4,7 +4,7 @@ use Rattle.std.proofs.lemmas.List.{reverse-append}
 use Rattle.std.proofs.lemmas.Bool.{false≢true}
 use mathlib.Core.Logic.{dite}
 use native.Mathlib.Decide.{ℕ_discrete}
-use Rattle.seat_steps.specs.declared.limits.Limits.{Limits}
+use Rattle.broker_steps.specs.declared.limits.Limits.{Limits}
 use Rattle.broker_model.specs.declared.journal.Entry.{Entry}
 use Rattle.broker_model.specs.declared.journal.Entry.TheVariants as entries
 use Rattle.broker_model.specs.Resolve.{past_of}
@@ -15,8 +15,8 @@ use Rattle.turn_lock.proofs.PairsOfNumbers.{own-here, own-else}
 use Rattle.hub_lock.specs.declared.step.OuterStep.{OuterStep}
 use Rattle.hub_lock.specs.Histories.{History, entries_of}
 use Rattle.hub_lock.specs.Lawful.{IsLawful, IsMadeBy, AreMadeBy}
-use Rattle.pass_calls.specs.Made.{journal_of}
-use Rattle.pass_calls.specs.Counted.{entries_of_pass, is_join}
+use Rattle.hub_calls.specs.Made.{journal_of}
+use Rattle.hub_calls.specs.Counted.{entries_of_pass, is_join}
 use Rattle.trial_threads.proofs.JoinsOfJobs.{AreJoins}
 
 -- how many of the entries are joins

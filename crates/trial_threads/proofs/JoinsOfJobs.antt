@@ -1,9 +1,9 @@
 -- The joins of jobs, in order
 use Rattle.std.proofs.Common.{◌≡◌, true, List, [], ◌∷◌, ◌++◌, refl, sym, ap, ap₂, subst, ◌∙◌, append-nil, append_assoc}
 use Rattle.std.specs.List.{AllByRecursion}
-use Rattle.seat_steps.specs.declared.limits.Limits.{Limits}
+use Rattle.broker_steps.specs.declared.limits.Limits.{Limits}
 use Rattle.broker_model.specs.declared.journal.Entry.{Entry}
-use Rattle.pass_calls.specs.Counted.{is_join}
+use Rattle.hub_calls.specs.Counted.{is_join}
 use Rattle.trial_jobs.specs.declared.job.TrialJob.{TrialJob}
 use Rattle.trial_jobs.specs.declared.job.TrialJob.TheVariants as jobs
 use Rattle.trial_threads.specs.declared.running.Running.{Running}

@@ -19,3 +19,8 @@ pub mod NoBadEvents
 pub mod SetupsCounted
 pub mod FullEarly
 pub mod NeverEarly
+pub mod PeersJoined
+pub mod SetupsSent
+pub mod LightMessages
+pub mod StepsFew
+pub mod CausesSeen

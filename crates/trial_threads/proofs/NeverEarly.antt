@@ -1,11 +1,11 @@
 -- The journal isn't full before all users' peers have joined
 use Rattle.std.proofs.Common.{◌≡◌, ◌≤◌, ◌<◌, ℕ, ◌+◌, ◌*◌, List, [], ◌∷◌, ◌++◌, length, Ok, refl, sym, ap, subst, ◌∙◌, inl, inr, arith, append_assoc}
 use Rattle.std.specs.List.{AllByRecursion}
-use Rattle.seat_steps.specs.declared.limits.Limits.{Limits}
+use Rattle.broker_steps.specs.declared.limits.Limits.{Limits}
 use Rattle.broker_model.specs.declared.journal.Kept.{Kept}
 use Rattle.broker_model.specs.Settle.{outer}
-use Rattle.client_logs.specs.declared.entry.FieldEntry.{FieldEntry}
-use Rattle.client_logs.specs.declared.method_log.MethodEntry.{MethodEntry}
+use Rattle.trial_client_logs.specs.declared.entry.FieldEntry.{FieldEntry}
+use Rattle.trial_client_logs.specs.declared.method_log.MethodEntry.{MethodEntry}
 use Rattle.client_side.specs.Messages.{field_setup, method_setup}
 use Rattle.turn_lock.specs.Pairs.{own, total, HasSeen, IsIn}
 use Rattle.hub_lock.specs.Seats.{having_seen}
@@ -14,9 +14,9 @@ use Rattle.hub_lock.specs.declared.session.Session.{Session}
 use Rattle.hub_lock.specs.Histories.{History}
 use Rattle.hub_lock.specs.Passes.{HubId, PassSeat, steps_of, total_steps}
 use Rattle.hub_lock.specs.Calls.{LegalCopy}
-use Rattle.pass_calls.proofs.PassesCounted.{seen_stays}
+use Rattle.hub_calls.proofs.PassesCounted.{seen_stays}
 use Rattle.trial_run.specs.Trial.{trial_limits}
-use Rattle.ready_jobs.specs.NoJobs.{WasFull, count_of}
+use Rattle.trial_threads.specs.NoJobs.{WasFull, count_of}
 use Rattle.trial_threads.specs.declared.running.Running.{Running}
 use Rattle.trial_threads.specs.Jobs.{AreIdle}
 use Rattle.trial_threads.specs.Back.{numbers_after, numbers_in, TookAllBack}

@@ -2,13 +2,13 @@
 use Rattle.std.proofs.Common.{◌≡◌, ℕ, zero, suc, ◌+◌, true, false, List, [], ◌∷◌, ◌++◌, map, Bool, Result, Ok, Err, refl, sym, subst, inl, inr}
 use Rattle.std.specs.Prelude.{◌⊎◌}
 use Rattle.std.specs.List.{AllByRecursion}
-use Rattle.seat_steps.specs.declared.limits.Limits.{Limits}
-use Rattle.seat_steps.specs.declared.step.ShellStep.{ShellStep}
-use Rattle.seat_steps.specs.declared.step.ShellStep.TheVariants as shells
+use Rattle.broker_steps.specs.declared.limits.Limits.{Limits}
+use Rattle.broker_steps.specs.declared.step.ShellStep.{ShellStep}
+use Rattle.broker_steps.specs.declared.step.ShellStep.TheVariants as shells
 use Rattle.broker_model.specs.declared.journal.Entry.{Entry}
 use Rattle.broker_model.specs.declared.journal.Entry.TheVariants as entries
-use Rattle.client_logs.specs.Logs.{batch_of, field_log}
-use Rattle.client_logs.specs.MethodLogs.{method_log}
+use Rattle.trial_client_logs.specs.Logs.{batch_of, field_log}
+use Rattle.trial_client_logs.specs.MethodLogs.{method_log}
 use Rattle.client_side.specs.FieldLog.{sends_of}
 use Rattle.client_side.specs.Messages.{Sent, spelled, field_setup}
 use Rattle.trial_script.specs.declared.action.Action.{Action}
@@ -18,28 +18,28 @@ use Rattle.hub_lock.specs.declared.step.OuterStep.{OuterStep}
 use Rattle.hub_lock.specs.Histories.{History}
 use Rattle.hub_lock.specs.Lawful.{IsLawful}
 use Rattle.hub_lock.specs.Passes.{HubId, PassSeat, PeerPass}
-use Rattle.pass_calls.specs.Counted.{entries_of_pass, AreOfPasses, is_join}
-use Rattle.pass_calls.specs.Made.{entries_by}
-use Rattle.pass_calls.specs.Submitted.{message_entry}
-use Rattle.pass_calls.proofs.PassesCounted.{steps_stay}
+use Rattle.hub_calls.specs.Counted.{entries_of_pass, AreOfPasses, is_join}
+use Rattle.hub_calls.specs.Made.{entries_by}
+use Rattle.hub_calls.specs.Submitted.{message_entry}
+use Rattle.hub_calls.proofs.PassesCounted.{steps_stay}
 use Rattle.wl_wire.specs.Messages.{messages}
 use Rattle.trial_run.specs.declared.typist.TrialTypist.{TrialTypist}
-use Rattle.method_law.specs.TypedLogs.{requests_of}
-use Rattle.typing_jobs.specs.declared.job_end.JobEnd.{JobEnd}
-use Rattle.typing_jobs.specs.declared.job_end.JobEnd.TheVariants as ends
-use Rattle.typing_jobs.specs.Ends.{done_of}
-use Rattle.typing_jobs.specs.Sending.{HasSentFront}
-use Rattle.typing_jobs.specs.ShellLaw.{ordered, Orders}
+use Rattle.trial_laws.specs.TypedLogs.{requests_of}
+use Rattle.trial_typing.specs.declared.job_end.JobEnd.{JobEnd}
+use Rattle.trial_typing.specs.declared.job_end.JobEnd.TheVariants as ends
+use Rattle.trial_typing.specs.Ends.{done_of}
+use Rattle.trial_typing.specs.Sending.{HasSentFront}
+use Rattle.trial_typing.specs.ShellLaw.{ordered, Orders}
 use Rattle.trial_jobs.specs.declared.job.TrialJob.{TrialJob}
 use Rattle.trial_jobs.specs.declared.job.TrialJob.TheVariants as jobs
 use Rattle.trial_jobs.specs.declared.method_job.MethodJob.{MethodJob}
 use Rattle.trial_jobs.specs.MethodLaw.{IsFresh, MethodEnds}
-use Rattle.jobs_law.specs.Passes.{ArePassesOf}
-use Rattle.jobs_law.specs.ShellTold.{IsFocusOrKey, is_keymap}
-use Rattle.jobs_law.proofs.BadEvents.{no_keymap_seen, methods_fail_at_keymaps}
-use Rattle.jobs_law.proofs.FieldTold as fields
-use Rattle.jobs_law.proofs.MethodTold as methods
-use Rattle.jobs_law.proofs.TrialTold.{each_step}
+use Rattle.trial_job_laws.specs.Passes.{ArePassesOf}
+use Rattle.trial_job_laws.specs.ShellTold.{IsFocusOrKey, is_keymap}
+use Rattle.trial_job_laws.proofs.BadEvents.{no_keymap_seen, methods_fail_at_keymaps}
+use Rattle.trial_job_laws.proofs.FieldTold as fields
+use Rattle.trial_job_laws.proofs.MethodTold as methods
+use Rattle.trial_job_laws.proofs.TrialTold.{each_step}
 use Rattle.trial_threads.specs.declared.running.Running.{Running}
 use Rattle.trial_threads.specs.declared.trial.ThreadTrial.{ThreadTrial}
 use Rattle.trial_threads.specs.Users.{Part, of_field, of_method, of_shell, orders_in, fields_from, parts_of}

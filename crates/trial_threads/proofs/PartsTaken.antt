@@ -5,7 +5,7 @@ use Rattle.std.proofs.lemmas.List.{drop_more, drop_all}
 use Rattle.trial_script.specs.declared.action.Action.{Action}
 use Rattle.trial_script.specs.declared.action.Edits.{Edits}
 use Rattle.trial_script.specs.declared.action.FieldEdit.{FieldEdit}
-use Rattle.seat_steps.specs.declared.step.ShellStep.{ShellStep}
+use Rattle.broker_steps.specs.declared.step.ShellStep.{ShellStep}
 use Rattle.trial_threads.specs.Users.{batches_for, batches_in, edits_for, edits_in, ordered_for, orders_in}
 
 -- so many were taken, and one is more

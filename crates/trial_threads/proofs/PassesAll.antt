@@ -1,10 +1,10 @@
 -- Each step of a trial's history is the root's or of one of the jobs' passes, and the root joined the jobs' peers alone
 use Rattle.std.proofs.Common.{◌≡◌, ℕ, ◌≤◌, ◌+◌, ◌-◌, List, [], ◌∷◌, ◌++◌, length, map, Ok, refl, sym, ap, subst, ◌∙◌, arith}
-use Rattle.seat_steps.specs.declared.limits.Limits.{Limits}
+use Rattle.broker_steps.specs.declared.limits.Limits.{Limits}
 use Rattle.broker_model.specs.declared.journal.Entry.{Entry}
 use Rattle.broker_model.specs.Settle.{outer}
-use Rattle.client_logs.specs.declared.entry.FieldEntry.{FieldEntry}
-use Rattle.client_logs.specs.declared.method_log.MethodEntry.{MethodEntry}
+use Rattle.trial_client_logs.specs.declared.entry.FieldEntry.{FieldEntry}
+use Rattle.trial_client_logs.specs.declared.method_log.MethodEntry.{MethodEntry}
 use Rattle.turn_lock.specs.Pairs.{HasSeen, NoneOf, IsDistinct, total}
 use Rattle.hub_lock.specs.Seats.{having_seen, IsTallied}
 use Rattle.turn_lock.proofs.PairsOfNumbers.{own-seen}
@@ -14,8 +14,8 @@ use Rattle.hub_lock.specs.Histories.{History, broker_of}
 use Rattle.hub_lock.specs.Passes.{PassSeat, total_steps}
 use Rattle.hub_lock.specs.Calls.{LegalCopy}
 use Rattle.hub_lock.proofs.JournalOfSteps.{length-entries, outer-journal}
-use Rattle.pass_calls.specs.Counted.{entries_of_pass, AreOfPasses}
-use Rattle.pass_calls.proofs.PassesCounted.{steps_are_of_passes, seen_stays}
+use Rattle.hub_calls.specs.Counted.{entries_of_pass, AreOfPasses}
+use Rattle.hub_calls.proofs.PassesCounted.{steps_are_of_passes, seen_stays}
 use Rattle.trial_threads.specs.declared.running.Running.{Running}
 use Rattle.trial_threads.specs.Back.{numbers_after, numbers_in, TookAllBack}
 use Rattle.trial_threads.specs.Peers.{joins_of, HaveJoined}

@@ -2,14 +2,14 @@
 use Rattle.std.proofs.Common.{◌≡◌, ◌++◌, [], ◌∷◌, ℕ, ◌-◌, ◌+◌, ◌≤◌, ◌<◌, List, length, take, drop, get_or, refl, sym, ap, ap₂, subst, ◌∙◌, inl, inr, arith, append_assoc, append-nil}
 use Rattle.std.specs.List.{AllByRecursion}
 use Rattle.std.proofs.lemmas.List.{length-append, drop_more}
-use Rattle.client_logs.specs.declared.entry.FieldEntry.{FieldEntry}
-use Rattle.client_logs.specs.declared.method_log.MethodEntry.{MethodEntry}
+use Rattle.trial_client_logs.specs.declared.entry.FieldEntry.{FieldEntry}
+use Rattle.trial_client_logs.specs.declared.method_log.MethodEntry.{MethodEntry}
 use Rattle.turn_lock.specs.Pairs.{HasSeen, IsIn}
 use Rattle.hub_lock.specs.Seats.{met_with, IsMeeting, IsTallied}
 use Rattle.hub_lock.specs.Passes.{PassSeat}
-use Rattle.pass_calls.proofs.PassesCounted.{seen_stays}
-use Rattle.ready_jobs.specs.Begun as begun
-use Rattle.typing_jobs.specs.declared.field_job.FieldJob.{FieldJob}
+use Rattle.hub_calls.proofs.PassesCounted.{seen_stays}
+use Rattle.trial_threads.specs.Begun as begun
+use Rattle.trial_typing.specs.declared.field_job.FieldJob.{FieldJob}
 use Rattle.trial_jobs.specs.declared.method_job.MethodJob.{MethodJob}
 use Rattle.trial_jobs.specs.declared.job.TrialJob.{TrialJob}
 use Rattle.trial_jobs.specs.declared.job.TrialJob.TheVariants as jobs

@@ -4,7 +4,7 @@ use Rattle.std.specs.Prelude.{option_map}
 use Rattle.std.proofs.lemmas.List.{map-append}
 use Rattle.relay_model.specs.declared.role.Role.{Role}
 use Rattle.relay_model.specs.declared.role.Role.TheVariants as roles
-use Rattle.seat_steps.specs.declared.limits.Limits.{Limits}
+use Rattle.broker_steps.specs.declared.limits.Limits.{Limits}
 use Rattle.broker_model.specs.declared.journal.Entry.{Entry}
 use Rattle.broker_model.specs.declared.journal.Entry.TheVariants as entries
 use Rattle.turn_lock.specs.Pairs.{own, NoneOf}
@@ -14,12 +14,12 @@ use Rattle.hub_lock.specs.declared.step.OuterStep.{OuterStep}
 use Rattle.hub_lock.specs.Histories.{History, reader_of, writer_of, joining}
 use Rattle.hub_lock.specs.Passes.{HubId, PassSeat, PeerPass}
 use Rattle.hub_lock.specs.Calls.{IsJoined, LegalJoin}
-use Rattle.pass_calls.specs.Counted.{entries_of_pass}
-use Rattle.pass_calls.specs.Made.{entries_by}
-use Rattle.pass_calls.proofs.PassesGrow.{same_peer}
-use Rattle.ready_jobs.specs.Begun.{HasBegun}
-use Rattle.typing_jobs.specs.declared.field_job.FieldJob.{FieldJob}
-use Rattle.typing_jobs.specs.declared.shell_job.ShellJob.{ShellJob}
+use Rattle.hub_calls.specs.Counted.{entries_of_pass}
+use Rattle.hub_calls.specs.Made.{entries_by}
+use Rattle.hub_calls.proofs.PassesGrow.{same_peer}
+use Rattle.trial_threads.specs.Begun.{HasBegun}
+use Rattle.trial_typing.specs.declared.field_job.FieldJob.{FieldJob}
+use Rattle.trial_typing.specs.declared.shell_job.ShellJob.{ShellJob}
 use Rattle.trial_jobs.specs.declared.method_job.MethodJob.{MethodJob}
 use Rattle.trial_jobs.specs.declared.job.TrialJob.TheVariants as jobs
 use Rattle.trial_threads.specs.declared.running.Running.{Running}

@@ -2,15 +2,15 @@
 use Rattle.std.proofs.Common.{◌≡◌, ℕ, ◌+◌, ◌≤◌, List, [], ◌∷◌, ◌++◌, length, map, Some, refl, sym, ap, ap₂, subst, ◌∙◌}
 use Rattle.std.specs.List.{AllByRecursion}
 use Rattle.std.proofs.lemmas.List.{map-append}
-use Rattle.seat_steps.specs.declared.limits.Limits.{Limits}
+use Rattle.broker_steps.specs.declared.limits.Limits.{Limits}
 use Rattle.broker_model.specs.declared.journal.Entry.{Entry}
 use Rattle.broker_model.specs.declared.journal.Entry.TheVariants as entries
 use Rattle.hub_lock.specs.Histories.{History, reader_of, writer_of}
 use Rattle.hub_lock.specs.Passes.{PassSeat, PeerPass}
 use Rattle.hub_lock.proofs.ReadersStay.{reader-stays, writer-stays}
-use Rattle.pass_calls.specs.Made.{entries_by}
-use Rattle.pass_calls.proofs.PassesGrow.{same_peer}
-use Rattle.typing_jobs.specs.Sending.{HaveSeenMore}
+use Rattle.hub_calls.specs.Made.{entries_by}
+use Rattle.hub_calls.proofs.PassesGrow.{same_peer}
+use Rattle.trial_typing.specs.Sending.{HaveSeenMore}
 use Rattle.trial_jobs.specs.declared.job.TrialJob.{TrialJob}
 use Rattle.trial_jobs.specs.declared.job.TrialJob.TheVariants as jobs
 use Rattle.trial_threads.specs.declared.running.Running.{Running}

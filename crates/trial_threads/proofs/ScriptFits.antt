@@ -2,14 +2,14 @@
 use Rattle.std.proofs.Common.{◌≡◌, ℕ, zero, suc, ◌+◌, ◌%◌, ◌^◌, ◌≤◌, Bool, true, false, List, [], ◌∷◌, ◌++◌, length, map, take, Result, Ok, Err, refl, sym, subst, ◌∙◌, inl, inr, append-nil}
 use Rattle.std.specs.Prelude.{if◌then◌else◌}
 use Rattle.std.specs.List.{AllByRecursion}
-use Rattle.seat_steps.specs.declared.limits.Limits.{Limits}
+use Rattle.broker_steps.specs.declared.limits.Limits.{Limits}
 use Rattle.compose_method.specs.Typing as typing
 use Rattle.dict_method.specs.Spelling as spelling
 use Rattle.trial_field.specs.Log.{Batch}
 use Rattle.trial_field.specs.declared.batch_view.TheConstants.{MAX_STRING, MAX_PREEDIT}
 use Rattle.client_side.specs.MethodLog.{Happening, came, committed}
-use Rattle.client_logs.specs.Logs.{batch_of}
-use Rattle.client_logs.specs.MethodLogs.{method_log}
+use Rattle.trial_client_logs.specs.Logs.{batch_of}
+use Rattle.trial_client_logs.specs.MethodLogs.{method_log}
 use Rattle.trial_script.specs.declared.action.Action.{Action}
 use Rattle.trial_script.specs.declared.action.Action.TheVariants as actions
 use Rattle.trial_script.specs.declared.action.Edits.{Edits}
@@ -19,15 +19,15 @@ use Rattle.trial_script.specs.Rules.{has_words}
 use Rattle.trial_run.specs.declared.typist.TrialTypist.{TrialTypist}
 use Rattle.trial_run.specs.declared.typist.TrialTypist.TheVariants as typists
 use Rattle.trial_run.specs.Trial.{typist_of}
-use Rattle.method_law.specs.MethodLaws.{IsWritten}
-use Rattle.method_law.specs.TypedLogs.{batches_of}
-use Rattle.typing_jobs.specs.declared.job_end.JobEnd.{JobEnd}
-use Rattle.typing_jobs.specs.declared.job_end.JobEnd.TheVariants as ends
-use Rattle.typing_jobs.specs.Fronts.{IsFrontOf}
+use Rattle.trial_laws.specs.MethodLaws.{IsWritten}
+use Rattle.trial_laws.specs.TypedLogs.{batches_of}
+use Rattle.trial_typing.specs.declared.job_end.JobEnd.{JobEnd}
+use Rattle.trial_typing.specs.declared.job_end.JobEnd.TheVariants as ends
+use Rattle.trial_typing.specs.Fronts.{IsFrontOf}
 use Rattle.trial_jobs.specs.declared.method_job.MethodJob.{MethodJob}
 use Rattle.trial_jobs.specs.MethodHearing.{HasShort}
 use Rattle.trial_jobs.specs.MethodLaw.{rounds, first_batches, IsFresh, HasCommitted, MethodEnds}
-use Rattle.jobs_law.specs.ShellTold.{IsFocusOrKey}
+use Rattle.trial_job_laws.specs.ShellTold.{IsFocusOrKey}
 use Rattle.trial_threads.specs.Users.{batches_for, batches_in, orders_in}
 
 -- ---- its typist

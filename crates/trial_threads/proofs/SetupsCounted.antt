@@ -10,21 +10,21 @@ use Rattle.wl_proto.specs.Grammar.{Value}
 use Rattle.wl_proto.specs.Spelling.{values_len, spelling, row_bytes, message_len}
 use Rattle.wl_proto.proofs.WrittenIsWhole.{spelling_length}
 use Rattle.client_side.specs.Messages.{Sent, spelled, field_setup, method_setup}
-use Rattle.seat_steps.specs.declared.limits.Limits.{Limits}
+use Rattle.broker_steps.specs.declared.limits.Limits.{Limits}
 use Rattle.broker_model.specs.declared.journal.Entry.{Entry}
 use Rattle.turn_lock.specs.Pairs.{own, total, NoneOf}
 use Rattle.turn_lock.proofs.PairsOfNumbers.{own-seen}
 use Rattle.hub_lock.specs.declared.step.OuterStep.{OuterStep}
 use Rattle.hub_lock.specs.Histories.{History}
 use Rattle.hub_lock.specs.Passes.{HubId, PassSeat, PeerPass, steps_of}
-use Rattle.pass_calls.specs.Made.{entries_by}
-use Rattle.pass_calls.specs.Submitted.{message_entry, entries_in}
-use Rattle.typing_jobs.specs.Fronts.{IsFrontOf}
-use Rattle.typing_jobs.specs.Sending.{HasMade}
+use Rattle.hub_calls.specs.Made.{entries_by}
+use Rattle.hub_calls.specs.Submitted.{message_entry, entries_in}
+use Rattle.trial_typing.specs.Fronts.{IsFrontOf}
+use Rattle.trial_typing.specs.Sending.{HasMade}
 use Rattle.trial_jobs.specs.declared.job.TrialJob.{TrialJob}
 use Rattle.trial_jobs.specs.declared.job.TrialJob.TheVariants as jobs
 use Rattle.trial_jobs.specs.JobLaw.{IsReady}
-use Rattle.ready_jobs.specs.NoJobs.{count_in, count_of}
+use Rattle.trial_threads.specs.NoJobs.{count_in, count_of}
 use Rattle.trial_threads.specs.declared.running.Running.{Running}
 use Rattle.trial_threads.specs.Back.{numbers_of, numbers_after}
 use Rattle.trial_threads.specs.Jobs.{IsIdle, AreIdle}

@@ -2,12 +2,12 @@
 use Rattle.std.proofs.Common.{◌≡◌, ◌≤◌, ◌++◌, ◌∷◌, [], ℕ, List, length, Bool, Option, Some, None, Result, Ok, Err, refl, sym, ap, subst, ◌∙◌, inl, inr, arith, append_assoc}
 use Rattle.std.specs.Prelude.{◌⊎◌}
 use Rattle.std.specs.List.{AllByRecursion}
-use Rattle.seat_steps.specs.declared.limits.Limits.{Limits}
+use Rattle.broker_steps.specs.declared.limits.Limits.{Limits}
 use Rattle.broker_model.specs.declared.journal.Entry.{Entry}
 use Rattle.broker_model.specs.declared.journal.Entry.TheVariants as entries
 use Rattle.broker_model.specs.declared.journal.Kept.{Kept}
-use Rattle.client_logs.specs.declared.entry.FieldEntry.{FieldEntry}
-use Rattle.client_logs.specs.declared.method_log.MethodEntry.{MethodEntry}
+use Rattle.trial_client_logs.specs.declared.entry.FieldEntry.{FieldEntry}
+use Rattle.trial_client_logs.specs.declared.method_log.MethodEntry.{MethodEntry}
 use Rattle.broker_model.specs.Limits.{weight_of}
 use Rattle.broker_model.specs.Settle.{outer}
 use Rattle.turn_lock.specs.Pairs.{HasSeen, IsIn}
@@ -17,22 +17,22 @@ use Rattle.hub_lock.specs.Calls.{LegalCopy}
 use Rattle.hub_lock.specs.Histories.{History, broker_of}
 use Rattle.hub_lock.specs.Passes.{HubId, PassSeat, total_steps}
 use Rattle.hub_lock.specs.Plays.{IsSessionOf}
-use Rattle.pass_calls.specs.Made.{IsFullFor}
-use Rattle.pass_calls.proofs.PassesCounted.{seen_stays}
+use Rattle.hub_calls.specs.Made.{IsFullFor}
+use Rattle.hub_calls.proofs.PassesCounted.{seen_stays}
 use Rattle.trial_run.specs.declared.typist.TrialTypist.{TrialTypist}
 use Rattle.trial_run.specs.Trial.{trial_limits, typist_of}
 use Rattle.trial_script.specs.declared.script.Script.{Script}
-use Rattle.typing_jobs.specs.Sending.{IsFullForMessage, IsFullForTake}
+use Rattle.trial_typing.specs.Sending.{IsFullForMessage, IsFullForTake}
 use Rattle.client_side.specs.Messages.{Sent, spelled}
 use Rattle.hub_lock.specs.Passes.{PeerPass}
-use Rattle.typing_jobs.specs.declared.job_end.JobEnd.{JobEnd}
-use Rattle.typing_jobs.specs.declared.job_end.JobEnd.TheVariants as ends
+use Rattle.trial_typing.specs.declared.job_end.JobEnd.{JobEnd}
+use Rattle.trial_typing.specs.declared.job_end.JobEnd.TheVariants as ends
 use Rattle.trial_jobs.specs.declared.job.TrialJob.{TrialJob}
 use Rattle.trial_jobs.specs.declared.job.TrialJob.TheVariants as jobs
-use Rattle.ready_jobs.specs.declared.no_job.NoJob.{NoJob}
-use Rattle.ready_jobs.specs.declared.no_job.NoJob.TheVariants as none
-use Rattle.ready_jobs.specs.NoJobs.{WasFull}
-use Rattle.ready_jobs.proofs.LightMessages.{light_next}
+use Rattle.trial_threads.specs.declared.no_job.NoJob.{NoJob}
+use Rattle.trial_threads.specs.declared.no_job.NoJob.TheVariants as none
+use Rattle.trial_threads.specs.NoJobs.{WasFull}
+use Rattle.trial_threads.proofs.LightMessages.{light_next}
 use Rattle.trial_threads.specs.declared.running.Running.{Running}
 use Rattle.trial_threads.specs.declared.stop.Stop.{Stop}
 use Rattle.trial_threads.specs.declared.stop.Stop.TheVariants as stops

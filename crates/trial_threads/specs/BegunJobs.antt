@@ -1,14 +1,14 @@
 -- Jobs that begin
 use Rattle.std.specs.Prelude.{◌≡◌, ◌≤◌, ◌+◌, ◌++◌, ◌∷◌, [], ℕ, List, length}
-use Rattle.seat_steps.specs.declared.limits.Limits.{Limits}
+use Rattle.broker_steps.specs.declared.limits.Limits.{Limits}
 use Rattle.broker_model.specs.declared.journal.Kept.{Kept}
 use Rattle.client_side.specs.Messages.{field_setup, method_setup}
 use Rattle.turn_lock.specs.Pairs.{total}
 use Rattle.hub_lock.specs.Passes.{HubId, PassSeat, steps_of}
 use Rattle.trial_run.specs.declared.typist.TrialTypist.{TrialTypist}
-use Rattle.ready_jobs.specs.declared.no_job.NoJob.{NoJob}
-use Rattle.ready_jobs.specs.declared.no_job.NoJob.TheVariants as none
-use Rattle.ready_jobs.specs.NoJobs.{WasFull, count_of}
+use Rattle.trial_threads.specs.declared.no_job.NoJob.{NoJob}
+use Rattle.trial_threads.specs.declared.no_job.NoJob.TheVariants as none
+use Rattle.trial_threads.specs.NoJobs.{WasFull, count_of}
 use Rattle.trial_threads.specs.declared.running.Running.{Running}
 use Rattle.trial_threads.specs.Back.{numbers_in}
 use Rattle.trial_threads.specs.Users.{Part}

@@ -1,13 +1,13 @@
 -- Jobs that were drained: what is left to take for their peers
 use Rattle.std.specs.Prelude.{◌≡◌, ◌⊎◌, ◌≤◌, ℕ, max, List, [], ◌∷◌, length, IfOk}
 use Rattle.std.specs.List.{AllByRecursion}
-use Rattle.seat_steps.specs.declared.limits.Limits.{Limits}
+use Rattle.broker_steps.specs.declared.limits.Limits.{Limits}
 use Rattle.hub_lock.specs.Passes.{HubId, PassSeat, journal_seen}
-use Rattle.pass_calls.specs.Taken.{HasAll}
+use Rattle.hub_calls.specs.Taken.{HasAll}
 use Rattle.trial_run.specs.declared.typist.TrialTypist.{TrialTypist}
-use Rattle.typing_jobs.specs.declared.field_job.FieldJob.{FieldJob}
-use Rattle.typing_jobs.specs.FieldLaw.{IsFieldDone}
-use Rattle.typing_jobs.specs.Sending.{IsOver, IsPast}
+use Rattle.trial_typing.specs.declared.field_job.FieldJob.{FieldJob}
+use Rattle.trial_typing.specs.FieldLaw.{IsFieldDone}
+use Rattle.trial_typing.specs.Sending.{IsOver, IsPast}
 use Rattle.trial_jobs.specs.declared.job.TrialJob.{TrialJob}
 use Rattle.trial_jobs.specs.declared.job.TrialJob.TheVariants as jobs
 use Rattle.trial_jobs.specs.declared.method_job.MethodJob.{MethodJob}

@@ -1,20 +1,20 @@
 -- Jobs and what became of them
 use Rattle.std.specs.Prelude.{◌≡◌, Bool, true, List, [], ◌∷◌, ◌++◌, Result, Err, IfOk}
 use Rattle.std.specs.List.{AllByRecursion}
-use Rattle.seat_steps.specs.declared.limits.Limits.{Limits}
+use Rattle.broker_steps.specs.declared.limits.Limits.{Limits}
 use Rattle.hub_lock.specs.Seats.{having_seen}
-use Rattle.client_logs.specs.declared.entry.FieldEntry.{FieldEntry}
-use Rattle.client_logs.specs.declared.method_log.MethodEntry.{MethodEntry}
+use Rattle.trial_client_logs.specs.declared.entry.FieldEntry.{FieldEntry}
+use Rattle.trial_client_logs.specs.declared.method_log.MethodEntry.{MethodEntry}
 use Rattle.hub_lock.specs.Passes.{HubId, IsOf}
-use Rattle.pass_calls.specs.Made.{SawMore}
+use Rattle.hub_calls.specs.Made.{SawMore}
 use Rattle.trial_run.specs.declared.typist.TrialTypist.{TrialTypist}
-use Rattle.typing_jobs.specs.declared.job_end.JobEnd.{JobEnd}
-use Rattle.typing_jobs.specs.declared.job_end.JobEnd.TheVariants as ends
-use Rattle.typing_jobs.specs.Ends.{done_of}
-use Rattle.typing_jobs.specs.FieldGoing.{IsFieldOf, IsFieldPlayed}
-use Rattle.typing_jobs.specs.FieldLaw.{FieldEnds}
-use Rattle.typing_jobs.specs.Sending.{HaveSeenMore}
-use Rattle.typing_jobs.specs.ShellLaw.{Orders}
+use Rattle.trial_typing.specs.declared.job_end.JobEnd.{JobEnd}
+use Rattle.trial_typing.specs.declared.job_end.JobEnd.TheVariants as ends
+use Rattle.trial_typing.specs.Ends.{done_of}
+use Rattle.trial_typing.specs.FieldGoing.{IsFieldOf, IsFieldPlayed}
+use Rattle.trial_typing.specs.FieldLaw.{FieldEnds}
+use Rattle.trial_typing.specs.Sending.{HaveSeenMore}
+use Rattle.trial_typing.specs.ShellLaw.{Orders}
 use Rattle.trial_jobs.specs.declared.job.TrialJob.{TrialJob}
 use Rattle.trial_jobs.specs.declared.job.TrialJob.TheVariants as jobs
 use Rattle.trial_jobs.specs.JobLaw.{IsReady}

@@ -6,3 +6,5 @@ pub mod Back
 pub mod Peers
 pub mod Stops
 pub mod Whole
+pub mod NoJobs
+pub mod Begun

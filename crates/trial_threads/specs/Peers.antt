@@ -6,8 +6,8 @@ use Rattle.broker_model.specs.declared.journal.Entry.TheVariants as entries
 use Rattle.turn_lock.specs.Pairs.{own}
 use Rattle.hub_lock.specs.Histories.{History, reader_of, writer_of}
 use Rattle.hub_lock.specs.Passes.{PassSeat, PeerPass}
-use Rattle.pass_calls.specs.Counted.{entries_of_pass}
-use Rattle.pass_calls.specs.Made.{entries_by}
+use Rattle.hub_calls.specs.Counted.{entries_of_pass}
+use Rattle.hub_calls.specs.Made.{entries_by}
 use Rattle.trial_jobs.specs.declared.job.TrialJob.{TrialJob}
 use Rattle.trial_jobs.specs.declared.job.TrialJob.TheVariants as jobs
 use Rattle.trial_threads.specs.declared.running.Running.{Running}

@@ -1,9 +1,9 @@
 -- Why a trial isn't played to its end
 use Rattle.std.specs.Prelude.{Bool, List, [], ◌∷◌, Option, Some, None, Result, Ok, Err}
-use Rattle.typing_jobs.specs.declared.job_end.JobEnd.{JobEnd}
-use Rattle.typing_jobs.specs.declared.job_end.JobEnd.TheVariants as ends
-use Rattle.ready_jobs.specs.declared.no_job.NoJob.{NoJob}
-use Rattle.ready_jobs.specs.declared.no_job.NoJob.TheVariants as none
+use Rattle.trial_typing.specs.declared.job_end.JobEnd.{JobEnd}
+use Rattle.trial_typing.specs.declared.job_end.JobEnd.TheVariants as ends
+use Rattle.trial_threads.specs.declared.no_job.NoJob.{NoJob}
+use Rattle.trial_threads.specs.declared.no_job.NoJob.TheVariants as none
 use Rattle.trial_threads.specs.declared.running.Running.{Running}
 use Rattle.trial_threads.specs.declared.stop.Stop.{Stop}
 use Rattle.trial_threads.specs.declared.stop.Stop.TheVariants as stops

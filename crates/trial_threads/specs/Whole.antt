@@ -1,7 +1,7 @@
 -- The law of a whole trial in threads
 use Rattle.std.specs.Prelude.{◌≡◌, ◌⊎◌, ◌%◌, ◌^◌, ℕ, List, [], ◌∷◌, Option, Some, None, Result, Ok, Err, IfOk, Bool}
 use Rattle.std.specs.List.{AllByRecursion}
-use Rattle.seat_steps.specs.declared.limits.Limits.{Limits}
+use Rattle.broker_steps.specs.declared.limits.Limits.{Limits}
 use Rattle.broker_model.specs.declared.journal.Kept.{Kept}
 use Rattle.trial_script.specs.declared.script.Script.{Script}
 use Rattle.turn_lock.specs.Pairs.{HasSeen, IsDistinct}
@@ -9,14 +9,14 @@ use Rattle.hub_lock.specs.Histories.{History, broker_of}
 use Rattle.hub_lock.specs.Lawful.{IsLawful}
 use Rattle.hub_lock.specs.Passes.{HubId, PassSeat}
 use Rattle.hub_lock.specs.Plays.{IsSessionOf}
-use Rattle.pass_calls.specs.Counted.{entries_of_pass, AreOfPasses}
+use Rattle.hub_calls.specs.Counted.{entries_of_pass, AreOfPasses}
 use Rattle.trial_run.specs.declared.typist.TrialTypist.{TrialTypist}
 use Rattle.trial_run.specs.Trial.{trial_limits, typist_of}
-use Rattle.typing_jobs.specs.declared.job_end.JobEnd.TheVariants as job_ends
+use Rattle.trial_typing.specs.declared.job_end.JobEnd.TheVariants as job_ends
 use Rattle.trial_jobs.specs.declared.job.TrialJob.{TrialJob}
 use Rattle.trial_jobs.specs.declared.job.TrialJob.TheVariants as jobs
-use Rattle.ready_jobs.specs.declared.no_job.NoJob.{NoJob}
-use Rattle.ready_jobs.specs.NoJobs.{WasFull}
+use Rattle.trial_threads.specs.declared.no_job.NoJob.{NoJob}
+use Rattle.trial_threads.specs.NoJobs.{WasFull}
 use Rattle.trial_threads.specs.declared.running.Running.{Running}
 use Rattle.trial_threads.specs.declared.stop.Stop.{Stop}
 use Rattle.trial_threads.specs.declared.trial.ThreadTrial.{ThreadTrial}

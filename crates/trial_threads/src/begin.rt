@@ -12,8 +12,8 @@ ghost use Rattle.trial_threads.specs.Peers.{HaveJoined, AllJoined};
 
 use crate::parts::{batches_in, edits_in, orders_in};
 use crate::running::Running;
+use crate::{NoJob, begin_field, begin_method, begin_shell};
 use hub_lock::{Hub, HubPass};
-use ready_jobs::{NoJob, begin_field, begin_method, begin_shell};
 use std::alloc::Global;
 use std::sync::Wait;
 use trial_jobs::TrialJob;

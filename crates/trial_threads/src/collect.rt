@@ -1,20 +1,20 @@
 //! The passes of all jobs come back, and their logs stay.
 ghost use Rattle.std.specs.Prelude.{◌≡◌, ◌++◌, IfOk, OnOk};
 ghost use Rattle.hub_lock.specs.Passes.{IsOf};
-ghost use Rattle.typing_jobs.specs.FieldGoing.{IsFieldOf};
+ghost use Rattle.trial_typing.specs.FieldGoing.{IsFieldOf};
 ghost use Rattle.trial_jobs.specs.declared.job.TrialJob.TheVariants as jobs;
 ghost use Rattle.trial_jobs.specs.MethodGoing.{IsMethodOf};
 ghost use Rattle.trial_threads.specs.Jobs.{IsJobOf, AreJobsOf, field_log_of, method_log_of};
 ghost use Rattle.trial_threads.specs.Back.{TookBack, TookAllBack};
 
+use crate::give_back;
 use crate::running::Running;
 use crate::trial::FieldLogs;
-use client_logs::MethodLog;
 use hub_lock::{Hub, HubPass, Pass};
-use ready_jobs::give_back;
 use std::alloc::Global;
+use trial_client_logs::MethodLog;
 use trial_jobs::{MethodJob, TrialJob};
-use typing_jobs::FieldJob;
+use trial_typing::FieldJob;
 use wio_core::NoMemory;
 
 /// What happened to the fields, in order, and to the method.

@@ -11,7 +11,7 @@ use hub_lock::Hub;
 use std::alloc::Global;
 use std::sync::Wait;
 use trial_jobs::{TrialJob, answer_all as answer_all_of_method};
-use typing_jobs::answer_all as answer_all_of_field;
+use trial_typing::answer_all as answer_all_of_field;
 
 // Takes and answers for the method, where its peer goes on, until nothing is stored in a journal of
 // at least so many entries.

@@ -5,12 +5,12 @@ ghost use Rattle.trial_script.specs.Grammar.{IsAction};
 ghost use Rattle.trial_threads.specs.Users.{is_foreign, bad_line_from, batches_for, batches_in};
 ghost use Rattle.trial_threads.specs.Users.{edits_for, edits_in, ordered_for, orders_in};
 
-use client_logs::{batch_copy, edit_copy};
-use seat_steps::ShellStep;
+use broker_steps::ShellStep;
 use std::alloc::Global;
+use trial_client_logs::{batch_copy, edit_copy};
 use trial_jobs::BatchList;
 use trial_script::{Action, Ending};
-use typing_jobs::{EditList, ShellSteps};
+use trial_typing::{EditList, ShellSteps};
 use wio_core::NoMemory;
 
 /// The id under which each field's client has its surface.

@@ -1,6 +1,6 @@
 //! A whole trial in threads.
 ghost use Rattle.std.specs.Prelude.{◌≡◌, ◌≤◌, All};
-ghost use Rattle.seat_steps.specs.Ranges.{IsLimits};
+ghost use Rattle.broker_steps.specs.Ranges.{IsLimits};
 ghost use Rattle.trial_script.specs.Grammar.{IsAction};
 ghost use Rattle.trial_script.specs.Scripts.{script_of};
 ghost use Rattle.trial_run.specs.Trial.{trial_limits};
@@ -14,9 +14,9 @@ use crate::parts::bad_line;
 use crate::play::play;
 use crate::stop::Stop;
 use crate::trial::{ThreadTrial, ThreadTrialEnd};
+use crate::typist_by;
+use broker_steps::{FORM_1_WEIGHT, Limits};
 use hub_lock::{Gate, Hub, NoSession};
-use ready_jobs::typist_by;
-use seat_steps::{FORM_1_WEIGHT, Limits};
 use std::alloc::Global;
 use std::sync::Wait;
 use std::thread::Threads;

@@ -3,7 +3,7 @@ ghost use Rattle.std.specs.Prelude.{◌≡◌};
 ghost use Rattle.trial_threads.specs.Jobs.{idle_job};
 
 use trial_jobs::TrialJob;
-use typing_jobs::JobEnd;
+use trial_typing::JobEnd;
 
 /// A job, and whether its peer goes on when it was done, or why it wasn't. One that isn't run yet has
 /// the end `NoMemory`: it made nothing.

@@ -2,10 +2,10 @@
 ghost use Rattle.std.specs.Prelude.{◌≡◌};
 ghost use Rattle.trial_threads.specs.Stops.{stop_by_begin, stop_by_job, first_stop_in};
 
+use crate::NoJob;
 use crate::running::Running;
 use broker_core::Kept;
-use ready_jobs::NoJob;
-use typing_jobs::JobEnd;
+use trial_typing::JobEnd;
 
 /// Why a trial isn't played to its end.
 #[derive(Clone, Copy, Debug, PartialEq, Eq)]

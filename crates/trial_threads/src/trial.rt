@@ -1,9 +1,9 @@
 //! What a trial in threads came to.
 use broker_core::Kept;
-use client_logs::{FieldLog, MethodLog};
 use hub_lock::Session;
 use std::alloc::Global;
 use std::marker::Model;
+use trial_client_logs::{FieldLog, MethodLog};
 use wio_core::NoMemory;
 
 /// A log for each field, in their order. Contracts see a list of them.
@@ -14,7 +14,7 @@ pub struct FieldLogs {
 
 impl Model for FieldLogs {
     ghost use Rattle.std.specs.Prelude.{List};
-    ghost use Rattle.client_logs.specs.declared.entry.FieldEntry.{FieldEntry};
+    ghost use Rattle.trial_client_logs.specs.declared.entry.FieldEntry.{FieldEntry};
 
     ghost Value = { List (List FieldEntry) };
 

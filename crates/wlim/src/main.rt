@@ -5,7 +5,7 @@ mod open_gate;
 mod serve;
 mod threads;
 
-use plain_run::{Status, run_plain};
+use program_run::{Status, run_plain};
 use serve::serve;
 use std::process::ExitCode;
 use std::{env, io};

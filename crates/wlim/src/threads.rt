@@ -1,10 +1,10 @@
 //! Trials in threads.
 use crate::open_gate::OpenGate;
-use plain_run::Status;
+use program_run::Status;
+use program_threads::run_threads;
 use std::alloc::Global;
 use std::sync::Wait;
 use std::thread::Threads;
-use threads_run::run_threads;
 use wio_core::Sink;
 
 /// Plays the trial that the words ask for in threads, and writes what its fields show.

@@ -1,5 +1,5 @@
 use Rattle.std.proofs.lemmas.Result.{err_from_is_err_and}
-use Rattle.session_play.specs.Played.{line_played}
+use Rattle.seat_set.specs.Played.{line_played}
 use Rattle.audit_run.specs.Taking.{audit_limits}
 use Rattle.audit_run.proofs.TakesOnWay.{step_over, step_stopped}
 use Rattle.audit_run.proofs.taking.play_step.Goals as goal

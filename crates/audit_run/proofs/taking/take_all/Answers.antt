@@ -1,6 +1,6 @@
 use Rattle.std.proofs.Common.{refl, ◌-◌}
 use Rattle.std.proofs.lemmas.Result.{err_from_is_err_and}
-use Rattle.session_play.specs.Laws.{lines_played}
+use Rattle.seat_set.specs.Laws.{lines_played}
 use Rattle.audit_run.specs.Taking.{audit_limits, takes_of}
 use Rattle.audit_run.proofs.TakesDry.{one_emptied}
 use Rattle.audit_run.proofs.TakesOnWay.{takes_begin, one_take, take_stopped, last_take, takes_over}

@@ -1,7 +1,7 @@
 use Rattle.std.proofs.Common.{ℕ, List}
 use Rattle.std.specs.Prelude.{replicate}
 use Rattle.session_text.specs.declared.line.SessionLine.TheVariants.{Take}
-use Rattle.session_play.specs.Laws.{lines_played}
+use Rattle.seat_set.specs.Laws.{lines_played}
 use Rattle.audit_run.specs.Taking.{audit_limits, takes_of}
 use Rattle.audit_run.specs.Standing.{GoesOn, IsOnWay}
 use Rattle.audit_run.proofs.taking.take_all.Given as goal

@@ -1,5 +1,5 @@
 use Rattle.std.proofs.lemmas.Result.{err_from_is_err_and}
-use Rattle.session_play.specs.Laws.{lines_played}
+use Rattle.seat_set.specs.Laws.{lines_played}
 use Rattle.audit_run.specs.Taking.{audit_limits, takes_from}
 use Rattle.audit_run.proofs.TakesOnWay.{one_peer, peer_stopped, peers_over}
 use Rattle.audit_run.proofs.taking.take_from_all.Goals as goal

@@ -1,5 +1,5 @@
 use Rattle.std.proofs.Common.{ℕ, ◌+◌, ◌-◌, ◌≤◌, List}
-use Rattle.session_play.specs.Laws.{lines_played}
+use Rattle.seat_set.specs.Laws.{lines_played}
 use Rattle.audit_run.specs.Taking.{audit_limits, takes_from}
 use Rattle.audit_run.specs.Standing.{GoesOn, IsOnWay}
 use Rattle.audit_run.proofs.taking.take_from_all.Given as goal

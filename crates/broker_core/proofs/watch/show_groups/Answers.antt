@@ -1,8 +1,8 @@
 use Rattle.std.proofs.Common.{ℕ, List, get_or, length, take, refl, sym, ap, ◌∙◌, subst}
 use Rattle.std.proofs.lemmas.List.{take_all}
-use Rattle.seat_objects.specs.Reached.{Reached}
-use Rattle.seat_objects.proofs.TellsAppend.{reached_append}
-use Rattle.seat_audience.proofs.MarkedPlaces.{below}
+use Rattle.relay_objects.specs.Reached.{Reached}
+use Rattle.relay_objects.proofs.TellsAppend.{reached_append}
+use Rattle.broker_audience.proofs.MarkedPlaces.{below}
 use Rattle.broker_core.specs.Watched.{gathered_put}
 use Rattle.broker_core.proofs.MarkedGroups.{put_at, none_put, put_more, all_put, quiet_put}
 use Rattle.broker_core.proofs.watch.show_groups.Goals as goal

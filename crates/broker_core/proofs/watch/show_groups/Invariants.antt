@@ -1,5 +1,5 @@
 use Rattle.std.proofs.Common.{take}
-use Rattle.seat_objects.specs.Reached.{Reached}
+use Rattle.relay_objects.specs.Reached.{Reached}
 use Rattle.broker_core.specs.Watched.{gathered_put}
 use Rattle.broker_core.proofs.MarkedGroups.{put_at}
 use Rattle.broker_core.proofs.watch.show_groups.Given as goal

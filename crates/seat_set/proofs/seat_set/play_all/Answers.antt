@@ -1,6 +1,6 @@
 use Rattle.std.proofs.Common.{◌+◌, List, ℕ, get_or, refl, string_bytes}
 use Rattle.session_text.specs.declared.seat_line.SeatLine.TheVariants.{All}
-use Rattle.transcript_text.specs.Seats.{seat_lines}
+use Rattle.lines_transcript.specs.Seats.{seat_lines}
 use Rattle.seat_set.specs.Seats.{Seat, seat_said}
 use Rattle.seat_set.proofs.SeatsInTurn.{all_next, all_said_next, all_done, all_said}
 use Rattle.seat_set.proofs.SeatsBegun.{none_begun, one_begun, played_begun, still_there, later_there, same_text, text_by, text_on, err_any}

@@ -1,6 +1,6 @@
 use Rattle.std.proofs.Common.{◌≡◌, ◌++◌, ◌+◌, ◌-◌, take, drop, length, string_bytes}
 use Rattle.session_text.specs.declared.seat_line.SeatLine.TheVariants.{All}
-use Rattle.seat_printer.specs.Printed.{IsFront}
+use Rattle.lines_transcript.specs.Printed.{IsFront}
 use Rattle.seat_set.specs.Seats.{seats_after, seats_said}
 use Rattle.seat_set.specs.Begun.{AreBegun}
 use Rattle.seat_set.proofs.seat_set.play_all.Given as goal

@@ -1,7 +1,7 @@
 use Rattle.std.proofs.Common.{◌≡◌, ◌++◌, ◌-◌, List, ℕ, Ok, Err, get_or, refl, sym, ap, ◌∙◌, arith}
 use Rattle.std.specs.Prelude.{OnOk, slice_set, string_bytes}
 use Rattle.session_text.specs.declared.seat_line.SeatLine.TheVariants.{One}
-use Rattle.transcript_text.specs.Seats.{seat_lines}
+use Rattle.lines_transcript.specs.Seats.{seat_lines}
 use Rattle.seat_set.specs.Seats.{Seat, seat_after, seat_said, seats_after, seats_said}
 use Rattle.seat_set.proofs.SeatsInTurn.{one_after, one_said}
 use Rattle.seat_set.proofs.SeatsBegun.{lone_begun, on_err}

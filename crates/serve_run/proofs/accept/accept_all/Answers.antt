@@ -2,7 +2,7 @@ use Rattle.std.proofs.Common.{refl, sym, ap, ◌≡◌, ◌+◌, ◌<◌, ◌∙
 use Rattle.std.specs.Arc.{arc_value}
 use Rattle.turn_lock.specs.Pairs.{own}
 use Rattle.serve_run.specs.LinkJobs.{joins_of}
-use Rattle.link_nets.specs.declared.door.Door.TheVariants.{App}
+use Rattle.serve_net.specs.declared.door.Door.TheVariants.{App}
 use Rattle.serve_words.specs.Words.{doors_of}
 use Rattle.serve_run.proofs.LinksInOrder.{none_yet, none_came, all_came, last_came, one_link_more, by_letter, doors_counted, door_at, doors_more, joins_few, next_number, passes_few}
 use Rattle.serve_run.proofs.StartsCounted.{no_starts, starts_more, starts_done, link_has_net}

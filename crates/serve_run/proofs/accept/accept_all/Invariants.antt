@@ -1,6 +1,6 @@
 use Rattle.std.proofs.Common.{◌≡◌, ◌≤◌, ◌+◌, ◌++◌, true, length, take, Ok}
 use Rattle.std.specs.Arc.{arc_value}
-use Rattle.link_nets.specs.declared.door.Door.{Door}
+use Rattle.serve_net.specs.declared.door.Door.{Door}
 use Rattle.serve_words.specs.Words.{doors_of}
 use Rattle.serve_run.specs.Started.{AllStarted, Starts}
 use Rattle.serve_run.proofs.accept.accept_all.Given as goal

@@ -2,7 +2,7 @@ use Rattle.std.proofs.Common.{refl, sym, ap, subst, ◌≡◌, inr, ◌+◌, ◌
 use Rattle.std.proofs.lemmas.List.{append_assoc, map-append}
 use Rattle.turn_lock.specs.Pairs.{IsIn}
 use Rattle.std.specs.List.{slice_get}
-use Rattle.link_jobs.specs.LinkTags.{done_tag, done_report}
+use Rattle.serve_jobs.specs.LinkTags.{done_tag, done_report}
 use Rattle.serve_run.specs.LinkJobs.{job_reported}
 use Rattle.serve_run.specs.Unserved.{pushed}
 use Rattle.serve_run.specs.Reported.{AreTaken}

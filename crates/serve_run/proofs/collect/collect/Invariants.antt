@@ -1,6 +1,6 @@
 use Rattle.std.proofs.Common.{◌≡◌, ◌+◌, ◌-◌, ◌≤◌, ◌++◌, ℕ, List, length, map, take, drop}
 use Rattle.turn_lock.specs.Pairs.{HasSeen, IsIn}
-use Rattle.link_jobs.specs.Tags.{Report}
+use Rattle.serve_jobs.specs.Tags.{Report}
 use Rattle.serve_run.specs.LinkJobs.{job_reported, job_tagged}
 use Rattle.serve_run.specs.Reported.{HaveLaws, AreTaken}
 use Rattle.serve_run.specs.Started.{IsRootOf}

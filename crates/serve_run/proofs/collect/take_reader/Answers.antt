@@ -1,6 +1,6 @@
 use Rattle.std.proofs.Common.{◌≡◌, Some, refl, subst}
 use Rattle.std.proofs.Math.Logic.{∥∥₁_map}
-use Rattle.link_jobs.specs.LoopLaws.{HasRead}
+use Rattle.serve_jobs.specs.LoopLaws.{HasRead}
 use Rattle.hub_lock.specs.Histories.{reader_of}
 use Rattle.serve_run.proofs.LawsKept.{reader-seen}
 use Rattle.serve_run.proofs.collect.take_reader.Goals as goal

@@ -1,6 +1,6 @@
 use Rattle.std.proofs.Common.{refl}
 use Rattle.std.proofs.Math.Logic.{∥∥₁_map}
-use Rattle.link_jobs.specs.LoopLaws.{HasOrdered}
+use Rattle.serve_jobs.specs.LoopLaws.{HasOrdered}
 use Rattle.serve_run.proofs.collect.take_shell.Goals as goal
 
 pub returns-clause-law : goal.returns-clause-law

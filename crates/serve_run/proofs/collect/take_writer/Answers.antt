@@ -1,6 +1,6 @@
 use Rattle.std.proofs.Common.{◌≡◌, Some, refl, subst}
 use Rattle.std.proofs.Math.Logic.{∥∥₁_map}
-use Rattle.link_jobs.specs.LoopLaws.{HasWritten}
+use Rattle.serve_jobs.specs.LoopLaws.{HasWritten}
 use Rattle.hub_lock.specs.Histories.{writer_of}
 use Rattle.serve_run.proofs.LawsKept.{writer-seen}
 use Rattle.serve_run.proofs.collect.take_writer.Goals as goal

@@ -1,6 +1,6 @@
 use Rattle.std.proofs.Common.{rules, ◌≡◌, ◌∷◌, ◌∙◌, List, ap, length}
-use Rattle.link_nets.specs.declared.door.Door.{Door}
-use Rattle.link_nets.specs.declared.door.Door.TheVariants.{Method}
+use Rattle.serve_net.specs.declared.door.Door.{Door}
+use Rattle.serve_net.specs.declared.door.Door.TheVariants.{Method}
 use Rattle.serve_record.proofs.RecordGrows.{err_by}
 use Rattle.serve_run.specs.Opened.{opened_first}
 use Rattle.serve_run.proofs.open.open_all.Goals as goal

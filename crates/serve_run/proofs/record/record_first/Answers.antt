@@ -1,5 +1,5 @@
 use Rattle.std.proofs.Common.{rules, ◌∙◌, ap, sym}
-use Rattle.seat_steps.specs.declared.limits.Limits.{Limits}
+use Rattle.broker_steps.specs.declared.limits.Limits.{Limits}
 use Rattle.session_text.specs.declared.line.Line.TheVariants.{Header}
 use Rattle.serve_record.specs.Recorded.{text_line}
 use Rattle.serve_run.proofs.HandedEnds.{on_lack, nothing_yet, begun}

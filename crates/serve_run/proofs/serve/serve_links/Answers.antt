@@ -1,6 +1,6 @@
 use Rattle.std.proofs.Common.{List, refl, inl, inr, sym, subst, ◌∙◌, ◌+◌, length, append-nil, arith}
 use Rattle.std.specs.Arc.{arc_value}
-use Rattle.link_nets.specs.declared.door.Door.{Door}
+use Rattle.serve_net.specs.declared.door.Door.{Door}
 use Rattle.serve_run.specs.Started.{AreAccepted}
 use Rattle.serve_run.proofs.LinksInOrder.{none_yet, none_came}
 use Rattle.serve_run.proofs.StartsCounted.{no_starts}

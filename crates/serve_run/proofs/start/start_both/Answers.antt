@@ -1,6 +1,6 @@
 use Rattle.std.proofs.Common.{refl, sym, ap, subst, Ok, Err}
-use Rattle.link_jobs.specs.Tags.Part.{reader, writer}
-use Rattle.link_jobs.specs.LinkTags.{tag_with}
+use Rattle.serve_jobs.specs.Tags.Part.{reader, writer}
+use Rattle.serve_jobs.specs.LinkTags.{tag_with}
 use Rattle.serve_run.specs.LinkJobs.{job}
 use Rattle.serve_run.specs.Started.{BothStarted}
 use Rattle.serve_run.proofs.LinksStart.{none_of_two, first_of_two}

@@ -2,8 +2,8 @@ use Rattle.std.proofs.Common.{ap, subst, Err, OnErr}
 use Rattle.std.specs.Arc.{arc_value}
 use Rattle.turn_lock.specs.Pairs.{NoneOf}
 use Rattle.hub_lock.specs.Passes.{HubId, IsOf}
-use Rattle.link_jobs.specs.Tags.Part.{shell}
-use Rattle.link_jobs.specs.LinkTags.{tag_with}
+use Rattle.serve_jobs.specs.Tags.Part.{shell}
+use Rattle.serve_jobs.specs.LinkTags.{tag_with}
 use Rattle.serve_run.specs.LinkJobs.{job}
 use Rattle.serve_run.specs.Started.{IsRootOf, IsGivenBack}
 use Rattle.serve_run.specs.declared.stop.Stop.TheVariants as stops

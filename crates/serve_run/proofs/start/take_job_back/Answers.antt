@@ -1,6 +1,6 @@
 use Rattle.std.proofs.Common.{sym, subst}
-use Rattle.link_jobs.specs.declared.link_job.LinkJob.{LinkJob}
-use Rattle.link_jobs.specs.LinkTags.{job_tag}
+use Rattle.serve_jobs.specs.declared.link_job.LinkJob.{LinkJob}
+use Rattle.serve_jobs.specs.LinkTags.{job_tag}
 use Rattle.serve_run.specs.Unserved.{MadeBy}
 use Rattle.serve_run.proofs.PassesBack.{made_nothing}
 use Rattle.serve_run.proofs.start.take_job_back.Goals as goal

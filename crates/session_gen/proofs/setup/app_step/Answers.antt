@@ -1,7 +1,7 @@
 use Rattle.std.proofs.Common.{Some, ◌∙◌, ap, sym}
 use Rattle.std.proofs.lemmas.Result.{IfOk-weaker}
 use Rattle.relay_model.specs.declared.role.Role.TheVariants.{App}
-use Rattle.seat_steps.specs.declared.step.Step.TheVariants.{Join}
+use Rattle.broker_steps.specs.declared.step.Step.TheVariants.{Join}
 use Rattle.session_gen.specs.Setup.{app_messages}
 use Rattle.session_gen.proofs.SetupPlaces.{behind_the_join}
 use Rattle.session_gen.proofs.setup.app_step.Goals as goal

@@ -1,6 +1,6 @@
 use Rattle.std.proofs.Common.{◌≡◌, ◌/◌, ◌++◌, length, take, drop, Some, ap, sym, ◌∙◌, refl, arith}
 use Rattle.std.proofs.lemmas.List.{take_at, length-take-le}
-use Rattle.seat_steps.specs.Ranges.{piece_limit}
+use Rattle.broker_steps.specs.Ranges.{piece_limit}
 use Rattle.session_text.proofs.LowerRead.{lower_read}
 use Rattle.session_text.proofs.piece_line.decode_into.Goals as goal
 

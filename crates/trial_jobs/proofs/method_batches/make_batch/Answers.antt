@@ -1,7 +1,7 @@
 use Rattle.std.proofs.Common.{List, [], ◌+◌, ◌≤◌, Ok, length, true, subst, rules}
 use Rattle.std.proofs.lemmas.Result.{err_from_is_err_and}
 use Rattle.trial_field.specs.Log.{Batch}
-use Rattle.pass_calls.specs.declared.submit.Sent as calls
+use Rattle.hub_calls.specs.declared.submit.Sent as calls
 use Rattle.trial_jobs.specs.MethodGoing.{MethodSends, IsMethodAt}
 use Rattle.trial_jobs.specs.MethodLaw.{first_batches}
 use Rattle.trial_jobs.proofs.MethodKept.{keeps_none, keeps_both, of_kept, committed_kept}

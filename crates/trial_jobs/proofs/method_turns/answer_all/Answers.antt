@@ -1,6 +1,6 @@
 use Rattle.std.proofs.Common.{Bool, true, false, ◌≡◌, Ok, subst, rules}
 use Rattle.std.proofs.lemmas.Result.{err_from_is_err_and}
-use Rattle.typing_jobs.specs.declared.turn.Turn as turn
+use Rattle.trial_typing.specs.declared.turn.Turn as turn
 use Rattle.trial_jobs.specs.MethodGoing.{IsMethodAt, MethodTurns}
 use Rattle.trial_jobs.proofs.MethodKept.{keeps_none, keeps_both, of_kept}
 use Rattle.trial_jobs.proofs.MethodGoesOn.{busy}

@@ -1,8 +1,8 @@
 use Rattle.std.proofs.Common.{Ok, Err, subst, arith}
 use Rattle.std.proofs.lemmas.Result.{err_from_is_err_and}
-use Rattle.pass_calls.specs.declared.take.Piece as taken
-use Rattle.pass_calls.specs.Taken.{TakesPiece}
-use Rattle.typing_jobs.proofs.FieldKept.{made_takes}
+use Rattle.hub_calls.specs.declared.take.Piece as taken
+use Rattle.hub_calls.specs.Taken.{TakesPiece}
+use Rattle.trial_typing.proofs.FieldKept.{made_takes}
 use Rattle.trial_jobs.proofs.MethodKept.{took_kept, keeps_both, of_kept}
 use Rattle.trial_jobs.proofs.MethodGoesOn.{took_bytes, took_none, took_closed, took_stops}
 use Rattle.trial_jobs.proofs.method_turns.answer_method.Goals as goal

@@ -1,6 +1,6 @@
 use Rattle.std.proofs.Common.{false, Ok, subst}
 use Rattle.std.proofs.lemmas.Result.{err_from_is_err_and}
-use Rattle.pass_calls.specs.declared.submit.Sent as calls
+use Rattle.hub_calls.specs.declared.submit.Sent as calls
 use Rattle.trial_jobs.specs.MethodGoing.{MethodSends}
 use Rattle.trial_jobs.proofs.MethodKept.{heard_kept, keeps_both}
 use Rattle.trial_jobs.proofs.MethodGoesOn.{heard_bytes, heard_stops}

@@ -1,8 +1,8 @@
 use Rattle.std.proofs.Common.{ℕ, List, Ok, Err, refl, subst}
 use Rattle.std.proofs.lemmas.Result.{err_from_is_err_and}
-use Rattle.pass_calls.specs.Submitted.{entries_in, Submits}
-use Rattle.pass_calls.proofs.PassesGrow.{same_peer}
-use Rattle.typing_jobs.proofs.FieldKept.{saw_reader}
+use Rattle.hub_calls.specs.Submitted.{entries_in, Submits}
+use Rattle.hub_calls.proofs.PassesGrow.{same_peer}
+use Rattle.trial_typing.proofs.FieldKept.{saw_reader}
 use Rattle.trial_jobs.proofs.MethodGoesOn.{sends_ok, sends_stops}
 use Rattle.trial_jobs.proofs.method_turns.send.Goals as goal
 

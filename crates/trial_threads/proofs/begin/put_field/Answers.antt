@@ -1,7 +1,7 @@
 use Rattle.std.proofs.Common.{ℕ, Err, List, length, subst, sym, ap, ◌∙◌}
 use Rattle.std.proofs.lemmas.Result.{err_from_is_err_and}
 use Rattle.hub_lock.specs.Passes.{PassSeat}
-use Rattle.ready_jobs.specs.declared.no_job.NoJob.{NoJob}
+use Rattle.trial_threads.specs.declared.no_job.NoJob.{NoJob}
 use Rattle.trial_threads.specs.declared.running.Running.{Running}
 use Rattle.trial_threads.specs.Peers.{HaveJoined}
 use Rattle.trial_threads.proofs.JobsUnbegun.{few_joined, field_unbegun}

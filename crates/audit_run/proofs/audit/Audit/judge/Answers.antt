@@ -1,6 +1,6 @@
 use Rattle.std.proofs.Common.{arith, subst}
-use Rattle.field_streams.specs.declared.comparison.HearEnd.{HearEnd}
-use Rattle.field_gather.specs.Hearing.{IsUnlike}
+use Rattle.audit_fields.specs.declared.comparison.HearEnd.{HearEnd}
+use Rattle.audit_fields.specs.Hearing.{IsUnlike}
 use Rattle.audit_run.proofs.LinesJudged.{answered_fair, answered_stands, answered_ends, answered_full, heard_fair, heard_stands, heard_ends}
 use Rattle.audit_run.proofs.audit.Audit.judge.Goals as goal
 

@@ -6,11 +6,11 @@ use Rattle.relay_core.specs.Stands as relay
 use Rattle.broker_model.specs.Resolve.{resolve}
 use Rattle.broker_model.specs.Out.{act_at}
 use Rattle.broker_core.specs.declared.state.State.{State}
-use Rattle.living_labels.specs.Kept.{kept_by}
-use Rattle.seat_audience.specs.Directed.{Directed}
-use Rattle.seat_audience.specs.Lives.{told_all}
-use Rattle.seat_audience.specs.Tells.{IsShort}
-use Rattle.seat_objects.specs.Reached.{Reached}
+use Rattle.broker_model.specs.Kept.{kept_by}
+use Rattle.broker_audience.specs.Directed.{Directed}
+use Rattle.broker_audience.specs.Lives.{told_all}
+use Rattle.broker_audience.specs.Tells.{IsShort}
+use Rattle.relay_objects.specs.Reached.{Reached}
 use Rattle.broker_core.specs.Watched.{Watched, told_live}
 use Rattle.broker_core.specs.Watched.Watched.{Entered}
 use Rattle.broker_core.proofs.EntryWatched.{told_is_watched}

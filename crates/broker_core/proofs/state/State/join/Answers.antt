@@ -6,9 +6,9 @@ use Rattle.broker_model.specs.declared.journal.Entry.TheVariants as entries
 use Rattle.broker_model.specs.Ids.{Joined}
 use Rattle.broker_model.specs.Resolve.{past_of}
 use Rattle.broker_core.specs.declared.state.State.{State}
-use Rattle.seat_audience.specs.Changes.{IsNewcomer}
-use Rattle.seat_audience.specs.Directed.{IsNewest}
-use Rattle.seat_audience.specs.Visits.{IsAboveAll}
+use Rattle.broker_audience.specs.Changes.{IsNewcomer}
+use Rattle.broker_audience.specs.Directed.{IsNewest}
+use Rattle.broker_audience.specs.Visits.{IsAboveAll}
 use Rattle.broker_core.specs.Stands.{CanTake}
 use Rattle.broker_core.proofs.NewestPeer.{above_all, newcomer_number, newcomer_label}
 use Rattle.broker_core.proofs.ReadyForJoin.{ready_join, still_stands}

@@ -2,12 +2,12 @@ use Rattle.std.proofs.Common.{◌≡◌, List, map, ap, subst, ◌∙◌}
 use Rattle.std.specs.List.{AllByRecursion, flat_map}
 use Rattle.relay_model.specs.declared.act.Act.{Act}
 use Rattle.relay_model.specs.Told.{told}
-use Rattle.seat_objects.specs.Reached.{Reached}
-use Rattle.seat_objects.proofs.TellsAppend.{reached_append}
+use Rattle.relay_objects.specs.Reached.{Reached}
+use Rattle.relay_objects.proofs.TellsAppend.{reached_append}
 use Rattle.relay_core.specs.Stands as relay
-use Rattle.seat_audience.specs.declared.live.Live.{Live}
-use Rattle.seat_audience.specs.Lives.{Numbered, who, cleared, delivered, has_heard}
-use Rattle.seat_audience.specs.Tells.{IsShort}
+use Rattle.broker_audience.specs.declared.live.Live.{Live}
+use Rattle.broker_audience.specs.Lives.{Numbered, who, cleared, delivered, has_heard}
+use Rattle.broker_audience.specs.Tells.{IsShort}
 use Rattle.broker_core.specs.Watched.{shown_by, gathered_put}
 use Rattle.broker_core.proofs.AudienceToldAll.{AllTold, all_told, delivered_all}
 use Rattle.broker_core.proofs.EntryWatched.{who_cleared}

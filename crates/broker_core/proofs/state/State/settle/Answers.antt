@@ -1,8 +1,8 @@
 use Rattle.std.proofs.Common.{◌≡◌, ℕ, List, Some, IsSome, subst, sym, refl, ◌∙◌, arith}
-use Rattle.seat_objects.specs.Reached.{Reached}
+use Rattle.relay_objects.specs.Reached.{Reached}
 use Rattle.broker_model.specs.declared.journal.Entry.{Entry}
 use Rattle.broker_model.specs.declared.journal.Entry.TheVariants as entries
-use Rattle.seat_audience.specs.Changes.{first_due}
+use Rattle.broker_audience.specs.Changes.{first_due}
 use Rattle.broker_core.specs.Watched.{watched, watched_since}
 use Rattle.broker_core.proofs.WatchedSince.{reached_more}
 use Rattle.broker_core.proofs.FirstDueIsSettled.{first_there, next_end, end_stamps, none_due}

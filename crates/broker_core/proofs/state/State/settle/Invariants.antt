@@ -1,6 +1,6 @@
 use Rattle.std.proofs.Common.{◌≡◌, ◌≤◌, ◌<◌, ◌+◌, ℕ, List, length}
-use Rattle.seat_objects.specs.Reached.{Reached}
-use Rattle.seat_steps.specs.declared.stamp.Stamp.{Stamp}
+use Rattle.relay_objects.specs.Reached.{Reached}
+use Rattle.broker_steps.specs.declared.stamp.Stamp.{Stamp}
 use Rattle.broker_model.specs.Settle.{settle}
 use Rattle.broker_model.specs.Stamps.{stamps}
 use Rattle.broker_core.specs.Broker.{gone}

@@ -2,10 +2,10 @@ use Rattle.std.proofs.Common.{◌≡◌, ◌≤◌, ◌<◌, ◌+◌, ℕ, List,
 use Rattle.std.proofs.lemmas.Option.{get_or_from_slice_get}
 use Rattle.broker_model.specs.declared.journal.Entry.TheVariants as entries
 use Rattle.broker_model.specs.Waiting.{with_tokens}
-use Rattle.seat_audience.specs.declared.live.Live.{Live}
-use Rattle.seat_audience.specs.Lives.{number_of}
-use Rattle.seat_audience.specs.Visits.{waits}
-use Rattle.seat_audience.proofs.VisitIsPass.{changed_set}
+use Rattle.broker_audience.specs.declared.live.Live.{Live}
+use Rattle.broker_audience.specs.Lives.{number_of}
+use Rattle.broker_audience.specs.Visits.{waits}
+use Rattle.broker_audience.proofs.VisitIsPass.{changed_set}
 use Rattle.broker_core.specs.declared.state.State.{State}
 use Rattle.broker_core.specs.Stands.{CanTake, Ready}
 use Rattle.broker_core.proofs.SenderFound.{IsSender, sender, of_found, not_nobody}

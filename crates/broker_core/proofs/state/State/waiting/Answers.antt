@@ -1,7 +1,7 @@
 use Rattle.std.proofs.Common.{◌≡◌, ℕ, List, sym, subst}
 use Rattle.std.specs.Prelude.{Option, IfSome, IfOk}
 use Rattle.broker_model.specs.Waiting.{with_tokens}
-use Rattle.seat_audience.specs.declared.live.Live.{Live}
+use Rattle.broker_audience.specs.declared.live.Live.{Live}
 use Rattle.broker_core.proofs.SenderFound.{few_at_place}
 use Rattle.broker_core.proofs.state.State.waiting.Goals as goal
 

@@ -1,5 +1,5 @@
 use Rattle.std.proofs.Common.{rules, ◌≡◌, ◌∙◌, ap, sym, subst, refl, length, List, ◌∷◌, Option, Some, None}
-use Rattle.seat_steps.specs.declared.limits.Limits.{Limits}
+use Rattle.broker_steps.specs.declared.limits.Limits.{Limits}
 use Rattle.broker_core.specs.declared.letting_go.LetGo.{LetGo}
 use Rattle.turn_lock.specs.Sights.{IsLegal}
 use Rattle.hub_lock.specs.declared.call.Ask.TheVariants as asks

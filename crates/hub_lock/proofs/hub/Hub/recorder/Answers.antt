@@ -1,7 +1,7 @@
 use Rattle.std.proofs.Common.{rules, ◌≡◌, ◌+◌, ◌≤◌, ◌∙◌, ap, sym, subst, refl, length, List, ℕ, false, Option, Some, None, arith}
 use Rattle.std.specs.Prelude.{IsSome, IfNone, option_map}
 use Rattle.std.proofs.lemmas.Option.{same_Some}
-use Rattle.seat_steps.specs.declared.limits.Limits.{Limits}
+use Rattle.broker_steps.specs.declared.limits.Limits.{Limits}
 use Rattle.broker_core.specs.declared.letting_go.LetGo.{LetGo}
 use Rattle.turn_lock.specs.Pairs.{HasSeen, IsIn}
 use Rattle.turn_lock.specs.Rule.{bit}

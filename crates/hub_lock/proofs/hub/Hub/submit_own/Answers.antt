@@ -1,5 +1,5 @@
 use Rattle.std.proofs.Common.{rules, ◌≡◌, ◌∙◌, ap, sym, subst, arith, Some}
-use Rattle.seat_steps.specs.declared.step.Step.TheVariants as steps
+use Rattle.broker_steps.specs.declared.step.Step.TheVariants as steps
 use Rattle.hub_lock.specs.declared.call.Ask.TheVariants as asks
 use Rattle.hub_lock.specs.declared.call.Answer.TheVariants as answers
 use Rattle.hub_lock.specs.Passes.{PassSeat}

@@ -1,5 +1,5 @@
 use Rattle.std.proofs.Common.{rules, refl}
-use Rattle.peer_bells.specs.Bells.{IsRungBy}
+use Rattle.hub_lock.specs.Bells.{IsRungBy}
 use Rattle.hub_lock.proofs.NothingWatched.{nothing-watched, nothing-more}
 use Rattle.hub_lock.proofs.state.HubState.answer.Goals as goal
 

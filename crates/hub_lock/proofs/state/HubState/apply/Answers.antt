@@ -1,7 +1,7 @@
 use Rattle.std.proofs.Common.{rules, ◌+◌, ◌≡◌, ◌∙◌, ap, sym, subst, refl, arith, inr, Ok, None}
 use Rattle.broker_core.specs.declared.answers.Applied.{Applied}
 use Rattle.broker_core.specs.Broker.{Broker, entry_of, refusal, with_step}
-use Rattle.peer_bells.specs.Bells.{IsRungBy}
+use Rattle.hub_lock.specs.Bells.{IsRungBy}
 use Rattle.hub_lock.specs.Histories.{only, stamp_by}
 use Rattle.hub_lock.specs.Plays.{IsOwn}
 use Rattle.hub_lock.specs.Lawful.{Held, history_of}

@@ -1,6 +1,6 @@
 use Rattle.std.proofs.Common.{rules, ◌+◌, ◌∙◌, ap, sym, refl, arith, Err, Ok}
 use Rattle.broker_core.specs.Broker.{Broker}
-use Rattle.peer_bells.specs.Bells.{IsRungBy}
+use Rattle.hub_lock.specs.Bells.{IsRungBy}
 use Rattle.hub_lock.specs.Lawful.{Held}
 use Rattle.hub_lock.proofs.HistoriesGrow.{steps_few}
 use Rattle.hub_lock.proofs.CallsAnswered.{IsAfterJoin, joins-by, join-kept, join-longer, longer-length}

@@ -1,6 +1,6 @@
 use Rattle.std.proofs.Common.{refl, sym, subst}
 use Rattle.broker_core.specs.declared.answers.Took.{Took}
-use Rattle.peer_bells.specs.Bells.{IsRungBy}
+use Rattle.hub_lock.specs.Bells.{IsRungBy}
 use Rattle.hub_lock.specs.Lawful.{Held, history_of}
 use Rattle.hub_lock.specs.Plays.{Takes, took_without_memory}
 use Rattle.hub_lock.proofs.CallsAnswered.{takes-none}

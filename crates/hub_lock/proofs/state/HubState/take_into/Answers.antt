@@ -3,7 +3,7 @@ use Rattle.broker_model.specs.declared.journal.Entry.TheVariants as entries
 use borrow.Rule.Slice.PartMut.{put_mid}
 use Rattle.broker_core.specs.Broker.{Broker, IfBytes, with_step}
 use Rattle.broker_core.specs.Taking.{out_at}
-use Rattle.peer_bells.specs.Bells.{IsRungBy}
+use Rattle.hub_lock.specs.Bells.{IsRungBy}
 use Rattle.hub_lock.specs.Histories.{writer_of, only, stamp_by}
 use Rattle.hub_lock.specs.Plays.{IsTakenInto}
 use Rattle.hub_lock.specs.Lawful.{Held, history_of}

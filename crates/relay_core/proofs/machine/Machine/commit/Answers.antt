@@ -1,6 +1,6 @@
 use Rattle.std.proofs.Common.{◌≡◌, ap, sym, ◌∙◌}
 use Rattle.field_state.specs.Hold.{holds_after}
-use Rattle.seat_objects.specs.Objects.{find, field_in}
+use Rattle.relay_objects.specs.Objects.{find, field_in}
 use Rattle.relay_core.specs.Machine.{State, taken_in, displaced_by, state_of, text_around}
 use Rattle.relay_core.proofs.FoundAfterCommit.{text_committed}
 use Rattle.relay_core.proofs.machine.Machine.commit.Goals as goal

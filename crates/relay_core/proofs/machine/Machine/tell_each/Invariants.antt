@@ -2,7 +2,7 @@ use Rattle.std.proofs.Common.{drop}
 use Rattle.std.specs.List.{flat_map}
 use Rattle.relay_core.specs.Kept.{state}
 use Rattle.relay_core.specs.Popups.{live_told}
-use Rattle.seat_objects.specs.Reached.{Reached}
+use Rattle.relay_objects.specs.Reached.{Reached}
 use Rattle.relay_core.proofs.machine.Machine.tell_each.Given as goal
 
 -- what is left to tell leads from here to where all leads from the start

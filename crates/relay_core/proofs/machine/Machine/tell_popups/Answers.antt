@@ -1,6 +1,6 @@
 use Rattle.std.proofs.Common.{subst, sym, ap, ◌∙◌}
 use Rattle.std.specs.List.{flat_map}
-use Rattle.seat_objects.specs.Reached.{Reached}
+use Rattle.relay_objects.specs.Reached.{Reached}
 use Rattle.relay_core.specs.Kept.{state}
 use Rattle.relay_core.specs.Popups.{live_told, popups_beside}
 use Rattle.relay_core.proofs.LivePopups.{listed_told}

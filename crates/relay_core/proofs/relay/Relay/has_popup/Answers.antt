@@ -1,7 +1,7 @@
 use Rattle.std.proofs.Common.{ap, ◌∙◌}
 use Rattle.relay_model.specs.Idle.{history}
 use Rattle.relay_core.specs.Kept.{Shown}
-use Rattle.seat_objects.specs.Objects.{has_popup_in}
+use Rattle.relay_objects.specs.Objects.{has_popup_in}
 use Rattle.relay_core.proofs.LookUpsFind.{finds_popup}
 use Rattle.relay_core.proofs.relay.Relay.has_popup.Goals as goal
 

@@ -2,7 +2,7 @@ use Rattle.std.proofs.Common.{ap, ◌∙◌}
 use Rattle.std.specs.Prelude.{option_map}
 use Rattle.relay_model.specs.Idle.{history}
 use Rattle.relay_model.proofs.ActsOrIdle.{history_is}
-use Rattle.seat_objects.specs.Objects.{find, count_in}
+use Rattle.relay_objects.specs.Objects.{find, count_in}
 use Rattle.relay_core.specs.Kept.{Shown}
 use Rattle.relay_core.proofs.LookUpsFind.{holder_count_is}
 use Rattle.relay_core.proofs.relay.Relay.holder_commits.Goals as goal

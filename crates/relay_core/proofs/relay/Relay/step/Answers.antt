@@ -5,7 +5,7 @@ use Rattle.relay_model.specs.declared.act.Act.{Act}
 use Rattle.relay_core.specs.Kept.{Shown, state, kept}
 use Rattle.relay_core.specs.Machine.{State}
 use Rattle.relay_core.specs.BoardKeys.{Boards, is_for_boards}
-use Rattle.seat_objects.specs.Reached.{Reached}
+use Rattle.relay_objects.specs.Reached.{Reached}
 use Rattle.relay_core.specs.BoardsStand.{BoardsStand}
 use Rattle.relay_core.specs.Stands.{Stands}
 use Rattle.relay_core.proofs.BoardsKept.{boards_after}

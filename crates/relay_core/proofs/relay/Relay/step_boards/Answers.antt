@@ -6,8 +6,8 @@ use Rattle.relay_core.specs.Kept.{Shown, state, kept}
 use Rattle.relay_core.specs.Machine.{State, tells}
 use Rattle.relay_core.specs.Machine.{after as machine_after}
 use Rattle.relay_core.specs.BoardKeys.{Boards, sent_by, sent_told}
-use Rattle.seat_objects.specs.Reached.{Reached}
-use Rattle.seat_objects.proofs.TellsAppend.{reached_append}
+use Rattle.relay_objects.specs.Reached.{Reached}
+use Rattle.relay_objects.proofs.TellsAppend.{reached_append}
 use Rattle.relay_core.specs.BoardsStand.{BoardsStand}
 use Rattle.relay_core.specs.Stands.{Stands}
 use Rattle.relay_core.proofs.BoardsKept.{boards_after}

@@ -1,5 +1,5 @@
 use Rattle.std.proofs.lemmas.Result.{err_from_is_err_and}
-use Rattle.seat_steps.specs.declared.step.ShellStep.TheVariants as shell
+use Rattle.broker_steps.specs.declared.step.ShellStep.TheVariants as shell
 use Rattle.trial_run.specs.Lines.{shell_says, pressed}
 use Rattle.trial_run.proofs.RunsInTurn.{run_goes, run_halts}
 use Rattle.trial_run.proofs.trial.Trial.press.Goals as goal

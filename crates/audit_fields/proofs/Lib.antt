@@ -1,0 +1,11 @@
+pub mod MessagesPassed
+pub mod FieldMessageFirst
+pub mod StreamsCompared
+pub mod PiecesHeard
+pub mod EventsRead
+pub mod SidesTold
+pub mod EventsGathered
+pub mod EntriesPut
+pub mod GatheredBeside
+pub mod NumbersLost
+pub mod SentHeard

@@ -1,6 +1,0 @@
-use Rattle.audit_law.proofs.PutGroupsQueued.{groups_queued, groups_whole}
-use Rattle.audit_law.proofs.GroupsHeard.{owed_groups}
-use Rattle.audit_law.proofs.owed_are_groups.Goals as goal
-
-pub returns : goal.returns
-returns c = record { owed = owed_groups; whole = groups_whole; queued = groups_queued }

@@ -1,2 +1,0 @@
-pub mod LinesAsked
-pub mod SpellingsReadBack

@@ -1,5 +1,0 @@
-use Rattle.audit_text.proofs.SpellingsReadBack.{reads_only_spelling, reads_each_spelling}
-use Rattle.audit_text.proofs.audit_line.one_spelling.Goals as goal
-
-pub returns : goal.returns
-returns c = record { only = reads_only_spelling; each = reads_each_spelling }

@@ -1,0 +1,39 @@
+use Rattle.std.proofs.Common.{◌≡◌, rules, List, Ok, Err, map, sym, ap, subst}
+use Rattle.std.proofs.lemmas.List.Sorted.{answers_always}
+use Rattle.broker_audience.specs.declared.place.Place.{Place}
+use Rattle.broker_audience.specs.Lives.{AreOver}
+use Rattle.broker_audience.specs.Seated.{Roster}
+use Rattle.broker_audience.specs.Visits.{IsAt, HasNone}
+use Rattle.broker_audience.proofs.PeersInOrder.{searched, at_mapped, none_mapped, over_unmapped}
+use Rattle.broker_audience.proofs.roster.Roster.place_with.Goals as goal
+
+nowhere : Place
+nowhere = record { number = 0; label = 0; key = 0 }
+
+rising : (r : Roster) (places : List Place) → map (λ (p : Place). p.label) places ≡ r.labels →
+    AreOver (λ n. n) 0 r.labels → AreOver (λ (p : Place). p.label) 0 places
+rising r places is over = over_unmapped (λ (p : Place). p.label) places 0 (subst (AreOver (λ n. n) 0) (sym is) over)
+
+pub returns-in-Ok-clause-found : goal.returns-in-Ok-clause-found
+returns-in-Ok-clause-found c =
+    let facts = c.in-Ok.ensures in
+    subst (λ (v : Roster). IsAt (λ n. n) c.args.label v.labels c.in-Ok.place) c.self.view_is
+    (at_mapped (λ (p : Place). p.label) c.self.inside.places.items c.args.label c.in-Ok.place nowhere
+    (rw c.deref.ensures.value at
+    ((searched (λ p. p.label) c.deref.result.now
+    (rw c.deref.ensures.value (rising c.args.self.now c.self.inside.places.items
+    (ap (λ (v : Roster). v.labels) c.self.view_is) c.requires.rising)) c.args.label
+    (Ok c.in-Ok.place) facts.bound
+    (facts.position (λ p. p.label) (answers_always _ _ _ (λ f a r g called. search rules)))).found)))
+
+pub returns-in-Err-clause-none : goal.returns-in-Err-clause-none
+returns-in-Err-clause-none c =
+    let facts = c.in-Err.ensures in
+    subst (λ (v : Roster). HasNone (λ n. n) c.args.label v.labels) c.self.view_is
+    (none_mapped (λ (p : Place). p.label) c.self.inside.places.items c.args.label nowhere
+    (rw c.deref.ensures.value at
+    ((searched (λ p. p.label) c.deref.result.now
+    (rw c.deref.ensures.value (rising c.args.self.now c.self.inside.places.items
+    (ap (λ (v : Roster). v.labels) c.self.view_is) c.requires.rising)) c.args.label
+    (Err c.in-Err.field-0) facts.bound
+    (facts.position (λ p. p.label) (answers_always _ _ _ (λ f a r g called. search rules)))).absent)))

@@ -1,8 +1,0 @@
-//! What all tests compare with: the texts of a failure are proved here once, and not at each comparison.
-use std::fmt::Debug;
-use std::process::Abort;
-
-// Both values are shown where they differ.
-pub fn equal<T: PartialEq + Debug + Drop>(rt: &impl Abort, got: T, want: T) {
-    assert_eq!(rt; got, want);
-}

@@ -1,0 +1,14 @@
+pub mod Held
+pub mod HeldBytes
+pub mod Took
+pub mod Gave
+pub mod Shown
+pub mod Fates
+pub mod Codes
+pub mod Called
+pub mod PeersCalled
+pub mod OrdersCalled
+pub mod ToldCalled
+pub mod LooksCalled
+pub mod HandedBatches
+pub mod TextsFit

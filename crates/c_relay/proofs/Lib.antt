@@ -1,0 +1,14 @@
+pub mod EventsWithTexts
+pub mod QueueAfterTells
+pub mod LiveHistory
+pub mod PopupsBefore
+pub mod CursorKept
+pub mod PlacesTold
+pub mod PopupsTurn
+pub mod KeptAfterAct
+pub mod QuietActs
+pub mod ActTaken
+pub mod TurnsEach
+pub mod ActEntered
+pub mod LivingAfterAct
+pub mod LivingCounted

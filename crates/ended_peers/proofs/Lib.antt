@@ -1,2 +1,0 @@
-pub mod StoresLeft
-pub mod PeersLeft

@@ -1,5 +1,0 @@
-pub mod Phrase
-pub mod Deed
-pub mod Outcome
-pub mod Changes
-pub mod Laws

@@ -1,9 +1,0 @@
-use Rattle.std.proofs.Common.{◌-◌, length}
-use Rattle.field_streams.proofs.StreamsCompared.{IsOnWay}
-use Rattle.field_streams.proofs.compare.compare.Given as goal
-
-abbrev pub invariant-messages : goal.invariant-messages
-invariant-messages l = IsOnWay l.told l.sent l.gone l.at l.dones
-
-abbrev pub decreases-messages : goal.decreases-messages
-decreases-messages l = length l.sent - l.at

@@ -1,6 +1,0 @@
-use Rattle.gen_run.proofs.TextFronts.{nothing_yet, err_any}
-use Rattle.gen_run.proofs.text.write_session.Goals as goal
-
-pub returns-in_err-run-clause-front : goal.returns-in_err-run-clause-front
-returns-in_err-run-clause-front g c =
-    err_any c.from_residual.result _ (nothing_yet (g.K.Sink.held c.args.output.now) c.args.number)

@@ -1,2 +1,0 @@
-pub mod HandedBatches
-pub mod TextsFit

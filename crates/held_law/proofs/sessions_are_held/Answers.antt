@@ -1,5 +1,0 @@
-use Rattle.held_law.proofs.SessionsHeld.{sessions_are_held}
-use Rattle.held_law.proofs.sessions_are_held.Goals as goal
-
-pub returns : goal.returns
-returns c = record { law = sessions_are_held }

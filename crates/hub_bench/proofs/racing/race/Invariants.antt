@@ -1,7 +1,0 @@
-use Rattle.std.specs.Arc.{arc_value}
-use Rattle.hub_lock.specs.Passes.{IsOf}
-use Rattle.hub_bench.proofs.racing.race.Given as goal
-
--- the root is the hub's
-abbrev pub invariant-loop : goal.invariant-loop
-invariant-loop g l = IsOf (arc_value l.hub) l.root

@@ -1,6 +1,0 @@
-use Rattle.hub_lock.specs.Passes.{IsOf}
-use Rattle.hub_tests.proofs.race_tests.eight.Given as goal
-
--- the root is the hub's
-abbrev pub invariant-loop : goal.invariant-loop
-invariant-loop g l = IsOf l.hub l.root

@@ -1,0 +1,9 @@
+pub mod JobsShaped
+pub mod JobsAre
+pub mod JournalSeen
+pub mod LogsAre
+pub mod WholeTold
+pub mod CutTold
+pub mod CutFull
+pub mod EndedHaveAll
+pub mod OneJournal

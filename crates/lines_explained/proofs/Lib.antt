@@ -1,0 +1,5 @@
+pub mod CourseByCounts
+pub mod LinesSince
+pub mod ExplainersReached
+pub mod OutcomesGiven
+pub mod OwnGroupPut

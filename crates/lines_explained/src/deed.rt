@@ -1,0 +1,191 @@
+//! What an act is: how a line begins.
+ghost use Rattle.std.specs.Prelude.{◌≡◌, ◌++◌, Some, None, OnOk, string_bytes};
+ghost use Rattle.lines_explained.specs.Deed.{source_words, end_words, refusal_words, peer_words};
+ghost use Rattle.lines_explained.specs.Deed.{object_words, shell_words, key_words, field_words, method_words};
+ghost use Rattle.lines_explained.specs.Deed.{deed, begun};
+ghost use Rattle.lines_explained.specs.Phrase.{phrase};
+
+use crate::phrase::add_phrase;
+use itoa::Buffer;
+use relay_model::{Act, EndCause, Fault};
+use wio_core::NoMemory;
+
+/// Whose act it is. Peers are numbered from 1 in the order in which they join.
+#[derive(Clone, Copy, Debug, PartialEq, Eq)]
+pub enum Source {
+    /// The peer with the number.
+    Peer(u32),
+    /// The peer with the number, by a message to the object with the id.
+    Object { peer: u32, id: u32 },
+    /// The shell.
+    Shell,
+}
+
+fn add_words(line: &mut String, words: &str) -> Result<(), NoMemory>
+    ensures { OnOk result (string_bytes line.new ≡ string_bytes line.old ++ words.now) }
+{
+    line.push_str(words)?;
+    Ok(())
+}
+
+// Words, a number after them, and more words.
+fn add_about(line: &mut String, who: &str, number: u32, what: &str) -> Result<(), NoMemory>
+    ensures { OnOk result (string_bytes line.new
+        ≡ string_bytes line.old ++ phrase who.now (Some number) what.now None) }
+{
+    add_phrase(line, who, Some(number), what, None)
+}
+
+// A key, and whether it is pressed: any state but 1 is a release.
+fn add_key(line: &mut String, key: u32, state: u32) -> Result<(), NoMemory>
+    ensures { OnOk result (string_bytes line.new ≡ string_bytes line.old ++ key_words key state) }
+{
+    let what = if state == 1 { " pressed" } else { " released" };
+    add_about(line, "key", key, what)
+}
+
+fn add_source(line: &mut String, source: Source) -> Result<(), NoMemory>
+    ensures { OnOk result (string_bytes line.new ≡ string_bytes line.old ++ source_words source) }
+{
+    match source {
+        Source::Peer(peer) => add_about(line, " peer", peer, ": "),
+        Source::Object { peer, id } => {
+            add_phrase(line, " peer", Some(peer), " to object", Some(id))?;
+            add_words(line, ": ")
+        }
+        Source::Shell => add_words(line, " shell: "),
+    }
+}
+
+fn add_end(line: &mut String, cause: EndCause) -> Result<(), NoMemory>
+    ensures { OnOk result (string_bytes line.new ≡ string_bytes line.old ++ end_words cause) }
+{
+    match cause {
+        EndCause::Gone => add_words(line, "ends, its link ended"),
+        EndCause::Bad => add_words(line, "ends, a message of it was refused"),
+        EndCause::Full => add_words(line, "ends, a group did not fit its store"),
+    }
+}
+
+// Why a message is refused, in the words that its sender is told.
+fn add_refusal(line: &mut String, fault: Fault) -> Result<(), NoMemory>
+    ensures { OnOk result (string_bytes line.new ≡ string_bytes line.old ++ refusal_words fault) }
+{
+    add_words(line, "a message is refused: ")?;
+    add_words(line, fault.text())?;
+    Ok(())
+}
+
+fn add_of_peer(line: &mut String, act: &Act) -> Result<(), NoMemory>
+    ensures { OnOk result (string_bytes line.new ≡ string_bytes line.old ++ peer_words act.now) }
+{
+    match act {
+        Act::Peer => add_words(line, "joins"),
+        Act::Gone { cause, .. } => add_end(line, *cause),
+        Act::Registry { .. } => add_words(line, "get_registry"),
+        Act::Sync { .. } => add_words(line, "sync"),
+        Act::Seat { .. } => add_words(line, "binds the seat"),
+        Act::Thing { .. } => add_words(line, "binds a global"),
+        Act::Bad { fault, .. } => add_refusal(line, *fault),
+        Act::Took { bytes, .. } => add_about(line, "takes", *bytes, " bytes"),
+        Act::Idle => add_words(line, "nothing"),
+        _ => Ok(()),
+    }
+}
+
+// An object is named by the number of the act that made it.
+fn add_of_object(line: &mut String, number: u32, act: &Act) -> Result<(), NoMemory>
+    ensures { OnOk result (string_bytes line.new
+        ≡ string_bytes line.old ++ object_words number act.now) }
+{
+    match act {
+        Act::Surface { .. } => add_about(line, "makes surface", number, ""),
+        Act::Field { .. } => add_about(line, "makes field", number, ""),
+        Act::Method { .. } => add_about(line, "makes method", number, ""),
+        Act::Popup { .. } => add_about(line, "makes popup", number, ""),
+        Act::Grab { .. } => add_about(line, "makes grab", number, ""),
+        Act::VBoard { .. } => add_about(line, "makes board", number, ""),
+        Act::Drop { label } => add_about(line, "object", *label, " is destroyed"),
+        _ => Ok(()),
+    }
+}
+
+fn add_of_shell(line: &mut String, act: &Act) -> Result<(), NoMemory>
+    ensures { OnOk result (string_bytes line.new ≡ string_bytes line.old ++ shell_words act.now) }
+{
+    match act {
+        Act::Focus { surface } => add_about(line, "focus on surface", *surface, ""),
+        Act::Unfocus => add_words(line, "focus on nothing"),
+        Act::Area { surface, .. } => add_about(line, "area of surface", *surface, ""),
+        Act::Screen { .. } => add_words(line, "screen"),
+        Act::Key { key, state, .. } => add_key(line, *key, *state),
+        Act::Mods(_) => add_words(line, "modifiers"),
+        Act::Keymap(_) => add_words(line, "keymap"),
+        Act::Repeat(_) => add_words(line, "repeat of keys"),
+        _ => Ok(()),
+    }
+}
+
+fn add_of_field(line: &mut String, act: &Act) -> Result<(), NoMemory>
+    ensures { OnOk result (string_bytes line.new ≡ string_bytes line.old ++ field_words act.now) }
+{
+    match act {
+        Act::Enable { field } => add_about(line, "field", *field, " enable"),
+        Act::Disable { field } => add_about(line, "field", *field, " disable"),
+        Act::Surround { field, .. } => add_about(line, "field", *field, " set_surrounding_text"),
+        Act::Cause { field, .. } => add_about(line, "field", *field, " set_text_change_cause"),
+        Act::Content { field, .. } => add_about(line, "field", *field, " set_content_type"),
+        Act::Cursor { field, .. } => add_about(line, "field", *field, " set_cursor_rectangle"),
+        Act::Commit { field } => add_about(line, "field", *field, " commit"),
+        _ => Ok(()),
+    }
+}
+
+fn add_of_method(line: &mut String, act: &Act) -> Result<(), NoMemory>
+    ensures { OnOk result (string_bytes line.new ≡ string_bytes line.old ++ method_words act.now) }
+{
+    match act {
+        Act::MString { method, .. } => add_about(line, "method", *method, " commit_string"),
+        Act::MPreedit { method, .. } => add_about(line, "method", *method, " set_preedit_string"),
+        Act::MDelete { method, .. } => {
+            add_about(line, "method", *method, " delete_surrounding_text")
+        }
+        Act::MCommit { method, serial } => {
+            add_phrase(line, "method", Some(*method), " commit", Some(*serial))
+        }
+        Act::VKeymap { board, .. } => add_about(line, "board", *board, " keymap"),
+        Act::VKey {
+            board,
+            key,
+            state,
+            ..
+        } => {
+            add_about(line, "board", *board, " ")?;
+            add_key(line, *key, *state)
+        }
+        Act::VMods { board, .. } => add_about(line, "board", *board, " modifiers"),
+        _ => Ok(()),
+    }
+}
+
+// What the act with the number is.
+fn add_deed(line: &mut String, number: u32, act: &Act) -> Result<(), NoMemory>
+    ensures { OnOk result (string_bytes line.new ≡ string_bytes line.old ++ deed number act.now) }
+{
+    add_of_peer(line, act)?;
+    add_of_object(line, number, act)?;
+    add_of_shell(line, act)?;
+    add_of_field(line, act)?;
+    add_of_method(line, act)
+}
+
+/// Begins a line over what it was: the act's number, whose it is, and what it is. An object is named
+/// by the number of the act that made it.
+pub fn begin_line(line: &mut String, number: u32, source: Source, act: &Act) -> Result<(), NoMemory>
+    ensures { OnOk result (string_bytes line.new ≡ begun number source act.now) }
+{
+    line.clear();
+    line.push_str(Buffer::new().format(number))?;
+    add_source(line, source)?;
+    add_deed(line, number, act)
+}

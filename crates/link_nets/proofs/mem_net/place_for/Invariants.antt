@@ -1,6 +1,0 @@
-use Rattle.std.proofs.Common.{take}
-use Rattle.link_nets.specs.MemNets.{LacksLinkFor}
-use Rattle.link_nets.proofs.mem_net.place_for.Given as goal
-
-abbrev pub invariant-loop-at : goal.invariant-loop-at
-invariant-loop-at l = LacksLinkFor l.door (take l.at l.waiting)

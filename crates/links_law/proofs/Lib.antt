@@ -1,2 +1,0 @@
-pub mod EndedHaveAll
-pub mod OneJournal

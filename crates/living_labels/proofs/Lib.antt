@@ -1,6 +1,0 @@
-pub mod PlainEvents
-pub mod ToldAreLiving
-pub mod EntriesTold
-pub mod EnoughIsTold
-pub mod LivingAreEnough
-pub mod KeptIsEnough

@@ -1,3 +1,0 @@
-pub mod Living
-pub mod Enough
-pub mod Kept

@@ -1,2 +1,0 @@
-pub mod NumberedItems
-pub mod ListsCross

@@ -1,6 +1,0 @@
--- The recursion goes over the acts before.
-use Rattle.std.proofs.Common.{length}
-use Rattle.look_back.proofs.activation.+begun_for.Given as goal
-
-abbrev pub decreases-begun_for : goal.decreases-begun_for
-decreases-begun_for l = length l.log.now

@@ -1,6 +1,0 @@
--- The recursion goes over the acts before.
-use Rattle.std.proofs.Common.{length}
-use Rattle.look_back.proofs.boards.+board_pressed.Given as goal
-
-abbrev pub decreases-board_pressed : goal.decreases-board_pressed
-decreases-board_pressed l = length l.log.now

@@ -1,6 +1,0 @@
--- The recursion goes over the acts before.
-use Rattle.std.proofs.Common.{length}
-use Rattle.look_back.proofs.boards.+board_went.Given as goal
-
-abbrev pub decreases-board_went : goal.decreases-board_went
-decreases-board_went l = length l.log.now

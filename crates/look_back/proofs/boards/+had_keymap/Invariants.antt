@@ -1,6 +1,0 @@
--- The recursion goes over the acts before.
-use Rattle.std.proofs.Common.{length}
-use Rattle.look_back.proofs.boards.+had_keymap.Given as goal
-
-abbrev pub decreases-had_keymap : goal.decreases-had_keymap
-decreases-had_keymap l = length l.log.now

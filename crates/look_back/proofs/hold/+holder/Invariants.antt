@@ -1,6 +1,0 @@
--- The recursion goes over the acts before.
-use Rattle.std.proofs.Common.{length}
-use Rattle.look_back.proofs.hold.+holder.Given as goal
-
-abbrev pub decreases-holder : goal.decreases-holder
-decreases-holder l = length l.log.now

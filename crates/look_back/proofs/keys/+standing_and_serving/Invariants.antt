@@ -1,6 +1,0 @@
--- The recursion goes over the acts before.
-use Rattle.std.proofs.Common.{length}
-use Rattle.look_back.proofs.keys.+standing_and_serving.Given as goal
-
-abbrev pub decreases-standing_and_serving : goal.decreases-standing_and_serving
-decreases-standing_and_serving l = length l.log.now

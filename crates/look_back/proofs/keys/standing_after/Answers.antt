@@ -1,5 +1,0 @@
-use Rattle.std.proofs.Common.{rules}
-use Rattle.look_back.proofs.keys.standing_after.Goals as goal
-
-pub returns-then-is_at : goal.returns-then-is_at
-returns-then-is_at c = search rules

@@ -1,6 +1,0 @@
--- The recursion goes over the acts before.
-use Rattle.std.proofs.Common.{length}
-use Rattle.look_back.proofs.seat.+serving.Given as goal
-
-abbrev pub decreases-serving : goal.decreases-serving
-decreases-serving l = length l.log.now

@@ -1,3 +1,0 @@
-pub mod TypedLogs
-pub mod ToldEvents
-pub mod MethodLaws

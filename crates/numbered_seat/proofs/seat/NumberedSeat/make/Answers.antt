@@ -1,9 +1,0 @@
-use Rattle.std.proofs.Common.{subst, sym}
-use Rattle.relay_seat.specs.Seated.{Seated}
-use Rattle.numbered_seat.specs.Numbers.{Numbered}
-use Rattle.numbered_seat.proofs.seat.NumberedSeat.make.Goals as goal
-
-pub returns-in-Ok-Some-clause-seat : goal.returns-in-Ok-Some-clause-seat
-returns-in-Ok-Some-clause-seat c log waits stands =
-    c.take-answer.ensures.takes log waits
-    (subst (λ (v : Numbered). Seated v.seat log waits) (sym c.self.view_is) stands)

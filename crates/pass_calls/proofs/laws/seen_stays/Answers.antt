@@ -1,5 +1,0 @@
-use Rattle.pass_calls.proofs.PassesCounted.{seen_stays}
-use Rattle.pass_calls.proofs.laws.seen_stays.Goals as goal
-
-pub returns : goal.returns
-returns c = seen_stays

@@ -1,6 +1,0 @@
-use Rattle.std.proofs.Common.{refl}
-use Rattle.pass_calls.proofs.StepsRefused.{none_made}
-use Rattle.pass_calls.proofs.submit.submit_message.Goals as goal
-
-pub returns-in_default-clause-made : goal.returns-in_default-clause-made
-returns-in_default-clause-made g c = none_made c.args.pass.now c.args.pass.now _ (λ next. Unit {0}) refl tt

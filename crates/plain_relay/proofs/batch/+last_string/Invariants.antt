@@ -1,6 +1,0 @@
--- The recursion goes over the acts before.
-use Rattle.std.proofs.Common.{length}
-use Rattle.plain_relay.proofs.batch.+last_string.Given as goal
-
-abbrev pub decreases-last_string : goal.decreases-last_string
-decreases-last_string l = length l.log.now

@@ -1,8 +1,0 @@
-use Rattle.std.proofs.Common.{arith}
-use Rattle.plain_run.proofs.AuditLines.{names_next}
-use Rattle.plain_run.proofs.audit.AuditPlayScript.bad_line.Goals as goal
-
-pub returns : goal.returns
-returns c = λ done output few s.
-    names_next c.args.self.now done output c.saturating_add.result s
-    (omega (arith, few, s.count, c.saturating_add.ensures))

@@ -1,5 +1,0 @@
-use Rattle.std.proofs.Common.{rules}
-use Rattle.plain_run.proofs.writing.write_due.Goals as goal
-
-pub returns-clause-due : goal.returns-clause-due
-returns-clause-due g c = search rules

@@ -1,5 +1,0 @@
-pub mod PeersJoined
-pub mod SetupsSent
-pub mod LightMessages
-pub mod StepsFew
-pub mod CausesSeen

@@ -1,2 +1,0 @@
-pub mod NoJobs
-pub mod Begun

@@ -1,5 +1,0 @@
-use Rattle.record_law.proofs.LinesLead.{recorded_leads_back}
-use Rattle.record_law.proofs.recorded_session_leads_back.Goals as goal
-
-pub returns : goal.returns
-returns c = record { law = recorded_leads_back }

@@ -1,0 +1,9 @@
+use Rattle.relay_objects.specs.declared.change.Change.TheVariants.{Area}
+use Rattle.relay_objects.proofs.ChangedLists.{still_listed}
+use Rattle.relay_objects.proofs.objects.Objects.place_surface.Goals as goal
+
+pub invariant_of-self : goal.invariant_of-self
+invariant_of-self c =
+    rw c.change.ensures.items
+    (still_listed c.self.inside.shelf.items c.self.inside.fields.items c.self.inside.popups.items c.self.inside.entered
+    c.self.inside.bound c.args.surface (Area c.args.rect) tt c.self.invariant)

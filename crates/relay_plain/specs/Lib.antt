@@ -1,0 +1,11 @@
+pub mod Telling
+pub mod BoardKey
+pub mod Batch
+pub mod Told
+pub mod Plain
+pub mod Newest
+pub mod Objects
+pub mod Current
+pub mod Seat
+pub mod Activation
+pub mod Keys

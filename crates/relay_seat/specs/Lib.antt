@@ -1,6 +1,0 @@
-pub mod Hidden
-pub mod KeptPopups
-pub mod Events
-pub mod Waiting
-pub mod Seated
-pub mod Served

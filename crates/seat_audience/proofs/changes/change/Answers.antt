@@ -1,5 +1,0 @@
-use Rattle.std.proofs.Common.{rules}
-use Rattle.seat_audience.proofs.changes.change.Goals as goal
-
-pub returns-in-Drop-clause-ok : goal.returns-in-Drop-clause-ok
-returns-in-Drop-clause-ok c = search rules

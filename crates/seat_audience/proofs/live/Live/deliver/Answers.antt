@@ -1,5 +1,0 @@
-use Rattle.std.proofs.Common.{rules}
-use Rattle.seat_audience.proofs.live.Live.deliver.Goals as goal
-
-pub returns-else-not-put_group : goal.returns-else-not-put_group
-returns-else-not-put_group c = search rules

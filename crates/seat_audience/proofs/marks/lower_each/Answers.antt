@@ -1,8 +1,0 @@
-use Rattle.std.proofs.Common.{arith}
-use Rattle.seat_audience.specs.Marks.{lowered}
-use Rattle.seat_objects.proofs.EachChanges.{set_mapped}
-use Rattle.seat_audience.proofs.marks.lower_each.Goals as goal
-
-pub loop-each-preserved : goal.loop-each-preserved
-loop-each-preserved c =
-    rw c.lowered.ensures (set_mapped (lowered c.args.left) c.args.places.now _ _ _ c.loop-each.invariant (omega arith))

@@ -1,6 +1,0 @@
-use Rattle.std.proofs.Common.{◌≡◌, map, take, drop, ◌++◌}
-use Rattle.seat_audience.specs.Marks.{lowered}
-use Rattle.seat_audience.proofs.marks.lower_each.Given as goal
-
-abbrev pub invariant-loop-each : goal.invariant-loop-each
-invariant-loop-each l = l.places ≡ map (lowered l.left) (take l.each-index l.fn.places) ++ drop l.each-index l.fn.places

@@ -1,5 +1,0 @@
-use Rattle.std.proofs.Common.{rules}
-use Rattle.seat_audience.proofs.marks.lowered.Goals as goal
-
-pub returns-then-each-place : goal.returns-then-each-place
-returns-then-each-place c = search rules

@@ -1,2 +1,0 @@
-pub mod LivingAfterAct
-pub mod LivingCounted

@@ -1,9 +1,0 @@
-use Rattle.std.proofs.Common.{◌==◌, not, filter, ap, ◌∙◌, rules}
-use Rattle.std.proofs.lemmas.Fn.{filter_same}
-use Rattle.seat_census.specs.Living.{Counted}
-use Rattle.seat_census.proofs.census.Census.forget_peer.Goals as goal
-
-pub returns-clause-living : goal.returns-clause-living
-returns-clause-living c =
-    filter_same _ (λ l. not (l.peer == c.args.peer)) _ (λ x b f' k. search rules) _ _ c.retain.ensures.filtered
-    ∙ ap (λ (v : Counted). filter (λ l. not (l.peer == c.args.peer)) v.living) c.self.view_is

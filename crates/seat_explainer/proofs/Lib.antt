@@ -1,4 +1,0 @@
-pub mod LinesSince
-pub mod ExplainersReached
-pub mod OutcomesGiven
-pub mod OwnGroupPut

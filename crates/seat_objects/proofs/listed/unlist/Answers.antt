@@ -1,5 +1,0 @@
-use Rattle.std.proofs.Common.{rules}
-use Rattle.seat_objects.proofs.listed.unlist.Goals as goal
-
-pub returns-clause-fields : goal.returns-clause-fields
-returns-clause-fields c = search rules

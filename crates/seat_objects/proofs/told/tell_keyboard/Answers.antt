@@ -1,5 +1,0 @@
-use Rattle.std.proofs.Common.{rules}
-use Rattle.seat_objects.proofs.told.tell_keyboard.Goals as goal
-
-pub returns : goal.returns
-returns g c = search rules

@@ -1,4 +1,0 @@
-pub mod SinceLaws
-pub mod PrintedEntries
-pub mod ReachedPrintings
-pub mod PrintedLines

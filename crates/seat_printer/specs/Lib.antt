@@ -1,2 +1,0 @@
-pub mod Transcribed
-pub mod Printed

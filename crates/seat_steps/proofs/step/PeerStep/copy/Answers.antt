@@ -1,5 +1,0 @@
-use Rattle.std.proofs.Common.{rules}
-use Rattle.seat_steps.proofs.step.PeerStep.copy.Goals as goal
-
-pub returns-in_ok-copy-in-Message : goal.returns-in_ok-copy-in-Message
-returns-in_ok-copy-in-Message c = search rules

@@ -1,6 +1,0 @@
-use Rattle.session_play.proofs.JournalGrows.{watched_none}
-use Rattle.session_play.proofs.player.Player.bytes_watched.Goals as goal
-
-pub returns-in-Some-clause-watched : goal.returns-in-Some-clause-watched
-returns-in-Some-clause-watched g c =
-    watched_none g.W.Watch.may_follow c.args.self.now.limits.store c.args.self.now.play.journal c.args.watch.now

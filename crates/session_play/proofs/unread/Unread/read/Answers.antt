@@ -1,8 +1,0 @@
-use Rattle.session_play.proofs.FirstSteps.{nothing_yet, last_step}
-use Rattle.session_play.proofs.unread.Unread.read.Goals as goal
-
-pub returns-in-Nothing-clause-found : goal.returns-in-Nothing-clause-found
-returns-in-Nothing-clause-found c = nothing_yet c.args.self.now.number _ _ c.in-Nothing.ensures
-
-pub returns-in-BadSize-clause-found : goal.returns-in-BadSize-clause-found
-returns-in-BadSize-clause-found c = last_step c.args.self.now.number c.in-BadSize.head _ c.in-BadSize.ensures

@@ -1,4 +1,0 @@
-pub mod Played
-pub mod Unread
-pub mod Playing
-pub mod Laws

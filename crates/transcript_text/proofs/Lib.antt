@@ -1,7 +1,0 @@
-pub mod PrintedStepsHold
-pub mod StampedSteps
-pub mod FaultTexts
-pub mod PrintedLines
-pub mod NoZeroByte
-mod ShortLines
-pub mod SeatTexts

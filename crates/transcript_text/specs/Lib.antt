@@ -1,6 +1,0 @@
-pub mod Laws
-pub mod Printing
-pub mod Seats
-pub mod Told
-pub mod Transcript
-pub mod Worked

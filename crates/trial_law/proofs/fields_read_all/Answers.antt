@@ -1,5 +1,0 @@
-use Rattle.trial_law.proofs.TextsBatched.{fields_read_all}
-use Rattle.trial_law.proofs.fields_read_all.Goals as goal
-
-pub returns : goal.returns
-returns c = fields_read_all

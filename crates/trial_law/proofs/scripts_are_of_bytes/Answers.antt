@@ -1,5 +1,0 @@
-use Rattle.trial_law.proofs.ScriptsOfBytes.{scripts_of_bytes}
-use Rattle.trial_law.proofs.scripts_are_of_bytes.Goals as goal
-
-pub returns : goal.returns
-returns c = scripts_of_bytes

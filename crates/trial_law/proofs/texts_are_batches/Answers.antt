@@ -1,5 +1,0 @@
-use Rattle.trial_law.proofs.TextsBatched.{texts_batched}
-use Rattle.trial_law.proofs.texts_are_batches.Goals as goal
-
-pub returns : goal.returns
-returns c = texts_batched

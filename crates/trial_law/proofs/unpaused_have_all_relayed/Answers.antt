@@ -1,5 +1,0 @@
-use Rattle.trial_law.proofs.TextsBatched.{unpaused_have_all_relayed}
-use Rattle.trial_law.proofs.unpaused_have_all_relayed.Goals as goal
-
-pub returns : goal.returns
-returns c = unpaused_have_all_relayed

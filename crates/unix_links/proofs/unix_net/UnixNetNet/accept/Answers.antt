@@ -1,5 +1,0 @@
-use Rattle.std.proofs.Common.{rules}
-use Rattle.unix_links.proofs.unix_net.UnixNetNet.accept.Goals as goal
-
-pub returns-clause-link : goal.returns-clause-link
-returns-clause-link g c = search rules
