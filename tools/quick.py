@@ -21,7 +21,7 @@ import sys
 import time
 
 ROOT = os.path.abspath(os.path.join(os.path.dirname(os.path.abspath(__file__)), ".."))
-MINUTES = 10
+MINUTES = 20  # that one command may take on a busy machine
 SECONDS = 300  # that one run of a test or program may take on a busy machine; rt's own limit is 60
 
 
