@@ -16,6 +16,7 @@ import os
 import re
 import resource
 import shutil
+import signal
 import subprocess
 import sys
 import time
@@ -37,13 +38,15 @@ def has_tests(folder):
 
 def run(command, folder, stdin=None):
     """What the command ended with, and what it wrote."""
-    try:
-        with open(stdin or os.devnull, "rb") as given:
-            ended = subprocess.run(command, cwd=folder, stdin=given, stdout=subprocess.PIPE,
-                                   stderr=subprocess.PIPE, timeout=60 * MINUTES, check=False)
-    except subprocess.TimeoutExpired:
-        return None, b"", b"no end in %d minutes" % MINUTES
-    return ended.returncode, ended.stdout, ended.stderr
+    with open(stdin or os.devnull, "rb") as given, subprocess.Popen(
+            command, cwd=folder, stdin=given, stdout=subprocess.PIPE, stderr=subprocess.PIPE,
+            start_new_session=True) as process:
+        try:
+            said, wrong = process.communicate(timeout=60 * MINUTES)
+        except subprocess.TimeoutExpired:
+            os.killpg(process.pid, signal.SIGKILL)  # what it started ends too
+            return None, b"", b"no end in %d minutes" % MINUTES
+    return process.returncode, said, wrong
 
 
 def tests(folder):
