@@ -8,6 +8,7 @@
 enum {
 	STORE = 65536, ENTRIES = 4000000, WEIGHT = 536870912, /* what a broker holds at most, as wlim.h says */
 	WEIGHT_OLD = 400000000, /* so heavy it is renewed */
+	FULL = 8, SPENT = 32, /* such a part is left where it is renewed without a pause, and closed before there is another */
 	QUIET = 500000, /* microseconds without a step, after which a renewal cuts nothing in two */
 	AGAIN = 10000000, /* microseconds after which a renewal is tried again that couldn't be made */
 	PIECE = 4096, /* bytes of a line of the session, and of one taking */
@@ -80,10 +81,14 @@ static struct wlim_used broker_used(void) {
 	return used;
 }
 
-bool broker_prepare(void) {
+/* Whether less than such a part of it is left. */
+static bool is_used(unsigned part) {
 	struct wlim_used used = broker_used();
-	bool is_spent = used.entries > ENTRIES - ENTRIES / 32 || used.weight > WEIGHT - WEIGHT / 32;
-	return open_at(brokers + (broker == brokers)) || is_spent;
+	return used.entries > ENTRIES - ENTRIES / part || used.weight > WEIGHT - WEIGHT / part;
+}
+
+bool broker_prepare(void) {
+	return open_at(brokers + (broker == brokers)) || is_used(SPENT);
 }
 
 void broker_ask(void) {
@@ -92,12 +97,11 @@ void broker_ask(void) {
 
 int broker_renewal(void) {
 	struct wlim_used used = broker_used();
-	bool full = used.entries > gateway.entries + ENTRIES / 8 || used.weight > WEIGHT_OLD + WEIGHT / 8 || !broker->live
-		|| self.lost;
-	if (!self.asked && !full && used.entries <= gateway.entries && used.weight <= WEIGHT_OLD)
+	if (!self.asked && !self.lost && used.entries <= gateway.entries && used.weight <= WEIGHT_OLD)
 		return -1;
-	uint64_t due = full || self.moment + QUIET < self.again ? self.again : self.moment + QUIET;
-	return gateway.moment >= due ? 0 : (int)((due - gateway.moment) / 1000) + 1;
+	uint64_t quiet = self.lost || is_used(FULL) ? 0 : self.moment + QUIET, due = quiet > self.again ? quiet : self.again;
+	bool is_due = gateway.moment >= due || (broker->live && is_used(SPENT));
+	return is_due ? 0 : (int)((due - gateway.moment) / 1000) + 1;
 }
 
 static struct client *client_of(uint32_t peer) {

@@ -121,7 +121,8 @@ static void play_all(void) {
 		if (self.waits[which].revents)
 			let_in(which);
 	struct signalfd_siginfo signal;
-	while (read(self.waits[WAIT_SIGNALS].fd, &signal, sizeof signal) == sizeof signal) {
+	const struct pollfd *told = &self.waits[WAIT_SIGNALS];
+	while (told->revents && read(told->fd, &signal, sizeof signal) == sizeof signal) {
 		if (signal.ssi_signo == SIGHUP)
 			core_renew(moment());
 		else

@@ -144,8 +144,7 @@ void link_flush(unsigned link, enum side side) {
 		}
 		*part = (struct cmsghdr){ CMSG_LEN(next.count * sizeof(int)), SOL_SOCKET, SCM_RIGHTS };
 		header.msg_controllen = next.count > 0 ? CMSG_SPACE(next.count * sizeof(int)) : 0;
-		ssize_t went = next.count > 0 ? sendmsg(links[link].sockets[side], &header, MSG_DONTWAIT | MSG_NOSIGNAL)
-			: send(links[link].sockets[side], next.bytes, next.size, MSG_DONTWAIT | MSG_NOSIGNAL);
+		ssize_t went = sendmsg(links[link].sockets[side], &header, MSG_DONTWAIT | MSG_NOSIGNAL);
 		if (went < 0 && is_later())
 			return;
 		for (int reads = 0; went < 0 && side == FAR && reads < READ_AWAY && read_once(link, FAR); reads++)

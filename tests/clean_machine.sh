@@ -48,7 +48,7 @@ ours() {
 make_root() {
 	local sources=/etc/apt/sources.list.d/debian.sources
 	[ -f $sources ] || sources=/etc/apt/sources.list
-	mmdebstrap --quiet --variant=apt bookworm "$tree" "$sources" || return 1
+	mmdebstrap --quiet --variant=apt --dpkgopt=force-unsafe-io bookworm "$tree" "$sources" || return 1
 	apt-config dump | grep -E '^Acquire::(http|https|Check)' > "$tree/etc/apt/apt.conf.d/99machine"
 	cp /etc/resolv.conf /etc/hosts "$tree/etc/"
 	mount -t proc proc "$tree/proc" && mount --rbind /dev "$tree/dev" && mount -t tmpfs tmpfs "$tree/run" || return 1

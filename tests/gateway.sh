@@ -48,7 +48,7 @@ timeout 300 "$checked/fuzz" 100000 4 honest
 timeout -k 10 100 tests/gateway_start.py "$checked"
 timeout -k 10 200 tests/gateway_session.py "$checked"
 timeout -k 10 300 tests/gateway_peers.py "$checked"
-timeout -k 10 300 tests/gateway_limits.py "$checked"
+timeout -k 10 900 tests/gateway_limits.py "$checked"
 timeout -k 10 900 tests/gateway_programs.py "$checked" "$rounds"
 timeout -k 10 300 tests/gateway_hostile.py "$checked"
 timeout -k 10 900 tests/gateway_candidates.py "$checked"

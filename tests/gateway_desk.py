@@ -54,15 +54,16 @@ class Desk(Programs):
     def start_typist(self):
         self.typist = Typist(self.path("wayland-1"), self.interfaces)
 
-    def start_gateway(self, *words, logs=True, records=True):
-        """With a log, and a record of its own."""
+    def start_gateway(self, *words, logs=True, records=True, descriptors=None):
+        """With a log, and a record of its own; it may have so many descriptors."""
+        limit = ["prlimit", f"--nofile={descriptors}:{descriptors}"] if descriptors else []
         self.gateways += 1
         if logs:
             words += ("--log",)
         if records:
             for what, file in (("record", "session"), ("taken", "taken"), ("calls", "calls")):
                 words += ("--" + what, self.path(f"{file}.{self.gateways}"))
-        self.gateway = self.start(self.built + "/wlim-gateway", "--compositor", "wayland-1", *words)
+        self.gateway = self.start(*limit, self.built + "/wlim-gateway", "--compositor", "wayland-1", *words)
         until("the gateway", lambda: "ready" in self.read(self.gateway.log))
 
     def logged(self, what):

@@ -81,6 +81,7 @@ struct ends {
 
 static void finish_round(void)
 {
+	HOLDS(wait_for(NULL, 0, 0) == 0); /* the time goes on */
 	core_round(moment());
 	do {
 		perform();

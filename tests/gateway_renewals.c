@@ -135,7 +135,7 @@ static void board_holds(void)
 	HOLDS(HEARD(&first, GRAB, zwp_input_method_keyboard_grab_v2_event_key, A, 0) == 1);
 	HOLDS(HEARD(&one, KEYBOARD, wl_keyboard_event_key) == 0);
 	/* The grab goes with a key that it has, which the window isn't told as pressed then. */
-	press(&second, B, 1);
+	press(&second, C, 1);
 	request(&first, draft(GRAB, zwp_input_method_keyboard_grab_v2_request_release, ""));
 	renew_at_pause();
 	look(&one);
@@ -174,11 +174,11 @@ static void no_memory(void)
 	close_client(&one.place);
 }
 
-/* Fills the broker up to its end, where no renewal can be made. */
-static void fill(struct user *user)
+/* Fills the broker up to so many entries. */
+static void fill(struct user *user, uint32_t entries)
 {
 	struct wlim_used used = { 0 };
-	while (used.entries < 3950000 && !user->place.client->ending) {
+	while (used.entries < entries && !user->place.client->ending) {
 		for (int at = 0; at < 10000; at++)
 			request(user, draft(FIELD, zwp_text_input_v3_request_set_text_change_cause, "u", 0));
 		wlim_broker_used(broker, &used);
@@ -198,10 +198,14 @@ static void no_broker(void)
 	enable(&one);
 	look(&one);
 	refusals = 100;
-	fill(&one);
+	fill(&one, 3550000);
+	HOLDS(broker_renewal() == 0);
+	finish_round();
+	HOLDS(refusals == 99 && broker->live && broker_renewal() > 9000);
+	fill(&one, 3900000); /* within these 10 seconds */
 	HOLDS(!one.place.client->ending && broker_renewal() == 0);
 	finish_round();
-	HOLDS(refusals == 98 && !broker->live);
+	HOLDS(refusals == 97 && !broker->live && broker_renewal() > 9000);
 	look(&one);
 	HOLDS(!one.entered && !one.place.client->ending);
 	type(&one, 42, 200, A);

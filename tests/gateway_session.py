@@ -143,9 +143,9 @@ def renewed(desk):
     """SIGHUP while fcitx5 composes: what was typed of the word is lost, the next comes, and nobody ends."""
     for turn in range(3):
         before, grabs = desk.got("entry"), desk.logged(r"-> .*\.grab_keyboard\(")
-        preedits = desk.logged(r'set_preedit_string\("shi"')
+        preedits = desk.logged(r"-> .*\.set_preedit_string\(")
         desk.type("shi")
-        until("a preedit", lambda: desk.logged(r'set_preedit_string\("shi"') > preedits)
+        until("a preedit", lambda: desk.logged(r"-> .*\.set_preedit_string\(") > preedits)
         desk.gateway.send_signal(signal.SIGHUP)
         until("another record", lambda: os.path.exists(desk.path(f"session.9.{turn + 2}")))
         until("fcitx5's next grab", lambda: desk.logged(r"-> .*\.grab_keyboard\(") > grabs)

@@ -1,7 +1,8 @@
 #!/usr/bin/env python3
 """Checks what is made to be installed, as far as the tools for it are there, and says what it left out.
 
-1. Each command of docs/FORMATS.md has a page of the manual, stands in wlim(1), and in what each shell completes.
+1. Each command of docs/FORMATS.md has a page of the manual, stands in wlim(1), and in what each shell completes; each
+   of its options too.
 2. The library's promises are those of packaging/libwlim.abi (tools/abi.py), those of out/libwlim too where it is built.
 3. `mandoc -Tlint` finds nothing in a page of the manual, and `man` no fault; each link of the site leads somewhere.
 4. lintian finds no error and no warning in the packages of out/deb.
@@ -33,18 +34,27 @@ def said(*words):
 
 
 def commands():
-    """The first word of each command."""
-    return sorted(set(re.findall(r"^\| `wlim ([a-z-]+)", read("docs/FORMATS.md"), flags=re.M)))
+    """Each command, with the options that docs/FORMATS.md names beside it."""
+    found = {}
+    for cell in re.findall(r"^\| (`wlim .*?) \|", read("docs/FORMATS.md"), flags=re.M):
+        for command, after in re.findall(r"`wlim ([a-z-]+)([^`]*)`", cell):
+            found.setdefault(command, set()).update(re.findall(r"--([a-z-]+)", after))
+    return found
 
 
 def words():
-    """Where a command is missing."""
-    for command in commands():
-        if not os.path.exists(f"{ROOT}/man/wlim-{command}.1.md"):
-            yield f"no man/wlim-{command}.1.md"
-        for path in ["man/wlim.1.md", *sorted(glob.glob("packaging/completions/*", root_dir=ROOT))]:
-            if "gateway" not in path and not re.search(rf"(?<![\w-]){command}(?![\w-])", read(path)):
-                yield f"{path}: without {command}"
+    """Where a command or an option is missing."""
+    completions = [path for path in sorted(glob.glob("packaging/completions/*", root_dir=ROOT)) if "gateway" not in path]
+    for command, options in commands().items():
+        page = f"man/wlim-{command}.1.md"
+        if not os.path.exists(f"{ROOT}/{page}"):
+            yield f"no {page}"
+            continue
+        wanted = [(path, f"(?<![a-z-]){command}") for path in ["man/wlim.1.md", *completions]]
+        wanted += [(path, f"(?:--|-l ){option}") for path in [page, *completions] for option in sorted(options)]
+        for path, word in wanted:
+            if not re.search(rf"{word}(?![a-z-])", read(path).replace("\\", "")):
+                yield f"{path}: without {word.rpartition(')')[2]}"
 
 
 def promises():

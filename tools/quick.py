@@ -14,6 +14,7 @@ import concurrent.futures
 import glob
 import os
 import re
+import resource
 import shutil
 import subprocess
 import sys
@@ -21,6 +22,7 @@ import time
 
 ROOT = os.path.abspath(os.path.join(os.path.dirname(os.path.abspath(__file__)), ".."))
 MINUTES = 10
+SECONDS = 300  # that one run of a test or program may take on a busy machine; rt's own limit is 60
 
 
 def read(path):
@@ -46,7 +48,7 @@ def run(command, folder, stdin=None):
 
 def tests(folder):
     """The tests of a crate that passed and failed, and what was written where one failed."""
-    status, said, wrong = run(["rt", "try", "--test"], folder)
+    status, said, wrong = run(["rt", "try", "--test", "--seconds", str(SECONDS)], folder)
     text = (said + wrong).decode(errors="replace")
     found = re.search(r"(\d+) passed; (\d+) failed", text)
     if not found:
@@ -61,7 +63,7 @@ def program(folder):
     words = read(given["args"]).split("\n") if os.path.exists(given["args"]) else []
     # (the gate runs it where the files of data/ lie)
     words = [f"data/{it}" if it and os.path.exists(f"{folder}/data/{it}") else it for it in words]
-    command = ["rt", "try", *(["--", *[it for it in words if it]] if words else [])]
+    command = ["rt", "try", "--seconds", str(SECONDS), *(["--", *[it for it in words if it]] if words else [])]
     status, said, wrong = run(command, folder, given["stdin"] if os.path.exists(given["stdin"]) else None)
     wanted = int(read(given["status"]).strip()) if os.path.exists(given["status"]) else 0
     with open(given["stdout"], "rb") as file:
@@ -118,7 +120,9 @@ def main(names):
                 print(text, flush=True)
     for it in out:
         print(f"left out: {it}")
-    print(f"{(time.monotonic() - begun) / 60:.1f} minutes on {jobs} processors")
+    used = resource.getrusage(resource.RUSAGE_CHILDREN)
+    print(f"{(time.monotonic() - begun) / 60:.1f} minutes on {jobs} processors, "
+          f"{(used.ru_utime + used.ru_stime) / 60:.1f} of processor time")
     print(f"{passed} passed, {failed} failed")
     return 1 if failed else 0
 

@@ -60,7 +60,7 @@ def pandoc(text, reader, *flags):
 
 def contents(body):
     """The headings of a long page, to be opened."""
-    found = re.findall(r'<h2 id="([^"]*)">(.*?)</h2>', body, flags=re.S)
+    found = re.findall(r'<h[23] id="([^"]*)">(.*?)</h[23]>', body, flags=re.S)
     items = "".join(f'<li><a href="#{name}">{re.sub("<.*?>", "", title)}</a></li>' for name, title in found)
     return f"<details><summary>On this page</summary><ul>{items}</ul></details>" if len(found) > 4 else ""
 
