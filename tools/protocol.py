@@ -1,11 +1,13 @@
 #!/usr/bin/env python3
 """Holds crates/wl_proto against tools/protocol.txt, the table of the protocols' messages: protocol.py [--write]
 
-1. The sources of wl_proto have each message as the table has it (protocol_sources.py makes that part of them).
+1. The sources of wl_proto have each message as the table has it (protocol_sources.py makes that part of them), in any
+   layout that `rt fmt` gives them.
 2. crates/test_base has a row of each message, whose words are those of its values by the table.
 3. The protocols' XML files that lie in the repository, that the gateway's build fetched or that packages have say the
    same: which messages there are in that version, their opcodes and the kinds of their arguments, as gateway/tables.py
    reads them.
+4. The globals are told in the table's version.
 
 Prints what differs, and ends with 1 if anything does. With --write it writes the sources of wl_proto first.
 """
@@ -26,6 +28,7 @@ import tables  # pylint: disable=wrong-import-position
 TABLE = "tools/protocol.txt"
 CRATE = "crates/wl_proto"
 TESTS = "crates/test_base/src/message_row_tests.rt"
+GLOBALS = "crates/relay_model/specs/Globals.antt"
 LETTERS = {"uint": "u", "int": "i", "object": "o", "new_id": "n", "text": "s", "text?": "S", "fd": "h"}
 LINE = re.compile(r"(?:(interface) (\w+) (\w+) (\d+)( partly)?|(request|event) (\d+) (\w+)((?: \w+:[\w?]+)*))"
                   r"(?: -- (.*))?")
@@ -98,6 +101,11 @@ def read_table():
     return table
 
 
+def tokens(text):
+    """The text without its layout."""
+    return re.findall(r"\w+|[^\w\s]", re.sub(r",(?=\s*[)\]}])", "", text))
+
+
 def sources(table, write):
     """A problem, or none, for each file of wl_proto that has messages."""
     for name, maker in protocol_sources.makers(read(f"{CRATE}/src/bodies.rt")).items():
@@ -108,13 +116,14 @@ def sources(table, write):
         except ValueError as error:
             yield f"{path}: {error}"
             continue
-        if made != stands and write:
+        same = made == stands or name.endswith(".rt") and tokens(made) == tokens(stands)
+        if not same and write:
             with open(f"{ROOT}/{path}", "w", encoding="utf-8") as file:
                 file.write(made)
             print(f"{path} is written")
         pairs = enumerate(zip(made.splitlines(), stands.splitlines()), 1)
         line = next((number for number, (one, other) in pairs if one != other), "end")
-        yield None if made == stands or write else f"{path}:{line}: {TABLE} has it otherwise"
+        yield None if same or write else f"{path}:{line}: {TABLE} has it otherwise"
 
 
 def words_of(message, values):
@@ -190,10 +199,18 @@ def published(table, missing):
             yield f"{file}: {own.protocol}: {'; '.join(problems)}" if problems else None
 
 
+def told(table):
+    """A problem, or none, for each interface's version: all globals are told in one."""
+    version = re.search(r"said\.Global offer\.0 offer\.1 (\d+)\)", read(GLOBALS))
+    for one in table.interfaces:
+        good = version and int(version[1]) == one.version
+        yield None if good else f"{GLOBALS}: {one.protocol} isn't told in version {one.version}"
+
+
 def problems_of(write=False):
     """A problem, or none, for each file, row and interface held against the table; interfaces without an XML file."""
     table, missing = read_table(), {}
-    return [*sources(table, write), *tested(table), *published(table, missing)], list(missing)
+    return [*sources(table, write), *tested(table), *published(table, missing), *told(table)], list(missing)
 
 
 def main():
