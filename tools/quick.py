@@ -61,9 +61,13 @@ def program(folder):
     """Whether a program writes what its crate says, with the arguments and the status that it says."""
     given = {name: f"{folder}/{name}" for name in ("args", "stdin", "stdout", "status")}
     words = read(given["args"]).split("\n") if os.path.exists(given["args"]) else []
+    command = ["rt", "try", "--seconds", str(SECONDS)]
     # (the gate runs it where the files of data/ lie)
-    words = [f"data/{it}" if it and os.path.exists(f"{folder}/data/{it}") else it for it in words]
-    command = ["rt", "try", "--seconds", str(SECONDS), *(["--", *[it for it in words if it]] if words else [])]
+    for path in sorted(glob.glob(f"{folder}/data/**", recursive=True)):
+        if os.path.isfile(path):
+            command += ["--data", f"{os.path.relpath(path, folder + '/data')}={os.path.relpath(path, folder)}"]
+    if words:
+        command += ["--", *[it for it in words if it]]
     status, said, wrong = run(command, folder, given["stdin"] if os.path.exists(given["stdin"]) else None)
     wanted = int(read(given["status"]).strip()) if os.path.exists(given["status"]) else 0
     with open(given["stdout"], "rb") as file:
