@@ -59,7 +59,7 @@ class Desk(Programs):
         limit = ["prlimit", f"--nofile={descriptors}:{descriptors}"] if descriptors else []
         self.gateways += 1
         if logs:
-            words += ("--log",)
+            words += ("--log", "--log-text")
         if records:
             for what, file in (("record", "session"), ("taken", "taken"), ("calls", "calls")):
                 words += ("--" + what, self.path(f"{file}.{self.gateways}"))

@@ -13,7 +13,8 @@
    at most so many words; none has a mark of an unfinished merge.
 4. Each crate of crates.txt stands in the row of its layer of docs/ARCHITECTURE.md, in this order, and on none that
    comes later.
-5. With a program: each line `$ COMMAND` in a block of README.md, docs/TOUR.md, docs/FORMATS.md and docs/AUDITING.md
+5. What tools/protocol.py says of the protocols' messages.
+6. With a program: each line `$ COMMAND` in a block of README.md, docs/TOUR.md, docs/FORMATS.md and docs/AUDITING.md
    ends well, and writes what stands below it, if anything does. Without one it says how many were not run.
 
 Prints what fails, and how many were looked at; ends with 1 if any failed.
@@ -24,6 +25,8 @@ import re
 import subprocess
 import sys
 import tempfile
+
+import protocol
 
 ROOT = os.path.abspath(os.path.join(os.path.dirname(os.path.abspath(__file__)), ".."))
 FUNCTION = re.compile(r"\bfn\s+(\w+)")
@@ -272,6 +275,10 @@ def main():
                "conformance/*.md"]
     documents = sorted(path for pattern in folders for path in sources(pattern))
     found = list(claims(documents)) + list(names(documents)) + list(counts(documents)) + list(layers())
+    messages, unpublished = protocol.problems_of()
+    found += messages
+    if unpublished:
+        print(f"no XML file is there of {', '.join(unpublished)}")
     if sys.argv[1:2] == ["--program"]:
         found += list(runs(sys.argv[2]))
     else:
