@@ -9,7 +9,7 @@ use Rattle.lines_explained.specs.Outcome.{outcome_of}
 use Rattle.broker_model.specs.declared.journal.Entry.{Entry}
 use Rattle.broker_model.specs.Resolve.{past_of, resolve}
 use Rattle.broker_model.specs.Out.{act_at, group_at, fits, before_group, out_for}
-use Rattle.broker_audience.specs.Lives.{Numbered}
+use Rattle.broker_core.specs.Lives.{Numbered}
 use Rattle.broker_core.specs.Stands.{numbered}
 use Rattle.lines_explained.specs.declared.explainer.Lines.{Lines}
 use Rattle.lines_explained.specs.Explained.{Begun, Explaining, fate_before, source_of, line_text}

@@ -7,7 +7,7 @@ ghost use Rattle.relay_core.specs.Stands.{StandsFor};
 ghost use Rattle.relay_reasons.specs.Seat.{seat};
 ghost use Rattle.broker_model.specs.declared.journal.Entry.{Entry};
 ghost use Rattle.broker_model.specs.Resolve.{resolve};
-ghost use Rattle.relay_objects.specs.Reached.{Reached};
+ghost use Rattle.broker_core.specs.Reached.{Reached};
 ghost use Rattle.broker_core.specs.Watched.{watched_since};
 ghost use Rattle.lines_explained.specs.Explained.{closed, blank, line_text, opened, IsEither};
 ghost use Rattle.lines_explained.specs.Explained.{begun_of, MayExplain};

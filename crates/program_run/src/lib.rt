@@ -27,3 +27,4 @@ mod writing;
 pub use laws::replay_law;
 pub use run::run_plain;
 pub use status::Status;
+pub use trial_script::{Ending, read_script};

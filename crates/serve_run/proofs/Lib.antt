@@ -18,3 +18,4 @@ pub mod ResultsInOrder
 pub mod RootKept
 pub mod StartsCounted
 pub mod StatusWritten
+pub use Rattle.hub_lock.proofs.HubCrosses

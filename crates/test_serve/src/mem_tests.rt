@@ -2,14 +2,13 @@
 use crate::board::Hold;
 use crate::equal::{equal, equal_at};
 use crate::server::{output_of, serve_mem, words};
-use serve_net::{Door, MemLink, MemNet};
+use serve_net::{Door, MemLink, MemNet, MemSink, MemSource};
 use serve_run::ServeStatus;
 use std::alloc::Global;
 use std::process::Abort;
 use std::sync::{Arc, Wait};
 use std::test::Fail;
 use std::thread::Threads;
-use wio_core::{MemSink, MemSource};
 
 /// A frame with one message, `get_registry`.
 const REGISTRY: [u8; 16] = [12, 0, 0, 0, 1, 0, 0, 0, 1, 0, 12, 0, 2, 0, 0, 0];

@@ -11,8 +11,7 @@ use std::sync::Wait;
 use std::test::Fail;
 use std::thread::Threads;
 use trial_client_logs::field_of;
-use trial_run::run_trial;
-use trial_threads::{ThreadTrial, ThreadTrialEnd, run_trial_threads};
+use trial_threads::{ThreadTrial, ThreadTrialEnd, run_trial, run_trial_threads};
 
 // The trial is played to its end.
 fn play<R: Threads + Wait + Sync>(

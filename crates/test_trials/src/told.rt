@@ -1,12 +1,11 @@
 //! What a field is told: by a log, and by a replay of the session that the log's trial made.
 use client_side::FieldClient;
-use hub_lock::Session;
 use program_run::run_plain;
-use serve_record::write_record;
+use serve_record::{MemSink, MemSource, write_record};
 use std::alloc::Global;
 use std::test::Fail;
 use trial_client_logs::{FieldEntry, FieldLog, hear_field};
-use wio_core::{MemSink, MemSource};
+use trial_threads::Session;
 
 /// The most bytes of a session and of its transcript.
 const ROOM: usize = 4_194_304;
