@@ -174,8 +174,23 @@ def disable_in_time():
     return session
 
 
+def without_effect():
+    """What is asked too early or out of range does nothing; what is asked rightly beside it does."""
+    session = Session()
+    session.join("app", *application())
+    session.join("method", *input_method())
+    session.say("unfocus")
+    session.send(1, enable())
+    session.say("focus 1 6", "focus 1 6")
+    session.send(1, enable(), cursor_rectangle(0, 0, -1, 20), cursor_rectangle(0, 0, 1, 20), commit())
+    session.send(2, commit_string("hi"), commit_batch(1), commit_batch(9))
+    session.say("key 100 30 1", "key 110 30 0", "take 1 100", "gone 2")
+    session.send(1, message(7, 99))
+    return session
+
+
 STORIES = [stale_serial, field_loses_the_seat, peer_that_stops_reading, preedit_and_deletion, keys_through_a_grab,
-           key_given_back, popup_at_the_edge, hostile_peer, disable_in_time]
+           key_given_back, popup_at_the_edge, hostile_peer, disable_in_time, without_effect]
 
 
 def read(path):

@@ -9,7 +9,6 @@ use Rattle.relay_model.specs.declared.said.Said.TheVariants as said
 use Rattle.relay_model.specs.Told.{told}
 use Rattle.relay_model.specs.Idle.{history}
 use Rattle.relay_reasons.specs.Seat.{seat}
-use Rattle.lines_explained.specs.Deed.{begun}
 use Rattle.broker_model.specs.declared.journal.Entry.{Entry}
 use Rattle.broker_model.specs.declared.journal.Entry.TheVariants as entries
 use Rattle.broker_model.specs.Ids.{Made}
@@ -21,7 +20,7 @@ use Rattle.broker_core.specs.Stands.{numbered}
 use Rattle.broker_core.specs.Watched.{Watched, shown, shown_by, group_put, out_put, told_of, watched, watched_since}
 use Rattle.broker_core.specs.Watched.Watched.{Entered, Placed, Passed, Modified, Put}
 use Rattle.lines_explained.specs.declared.explainer.Lines.{Lines}
-use Rattle.lines_explained.specs.Explained.{Begun, Explaining, closed, put_since, opened, explained, peers_after, source_of, fate_before, line_text}
+use Rattle.lines_explained.specs.Explained.{Begun, Explaining, closed, put_since, opened, explained, peers_after, source_of, first_words, fate_before, line_text}
 use Rattle.lines_explained.specs.Journals.{count_joined, is_put_for, is_put_among, was_put, entry_line, lines_since, at_rest}
 
 -- all that is watched, one thing after the other
@@ -178,7 +177,7 @@ finished which capacity e older text peers =
       text = text
           ++ line_text which (seat (history (resolve (e ∷ older))))
           (Some (record {
-            line = begun (length older + 1) (source_of e peers) (act_at e older);
+            line = first_words (length older + 1) (source_of e peers) (act_at e older) (resolve older);
             before = seat (history (resolve older));
             fate = fate_before (act_at e older) (resolve older);
             was_put = was_put capacity e older;
@@ -201,7 +200,7 @@ entry_more which capacity e older text x rest =
     let inner = told_puts capacity e older in
     let start : Explaining = opened n e act log (at_rest which older text) in
     let line : Begun = record {
-      line = begun n (source_of e (peers_after e (count_joined older))) act;
+      line = first_words n (source_of e (peers_after e (count_joined older))) act log;
       before = seat (history log);
       fate = fate_before act log;
       was_put = false;

@@ -1,8 +1,8 @@
 -- What an explainer holds, and what it makes of each thing that it watches.
-use Rattle.std.specs.Prelude.{◌≡◌, ◌⊎◌, ℕ, ◌+◌, ◌%◌, ◌^◌, List, [], ◌∷◌, ◌++◌, Bool, true, false, Option, Some, None}
+use Rattle.std.specs.Prelude.{◌≡◌, ◌⊎◌, ℕ, ◌+◌, ◌%◌, ◌^◌, List, [], ◌∷◌, ◌++◌, Bool, true, false, not, ◌&&◌, codes, Option, Some, None}
 use Rattle.relay_model.specs.declared.act.Act.{Act}
-use Rattle.relay_model.specs.declared.act.Act.TheVariants.{MCommit}
-use Rattle.relay_model.specs.Idle.{history}
+use Rattle.relay_model.specs.declared.act.Act.TheVariants.{MCommit, Took, Idle}
+use Rattle.relay_model.specs.Idle.{history, is_live}
 use Rattle.relay_reasons.specs.declared.seat.Seat.{Seat}
 use Rattle.relay_reasons.specs.declared.fate.BatchFate.{BatchFate}
 use Rattle.relay_reasons.specs.Seat.{seat}
@@ -26,6 +26,26 @@ use Rattle.lines_explained.specs.declared.open.Open.{Open}
 abbrev pub fate_before : Act → List Act → Option BatchFate
 fate_before (MCommit m serial) log = Some (fate (history log) m serial)
 fate_before _ log = None
+
+-- the act is one of the seat: taking bytes isn't, nor is what asks nothing of it
+abbrev pub is_of_seat : Act → Bool
+is_of_seat (Took p bytes) = false
+is_of_seat Idle = false
+is_of_seat _ = true
+
+-- the act is one of the seat, and does nothing after these acts
+abbrev pub lacks_effect : Act → List Act → Bool
+lacks_effect act log = is_of_seat act && not (is_live act (history log))
+
+-- that it does nothing, where it does
+abbrev pub effect_words : (lacks : Bool) → List ℕ
+effect_words true = codes ", without effect"
+effect_words false = []
+
+-- what is said of an act before it is taken, which comes after these acts: its number, whose it
+-- is, what it is, and whether it lacks effect
+abbrev pub first_words : ℕ → Source → Act → List Act → List ℕ
+first_words n source act log = begun n source act ++ effect_words (lacks_effect act log)
 
 -- what came of a batch, if there was one
 abbrev pub batch_words : Option BatchFate → Bool → List ℕ
@@ -126,7 +146,7 @@ opened n e act log x =
     let peers = peers_after e x.peers in
     record x {
       newest = Some (record {
-        line = begun n (source_of e peers) act;
+        line = first_words n (source_of e peers) act log;
         before = seat (history log);
         fate = fate_before act log;
         was_put = false;

@@ -3,7 +3,6 @@ use Rattle.std.specs.Prelude.{ℕ, ◌+◌, ◌%◌, ◌^◌, List, [], ◌∷�
 use Rattle.std.specs.Option.{option_map}
 use Rattle.relay_model.specs.Idle.{history}
 use Rattle.relay_reasons.specs.Seat.{seat}
-use Rattle.lines_explained.specs.Deed.{begun}
 use Rattle.lines_explained.specs.declared.outcome.Outcome.{Outcome}
 use Rattle.lines_explained.specs.Outcome.{outcome_of}
 use Rattle.broker_model.specs.declared.journal.Entry.{Entry}
@@ -12,7 +11,7 @@ use Rattle.broker_model.specs.Out.{act_at, group_at, fits, before_group, out_for
 use Rattle.broker_audience.specs.Lives.{Numbered}
 use Rattle.broker_core.specs.Stands.{numbered}
 use Rattle.lines_explained.specs.declared.explainer.Lines.{Lines}
-use Rattle.lines_explained.specs.Explained.{Begun, Explaining, fate_before, source_of, line_text}
+use Rattle.lines_explained.specs.Explained.{Begun, Explaining, fate_before, first_words, source_of, line_text}
 
 -- how many peers joined, modulo 2^32
 abbrev pub count_joined : List Entry → ℕ
@@ -48,7 +47,9 @@ outcome_at capacity e older =
 abbrev pub entry_begun : ℕ → Entry → List Entry → Begun
 entry_begun capacity e older =
     record {
-      line = begun (length older + 1) (source_of e (count_joined (e ∷ older))) (act_at e older);
+      line =
+          first_words (length older + 1) (source_of e (count_joined (e ∷ older))) (act_at e older)
+          (resolve older);
       before = seat (history (resolve older));
       fate = fate_before (act_at e older) (resolve older);
       was_put = was_put capacity e older;

@@ -14,8 +14,9 @@ ghost use Rattle.lines_explained.specs.Explained.{begun_of, MayExplain};
 ghost use Rattle.lines_explained.specs.Journals.{at_rest, lines_since};
 ghost use Rattle.lines_explained.specs.declared.explainer.Lines.{Lines};
 
-use crate::begin_line;
-use crate::open::{Open, add_end, fate_before, is_nobody, peers_after, put_since, source_of};
+use crate::open::{
+    Open, add_end, begin_act, fate_before, is_nobody, peers_after, put_since, source_of,
+};
 use broker_core::{Entry, Watch};
 use relay_core::Relay;
 use relay_model::{Act, Mods};
@@ -160,7 +161,13 @@ impl Explainer {
         let seat = seat_now(relay);
         self.finish(seat)?;
         self.peers = peers_after(entry, self.peers);
-        begin_line(&mut self.line, number, source_of(entry, self.peers), act)?;
+        begin_act(
+            &mut self.line,
+            number,
+            source_of(entry, self.peers),
+            act,
+            relay,
+        )?;
         self.newest = Some(Open {
             before: seat,
             fate: fate_before(relay, act),

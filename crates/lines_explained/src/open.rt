@@ -3,9 +3,11 @@ ghost use Rattle.std.specs.Prelude.{◌≡◌, ◌++◌, ℕ, List, OnOk, string
 ghost use Rattle.relay_model.specs.declared.act.Act.{Act};
 ghost use Rattle.relay_core.specs.Stands.{StandsFor};
 ghost use Rattle.lines_explained.specs.Explained.{fate_before, batch_words, end_words, is_nobody};
+ghost use Rattle.lines_explained.specs.Explained.{is_of_seat, lacks_effect, effect_words};
+ghost use Rattle.lines_explained.specs.Explained.{first_words};
 ghost use Rattle.lines_explained.specs.Explained.{begun_of, put_since, peers_after, source_of};
 
-use crate::{Outcome, Source, add_changes, add_outcome, outcome_of};
+use crate::{Outcome, Source, add_changes, add_outcome, begin_line, outcome_of};
 use broker_core::Entry;
 use relay_core::Relay;
 use relay_model::Act;
@@ -58,6 +60,47 @@ pub(crate) fn fate_before(relay: &Relay, act: &Act) -> Option<BatchFate>
         Act::MCommit { method, serial } => Some(batch_fate(relay, *method, *serial)),
         _ => None,
     }
+}
+
+fn is_of_seat(act: &Act) -> bool
+    ensures { result ≡ is_of_seat act.now }
+{
+    match act {
+        Act::Took { .. } => false,
+        Act::Idle => false,
+        _ => true,
+    }
+}
+
+// The act is one of the seat, and does nothing on the relay, which is about to take it.
+fn lacks_effect(relay: &Relay, act: &Act) -> bool
+    ensures { (log : List Act) → StandsFor relay.now log → result ≡ lacks_effect act.now log }
+{
+    is_of_seat(act) && !relay.is_live(act)
+}
+
+fn add_effect(line: &mut String, lacks: bool) -> Result<(), NoMemory>
+    ensures { OnOk result (string_bytes line.new ≡ string_bytes line.old ++ effect_words lacks) }
+{
+    if lacks {
+        line.push_str(", without effect")?;
+    }
+    Ok(())
+}
+
+/// Begins the line of an act that the relay is about to take.
+pub(crate) fn begin_act(
+    line: &mut String,
+    number: u32,
+    source: Source,
+    act: &Act,
+    relay: &Relay,
+) -> Result<(), NoMemory>
+    ensures { (log : List Act) → StandsFor relay.now log →
+        OnOk result (string_bytes line.new ≡ first_words number source act.now log) }
+{
+    begin_line(line, number, source, act)?;
+    add_effect(line, lacks_effect(relay, act))
 }
 
 /// The newest entry, of which a group was put.
