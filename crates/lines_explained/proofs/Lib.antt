@@ -3,3 +3,5 @@ pub mod LinesSince
 pub mod ExplainersReached
 pub mod OutcomesGiven
 pub mod OwnGroupPut
+pub mod KeysSent
+pub mod LacksHold
