@@ -5,3 +5,4 @@ pub mod OutcomesGiven
 pub mod OwnGroupPut
 pub mod KeysSent
 pub mod LacksHold
+pub mod ArgumentsNamed

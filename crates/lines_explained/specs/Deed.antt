@@ -27,6 +27,13 @@ end_words causes.Gone = codes "ends, its link ended"
 end_words causes.Bad = codes "ends, a message of it was refused"
 end_words causes.Full = codes "ends, a group did not fit its store"
 
+-- a request of the opcode has one argument that is an object: get_input_popup_surface (4) a surface,
+-- the others a seat
+abbrev pub argument_rule : (opcode : ℕ) → List ℕ
+argument_rule opcode =
+    (if opcode == 4 then codes ": its surface is 0, not live or of another interface"
+    else codes ": its seat is 0, not live or of another interface")
+
 -- the rule that a refused message breaks
 abbrev pub rule_of : Fault → List ℕ
 rule_of faults.Size = codes ": a message has 8 to 4096 bytes, a multiple of 4"
@@ -50,9 +57,30 @@ message_words (sources.Head q id opcode size) =
 message_words (sources.Peer q) = codes "a message is refused: "
 message_words sources.Shell = codes "a message is refused: "
 
+-- the same of a message with the opcode
+abbrev pub rule_by : ℕ → Fault → List ℕ
+rule_by opcode faults.Argument = argument_rule opcode
+rule_by opcode fault = rule_of fault
+
+-- and of whose it is
+abbrev pub rule_for : Source → Fault → List ℕ
+rule_for (sources.Object q id opcode) fault = rule_by opcode fault
+rule_for (sources.Head q id opcode size) fault = rule_of fault
+rule_for (sources.Peer q) fault = rule_of fault
+rule_for sources.Shell fault = rule_of fault
+
 -- which message is refused and why, in the words that its sender is told, and the rule
 abbrev pub refusal_words : Source → Fault → List ℕ
-refusal_words source fault = message_words source ++ (text_of fault ++ rule_of fault)
+refusal_words source fault = message_words source ++ (text_of fault ++ rule_for source fault)
+
+-- what asks nothing of the seat: descriptors that a peer sends ahead, a request that has no part
+-- here, and a moment
+abbrev pub idle_words : Source → List ℕ
+idle_words (sources.Peer q) = codes "descriptors come"
+idle_words (sources.Object q id opcode) =
+    phrase (codes "message") (Some opcode) (codes " asks nothing") None
+idle_words (sources.Head q id opcode size) = codes "nothing"
+idle_words sources.Shell = codes "nothing"
 
 -- what a peer does that makes no object of the relay
 abbrev pub peer_words : Source → Act → List ℕ
@@ -64,7 +92,7 @@ peer_words source (acts.Seat p) = codes "binds the seat"
 peer_words source (acts.Thing p) = codes "binds a global"
 peer_words source (acts.Bad p fault x) = refusal_words source fault
 peer_words source (acts.Took p bytes) = phrase (codes "takes") (Some bytes) (codes " bytes") None
-peer_words source acts.Idle = codes "nothing"
+peer_words source acts.Idle = idle_words source
 peer_words source _ = []
 
 -- what is made or destroyed: an object is named by the number of the act that made it

@@ -1,11 +1,16 @@
 -- What holds of what is said of keys, and of acts without effect.
-use Rattle.std.specs.Prelude.{◌≡◌, ◌⊎◌, ℕ, List, Bool, true, false, Option, Some, None}
+use Rattle.std.specs.Prelude.{◌≡◌, ◌⊎◌, ℕ, List, [], ◌∷◌, Bool, true, false, ◌==◌, if◌then◌else◌, Option, Some, None, is_some}
 use Rattle.std.specs.Option.{option_map}
 use Rattle.relay_model.specs.declared.act.Act.{Act}
 use Rattle.relay_model.specs.declared.act.Act.TheVariants as acts
 use Rattle.relay_model.specs.Keys.{Goes, ToGrab, ToShell, Nowhere, Refused, standing, grab_stands, is_press, is_down, first_went, key_route}
 use Rattle.relay_model.specs.Boards.{board_route}
 use Rattle.relay_model.specs.Idle.{history, is_live}
+use Rattle.wl_proto.specs.declared.interface.Interface.{Interface}
+use Rattle.wl_proto.specs.declared.interface.Interface.TheVariants as interface
+use Rattle.wl_proto.specs.Grammar.{Value}
+use Rattle.wl_proto.specs.Rows.{request_kinds}
+use Rattle.broker_model.specs.Requests.{Argument, arguments_of}
 use Rattle.broker_model.specs.declared.journal.Entry.{Entry}
 use Rattle.broker_model.specs.Resolve.{resolve}
 use Rattle.broker_model.specs.Out.{act_at}
@@ -67,6 +72,21 @@ abbrev pub NowhereHasFallen : Type 0
 NowhereHasFallen =
     (log : List Act) (key state : ℕ) → key_route log key state ≡ Nowhere →
     (g : ℕ) × (first_went log key ≡ Some g) × (grab_stands log g ≡ false)
+
+-- the interface of an object argument of a request with the opcode
+abbrev pub interface_named : (opcode : ℕ) → Interface
+interface_named opcode = (if opcode == 4 then interface.Surface else interface.Seat)
+
+-- each of these arguments is an object of that interface
+abbrev pub AllNamed : (opcode : ℕ) → List Argument → Type 0
+AllNamed opcode [] = Unit {0}
+AllNamed opcode (a ∷ rest) = (a.interface ≡ interface_named opcode) × AllNamed opcode rest
+
+-- each object argument of a request that is read is a surface where its opcode is 4, else a seat
+abbrev pub ArgumentsNamed : Type 0
+ArgumentsNamed =
+    (i : Interface) (opcode : ℕ) (vs : List Value) → is_some (request_kinds i opcode) ≡ true →
+    AllNamed opcode (arguments_of i opcode vs)
 
 -- the reason that is given of an act without effect holds
 abbrev pub LacksHold : Type 0

@@ -1,7 +1,8 @@
 //! What an act is: how a line begins.
 ghost use Rattle.std.specs.Prelude.{◌≡◌, ◌++◌, Some, None, OnOk, string_bytes};
 ghost use Rattle.lines_explained.specs.Deed.{source_words, end_words, rule_of, message_words};
-ghost use Rattle.lines_explained.specs.Deed.{refusal_words, peer_words};
+ghost use Rattle.lines_explained.specs.Deed.{argument_rule, rule_by, rule_for, refusal_words};
+ghost use Rattle.lines_explained.specs.Deed.{idle_words, peer_words};
 ghost use Rattle.lines_explained.specs.Deed.{object_words, shell_words, key_words, field_words, method_words};
 ghost use Rattle.lines_explained.specs.Deed.{deed, begun};
 ghost use Rattle.lines_explained.specs.Phrase.{phrase};
@@ -98,6 +99,37 @@ fn rule_of(fault: Fault) -> &'static str
     }
 }
 
+// An object argument, by the opcode of its request.
+fn argument_rule(opcode: u16) -> &'static str
+    ensures { result.now ≡ argument_rule opcode }
+{
+    if opcode == 4 {
+        ": its surface is 0, not live or of another interface"
+    } else {
+        ": its seat is 0, not live or of another interface"
+    }
+}
+
+fn rule_by(opcode: u16, fault: Fault) -> &'static str
+    ensures { result.now ≡ rule_by opcode fault }
+{
+    match fault {
+        Fault::Argument => argument_rule(opcode),
+        _ => rule_of(fault),
+    }
+}
+
+fn rule_for(source: Source, fault: Fault) -> &'static str
+    ensures { result.now ≡ rule_for source fault }
+{
+    match source {
+        Source::Object { opcode, .. } => rule_by(opcode, fault),
+        Source::Head { .. } => rule_of(fault),
+        Source::Peer(_) => rule_of(fault),
+        Source::Shell => rule_of(fault),
+    }
+}
+
 // Which message it was, as far as its header tells.
 fn add_message(line: &mut String, source: Source) -> Result<(), NoMemory>
     ensures { OnOk result (string_bytes line.new ≡ string_bytes line.old ++ message_words source) }
@@ -128,7 +160,21 @@ fn add_refusal(line: &mut String, source: Source, fault: Fault) -> Result<(), No
 {
     add_message(line, source)?;
     add_words(line, fault.text())?;
-    add_words(line, rule_of(fault))
+    add_words(line, rule_for(source, fault))
+}
+
+// What asks nothing of the seat.
+fn add_idle(line: &mut String, source: Source) -> Result<(), NoMemory>
+    ensures { OnOk result (string_bytes line.new ≡ string_bytes line.old ++ idle_words source) }
+{
+    match source {
+        Source::Peer(_) => add_words(line, "descriptors come"),
+        Source::Object { opcode, .. } => {
+            add_about(line, "message", opcode as u32, " asks nothing")
+        }
+        Source::Head { .. } => add_words(line, "nothing"),
+        Source::Shell => add_words(line, "nothing"),
+    }
 }
 
 fn add_of_peer(line: &mut String, source: Source, act: &Act) -> Result<(), NoMemory>
@@ -144,7 +190,7 @@ fn add_of_peer(line: &mut String, source: Source, act: &Act) -> Result<(), NoMem
         Act::Thing { .. } => add_words(line, "binds a global"),
         Act::Bad { fault, .. } => add_refusal(line, source, *fault),
         Act::Took { bytes, .. } => add_about(line, "takes", *bytes, " bytes"),
-        Act::Idle => add_words(line, "nothing"),
+        Act::Idle => add_idle(line, source),
         _ => Ok(()),
     }
 }

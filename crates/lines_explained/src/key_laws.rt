@@ -1,7 +1,7 @@
 //! What holds of what is said of keys, and of acts without effect, by the definitions alone. The
 //! bodies do nothing: the laws are the contracts.
 ghost use Rattle.lines_explained.specs.KeyLaws.{KeysRouted, BoardKeysRouted, PastHasNoPress};
-ghost use Rattle.lines_explained.specs.KeyLaws.{NowhereHasFallen, LacksHold};
+ghost use Rattle.lines_explained.specs.KeyLaws.{NowhereHasFallen, LacksHold, ArgumentsNamed};
 
 /// A key that isn't refused is said to go where its route leads, to a grab only where the group that
 /// tells it was put. It passes by a grab that stands only where that did not get its press, and goes
@@ -17,4 +17,10 @@ pub fn key_law()
 #[tactic(auto, using(crate::proofs::LacksHold::lacks_hold))]
 pub fn lack_law()
     ensures { LacksHold }
+{}
+
+/// The one object argument of a request is a surface where the request's opcode is 4, else a seat.
+#[tactic(auto, using(crate::proofs::ArgumentsNamed::arguments_named))]
+pub fn argument_law()
+    ensures { ArgumentsNamed }
 {}

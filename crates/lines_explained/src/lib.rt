@@ -18,7 +18,7 @@ mod reason_laws;
 pub use changes::{Course, add_changes, course_of};
 pub use deed::{Source, begin_line};
 pub use explainer::{Explainer, Lines};
-pub use key_laws::{key_law, lack_law};
+pub use key_laws::{argument_law, key_law, lack_law};
 pub use key_way::{KeySent, KeyWay, way_of};
 pub use lack::Lack;
 pub use laws::course_law;
