@@ -1,12 +1,12 @@
 -- Which argument of a request is an object.
-use Rattle.std.proofs.Common.{◌≡◌, ℕ, List, [], ◌∷◌, Bool, true, false, ap, refl, sym, ◌∙◌}
+use Rattle.std.proofs.Common.{◌≡◌, ℕ, [], ◌∷◌, Bool, true, false, ap, refl, sym, ◌∙◌}
 use Rattle.std.specs.Prelude.{◌==◌, if◌then◌else◌, is_some}
 use Rattle.std.proofs.lemmas.Bool.{eqb-true, true≢false}
 use Rattle.wl_proto.specs.declared.interface.Interface.{Interface}
 use Rattle.wl_proto.specs.declared.interface.Interface.TheVariants as interface
-use Rattle.wl_proto.specs.Grammar.{Value, word}
+use Rattle.wl_proto.specs.Grammar.{word}
 use Rattle.wl_proto.specs.Rows.{request_kinds}
-use Rattle.broker_model.specs.Requests.{Argument, argument, arguments_of}
+use Rattle.broker_model.specs.Requests.{argument}
 use Rattle.lines_explained.specs.KeyLaws.{interface_named, AllNamed, ArgumentsNamed}
 
 -- a seat, where there is no request of the opcode 4

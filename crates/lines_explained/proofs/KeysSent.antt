@@ -26,9 +26,9 @@ use Rattle.broker_core.specs.Stands.{numbered}
 use Rattle.lines_explained.specs.declared.key_way.KeySent.{KeySent}
 use Rattle.lines_explained.specs.declared.key_way.KeyWay.{KeyWay}
 use Rattle.lines_explained.specs.declared.key_way.KeyWay.TheVariants as ways
-use Rattle.lines_explained.specs.KeyWay.{sent_where, key_before, way_past, way_in, way_of}
+use Rattle.lines_explained.specs.KeyWay.{sent_where, key_before, way_in, way_of}
 use Rattle.lines_explained.specs.Journals.{is_put_for, is_put_among, was_put, has_pass, was_passed}
-use Rattle.lines_explained.specs.KeyLaws.{way_by, KeysRouted, BoardKeysRouted, HasNoPress, PastHasNoPress, NowhereHasFallen}
+use Rattle.lines_explained.specs.KeyLaws.{way_by, KeysRouted, BoardKeysRouted, PastHasNoPress, NowhereHasFallen}
 
 -- where nothing is told no group is put
 
