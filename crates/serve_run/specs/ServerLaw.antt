@@ -30,6 +30,7 @@ pub record Sides : Type 0 where
   pub opened : Door → Bool
   pub listens : List (Door × ℕ)
   pub links : List Door
+  pub hung_up : ℕ
   pub net_faults : ℕ
   pub started : List Tag
   pub reports : List Report
@@ -38,13 +39,15 @@ pub record Sides : Type 0 where
   pub held : Option (List ℕ)
   pub output_faults : ℕ
 
-abbrev pub sides : (Door → Bool) → List (Door × ℕ) → List Door → ℕ → List Tag → List Report → ℕ →
-    ℕ → Option (List ℕ) → ℕ → Sides
-sides opened listens links net_faults started reports before_start refusals held output_faults =
+abbrev pub sides : (Door → Bool) → List (Door × ℕ) → List Door → ℕ → ℕ → List Tag → List Report →
+    ℕ → ℕ → Option (List ℕ) → ℕ → Sides
+sides opened listens links hung_up net_faults started reports before_start refusals held
+    output_faults =
     record {
       opened = opened;
       listens = listens;
       links = links;
+      hung_up = hung_up;
       net_faults = net_faults;
       started = started;
       reports = reports;
@@ -90,6 +93,8 @@ pub record ServerLaw (asked : Serving) (before after : Sides) (status : ServeSta
   pub accepted : ℕ
   pub within : accepted ≤ length asked.order
   pub doors : after.links ≡ before.links ++ take accepted (doors_of asked.order)
+  -- each was hung up, where the record couldn't be written too
+  pub hung_up : after.hung_up ≡ length after.links
   -- each was joined, or all but the last; the root's steps are the joins of these, in order, there
   -- are no other joins, and each other step is of the pass of a job of these links
   pub joined : ℕ

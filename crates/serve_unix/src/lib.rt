@@ -3,6 +3,7 @@
 
 mod door_lock;
 mod job_thread;
+mod link_ends;
 mod open_door;
 mod outcome;
 mod thread_spawner;

@@ -75,7 +75,7 @@ static ROWS: [Row; 10] = [
     },
     // an accept that fails: the links before it are served, and the session is written
     Row {
-        line: "serve --app a --method m --shell s --order sss --entries 99",
+        line: "serve --app a --method m --shell s --order sss --entries 99 --wait 60",
         links: "sss",
         fails: [&[2], &[], &[]],
         hold: Hold::Nobody,
@@ -135,7 +135,7 @@ static ROWS: [Row; 10] = [
 ];
 
 /// Words that are in no grammar: nothing is done.
-static BAD_WORDS: [&str; 12] = [
+static BAD_WORDS: [&str; 13] = [
     "serve",
     "replay",
     "serve --app a --app b --method m --shell s --order a",
@@ -144,6 +144,7 @@ static BAD_WORDS: [&str; 12] = [
     "serve --app a --method m --shell s --order a --entries 0",
     "serve --app a --method m --shell s --order a --entries 4000001",
     "serve --app a --method m --shell s --order a --store 01",
+    "serve --app a --method m --shell s --order a --wait 0",
     "serve --app -a --method m --shell s --order a",
     "serve --app=a --method m --shell s --order a",
     "serve --app a --method m --shell s --order a --help",
