@@ -102,8 +102,7 @@ static void event_play(struct client *client, struct message *message, const uin
 		client_end(client, message->texts[2]);
 	if (given)
 		return wire_send(&client->near, message->bytes, message->size, tokens, message->descriptors);
-	for (unsigned at = 0; at < message->descriptors; at++)
-		token_drop(tokens[at]);
+	tokens_drop(tokens, message->descriptors);
 }
 
 /* Whether the message waits for what the shell is asked now: a keymap's text, or what the last focus was told. */
@@ -151,8 +150,7 @@ static void play_event(struct client *client, struct message *message, const cha
 		return event_play(client, message, tokens);
 	if (!popups_hide(object_at(client, message->object), message, named == NAMED_PRIVATE))
 		return event_play(client, message, tokens);
-	for (unsigned at = 0; at < message->descriptors; at++)
-		token_drop(tokens[at]);
+	tokens_drop(tokens, message->descriptors);
 }
 
 /* False: the message waits. */

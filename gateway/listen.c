@@ -15,7 +15,7 @@ enum { FIRST_GIVEN = 3 /* the descriptor of the first socket that systemd opened
 static bool name_address(const char *name, struct sockaddr_un *address) {
 	const char *folder = strchr(name, '/') ? NULL : getenv("XDG_RUNTIME_DIR");
 	size_t room = sizeof address->sun_path;
-	address->sun_family = AF_UNIX;
+	*address = (struct sockaddr_un){ .sun_family = AF_UNIX };
 	if (!folder && !strchr(name, '/'))
 		return say("XDG_RUNTIME_DIR isn't set"), errno = ENOENT, false;
 	bool fits = (size_t)snprintf(address->sun_path, room, "%s%s%s", folder ? folder : "", folder ? "/" : "", name) < room;

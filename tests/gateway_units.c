@@ -18,7 +18,7 @@ static int failed;
 static bool reads(uint8_t *bytes, const char *kinds, struct message *message)
 {
 	static struct signature signature;
-	signature = (struct signature){ "test", kinds, -1, NULL };
+	signature = (struct signature){ .name = "test", .kinds = kinds, .new_id = -1 };
 	return message_front(bytes, 65532, message) == FRONT_WHOLE && message_read(message, &signature);
 }
 
