@@ -249,7 +249,8 @@ int main(int count, char **words)
 	for (unsigned long round = 0; round < rounds && !failed; round++) {
 		unsigned at = random_below(CLIENTS);
 		now += random_below(3000);
-		play(&users[at].place, random_below(3) > 0);
+		if (users[at].place.link > 0) /* it may have ended while another began */
+			play(&users[at].place, random_below(3) > 0);
 		stir(round, &shown);
 		finish_round();
 		for (unsigned each = 0; each < CLIENTS; each++)

@@ -209,16 +209,22 @@ static inline void finish_round(void)
 	come_by();
 }
 
+static inline void close_side(struct place *place, enum side side)
+{
+	if (place->sockets[side] >= 0)
+		close(place->sockets[side]);
+	place->sockets[side] = -1;
+}
+
 static inline void close_client(struct place *place)
 {
-	close(place->sockets[NEAR]);
-	place->sockets[NEAR] = -1;
+	close_side(place, NEAR);
 	for (int tries = 0; tries < TRIES && place->link > 0; tries++) {
 		now += 100000;
 		take_turn();
 	}
 	needs(place->link == 0, "the end of who has gone");
-	close(place->sockets[FAR]);
+	close_side(place, FAR);
 	for (unsigned at = 0; at < OPEN_MAX; at++)
 		if (open_places[at] == place)
 			open_places[at] = NULL;

@@ -74,7 +74,7 @@ static void drafts(void)
 	text[sizeof text - 1] = 0;
 	made = draft(1, 0, "uus", 1, 2, text);
 	copy = *made;
-	HOLDS(made->size < 1000 && message_read(&copy, &wl_display_events[wl_display_event_error]));
+	HOLDS(made->size < 4200 && message_read(&copy, &wl_display_events[wl_display_event_error]));
 }
 
 static void tables(void)
