@@ -4,7 +4,7 @@
 # packaging/libwlim.abi, which has its soname and the version of each symbol.
 set -e
 cd "$(dirname "$0")/.."
-made=crates/c_library/out/libwlim_c.a
+made=crates/c_library/out/libc_library.a
 heap="$(dirname "$(rt doc)")/c/liblibc_c.a"
 to=out/libwlim
 rm -rf "$to" && mkdir -p "$to/lib/pkgconfig" "$to/include" "$to/parts"
