@@ -114,7 +114,7 @@ pub record ServerLaw (asked : Serving) (before after : Sides) (status : ServeSta
   pub before_last : passes_of (take (joined - 1) asked.order) ≤ served
   pub laws : HaveLaws asked.limits history given
   -- some lack only where memory or a thread did, and no join was refused; of those a reader's pass
-  -- says that its link is gone, so that its peer has its end, and no other anything
+  -- says that its link is gone, and nothing else, and no other pass says anything
   pub lacks : (served ≡ passes_of (take joined asked.order))
       ⊎ (IfErr stop MayLack × (joined ≡ accepted))
   pub unserved : AreUnserved asked.limits history
