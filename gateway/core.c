@@ -127,6 +127,8 @@ void core_receive(uint64_t moment, unsigned link, enum side side, const uint8_t 
 	if (lost)
 		budgets_short(); /* before who sent it */
 	if (client && !client->ending) {
+		if (side == NEAR)
+			budget_came(client, size);
 		if (!wire_keep(wire_of(client, side), bytes, size, tokens, count))
 			client_refuse(client, DISPLAY, ERROR_METHOD, lost ? "there is no room for its descriptors"
 				: "too many descriptors wait for their messages");
@@ -177,6 +179,7 @@ void core_copied(uint64_t moment, uint32_t token, bool is_whole, bool is_short) 
 void core_round(uint64_t moment) {
 	at(moment, 0);
 	CALLED("%" PRIu64 " round", gateway.moment);
+	budgets_round();
 	if (broker_renewal() == 0)
 		renew();
 	popups_round();
