@@ -162,22 +162,12 @@ int64_t broker_done(int64_t answer) {
 	return answer;
 }
 
-/* The client isn't at the broker: the message is lost, but where it ends an object that is told. */
-static void lose(struct client *client, const struct message *message) {
-	const struct object *object = object_live(client, message->object);
-	const char *name = message->signature ? message->signature->name : "";
-	if (!object || !object->is_ours || (strcmp(name, "destroy") != 0 && strcmp(name, "release") != 0))
-		return;
-	object_free(client, message->object);
-	client_send(client, draft(DISPLAY, wl_display_event_delete_id, "u", message->object));
-}
-
 void broker_receive(struct client *client, const struct message *message, uint32_t token) {
 	uint32_t surface;
 	if (!gateway.renews)
 		budget_spend(client, AT_BROKER, message->size);
 	if (!broker->live || client->peer == 0)
-		return lose(client, message);
+		return request_lose(client, message);
 	self.is_idle = client->serves == 0 && keyboard_focus(&surface) != client;
 	int64_t answer = wlim_broker_receive(broker, gateway.moment, client->peer, message->bytes, message->size, &token,
 		token > 0);
@@ -187,7 +177,7 @@ void broker_receive(struct client *client, const struct message *message, uint32
 		broker_record(answer, "bytes %u %s", client->peer,
 			spell(message->bytes + at, message->size - at < PIECE ? message->size - at : PIECE));
 	if (answer == WLIM_NO_MEMORY || answer == WLIM_FULL)
-		miss(client), lose(client, message);
+		miss(client), request_lose(client, message);
 	else if (answer < WLIM_GIVEN)
 		client_refuse(client, DISPLAY, ERROR_MEMORY, "the broker can't take its message");
 	broker_done(answer);

@@ -1,7 +1,6 @@
 /* How the gateway stands, for `wlim-gateway --check`: a running one tells, and the compositor offers its globals. */
 #include "gateway.h"
 #include "shell.h"
-#include <ctype.h>
 #include <fcntl.h>
 #include <stdio.h>
 #include <stdlib.h>
@@ -14,37 +13,17 @@ enum { REGISTRY = 2, CALLBACK, ANSWER_MAX = 262144, PATIENCE = 5 /* seconds */ }
 
 static const char serves[] = "an input method serves\n", serves_not[] = "no input method serves\n";
 
-/* The process at the other end of a client's socket. */
-static void print_process(FILE *to, int file) {
-	struct ucred user = { 0 };
-	socklen_t size = sizeof user;
-	char path[40], command[64] = "";
-	getsockopt(file, SOL_SOCKET, SO_PEERCRED, &user, &size);
-	snprintf(path, sizeof path, "/proc/%d/comm", user.pid);
-	FILE *from = fopen(path, "re");
-	if (from && !fgets(command, sizeof command, from))
-		command[0] = 0;
-	if (from)
-		fclose(from);
-	command[strcspn(command, "\n")] = 0;
-	for (char *at = command; *at; at++)
-		*at = iscntrl((unsigned char)*at) ? '?' : *at;
-	fprintf(to, ": process %d, %s\n", user.pid, command);
-}
-
-void check_answer(int file, unsigned highest, const char *compositor) {
+void check_answer(int file, const char *compositor) {
 	char *text = NULL;
 	size_t size;
 	FILE *to = open_memstream(&text, &size);
 	if (!to)
 		return;
 	fprintf(to, "%s\nthe gateway: process %d\n", compositor, getpid());
-	for (unsigned link = 1; link <= highest; link++) {
+	for (unsigned link = 1; link <= LINKS_MAX; link++) {
 		const char *state = core_state(link);
-		if (!state)
-			continue;
-		fprintf(to, "%s", state);
-		print_process(to, link_socket(link, NEAR));
+		if (state)
+			fprintf(to, "%s\n", state);
 	}
 	fputs(core_serves() ? serves : serves_not, to);
 	if (fclose(to) == 0)
@@ -72,27 +51,34 @@ static void print_global(const char *name, uint32_t version) {
 		printf("    programs see version %u\n", offered);
 }
 
+/* Prints the globals that the compositor told from there on. Whether it told all. */
+static bool print_told(uint8_t *bytes, size_t size, size_t *at) {
+	struct message message;
+	while (message_front(bytes + *at, size - *at, &message) == FRONT_WHOLE) {
+		*at += message.size;
+		if (message.object == CALLBACK)
+			return true;
+		if (message.object == REGISTRY && message_read(&message, &wl_registry_events[wl_registry_event_global]))
+			print_global(message.texts[1], message.numbers[2]);
+	}
+	return false;
+}
+
 /* Prints the compositor's globals. False: it doesn't answer. */
 static bool print_globals(const char *name) {
 	static uint8_t bytes[ANSWER_MAX];
-	const struct message *request = draft(DISPLAY, wl_display_request_get_registry, "u", REGISTRY);
-	struct message message = { 0 };
+	const uint32_t asks[] = { DISPLAY, 12 << 16 | wl_display_request_get_registry, REGISTRY,
+		DISPLAY, 12 << 16 | wl_display_request_sync, CALLBACK };
 	int file = connect_patiently(name);
-	bool ends = file < 0 || send(file, request->bytes, request->size, MSG_NOSIGNAL) < 0;
-	request = draft(DISPLAY, wl_display_request_sync, "u", CALLBACK);
-	ends |= file >= 0 && send(file, request->bytes, request->size, MSG_NOSIGNAL) < 0;
+	bool whole = false, goes_on = file >= 0 && send(file, asks, sizeof asks, MSG_NOSIGNAL) == sizeof asks;
 	size_t size = 0, at = 0;
-	for (ssize_t came = 0; !ends && (came = read(file, bytes + size, sizeof bytes - size)) > 0; ) {
+	for (ssize_t came; goes_on && !whole && (came = read(file, bytes + size, sizeof bytes - size)) > 0; ) {
 		size += (size_t)came;
-		for (; !ends && message_front(bytes + at, size - at, &message) == FRONT_WHOLE; at += message.size) {
-			ends = message.object == CALLBACK;
-			if (message.object == REGISTRY && message_read(&message, &wl_registry_events[wl_registry_event_global]))
-				print_global(message.texts[1], message.numbers[2]);
-		}
+		whole = print_told(bytes, size, &at);
 	}
 	if (file >= 0)
 		close(file);
-	return message.object == CALLBACK;
+	return whole;
 }
 
 bool check(const char *socket, const char *compositor) {

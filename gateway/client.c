@@ -79,31 +79,27 @@ static bool end_id(struct client *client, struct message *message) {
 }
 
 /* What a message of the compositor does, and whether the client gets it. */
-static void event_play(struct client *client, struct message *message, const uint32_t *tokens) {
+static bool event_play(struct client *client, struct message *message) {
 	const struct signature *signature = message->signature;
 	const struct object *object = object_at(client, message->object);
-	bool given = true;
 	if (signature->new_id >= 0 && (!signature->made
 			|| !object_make(client, message->numbers[signature->new_id], signature->made, true)))
 		client_refuse(client, DISPLAY, ERROR_COMPOSITOR, "the compositor's new id is none");
 	if (object->interface == &wl_keyboard_table && object->of_seat)
-		given = keyboard_event(client, message);
-	else if (object->interface == &xdg_popup_table)
+		return keyboard_event(client, message);
+	if (object->interface == &xdg_popup_table)
 		surface_event(client, object_at(client, message->object), message);
 	else if (IS(message, wl_seat, event, capabilities) && object->of_seat && !(message->numbers[0] & CAPABILITY_KEYBOARD))
 		keyboard_leave(client, 0); /* its keyboards are told nothing more */
 	else if (IS(message, wl_registry, event, global))
-		given = globals_add(client, message);
+		return globals_add(client, message);
 	else if (IS(message, wl_registry, event, global_remove))
 		globals_remove(client, message->numbers[0]);
 	else if (IS(message, wl_display, event, delete_id))
-		given = end_id(client, message);
+		return end_id(client, message);
 	else if (IS(message, wl_display, event, error))
 		client_end(client, message->texts[2]);
-	if (given)
-		return wire_send(&client->near, message->bytes, message->size, tokens, message->descriptors);
-	for (unsigned at = 0; at < message->descriptors; at++)
-		token_drop(tokens[at]);
+	return true;
 }
 
 /* Whether the message waits for what the shell is asked now: a keymap's text, or what the last focus was told. */
@@ -147,12 +143,12 @@ static void play_event(struct client *client, struct message *message, const cha
 		why = no_descriptor;
 	if (why)
 		return client_refuse(client, DISPLAY, ERROR_COMPOSITOR, why);
-	if (client->own_pointer == 0 && client->own_touch == 0 && named == NAMED_OBJECTS)
-		return event_play(client, message, tokens);
-	if (!popups_hide(object_at(client, message->object), message, named == NAMED_PRIVATE))
-		return event_play(client, message, tokens);
-	for (unsigned at = 0; at < message->descriptors; at++)
-		token_drop(tokens[at]);
+	bool may_hide = client->own_pointer > 0 || client->own_touch > 0 || named == NAMED_PRIVATE;
+	bool hides = may_hide && popups_hide(object_at(client, message->object), message, named == NAMED_PRIVATE);
+	if (!hides && event_play(client, message))
+		wire_send(&client->near, message->bytes, message->size, tokens, message->descriptors);
+	else
+		tokens_drop(tokens, message->descriptors);
 }
 
 /* False: the message waits. */

@@ -16,8 +16,16 @@ static struct {
 	unsigned first, count;
 } core;
 
-/* A line of the calls. */
+static void set_moment(uint64_t moment) {
+	if (core.count == 0) /* the shell has made what it was asked for */
+		keymaps_sweep(false);
+	gateway.moment = moment > gateway.moment ? moment : gateway.moment;
+}
+
+/* A line of the calls; of one that comes at a moment. */
 #define CALLED(format, ...) (void)(outlets[OUT_CALLS] && (out(OUT_CALLS, format "\n", ##__VA_ARGS__), 1))
+#define CALLED_AT(when, format, ...) \
+	(set_moment(when), CALLED("%" PRIu64 " " format, gateway.moment, ##__VA_ARGS__))
 
 static void called_with(const char *call, unsigned link, enum side side, const uint8_t *bytes, size_t size,
 	const uint32_t *tokens, size_t count) {
@@ -31,14 +39,6 @@ static void called_with(const char *call, unsigned link, enum side side, const u
 	for (size_t at = 0; at < count; at++)
 		out(OUT_CALLS, " %u", tokens[at]);
 	out(OUT_CALLS, "\n");
-}
-
-/* The client of a link whose call comes at a moment; NULL: it ended. */
-static struct client *at(uint64_t moment, unsigned link) {
-	if (core.count == 0) /* the shell has made what it was asked for */
-		keymaps_sweep(false);
-	gateway.moment = moment > gateway.moment ? moment : gateway.moment;
-	return link <= LINKS_MAX ? core.links[link] : NULL;
 }
 
 void ask_shell(struct effect effect) {
@@ -77,7 +77,7 @@ void core_close(void) {
 
 unsigned core_join(uint64_t moment, enum role role, unsigned process, const char *command) {
 	unsigned link = 1;
-	at(moment, 0);
+	set_moment(moment);
 	while (link <= LINKS_MAX && core.held[link])
 		link++;
 	struct process *of = link <= LINKS_MAX ? process_join(process, command) : NULL;
@@ -97,18 +97,18 @@ unsigned core_join(uint64_t moment, enum role role, unsigned process, const char
 size_t core_room(unsigned link, enum side side) {
 	struct client *client = core.links[link];
 	size_t room = client && !client->ending ? wire_room(wire_of(client, side)) : 0;
-	return room > 0 && side == NEAR ? budget_room(client, room) : room;
+	if (room > 0 && side == NEAR)
+		room = wire_waiting(&client->far) < WIRE_SLOW ? budget_room(client, room) : 0;
+	return room;
 }
 
 bool core_missing(uint64_t moment, uint32_t token) {
-	at(moment, 0);
-	CALLED("%" PRIu64 " missing %u", gateway.moment, token);
+	CALLED_AT(moment, "missing %u", token);
 	return keymap_again(token) || popup_clear_again(token);
 }
 
 bool core_short(uint64_t moment) {
-	at(moment, 0);
-	CALLED("%" PRIu64 " short", gateway.moment);
+	CALLED_AT(moment, "short");
 	return budgets_short();
 }
 
@@ -119,7 +119,8 @@ uint32_t core_token(void) {
 
 void core_receive(uint64_t moment, unsigned link, enum side side, const uint8_t *bytes, size_t size,
 		const uint32_t *tokens, size_t count) {
-	struct client *client = at(moment, link);
+	struct client *client = core.links[link];
+	set_moment(moment);
 	called_with("receive", link, side, bytes, size, tokens, count);
 	bool lost = false;
 	for (size_t each = 0; each < count; each++)
@@ -134,13 +135,12 @@ void core_receive(uint64_t moment, unsigned link, enum side side, const uint8_t 
 				: "too many descriptors wait for their messages");
 		return client_play(client, side);
 	}
-	for (size_t each = 0; each < count; each++)
-		token_drop(tokens[each]);
+	tokens_drop(tokens, count);
 }
 
 void core_hung_up(uint64_t moment, unsigned link, enum side side, const char *why) {
-	struct client *client = at(moment, link);
-	CALLED("%" PRIu64 " hung_up %u %d %s", gateway.moment, link, side, why ? why : "");
+	struct client *client = core.links[link];
+	CALLED_AT(moment, "hung_up %u %d %s", link, side, why ? why : "");
 	if (client && (why || side == FAR))
 		client_end(client, why ? why : "the compositor closed its connection");
 	else if (client)
@@ -157,13 +157,14 @@ static void answered(struct client *client, enum side side) {
 }
 
 void core_go_on(uint64_t moment, unsigned link, enum side side) {
-	struct client *client = at(moment, link);
-	CALLED("%" PRIu64 " go_on %u %d", gateway.moment, link, side);
+	struct client *client = core.links[link];
+	CALLED_AT(moment, "go_on %u %d", link, side);
 	answered(client, side);
 }
 
 void core_text(uint64_t moment, unsigned link, enum side side, const uint8_t *bytes, size_t size) {
-	struct client *client = at(moment, link);
+	struct client *client = core.links[link];
+	set_moment(moment);
 	called_with(bytes ? "text" : "no_text", link, side, bytes, bytes ? size : 0, NULL, 0);
 	if (client)
 		client->text = bytes;
@@ -171,14 +172,12 @@ void core_text(uint64_t moment, unsigned link, enum side side, const uint8_t *by
 }
 
 void core_copied(uint64_t moment, uint32_t token, bool is_whole, bool is_short) {
-	at(moment, 0);
-	CALLED("%" PRIu64 " copied %u %d %d", gateway.moment, token, is_whole, is_short);
+	CALLED_AT(moment, "copied %u %d %d", token, is_whole, is_short);
 	popups_copied(token, is_whole, is_short);
 }
 
 void core_round(uint64_t moment) {
-	at(moment, 0);
-	CALLED("%" PRIu64 " round", gateway.moment);
+	CALLED_AT(moment, "round");
 	budgets_round();
 	if (broker_renewal() == 0)
 		renew();
@@ -187,8 +186,7 @@ void core_round(uint64_t moment) {
 
 bool core_sweep(uint64_t moment) {
 	bool ended = false;
-	at(moment, 0);
-	CALLED("%" PRIu64 " sweep", gateway.moment);
+	CALLED_AT(moment, "sweep");
 	for (struct client **place = &gateway.clients, *client; (client = *place); ) {
 		if (client->far.full)
 			client_end(client, "the compositor takes no more of it");
@@ -214,7 +212,7 @@ void core_end(void) {
 }
 
 int core_wait(uint64_t moment) {
-	at(moment, 0);
+	set_moment(moment);
 	const int waits[] = { broker_renewal(), popups_wait(), budgets_wait() };
 	int least = -1;
 	for (size_t each = 0; each < sizeof waits / sizeof *waits; each++)
@@ -224,8 +222,7 @@ int core_wait(uint64_t moment) {
 }
 
 void core_renew(uint64_t moment) {
-	at(moment, 0);
-	CALLED("%" PRIu64 " renew", gateway.moment);
+	CALLED_AT(moment, "renew");
 	broker_ask();
 }
 
@@ -257,9 +254,4 @@ void core_wrote(unsigned link, enum side side, size_t size) {
 bool core_writes(unsigned link, enum side side) {
 	struct client *client = core.links[link];
 	return client && wire_waiting(wire_of(client, side)) > 0;
-}
-
-bool core_is_slow(unsigned link, enum side side) {
-	struct client *client = core.links[link];
-	return client && wire_waiting(wire_of(client, side)) >= WIRE_SLOW;
 }

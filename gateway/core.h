@@ -21,7 +21,7 @@ void core_close(void);
 /* A client came, of a process and its command, 0 where nobody knows which: its link, from 1, which isn't another's until
  * EFFECT_END names it. 0: it isn't let in. */
 unsigned core_join(uint64_t moment, enum role role, unsigned process, const char *command);
-/* How many bytes may come at once; 0: what came before waits. And a token for a descriptor; 0: there is none. */
+/* How many bytes may come at once; 0: what came before waits, or so much is still to be written to the compositor. And a token for a descriptor; 0: there is none. */
 size_t core_room(unsigned link, enum side side);
 uint32_t core_token(void);
 /* What came: bytes, however cut, and the tokens of what came with them; 0: one that couldn't be kept. */
@@ -53,9 +53,8 @@ struct written { const uint8_t *bytes; size_t size; unsigned count; uint32_t tok
 bool core_next(unsigned link, enum side side, struct written *next);
 /* So many bytes were written, with all those tokens. */
 void core_wrote(unsigned link, enum side side, size_t size);
-/* Something is to be written; so much is that what comes from the other side is to wait. */
+/* Whether something is to be written. */
 bool core_writes(unsigned link, enum side side);
-bool core_is_slow(unsigned link, enum side side);
 
 /* ---- What the shell is to do, at once and in this order ---- */
 

@@ -13,16 +13,14 @@
 #include <sys/stat.h>
 #include <unistd.h>
 
-/* What the loop waits for; after them come two for each link, the client's socket and the compositor's. */
-enum wait { WAIT_PROGRAMS, WAIT_METHODS, WAIT_CHECKS, WAIT_COMPOSITOR, WAIT_SIGNALS, WAITS };
+/* What the loop waits for beside links. */
+enum wait { WAIT_PROGRAMS, WAIT_METHODS, WAIT_CHECKS, WAIT_COMPOSITOR, WAIT_SIGNALS, WAIT_KINDS };
 enum { ENTRIES_MAX = 3500000, RESTS = 100 /* milliseconds after a client couldn't be let in */ };
 
 static struct {
 	struct door doors[WAIT_CHECKS + 1]; /* at which clients are let in, and who asks how it stands */
 	const char *compositor; /* the name of its socket */
-	struct pollfd waits[WAITS + 2 * LINKS_MAX];
-	unsigned waiting[LINKS_MAX], waiting_count; /* the links of those */
-	unsigned highest; /* link that there was */
+	struct waited waits[WAIT_KINDS];
 	uint64_t rests_until; /* nobody is let in before: it failed */
 	int spare; /* a descriptor that lets a client in and out where they run short */
 	unsigned long entries; /* of a broker */
@@ -41,36 +39,39 @@ static int signals(void) {
 	return signalfd(-1, &set, SFD_CLOEXEC | SFD_NONBLOCK);
 }
 
+/* Nobody is let in for a while: one who waits is closed, with the place of the spare descriptor. */
+static void turn_away(enum wait which) {
+	say("a client isn't let in: %m");
+	core_short(moment());
+	self.rests_until = moment() + RESTS * 1000;
+	if (self.spare >= 0)
+		close(self.spare);
+	close(accept(self.waits[which].file, NULL, NULL));
+	self.spare = open("/dev/null", O_RDONLY | O_CLOEXEC);
+}
+
 static void let_in(enum wait which) {
-	int near = accept4(self.waits[which].fd, NULL, NULL, SOCK_CLOEXEC | SOCK_NONBLOCK);
-	if (near < 0 && errno != EAGAIN && errno != EINTR && errno != ECONNABORTED) {
-		say("a client isn't let in: %m");
-		core_short(moment());
-		self.rests_until = moment() + RESTS * 1000;
-		if (self.spare >= 0)
-			close(self.spare); /* one who waits is closed with its place */
-		close(accept(self.waits[which].fd, NULL, NULL));
-		self.spare = open("/dev/null", O_RDONLY | O_CLOEXEC);
-	}
-	if (near >= 0 && which == WAIT_CHECKS) {
-		check_answer(near, self.highest, self.compositor);
+	char command[COMMAND];
+	int near = accept4(self.waits[which].file, NULL, NULL, SOCK_CLOEXEC | SOCK_NONBLOCK);
+	if (near < 0 && (errno == EAGAIN || errno == EINTR || errno == ECONNABORTED))
+		return;
+	if (near < 0)
+		return turn_away(which);
+	if (which == WAIT_CHECKS) {
+		check_answer(near, self.compositor);
 		close(near);
 		return;
 	}
-	int far = near >= 0 ? connect_to(self.compositor) : -1;
-	if (near >= 0 && far < 0) {
+	int far = connect_to(self.compositor);
+	if (far < 0) {
 		say("a client isn't let in: %m");
 		core_short(moment());
 	}
-	char command[COMMAND];
-	unsigned process = near >= 0 ? peer_of(near, command) : 0;
+	unsigned process = peer_of(near, command);
 	unsigned link = far >= 0 ? core_join(moment(), which == WAIT_PROGRAMS ? PROGRAM : METHOD, process, command) : 0;
-	if (link > 0) {
-		self.highest = link > self.highest ? link : self.highest;
+	if (link > 0)
 		return link_open(link, near, far);
-	}
-	if (near >= 0)
-		close(near);
+	close(near);
 	if (far >= 0)
 		close(far);
 }
@@ -80,64 +81,54 @@ static void finish_round(void) {
 	core_round(moment());
 	do {
 		perform();
-		for (unsigned link = 1; link <= self.highest; link++) {
-			link_flush(link, FAR);
-			link_flush(link, NEAR);
-		}
+		links_flush();
 	} while (core_sweep(moment()));
 	outlets_flush();
 }
 
-/* Waits for something, at most so long; what came stands in `waits`. Who is slow keeps who sends it waiting. */
-static void wait_for_all(int milliseconds) {
-	struct pollfd *wait = self.waits + WAITS;
+/* Waits for something, at most so long. */
+static void wait_round(int milliseconds) {
 	bool rests = moment() < self.rests_until;
 	for (enum wait which = WAIT_PROGRAMS; which <= WAIT_CHECKS; which++)
-		self.waits[which].events = rests ? 0 : POLLIN;
-	self.waiting_count = 0;
-	for (unsigned link = 1; link <= self.highest; link++) {
-		if (link_socket(link, NEAR) < 0)
-			continue;
-		self.waiting[self.waiting_count++] = link;
-		for (enum side side = NEAR; side <= FAR; side++) {
-			short reads = side == FAR || (!core_is_slow(link, FAR) && core_room(link, NEAR) > 0) ? POLLIN : 0;
-			*wait++ = (struct pollfd){ link_socket(link, side), reads | (core_writes(link, side) ? POLLOUT : 0), 0 };
-		}
-	}
-	if (wait_for(self.waits, (unsigned)(wait - self.waits), rests ? RESTS : milliseconds) < 0 && errno != EINTR)
+		wait_for(&self.waits[which], rests ? 0 : POLLIN);
+	links_wait();
+	if (!wait_all(rests ? RESTS : milliseconds) && errno != EINTR)
 		say("nothing is waited for: %m");
+}
+
+/* Whether something came to it with the last wait. */
+static bool came(enum wait which) {
+	bool did = self.waits[which].came;
+	self.waits[which].came = 0;
+	return did;
 }
 
 /* Reads what came; clients that come new are let in last. */
 static void play_all(void) {
-	const struct pollfd *wait = self.waits + WAITS;
-	for (unsigned at = 0; at < self.waiting_count; at++)
-		for (enum side side = NEAR; side <= FAR; side++, wait++)
-			if (wait->revents & POLLHUP && !(wait->events & POLLIN)) /* what it wrote isn't waited for */
-				core_hung_up(moment(), self.waiting[at], side, NULL);
-			else if (wait->revents & ~POLLOUT)
-				link_read(self.waiting[at], side);
-	for (enum wait which = WAIT_PROGRAMS; which <= WAIT_CHECKS; which++)
-		if (self.waits[which].revents)
-			let_in(which);
 	struct signalfd_siginfo signal;
-	const struct pollfd *told = &self.waits[WAIT_SIGNALS];
-	while (told->revents && read(told->fd, &signal, sizeof signal) == sizeof signal) {
+	links_read();
+	for (enum wait which = WAIT_PROGRAMS; which <= WAIT_CHECKS; which++)
+		if (came(which))
+			let_in(which);
+	if (came(WAIT_SIGNALS) && read(self.waits[WAIT_SIGNALS].file, &signal, sizeof signal) == sizeof signal) {
 		if (signal.ssi_signo == SIGHUP)
 			core_renew(moment());
 		else
 			self.ends = "it was asked to";
 	}
-	if (self.waits[WAIT_COMPOSITOR].revents)
+	if (self.waits[WAIT_COMPOSITOR].came)
 		self.ends = "the compositor has ended";
 }
 
+static void turn(void) {
+	finish_round();
+	wait_round(core_wait(moment()));
+	play_all();
+}
+
 static void run(void) {
-	while (!self.ends) {
-		finish_round();
-		wait_for_all(core_wait(moment()));
-		play_all();
-	}
+	while (!self.ends)
+		turn();
 	say("ends: %s", self.ends);
 	core_end();
 	finish_round();
@@ -178,14 +169,14 @@ static bool read_words(int count, char **words) {
 
 /* Opens what is waited for. False: something isn't there, or the compositor is to be the gateway itself. */
 static bool open_waits(void) {
-	for (enum wait which = WAIT_PROGRAMS; which < WAITS; which++) {
+	for (enum wait which = WAIT_PROGRAMS; which < WAIT_KINDS; which++) {
 		struct door *door = which <= WAIT_CHECKS ? &self.doors[which] : NULL;
 		const char *name = door ? door->name : which == WAIT_COMPOSITOR ? self.compositor : "signals";
 		if (door && strcmp(name, self.compositor) == 0)
 			return say("%s is the gateway's own socket: name the compositor's", name), false;
 		int file = door ? listen_at(door) : which == WAIT_COMPOSITOR ? connect_to(name) : signals();
-		self.waits[which] = (struct pollfd){ .fd = file, .events = POLLIN | POLLRDHUP };
-		if (file < 0)
+		self.waits[which].file = file;
+		if (file < 0 || !wait_begin(&self.waits[which], POLLIN | POLLRDHUP))
 			return say("%s: %m", name), false;
 	}
 	return true;
@@ -217,5 +208,5 @@ int main(int count, char **words) {
 		return 2;
 	printf("ready %s %s\n", self.doors[WAIT_PROGRAMS].name, self.doors[WAIT_METHODS].name);
 	run();
-	return self.waits[WAIT_COMPOSITOR].revents ? 1 : 0;
+	return self.waits[WAIT_COMPOSITOR].came ? 1 : 0;
 }

@@ -181,6 +181,8 @@ bool request_mirror(struct client *client, uint32_t surface);
  * those of all its boards that no window has are pressed at a new one. */
 void request_release(struct client *client, uint32_t board);
 void request_press(struct client *client);
+/* A message to an object of ours isn't heard, as there is no broker: where it ends the object, that is told. */
+void request_lose(struct client *client, const struct message *message);
 
 /* ---- What a process may have of what all share (budgets.c) ---- */
 /* A client of the process comes, 0: of one that nobody knows, and goes. NULL: it has its share of clients. */

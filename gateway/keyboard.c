@@ -154,10 +154,6 @@ bool keyboard_has(const struct client *client, uint32_t board, uint32_t key) {
 	return seat.given[key % KEYS].client == client->number && seat.given[key % KEYS].board == board;
 }
 
-void keyboard_leave_broker(void) {
-	broker_order(unfocus, "unfocus");
-}
-
 void keyboard_press(void) {
 	for (uint32_t key = 0; key < KEYS; key++)
 		if (seat.down[key] == AT_GRAB)

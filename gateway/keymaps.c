@@ -7,7 +7,7 @@ enum { KEPT = 64, KEPT_FOR_SEAT = 8, KEPT_SHARE = 8 /* of the boards of a proces
 static struct keymap kept[KEPT]; /* one without a text is none */
 static uint8_t texts[KEPT][KEYMAP_MAX]; /* of those: there is always memory for them */
 
-static struct keymap *find(uint32_t number) {
+struct keymap *keymap_find(uint32_t number) {
 	for (struct keymap *each = kept; each < kept + KEPT; each++)
 		if (each->text && each->number == number)
 			return each;
@@ -51,17 +51,13 @@ uint32_t keymap_take(const struct process *process, uint32_t format, const uint8
 }
 
 void keymap_drop(uint32_t number) {
-	struct keymap *keymap = find(number);
+	struct keymap *keymap = keymap_find(number);
 	if (keymap)
 		keymap->users--;
 }
 
-const struct keymap *keymap_find(uint32_t number) {
-	return find(number);
-}
-
 uint32_t keymap_token(uint32_t number) {
-	const struct keymap *keymap = find(number);
+	const struct keymap *keymap = keymap_find(number);
 	if (keymap)
 		token_keep(keymap->token);
 	return keymap ? keymap->token : 0;

@@ -15,7 +15,7 @@ enum { FIRST_GIVEN = 3 /* the descriptor of the first socket that systemd opened
 static bool name_address(const char *name, struct sockaddr_un *address) {
 	const char *folder = strchr(name, '/') ? NULL : getenv("XDG_RUNTIME_DIR");
 	size_t room = sizeof address->sun_path;
-	address->sun_family = AF_UNIX;
+	*address = (struct sockaddr_un){ .sun_family = AF_UNIX };
 	if (!folder && !strchr(name, '/'))
 		return say("XDG_RUNTIME_DIR isn't set"), errno = ENOENT, false;
 	bool fits = (size_t)snprintf(address->sun_path, room, "%s%s%s", folder ? folder : "", folder ? "/" : "", name) < room;
@@ -35,15 +35,10 @@ int connect_to(const char *name) {
 	return close(file), -1;
 }
 
-/* A number of the environment; 0: there is none. */
-static int number_of(const char *name) {
-	const char *text = getenv(name);
-	return text ? atoi(text) : 0;
-}
-
 /* The socket of that address that systemd opened, as sd_listen_fds(3) says; -1: it opened none such. */
 static int given_socket(const struct sockaddr_un *address) {
-	int count = number_of("LISTEN_PID") == getpid() ? number_of("LISTEN_FDS") : 0;
+	const char *process = getenv("LISTEN_PID"), *files = getenv("LISTEN_FDS");
+	int count = process && files && atoi(process) == getpid() ? atoi(files) : 0;
 	for (int file = FIRST_GIVEN; file < FIRST_GIVEN + count; file++) {
 		struct sockaddr_un found = { 0 };
 		socklen_t size = sizeof found;

@@ -42,8 +42,9 @@ const char *client_state(const struct client *client) {
 	size_t size = (size_t)snprintf(text, sizeof text, "%s %u%s", client->role == METHOD ? "method" : "program",
 		client->number, what);
 	if (client->field > 0)
-		snprintf(text + size, sizeof text - size, ", %s text input %u", has_focus ? "holds the seat with its" : "enabled",
-			client->field);
+		size += (size_t)snprintf(text + size, sizeof text - size, ", %s text input %u",
+			has_focus ? "holds the seat with its" : "enabled", client->field);
+	snprintf(text + size, sizeof text - size, ": %s", process_named(client->process));
 	return text;
 }
 

@@ -3,7 +3,7 @@
 #include <stdarg.h>
 #include <string.h>
 
-enum { DRAFT_TEXT = 400 /* bytes of a text at most, of which a draft has two at most */ };
+enum { DRAFT_TEXT = 4096 /* bytes of a text at most, of which a draft has two at most */ };
 
 const struct interface *interface_named(const char *name) {
 	const struct interface *const *at = interfaces;

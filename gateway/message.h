@@ -14,6 +14,7 @@ struct signature {
 	const char *name, *kinds;
 	int new_id; /* the number of that argument; -1: the message makes nothing */
 	const struct interface *made; /* what the new id is; NULL where the string two before it says so */
+	bool ends; /* the message destroys its object */
 };
 
 struct interface {

@@ -57,7 +57,7 @@ static void make_all(void) {
 void renew(void) {
 	if (!broker_prepare())
 		return;
-	keyboard_leave_broker();
+	broker_order(unfocus, "unfocus");
 	broker_close();
 	for (struct client *client = gateway.clients; client; client = client->next)
 		client->peer = 0, client->waits = false;

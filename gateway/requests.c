@@ -2,18 +2,13 @@
 #include "gateway.h"
 #include <string.h>
 
-static void drop(const struct message *message, const uint32_t *tokens) {
-	for (unsigned at = 0; at < message->descriptors; at++)
-		token_drop(tokens[at]);
-}
-
 /* What a client sends that is refused goes nowhere. */
 static void forward(struct client *client, struct message *message, const uint32_t *tokens) {
 	uint32_t object = message->object;
 	if (!client->ending && ids_to_far(client, message))
 		return wire_send(&client->far, message->bytes, message->size, tokens, message->descriptors);
 	client_refuse(client, object, ERROR_METHOD, "an argument names no object of the compositor's");
-	drop(message, tokens);
+	tokens_drop(tokens, message->descriptors);
 }
 
 /* An object is made at the broker, and will be so at another. */
@@ -94,11 +89,9 @@ void request_release(struct client *client, uint32_t board) {
 	}
 }
 
-/* Of what lives nowhere no request is heard but the one that ends it. */
-static void nowhere(struct client *client, const struct message *message, const uint32_t *tokens) {
-	const char *name = message->signature->name;
-	drop(message, tokens);
-	if (strcmp(name, "destroy") != 0 && strcmp(name, "release") != 0)
+void request_lose(struct client *client, const struct message *message) {
+	const struct object *object = object_live(client, message->object);
+	if (!object || !object->is_ours || !message->signature || !message->signature->ends)
 		return;
 	popup_destroy(client, message->object);
 	object_free(client, message->object);
@@ -115,8 +108,10 @@ static void to_broker(struct client *client, struct message *message, const uint
 	struct object *object = object_at(client, message->object);
 	int made = message->signature->new_id;
 	log_message(client, "->", message);
-	if (made < 0 && object->made[0] == 0) /* it or what made it lives nowhere, or it is a manager */
-		return nowhere(client, message, tokens);
+	if (made < 0 && object->made[0] == 0) { /* it or what made it lives nowhere, or it is a manager */
+		tokens_drop(tokens, message->descriptors);
+		return request_lose(client, message);
+	}
 	if (object->interface == &zwp_text_input_v2_table)
 		return older_request(client, message);
 	if (object->interface == &zwp_text_input_v3_table)
@@ -189,6 +184,6 @@ void request_play(struct client *client, struct message *message, const uint32_t
 	if (client->role == PROGRAM)
 		surface_request(client, object, message);
 	else if (!popup_request(client, object, message, tokens))
-		return drop(message, tokens);
+		return tokens_drop(tokens, message->descriptors);
 	forward(client, message, tokens);
 }

@@ -15,10 +15,8 @@ void keyboard_board_ended(const struct client *client, uint32_t board);
 void keyboard_method_ended(const struct client *client);
 /* Whether the key went to the focused window when the board pressed it. */
 bool keyboard_has(const struct client *client, uint32_t board, uint32_t key);
-/* The client is a peer from now on. The focus leaves the broker that goes; a new one is told the keys that a grab has, and
- * at last what else stands. */
+/* The client is a peer from now on. A new broker is told the keys that a grab has, and at last what else stands. */
 void keyboard_client_joined(const struct client *client);
-void keyboard_leave_broker(void);
 void keyboard_press(void);
 void keyboard_join_broker(void);
 
@@ -48,7 +46,7 @@ struct keymap {
 uint32_t keymap_take(const struct process *process, uint32_t format, const uint8_t *text, uint32_t size);
 void keymap_drop(uint32_t number);
 /* The keymap with the number, and its token to be sent; NULL and 0: there is none any more. */
-const struct keymap *keymap_find(uint32_t number);
+struct keymap *keymap_find(uint32_t number);
 uint32_t keymap_token(uint32_t number);
 /* Asks the shell for the keymap's file. False: the token is of none. */
 bool keymap_again(uint32_t token);

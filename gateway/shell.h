@@ -24,21 +24,22 @@ int connect_to(const char *name); /* -1: nobody listens there */
 
 /* Tells who asks how it stands: the compositor's socket, then who is connected. And asks that of the gateway at the socket,
  * and prints it, with what the compositor offers; whether all is well. */
-void check_answer(int file, unsigned highest, const char *compositor);
+void check_answer(int file, const char *compositor);
 bool check(const char *socket, const char *compositor);
 
-/* As poll does, for what mostly stays. What was waited for isn't any more, before it is closed (waits.c). */
-int wait_for(struct pollfd *waits, unsigned count, int milliseconds);
-void wait_ends(int descriptor);
+/* What is waited for, till it is closed, for poll's events, and which of them came with the last wait (waits.c). */
+struct waited { int file; short events, came; };
+bool wait_begin(struct waited *waited, short events); /* false: the system has no memory for it */
+void wait_for(struct waited *waited, short events);
+bool wait_all(int milliseconds); /* false: it couldn't, or a signal came */
 uint64_t moment(void); /* microseconds, of a clock that never falls and goes on while the shell waits */
-/* The sockets of a link are the shell's from now on. */
-void link_open(unsigned link, int near, int far);
-/* So many descriptors may be open. */
+
+/* So many descriptors may be open (sockets.c). The sockets of a link are the shell's from now on. */
 void links_limit(size_t files);
-int link_socket(unsigned link, enum side side); /* -1: there is none */
-/* Reads once what came, and does what the core asks then. */
-void link_read(unsigned link, enum side side);
-/* Writes what a side takes. */
-void link_flush(unsigned link, enum side side);
+void link_open(unsigned link, int near, int far);
+/* Of all links: says what is waited for, reads once what came and does what the core asks then, writes what they take. */
+void links_wait(void);
+void links_read(void);
+void links_flush(void);
 /* Does all that the core asks for. */
 void perform(void);

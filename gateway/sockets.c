@@ -21,7 +21,8 @@ enum {
 	SEALS = F_SEAL_SEAL | F_SEAL_SHRINK | F_SEAL_GROW, /* and where nobody may write: it can still be mapped, shared too */
 };
 
-static struct { int sockets[2]; } links[LINKS_MAX + 1];
+static struct waited links[LINKS_MAX + 1][2]; /* each side's socket; 0: there is none */
+static unsigned highest; /* link that there was */
 static int files[TOKENS_MAX]; /* of tokens; 0 or below: there is none */
 static size_t held, most = SIZE_MAX; /* descriptors of links and tokens; so many may be */
 
@@ -46,26 +47,24 @@ void links_limit(size_t limit) {
 }
 
 void link_open(unsigned link, int near, int far) {
+	highest = link > highest ? link : highest;
 	held += 2;
-	links[link].sockets[NEAR] = near;
-	links[link].sockets[FAR] = far;
-}
-
-int link_socket(unsigned link, enum side side) {
-	return links[link].sockets[side] > 0 ? links[link].sockets[side] : -1;
+	links[link][NEAR].file = near;
+	links[link][FAR].file = far;
+	if (!wait_begin(&links[link][NEAR], POLLIN) || !wait_begin(&links[link][FAR], POLLIN))
+		core_hung_up(moment(), link, NEAR, "there is no memory to wait for it");
 }
 
 /* What isn't read away would have the other side see a reset and not the error that it is told. */
 static void link_close(unsigned link) {
 	static uint8_t bytes[READ];
 	for (enum side side = NEAR; side <= FAR; side++) {
-		int socket = links[link].sockets[side];
+		int socket = links[link][side].file;
 		for (int reads = 0; reads < READ_AWAY && recv(socket, bytes, sizeof bytes, MSG_DONTWAIT) > 0; reads++)
 			;
-		wait_ends(socket);
 		close(socket);
 		held--;
-		links[link].sockets[side] = 0;
+		links[link][side] = (struct waited){ 0 };
 	}
 }
 
@@ -111,7 +110,7 @@ static bool read_once(unsigned link, enum side side) {
 	struct msghdr header = {
 		.msg_iov = &place, .msg_iovlen = 1, .msg_control = control, .msg_controllen = sizeof control,
 	};
-	ssize_t came = recvmsg(links[link].sockets[side], &header, MSG_DONTWAIT | MSG_CMSG_CLOEXEC);
+	ssize_t came = recvmsg(links[link][side].file, &header, MSG_DONTWAIT | MSG_CMSG_CLOEXEC);
 	if (came < 0 && is_later())
 		return false;
 	unsigned count = came >= 0 ? take_files(&header, tokens) : 0;
@@ -122,12 +121,12 @@ static bool read_once(unsigned link, enum side side) {
 	return came > 0;
 }
 
-void link_read(unsigned link, enum side side) {
+static void link_read(unsigned link, enum side side) {
 	read_once(link, side);
 	perform();
 }
 
-void link_flush(unsigned link, enum side side) {
+static void link_flush(unsigned link, enum side side) {
 	struct written next;
 	while (core_next(link, side, &next)) {
 		_Alignas(struct cmsghdr) char control[CMSG_SPACE(TOKENS_AT_ONCE * sizeof(int))] = { 0 };
@@ -144,7 +143,7 @@ void link_flush(unsigned link, enum side side) {
 		}
 		*part = (struct cmsghdr){ CMSG_LEN(next.count * sizeof(int)), SOL_SOCKET, SCM_RIGHTS };
 		header.msg_controllen = next.count > 0 ? CMSG_SPACE(next.count * sizeof(int)) : 0;
-		ssize_t went = sendmsg(links[link].sockets[side], &header, MSG_DONTWAIT | MSG_NOSIGNAL);
+		ssize_t went = sendmsg(links[link][side].file, &header, MSG_DONTWAIT | MSG_NOSIGNAL);
 		if (went < 0 && is_later())
 			return;
 		for (int reads = 0; went < 0 && side == FAR && reads < READ_AWAY && read_once(link, FAR); reads++)
@@ -154,6 +153,31 @@ void link_flush(unsigned link, enum side side) {
 		core_wrote(link, side, (size_t)went);
 		perform();
 	}
+}
+
+void links_flush(void) {
+	for (unsigned link = 1; link <= highest; link++) {
+		link_flush(link, FAR);
+		link_flush(link, NEAR);
+	}
+}
+
+void links_wait(void) {
+	for (unsigned link = 1; link <= highest; link++)
+		for (enum side side = NEAR; side <= FAR && links[link][side].file > 0; side++)
+			wait_for(&links[link][side], (core_room(link, side) > 0 ? POLLIN : 0) | (core_writes(link, side) ? POLLOUT : 0));
+}
+
+void links_read(void) {
+	for (unsigned link = 1; link <= highest; link++)
+		for (enum side side = NEAR; side <= FAR; side++) {
+			short came = links[link][side].came;
+			links[link][side].came = 0;
+			if (came & POLLHUP && !(links[link][side].events & POLLIN)) /* what it wrote isn't waited for */
+				core_hung_up(moment(), link, side, NULL);
+			else if (came & ~POLLOUT)
+				link_read(link, side);
+		}
 }
 
 /* A client's file of FUSE could keep all waiting: it isn't read. */

@@ -86,7 +86,7 @@ static void role_request(struct client *client, struct object *object, const str
 		role->is_at_bottom = (message->numbers[0] & (ANCHOR_TOP | ANCHOR_BOTTOM)) == ANCHOR_BOTTOM;
 	} else if (IS(message, xdg_surface, request, set_window_geometry)) {
 		memcpy(&role->box, message->numbers, sizeof role->box);
-	} else if (strcmp(message->signature->name, "destroy") == 0) {
+	} else if (message->signature->ends) {
 		struct object *surface = surface_of(client, role->under);
 		unmap(client, role->under);
 		if (client->top == message->object)

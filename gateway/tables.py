@@ -33,7 +33,7 @@ def rows(interface, word):
         name, (kinds, made) = message.get("name"), kinds_of(message)
         if not re.fullmatch(r"\w+", name) or len(kinds) > 20:
             sys.exit(f"{interface.get('name')}.{name}: no message")
-        found.append((name, kinds, made))
+        found.append((name, kinds, made, message.get("type") == "destructor"))
     return found
 
 
@@ -68,9 +68,9 @@ def write_tables(found, file):
     file.write(HEAD + '#include "tables.h"\n#include <stddef.h>\n')
     for name, (version, requests, events) in found.items():
         for word, messages in (("requests", requests), ("events", events)):
-            lines = "".join(f'\t{{ "{row}", "{kinds}", {kinds.find("n")}, {address(found, made)} }},\n'
-                            for row, kinds, made in messages)
-            file.write(f"\nconst struct signature {name}_{word}[] = {{\n{lines}\t{{ NULL, NULL, -1, NULL }},\n}};\n")
+            lines = "".join(f'\t{{ "{row}", "{kinds}", {kinds.find("n")}, {address(found, made)}, {int(ends)} }},\n'
+                            for row, kinds, made, ends in messages)
+            file.write(f"\nconst struct signature {name}_{word}[] = {{\n{lines}\t{{ NULL, NULL, -1, NULL, 0 }},\n}};\n")
         file.write(f'const struct interface {name}_table = {{ "{name}", {version}, '
                    f"{{ {len(events)}, {len(requests)} }},\n\t{{ {name}_events, {name}_requests }} }};\n")
     listed = "".join(f"\t&{name}_table,\n" for name in found)

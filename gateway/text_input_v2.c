@@ -10,10 +10,8 @@ enum {
 	TEXT_MAX = 4000, /* bytes, as version 3 has it */
 	REASON_RESET = 2, REASON_ENTER = 3, /* of update_state */
 	PURPOSE_DATE = 9, /* from here on a purpose's number is one higher in version 3 */
-	EVENT_TEXT = 4096, /* more than the broker tells */
+	EVENT_TEXT = 4096, /* more than the broker tells; the last byte is zero */
 };
-
-struct text { uint32_t size; char bytes[EVENT_TEXT]; };
 
 struct older {
 	uint32_t enabled; /* the surface that it is for; 0: it is disabled */
@@ -23,9 +21,9 @@ struct older {
 	bool has_text, has_content, has_cursor; /* what comes with the next update */
 	uint32_t cursor, anchor, hint, purpose;
 	struct box rectangle;
-	struct text around; /* the surrounding text */
+	char around[EVENT_TEXT]; /* the surrounding text */
 	/* A batch, until its done. */
-	struct text string, preedit;
+	char string[EVENT_TEXT], preedit[EVENT_TEXT];
 	uint32_t before, after, preedit_cursor;
 	bool shows; /* a preedit is shown */
 	struct field field; /* as version 3 has it */
@@ -35,26 +33,6 @@ bool older_make(struct client *client, struct object *object) {
 	object->known.older = calloc(1, sizeof *object->known.older);
 	client->held += object->known.older != NULL;
 	return object->known.older;
-}
-
-/* A message of any length whose arguments are words and at most two texts. */
-static const struct message *draft_texts(uint32_t object, uint16_t opcode, const struct text *texts[2],
-		const uint32_t *numbers, unsigned count) {
-	static uint32_t words[2 + 2 * (EVENT_TEXT / 4 + 2) + 4];
-	static struct message made;
-	size_t at = 2;
-	for (int each = 0; each < 2 && texts[each]; each++) {
-		words[at++] = texts[each]->size + 1;
-		words[at + texts[each]->size / 4] = 0; /* the last zero, and what fills up */
-		memcpy(&words[at], texts[each]->bytes, texts[each]->size);
-		at += texts[each]->size / 4 + 1;
-	}
-	for (unsigned each = 0; each < count; each++)
-		words[at++] = numbers[each];
-	words[0] = object;
-	words[1] = (uint32_t)at * 4 << 16 | opcode;
-	message_front((uint8_t *)words, at * 4, &made);
-	return &made;
 }
 
 /* To the broker, as of a text input of version 3. */
@@ -80,15 +58,14 @@ static void disable(struct client *client, uint32_t id, struct older *older) {
 }
 
 static void update(struct client *client, uint32_t id, struct older *older, uint32_t reason) {
-	const struct text *texts[2] = { &older->around, NULL };
 	const struct box *box = &older->rectangle;
 	if (older->enabled == 0 || older->entered != older->enabled)
 		return;
 	if (older->is_new || reason == REASON_RESET || reason == REASON_ENTER)
 		to_field(client, id, draft(id, zwp_text_input_v3_request_enable, ""));
 	if (older->has_text)
-		to_field(client, id, draft_texts(id, zwp_text_input_v3_request_set_surrounding_text, texts,
-			(const uint32_t[]){ older->cursor, older->anchor }, 2));
+		to_field(client, id, draft(id, zwp_text_input_v3_request_set_surrounding_text, "suu", older->around, older->cursor,
+			older->anchor));
 	if (older->has_content)
 		to_field(client, id, draft(id, zwp_text_input_v3_request_set_content_type, "uu", older->hint, older->purpose));
 	if (older->has_cursor)
@@ -98,10 +75,9 @@ static void update(struct client *client, uint32_t id, struct older *older, uint
 	older->is_new = older->has_text = older->has_content = false;
 }
 
-static void keep(struct text *text, const struct message *message) {
-	text->size = message->texts[0] && message->numbers[0] < EVENT_TEXT ? message->numbers[0] : 0;
-	if (text->size > 0)
-		memcpy(text->bytes, message->texts[0], text->size);
+static void keep(char text[EVENT_TEXT], const struct message *message) {
+	bool fits = message->texts[0] && message->numbers[0] < EVENT_TEXT;
+	strcpy(text, fits ? message->texts[0] : "");
 }
 
 void older_request(struct client *client, const struct message *message) {
@@ -124,7 +100,7 @@ void older_request(struct client *client, const struct message *message) {
 		older->cursor = w[1];
 		older->anchor = w[2];
 		if (older->has_text)
-			keep(&older->around, message);
+			keep(older->around, message);
 		break;
 	case zwp_text_input_v2_request_set_content_type:
 		older->has_content = true;
@@ -142,19 +118,18 @@ void older_request(struct client *client, const struct message *message) {
 
 /* In version 2 what is deleted is a part of the string after it, and a preedit's cursor comes before it. */
 static void done(struct client *client, uint32_t id, struct older *older) {
-	static const struct text none = { 0 };
-	const struct text *string[2] = { &older->string, NULL }, *preedit[2] = { &older->preedit, &none };
 	bool deletes = older->before > 0 || older->after > 0;
 	if (deletes)
 		client_send(client, draft(id, zwp_text_input_v2_event_delete_surrounding_text, "uu", older->before, older->after));
-	if (deletes || older->string.size > 0)
-		client_send(client, draft_texts(id, zwp_text_input_v2_event_commit_string, string, NULL, 0));
-	if (older->preedit.size > 0 || older->shows) {
+	if (deletes || older->string[0])
+		client_send(client, draft(id, zwp_text_input_v2_event_commit_string, "s", older->string));
+	if (older->preedit[0] || older->shows) {
 		client_send(client, draft(id, zwp_text_input_v2_event_preedit_cursor, "u", older->preedit_cursor));
-		client_send(client, draft_texts(id, zwp_text_input_v2_event_preedit_string, preedit, NULL, 0));
+		client_send(client, draft(id, zwp_text_input_v2_event_preedit_string, "ss", older->preedit, ""));
 	}
-	older->shows = older->preedit.size > 0;
-	older->string.size = older->preedit.size = older->before = older->after = 0;
+	older->shows = older->preedit[0];
+	older->string[0] = older->preedit[0] = 0;
+	older->before = older->after = 0;
 }
 
 void older_event(struct client *client, const struct message *message) {
@@ -170,11 +145,11 @@ void older_event(struct client *client, const struct message *message) {
 			? zwp_text_input_v2_event_enter : zwp_text_input_v2_event_leave, "uu", ++older->serial, w[0]));
 		break;
 	case zwp_text_input_v3_event_preedit_string:
-		keep(&older->preedit, message);
+		keep(older->preedit, message);
 		older->preedit_cursor = w[2];
 		break;
 	case zwp_text_input_v3_event_commit_string:
-		keep(&older->string, message);
+		keep(older->string, message);
 		break;
 	case zwp_text_input_v3_event_delete_surrounding_text:
 		older->before = w[0];

@@ -31,6 +31,11 @@ void token_drop(uint32_t token) {
 	all.closing = token;
 }
 
+void tokens_drop(const uint32_t *tokens, size_t count) {
+	for (size_t at = 0; at < count; at++)
+		token_drop(tokens[at]);
+}
+
 uint32_t token_close(void) {
 	uint32_t token = all.closing;
 	if (token == 0)

@@ -82,8 +82,7 @@ void wire_wrote(struct wire *wire, size_t size) {
 }
 
 void wire_close(struct wire *wire) {
-	for (unsigned at = 0; at < wire->token_count; at++)
-		token_drop(wire->tokens[at]);
+	tokens_drop(wire->tokens, wire->token_count);
 	for (unsigned at = 0; at < wire->parcel_count; at++)
 		token_drop(wire->parcels[at].token);
 	wire->token_count = wire->parcel_count = 0;

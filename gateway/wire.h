@@ -40,6 +40,7 @@ void wire_close(struct wire *wire);
 uint32_t token_make(void); /* 0: there is none */
 void token_keep(uint32_t token);
 void token_drop(uint32_t token);
+void tokens_drop(const uint32_t *tokens, size_t count);
 /* The next one that is to be closed; 0: there is none. */
 uint32_t token_close(void);
 unsigned tokens_used(void);

@@ -17,14 +17,17 @@ mkdir -p "$checked"
 cp -r "$made/protocols" "$checked"
 gateway/build.sh "$checked" $sanitize
 core=$(ls gateway/*.c | grep -v -e /gateway.c -e /sockets.c -e /outlets.c -e /listen.c -e /check.c)
-for name in fuzz order renewals popups pixels version_2 limits faults shell play; do
+shell=$(ls gateway/{sockets,outlets,listen,check}.c)
+for name in fuzz order renewals popups pixels version_2 limits faults shell play loop sockets; do
+	more= wrapped= from=tests/gateway_$name.c
 	case $name in
 	renewals) wrapped=-Wl,--wrap=wlim_broker_open ;;
 	faults) wrapped=$(printf -- '-Wl,--wrap=%s ' malloc calloc realloc sendmsg recvmsg memfd_create mmap clock_gettime) ;;
-	*) wrapped= ;;
+	loop | sockets) more="$shell -DOVER_SOCKETS" wrapped=-Wl,--wrap=clock_gettime ;;
 	esac
-	${CC:-cc} $flags $sanitize $wrapped -I"$checked" -o "$checked/$name" "tests/gateway_$name.c" $core \
-		"$checked/tables.c" out/libwlim/lib/libwlim.a
+	[ $name != sockets ] || from=tests/gateway_fuzz.c
+	${CC:-cc} $flags $sanitize $wrapped -I"$checked" -o "$checked/$name" "$from" $more $core "$checked/tables.c" \
+		out/libwlim/lib/libwlim.a
 done
 ${CC:-cc} $flags $sanitize -I"$checked" -o "$checked/units" tests/gateway_units.c \
 	gateway/{ids,keymaps,message,objects,popup_want,tokens,wire}.c "$checked/tables.c"
@@ -34,6 +37,7 @@ ${CC:-cc} $flags -o "$checked/entry3" tests/gateway_entry3.c $(pkg-config --cfla
 rm -f "$checked"/*.session* "$checked"/*.taken* "$checked"/*.calls*
 "$checked/units"
 "$checked/shell"
+"$checked/loop"
 "$checked/order"
 "$checked/renewals"
 "$checked/popups"
@@ -45,6 +49,8 @@ for seed in 1 2 3; do
 	timeout 300 "$checked/fuzz" 200000 $seed
 done
 timeout 300 "$checked/fuzz" 100000 4 honest
+timeout 300 "$checked/sockets" 20000 5
+timeout 300 "$checked/sockets" 10000 6 honest
 timeout -k 10 100 tests/gateway_start.py "$checked"
 timeout -k 10 200 tests/gateway_session.py "$checked"
 timeout -k 10 300 tests/gateway_peers.py "$checked"

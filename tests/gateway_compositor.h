@@ -2,7 +2,11 @@
  * What the gateway's tests have in the place of a compositor: it knows the objects by the ids that it was asked for,
  * keeps what is asked, and says when an id is free. What a compositor would refuse ends the test.
  */
+#ifdef OVER_SOCKETS
+#include "gateway_sockets.h"
+#else
 #include "gateway_harness.h"
+#endif
 
 enum { ASKED_MAX = 4096 };
 
@@ -73,7 +77,8 @@ static inline void look_far(struct compositor *compositor, struct place *place)
 		if (!compositor->wrong) /* else it would have ended the client */
 			compositor->wrong = hear_request(compositor, place, &message);
 	}
-	place->asked.size = 0;
+	place->asked.size -= at;
+	memmove(place->asked.bytes, place->asked.bytes + at, place->asked.size);
 }
 
 /* How often it was asked, where `object` isn't 0 of that; the last such request, and its object. NULL: it wasn't. */

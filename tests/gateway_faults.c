@@ -81,16 +81,11 @@ struct ends {
 
 static void finish_round(void)
 {
-	HOLDS(wait_for(NULL, 0, 0) == 0); /* the time goes on */
+	HOLDS(wait_all(0)); /* the time goes on */
 	core_round(moment());
 	do {
 		perform();
-		for (unsigned link = 1; link <= 4; link++) {
-			if (link_socket(link, NEAR) < 0)
-				continue;
-			link_flush(link, FAR);
-			link_flush(link, NEAR);
-		}
+		links_flush();
 	} while (core_sweep(moment()));
 }
 
@@ -111,7 +106,7 @@ static void open_ends(struct ends *ends, enum role role)
 
 static bool lives(const struct ends *ends)
 {
-	return link_socket(ends->link, NEAR) >= 0;
+	return links[ends->link][NEAR].file > 0;
 }
 
 /* Writes a message to the gateway, which reads all. */

@@ -3,6 +3,7 @@
  * sockets, and files that are bytes here. The core's lines are left out.
  */
 #include "gateway.h"
+#include <stdarg.h>
 #include <stdio.h>
 #include <stdlib.h>
 #include <string.h>
@@ -31,8 +32,14 @@ static struct { uint8_t *bytes; size_t size; } files[TOKENS_MAX];
 
 void out(enum outlet outlet, const char *format, ...)
 {
+	static char line[20000];
+	va_list arguments;
 	if (!format || outlet >= OUTLETS)
 		abort();
+	va_start(arguments, format);
+	if (outlets[outlet])
+		vsnprintf(line, sizeof line, format, arguments);
+	va_end(arguments);
 }
 
 void out_begin(unsigned number)
@@ -190,5 +197,18 @@ static inline void close_client(struct place *place)
 			open_places[at] = NULL;
 	for (unsigned at = 0; at < place->coming.files; at++)
 		token_drop(place->tokens[at]);
+	do_effects();
+}
+
+/* The gateway; and all that it has goes. */
+static inline void open_gateway(void)
+{
+	if (!core_open(now, 3000000))
+		exit(1);
+}
+
+static inline void close_gateway(void)
+{
+	core_close();
 	do_effects();
 }

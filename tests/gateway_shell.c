@@ -35,6 +35,11 @@ static struct ends open_ends(void)
 	return ends;
 }
 
+static bool lives(unsigned link)
+{
+	return links[link][NEAR].file > 0;
+}
+
 static void close_ends(struct ends ends)
 {
 	close(ends.near);
@@ -125,7 +130,7 @@ static void too_many(void)
 	}
 	HOLDS(tokens_used() == 256 && core_sweep(moment()));
 	perform();
-	HOLDS(tokens_used() == 0 && link_socket(ends.link, NEAR) == -1);
+	HOLDS(tokens_used() == 0 && !lives(ends.link));
 	close(file);
 	close(ends.near);
 	close(ends.far);
@@ -164,21 +169,21 @@ static void sealed(void)
 static void who_does_not_read(void)
 {
 	struct ends ends = open_ends(), gone = open_ends();
-	for (uint32_t id = 3; id < 150000 && core_room(ends.link, NEAR) > 0 && !core_is_slow(ends.link, FAR); id++) {
+	for (uint32_t id = 3; id < 150000 && core_room(ends.link, NEAR) > 0; id++) {
 		put(ends.near, draft(DISPLAY, wl_display_request_sync, "u", id < 60000 ? id - 1 : 1), -1);
 		HOLDS(wait_for(NULL, 0, 0) == 0); /* the time goes on */
 		core_round(moment());
 		link_read(ends.link, NEAR);
 		link_flush(ends.link, FAR);
 	}
-	HOLDS(core_is_slow(ends.link, FAR) && core_writes(ends.link, FAR));
+	HOLDS(core_room(ends.link, NEAR) == 0 && core_writes(ends.link, FAR));
 	close(gone.far);
 	put(gone.near, draft(DISPLAY, wl_display_request_sync, "u", 2), -1);
 	link_read(gone.link, NEAR);
 	link_flush(gone.link, FAR);
-	HOLDS(core_sweep(moment()) && link_socket(gone.link, NEAR) >= 0);
+	HOLDS(core_sweep(moment()) && lives(gone.link));
 	perform();
-	HOLDS(link_socket(gone.link, NEAR) == -1 && link_socket(ends.link, NEAR) >= 0);
+	HOLDS(!lives(gone.link) && lives(ends.link));
 	close(gone.near);
 	close_ends(ends);
 }
@@ -186,19 +191,15 @@ static void who_does_not_read(void)
 enum { PAIRS = 100 };
 
 /* Waits until each that is ready was told. Answers how many are, and that what they are is this. */
-static int told(struct pollfd *waits, short events)
+static int told(struct waited *waits, short events)
 {
-	static short all[PAIRS];
 	int count = 0;
-	memset(all, 0, sizeof all);
-	for (int times = 0; times < 3; times++) {
-		HOLDS(wait_for(waits, PAIRS, 0) >= 0);
-		for (int at = 0; at < PAIRS; at++)
-			all[at] |= waits[at].revents;
-	}
+	for (int times = 0; times < 3; times++)
+		HOLDS(wait_all(0));
 	for (int at = 0; at < PAIRS; at++) {
-		HOLDS(all[at] == 0 || all[at] == events);
-		count += all[at] != 0;
+		HOLDS(waits[at].came == 0 || waits[at].came == events);
+		count += waits[at].came != 0;
+		waits[at].came = 0;
 	}
 	return count;
 }
@@ -206,43 +207,40 @@ static int told(struct pollfd *waits, short events)
 /* What came is told of whom it came to, whatever changed since the last time. */
 static void waits(void)
 {
-	static struct pollfd waits[PAIRS];
+	static struct waited waits[PAIRS];
 	int ends[PAIRS][2];
 	for (int at = 0; at < PAIRS; at++) {
 		HOLDS(socketpair(AF_UNIX, SOCK_STREAM | SOCK_CLOEXEC, 0, ends[at]) == 0);
-		waits[at] = (struct pollfd){ ends[at][0], POLLIN, 0 };
+		waits[at].file = ends[at][0];
+		HOLDS(wait_begin(&waits[at], POLLIN));
 	}
 	HOLDS(told(waits, POLLIN) == 0);
 	for (int at = 0; at < PAIRS; at += 3)
 		HOLDS(write(ends[at][1], "a", 1) == 1);
-	HOLDS(told(waits, POLLIN) == 34 && waits[99].revents == POLLIN && waits[98].revents == 0);
-	waits[3].events = waits[6].events = 0;
+	HOLDS(told(waits, POLLIN) == 34);
+	wait_for(&waits[3], 0);
+	wait_for(&waits[6], 0);
 	HOLDS(told(waits, POLLIN) == 32);
 	for (int at = 0; at < PAIRS; at++)
-		waits[at] = (struct pollfd){ ends[PAIRS - 1 - at][0], at % 4 == 0 ? 0 : POLLOUT, 0 };
+		wait_for(&waits[at], at % 4 == 0 ? 0 : POLLOUT);
 	HOLDS(told(waits, POLLOUT) == 75);
 	for (int at = 0; at < PAIRS; at++) /* the numbers of what is closed are used again */
-		for (int end = 0; end < 2; end++) {
-			wait_ends(ends[at][end]);
+		for (int end = 0; end < 2; end++)
 			close(ends[at][end]);
-		}
 	for (int at = 0; at < PAIRS; at++) {
 		HOLDS(socketpair(AF_UNIX, SOCK_STREAM | SOCK_CLOEXEC, 0, ends[at]) == 0);
-		waits[at] = (struct pollfd){ ends[at][0], 0, 0 };
+		waits[at] = (struct waited){ .file = ends[at][0] };
+		HOLDS(wait_begin(&waits[at], 0));
 	}
-	HOLDS(told(waits, 0) == 0 && close(ends[7][1]) == 0 && told(waits, POLLHUP) == 1 && waits[7].revents == POLLHUP);
-	int file = numbered_file(1), closed = ends[7][0]; /* a file can't be waited for but by poll */
-	waits[7] = (struct pollfd){ file, POLLIN, 0 };
-	HOLDS(told(waits, POLLIN) == 1 && waits[7].revents == POLLIN);
-	waits[7] = waits[8];
-	waits[8] = (struct pollfd){ closed, POLLIN, 0 };
-	HOLDS(told(waits, POLLIN | POLLHUP) == 1 && waits[8].revents == (POLLIN | POLLHUP));
+	HOLDS(told(waits, 0) == 0 && close(ends[7][1]) == 0 && told(waits, POLLHUP) == 1);
+	HOLDS(wait_all(0) && waits[7].came == POLLHUP && waits[8].came == 0);
+	int file = numbered_file(1);
+	HOLDS(!wait_begin(&(struct waited){ .file = file }, POLLIN)); /* a file can't be waited for */
 	uint64_t before = moment();
 	usleep(1000);
-	HOLDS(moment() == before && wait_for(waits, 8, 1) == 1 && wait_for(waits, 7, 1) == 0 && moment() >= before + 1000);
+	HOLDS(moment() == before && wait_all(0) && moment() >= before + 1000);
 	close(file);
 	for (int at = 0; at < PAIRS; at++) {
-		wait_ends(ends[at][0]);
 		close(ends[at][0]);
 		if (at != 7)
 			close(ends[at][1]);
