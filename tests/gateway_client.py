@@ -75,7 +75,7 @@ class Client:
         """Sends a request by its name, where `*` isn't given a new id: it is made and answered."""
         face_rows = self.interfaces[self.faces[object_id]][1]
         opcode = next(at for at, row in enumerate(face_rows) if row[0] == name)
-        _, kinds, made = face_rows[opcode]
+        _, kinds, made, _ = face_rows[opcode]
         body, files, new, given = b"", [], None, list(arguments)
         for kind in kinds:
             if kind == "n":
@@ -123,7 +123,7 @@ class Client:
             self.event(object_id, word & 0xFFFF, body)
 
     def event(self, object_id, opcode, body):
-        name, kinds, made = self.interfaces[self.faces[object_id]][2][opcode]
+        name, kinds, made, _ = self.interfaces[self.faces[object_id]][2][opcode]
         arguments, at = [], 0
         for kind in kinds:
             if kind == "h":
