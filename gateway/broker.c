@@ -165,7 +165,7 @@ int64_t broker_done(int64_t answer) {
 void broker_receive(struct client *client, const struct message *message, uint32_t token) {
 	uint32_t surface;
 	if (!gateway.renews)
-		budget_spend(client, message->size);
+		budget_spend(client, AT_BROKER, message->size);
 	if (!broker->live || client->peer == 0)
 		return request_lose(client, message);
 	self.is_idle = client->serves == 0 && keyboard_focus(&surface) != client;
@@ -200,7 +200,7 @@ bool broker_join(struct client *client) {
 			process_named(client->process)), false;
 	broker_record(answer, method ? "join keyed" : "join app");
 	if (!gateway.renews)
-		budget_spend(client, 0);
+		budget_spend(client, AT_BROKER, 0);
 	client->peer = (uint32_t)answer;
 	broker_receive(client, draft(DISPLAY, wl_display_request_get_registry, "u", OWN), 0);
 	for (const struct offer *offer = offers; offer->interface; offer++)

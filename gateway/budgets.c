@@ -6,26 +6,38 @@ enum {
 	PROCESSES = 2 * LINKS_MAX, /* a process that ended is remembered while there is room */
 	LINKS_SHARE = 128, /* clients of a process */
 	PLACES = 64, PLACES_KEPT = 8, PLACES_SHARE = 16, /* at the broker; of them for methods alone; of a process */
-	STEP = 250, /* microseconds in which a step at the broker is paid back */
-	BURST = 10000000, /* so many steps' worth at once; who owes more isn't read, */
-	OVER = 30000000, /* and who is that for so long is ended */
+	OVER = 30000000, /* microseconds: who owes too much for so long is ended */
 	STEP_BYTES = 256, JOIN_STEPS = 50, /* a message counts as a step for each of these; a peer as these */
-	LITTLE = 1024, /* bytes that are read at once of who owes half of that */
+	TURN = 4096, PIECE = 512, LITTLE = 256, /* bytes of a round: a process's, a client's, and a process's that owes much */
 	FEW = 64, /* descriptors: who has no more isn't ended for them */
+};
+
+/* In how many microseconds a step is paid back, and how many may be owed: who owes more isn't read. */
+static const struct { uint64_t step, burst; const char *why; } prices[] = {
+	[AT_BROKER] = { 250, 10000000, "it sends more than the broker takes" },
+	[PASSING] = { 20, 500000, "it sends more than the gateway takes" },
 };
 
 struct process {
 	unsigned pid, links; /* as the system names it; its clients that live */
 	char command[16];
-	uint64_t due, over; /* when all is paid back that it spent; since when it owes too much, or 0 */
+	struct debt { uint64_t due, over; } debts[PRICES]; /* when all is paid back; since when it owes too much, or 0 */
+	uint64_t round; /* in which it was read last, */
+	size_t came; /* and so many bytes */
 	unsigned files; /* counted where descriptors run short */
 };
 
 static struct process processes[PROCESSES];
-static uint64_t latest; /* moment at which anything is paid back */
+static uint64_t latest, rounds; /* the moment from which on nobody owes too much; rounds that there were */
 
-static bool is_over(const struct process *process) {
-	return process->due > gateway.moment + BURST;
+/* What is owed beyond such a part of what may be; 0: it isn't so much. */
+static uint64_t beyond(const struct process *process, unsigned part) {
+	uint64_t most = 0;
+	for (enum spent what = AT_BROKER; what < PRICES; what++) {
+		uint64_t may = gateway.moment + prices[what].burst / part, due = process->debts[what].due;
+		most = due > may && due - may > most ? due - may : most;
+	}
+	return most;
 }
 
 struct process *process_join(unsigned pid, const char *command) {
@@ -35,7 +47,7 @@ struct process *process_join(unsigned pid, const char *command) {
 			found = each;
 			break;
 		}
-		if (each->links == 0 && (!found || each->due < found->due))
+		if (each->links == 0 && (!found || beyond(each, 1000) < beyond(found, 1000)))
 			found = each;
 	}
 	if (found && (found->pid != pid || pid == 0))
@@ -69,33 +81,54 @@ bool budget_place(const struct client *client) {
 	return all < PLACES && own < PLACES_SHARE && (client->role != PROGRAM || programs < PLACES - PLACES_KEPT);
 }
 
-/* Steps are paid back with time. Who owes too much for too long is ended: the client that goes on. */
-void budget_spend(struct client *client, size_t size) {
+/* Since when it owes too much: it does till half of that is paid back. */
+static uint64_t owes_since(const struct debt *debt, enum spent what) {
+	uint64_t burst = prices[what].burst, now = gateway.moment;
+	if (debt->due <= now + burst / 2)
+		return 0;
+	return debt->over > 0 || debt->due <= now + burst ? debt->over : now;
+}
+
+void budget_spend(struct client *client, enum spent what, size_t size) {
+	struct debt *debt = &client->process->debts[what];
+	uint64_t now = gateway.moment, burst = prices[what].burst, steps = size == 0 ? JOIN_STEPS : 1 + size / STEP_BYTES;
+	debt->over = owes_since(debt, what);
+	debt->due = (debt->due > now ? debt->due : now) + steps * prices[what].step;
+	debt->over = owes_since(debt, what);
+	latest = debt->due > latest + burst ? debt->due - burst : latest;
+}
+
+void budgets_round(void) {
+	rounds++;
+}
+
+void budget_came(struct client *client, size_t size) {
 	struct process *process = client->process;
-	uint64_t now = gateway.moment, steps = size == 0 ? JOIN_STEPS : 1 + size / STEP_BYTES;
-	process->due = (process->due > now ? process->due : now) + steps * STEP;
-	latest = process->due > latest ? process->due : latest;
-	if (!is_over(process) && process->due <= now + BURST / 2)
-		process->over = 0;
-	else if (is_over(process) && process->over == 0)
-		process->over = now;
-	if (process->over > 0 && now - process->over > OVER)
-		client_refuse(client, DISPLAY, ERROR_COMPOSITOR, "it sends more than the broker takes");
+	process->came = (process->round == rounds ? process->came : 0) + size;
+	process->round = rounds;
+	for (enum spent what = AT_BROKER; what < PRICES; what++) {
+		struct debt *debt = &process->debts[what];
+		debt->over = owes_since(debt, what);
+		if (debt->over > 0 && gateway.moment - debt->over > OVER)
+			client_refuse(client, DISPLAY, ERROR_COMPOSITOR, prices[what].why);
+	}
 }
 
 size_t budget_room(const struct client *client, size_t room) {
 	const struct process *process = client->process;
-	if (process->due <= gateway.moment + BURST / 2)
-		return room;
-	return is_over(process) ? 0 : room < LITTLE ? room : LITTLE;
+	size_t came = process->round == rounds ? process->came : 0, turn = beyond(process, 8) > 0 ? LITTLE : TURN;
+	size_t most = turn > came && beyond(process, 1) == 0 ? turn - came : 0;
+	most = most < PIECE ? most : PIECE;
+	return room < most ? room : most;
 }
 
 int budgets_wait(void) {
 	uint64_t least = UINT64_MAX;
-	for (const struct client *client = gateway.clients; client && latest > gateway.moment + BURST; client = client->next)
-		if (is_over(client->process) && client->process->due < least)
-			least = client->process->due;
-	return least == UINT64_MAX ? -1 : (int)((least - gateway.moment - BURST) / 1000) + 1;
+	for (const struct client *client = gateway.clients; client && latest > gateway.moment; client = client->next) {
+		uint64_t over = beyond(client->process, 1);
+		least = over > 0 && over < least ? over : least;
+	}
+	return least == UINT64_MAX ? -1 : (int)(least / 1000) + 1;
 }
 
 static unsigned files_of(const struct client *client) {

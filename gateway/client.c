@@ -163,6 +163,7 @@ static bool play(struct client *client, enum side side, struct message *message)
 	if (!why && wire->stands != ANSWERED && asks(client, side, message))
 		return wire->stands = WAITS, false;
 	wire->stands = PLAYS;
+	budget_spend(client, PASSING, message->size);
 	(side == NEAR ? play_request : play_event)(client, message, why);
 	return true;
 }

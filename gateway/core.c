@@ -128,6 +128,8 @@ void core_receive(uint64_t moment, unsigned link, enum side side, const uint8_t 
 	if (lost)
 		budgets_short(); /* before who sent it */
 	if (client && !client->ending) {
+		if (side == NEAR)
+			budget_came(client, size);
 		if (!wire_keep(wire_of(client, side), bytes, size, tokens, count))
 			client_refuse(client, DISPLAY, ERROR_METHOD, lost ? "there is no room for its descriptors"
 				: "too many descriptors wait for their messages");
@@ -176,6 +178,7 @@ void core_copied(uint64_t moment, uint32_t token, bool is_whole, bool is_short) 
 
 void core_round(uint64_t moment) {
 	CALLED_AT(moment, "round");
+	budgets_round();
 	if (broker_renewal() == 0)
 		renew();
 	popups_round();

@@ -189,11 +189,16 @@ void request_lose(struct client *client, const struct message *message);
 struct process *process_join(unsigned pid, const char *command);
 void process_leave(struct process *process);
 const char *process_named(const struct process *process); /* until the next */
-/* Whether the client may be a peer. It spends a message of this size at the broker, of 0 a place; which may end it. */
+/* Whether the client may be a peer. It spends a message of this size at the broker, of 0 a place; or one of its own, or
+ * of the compositor's to it, that passes. */
+enum spent { AT_BROKER, PASSING, PRICES };
 bool budget_place(const struct client *client);
-void budget_spend(struct client *client, size_t size);
-/* How many of these bytes may be read of it. In how many milliseconds more may be of somebody; -1: nobody waits. */
+void budget_spend(struct client *client, enum spent what, size_t size);
+/* How many of these bytes may be read of it in this round; so many were, which may end it. Another round begins. In how
+ * many milliseconds more may be read of who isn't read now; -1: all are. */
 size_t budget_room(const struct client *client, size_t room);
+void budget_came(struct client *client, size_t size);
+void budgets_round(void);
 int budgets_wait(void);
 /* Descriptors run short: who holds most ends. False: nobody holds many. */
 bool budgets_short(void);

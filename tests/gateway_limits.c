@@ -5,6 +5,8 @@
 #include "gateway_users.h"
 
 enum { CROWD = 72, PLACES_OF_PROGRAMS = 56, PLACES_OF_METHODS = 8, SHARE = 16 };
+enum { TURN = 4096, PIECE = 512, LITTLE = 256 }; /* bytes that are read of a process, a client, one that owes much */
+enum { START = 1000, DRAWN = 10, FLOODERS = 12 }; /* syncs at a start, and in a millisecond; clients that flood */
 
 static struct user crowd[CROWD], method, honest, bad;
 static uint32_t serial;
@@ -141,7 +143,7 @@ static uint32_t entries_used(void)
 	return used.entries;
 }
 
-/* As many commits of its field as are read of it. */
+/* As many commits of its field as are read of it in a round. */
 static unsigned long flood_on(struct user *user)
 {
 	static uint8_t bytes[16384];
@@ -164,9 +166,9 @@ static void floods(void)
 	batch_comes(&honest, &method);
 	uint32_t before = entries_used(), peer = honest.place.client->peer;
 	start_of(13, &bad, with_field);
-	for (; bad.place.link > 0 && milliseconds < 100000; milliseconds += 10) {
+	for (; bad.place.link > 0 && milliseconds < 100000; milliseconds++) {
 		unsigned long went = flood_on(&bad);
-		now += 10000;
+		now += 1000;
 		sent += went;
 		second += milliseconds >= 20000 && milliseconds < 21000 ? went : 0;
 		if (milliseconds % 100 == 0)
@@ -180,15 +182,82 @@ static void floods(void)
 	close_user(&bad);
 	process = 13; /* the same process again: it still owes */
 	open_client(&bad.place, PROGRAM);
-	HOLDS(core_room(bad.place.link, NEAR) <= 1024 && core_room(honest.place.link, NEAR) == 16384);
+	HOLDS(core_room(bad.place.link, NEAR) <= LITTLE && core_room(honest.place.link, NEAR) == PIECE);
 	now += 20000000;
 	finish_round();
-	HOLDS(core_room(bad.place.link, NEAR) == 16384);
+	HOLDS(core_room(bad.place.link, NEAR) == PIECE);
 	close_user(&bad);
 	start_of(13, &bad, with_field);
 	look(&bad);
 	close_user(&bad);
 	close_user(&method);
+	close_user(&honest);
+}
+
+/* So many syncs at most as are read of it in a round, and what the compositor answers. */
+static unsigned syncs_of(struct user *user, unsigned count)
+{
+	uint32_t first = KEYBOARD_2, done = 0; /* ids that nothing has */
+	while (done < count && core_room(user->place.link, NEAR) >= 12) {
+		request(user, draft(DISPLAY, wl_display_request_sync, "u", first + done));
+		if (user->place.client->ending)
+			break;
+		put_event(user, draft(first + done, wl_callback_event_done, "u", 0));
+		put_event(user, draft(DISPLAY, wl_display_event_delete_id, "u", first + done));
+		done++;
+	}
+	read_events(user);
+	return done;
+}
+
+/* A toolkit's start isn't slowed: so many requests at once, and each millisecond as many as a program that draws has. */
+static void starts(void)
+{
+	start_of(51, &honest, with_field);
+	for (unsigned sent = 0, rounds = 0; sent < START; rounds++) {
+		unsigned went = syncs_of(&honest, START - sent);
+		HOLDS(went == START - sent || went * 12 > PIECE - 12);
+		sent += went;
+		finish_round();
+		HOLDS(budgets_wait() == -1 && rounds < START);
+	}
+	for (unsigned milliseconds = 0; milliseconds < 40000; milliseconds++) {
+		now += 1000;
+		HOLDS(syncs_of(&honest, DRAWN) == DRAWN && budgets_wait() == -1);
+		finish_round();
+	}
+	look(&honest);
+	close_user(&honest);
+}
+
+/* Who floods the compositor through the gateway: in each round it has its share, however many clients it has; then it is
+ * read a little at a time, then more seldom, and ends after 30 s. Another program is read as ever. */
+static void floods_passing(void)
+{
+	unsigned long second = 0, round, most = 0, milliseconds = 0;
+	int longest = 0; /* wait till somebody may be read again */
+	start_of(61, &honest, with_field);
+	for (unsigned at = 0; at < FLOODERS; at++)
+		start_of(62, &crowd[at], with_field);
+	now += 1000000;
+	finish_round();
+	for (; crowd[0].place.link > 0 && milliseconds < 100000; milliseconds++) {
+		round = 0;
+		for (unsigned at = 0; at < FLOODERS; at++)
+			round += crowd[at].place.link > 0 ? syncs_of(&crowd[at], 1000) : 0;
+		longest = budgets_wait() > longest ? budgets_wait() : longest;
+		HOLDS(core_room(honest.place.link, NEAR) == PIECE);
+		now += 1000;
+		finish_round();
+		most = round > most ? round : most;
+		second += milliseconds >= 20000 && milliseconds < 21000 ? round : 0;
+	}
+	HOLDS(most * 12 <= TURN && second > 10000 && second < 20000);
+	HOLDS(milliseconds > 30000 && milliseconds < 32000 && longest > 0 && longest < 1000);
+	look(&honest);
+	for (unsigned at = 0; at < FLOODERS; at++)
+		close_user(&crowd[at]);
+	HOLDS(budgets_wait() == -1);
 	close_user(&honest);
 }
 
@@ -206,6 +275,7 @@ static void pauses(void)
 	HOLDS(broker_renewal() > 0);
 	for (int at = 0; at < 10; at++) {
 		now += 60000;
+		budgets_round();
 		flood_on(&bad);
 	}
 	HOLDS(broker_renewal() == 0);
@@ -298,6 +368,8 @@ int main(void)
 	places();
 	shares();
 	floods();
+	starts();
+	floods_passing();
 	pauses();
 	descriptors();
 	keymaps();

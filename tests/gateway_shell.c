@@ -171,6 +171,8 @@ static void who_does_not_read(void)
 	struct ends ends = open_ends(), gone = open_ends();
 	for (uint32_t id = 3; id < 150000 && core_room(ends.link, NEAR) > 0; id++) {
 		put(ends.near, draft(DISPLAY, wl_display_request_sync, "u", id < 60000 ? id - 1 : 1), -1);
+		HOLDS(wait_all(0)); /* the time goes on */
+		core_round(moment());
 		link_read(ends.link, NEAR);
 		link_flush(ends.link, FAR);
 	}
